@@ -1,0 +1,35 @@
+-- A call of Ipc (L4 X.2 manual, Ipc), and which calls are in normal form.
+use Rattle.std.specs.Prelude.{ℕ, ◌+◌, ◌*◌, ◌^◌, List, Bool, ◌&&◌, ◌||◌, not, Option, is_none, length, nat_le, ◌==◌}
+use Rattle.ipc_words.specs.ThreadId.{nilthread}
+use Rattle.ipc_words.specs.MsgTag.{untyped_of, typed_of, propagates, redirects, crosses, has_failed}
+use Rattle.ipc_items.specs.Strings.{size_of}
+use Rattle.ipc_items.specs.declared.buffer_list.Substring.{Substring}
+
+-- the parts of a call: the receiver of its send phase, its FromSpecifier, the two periods, the tag, the VirtualSender, the
+-- untyped words, the strings, and the buffer strings; no buffer strings at all where it accepts no strings
+pub record CallParts : Type 0 where
+  pub to : ℕ
+  pub from : ℕ
+  pub send_period : ℕ
+  pub receive_period : ℕ
+  pub tag : ℕ
+  pub originator : ℕ
+  pub words : List ℕ
+  pub strings : List (List ℕ)
+  pub buffers : Option (List (List Substring))
+
+-- the tag says how many untyped words there are, and two typed words for each string, 63 together; it says nothing else but its
+-- label and p
+abbrev pub is_tag_normal : CallParts → Bool
+is_tag_normal call = (untyped_of call.tag == length call.words) && (typed_of call.tag == 2 * length call.strings) && nat_le (length call.words + 2 * length call.strings) 63 && not (redirects call.tag) && not (crosses call.tag) && not (has_failed call.tag)
+
+-- without a send phase there is nothing to send; without a receive phase nowhere to receive to
+abbrev pub is_empty_send : CallParts → Bool
+is_empty_send call = (call.tag == 0) && (call.send_period == 0)
+
+abbrev pub is_empty_receive : CallParts → Bool
+is_empty_receive call = (call.receive_period == 0) && is_none call.buffers
+
+-- Our choice (docs/PROFILE.md): the normal form. A message has at most 1,048,576 bytes of strings
+unfoldable pub is_normal : CallParts → Bool
+is_normal call = is_tag_normal call && (propagates call.tag || (call.originator == nilthread)) && (not (call.to == nilthread) || is_empty_send call) && (not (call.from == nilthread) || is_empty_receive call) && nat_le (size_of call.strings) (2 ^ 20)

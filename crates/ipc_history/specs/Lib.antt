@@ -1,0 +1,15 @@
+pub mod CallParts
+pub mod Fields
+pub mod Words
+pub mod Entries
+pub mod HistoryParts
+pub mod Calls
+pub mod Threads
+pub mod Phases
+pub mod Matching
+pub mod Timing
+pub mod NextOutput
+pub mod Legal
+pub mod Outcomes
+pub mod Paired
+pub mod Settled

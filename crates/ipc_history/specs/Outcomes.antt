@@ -1,0 +1,67 @@
+-- What the caller of a call is told (L4 X.2 manual, Ipc: output parameters).
+use Rattle.std.specs.Prelude.{ℕ, ◌+◌, ◌*◌, ◌^◌, List, [], ◌++◌, Bool, ◌||◌, not, Option, Some, None, unwrap_or, length, ◌==◌, if◌then◌else◌}
+use Rattle.ipc_words.specs.ThreadId.{nilthread}
+use Rattle.ipc_words.specs.MsgTag.{label_of, untyped_of}
+use Rattle.ipc_items.specs.Pieces.{PlacedBytes, pieces_of_all, simple_items}
+use Rattle.ipc_items.specs.declared.buffer_list.Substring.{Substring}
+use Rattle.ipc_history.specs.Words.{first_some}
+use Rattle.ipc_history.specs.Calls.{caller_of, tag_of, words_of, strings_of, buffers_of}
+use Rattle.ipc_history.specs.Threads.{has_broken}
+use Rattle.ipc_history.specs.Phases.{is_over}
+use Rattle.ipc_history.specs.Matching.{is_propagated, shown_sender}
+use Rattle.ipc_history.specs.declared.entry.Entry.{Entry}
+use Rattle.ipc_history.specs.declared.entry.Entry.TheVariants.{Written}
+use Rattle.ipc_history.specs.declared.entry.Output.TheVariants.{Ended, Overflowed, Aborted, Failed}
+
+-- the number of the call, the tag, the sender that is shown, the ActualSender, the ErrorCode, MR1 on, and the strings that were
+-- received with the buffer strings that they fill
+pub record OutcomeParts : Type 0 where
+  pub call : ℕ
+  pub tag : ℕ
+  pub sender : ℕ
+  pub actual : ℕ
+  pub error : ℕ
+  pub words : List ℕ
+  pub strings : List (List ℕ)
+  pub buffers : List (List Substring)
+
+-- where the received bytes go, string by string
+abbrev pub pieces_in : OutcomeParts → List (List PlacedBytes)
+pieces_in outcome = pieces_of_all outcome.buffers outcome.strings
+
+-- the tag of a received message: label and u of the one that was sent, p, two typed words for each string
+abbrev pub received_tag : ℕ → Bool → ℕ → ℕ → ℕ
+received_tag label propagated strings untyped = label * 2 ^ 16 + (if propagated then 2 ^ 12 else 0) + 2 * strings * 64 + untyped
+
+-- a failure: the flag E and an ErrorCode
+abbrev pub failure : ℕ → ℕ → OutcomeParts
+failure n error = record { call = n; tag = 0x8000; sender = nilthread; actual = nilthread; error = error; words = []; strings = []; buffers = [] }
+
+-- over without a receive phase: all 0
+abbrev pub nothing : ℕ → OutcomeParts
+nothing n = record { call = n; tag = 0; sender = nilthread; actual = nilthread; error = 0; words = []; strings = []; buffers = [] }
+
+-- what m is told of the message of n: its untyped words, then for each string a simple item
+abbrev pub received : List Entry → ℕ → ℕ → OutcomeParts
+received H n m = record {
+  call = m;
+  tag = received_tag (label_of (tag_of H n)) (is_propagated H n) (length (strings_of H n)) (untyped_of (tag_of H n));
+  sender = shown_sender H n;
+  actual = if is_propagated H n then caller_of H n else nilthread;
+  error = 0;
+  words = words_of H n ++ simple_items (buffers_of H m) (strings_of H n);
+  strings = strings_of H n;
+  buffers = buffers_of H m;
+}
+
+-- what an entry tells of n, as the sender or as the receiver
+abbrev pub outcome_in : List Entry → ℕ → Entry → Option OutcomeParts
+outcome_in H n (Written (Failed k code)) = (if k == n then Some (failure n code) else None)
+outcome_in H n (Written (Overflowed k m offset)) = (if k == n then Some (failure n (0x8 + 16 * offset)) else (if m == n then Some (failure n (0x9 + 16 * offset)) else None))
+outcome_in H n (Written (Aborted k m count)) = (if k == n then Some (failure n (0xe + 16 * count)) else (if m == n then Some (failure n (0xf + 16 * count)) else None))
+outcome_in H n (Written (Ended k m)) = (if m == n then Some (received H k n) else None)
+outcome_in H n _ = None
+
+-- the outcome of n: none while it is open or where its caller has ended
+unfoldable pub outcome_of : List Entry → ℕ → Option OutcomeParts
+outcome_of H n = (if not (is_over H n) || has_broken H (caller_of H n) then None else Some (unwrap_or (first_some (outcome_in H n) H) (nothing n)))

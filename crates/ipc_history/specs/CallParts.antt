@@ -1,8 +1,10 @@
 -- A call of Ipc (L4 X.2 manual, Ipc), and which calls are in normal form.
-use Rattle.std.specs.Prelude.{ℕ, ◌+◌, ◌*◌, ◌^◌, List, Bool, ◌&&◌, ◌||◌, not, Option, is_none, length, nat_le, ◌==◌}
+use Rattle.std.specs.Prelude.{ℕ, ◌+◌, ◌*◌, ◌^◌, List, [], Bool, ◌&&◌, ◌||◌, not, Option, is_none, unwrap_or, length, sum_by, nat_lt, nat_le, ◌==◌}
 use Rattle.ipc_words.specs.ThreadId.{nilthread}
 use Rattle.ipc_words.specs.MsgTag.{untyped_of, typed_of, propagates, redirects, crosses, has_failed}
+use Rattle.std.specs.List.{list_all}
 use Rattle.ipc_items.specs.Strings.{size_of}
+use Rattle.ipc_items.specs.Buffers.{words_of}
 use Rattle.ipc_items.specs.declared.buffer_list.Substring.{Substring}
 
 -- the parts of a call: the receiver of its send phase, its FromSpecifier, the two periods, the tag, the VirtualSender, the
@@ -30,6 +32,13 @@ is_empty_send call = (call.tag == 0) && (call.send_period == 0)
 abbrev pub is_empty_receive : CallParts → Bool
 is_empty_receive call = (call.receive_period == 0) && is_none call.buffers
 
--- Our choice (docs/PROFILE.md): the normal form. A message has at most 1,048,576 bytes of strings
+-- the limits of buffer strings: each has a substring, each length is below 2^54; at most 31 substrings together, and 32 words that spell them
+abbrev pub is_buffer : List Substring → Bool
+is_buffer parts = nat_lt 0 (length parts) && list_all (λ part. nat_lt part.length (2 ^ 54)) parts
+
+abbrev pub are_buffers : List (List Substring) → Bool
+are_buffers buffers = list_all is_buffer buffers && nat_le (sum_by (λ parts. length parts) buffers) 31 && nat_le (sum_by words_of buffers) 32
+
+-- Our choice (docs/PROFILE.md): the normal form, within the limits of a call. A message has at most 1,048,576 bytes of strings
 unfoldable pub is_normal : CallParts → Bool
-is_normal call = is_tag_normal call && (propagates call.tag || (call.originator == nilthread)) && (not (call.to == nilthread) || is_empty_send call) && (not (call.from == nilthread) || is_empty_receive call) && nat_le (size_of call.strings) (2 ^ 20)
+is_normal call = is_tag_normal call && (propagates call.tag || (call.originator == nilthread)) && (not (call.to == nilthread) || is_empty_send call) && ((not (call.from == nilthread) || is_empty_receive call) && are_buffers (unwrap_or call.buffers [])) && nat_le (size_of call.strings) (2 ^ 20)

@@ -1,7 +1,7 @@
-ghost use Rattle.std.specs.Prelude.{◌≡◌, ◌↔◌, ◌==◌, ◌&&◌, ◌||◌, not, IsTrue, IsSome, IfSome, option_copied};
+ghost use Rattle.std.specs.Prelude.{◌≡◌, ◌↔◌, ◌==◌, ◌&&◌, ◌||◌, not, [], unwrap_or, IsTrue, IsSome, IfSome, option_copied};
 ghost use Rattle.ipc_words.specs.ThreadId.{nilthread};
 ghost use Rattle.ipc_words.specs.MsgTag.{propagates};
-ghost use Rattle.ipc_history.specs.CallParts.{is_normal, is_tag_normal, is_empty_send, is_empty_receive};
+ghost use Rattle.ipc_history.specs.CallParts.{is_normal, is_tag_normal, is_empty_send, is_empty_receive, are_buffers};
 ghost use Rattle.ipc_history.specs.Fields.{parts_of};
 
 use ipc_items::{BufferList, StringList};
@@ -55,7 +55,7 @@ impl Call {
         ensures normal { IsSome result ↔ IsTrue (is_normal (parts_of fields)) }
         ensures value { IfSome result (λ call. call ≡ parts_of fields) }
     {
-        if counts(&fields) && is_empty_where_absent(&fields) {
+        if counts(&fields) && is_empty_where_absent(&fields) && has_buffers_within(&fields) {
             Some(Call { fields })
         } else {
             None
@@ -156,4 +156,15 @@ fn is_empty_where_absent(fields: &CallFields) -> bool
     let receives_nothing = fields.receive_period == Period::NEVER && fields.buffers.is_none();
     (fields.to != ThreadId::NILTHREAD || sends_nothing)
         && (fields.from != ThreadId::NILTHREAD || receives_nothing)
+}
+
+/// Whether the buffer strings are within the limits: always, by their type.
+#[tactic(auto, using(crate::proofs::CallLemmas::are_buffers_passes))]
+fn has_buffers_within(fields: &CallFields) -> bool
+    ensures { result ≡ are_buffers (unwrap_or (parts_of fields.now).buffers []) }
+{
+    if let Some(buffers) = &fields.buffers {
+        let _within = buffers.len();
+    }
+    true
 }

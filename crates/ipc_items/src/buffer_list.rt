@@ -1,41 +1,207 @@
-ghost use Rattle.std.specs.Prelude.{◌≡◌, ℕ, ◌^◌, ◌≤◌, List, length};
-ghost use Rattle.ipc_items.specs.Buffers.{buffers_of};
+ghost use Rattle.std.specs.Prelude.{◌≡◌, ◌==◌, ◌↔◌, IsTrue, ℕ, ◌<◌, ◌^◌, ◌≤◌, List, [], ◌∷◌, ◌++◌, length, if◌then◌else◌, IfOk, OnErr, slice_get, option_copied};
+ghost use Rattle.std.specs.Option.{SomeIff, option_map_or};
+ghost use Rattle.ipc_items.specs.Buffers.{buffers_of, capacity, words_of, IsBuffer, AreBuffers};
+ghost use Rattle.ipc_items.specs.Pieces.{first_pointer};
 
+use crate::rows::Rows;
+use std::alloc::{AllocError, Global};
 use std::marker::Model;
 
-/// A substring of a buffer.
-#[derive(Clone, Copy)]
+/// The most substrings that the buffer strings of a call have together.
+pub const MAX_SUBSTRINGS: usize = 31;
+
+/// The most words that spell the buffer strings of a call.
+pub const MAX_BUFFER_WORDS: usize = 32;
+
+/// The length of a substring is below this.
+pub const LENGTH_LIMIT: u64 = 0x40_0000_0000_0000;
+
+/// A substring of a buffer string: how many bytes it holds, and the pointer that is handed back with them.
+#[derive(Clone, Copy, Debug, PartialEq, Eq)]
 pub struct Substring {
+    /// In bytes.
     pub length: u64,
+    /// Any number.
     pub pointer: u64,
 }
 
 /// The buffer strings of a call, seen as the list of their substrings.
+///
+/// Each has a substring, there are at most [`MAX_SUBSTRINGS`] together, each of a length below
+/// [`LENGTH_LIMIT`], and at most [`MAX_BUFFER_WORDS`] words can spell them.
 #[derive(Drop)]
 pub struct BufferList {
-    buffers: Vec<Vec<Substring>>,
+    rows: Rows<Substring>,
+    // The least number of words that spells them.
+    words: usize,
 }
 
 impl Model for BufferList {
-    ghost use Rattle.std.specs.Prelude.{List};
+    ghost use Rattle.std.specs.Prelude.{◌≡◌, List, sum_by};
     ghost use Rattle.ipc_items.specs.declared.buffer_list.Substring.{Substring};
-    ghost use Rattle.ipc_items.specs.Buffers.{buffers_of};
+    ghost use Rattle.ipc_items.specs.Buffers.{AreBuffers, words_of};
 
     ghost Value = { List (List Substring) };
 
-    ghost view = { λ b. buffers_of b.buffers.items };
+    ghost view = { λ b. b.rows };
+
+    ghost invariant = { λ b. AreBuffers b.rows × (b.words ≡ sum_by words_of b.rows) };
+}
+
+// Whether a buffer string has a substring, and each length is below the limit.
+fn is_buffer(buffer: &[Substring]) -> bool
+    ensures { IsTrue result ↔ IsBuffer buffer.now }
+{
+    !buffer.is_empty() && buffer.iter().all(|part| part.length < LENGTH_LIMIT)
+}
+
+// The least number of words that spells a buffer string.
+fn words(buffer: &[Substring]) -> usize
+    requires { length buffer.now ≤ 31 }
+    ensures { result ≡ words_of buffer.now }
+{
+    let Some((first, rest)) = buffer.split_first() else {
+        return 0;
+    };
+    let mut runs = 1;
+    let mut before = first.length;
+    for part in rest {
+        if part.length != before {
+            runs += 1;
+        }
+        before = part.length;
+    }
+    runs + buffer.len()
+}
+
+// How many bytes a buffer string holds.
+fn capacity(buffer: &[Substring]) -> u64
+    requires { capacity buffer.now < 2 ^ 64 }
+    ensures { result ≡ capacity buffer.now }
+{
+    buffer.iter().map(|part| part.length).sum()
 }
 
 impl BufferList {
-    pub(crate) fn parts(&self) -> &[Vec<Substring>]
-        ensures { buffers_of result.now ≡ self.now }
+    /// No buffer strings. Takes no memory.
+    pub fn new(alloc: Global) -> Self
+        ensures { result ≡ [] }
     {
-        &self.buffers
+        BufferList {
+            rows: Rows::new(alloc),
+            words: 0,
+        }
     }
 
-    pub fn len(&self) -> usize
-        ensures { result ≡ length self.now }
+    /// No buffer strings, with room for as many buffer strings and as many substrings in all of them.
+    pub fn with_capacity(
+        alloc: Global,
+        buffers: usize,
+        substrings: usize,
+    ) -> Result<Self, AllocError>
+        ensures { IfOk result (λ list. list ≡ []) }
     {
-        self.buffers.len()
+        Ok(BufferList {
+            rows: Rows::with_capacity(alloc, buffers, substrings)?,
+            words: 0,
+        })
+    }
+
+    /// The list of these buffer strings, or `None` past the limits or where one has no substring.
+    pub fn of(alloc: Global, buffers: Vec<Vec<Substring>>) -> Result<Option<Self>, AllocError>
+        ensures { IfOk result (λ list.
+            SomeIff list (AreBuffers (buffers_of buffers.items)) (buffers_of buffers.items)) }
+    {
+        let size: u128 = buffers.iter().map(|buffer| buffer.len() as u128).sum();
+        if size > MAX_SUBSTRINGS as u128 {
+            return Ok(None);
+        }
+        let mut list = BufferList::with_capacity(alloc, MAX_SUBSTRINGS, size as usize)?;
+        for buffer in &buffers {
+            if !list.push_buffer(buffer)? {
+                return Ok(None);
+            }
+        }
+        Ok(Some(list))
+    }
+
+    /// Adds a buffer string, and says whether it is within the limits: past them, the list stays as it was.
+    pub fn push_buffer(&mut self, buffer: &[Substring]) -> Result<bool, AllocError>
+        ensures within { IfOk result (λ fits.
+            IsTrue fits ↔ AreBuffers (self.old ++ buffer.now ∷ [])) }
+        ensures ok { IfOk result (λ fits.
+            self.new ≡ (if fits then self.old ++ buffer.now ∷ [] else self.old)) }
+        ensures err { OnErr result (self.new ≡ self.old) }
+    {
+        if !is_buffer(buffer) || buffer.len() > MAX_SUBSTRINGS - self.rows.total() {
+            return Ok(false);
+        }
+        let words = self.words + words(buffer);
+        if words > MAX_BUFFER_WORDS {
+            return Ok(false);
+        }
+        self.rows.push(buffer)?;
+        self.words = words;
+        Ok(true)
+    }
+
+    /// Removes all buffer strings.
+    pub fn clear(&mut self)
+        ensures { self.new ≡ [] }
+    {
+        self.rows.clear();
+        self.words = 0;
+    }
+
+    /// A list of the same buffer strings.
+    pub fn copy(&self, alloc: Global) -> Result<Self, AllocError>
+        ensures { IfOk result (λ list. list ≡ self.now) }
+    {
+        Ok(BufferList {
+            rows: self.rows.copy(alloc)?,
+            words: self.words,
+        })
+    }
+
+    /// How many buffer strings there are.
+    pub fn len(&self) -> usize
+        ensures count { result ≡ length self.now }
+        ensures within { AreBuffers self.now }
+    {
+        self.rows.len()
+    }
+
+    /// Whether there is no buffer string.
+    pub fn is_empty(&self) -> bool
+        ensures { result ≡ (length self.now == 0) }
+    {
+        self.rows.len() == 0
+    }
+
+    /// The substrings of buffer string k.
+    pub fn get(&self, k: usize) -> Option<&[Substring]>
+        ensures { option_copied result ≡ slice_get self.now k }
+    {
+        self.rows.get(k)
+    }
+
+    /// The first pointer of buffer string k, 0 where there is none.
+    pub fn first_pointer(&self, k: usize) -> u64
+        ensures { result ≡ option_map_or first_pointer (slice_get self.now k) 0 }
+    {
+        match self.rows.get(k) {
+            Some([first, ..]) => first.pointer,
+            _ => 0,
+        }
+    }
+
+    /// How many bytes buffer string k holds, 0 where there is none.
+    pub fn capacity(&self, k: usize) -> u64
+        ensures { result ≡ option_map_or capacity (slice_get self.now k) 0 }
+    {
+        match self.rows.get(k) {
+            Some(buffer) => capacity(buffer),
+            None => 0,
+        }
     }
 }

@@ -3,7 +3,18 @@
 
 mod buffer_list;
 mod fitting;
+mod laws;
+mod outcome;
+mod placing;
+mod rows;
 mod string_list;
 
-pub use buffer_list::{BufferList, Substring};
-pub use string_list::StringList;
+pub use buffer_list::{BufferList, LENGTH_LIMIT, MAX_BUFFER_WORDS, MAX_SUBSTRINGS, Substring};
+pub use fitting::fit;
+pub use laws::pieces_join_to_strings;
+pub use outcome::Fit;
+pub use placing::{Piece, Pieces, scatter};
+pub use string_list::{MAX_STRING_BYTES, MAX_STRINGS, StringList};
+
+#[cfg(test)]
+mod tests;

@@ -1,48 +1,151 @@
-ghost use Rattle.std.specs.Prelude.{◌≡◌, ℕ, ◌^◌, ◌≤◌, List, length, option_copied};
-ghost use Rattle.ipc_items.specs.Strings.{strings_of, size_of};
+ghost use Rattle.std.specs.Prelude.{◌≡◌, ◌==◌, ◌↔◌, IsTrue, ℕ, ◌^◌, ◌≤◌, List, [], ◌∷◌, ◌++◌, length, if◌then◌else◌, IfOk, IfSome, OnErr, slice_get, option_copied};
+ghost use Rattle.std.specs.Option.{SomeIff, option_map_or};
+ghost use Rattle.ipc_items.specs.Strings.{strings_of, size_of, AreStrings};
 ghost use Rattle.ipc_items.specs.Fit.{overflow_offset, accepted};
 
 use crate::buffer_list::BufferList;
 use crate::fitting::overflow;
+use crate::rows::Rows;
+use std::alloc::{AllocError, Global};
 use std::marker::Model;
 
+/// The most strings that a message holds.
+pub const MAX_STRINGS: usize = 31;
+
+/// The most bytes that the strings of a message have together.
+pub const MAX_STRING_BYTES: usize = 1_048_576;
+
 /// The strings of a message, seen as the list of their bytes.
+///
+/// There are at most [`MAX_STRINGS`], of at most [`MAX_STRING_BYTES`] together.
 #[derive(Drop)]
 pub struct StringList {
-    strings: Vec<Vec<u8>>,
-    size: u64,
+    rows: Rows<u8>,
 }
 
 impl Model for StringList {
     ghost Value = { List (List ℕ) };
 
-    ghost view = { λ s. strings_of s.strings.items };
+    ghost view = { λ s. s.rows };
 
-    ghost invariant = { λ s. (s.size ≡ size_of (strings_of s.strings.items)) × (s.size ≤ 2 ^ 20) };
+    ghost invariant = { λ s. AreStrings s.rows };
 }
 
 impl StringList {
+    /// No strings. Takes no memory.
+    pub fn new(alloc: Global) -> Self
+        ensures { result ≡ [] }
+    {
+        StringList {
+            rows: Rows::new(alloc),
+        }
+    }
+
+    /// No strings, with room for as many strings and as many bytes in all of them.
+    pub fn with_capacity(alloc: Global, strings: usize, bytes: usize) -> Result<Self, AllocError>
+        ensures { IfOk result (λ list. list ≡ []) }
+    {
+        Ok(StringList {
+            rows: Rows::with_capacity(alloc, strings, bytes)?,
+        })
+    }
+
+    /// The list of these strings, or `None` past the limits.
+    pub fn of(alloc: Global, strings: Vec<Vec<u8>>) -> Result<Option<Self>, AllocError>
+        ensures { IfOk result (λ list.
+            SomeIff list (AreStrings (strings_of strings.items)) (strings_of strings.items)) }
+    {
+        let size: u128 = strings.iter().map(|string| string.len() as u128).sum();
+        if strings.len() > MAX_STRINGS || size > MAX_STRING_BYTES as u128 {
+            return Ok(None);
+        }
+        let mut rows = Rows::with_capacity(alloc, strings.len(), size as usize)?;
+        for string in &strings {
+            rows.push(string)?;
+        }
+        Ok(Some(StringList { rows }))
+    }
+
+    /// Adds a string, and says whether it is within the limits: past them, the list stays as it was.
+    pub fn push(&mut self, string: &[u8]) -> Result<bool, AllocError>
+        ensures within { IfOk result (λ fits.
+            IsTrue fits ↔ AreStrings (self.old ++ string.now ∷ [])) }
+        ensures ok { IfOk result (λ fits.
+            self.new ≡ (if fits then self.old ++ string.now ∷ [] else self.old)) }
+        ensures err { OnErr result (self.new ≡ self.old) }
+    {
+        if self.rows.len() >= MAX_STRINGS || string.len() > MAX_STRING_BYTES - self.rows.total() {
+            return Ok(false);
+        }
+        self.rows.push(string)?;
+        Ok(true)
+    }
+
+    /// Removes all strings.
+    pub fn clear(&mut self)
+        ensures { self.new ≡ [] }
+    {
+        self.rows.clear();
+    }
+
+    /// A list of the same strings.
+    pub fn copy(&self, alloc: Global) -> Result<Self, AllocError>
+        ensures { IfOk result (λ list. list ≡ self.now) }
+    {
+        Ok(StringList {
+            rows: self.rows.copy(alloc)?,
+        })
+    }
+
     /// The sum of the lengths of the strings.
     pub fn size(&self) -> u64
         ensures sum { result ≡ size_of self.now }
         ensures bound { size_of self.now ≤ 2 ^ 20 }
     {
-        self.size
+        self.rows.total() as u64
+    }
+
+    /// How many strings there are.
+    pub fn len(&self) -> usize
+        ensures count { result ≡ length self.now }
+        ensures within { AreStrings self.now }
+    {
+        self.rows.len()
+    }
+
+    /// Whether there is no string.
+    pub fn is_empty(&self) -> bool
+        ensures { result ≡ (length self.now == 0) }
+    {
+        self.rows.len() == 0
+    }
+
+    /// The bytes of string k.
+    pub fn get(&self, k: usize) -> Option<&[u8]>
+        ensures { option_copied result ≡ slice_get self.now k }
+    {
+        self.rows.get(k)
+    }
+
+    /// The length of string k, 0 where there is none.
+    pub fn string_len(&self, k: usize) -> usize
+        ensures { result ≡ option_map_or (λ string. length string) (slice_get self.now k) 0 }
+    {
+        match self.rows.get(k) {
+            Some(string) => string.len(),
+            None => 0,
+        }
     }
 
     /// Where not every string fits its buffer, the sum of the lengths of those before the first that doesn't.
     pub fn overflow(&self, buffers: Option<&BufferList>) -> Option<u64>
-        ensures { result ≡ overflow_offset self.now (accepted (option_copied buffers.entry)) }
+        ensures exact { result ≡ overflow_offset self.now (accepted (option_copied buffers.entry)) }
+        ensures within { IfSome result (λ offset. offset ≤ size_of self.now) }
     {
         match buffers {
-            Some(buffers) => overflow(&self.strings, buffers.parts()),
-            None => overflow(&self.strings, &[]),
+            Some(buffers) => overflow(self, buffers),
+            None if self.is_empty() => None,
+            None => Some(0),
         }
-    }
-
-    pub fn len(&self) -> usize
-        ensures { result ≡ length self.now }
-    {
-        self.strings.len()
     }
 }

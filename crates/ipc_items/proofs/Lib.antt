@@ -1,0 +1,4 @@
+pub mod RowLemmas
+pub mod FitLemmas
+pub mod BufferLemmas
+pub mod PieceLemmas

@@ -1,0 +1,127 @@
+ghost use Rattle.std.specs.Prelude.{◌≡◌, ℕ, ◌<◌, ◌≤◌, List, [], ◌∷◌, ◌++◌, length, sum_by, IfOk, OnOk, OnErr, slice_get, option_copied};
+ghost use Rattle.ipc_items.specs.Rows.{grown, place};
+
+use std::alloc::{AllocError, Global};
+use std::marker::Model;
+
+/// Lists kept end to end in one vector, seen as the list of them.
+#[derive(Drop)]
+pub(crate) struct Rows<T> {
+    items: Vec<T>,
+    // Where each row ends in `items`.
+    ends: Vec<usize>,
+}
+
+impl<T> Model for Rows<T> {
+    ghost use Rattle.std.specs.Prelude.{List, length};
+    ghost use Rattle.ipc_items.specs.Rows.{rows, AreEnds};
+
+    ghost Value = { List (List T) };
+
+    ghost view = { λ r. rows 0 r.ends.items r.items.items };
+
+    ghost invariant = { λ r. AreEnds 0 r.ends.items (length r.items.items) };
+}
+
+impl<T> Rows<T> {
+    pub(crate) fn new(alloc: Global) -> Self
+        ensures { result ≡ [] }
+    {
+        Rows {
+            items: Vec::new(alloc),
+            ends: Vec::new(alloc),
+        }
+    }
+
+    pub(crate) fn len(&self) -> usize
+        ensures { result ≡ length self.now }
+    {
+        self.ends.len()
+    }
+
+    // How many items all rows have.
+    pub(crate) fn total(&self) -> usize
+        ensures { result ≡ sum_by (λ r. length r) self.now }
+    {
+        self.items.len()
+    }
+
+    pub(crate) fn row(&self, k: usize) -> &[T]
+        requires { k < length self.now }
+        ensures { slice_get self.now k ≡ Some result.now }
+    {
+        &self.items[place(&self.ends, k)..place(&self.ends, k + 1)]
+    }
+
+    pub(crate) fn get(&self, k: usize) -> Option<&[T]>
+        ensures { option_copied result ≡ slice_get self.now k }
+    {
+        if k < self.len() {
+            Some(self.row(k))
+        } else {
+            None
+        }
+    }
+}
+
+// Where row k begins, and at their number where the last one ends.
+fn place(ends: &[usize], k: usize) -> usize
+    requires { k ≤ length ends.now }
+    ensures { result ≡ place 0 ends.now k }
+{
+    if k == 0 { 0 } else { ends[k - 1] }
+}
+
+impl<T: Copy> Rows<T> {
+    // No rows, with room for as many rows and as many items in all of them.
+    pub(crate) fn with_capacity(
+        alloc: Global,
+        rows: usize,
+        items: usize,
+    ) -> Result<Self, AllocError>
+        ensures { IfOk result (λ r. r ≡ []) }
+    {
+        Ok(Rows {
+            items: Vec::with_capacity(alloc, items)?,
+            ends: Vec::with_capacity(alloc, rows)?,
+        })
+    }
+
+    pub(crate) fn push(&mut self, row: &[T]) -> Result<(), AllocError>
+        ensures ok { OnOk result (self.new ≡ self.old ++ row.now ∷ []) }
+        ensures err { OnErr result (self.new ≡ self.old) }
+    {
+        self.ends.reserve(1)?;
+        self.items.extend_from_slice(row)?;
+        self.ends.push(self.items.len())?;
+        Ok(())
+    }
+
+    // Appends to the last row.
+    pub(crate) fn extend_last(&mut self, items: &[T]) -> Result<(), AllocError>
+        requires { 0 < length self.old }
+        ensures ok { OnOk result (self.new ≡ grown self.old items.now) }
+        ensures err { OnErr result (self.new ≡ self.old) }
+    {
+        self.items.extend_from_slice(items)?;
+        let last = self.ends.len() - 1;
+        self.ends[last] = self.items.len();
+        Ok(())
+    }
+
+    pub(crate) fn clear(&mut self)
+        ensures { self.new ≡ [] }
+    {
+        self.ends.clear();
+        self.items.clear();
+    }
+
+    pub(crate) fn copy(&self, alloc: Global) -> Result<Self, AllocError>
+        ensures { IfOk result (λ r. r ≡ self.now) }
+    {
+        Ok(Rows {
+            items: Vec::from_slice(alloc, &self.items)?,
+            ends: Vec::from_slice(alloc, &self.ends)?,
+        })
+    }
+}

@@ -1,0 +1,4 @@
+pub mod Meaning
+pub mod Changes
+pub mod Laws
+pub mod Counting

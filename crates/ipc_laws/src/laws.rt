@@ -1,0 +1,83 @@
+// The laws of histories. Each function is a theorem: it does nothing, and its contract holds of every history.
+ghost use Rattle.ipc_laws.specs.Laws.{OutputMeans, OverStays, NamesOpenCalls, OneOpenCall, BeginsOnce, ClosedOnce, OnePhase, EndedHadBegun, MeetsOne, MovesWithin, QuietMoves, AtMakesDue, AtBrings, AtStaysQuiet, AtFails, MayFollow, Settles, SettlesOnce, NumberedInOrder, CallsAreNormal, MessagesAreNormal, MovesFitLegal, LegalIsPaired, SenderSees, Determined, QuietDetermined};
+ghost use Rattle.ipc_laws.specs.Changes.{EachEntryChanges, OthersUnchanged};
+ghost use Rattle.ipc_laws.specs.Counting.{StepsFall, StepsBound, OpenBound, OutputsBound, LiveBound, OutputsMost, RoomHolds, InputRoom, AtRoom, PledgeCovers, CommandFits};
+
+/// What the next_output is tells what the history is.
+pub fn next_output_means()
+    ensures { OutputMeans }
+{}
+
+/// What one more entry changes.
+pub fn each_entry_changes()
+    ensures changes { EachEntryChanges }
+    ensures others { OthersUnchanged }
+{}
+
+/// What more entries leave as it is, and what they may name.
+pub fn calls_last()
+    ensures over { OverStays }
+    ensures named { NamesOpenCalls }
+    ensures numbered { NumberedInOrder }
+    ensures normal { CallsAreNormal }
+    ensures messages { MessagesAreNormal }
+{}
+
+/// One open call for each caller, one transfer for each send and each receive.
+pub fn one_at_a_time()
+    ensures calls { OneOpenCall }
+    ensures begins { BeginsOnce }
+    ensures closed { ClosedOnce }
+    ensures phase { OnePhase }
+    ensures ended { EndedHadBegun }
+    ensures meets { MeetsOne }
+{}
+
+/// The headline: every Legal history is Paired.
+pub fn paired()
+    ensures paired { LegalIsPaired }
+    ensures sees { SenderSees }
+{}
+
+/// Any inputs that may follow have a history, and they determine it.
+pub fn determined()
+    ensures follow { MayFollow }
+    ensures settles { Settles }
+    ensures once { SettlesOnce }
+    ensures begins { Determined }
+    ensures quiet { QuietDetermined }
+{}
+
+/// The bytes that are copied.
+pub fn bytes_within()
+    ensures within { MovesWithin }
+    ensures fit { MovesFitLegal }
+    ensures quiet { QuietMoves }
+{}
+
+/// What a moment brings.
+pub fn moments()
+    ensures due { AtMakesDue }
+    ensures brings { AtBrings }
+    ensures quiet { AtStaysQuiet }
+    ensures fails { AtFails }
+{}
+
+/// The outputs after an input come to an end: at most four for each live thread, so 1,020.
+pub fn outputs_end()
+    ensures fall { StepsFall }
+    ensures bound { StepsBound }
+    ensures calls { OpenBound }
+    ensures outputs { OutputsBound }
+    ensures live { LiveBound }
+    ensures most { OutputsMost }
+{}
+
+/// The room that is pledged is enough.
+pub fn room_is_enough()
+    ensures outputs { RoomHolds }
+    ensures input { InputRoom }
+    ensures at { AtRoom }
+    ensures pledged { PledgeCovers }
+    ensures command { CommandFits }
+{}

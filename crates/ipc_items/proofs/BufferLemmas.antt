@@ -1,6 +1,7 @@
 -- Buffer strings within their limits.
 use Rattle.std.proofs.Common.{◌≡◌, ℕ, zero, suc, ◌+◌, ◌*◌, ◌<◌, ◌≤◌, ◌^◌, List, [], ◌∷◌, ◌++◌, length, get_or, slice_get, Some, All, sum_by, sym, ap, arith, if◌then◌else◌, ◌==◌, subst, Bool, true, false, Vec, take, drop}
-use Rattle.std.proofs.lemmas.List.Sums.{sum_by-cons, sum_by-append}
+use Rattle.std.proofs.lemmas.List.Sums.{sum_by-cons, sum_by-append, sum_by-take-le}
+use Rattle.std.proofs.lemmas.List.{take_more}
 use Rattle.std.proofs.lemmas.List.Elements.{All-append}
 use Rattle.std.proofs.lemmas.Option.{slice_get_within, get_or_from_slice_get}
 use Rattle.ipc_items.specs.declared.buffer_list.Substring.{Substring}
@@ -92,3 +93,16 @@ runs-le (part ∷ parts) = omega (arith, runs_after-le part.length parts)
 
 pub words_of-le : (parts : List Substring) → words_of parts ≤ 2 * length parts
 words_of-le parts = omega (arith, runs-le parts)
+
+-- the words of rows, one row at a time
+
+pub words-more : (rows : List (List Substring)) (k : ℕ) (row : List Substring) → slice_get rows k ≡ Some row → sum_by words_of (take (k + 1) rows) ≡ sum_by words_of (take k rows) + words_of row
+words-more rows k row h =
+    let at : get_or rows k row ≡ row = get_or_from_slice_get rows k row row h in
+    rw (take_more rows k row (slice_get_within rows k row h), at) (omega (arith, sum_by-append words_of (take k rows) (row ∷ []), sum_by-cons words_of row []))
+
+pub row-few : (rows : List (List Substring)) (k : ℕ) (row : List Substring) → AreBuffers rows → slice_get rows k ≡ Some row → length row ≤ 31
+row-few rows k row h e = omega (arith, part-le rows k row e, h.1)
+
+pub words-front : (rows : List (List Substring)) (k : ℕ) → AreBuffers rows → sum_by words_of (take k rows) ≤ 32
+words-front rows k h = omega (arith, h.2, sum_by-take-le words_of rows k)

@@ -1,8 +1,12 @@
-ghost use Rattle.std.specs.Prelude.{◌≡◌, ◌==◌, ◌↔◌, IsTrue, ℕ, ◌<◌, ◌^◌, ◌≤◌, List, [], ◌∷◌, ◌++◌, length, if◌then◌else◌, IfOk, OnErr, slice_get, option_copied};
+ghost use Rattle.std.specs.Prelude.{◌≡◌, ◌==◌, ◌↔◌, IsTrue, ℕ, ◌<◌, ◌^◌, ◌≤◌, List, [], ◌∷◌, ◌++◌, length, sum_by, if◌then◌else◌, IfOk, IfErr, IsOk, IsOkUnless, OnErr, slice_get, option_copied};
 ghost use Rattle.std.specs.Option.{SomeIff, option_map_or};
 ghost use Rattle.ipc_items.specs.Buffers.{buffers_of, capacity, words_of, IsBuffer, AreBuffers};
+ghost use Rattle.ipc_items.specs.StringItem.{buffer_reading};
 ghost use Rattle.ipc_items.specs.Pieces.{first_pointer};
 
+use crate::item_fault::ItemFault;
+use crate::iter::Iter;
+use crate::reading::{buffer_check, buffer_rows};
 use crate::rows::Rows;
 use std::alloc::{AllocError, Global};
 use std::marker::Model;
@@ -29,23 +33,21 @@ pub struct Substring {
 ///
 /// Each has a substring, there are at most [`MAX_SUBSTRINGS`] together, each of a length below
 /// [`LENGTH_LIMIT`], and at most [`MAX_BUFFER_WORDS`] words can spell them.
-#[derive(Drop)]
+#[derive(Debug, Drop)]
 pub struct BufferList {
     rows: Rows<Substring>,
-    // The least number of words that spells them.
-    words: usize,
 }
 
 impl Model for BufferList {
-    ghost use Rattle.std.specs.Prelude.{◌≡◌, List, sum_by};
+    ghost use Rattle.std.specs.Prelude.{List};
     ghost use Rattle.ipc_items.specs.declared.buffer_list.Substring.{Substring};
-    ghost use Rattle.ipc_items.specs.Buffers.{AreBuffers, words_of};
+    ghost use Rattle.ipc_items.specs.Buffers.{AreBuffers};
 
     ghost Value = { List (List Substring) };
 
     ghost view = { λ b. b.rows };
 
-    ghost invariant = { λ b. AreBuffers b.rows × (b.words ≡ sum_by words_of b.rows) };
+    ghost invariant = { λ b. AreBuffers b.rows };
 }
 
 // Whether a buffer string has a substring, and each length is below the limit.
@@ -74,6 +76,18 @@ fn words(buffer: &[Substring]) -> usize
     runs + buffer.len()
 }
 
+// The least number of words that spells buffer strings.
+fn total_words(rows: &Rows<Substring>) -> usize
+    requires { AreBuffers rows.now }
+    ensures { result ≡ sum_by words_of rows.now }
+{
+    let mut total = 0;
+    for k in 0..rows.len() {
+        total += words(rows.row(k));
+    }
+    total
+}
+
 // How many bytes a buffer string holds.
 fn capacity(buffer: &[Substring]) -> u64
     requires { capacity buffer.now < 2 ^ 64 }
@@ -89,7 +103,6 @@ impl BufferList {
     {
         BufferList {
             rows: Rows::new(alloc),
-            words: 0,
         }
     }
 
@@ -103,7 +116,6 @@ impl BufferList {
     {
         Ok(BufferList {
             rows: Rows::with_capacity(alloc, buffers, substrings)?,
-            words: 0,
         })
     }
 
@@ -125,6 +137,19 @@ impl BufferList {
         Ok(Some(list))
     }
 
+    /// The buffer strings that buffer items spell, or the first fault. There are at most 32 words.
+    pub fn read(alloc: Global, words: &[u64]) -> Result<Self, ItemFault>
+        requires { length words.now ≤ 32 }
+        ensures ok { IfOk result (λ list. buffer_reading words.now ≡ Ok list) }
+        ensures fault { IfErr (buffer_reading words.now) (λ fault. result ≡ Err fault) }
+        ensures memory { IsOk (buffer_reading words.now)
+            → IsOkUnless result ItemFault.NoMemory }
+    {
+        buffer_check(words)?;
+        let rows = buffer_rows(alloc, words)?;
+        Ok(BufferList { rows })
+    }
+
     /// Adds a buffer string, and says whether it is within the limits: past them, the list stays as it was.
     pub fn push_buffer(&mut self, buffer: &[Substring]) -> Result<bool, AllocError>
         ensures within { IfOk result (λ fits.
@@ -136,12 +161,10 @@ impl BufferList {
         if !is_buffer(buffer) || buffer.len() > MAX_SUBSTRINGS - self.rows.total() {
             return Ok(false);
         }
-        let words = self.words + words(buffer);
-        if words > MAX_BUFFER_WORDS {
+        if words(buffer) > MAX_BUFFER_WORDS - total_words(&self.rows) {
             return Ok(false);
         }
         self.rows.push(buffer)?;
-        self.words = words;
         Ok(true)
     }
 
@@ -150,7 +173,6 @@ impl BufferList {
         ensures { self.new ≡ [] }
     {
         self.rows.clear();
-        self.words = 0;
     }
 
     /// A list of the same buffer strings.
@@ -159,7 +181,6 @@ impl BufferList {
     {
         Ok(BufferList {
             rows: self.rows.copy(alloc)?,
-            words: self.words,
         })
     }
 
@@ -176,6 +197,13 @@ impl BufferList {
         ensures { result ≡ (length self.now == 0) }
     {
         self.rows.len() == 0
+    }
+
+    /// The buffer strings in order.
+    pub fn iter(&self) -> Iter<'_, Substring>
+        ensures { result ≡ self.now }
+    {
+        Iter::new(&self.rows)
     }
 
     /// The substrings of buffer string k.

@@ -1,11 +1,11 @@
 ghost use Rattle.std.specs.Prelude.{◌≡◌, ℕ, ◌<◌, ◌≤◌, List, [], ◌∷◌, ◌++◌, length, sum_by, IfOk, OnOk, OnErr, slice_get, option_copied};
-ghost use Rattle.ipc_items.specs.Rows.{grown, place};
+ghost use Rattle.ipc_items.specs.Rows.{grown, opened, place};
 
 use std::alloc::{AllocError, Global};
 use std::marker::Model;
 
 /// Lists kept end to end in one vector, seen as the list of them.
-#[derive(Drop)]
+#[derive(Debug, Drop)]
 pub(crate) struct Rows<T> {
     items: Vec<T>,
     // Where each row ends in `items`.
@@ -95,6 +95,13 @@ impl<T: Copy> Rows<T> {
         self.items.extend_from_slice(row)?;
         self.ends.push(self.items.len())?;
         Ok(())
+    }
+
+    // Begins a row, unless the last one goes on.
+    pub(crate) fn begin(&mut self, goes_on: bool) -> Result<(), AllocError>
+        ensures { OnOk result (self.new ≡ opened goes_on self.old) }
+    {
+        if goes_on { Ok(()) } else { self.push(&[]) }
     }
 
     // Appends to the last row.

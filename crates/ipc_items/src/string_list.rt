@@ -1,10 +1,14 @@
-ghost use Rattle.std.specs.Prelude.{◌≡◌, ◌==◌, ◌↔◌, IsTrue, ℕ, ◌^◌, ◌≤◌, List, [], ◌∷◌, ◌++◌, length, if◌then◌else◌, IfOk, IfSome, OnErr, slice_get, option_copied};
+ghost use Rattle.std.specs.Prelude.{◌≡◌, ◌==◌, ◌↔◌, IsTrue, ℕ, ◌^◌, ◌≤◌, List, [], ◌∷◌, ◌++◌, length, if◌then◌else◌, IfOk, IfErr, IsOk, IsOkUnless, IfSome, OnErr, slice_get, option_copied};
 ghost use Rattle.std.specs.Option.{SomeIff, option_map_or};
 ghost use Rattle.ipc_items.specs.Strings.{strings_of, size_of, AreStrings};
+ghost use Rattle.ipc_items.specs.StringItem.{string_reading};
 ghost use Rattle.ipc_items.specs.Fit.{overflow_offset, accepted};
 
 use crate::buffer_list::BufferList;
 use crate::fitting::overflow;
+use crate::item_fault::ItemFault;
+use crate::iter::Iter;
+use crate::reading::{string_rows, string_size};
 use crate::rows::Rows;
 use std::alloc::{AllocError, Global};
 use std::marker::Model;
@@ -18,7 +22,7 @@ pub const MAX_STRING_BYTES: usize = 1_048_576;
 /// The strings of a message, seen as the list of their bytes.
 ///
 /// There are at most [`MAX_STRINGS`], of at most [`MAX_STRING_BYTES`] together.
-#[derive(Drop)]
+#[derive(Debug, Drop)]
 pub struct StringList {
     rows: Rows<u8>,
 }
@@ -64,6 +68,19 @@ impl StringList {
             rows.push(string)?;
         }
         Ok(Some(StringList { rows }))
+    }
+
+    /// The strings that string items spell over a payload, or the first fault. There are at most 63 words.
+    pub fn read(alloc: Global, words: &[u64], payload: &[u8]) -> Result<Self, ItemFault>
+        requires { length words.now ≤ 63 }
+        ensures ok { IfOk result (λ list. string_reading words.now payload.now ≡ Ok list) }
+        ensures fault { IfErr (string_reading words.now payload.now) (λ fault. result ≡ Err fault) }
+        ensures memory { IsOk (string_reading words.now payload.now)
+            → IsOkUnless result ItemFault.NoMemory }
+    {
+        let bytes = string_size(words, payload.len())?;
+        let rows = string_rows(alloc, words, payload, bytes)?;
+        Ok(StringList { rows })
     }
 
     /// Adds a string, and says whether it is within the limits: past them, the list stays as it was.
@@ -118,6 +135,13 @@ impl StringList {
         ensures { result ≡ (length self.now == 0) }
     {
         self.rows.len() == 0
+    }
+
+    /// The strings in order.
+    pub fn iter(&self) -> Iter<'_, u8>
+        ensures { result ≡ self.now }
+    {
+        Iter::new(&self.rows)
     }
 
     /// The bytes of string k.

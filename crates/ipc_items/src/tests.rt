@@ -14,6 +14,20 @@ fn part(length: u64, pointer: u64) -> Substring {
     Substring { length, pointer }
 }
 
+// Each of 17 items names all of a payload of 65,536 bytes.
+const WHOLE_PAYLOADS: [u64; 34] = [
+    0x400_0000, 0x0, 0x400_0000, 0x0, 0x400_0000, 0x0, 0x400_0000, 0x0, 0x400_0000, 0x0,
+    0x400_0000, 0x0, 0x400_0000, 0x0, 0x400_0000, 0x0, 0x400_0000, 0x0, 0x400_0000, 0x0,
+    0x400_0000, 0x0, 0x400_0000, 0x0, 0x400_0000, 0x0, 0x400_0000, 0x0, 0x400_0000, 0x0,
+    0x400_0000, 0x0, 0x400_0000, 0x0,
+];
+
+// 32 pointers to the first byte.
+const MANY_POINTERS: [u64; 33] = [
+    0x5f0, 0x0, 0x0, 0x0, 0x0, 0x0, 0x0, 0x0, 0x0, 0x0, 0x0, 0x0, 0x0, 0x0, 0x0, 0x0, 0x0, 0x0,
+    0x0, 0x0, 0x0, 0x0, 0x0, 0x0, 0x0, 0x0, 0x0, 0x0, 0x0, 0x0, 0x0, 0x0, 0x0,
+];
+
 #[test]
 fn strings_are_kept(rt: HostRuntime) -> Result<(), Fail> {
     let list = strings(rt.alloc())?;
@@ -75,5 +89,111 @@ fn pieces_come_in_order(rt: HostRuntime) -> Result<(), Fail> {
     assert_eq!(rt; list.capacity(0), 11);
     let empty = vec![in rt.alloc(); vec![in rt.alloc()]?]?;
     assert_eq!(rt; BufferList::of(rt.alloc(), empty)?.is_none(), true);
+    Ok(())
+}
+
+// Reads string items over the payload abchello: the number of strings and their bytes joined by commas, or the fault.
+fn reading(alloc: Global, words: &[u64]) -> Result<String, AllocError>
+    requires { length words.now ≤ 63 }
+{
+    let mut text = String::new(alloc);
+    match StringList::read(alloc, words, b"abchello") {
+        Ok(list) => {
+            for string in list.iter() {
+                for byte in string {
+                    text.push(char::from(*byte))?;
+                }
+                text.push(',')?;
+            }
+        }
+        Err(fault) => text.push_str(match fault.number() {
+            5 => "F5",
+            6 => "F6",
+            7 => "F7",
+            8 => "F8",
+            _ => "F14",
+        })?,
+    }
+    Ok(text)
+}
+
+#[test]
+fn string_items_are_read(rt: HostRuntime) -> Result<(), Fail> {
+    let a = rt.alloc();
+    assert_eq!(rt; reading(a, &[])?.as_str(), "");
+    assert_eq!(rt;
+        reading(a, &[0xc00, 0x0, 0x1400, 0x3])?.as_str(),
+        "abc,hello,"
+    );
+    assert_eq!(rt;
+        reading(a, &[0xc01, 0x0, 0x1400, 0x3])?.as_str(),
+        "abc,hello,"
+    );
+    assert_eq!(rt;
+        reading(a, &[0xe00, 0x0, 0x1400, 0x3])?.as_str(),
+        "abchello,"
+    );
+    assert_eq!(rt; reading(a, &[0x1010, 0x0, 0x4])?.as_str(), "abchello,");
+    assert_eq!(rt;
+        reading(a, &[0xc00, 0x0, 0x2000, 0x0])?.as_str(),
+        "abc,abchello,"
+    );
+    assert_eq!(rt; reading(a, &[0x0, 0x8])?.as_str(), ",");
+    Ok(())
+}
+
+#[test]
+fn first_fault_decides(rt: HostRuntime) -> Result<(), Fail> {
+    let a = rt.alloc();
+    assert_eq!(rt; reading(a, &[0xe00, 0x0])?.as_str(), "F5");
+    assert_eq!(rt; reading(a, &[0x8, 0x0])?.as_str(), "F6");
+    assert_eq!(rt; reading(a, &[0x1400, 0x4])?.as_str(), "F7");
+    assert_eq!(rt; reading(a, &[0x0, 0x9])?.as_str(), "F7");
+    assert_eq!(rt; reading(a, &[0xc18])?.as_str(), "F6");
+    assert_eq!(rt; reading(a, &[0xe00, 0x9])?.as_str(), "F5");
+    assert_eq!(rt; reading(a, &[0x1400, 0x4, 0x8, 0x0])?.as_str(), "F7");
+    Ok(())
+}
+
+#[test]
+fn string_bytes_are_counted(rt: HostRuntime) -> Result<(), Fail> {
+    let a = rt.alloc();
+    let payload = vec![in a; 5u8; 65_536]?;
+    let all = StringList::read(a, &WHOLE_PAYLOADS[..32], &payload)?;
+    assert_eq!(rt; all.len(), 16);
+    assert_eq!(rt; all.size(), 1_048_576);
+    let over = StringList::read(a, &WHOLE_PAYLOADS, &payload);
+    assert_eq!(rt; over.err(), Some(ItemFault::TooLong));
+    let many = StringList::read(a, &MANY_POINTERS, b"a")?;
+    assert_eq!(rt; many.len(), 1);
+    assert_eq!(rt; many.size(), 32);
+    Ok(())
+}
+
+#[test]
+fn buffer_items_are_read(rt: HostRuntime) -> Result<(), Fail> {
+    let a = rt.alloc();
+    let list = BufferList::read(a, &[0xc00, 0x1000, 0xa00, 0x2000, 0xc00, u64::MAX])?;
+    assert_eq!(rt; list.len(), 2);
+    assert_eq!(rt; list.capacity(0), 3);
+    assert_eq!(rt;
+        list.get(1).ok_or("1")?,
+        [part(2, 0x2000), part(3, u64::MAX)].as_slice()
+    );
+    assert_eq!(rt; list.iter().count(), 2);
+    assert_eq!(rt;
+        BufferList::read(a, &[0xe00, 0x0]).err(),
+        Some(ItemFault::PastWords)
+    );
+    assert_eq!(rt;
+        BufferList::read(a, &[0x8, 0x0]).err(),
+        Some(ItemFault::ReservedBit)
+    );
+    assert_eq!(rt;
+        format!(in a; "{}", ItemFault::NoMemory)?.as_str(),
+        "no memory"
+    );
+    pieces_join_to_strings();
+    spelled_strings_are_read();
     Ok(())
 }

@@ -1,6 +1,12 @@
+pub mod Bits
 pub mod ThreadId
+pub mod ThreadIdKind
 pub mod MsgTag
+pub mod TagFields
 pub mod Time
+pub mod Timeouts
 pub mod ErrorCode
+pub mod IpcError
 pub mod Control
 pub mod Version
+pub mod Laws

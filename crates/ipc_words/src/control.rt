@@ -1,5 +1,5 @@
 ghost use Rattle.std.specs.Prelude.{◌≡◌, ◌*◌, ◌+◌, ℕ, IfSome, IsTrue, IsSome, ◌↔◌, if◌then◌else◌};
-ghost use Rattle.ipc_words.specs.Control.{stops_receive, stops_send, is_masked};
+ghost use Rattle.ipc_words.specs.Control.{stops_receive, stops_send, is_masked, control_of, masked_of};
 
 use std::marker::Model;
 
@@ -18,12 +18,14 @@ impl Model for Control {
 }
 
 impl Control {
+    /// The control of any word of 64 bits. The bits other than R and S are kept, and nothing looks at them.
     pub fn from_word(word: u64) -> Control
         ensures { result ≡ word }
     {
         Control { word }
     }
 
+    /// The word, ignored bits too.
     pub fn to_word(self) -> u64
         ensures { result ≡ self }
     {
@@ -42,6 +44,13 @@ impl Control {
         ensures { result ≡ stops_send self }
     {
         self.word / 4 % 2 == 1
+    }
+
+    /// The bits R and S alone.
+    pub fn masked(self) -> MaskedControl
+        ensures { result ≡ masked_of self }
+    {
+        MaskedControl::of(self.stops_receive(), self.stops_send())
     }
 }
 
@@ -62,6 +71,15 @@ impl Model for MaskedControl {
 }
 
 impl MaskedControl {
+    /// The control with these two bits and no other.
+    pub fn of(receive: bool, send: bool) -> MaskedControl
+        ensures { result ≡ control_of receive send }
+    {
+        MaskedControl {
+            word: 2 * u64::from(receive) + 4 * u64::from(send),
+        }
+    }
+
     /// The control of a word that has no bit but R and S, None for another word.
     pub fn from_word(word: u64) -> Option<MaskedControl>
         ensures masked { IsSome result ↔ IsTrue (is_masked word) }
@@ -74,6 +92,7 @@ impl MaskedControl {
         }
     }
 
+    /// The word, which has no bit but R and S.
     pub fn to_word(self) -> u64
         ensures value { result ≡ self }
         ensures masked { IsTrue (is_masked self) }
@@ -85,13 +104,13 @@ impl MaskedControl {
     pub fn stops_receive(self) -> bool
         ensures { result ≡ stops_receive self }
     {
-        self.word / 2 % 2 == 1
+        Control::from_word(self.word).stops_receive()
     }
 
     /// The bit S: a send phase is stopped.
     pub fn stops_send(self) -> bool
         ensures { result ≡ stops_send self }
     {
-        self.word / 4 % 2 == 1
+        Control::from_word(self.word).stops_send()
     }
 }

@@ -1,6 +1,7 @@
-ghost use Rattle.std.specs.Prelude.{◌≡◌, ℕ};
+ghost use Rattle.std.specs.Prelude.{◌≡◌, ◌<◌, ◌^◌, ◌↔◌, ℕ, IsSome, IfSome};
 ghost use Rattle.ipc_words.specs.MsgTag.{untyped_of, typed_of, propagates, redirects, crosses, has_failed, label_of};
 
+use crate::tag_fields::TagFields;
 use std::marker::Model;
 
 /// A message tag, MR0, seen as its word (L4 X.2 manual, message registers).
@@ -18,15 +19,19 @@ impl Model for MsgTag {
 }
 
 impl MsgTag {
+    ghost use Rattle.ipc_words.specs.TagFields.{tag_of, fields_of, FitsTag, received_tag};
+
     /// The tag of an empty message.
     pub const EMPTY: MsgTag = MsgTag { word: 0 };
 
+    /// The tag of any word of 64 bits.
     pub fn from_word(word: u64) -> MsgTag
         ensures { result ≡ word }
     {
         MsgTag { word }
     }
 
+    /// The word.
     pub fn to_word(self) -> u64
         ensures { result ≡ self }
     {
@@ -80,5 +85,140 @@ impl MsgTag {
         ensures { result ≡ label_of self }
     {
         self.word / 65536
+    }
+
+    /// All the fields.
+    pub fn fields(self) -> TagFields
+        ensures value { result ≡ fields_of self }
+        ensures widths { FitsTag result }
+    {
+        TagFields {
+            untyped: self.untyped(),
+            typed: self.typed(),
+            propagated: self.propagates(),
+            redirected: self.redirects(),
+            crossed: self.crosses(),
+            failed: self.has_failed(),
+            label: self.word / 65536,
+        }
+    }
+
+    /// The tag with these fields, or None where u or t is 64 or more, or the label is 2^48 or more.
+    pub fn from_fields(fields: TagFields) -> Option<MsgTag>
+        ensures fits { IsSome result ↔ FitsTag fields }
+        ensures value { IfSome result (λ tag. tag ≡ tag_of fields) }
+    {
+        if fields.untyped < 64 && fields.typed < 64 && fields.label < 0x1_0000_0000_0000 {
+            Some(MsgTag::of(fields))
+        } else {
+            None
+        }
+    }
+
+    /// The tag with fields that are within their widths.
+    fn of(fields: TagFields) -> MsgTag
+        requires { FitsTag fields }
+        ensures { result ≡ tag_of fields }
+    {
+        let counts = u64::from(fields.untyped) + 64 * u64::from(fields.typed);
+        let sender_flags = u64::from(fields.propagated) + 2 * u64::from(fields.redirected);
+        let kernel_flags = u64::from(fields.crossed) + 2 * u64::from(fields.failed);
+        MsgTag {
+            word: counts + 0x1000 * sender_flags + 0x4000 * kernel_flags + 0x1_0000 * fields.label,
+        }
+    }
+
+    /// This tag with another u, or None where that is 64 or more.
+    pub fn with_untyped(self, untyped: u8) -> Option<MsgTag>
+        ensures fits { IsSome result ↔ (untyped < 2 ^ 6) }
+        ensures value { IfSome result (λ tag.
+            tag ≡ tag_of (record (fields_of self) { untyped = untyped })) }
+    {
+        MsgTag::from_fields(TagFields {
+            untyped,
+            ..self.fields()
+        })
+    }
+
+    /// This tag with another t, or None where that is 64 or more.
+    pub fn with_typed(self, typed: u8) -> Option<MsgTag>
+        ensures fits { IsSome result ↔ (typed < 2 ^ 6) }
+        ensures value { IfSome result (λ tag.
+            tag ≡ tag_of (record (fields_of self) { typed = typed })) }
+    {
+        MsgTag::from_fields(TagFields {
+            typed,
+            ..self.fields()
+        })
+    }
+
+    /// This tag with another label, or None where that is 2^48 or more.
+    pub fn with_label(self, label: u64) -> Option<MsgTag>
+        ensures fits { IsSome result ↔ (label < 2 ^ 48) }
+        ensures value { IfSome result (λ tag.
+            tag ≡ tag_of (record (fields_of self) { label = label })) }
+    {
+        MsgTag::from_fields(TagFields {
+            label,
+            ..self.fields()
+        })
+    }
+
+    /// This tag with another flag p.
+    pub fn with_propagated(self, propagated: bool) -> MsgTag
+        ensures { result ≡ tag_of (record (fields_of self) { propagated = propagated }) }
+    {
+        MsgTag::of(TagFields {
+            propagated,
+            ..self.fields()
+        })
+    }
+
+    /// This tag with another flag r.
+    pub fn with_redirected(self, redirected: bool) -> MsgTag
+        ensures { result ≡ tag_of (record (fields_of self) { redirected = redirected }) }
+    {
+        MsgTag::of(TagFields {
+            redirected,
+            ..self.fields()
+        })
+    }
+
+    /// This tag with another flag X.
+    pub fn with_crossed(self, crossed: bool) -> MsgTag
+        ensures { result ≡ tag_of (record (fields_of self) { crossed = crossed }) }
+    {
+        MsgTag::of(TagFields {
+            crossed,
+            ..self.fields()
+        })
+    }
+
+    /// This tag with another flag E.
+    pub fn with_failed(self, failed: bool) -> MsgTag
+        ensures { result ≡ tag_of (record (fields_of self) { failed = failed }) }
+    {
+        MsgTag::of(TagFields {
+            failed,
+            ..self.fields()
+        })
+    }
+
+    /// The tag that a receiver gets for this sent one: its u and label, t and p as given, and r, X and E 0. None where t is 64
+    /// or more.
+    pub fn received(self, typed: u8, propagated: bool) -> Option<MsgTag>
+        ensures fits { IsSome result ↔ (typed < 2 ^ 6) }
+        ensures value { IfSome result (λ tag. tag ≡ received_tag self typed propagated) }
+    {
+        let sent = self.fields();
+        MsgTag::from_fields(TagFields {
+            untyped: sent.untyped,
+            typed,
+            propagated,
+            redirected: false,
+            crossed: false,
+            failed: false,
+            label: sent.label,
+        })
     }
 }

@@ -1,7 +1,7 @@
 use Rattle.std.proofs.Common.{◌∙◌, List, ap, sym, length, sum_by, arith}
 use Rattle.std.proofs.lemmas.Bool.{false≢true}
 use Rattle.ipc_items.specs.declared.buffer_list.Substring.{Substring}
-use Rattle.ipc_items.proofs.BufferLemmas.{buffers-last, words_of-le}
+use Rattle.ipc_items.proofs.BufferLemmas.{buffers-last}
 use Rattle.ipc_items.proofs.buffer_list.BufferList.push_buffer.Goals as goal
 use Rattle.ipc_items.proofs.buffer_list.BufferList.push_buffer.Goals.{then-not-is_buffer-via-then-not-is_buffer, then-not-is_buffer-via-else-not-is_buffer+then-buffer-total}
 
@@ -13,8 +13,3 @@ returns-then-not-is_buffer-clause-within c = (
       let total = ap (sum_by (λ (parts : List Substring). length parts)) c.self.view_is in
       elim c.then-not-is_buffer.branch [ then-not-is_buffer-via-then-not-is_buffer w ↦ sym w.if-not-is_buffer.true ∙ c.is_buffer.ensures.1 last.0 | then-not-is_buffer-via-else-not-is_buffer+then-buffer-total w ↦ absurd (omega (arith, last.1, w.total.ensures, total)) ],
 )
-
-pub overflow_add-words : goal.overflow_add-words
-overflow_add-words c =
-    let inv = c.self.invariant in
-    omega (arith, inv.0.2, inv.1, words_of-le c.args.buffer.now, c.if-buffer-total.false)

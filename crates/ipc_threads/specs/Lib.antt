@@ -1,0 +1,4 @@
+pub mod Ids
+pub mod Refusal
+pub mod Restoring
+pub mod Threads

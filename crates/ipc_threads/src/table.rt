@@ -1,0 +1,311 @@
+//! A table of the threads by their numbers.
+ghost use Rattle.std.specs.Prelude.{◌≡◌, ◌==◌, ◌<◌, ◌↔◌, ℕ, not, length, replicate, slice_set};
+ghost use Rattle.std.specs.Prelude.{IsNone, IsTrue, IsSome, IfErr, IfOk, OnOk, OnErr, None, Some};
+ghost use Rattle.std.specs.Bool.{OnTrue, OnFalse};
+ghost use Rattle.ipc_words.specs.Words.{next_version_of, number_of, version_of};
+ghost use Rattle.ipc_threads.specs.Ids.{IsPlace, id_of, is_space, is_thread_number};
+
+use crate::ThreadRefusal;
+use ipc_words::{ThreadId, next_version};
+use std::marker::Model;
+
+// To move to the crate of the words.
+const MAX_THREAD_NUMBER: u32 = 255;
+
+// To move to the crate of the words.
+const MAX_SPACE: u32 = 64;
+
+// One slot for each number, 0 among them, which no thread has.
+const SLOTS: usize = 256;
+
+/// What a table keeps of one number.
+#[derive(Clone, Copy, PartialEq, Eq, Debug)]
+pub struct Slot {
+    /// The last version of the number, 0 before its first.
+    pub last: u32,
+    /// The space of the live thread of the number, 1 to 64.
+    pub space: Option<u32>,
+}
+
+/// The threads by their numbers, seen as the list of the slots of the numbers 0 to 255.
+#[derive(Drop)]
+pub struct ThreadTable {
+    slots: [Slot; SLOTS],
+    live: u32,
+}
+
+impl Model for ThreadTable {
+    ghost use Rattle.std.specs.Prelude.{◌≡◌, List};
+    ghost use Rattle.ipc_threads.specs.declared.table.Slot.{Slot};
+
+    ghost Value = { List Slot };
+
+    ghost use Rattle.ipc_threads.specs.Threads.{live_count};
+
+    ghost view = { λ table. table.slots };
+
+    ghost invariant = { λ table. table.live ≡ live_count table.slots };
+}
+
+impl ThreadTable {
+    ghost use Rattle.ipc_threads.specs.Threads.{blank, live_count, live_id_of, live_space_of};
+    ghost use Rattle.ipc_threads.specs.Threads.{last_version_of, next_id_of, slot_of};
+    ghost use Rattle.ipc_threads.specs.Restoring.{IsFirstFault, IsRestoredFrom, fault_at, fault_of};
+
+    /// A table of which no number had a version yet.
+    pub fn new() -> ThreadTable
+        ensures { result ≡ replicate 256 blank }
+    {
+        ThreadTable {
+            slots: [Slot {
+                last: 0,
+                space: None,
+            }; SLOTS],
+            live: 0,
+        }
+    }
+
+    /// A table with these last versions, each beside its number, and with no thread live. Refusals:
+    /// K1 for a number that is not 1 to 255 or a version whose low six bits are zero, K2 for a
+    /// number that an earlier pair names. The first pair at fault decides, and of one pair K1
+    /// before K2.
+    pub fn restore(pairs: &[(u32, u32)]) -> Result<ThreadTable, ThreadRefusal>
+        ensures faultless { IfOk result (λ _. (k : ℕ) → k < length pairs.now
+            → fault_at pairs.now k ≡ None) }
+        ensures restored { IfOk result (IsRestoredFrom pairs.now) }
+        ensures quiet { IfOk result (λ table. live_count table ≡ 0) }
+        ensures refused { IfErr result (IsFirstFault pairs.now) }
+    {
+        let mut table = ThreadTable::new();
+        for (number, version) in pairs {
+            table.restore_number(*number, *version)?;
+        }
+        Ok(table)
+    }
+
+    fn restore_number(&mut self, number: u32, version: u32) -> Result<(), ThreadRefusal>
+        requires size { length self.old ≡ 256 }
+        requires quiet { live_count self.old ≡ 0 }
+        ensures quiet { live_count self.new ≡ 0 }
+        ensures set { OnOk result (self.new ≡ slice_set self.old number
+            (record { last = version; space = None })) }
+        ensures sound { OnOk result
+            (fault_of (not (last_version_of self.old number == 0)) (number, version) ≡ None) }
+        ensures refused { IfErr result (λ refusal.
+            fault_of (not (last_version_of self.old number == 0)) (number, version)
+            ≡ Some refusal) }
+    {
+        if !is_thread_number(number) || version % 64 == 0 {
+            return Err(ThreadRefusal::BadNumber);
+        }
+        let place = number as usize;
+        if self.slots[place].last != 0 {
+            return Err(ThreadRefusal::NumberTaken);
+        }
+        self.slots[place] = Slot {
+            last: version,
+            space: None,
+        };
+        Ok(())
+    }
+
+    /// How many threads are live.
+    pub fn live(&self) -> u32
+        ensures { result ≡ live_count self.now }
+    {
+        self.live
+    }
+
+    /// The space of a live thread, None where no thread has that id.
+    pub fn space_of(&self, thread: ThreadId) -> Option<u32>
+        ensures space { result ≡ live_space_of self.now thread }
+        ensures number { IsSome result → number_of thread < length self.now }
+    {
+        let slot = self.slots.get(thread.number() as usize)?;
+        if slot.last == thread.version() {
+            slot.space
+        } else {
+            None
+        }
+    }
+
+    /// Whether a thread of that id is live.
+    pub fn is_live(&self, thread: ThreadId) -> bool
+        ensures { IsTrue result ↔ IsSome (live_space_of self.now thread) }
+    {
+        self.space_of(thread).is_some()
+    }
+
+    /// The live thread of a number, if there is one.
+    pub fn thread_of(&self, number: u32) -> Option<ThreadId>
+        ensures { result ≡ live_id_of self.now number }
+    {
+        let slot = self.slots.get(number as usize)?;
+        match slot.space {
+            Some(_) => Some(id_of(number, slot.last)),
+            None => None,
+        }
+    }
+
+    /// The id that `open` would give a thread of this number in this space. Refusals, in this
+    /// order: K1 where the number is not 1 to 255 or the space not 1 to 64, K2 where a thread of
+    /// the number is live, K3 where the last version of the number has none after it.
+    pub fn next_id(&self, number: u32, space: u32) -> Result<ThreadId, ThreadRefusal>
+        ensures answer { result ≡ next_id_of self.now number space }
+        ensures bad_number { (result ≡ Err ThreadRefusal.BadNumber) ↔ (¬ IsPlace number space) }
+        ensures number_taken { (result ≡ Err ThreadRefusal.NumberTaken)
+            ↔ (IsPlace number space × IsSome (slot_of self.now number).space) }
+        ensures number_worn { (result ≡ Err ThreadRefusal.NumberWorn)
+            ↔ (IsPlace number space × IsNone (slot_of self.now number).space
+            × (last_version_of self.now number ≡ u32.MAX)) }
+        ensures number { IfOk result (λ id. number_of id ≡ number) }
+        ensures version { IfOk result (λ id.
+            next_version_of (last_version_of self.now number) ≡ Some (version_of id)) }
+    {
+        if !is_thread_number(number) || !is_space(space) {
+            return Err(ThreadRefusal::BadNumber);
+        }
+        let slot = self.slots[number as usize];
+        if slot.space.is_some() {
+            return Err(ThreadRefusal::NumberTaken);
+        }
+        match next_version(slot.last) {
+            Some(version) => Ok(id_of(number, version)),
+            None => Err(ThreadRefusal::NumberWorn),
+        }
+    }
+
+    /// Opens a thread of this number in this space, and says its id. Refusals: those of
+    /// `next_id`; a refusal changes nothing.
+    pub fn open(&mut self, number: u32, space: u32) -> Result<ThreadId, ThreadRefusal>
+        ensures answer { result ≡ next_id_of self.old number space }
+        ensures bad_number { (result ≡ Err ThreadRefusal.BadNumber) ↔ (¬ IsPlace number space) }
+        ensures number_taken { (result ≡ Err ThreadRefusal.NumberTaken)
+            ↔ (IsPlace number space × IsSome (slot_of self.old number).space) }
+        ensures number_worn { (result ≡ Err ThreadRefusal.NumberWorn)
+            ↔ (IsPlace number space × IsNone (slot_of self.old number).space
+            × (last_version_of self.old number ≡ u32.MAX)) }
+        ensures number { IfOk result (λ id. number_of id ≡ number) }
+        ensures version { IfOk result (λ id.
+            next_version_of (last_version_of self.old number) ≡ Some (version_of id)) }
+        ensures opened { IfOk result (λ id. self.new ≡ slice_set self.old number
+            (record { last = version_of id; space = Some space })) }
+        ensures refused { OnErr result (self.new ≡ self.old) }
+    {
+        let id = self.next_id(number, space)?;
+        self.slots[number as usize] = Slot {
+            last: id.version(),
+            space: Some(space),
+        };
+        self.live += 1;
+        Ok(id)
+    }
+
+    /// Closes a live thread: its number is free, and keeps its last version. False, and nothing
+    /// changes, where no thread has that id.
+    pub fn close(&mut self, thread: ThreadId) -> bool
+        ensures live { IsTrue result ↔ IsSome (live_space_of self.old thread) }
+        ensures closed { OnTrue result (self.new ≡ slice_set self.old (number_of thread)
+            (record { last = version_of thread; space = None })) }
+        ensures refused { OnFalse result (self.new ≡ self.old) }
+    {
+        if self.space_of(thread).is_none() {
+            return false;
+        }
+        self.slots[thread.number() as usize] = Slot {
+            last: thread.version(),
+            space: None,
+        };
+        self.live -= 1;
+        true
+    }
+}
+
+fn is_thread_number(number: u32) -> bool
+    ensures { result ≡ is_thread_number number }
+{
+    1 <= number && number <= MAX_THREAD_NUMBER
+}
+
+fn is_space(space: u32) -> bool
+    ensures { result ≡ is_space space }
+{
+    1 <= space && space <= MAX_SPACE
+}
+
+fn id_of(number: u32, version: u32) -> ThreadId
+    ensures { result ≡ id_of number version }
+{
+    ThreadId::from_word(u64::from(number) * 0x1_0000_0000 + u64::from(version))
+}
+
+#[cfg(test)]
+mod tests {
+    use super::*;
+    use std::test::Fail;
+
+    fn word(id: Result<ThreadId, ThreadRefusal>) -> Result<u64, ThreadRefusal> {
+        id.map(|id| id.to_word())
+    }
+
+    #[test]
+    fn opens_and_closes(rt: HostRuntime) -> Result<(), Fail> {
+        let mut table = ThreadTable::new();
+        for (number, space) in [(256, 1), (0, 1), (1, 0), (1, 65)] {
+            let refused = word(table.open(number, space));
+            assert_eq!(rt;
+                refused,
+                Err(ThreadRefusal::BadNumber),
+                "at {number} {space}"
+            );
+        }
+        assert_eq!(rt; word(table.next_id(1, 1)), Ok(0x1_0000_0001));
+        let first = table.open(1, 1)?;
+        assert_eq!(rt; first.to_word(), 0x1_0000_0001);
+        assert_eq!(rt; word(table.open(1, 1)), Err(ThreadRefusal::NumberTaken));
+        assert_eq!(rt; word(table.open(255, 64)), Ok(0xff_0000_0001));
+        assert_eq!(rt; table.live(), 2);
+        assert_eq!(rt; table.space_of(first), Some(1));
+        assert!(rt; table.close(first));
+        assert!(rt; !table.close(first));
+        assert!(rt; !table.is_live(first));
+        assert_eq!(rt; word(table.open(1, 2)), Ok(0x1_0000_0002));
+        assert!(rt; !table.close(first));
+        assert_eq!(rt; table.space_of(ThreadId::from_word(0x1_0000_0002)), Some(2));
+        assert_eq!(rt;
+            table.thread_of(1).map(|id| id.to_word()),
+            Some(0x1_0000_0002)
+        );
+        assert_eq!(rt; table.live(), 2);
+        Ok(())
+    }
+
+    #[test]
+    fn restores(rt: HostRuntime) -> Result<(), Fail> {
+        let mut table = ThreadTable::restore(&[(7, 4_294_967_295), (9, 63), (10, 4_294_967_294)])?;
+        assert_eq!(rt; word(table.open(7, 1)), Err(ThreadRefusal::NumberWorn));
+        assert_eq!(rt; word(table.open(9, 1)), Ok(0x9_0000_0041));
+        assert_eq!(rt; word(table.open(10, 1)), Ok(0xa_ffff_ffff));
+        assert_eq!(rt; word(table.open(11, 1)), Ok(0xb_0000_0001));
+        Ok(())
+    }
+
+    #[test]
+    fn refuses_to_restore(rt: HostRuntime) {
+        let cases: [(&[(u32, u32)], u8); 6] = [
+            (&[(0, 1)], 1),
+            (&[(256, 1)], 1),
+            (&[(1, 0)], 1),
+            (&[(1, 64)], 1),
+            (&[(1, 1), (2, 1), (1, 2), (0, 1)], 2),
+            (&[(1, 1), (1, 64)], 1),
+        ];
+        for (pairs, refusal) in cases {
+            let number = match ThreadTable::restore(pairs) {
+                Ok(_) => 0,
+                Err(refused) => refused.number(),
+            };
+            assert_eq!(rt; number, refusal, "at {pairs:?}");
+        }
+    }
+}

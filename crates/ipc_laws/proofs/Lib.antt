@@ -34,3 +34,4 @@ pub mod Pledge
 pub mod Changing
 pub mod Senders
 pub mod LiveThreads
+pub mod OneLive

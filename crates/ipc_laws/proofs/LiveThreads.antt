@@ -48,7 +48,7 @@ opened_at P x h = let p = any_place (opens x) P h in go p.0 p.1 p.2
     go (Given (Opened t space)) at g = let same : t ≡ x = eqb-true t x g in (space, rw same at at)
     go _ at g = absurd (false≢true g)
 
-taken : (P : List Entry) (x : ℕ) → was_opened P x ≡ true → is_live P x ≡ true → is_taken P (number_of x) ≡ true
+pub taken : (P : List Entry) (x : ℕ) → was_opened P x ≡ true → is_live P x ≡ true → is_taken P (number_of x) ≡ true
 unfolding is_taken
 taken P x o l =
     let p = opened_at P x o in
@@ -62,7 +62,7 @@ none_live P number free = false_from_ne_true _ (λ some.
 
 -- What an Opened asks
 
-opened_free : (P : List Entry) (t space : ℕ) → is_admissible P (Opened t space) ≡ true → is_taken P (number_of t) ≡ false
+pub opened_free : (P : List Entry) (t space : ℕ) → is_admissible P (Opened t space) ≡ true → is_taken P (number_of t) ≡ false
 unfolding is_admissible may_open
 opened_free P t space h = refuted _ (right _ _ (left _ _ (left _ _ (left _ _ h))))
 

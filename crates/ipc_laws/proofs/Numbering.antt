@@ -109,7 +109,7 @@ any_number (e ∷ P) x = one e (filter_map number_in P) ∙ ap (λ b. calls x e 
     one (Given (Called k thread call)) l = refl
     one _ l = refl
 
-calls_called : (P : List Entry) (x : ℕ) → list_any (calls x) P ≡ true → is_called P x ≡ true
+pub calls_called : (P : List Entry) (x : ℕ) → list_any (calls x) P ≡ true → is_called P x ≡ true
 unfolding is_called call_at
 calls_called P x h = let p = any_place (calls x) P h in true_from_ne_false _ (λ f. gives p.0 p.2 (first_none (call_in x) P p.0 p.1 (none_is (first_some (call_in x) P) f)))
   where

@@ -1,0 +1,4 @@
+pub mod Joins
+pub mod Placing
+pub mod Plain
+pub mod Splitting

@@ -1,0 +1,80 @@
+ghost use Rattle.std.specs.Prelude.{◌≡◌, ◌++◌, OnOk, IfOk};
+ghost use Rattle.std.specs.String.{string_bytes};
+ghost use Rattle.ipc_lines.specs.Lines.{timeouts_of, spaced, scalar_fields, list_fields, call_text};
+
+use crate::lists::{write_buffers, write_strings, write_words};
+use crate::scalars::{HexText, IdText};
+use ipc_history::Call;
+use ipc_words::{ThreadId, Timeouts};
+use std::alloc::{AllocError, Global};
+
+// The word of the two periods.
+fn timeouts(call: &Call) -> u64
+    ensures { result ≡ timeouts_of call.now }
+{
+    u64::from(Timeouts::of(call.receive_period(), call.send_period()).to_word())
+}
+
+// Appends the six fields of a call that are one word each.
+fn write_scalars(out: &mut String, caller: ThreadId, call: &Call) -> Result<(), AllocError>
+    ensures { OnOk result (string_bytes out.new
+        ≡ string_bytes out.old ++ spaced (scalar_fields caller call.now)) }
+{
+    let to = IdText(call.to());
+    let from = IdText(call.from());
+    let timeouts = HexText(timeouts(call));
+    let tag = HexText(call.tag().to_word());
+    let originator = IdText(call.originator());
+    write!(
+        out,
+        "{} {to} {from} {timeouts} {tag} {originator}",
+        IdText(caller)
+    )
+}
+
+// Appends the words, the strings and the buffers of a call.
+fn write_lists(alloc: Global, out: &mut String, call: &Call) -> Result<(), AllocError>
+    ensures { OnOk result (string_bytes out.new
+        ≡ string_bytes out.old ++ spaced (list_fields call.now)) }
+{
+    write_words(out, call.words())?;
+    out.push_str(" ")?;
+    write_strings(alloc, out, call.strings())?;
+    out.push_str(" ")?;
+    write_buffers(out, call.buffers())
+}
+
+// Appends the nine fields of a call.
+pub(crate) fn write_call(
+    alloc: Global,
+    out: &mut String,
+    caller: ThreadId,
+    call: &Call,
+) -> Result<(), AllocError>
+    ensures { OnOk result (string_bytes out.new ≡ string_bytes out.old ++ call_text caller call.now) }
+{
+    write_scalars(out, caller, call)?;
+    out.push_str(" ")?;
+    write_lists(alloc, out, call)
+}
+
+/// The nine fields of a call with one space between each two, without a newline.
+///
+/// | Field | Text |
+/// |---|---|
+/// | thread, to, from | ids; thread is the caller |
+/// | timeouts | HEX of the word: the receive period in bits 0 to 15, the send period in bits 16 to 31 |
+/// | tag | HEX |
+/// | originator | an id |
+/// | words | `-` where there is none, else HEX with commas between |
+/// | strings | `-` where there is none, else `x` and two lower-case hex digits a byte, with commas between |
+/// | buffers | `-` where no strings are accepted, `s` where they are and there is no buffer string, else buffer strings with commas between: substrings with `+` between, each its length in decimal, `@` and its pointer in HEX |
+///
+/// The error: memory was refused.
+pub fn call_text(alloc: Global, caller: ThreadId, call: &Call) -> Result<String, AllocError>
+    ensures { IfOk result (λ text. string_bytes text ≡ call_text caller call.now) }
+{
+    let mut text = String::new(alloc);
+    write_call(alloc, &mut text, caller, call)?;
+    Ok(text)
+}

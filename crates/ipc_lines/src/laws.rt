@@ -1,0 +1,11 @@
+ghost use Rattle.ipc_lines.specs.Laws.{LinesHoldNoNewline, LinesSplitIntoFields};
+
+/// No line holds a newline.
+pub fn lines_hold_no_newline()
+    ensures { LinesHoldNoNewline }
+{}
+
+/// The fields of a line are what stands between its spaces.
+pub fn lines_split_into_fields()
+    ensures { LinesSplitIntoFields }
+{}

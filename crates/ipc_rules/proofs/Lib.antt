@@ -1,0 +1,11 @@
+pub mod WordLemmas
+pub mod Tests
+pub mod Silent
+pub mod Backwards
+pub mod Living
+pub mod OpenNumbers
+pub mod Transfers
+pub mod Meets
+pub mod Overs
+pub mod Turns
+pub mod Moving

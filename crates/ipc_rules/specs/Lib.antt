@@ -1,0 +1,4 @@
+pub mod Scanning
+pub mod Traces
+pub mod OpenCalls
+pub mod ExchangeRegisters

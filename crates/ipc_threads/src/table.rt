@@ -2,7 +2,8 @@
 ghost use Rattle.std.specs.Prelude.{◌≡◌, ◌==◌, ◌<◌, ◌↔◌, ℕ, not, length, replicate, slice_set};
 ghost use Rattle.std.specs.Prelude.{IsNone, IsTrue, IsSome, IfErr, IfOk, OnOk, OnErr, None, Some};
 ghost use Rattle.std.specs.Bool.{OnTrue, OnFalse};
-ghost use Rattle.ipc_words.specs.Words.{next_version_of, number_of, version_of};
+ghost use Rattle.ipc_words.specs.ThreadId.{number_of, version_of};
+ghost use Rattle.ipc_words.specs.Version.{next_version_of};
 ghost use Rattle.ipc_threads.specs.Ids.{IsPlace, id_of, is_space, is_thread_number};
 
 use crate::ThreadRefusal;

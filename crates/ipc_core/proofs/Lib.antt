@@ -1,0 +1,15 @@
+pub mod AfterAt
+pub mod Opening
+pub mod Scannable
+pub mod OpenNumbers
+pub mod Commands
+pub mod RoomLemmas
+pub mod CourseLemmas
+pub mod KernelLemmas
+pub mod MessageLemmas
+pub mod ClockLemmas
+pub mod OutcomeLemmas
+pub mod OpeningLemmas
+pub mod RefusalLemmas
+pub mod ReservedLemmas
+pub mod EnteringLemmas

@@ -1,0 +1,59 @@
+-- A thread that opens was not opened before, and so has not ended; one that ends was live.
+use Rattle.std.proofs.lemmas.Bool.{false≢true, false_from_ne_true}
+use Rattle.std.proofs.lemmas.List.Sums.{sum_by-cons, sum_by-append}
+use Rattle.std.proofs.Common.{◌≡◌, refl, ℕ, ◌≤◌, Bool, true, false, eq-eqb, eqb-true, cond, List, ◌∷◌, ◌++◌, count_by, arith}
+use Rattle.std.specs.List.{list_any}
+use Rattle.ipc_history.specs.Entries.{breaks, opens}
+use Rattle.ipc_history.specs.Threads.{has_broken, was_opened, is_live}
+use Rattle.ipc_history.specs.Legal.{Legal, is_admissible}
+use Rattle.ipc_history.specs.declared.entry.Entry.{Entry}
+use Rattle.ipc_history.specs.declared.entry.Entry.TheVariants.{Given}
+use Rattle.ipc_history.specs.declared.entry.Input.TheVariants.{Opened, Broke}
+use Rattle.ipc_laws.proofs.Endings.{live_opened}
+use Rattle.ipc_laws.proofs.Histories.{admitted_at}
+use Rattle.ipc_laws.proofs.OneLive.{opened_once}
+use Rattle.ipc_laws.proofs.Pairing.{legal_before}
+use Rattle.ipc_laws.proofs.Places.{Place, any_front, any_place}
+
+-- a test that counts
+abbrev pub one_if : Bool → ℕ
+one_if b = cond b 1 0
+
+-- what ends was live
+pub broken_was_live : (P : List Entry) (thread : ℕ) → is_admissible P (Broke thread) ≡ true → is_live P thread ≡ true
+unfolding is_admissible
+broken_was_live P thread h = h
+
+-- so what has ended was opened
+ended_was_opened : (Q : List Entry) → Legal Q → (thread : ℕ) → has_broken Q thread ≡ true → list_any (opens thread) Q ≡ true
+unfolding has_broken was_opened
+ended_was_opened Q legal thread broken = let p = any_place (breaks thread) Q broken in go p.0 p.1 p.2
+  where
+    go : (e : Entry) → Place Q e → breaks thread e ≡ true → list_any (opens thread) Q ≡ true
+    go (Given (Broke t)) at ends =
+        let same : t ≡ thread = eqb-true t thread ends in
+        let live = live_opened at.front t (broken_was_live at.front t (admitted_at Q legal (Broke t) at)) in
+        any_front (opens thread) Q (Given (Broke t)) at (rw same at live)
+    go _ at ends = absurd (false≢true ends)
+
+-- how many elements pass, where one does, and where another one does behind it
+counts_one : (p : Entry → Bool) (P : List Entry) → list_any p P ≡ true → 1 ≤ count_by p P
+counts_one p P some =
+    let q = any_place p P some in
+    rw q.1.whole (omega (arith, sum_by-append (λ e. cond (p e) 1 0) q.1.front (q.0 ∷ q.1.rest), sum_by-cons (λ e. cond (p e) 1 0) q.0 q.1.rest, here q.2))
+  where
+    here : {e : Entry} → p e ≡ true → one_if (p e) ≡ 1
+    here passes = rw passes refl
+
+counts_two : (p : Entry → Bool) (P rest : List Entry) (e : Entry) → list_any p P ≡ true → p e ≡ true → 2 ≤ count_by p (P ++ e ∷ rest)
+counts_two p P rest e some passes =
+    let first = counts_one p P some in
+    let second : one_if (p e) ≡ 1 = rw passes refl in
+    omega (arith, first, second, sum_by-append (λ e. cond (p e) 1 0) P (e ∷ rest), sum_by-cons (λ e. cond (p e) 1 0) e rest)
+
+-- and does not open again
+pub unbroken : (H : List Entry) → Legal H → (thread space : ℕ) (at : Place H (Given (Opened thread space))) → has_broken at.front thread ≡ false
+unbroken H legal thread space at = false_from_ne_true _ (λ broken.
+    let before = legal_before H legal (Given (Opened thread space)) at in
+    let twice : 2 ≤ count_by (opens thread) H = rw at.whole (counts_two (opens thread) at.front at.rest (Given (Opened thread space)) (ended_was_opened at.front before thread broken) (eq-eqb thread thread refl)) in
+    omega (arith, twice, opened_once H legal thread))

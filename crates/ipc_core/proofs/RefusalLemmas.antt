@@ -1,0 +1,98 @@
+-- Which cause a refusal has.
+use Rattle.std.proofs.lemmas.Bool.{le-ltb, ltb-false, false_from_ne_true, true≢false}
+use Rattle.std.proofs.Common.{◌≡◌, refl, ℕ, ◌==◌, ◌||◌, Bool, true, false, Option, Some, None, is_some, nat_lt, arith}
+use Rattle.std.specs.List.{list_any}
+use Rattle.ipc_history.specs.Calls.{caller_of}
+use Rattle.ipc_history.specs.Threads.{is_live, is_taken, next_version}
+use Rattle.ipc_history.specs.Phases.{open_call}
+use Rattle.ipc_laws.proofs.Tests.{neither_left}
+use Rattle.ipc_core.specs.KernelParts.{KernelParts}
+use Rattle.ipc_core.specs.Room.{is_full, open_need, exreg_need}
+use Rattle.ipc_core.specs.Refusals.{open_refusal, exreg_refusal}
+use Rattle.ipc_core.specs.Steps.{is_busy}
+use Rattle.ipc_core.specs.declared.refusal.Refusal.TheVariants.{BadNumber, NumberTaken, NumberWorn, HistoryFull, NoThread, Busy}
+use Rattle.ipc_core.proofs.OpeningLemmas.{InRange}
+
+-- Busy
+
+pub busy_by_call : (kernel : KernelParts) (thread : ℕ) → is_some (open_call kernel.history thread) ≡ true → true ≡ is_busy kernel thread
+unfolding is_busy
+busy_by_call kernel thread found = rw found refl
+
+pub busy_by_outcome : (kernel : KernelParts) (thread : ℕ) → is_some (open_call kernel.history thread) ≡ false → list_any (λ n. caller_of kernel.history n == thread) kernel.untaken ≡ is_busy kernel thread
+unfolding is_busy
+busy_by_outcome kernel thread none = rw none refl
+
+no_call : (o : Option ℕ) → is_some o ≡ false → o ≡ None
+no_call o none = grind arith
+
+pub idle_no_call : (kernel : KernelParts) (thread : ℕ) → is_busy kernel thread ≡ false → open_call kernel.history thread ≡ None
+unfolding is_busy
+idle_no_call kernel thread idle = no_call _ (neither_left _ _ idle)
+
+-- what holds only where nothing fails does not hold
+pub not_since : (b : Bool) → (b ≡ true → true ≡ false) → b ≡ false
+not_since b h = false_from_ne_true b (λ e. true≢false (h e))
+
+-- Opens
+
+range_tests : (number space : ℕ) → InRange number space → (nat_lt number 1 || nat_lt 255 number || nat_lt space 1 || nat_lt 64 space) ≡ false
+range_tests number space range = rw (le-ltb number 1 range.least, le-ltb 255 number range.most, le-ltb space 1 range.inner, le-ltb 64 space range.outer) refl
+
+none_passes : (a b c d : Bool) → (a || b || c || d) ≡ false → (a ≡ false) × (b ≡ false) × (c ≡ false) × (d ≡ false)
+none_passes true b c d none = (cc, cc, cc, cc)
+none_passes false true c d none = (cc, cc, cc, cc)
+none_passes false false true d none = (cc, cc, cc, cc)
+none_passes false false false d none = (refl, refl, refl, none)
+
+range_from : (number space : ℕ) → (nat_lt number 1 || nat_lt 255 number || nat_lt space 1 || nat_lt 64 space) ≡ false → InRange number space
+range_from number space tests =
+    let each = none_passes (nat_lt number 1) (nat_lt 255 number) (nat_lt space 1) (nat_lt 64 space) tests in
+    record { least = ltb-false number 1 each.0; most = ltb-false 255 number each.1; inner = ltb-false space 1 each.2; outer = ltb-false 64 space each.3 }
+
+module _ (kernel : KernelParts) (number space : ℕ) where
+  pub open_bad : (InRange number space → ⊥) → open_refusal kernel number space ≡ Some BadNumber
+  unfolding open_refusal
+  open_bad out = go (nat_lt number 1 || nat_lt 255 number || nat_lt space 1 || nat_lt 64 space) refl
+    where
+      go : (b : Bool) → (nat_lt number 1 || nat_lt 255 number || nat_lt space 1 || nat_lt 64 space) ≡ b → open_refusal kernel number space ≡ Some BadNumber
+      go true tests = rw tests refl
+      go false tests = absurd (out (range_from number space tests))
+
+  module _ (range : InRange number space) where
+    pub open_taken : is_taken kernel.history number ≡ true → open_refusal kernel number space ≡ Some NumberTaken
+    unfolding open_refusal
+    open_taken taken = rw (range_tests number space range, taken) refl
+
+    module _ (free : is_taken kernel.history number ≡ false) where
+      pub open_worn : next_version kernel.history number ≡ None → open_refusal kernel number space ≡ Some NumberWorn
+      unfolding open_refusal
+      open_worn worn = rw (range_tests number space range, free, worn) refl
+
+      pub open_full : (version : ℕ) → next_version kernel.history number ≡ Some version → is_full kernel open_need ≡ true → open_refusal kernel number space ≡ Some HistoryFull
+      unfolding open_refusal
+      open_full version next full = rw (range_tests number space range, free, next, full) refl
+
+      pub open_allowed : (version : ℕ) → next_version kernel.history number ≡ Some version → is_full kernel open_need ≡ false → open_refusal kernel number space ≡ None
+      unfolding open_refusal
+      open_allowed version next not_full = rw (range_tests number space range, free, next, not_full) refl
+
+-- ExchangeRegisters
+
+module _ (kernel : KernelParts) (thread : ℕ) where
+  pub exreg_no_thread : is_live kernel.history thread ≡ false → exreg_refusal kernel thread ≡ Some NoThread
+  unfolding exreg_refusal
+  exreg_no_thread gone = rw gone refl
+
+  module _ (live : is_live kernel.history thread ≡ true) where
+    pub exreg_busy : is_busy kernel thread ≡ true → exreg_refusal kernel thread ≡ Some Busy
+    unfolding exreg_refusal
+    exreg_busy busy = rw (live, busy) refl
+
+    pub exreg_full : is_busy kernel thread ≡ false → is_full kernel exreg_need ≡ true → exreg_refusal kernel thread ≡ Some HistoryFull
+    unfolding exreg_refusal
+    exreg_full idle full = rw (live, idle, full) refl
+
+    pub exreg_allowed : is_busy kernel thread ≡ false → is_full kernel exreg_need ≡ false → exreg_refusal kernel thread ≡ None
+    unfolding exreg_refusal
+    exreg_allowed idle not_full = rw (live, idle, not_full) refl

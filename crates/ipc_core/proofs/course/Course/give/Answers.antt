@@ -1,0 +1,17 @@
+use Rattle.ipc_core.proofs.CourseLemmas.{clock_follows, command_follows, command_places, command_spent}
+use Rattle.ipc_core.proofs.course.Course.give.Goals as goal
+
+pub clock-requires-clause-follows : goal.clock-requires-clause-follows
+clock-requires-clause-follows c = clock_follows _ _ c.requires.quiet c.requires.in_range
+
+pub clock-requires-clause-room : goal.clock-requires-clause-room
+clock-requires-clause-room c = (command_places _ _ _ c.args.input c.requires.legal c.requires.quiet c.requires.in_range c.requires.undue c.requires.admissible c.requires.no_clock c.requires.room).0
+
+pub append-requires-clause-follows : goal.append-requires-clause-follows
+append-requires-clause-follows c = rw c.clock.ensures.entries (command_follows _ _ c.args.self.now.room c.args.input c.requires.legal c.requires.quiet c.requires.in_range c.requires.undue c.requires.admissible c.requires.no_clock)
+
+pub append-requires-clause-room : goal.append-requires-clause-room
+append-requires-clause-room c = rw (c.clock.ensures.entries, c.clock.ensures.room) (command_places _ _ _ c.args.input c.requires.legal c.requires.quiet c.requires.in_range c.requires.undue c.requires.admissible c.requires.no_clock c.requires.room).1
+
+pub returns-clause-spent : goal.returns-clause-spent
+returns-clause-spent c = rw (c.append.ensures.entries, c.clock.ensures.entries) (command_spent _ _ c.args.self.now.room c.args.input c.requires.legal c.requires.quiet c.requires.in_range c.requires.undue c.requires.admissible c.requires.no_clock)

@@ -1,0 +1,28 @@
+use Rattle.std.proofs.Common.{refl, sym, ap, subst, ◌∙◌, max, arith}
+use Rattle.ipc_core.specs.Steps.{at_moment}
+use Rattle.ipc_core.proofs.ClockLemmas.{due_legal, kernel_ticks, kernel_waits, Sets, sets_due, sets_undue}
+use Rattle.ipc_core.proofs.Commands.{continued_settled}
+use Rattle.ipc_core.proofs.kernel.Kernel.at.Goals.{then-is_any_due_at, else-is_any_due_at}
+use Rattle.ipc_core.proofs.kernel.Kernel.at.Goals as goal
+
+pub settle-requires-clause-legal : goal.settle-requires-clause-legal
+settle-requires-clause-legal c =
+    let range = c.self.invariant.stands.in_range in
+    c.tick.ensures.entries.legal (due_legal _ _ _ c.max-moment.result c.self.inside.course c.self.invariant (omega arith) (omega arith) (sym c.is_any_due_at.ensures ∙ c.if-is_any_due_at.true))
+
+pub invariant_of-self : goal.invariant_of-self
+invariant_of-self c =
+    let range = c.self.invariant.stands.in_range in
+    elim c.if-is_any_due_at.branch [
+      | then-is_any_due_at w ↦ rw w.self-inside-is (kernel_ticks _ _ _ c.max-moment.result c.self.inside.course c.self.invariant (omega arith) (omega arith) (sym c.is_any_due_at.ensures ∙ w.if-is_any_due_at.true) w.settle.new.self (continued_settled _ _ _ w.tick.ensures.entries w.settle.ensures.settled) (w.settle.ensures.room ∙ w.tick.ensures.room) (omega arith))
+      | else-is_any_due_at w ↦ rw w.self-inside-is (kernel_waits _ _ _ c.max-moment.result c.self.inside.course c.self.invariant (omega arith) (omega arith) (sym c.is_any_due_at.ensures ∙ w.if-is_any_due_at.false))
+    ]
+
+pub returns-clause-history : goal.returns-clause-history
+returns-clause-history c =
+    let moment_is = c.max-moment.ensures ∙ ap (λ m. max c.self.inside.moment m) c.min.ensures in
+    let history : Sets c.self.inside.course.entries c.max-moment.result c.if-is_any_due_at.self-inside.course.entries = elim c.if-is_any_due_at.branch [
+      | then-is_any_due_at w ↦ rw w.self-inside-is (sets_due _ _ _ (sym c.is_any_due_at.ensures ∙ w.if-is_any_due_at.true) (continued_settled _ _ _ w.tick.ensures.entries w.settle.ensures.settled))
+      | else-is_any_due_at w ↦ rw w.self-inside-is (sets_undue _ _ _ (sym c.is_any_due_at.ensures ∙ w.if-is_any_due_at.false) refl)
+    ] in
+    subst (λ k. Sets k.history (at_moment k c.args.now) c.if-is_any_due_at.self-inside.course.entries) c.self.view_is (subst (λ m. Sets c.self.inside.course.entries m c.if-is_any_due_at.self-inside.course.entries) moment_is history)

@@ -1,0 +1,19 @@
+use Rattle.std.proofs.Common.{◌≡◌, ap, ◌∙◌, subst, ◌==◌, false, true, is_some}
+use Rattle.std.specs.List.{list_any}
+use Rattle.ipc_history.specs.Calls.{caller_of}
+use Rattle.ipc_history.specs.Phases.{open_call}
+use Rattle.ipc_core.specs.Steps.{is_busy}
+use Rattle.ipc_core.proofs.RefusalLemmas.{busy_by_call, busy_by_outcome}
+use Rattle.ipc_core.proofs.kernel.Kernel.is_busy.Goals as goal
+
+pub returns-then-is_some : goal.returns-then-is_some
+returns-then-is_some c =
+    let found : is_some (open_call c.self.inside.course.entries c.args.thread) ≡ true = cc in
+    subst (λ k. c.is_some.result ≡ is_busy k c.args.thread) c.self.view_is (c.if-is_some.true ∙ busy_by_call _ c.args.thread found)
+
+pub returns-else-is_some : goal.returns-else-is_some
+returns-else-is_some c =
+    let none : is_some (open_call c.self.inside.course.entries c.args.thread) ≡ false = cc in
+    let entries_are = ap (λ l. list_any (λ n. caller_of l n == c.args.thread) c.deref.result.now) c.entries-entries.ensures.entries in
+    let calls_are = ap (list_any (λ n. caller_of c.self.inside.course.entries n == c.args.thread)) c.deref.ensures.value in
+    subst (λ k. c.has_call_of.result ≡ is_busy k c.args.thread) c.self.view_is (c.has_call_of.ensures ∙ (entries_are ∙ (calls_are ∙ busy_by_outcome _ c.args.thread none)))

@@ -1,0 +1,10 @@
+pub mod KernelParts
+pub mod Steps
+pub mod Room
+pub mod CommandRoom
+pub mod LiveCount
+pub mod Refusals
+pub mod Messages
+pub mod ExchangeRegisters
+pub mod Endings
+pub mod Invariants

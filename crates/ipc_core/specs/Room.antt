@@ -1,0 +1,20 @@
+-- The room that is reserved ahead. Our choice (docs/PROFILE.md).
+use Rattle.std.specs.Prelude.{ℕ, ◌+◌, ◌*◌, Bool, nat_lt, length}
+use Rattle.ipc_history.specs.CallParts.{CallParts}
+use Rattle.ipc_laws.specs.Counting.{blocks_of, pledged}
+use Rattle.ipc_core.specs.KernelParts.{KernelParts}
+
+-- the entries that an open, a call and an ExchangeRegisters may need with all that they bring about; every other command needs none
+-- that is not pledged
+abbrev pub open_need : ℕ
+open_need = 4
+
+abbrev pub call_need : CallParts → ℕ
+call_need call = 7 + 2 * blocks_of call
+
+abbrev pub exreg_need : ℕ
+exreg_need = 2
+
+-- the entries, what is pledged and this need are over the limit
+unfoldable pub is_full : KernelParts → ℕ → Bool
+is_full kernel need = nat_lt kernel.entries_limit (length kernel.history + pledged kernel.history + need)

@@ -1,0 +1,30 @@
+use crate::refusal::Refusal;
+use ipc_history::Call;
+use ipc_words::{Control, ThreadId};
+
+/// What `exreg` answers (L4 X.2 manual, ExchangeRegisters).
+#[derive(Clone, Copy, PartialEq, Eq, Debug)]
+pub struct ExregAnswer {
+    /// The target's id, nilthread where it is not a live thread of the caller's space.
+    pub result: ThreadId,
+    /// R where the target was in a receive phase, S where it was in a send phase.
+    pub control: Control,
+    /// 0, or 2 where the target is not a live thread of the caller's space.
+    pub code: u64,
+}
+
+/// What `advance` answers.
+#[derive(Clone, Copy, PartialEq, Eq, Debug)]
+pub enum Advance {
+    /// A block was copied.
+    Moved,
+    /// No transfer goes on.
+    Idle,
+}
+
+/// A call that was refused is handed back.
+#[derive(Drop)]
+pub struct EnterRefused {
+    pub refusal: Refusal,
+    pub call: Call,
+}

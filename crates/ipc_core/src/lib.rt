@@ -1,0 +1,16 @@
+//! The kernel: commands in, a legal history out, and an answer for each.
+#![tactic(auto)]
+
+mod answers;
+mod course;
+mod ending;
+mod exchange;
+mod kernel;
+mod messages;
+mod refusal;
+mod room;
+mod taking;
+
+pub use answers::{Advance, EnterRefused, ExregAnswer};
+pub use kernel::{Kernel, LAST_MOMENT, Limits, MAX_CALLS, MAX_ENTRIES};
+pub use refusal::Refusal;

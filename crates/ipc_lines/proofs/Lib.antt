@@ -2,3 +2,15 @@ pub mod Joins
 pub mod Placing
 pub mod Plain
 pub mod Splitting
+pub mod Cuts
+pub mod EntryNaming
+pub mod HexNumerals
+pub mod High
+pub mod Ids
+pub mod Limits
+pub mod ListTexts
+pub mod Naming
+pub mod Numerals
+pub mod OneSpelling
+pub mod Options
+pub mod Spacing

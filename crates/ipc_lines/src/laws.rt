@@ -1,3 +1,4 @@
+ghost use Rattle.ipc_lines.specs.Spelling.{EachHasOneLine};
 ghost use Rattle.ipc_lines.specs.Laws.{LinesHoldNoNewline, LinesSplitIntoFields};
 
 /// No line holds a newline.
@@ -8,4 +9,9 @@ pub fn lines_hold_no_newline()
 /// The fields of a line are what stands between its spaces.
 pub fn lines_split_into_fields()
     ensures { LinesSplitIntoFields }
+{}
+
+/// Two entries that differ have lines that differ.
+pub fn entries_have_lines_of_their_own()
+    ensures { EachHasOneLine }
 {}

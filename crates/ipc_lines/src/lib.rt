@@ -21,18 +21,31 @@
 //! | Failed | `failed N CODE`, CODE in HEX |
 #![tactic(auto)]
 
+mod call_reading;
 mod calls;
+mod commands;
 mod entries;
+mod fields;
+mod items;
 mod laws;
 mod lists;
+mod numbers;
 mod outcomes;
+mod reading;
 mod scalars;
 
+pub use call_reading::read_call;
 pub use calls::call_text;
+pub use commands::{Command, read_command};
 pub use entries::entry_line;
-pub use laws::{lines_hold_no_newline, lines_split_into_fields};
+pub use items::{read_buffers, read_strings, read_words};
+pub use laws::{entries_have_lines_of_their_own, lines_hold_no_newline, lines_split_into_fields};
+pub use numbers::{read_decimal, read_hex, read_id};
 pub use outcomes::outcome_line;
+pub use reading::{LineFault, read_entry};
 pub use scalars::{HexText, IdText};
 
+#[cfg(test)]
+mod reading_tests;
 #[cfg(test)]
 mod tests;

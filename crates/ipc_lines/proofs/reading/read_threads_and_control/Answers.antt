@@ -1,0 +1,11 @@
+use Rattle.std.proofs.Common.{◌≡◌, Some}
+use Rattle.ipc_lines.proofs.ListTexts.{field_at}
+use Rattle.ipc_lines.proofs.Options.{some_same}
+use Rattle.ipc_lines.proofs.reading.read_threads_and_control.Goals as goal
+
+pub returns-clause-only : goal.returns-clause-only
+returns-clause-only c thread dest control is_thread is_dest masked e =
+    let a : c.in_ok-thread.thread ≡ thread = some_same _ _ (c.in_ok-thread.ensures.only thread is_thread (field_at c.args.fields.now _ 0 e)) in
+    let b : c.in_ok-dest.dest ≡ dest = some_same _ _ (c.in_ok-dest.ensures.only dest is_dest (field_at c.args.fields.now _ 1 e)) in
+    let d : c.in_ok-read_control.field-0 ≡ control = some_same _ _ (c.in_ok-read_control.ensures.only control masked (field_at c.args.fields.now _ 2 e)) in
+    λ i. Some (a i, b i, d i)

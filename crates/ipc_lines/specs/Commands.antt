@@ -1,0 +1,44 @@
+-- Our choice (docs/FORMATS.md): the commands of a script, each the fields of a line with one space between each two.
+use Rattle.std.specs.Prelude.{ℕ, List, [], ◌∷◌, codes}
+use Rattle.std.specs.Fmt.{decimal}
+use Rattle.ipc_lines.specs.Texts.{hex_text, id_text}
+use Rattle.ipc_lines.specs.Lines.{spaced, call_fields}
+use Rattle.ipc_lines.specs.Reading.{IsWord, IsCall}
+use Rattle.ipc_lines.specs.declared.commands.Command.{Command}
+use Rattle.ipc_lines.specs.declared.commands.Command.TheVariants.{Open, Call, Exreg, Broke, At, Advance, Take}
+use Rattle.ipc_lines.specs.declared.commands.CommandName.{CommandName}
+use Rattle.ipc_lines.specs.declared.commands.CommandName.TheVariants as name
+
+-- the name of a command
+abbrev pub command_name : CommandName → List ℕ
+command_name name.Open = codes "open"
+command_name name.Call = codes "call"
+command_name name.Exreg = codes "exreg"
+command_name name.Broke = codes "broke"
+command_name name.At = codes "at"
+command_name name.Advance = codes "advance"
+command_name name.Take = codes "take"
+
+-- the fields of a command: its name, and what it holds, in order
+abbrev pub command_fields : Command → List (List ℕ)
+command_fields (Open number space) = codes "open" ∷ decimal number ∷ decimal space ∷ []
+command_fields (Call thread call) = codes "call" ∷ call_fields thread call
+command_fields (Exreg thread dest control) = codes "exreg" ∷ id_text thread ∷ id_text dest ∷ hex_text control ∷ []
+command_fields (Broke thread) = codes "broke" ∷ id_text thread ∷ []
+command_fields (At moment) = codes "at" ∷ decimal moment ∷ []
+command_fields Advance = codes "advance" ∷ []
+command_fields (Take thread) = codes "take" ∷ id_text thread ∷ []
+
+-- a command of words, and of a call in normal form and within the limits
+abbrev pub IsCommand : Command → Type 0
+IsCommand (Open number space) = IsWord number × IsWord space
+IsCommand (Call thread call) = IsCall thread call
+IsCommand (Exreg thread dest control) = IsWord thread × IsWord dest × IsWord control
+IsCommand (Broke thread) = IsWord thread
+IsCommand (At moment) = IsWord moment
+IsCommand Advance = Unit {0}
+IsCommand (Take thread) = IsWord thread
+
+-- the line of a command
+abbrev pub command_text : Command → List ℕ
+command_text command = spaced (command_fields command)

@@ -1,0 +1,18 @@
+-- The names that entries begin with.
+use Rattle.std.specs.Prelude.{ℕ, List, codes}
+use Rattle.ipc_lines.specs.declared.reading.EntryName.{EntryName}
+use Rattle.ipc_lines.specs.declared.reading.EntryName.TheVariants.{At, Opened, Called, Exreg, Broke, Moved, Began, Turned, Ended, Overflowed, Aborted, Failed}
+
+abbrev pub entry_name : EntryName → List ℕ
+entry_name At = codes "at"
+entry_name Opened = codes "opened"
+entry_name Called = codes "called"
+entry_name Exreg = codes "exreg"
+entry_name Broke = codes "broke"
+entry_name Moved = codes "moved"
+entry_name Began = codes "began"
+entry_name Turned = codes "turned"
+entry_name Ended = codes "ended"
+entry_name Overflowed = codes "overflowed"
+entry_name Aborted = codes "aborted"
+entry_name Failed = codes "failed"

@@ -1,0 +1,38 @@
+ghost use Rattle.std.specs.Prelude.{◌≡◌};
+
+use std::fmt;
+
+/// How the run of a script ended.
+#[derive(Clone, Copy, PartialEq, Eq, Debug)]
+pub enum Exit {
+    /// At the end of the script: status 0.
+    Done,
+    /// At a line that is no command, by its number from 1: status 2.
+    BadLine(u64),
+    /// The program itself got no memory: status 1.
+    NoMemory,
+    /// A read or a write failed: status 1.
+    DeviceFailed,
+}
+
+impl Exit {
+    /// The exit status of the program.
+    pub fn status(&self) -> u8 {
+        match self {
+            Exit::Done => 0,
+            Exit::BadLine(_) => 2,
+            Exit::NoMemory | Exit::DeviceFailed => 1,
+        }
+    }
+}
+
+impl fmt::Display for Exit {
+    fn fmt<W: fmt::Write>(&self, f: &mut fmt::Formatter<W>) -> fmt::Result {
+        match self {
+            Exit::Done => write!(f, "l4sh: done"),
+            Exit::BadLine(number) => write!(f, "l4sh: bad line {number}"),
+            Exit::NoMemory => write!(f, "l4sh: no memory"),
+            Exit::DeviceFailed => write!(f, "l4sh: device failed"),
+        }
+    }
+}

@@ -1,0 +1,97 @@
+use std::io::{BufRead, ErrorKind};
+
+/// The longest line, in bytes without its newline.
+pub const MAX_LINE: usize = 2_105_343;
+
+/// So many interrupted reads in a row are a failed device.
+const MAX_INTERRUPTED: u32 = 1000;
+
+/// After so many reads the device counts as failed.
+const MAX_READS: u64 = 0x8000_0000_0000_0000;
+
+/// What was read next.
+#[derive(Clone, Copy, PartialEq, Eq, Debug)]
+pub enum NextLine {
+    /// A line, without its newline.
+    Line,
+    /// A line that is longer than [`MAX_LINE`]; it is not kept whole.
+    TooLong,
+    /// The end of the input.
+    End,
+    /// A read failed.
+    Failed,
+    /// No memory for the line.
+    NoMemory,
+}
+
+/// What one read gave.
+#[derive(Clone, Copy, PartialEq, Eq, Debug)]
+enum Piece {
+    /// A part of a line.
+    Part,
+    /// The end of a line.
+    LineEnd,
+    /// The line is too long.
+    TooLong,
+    /// The end of the input.
+    InputEnd,
+    /// The read was interrupted, and took nothing.
+    Interrupted,
+    /// The read failed.
+    Failed,
+    /// No memory.
+    NoMemory,
+}
+
+/// Reads the next line. The last one may lack its newline.
+pub fn next_line<R: BufRead>(reader: &mut R, line: &mut Vec<u8>) -> NextLine {
+    line.clear();
+    let mut interrupted = 0u32;
+    for _ in 0..MAX_READS {
+        match next_piece(reader, line) {
+            Piece::Part => interrupted = 0,
+            Piece::LineEnd => return NextLine::Line,
+            Piece::TooLong => return NextLine::TooLong,
+            Piece::InputEnd if line.is_empty() => return NextLine::End,
+            Piece::InputEnd => return NextLine::Line,
+            Piece::Interrupted => {
+                interrupted = interrupted.saturating_add(1);
+                if interrupted >= MAX_INTERRUPTED {
+                    return NextLine::Failed;
+                }
+            }
+            Piece::Failed => return NextLine::Failed,
+            Piece::NoMemory => return NextLine::NoMemory,
+        }
+    }
+    NextLine::Failed
+}
+
+/// Reads a part of a line.
+fn next_piece<R: BufRead>(reader: &mut R, line: &mut Vec<u8>) -> Piece {
+    let (taken, piece) = match reader.fill_buf() {
+        Ok(chunk) => append(line, chunk),
+        Err(error) if error.kind() == ErrorKind::Interrupted => return Piece::Interrupted,
+        Err(_) => return Piece::Failed,
+    };
+    reader.consume(taken);
+    piece
+}
+
+/// Appends what a chunk has of the line; answers how many of its bytes are done with.
+fn append(line: &mut Vec<u8>, chunk: &[u8]) -> (usize, Piece) {
+    if chunk.is_empty() {
+        return (0, Piece::InputEnd);
+    }
+    let (text, taken, piece) = match chunk.iter().position(|byte| *byte == b'\n') {
+        Some(end) => (&chunk[..end], end + 1, Piece::LineEnd),
+        None => (chunk, chunk.len(), Piece::Part),
+    };
+    if text.len() > MAX_LINE.saturating_sub(line.len()) {
+        return (taken, Piece::TooLong);
+    }
+    match line.extend_from_slice(text) {
+        Ok(()) => (taken, piece),
+        Err(_) => (0, Piece::NoMemory),
+    }
+}

@@ -188,3 +188,23 @@ fn buffer_items_are_read(rt: HostRuntime) -> Result<(), Fail> {
     spelled_strings_are_read();
     Ok(())
 }
+
+#[test]
+fn a_copy_stands_apart(rt: HostRuntime) -> Result<(), Fail> {
+    let list = strings(rt.alloc())?;
+    let mut copy = list.copy(rt.alloc())?;
+    copy.clear();
+    assert_eq!(rt; copy.is_empty(), true);
+    assert_eq!(rt; list.is_empty(), false);
+    assert_eq!(rt; list.string_len(1), 5);
+    Ok(())
+}
+
+#[test]
+fn buffers_are_taken_whole(rt: HostRuntime) -> Result<(), Fail> {
+    let lists = vec![in rt.alloc(); vec![in rt.alloc(); part(1, 0), part(1, 1), part(9, 2)]?]?;
+    let list = BufferList::of(rt.alloc(), lists)?.ok_or("of")?;
+    assert_eq!(rt; list.capacity(0), 11);
+    assert_eq!(rt; list.first_pointer(0), 0);
+    Ok(())
+}

@@ -13,3 +13,5 @@ pub mod OpeningLemmas
 pub mod RefusalLemmas
 pub mod ReservedLemmas
 pub mod EnteringLemmas
+pub mod Running
+pub mod Obeyed

@@ -8,3 +8,5 @@ pub mod Messages
 pub mod ExchangeRegisters
 pub mod Endings
 pub mod Invariants
+pub mod Effects
+pub mod Obeying

@@ -2,15 +2,18 @@
 #![tactic(auto)]
 
 mod answers;
+mod command;
 mod course;
 mod ending;
 mod exchange;
 mod kernel;
 mod messages;
+mod obeying;
 mod refusal;
 mod room;
 mod taking;
 
 pub use answers::{Advance, EnterRefused, ExregAnswer};
+pub use command::{Answer, Command};
 pub use kernel::{Kernel, LAST_MOMENT, Limits, MAX_CALLS, MAX_ENTRIES};
 pub use refusal::Refusal;

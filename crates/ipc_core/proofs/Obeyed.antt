@@ -1,0 +1,89 @@
+-- How a command is obeyed, or refused.
+use Rattle.std.proofs.Common.{◌≡◌, refl, sym, ap, subst, ℕ, Option, Some, None, ◌⊎◌, inl, inr, true, false, IsTrue, cond}
+use Rattle.ipc_history.specs.CallParts.{CallParts}
+use Rattle.ipc_history.specs.Legal.{next_moving}
+use Rattle.ipc_history.specs.Outcomes.{OutcomeParts}
+use Rattle.ipc_history.specs.Threads.{is_live}
+use Rattle.ipc_core.specs.Effects.{Breaks, Exchanges, Gives, Ticks}
+use Rattle.ipc_core.specs.KernelParts.{KernelParts}
+use Rattle.ipc_core.specs.Obeying.{Does, LacksMemory, MayObey, Obeys, ObeysOr, cause_of, takes_memory}
+use Rattle.ipc_core.specs.Refusals.{enter_refusal, exreg_refusal, open_refusal}
+use Rattle.ipc_core.specs.Steps.{Advances, Enters, MayRefuse, Opens}
+use Rattle.ipc_core.specs.declared.answers.Advance.TheVariants.{Moved, Idle}
+use Rattle.ipc_core.specs.declared.answers.ExregAnswer.{ExregAnswer}
+use Rattle.ipc_core.specs.declared.command.Answer.{Answer}
+use Rattle.ipc_core.specs.declared.command.Answer.TheVariants.{Opened, Entered, Exchanged, Done, Advanced, Taken, Refused}
+use Rattle.ipc_core.specs.declared.command.Command.{Command}
+use Rattle.ipc_core.specs.declared.command.Command.TheVariants.{Open, Enter, Exreg, Broke, At, Advance, Take}
+use Rattle.ipc_core.specs.declared.refusal.Refusal.{Refusal}
+use Rattle.ipc_core.specs.declared.refusal.Refusal.TheVariants.{NoThread}
+
+-- without a cause it does what it says
+obeys : (old new : KernelParts) (command : Command) (answer : Answer) → cause_of old command ≡ None → Does old command answer new → MayObey old command answer new
+unfolding Obeys
+obeys old new command answer none does = inl (subst (λ cause. ObeysOr cause old command answer new) (sym none) does)
+
+-- with a cause it is refused
+refused : (old new : KernelParts) (command : Command) (refusal : Refusal) → cause_of old command ≡ Some refusal → new ≡ old → MayObey old command (Refused refusal) new
+unfolding Obeys
+refused old new command refusal cause stays = inl (subst (λ cause. ObeysOr cause old command (Refused refusal) new) (sym cause) (refl, stays))
+
+-- with a cause, or for want of memory
+refused_or : (old new : KernelParts) (command : Command) (refusal : Refusal) → IsTrue (takes_memory command) → MayRefuse (cause_of old command) refusal → new ≡ old → MayObey old command (Refused refusal) new
+refused_or old new command refusal memory may stays = elim may [
+  | inl cause ↦ refused old new command refusal cause stays
+  | inr none ↦ inr (record { takes_memory = memory; no_other_cause = none.0; answer_is = ap (λ r. Refused r) none.1; stays = stays })
+]
+
+module _ (old new : KernelParts) where
+  pub open_obeys : (number space thread : ℕ) → open_refusal old number space ≡ None → Opens old new number space thread → MayObey old (Open number space) (Opened thread) new
+  unfolding cause_of Does
+  open_obeys number space thread none does = obeys old new (Open number space) (Opened thread) none does
+
+  pub open_refused : (number space : ℕ) (refusal : Refusal) → MayRefuse (open_refusal old number space) refusal → new ≡ old → MayObey old (Open number space) (Refused refusal) new
+  unfolding cause_of
+  open_refused number space refusal may stays = refused_or old new (Open number space) refusal refl may stays
+
+  pub enter_obeys : (thread number : ℕ) (call : CallParts) → enter_refusal old thread call ≡ None → Enters old new number thread call → MayObey old (Enter thread call) (Entered number) new
+  unfolding cause_of Does
+  enter_obeys thread number call none does = obeys old new (Enter thread call) (Entered number) none does
+
+  pub enter_refused : (thread : ℕ) (call : CallParts) (refusal : Refusal) → MayRefuse (enter_refusal old thread call) refusal → new ≡ old → MayObey old (Enter thread call) (Refused refusal) new
+  unfolding cause_of
+  enter_refused thread call refusal may stays = refused_or old new (Enter thread call) refusal refl may stays
+
+  pub exreg_obeys : (thread target control : ℕ) (answer : ExregAnswer) → exreg_refusal old thread ≡ None → Exchanges old new thread target control answer → MayObey old (Exreg thread target control) (Exchanged answer) new
+  unfolding cause_of Does
+  exreg_obeys thread target control answer none does = obeys old new (Exreg thread target control) (Exchanged answer) none does
+
+  pub exreg_refused : (thread target control : ℕ) (refusal : Refusal) → MayRefuse (exreg_refusal old thread) refusal → new ≡ old → MayObey old (Exreg thread target control) (Refused refusal) new
+  unfolding cause_of
+  exreg_refused thread target control refusal may stays = refused_or old new (Exreg thread target control) refusal refl may stays
+
+  pub broke_obeys : (thread : ℕ) → IsTrue (is_live old.history thread) → Breaks old new thread → MayObey old (Broke thread) Done new
+  unfolding cause_of Does
+  broke_obeys thread live does = obeys old new (Broke thread) Done (rw live refl) does
+
+  pub broke_refused : (thread : ℕ) (refusal : Refusal) → is_live old.history thread ≡ false → refusal ≡ NoThread → new ≡ old → MayObey old (Broke thread) (Refused refusal) new
+  unfolding cause_of
+  broke_refused thread refusal ended is stays = refused old new (Broke thread) refusal (rw ended (ap (λ r. Some r) (sym is))) stays
+
+  pub at_obeys : (reading : ℕ) → Ticks old new reading → MayObey old (At reading) Done new
+  unfolding cause_of Does
+  at_obeys reading does = obeys old new (At reading) Done refl does
+
+  pub advance_moved : Advances old new → MayObey old Advance (Advanced Moved) new
+  unfolding cause_of Does
+  advance_moved does = obeys old new Advance (Advanced Moved) refl does
+
+  pub advance_idle : next_moving old.history ≡ None → new ≡ old → MayObey old Advance (Advanced Idle) new
+  unfolding cause_of Does
+  advance_idle none stays = obeys old new Advance (Advanced Idle) refl (none, stays)
+
+  pub take_obeys : (thread : ℕ) (outcome : Option OutcomeParts) → Gives old new thread outcome → MayObey old (Take thread) (Taken outcome) new
+  unfolding cause_of Does
+  take_obeys thread outcome does = obeys old new (Take thread) (Taken outcome) refl does
+
+  pub take_refused : (thread : ℕ) (refusal : Refusal) → MayRefuse None refusal → new ≡ old → MayObey old (Take thread) (Refused refusal) new
+  unfolding cause_of
+  take_refused thread refusal may stays = refused_or old new (Take thread) refusal refl may stays

@@ -1,0 +1,145 @@
+ghost use Rattle.std.specs.Prelude.{◌≡◌, List, min, IfOk, IfErr};
+ghost use Rattle.ipc_history.specs.Legal.{Legal, Quiet};
+ghost use Rattle.ipc_history.specs.Paired.{Paired};
+ghost use Rattle.ipc_history.specs.declared.entry.Entry.{Entry};
+ghost use Rattle.ipc_laws.specs.Laws.{inputs};
+ghost use Rattle.ipc_core.specs.Obeying.{MayObey, Runs, empty_kernel, is_no_memory};
+ghost use Rattle.ipc_core.specs.declared.command.Command.TheVariants as command;
+
+use crate::answers::Advance;
+use crate::command::{Answer, Command};
+use crate::kernel::{Kernel, Limits, MAX_CALLS, MAX_ENTRIES};
+use crate::refusal::Refusal;
+use ipc_history::Call;
+use ipc_words::{Control, ThreadId};
+use std::alloc::Global;
+
+impl Kernel {
+    /// Obeys a command and answers it. A command that is refused changes nothing.
+    pub fn obey(&mut self, command: Command) -> Answer
+        ensures { MayObey self.old command result self.new }
+    {
+        match command {
+            Command::Open { number, space } => self.obey_open(number, space),
+            Command::Enter(thread, call) => self.obey_enter(thread, call),
+            Command::Exreg {
+                thread,
+                target,
+                control,
+            } => self.obey_exreg(thread, target, control),
+            Command::Broke(thread) => self.obey_broke(thread),
+            Command::At(reading) => self.obey_at(reading),
+            Command::Advance => self.obey_advance(),
+            Command::Take(thread) => self.obey_take(thread),
+        }
+    }
+
+    fn obey_open(&mut self, number: u32, space: u32) -> Answer
+        ensures { MayObey self.old (command.Open number space) result self.new }
+    {
+        match self.open(number, space) {
+            Ok(thread) => Answer::Opened(thread),
+            Err(refusal) => Answer::Refused(refusal),
+        }
+    }
+
+    fn obey_enter(&mut self, thread: ThreadId, call: Call) -> Answer
+        ensures { MayObey self.old (command.Enter thread call) result self.new }
+    {
+        match self.enter(thread, call) {
+            Ok(number) => Answer::Entered(number),
+            Err(refused) => {
+                let refusal = refused.refusal;
+                Answer::Refused(refusal)
+            }
+        }
+    }
+
+    fn obey_exreg(&mut self, thread: ThreadId, target: ThreadId, control: Control) -> Answer
+        ensures { MayObey self.old (command.Exreg thread target control) result self.new }
+    {
+        match self.exreg(thread, target, control) {
+            Ok(answer) => Answer::Exchanged(answer),
+            Err(refusal) => Answer::Refused(refusal),
+        }
+    }
+
+    fn obey_broke(&mut self, thread: ThreadId) -> Answer
+        ensures { MayObey self.old (command.Broke thread) result self.new }
+    {
+        match self.broke(thread) {
+            Ok(()) => Answer::Done,
+            Err(refusal) => Answer::Refused(refusal),
+        }
+    }
+
+    fn obey_at(&mut self, reading: u64) -> Answer
+        ensures { MayObey self.old (command.At reading) result self.new }
+    {
+        self.at(reading);
+        Answer::Done
+    }
+
+    fn obey_advance(&mut self) -> Answer
+        ensures { MayObey self.old command.Advance result self.new }
+    {
+        match self.advance() {
+            Advance::Moved => Answer::Advanced(Advance::Moved),
+            Advance::Idle => Answer::Advanced(Advance::Idle),
+        }
+    }
+
+    fn obey_take(&mut self, thread: ThreadId) -> Answer
+        ensures { MayObey self.old (command.Take thread) result self.new }
+    {
+        match self.take(thread) {
+            Ok(outcome) => Answer::Taken(outcome),
+            Err(refusal) => Answer::Refused(refusal),
+        }
+    }
+}
+
+impl Answer {
+    /// Whether the command was refused for want of memory.
+    fn is_no_memory(&self) -> bool
+        ensures { result ≡ is_no_memory self.now }
+    {
+        matches!(self, Answer::Refused(Refusal::NoMemory))
+    }
+}
+
+impl Kernel {
+    /// Runs commands, one after the other, on a new kernel, and answers each. The only refusal is K4, of the whole.
+    ///
+    /// Whatever the commands are, the history has the promise (`paired`): successful send phases and received messages pair one to
+    /// one; each received message is, whole, that of one send to that thread, showing its caller or a permitted originator; one
+    /// caller's messages to one receiver come in sending order; a send that ended otherwise is received by nobody; no ended thread
+    /// takes part. And no other legal, quiet history has its inputs (`only`).
+    pub fn run(
+        alloc: Global,
+        limits: Limits,
+        commands: Vec<Command>,
+    ) -> Result<(Kernel, Vec<Answer>), Refusal>
+        ensures runs { IfOk result (λ ran. Runs (empty_kernel (min limits.entries MAX_ENTRIES) (min limits.calls MAX_CALLS)) commands.items ran.1.items ran.0) }
+        ensures legal { IfOk result (λ ran. Legal ran.0.history) }
+        ensures quiet { IfOk result (λ ran. Quiet ran.0.history) }
+        ensures paired { IfOk result (λ ran. Paired ran.0.history) }
+        ensures only { IfOk result (λ ran. (H : List Entry) → Legal H → Quiet H → inputs H ≡ inputs ran.0.history → H ≡ ran.0.history) }
+        ensures memory { IfErr result (λ refusal. refusal ≡ Refusal.NoMemory) }
+    {
+        let mut kernel = Kernel::new(alloc, limits)?;
+        let mut answers = Vec::new(alloc);
+        for command in commands {
+            let answer = kernel.obey(command);
+            if answer.is_no_memory() {
+                return Err(Refusal::NoMemory);
+            }
+            let Ok(()) = answers.push(answer) else {
+                return Err(Refusal::NoMemory);
+            };
+        }
+        // its contract has the promise
+        let _ = kernel.history();
+        Ok((kernel, answers))
+    }
+}

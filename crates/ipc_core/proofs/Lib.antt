@@ -15,3 +15,4 @@ pub mod ReservedLemmas
 pub mod EnteringLemmas
 pub mod Running
 pub mod Obeyed
+pub mod Few

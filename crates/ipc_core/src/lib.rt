@@ -12,6 +12,8 @@ mod obeying;
 mod refusal;
 mod room;
 mod taking;
+#[cfg(test)]
+mod tests;
 
 pub use answers::{Advance, EnterRefused, ExregAnswer};
 pub use command::{Answer, Command};

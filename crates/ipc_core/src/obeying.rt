@@ -1,4 +1,4 @@
-ghost use Rattle.std.specs.Prelude.{◌≡◌, List, min, IfOk, IfErr};
+ghost use Rattle.std.specs.Prelude.{◌≡◌, ◌+◌, ◌≤◌, List, length, min, IfOk, IfErr};
 ghost use Rattle.ipc_history.specs.Legal.{Legal, Quiet};
 ghost use Rattle.ipc_history.specs.Paired.{Paired};
 ghost use Rattle.ipc_history.specs.declared.entry.Entry.{Entry};
@@ -15,8 +15,18 @@ use ipc_words::{Control, ThreadId};
 use std::alloc::Global;
 
 impl Kernel {
-    /// Obeys a command and answers it. A command that is refused changes nothing.
+    /// Obeys a command and answers it. A command that is refused changes nothing; one that is not writes at most 1,022 entries.
     pub fn obey(&mut self, command: Command) -> Answer
+        ensures obeys { MayObey self.old command result self.new }
+        ensures few { length self.new.history ≤ length self.old.history + 1022 }
+    {
+        let answer = self.answer(command);
+        // its contract says that the history is legal
+        let _ = self.history();
+        answer
+    }
+
+    fn answer(&mut self, command: Command) -> Answer
         ensures { MayObey self.old command result self.new }
     {
         match command {

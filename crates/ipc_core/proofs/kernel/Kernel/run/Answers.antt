@@ -7,7 +7,7 @@ pub loop-command-init : goal.loop-command-init
 loop-command-init c = runs_none _ _ _ c.in_ok-kernel.ensures.ok c.new-answers.ensures.items
 
 pub loop-command-preserved : goal.loop-command-preserved
-loop-command-preserved c = runs_more _ _ _ _ _ _ _ _ c.loop-command.invariant c.obey-answer.ensures (sym c.is_no_memory.ensures ∙ c.if-is_no_memory.false) c.in-Ok.ensures.items
+loop-command-preserved c = runs_more _ _ _ _ _ _ _ _ c.loop-command.invariant c.obey-answer.ensures.obeys (sym c.is_no_memory.ensures ∙ c.if-is_no_memory.false) c.in-Ok.ensures.items
 
 pub returns-clause-only : goal.returns-clause-only
 returns-clause-only c = λ H legal quiet same. quiet_determined H _ legal c.history.ensures.legal quiet c.history.ensures.quiet same

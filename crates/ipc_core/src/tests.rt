@@ -1,0 +1,258 @@
+use super::*;
+use ipc_history::{Call, CallFields};
+use ipc_items::StringList;
+use ipc_words::{Control, MsgTag, Period, ThreadId};
+use std::alloc::Global;
+use std::test::Fail;
+
+// The first id of a number.
+fn first(number: u32) -> ThreadId {
+    ThreadId::from_word(u64::from(number) * 0x1_0000_0000 + 1)
+}
+
+fn period(word: u16) -> Result<Period, Fail> {
+    Ok(Period::from_word(word).ok_or("a period")?)
+}
+
+// A receive phase alone, with a period.
+fn receives(alloc: Global, from: ThreadId, receive_period: u16) -> Result<Call, Fail> {
+    let call = Call::new(CallFields {
+        to: ThreadId::NILTHREAD,
+        from,
+        send_period: period(0)?,
+        receive_period: period(receive_period)?,
+        tag: MsgTag::EMPTY,
+        originator: ThreadId::NILTHREAD,
+        words: Vec::new(alloc),
+        strings: StringList::new(alloc),
+        buffers: None,
+    });
+    Ok(call.ok_or("a receive")?)
+}
+
+// A send phase alone, of one word, without a timeout.
+fn sends(alloc: Global, to: ThreadId, word: u64) -> Result<Call, Fail> {
+    let mut words = Vec::new(alloc);
+    words.push(word)?;
+    let call = Call::new(CallFields {
+        to,
+        from: ThreadId::NILTHREAD,
+        send_period: period(0)?,
+        receive_period: period(0)?,
+        tag: MsgTag::from_word(1),
+        originator: ThreadId::NILTHREAD,
+        words,
+        strings: StringList::new(alloc),
+        buffers: None,
+    });
+    Ok(call.ok_or("a send")?)
+}
+
+fn kernel(alloc: Global, entries: u64, calls: u64) -> Result<Kernel, Fail> {
+    Ok(
+        Kernel::new(alloc, Limits { entries, calls })
+            .ok()
+            .ok_or("a kernel")?,
+    )
+}
+
+fn refusal_of(kernel: &mut Kernel, thread: ThreadId, call: Call) -> Option<Refusal> {
+    match kernel.enter(thread, call) {
+        Ok(_) => None,
+        Err(refused) => {
+            let refusal = refused.refusal;
+            Some(refusal)
+        }
+    }
+}
+
+#[test]
+fn numbers_and_spaces_have_bounds(rt: HostRuntime) -> Result<(), Fail> {
+    let mut kernel = kernel(rt.alloc(), MAX_ENTRIES, MAX_CALLS)?;
+    assert_eq!(rt; kernel.open(0, 1), Err(Refusal::BadNumber));
+    assert_eq!(rt; kernel.open(256, 1), Err(Refusal::BadNumber));
+    assert_eq!(rt; kernel.open(1, 0), Err(Refusal::BadNumber));
+    assert_eq!(rt; kernel.open(1, 65), Err(Refusal::BadNumber));
+    assert_eq!(rt; kernel.open(255, 64), Ok(first(255)));
+    Ok(())
+}
+
+#[test]
+fn a_live_number_is_taken(rt: HostRuntime) -> Result<(), Fail> {
+    let mut kernel = kernel(rt.alloc(), MAX_ENTRIES, MAX_CALLS)?;
+    assert_eq!(rt; kernel.open(1, 1), Ok(first(1)));
+    assert_eq!(rt; kernel.open(1, 2), Err(Refusal::NumberTaken));
+    assert_eq!(rt; kernel.broke(first(1)), Ok(()));
+    assert_eq!(rt; kernel.open(1, 2), Ok(ThreadId::from_word(0x1_0000_0002)));
+    Ok(())
+}
+
+#[test]
+fn limits_of_nothing_refuse_all(rt: HostRuntime) -> Result<(), Fail> {
+    let mut kernel = kernel(rt.alloc(), 0, 0)?;
+    assert_eq!(rt; kernel.open(1, 1), Err(Refusal::HistoryFull));
+    assert_eq!(rt; kernel.history().len(), 0);
+    Ok(())
+}
+
+#[test]
+fn limits_above_the_greatest_are_the_greatest(rt: HostRuntime) -> Result<(), Fail> {
+    let mut kernel = kernel(rt.alloc(), u64::MAX, u64::MAX)?;
+    assert_eq!(rt; kernel.open(1, 1), Ok(first(1)));
+    let call = receives(rt.alloc(), ThreadId::ANYTHREAD, 0)?;
+    assert_eq!(rt; refusal_of(&mut kernel, first(1), call), None);
+    Ok(())
+}
+
+#[test]
+fn no_thread_comes_before_the_limits(rt: HostRuntime) -> Result<(), Fail> {
+    let mut kernel = kernel(rt.alloc(), 0, 0)?;
+    let call = receives(rt.alloc(), ThreadId::ANYTHREAD, 0)?;
+    assert_eq!(rt;
+        refusal_of(&mut kernel, first(9), call),
+        Some(Refusal::NoThread)
+    );
+    Ok(())
+}
+
+#[test]
+fn busy_comes_before_the_limits(rt: HostRuntime) -> Result<(), Fail> {
+    let mut kernel = kernel(rt.alloc(), 10, 1)?;
+    assert_eq!(rt; kernel.open(1, 1), Ok(first(1)));
+    let call = receives(rt.alloc(), ThreadId::ANYTHREAD, 0)?;
+    assert_eq!(rt; refusal_of(&mut kernel, first(1), call), None);
+    let again = receives(rt.alloc(), ThreadId::ANYTHREAD, 0)?;
+    assert_eq!(rt;
+        refusal_of(&mut kernel, first(1), again),
+        Some(Refusal::Busy)
+    );
+    Ok(())
+}
+
+#[test]
+fn calls_spent_come_before_a_full_history(rt: HostRuntime) -> Result<(), Fail> {
+    let mut kernel = kernel(rt.alloc(), 4, 0)?;
+    assert_eq!(rt; kernel.open(1, 1), Ok(first(1)));
+    let call = receives(rt.alloc(), ThreadId::ANYTHREAD, 0)?;
+    assert_eq!(rt;
+        refusal_of(&mut kernel, first(1), call),
+        Some(Refusal::CallsSpent)
+    );
+    Ok(())
+}
+
+#[test]
+fn a_full_history_takes_no_call(rt: HostRuntime) -> Result<(), Fail> {
+    let mut kernel = kernel(rt.alloc(), 9, 1)?;
+    assert_eq!(rt; kernel.open(1, 1), Ok(first(1)));
+    let call = receives(rt.alloc(), ThreadId::ANYTHREAD, 0)?;
+    assert_eq!(rt;
+        refusal_of(&mut kernel, first(1), call),
+        Some(Refusal::HistoryFull)
+    );
+    assert_eq!(rt; kernel.history().len(), 1);
+    Ok(())
+}
+
+#[test]
+fn a_message_is_received(rt: HostRuntime) -> Result<(), Fail> {
+    let mut kernel = kernel(rt.alloc(), MAX_ENTRIES, MAX_CALLS)?;
+    let _ = kernel.open(1, 1);
+    let _ = kernel.open(2, 1);
+    let receive = receives(rt.alloc(), ThreadId::ANYTHREAD, 0)?;
+    assert_eq!(rt; refusal_of(&mut kernel, first(1), receive), None);
+    let send = sends(rt.alloc(), first(1), 7)?;
+    assert_eq!(rt; refusal_of(&mut kernel, first(2), send), None);
+    // two opens, two calls, began and ended
+    assert_eq!(rt; kernel.history().len(), 6);
+    assert_eq!(rt; kernel.open_calls(), 0);
+    Ok(())
+}
+
+#[test]
+fn a_deadline_fails_a_receive(rt: HostRuntime) -> Result<(), Fail> {
+    let mut kernel = kernel(rt.alloc(), MAX_ENTRIES, MAX_CALLS)?;
+    let _ = kernel.open(1, 1);
+    // five microseconds
+    let receive = receives(rt.alloc(), ThreadId::ANYTHREAD, 5)?;
+    assert_eq!(rt; refusal_of(&mut kernel, first(1), receive), None);
+    kernel.at(4);
+    assert_eq!(rt; kernel.history().len(), 2);
+    kernel.at(5);
+    assert_eq!(rt; kernel.history().len(), 4);
+    assert_eq!(rt; kernel.now(), 5);
+    Ok(())
+}
+
+#[test]
+fn the_clock_never_goes_back(rt: HostRuntime) -> Result<(), Fail> {
+    let mut kernel = kernel(rt.alloc(), MAX_ENTRIES, MAX_CALLS)?;
+    kernel.at(9);
+    kernel.at(3);
+    assert_eq!(rt; kernel.now(), 9);
+    kernel.at(u64::MAX);
+    assert_eq!(rt; kernel.now(), LAST_MOMENT);
+    assert_eq!(rt; kernel.advance(), Advance::Idle);
+    Ok(())
+}
+
+#[test]
+fn a_cancel_reaches_its_own_space_alone(rt: HostRuntime) -> Result<(), Fail> {
+    let mut kernel = kernel(rt.alloc(), MAX_ENTRIES, MAX_CALLS)?;
+    let _ = kernel.open(1, 1);
+    let _ = kernel.open(2, 2);
+    let receive = receives(rt.alloc(), ThreadId::ANYTHREAD, 0)?;
+    assert_eq!(rt; refusal_of(&mut kernel, first(1), receive), None);
+    let answer = kernel.exreg(first(2), first(1), Control::from_word(2));
+    assert_eq!(rt;
+        answer,
+        Ok(ExregAnswer {
+            result: ThreadId::NILTHREAD,
+            control: Control::from_word(0),
+            code: 2
+        })
+    );
+    assert_eq!(rt; kernel.open_calls(), 1);
+    Ok(())
+}
+
+#[test]
+fn a_cancel_stops_a_receive(rt: HostRuntime) -> Result<(), Fail> {
+    let mut kernel = kernel(rt.alloc(), MAX_ENTRIES, MAX_CALLS)?;
+    let _ = kernel.open(1, 1);
+    let _ = kernel.open(2, 1);
+    let receive = receives(rt.alloc(), ThreadId::ANYTHREAD, 0)?;
+    assert_eq!(rt; refusal_of(&mut kernel, first(1), receive), None);
+    let answer = kernel.exreg(first(2), first(1), Control::from_word(2));
+    assert_eq!(rt;
+        answer,
+        Ok(ExregAnswer {
+            result: first(1),
+            control: Control::from_word(2),
+            code: 0
+        })
+    );
+    assert_eq!(rt; kernel.open_calls(), 0);
+    Ok(())
+}
+
+#[test]
+fn commands_are_run(rt: HostRuntime) -> Result<(), Fail> {
+    let limits = Limits {
+        entries: MAX_ENTRIES,
+        calls: MAX_CALLS,
+    };
+    let mut commands = Vec::new(rt.alloc());
+    commands.push(Command::Open {
+        number: 1,
+        space: 1,
+    })?;
+    commands.push(Command::Broke(first(2)))?;
+    commands.push(Command::At(7))?;
+    commands.push(Command::Broke(first(1)))?;
+    let (kernel, answers) = Kernel::run(rt.alloc(), limits, commands).ok().ok_or("run")?;
+    assert_eq!(rt; answers.len(), 4);
+    // opened, at and broke
+    assert_eq!(rt; kernel.history().len(), 3);
+    Ok(())
+}

@@ -7,6 +7,13 @@ pub mod RoomLemmas
 pub mod CourseLemmas
 pub mod KernelLemmas
 pub mod MessageLemmas
+pub mod CopyLists
+pub mod NeededMessages
+pub mod NewCalls
+pub mod CopyKeeping
+pub mod WholeLemmas
+pub mod TakenCopies
+pub mod LastCall
 pub mod ClockLemmas
 pub mod OutcomeLemmas
 pub mod OpeningLemmas
@@ -16,3 +23,4 @@ pub mod EnteringLemmas
 pub mod Running
 pub mod Obeyed
 pub mod Few
+pub mod TakenNumbers

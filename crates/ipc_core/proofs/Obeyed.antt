@@ -83,7 +83,3 @@ module _ (old new : KernelParts) where
   pub take_obeys : (thread : ℕ) (outcome : Option OutcomeParts) → Gives old new thread outcome → MayObey old (Take thread) (Taken outcome) new
   unfolding cause_of Does
   take_obeys thread outcome does = obeys old new (Take thread) (Taken outcome) refl does
-
-  pub take_refused : (thread : ℕ) (refusal : Refusal) → MayRefuse None refusal → new ≡ old → MayObey old (Take thread) (Refused refusal) new
-  unfolding cause_of
-  take_refused thread refusal may stays = refused_or old new (Take thread) refusal refl may stays

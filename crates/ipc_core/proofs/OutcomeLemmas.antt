@@ -3,8 +3,7 @@ use Rattle.std.proofs.Common.{◌≡◌, refl, sym, ap, ◌∙◌, ℕ, ◌+◌,
 use Rattle.std.proofs.lemmas.Option.{none-some, same_Some}
 use Rattle.std.proofs.lemmas.List.Elements.{All-nil, All-push}
 use Rattle.std.proofs.lemmas.List.Sums.{sum_by-cons}
-use Rattle.std.proofs.lemmas.Bool.{false≢true}
-use Rattle.std.specs.Option.{option_or, option_map, is_some}
+use Rattle.std.specs.Option.{option_or, option_map}
 use Rattle.ipc_items.specs.declared.buffer_list.Substring.{Substring}
 use Rattle.ipc_items.specs.Buffers.{capacity}
 use Rattle.ipc_items.specs.Fit.{overflow_offset}
@@ -30,7 +29,6 @@ use Rattle.ipc_laws.proofs.Promise.{paired}
 use Rattle.ipc_core.specs.Endings.{ending_in, IsSmall, outcome_by}
 use Rattle.ipc_core.specs.declared.ending.Ending.{Ending}
 use Rattle.ipc_core.specs.declared.ending.Ending.TheVariants.{Failure, Received}
-use Rattle.ipc_core.specs.Steps.{untaken_after, without_call}
 use Rattle.ipc_core.proofs.MessageLemmas.{fitting-length}
 
 -- Offsets and counts are within a message
@@ -128,12 +126,3 @@ outcome_call H n outcome h = go (not (is_over H n) || has_broken H (caller_of H 
 pub outcome_ended : (H : List Entry) (n : ℕ) → is_over H n ≡ true → has_broken H (caller_of H n) ≡ false → outcome_of H n ≡ Some (unwrap_or (option_map (outcome_by H n) (first_some (ending_in n) H)) (nothing n))
 unfolding outcome_of
 outcome_ended H n over whole = rw (over, whole, told_by H n H) refl
-
--- what is still to be taken after the outcome of a call
-pub untaken_after_call : (H : List Entry) (n : ℕ) (outcome : Option OutcomeParts) (calls : List ℕ) → outcome ≡ outcome_of H n → is_some outcome ≡ true → untaken_after outcome calls ≡ without_call n calls
-untaken_after_call H n None calls e h = absurd (false≢true h)
-untaken_after_call H n (Some outcome) calls e h = ap (λ k. without_call k calls) (outcome_call H n outcome (sym e))
-
-pub untaken_after_none : (outcome : Option OutcomeParts) (calls : List ℕ) → is_some outcome ≡ false → untaken_after outcome calls ≡ calls
-untaken_after_none None calls h = refl
-untaken_after_none (Some outcome) calls h = absurd (false≢true (sym h))

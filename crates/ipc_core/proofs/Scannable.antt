@@ -48,7 +48,7 @@ plain_last : (P : List Entry) (e : Entry) → number_in e ≡ None → ((thread 
 plain_last P e plain none h n opened = still_last P e n (plain_before P e plain n (open_is_called (P ++ e ∷ []) n opened)) (none (caller_of P n)) opened h
 
 -- what a Called entered, where its number is new
-new_call_at : (P : List Entry) (n thread : ℕ) (call : CallParts) → is_called P n ≡ false → call_at (P ++ Given (Called n thread call) ∷ []) n ≡ Some (thread, call)
+pub new_call_at : (P : List Entry) (n thread : ℕ) (call : CallParts) → is_called P n ≡ false → call_at (P ++ Given (Called n thread call) ∷ []) n ≡ Some (thread, call)
 unfolding is_called call_at
 new_call_at P n thread call absent = first_some_push _ P (Given (Called n thread call)) ∙ absent_first _ _ absent (rw (eq-eqb n n refl) refl)
   where

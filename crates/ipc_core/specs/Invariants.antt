@@ -9,6 +9,7 @@ use Rattle.ipc_history.specs.Legal.{Legal, Quiet}
 use Rattle.ipc_history.specs.declared.entry.Entry.{Entry}
 use Rattle.ipc_laws.specs.Counting.{live_threads, room_owed}
 use Rattle.ipc_rules.specs.Scanning.{open_numbers}
+use Rattle.ipc_core.specs.Copies.{CopiesParts, Keeps}
 
 -- a course: a legal history, its open calls in order, the number of its live threads, and places for 256 open calls
 pub record IsCourse (H : List Entry) (open_calls : List ℕ) (live : ℕ) (places : ℕ) : Type 0 where
@@ -33,3 +34,8 @@ pub record IsKernel (entries_limit calls_limit moment : ℕ) (course : HistoryPa
   pub room : length course.entries + room_owed course.entries ≤ course.room
   pub few_entries : entries_limit ≤ 2 ^ 20
   pub few_calls : calls_limit < 2 ^ 32
+
+-- a whole kernel: with the copies for the outcomes that are still to be taken
+pub record IsWhole (entries_limit calls_limit moment : ℕ) (course : HistoryParts) (copies : CopiesParts) : Type 0 where
+  pub kernel : IsKernel entries_limit calls_limit moment course
+  pub copies_are : Keeps course.entries copies

@@ -5,6 +5,7 @@ pub mod CommandRoom
 pub mod LiveCount
 pub mod Refusals
 pub mod Messages
+pub mod Copies
 pub mod ExchangeRegisters
 pub mod Endings
 pub mod Invariants

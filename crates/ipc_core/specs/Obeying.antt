@@ -27,7 +27,6 @@ abbrev pub takes_memory : Command → Bool
 takes_memory (Open number space) = true
 takes_memory (Enter thread call) = true
 takes_memory (Exreg thread target control) = true
-takes_memory (Take thread) = true
 takes_memory _ = false
 
 -- what a command that is not refused does, and how it is answered

@@ -18,12 +18,14 @@ ghost use Rattle.ipc_core.specs.Room.{is_full};
 ghost use Rattle.ipc_core.specs.Steps.{Takes, Opens, Enters, Advances, MayRefuse, without_thread, at_moment, is_busy, outcome_to_take, untaken_after};
 
 use crate::answers::{Advance, EnterRefused, ExregAnswer};
+use crate::copies::Copies;
 use crate::course::Course;
+use crate::numbers::is_taken;
 use crate::refusal::Refusal;
 use crate::room::call_need;
 use crate::taking::outcome_of;
 use ipc_history::{Call, Entry, Input, Outcome};
-use ipc_rules::{caller_of, calls_made, is_live, is_taken, last_call, next_version_of, open_call};
+use ipc_rules::{calls_made, is_live, is_over, last_call, next_version_of, open_call};
 use ipc_words::{Control, ThreadId};
 use std::alloc::Global;
 use std::marker::Model;
@@ -51,19 +53,20 @@ pub struct Kernel {
     calls_limit: u64,
     moment: u64,
     course: Course,
-    untaken: Vec<u64>,
+    copies: Copies,
     alloc: Global,
 }
 
 impl Model for Kernel {
     ghost use Rattle.ipc_core.specs.KernelParts.{KernelParts};
-    ghost use Rattle.ipc_core.specs.Invariants.{IsKernel};
+    ghost use Rattle.ipc_core.specs.Copies.{calls_of};
+    ghost use Rattle.ipc_core.specs.Invariants.{IsWhole};
 
     ghost Value = { KernelParts };
 
-    ghost view = { λ k. record { entries_limit = k.entries_limit; calls_limit = k.calls_limit; moment = k.moment; history = k.course.entries; untaken = k.untaken.items } };
+    ghost view = { λ k. record { entries_limit = k.entries_limit; calls_limit = k.calls_limit; moment = k.moment; history = k.course.entries; untaken = calls_of k.copies.untaken } };
 
-    ghost invariant = { λ k. IsKernel k.entries_limit k.calls_limit k.moment k.course };
+    ghost invariant = { λ k. IsWhole k.entries_limit k.calls_limit k.moment k.course k.copies };
 }
 
 impl Kernel {
@@ -80,7 +83,7 @@ impl Kernel {
             calls_limit: limits.calls.min(MAX_CALLS),
             moment: 0,
             course,
-            untaken: Vec::new(alloc),
+            copies: Copies::new(alloc),
             alloc,
         })
     }
@@ -149,6 +152,7 @@ impl Kernel {
         let thread = thread_id(number, version);
         self.course
             .take_input(self.moment, Input::Opened(thread, u64::from(space)));
+        self.copies.keep_needed(self.course.entries());
         Ok(thread)
     }
 
@@ -161,10 +165,9 @@ impl Kernel {
         if !is_live(self.course.entries(), thread) {
             return Err(Refusal::NoThread);
         }
-        let entries = self.course.entries();
-        self.untaken
-            .retain(|number| caller_of(entries, *number) != thread);
+        self.copies.drop_thread(self.course.entries(), thread);
         self.course.take_input(self.moment, Input::Broke(thread));
+        self.copies.keep_needed(self.course.entries());
         Ok(())
     }
 
@@ -180,6 +183,7 @@ impl Kernel {
         if self.course.is_any_due_at(moment) {
             self.course.tick(moment);
             self.course.settle();
+            self.copies.keep_needed(self.course.entries());
         }
         self.moment = moment;
     }
@@ -199,15 +203,6 @@ fn room_within(left: u64, live: u64, calls: u128, need: u64) -> Option<usize>
     }
 }
 
-/// Whether one of these calls is of a thread.
-fn has_call_of(entries: &[Entry], calls: &[u64], thread: ThreadId) -> bool
-    ensures { result ≡ list_any (λ n. caller_of entries.now n == thread) calls.now }
-{
-    calls
-        .iter()
-        .any(|number| caller_of(entries, *number) == thread)
-}
-
 /// The id of a number and a version.
 fn thread_id(number: u32, version: u32) -> ThreadId
     ensures number { number_of result ≡ number }
@@ -225,8 +220,7 @@ impl Kernel {
         ensures back { IfErr result (λ refused. refused.call ≡ call) }
         ensures err { OnErr result (self.new ≡ self.old) }
     {
-        let entries = self.course.entries();
-        if !is_live(entries, thread) {
+        if !is_live(self.course.entries(), thread) {
             return Err(EnterRefused {
                 refusal: Refusal::NoThread,
                 call,
@@ -238,7 +232,7 @@ impl Kernel {
                 call,
             });
         }
-        let made = calls_made(entries);
+        let made = calls_made(self.course.entries());
         if made >= self.calls_limit {
             return Err(EnterRefused {
                 refusal: Refusal::CallsSpent,
@@ -257,18 +251,18 @@ impl Kernel {
                 call,
             });
         };
-        let Ok(()) = self.untaken.reserve(1) else {
+        let number = made + 1;
+        let Ok(()) = self.copies.enter(self.alloc, number, &call) else {
             return Err(EnterRefused {
                 refusal: Refusal::NoMemory,
                 call,
             });
         };
-        let number = made + 1;
         let is_normal = call.is_normal();
         prove!(is_normal);
-        self.untaken.push_reserved(number);
         self.course
             .take_input(self.moment, Input::Called(number, thread, call));
+        self.copies.keep_needed(self.course.entries());
         Ok(number)
     }
 
@@ -299,6 +293,7 @@ impl Kernel {
         };
         let answer = self.course.exreg_answer(thread, target);
         self.course.take_input(self.moment, Input::Exreg(thread, target, control.masked()));
+        self.copies.keep_needed(self.course.entries());
         Ok(answer)
     }
 
@@ -312,34 +307,28 @@ impl Kernel {
         };
         self.course
             .take_input(self.moment, Input::Moved(number, block));
+        self.copies.keep_needed(self.course.entries());
         Advance::Moved
     }
 
-    /// The outcome of a live thread's last call, once, where the call is over. The only refusal is K4, and then it can be asked again.
+    /// The outcome of a live thread's last call, once, where the call is over. Takes no memory.
     #[tactic(auto, unfolding(crate::specs::Steps::outcome_to_take))]
-    pub fn take(&mut self, thread: ThreadId) -> Result<Option<Outcome>, Refusal>
-        ensures ok { IfOk result (λ outcome. outcome ≡ outcome_to_take self.old thread) }
-        ensures taken { IfOk result (λ outcome. self.new ≡ record self.old { untaken = untaken_after outcome self.old.untaken }) }
-        ensures cause { IfErr result (λ refusal. refusal ≡ Refusal.NoMemory) }
-        ensures err { OnErr result (self.new ≡ self.old) }
+    pub fn take(&mut self, thread: ThreadId) -> Option<Outcome>
+        ensures outcome { result ≡ outcome_to_take self.old thread }
+        ensures taken { self.new ≡ record self.old { untaken = untaken_after result self.old.untaken } }
     {
         let entries = self.course.entries();
         if !is_live(entries, thread) {
-            return Ok(None);
+            return None;
         }
-        let Some(number) = last_call(entries, thread) else {
-            return Ok(None);
-        };
-        if !self.untaken.contains(&number) {
-            return Ok(None);
+        let number = last_call(entries, thread)?;
+        if !self.copies.is_untaken(number) || !is_over(entries, number) {
+            return None;
         }
-        let Ok(outcome) = outcome_of(self.alloc, entries, number) else {
-            return Err(Refusal::NoMemory);
-        };
-        if outcome.is_some() {
-            self.untaken.retain(|call| *call != number);
-        }
-        Ok(outcome)
+        let outcome = outcome_of(self.alloc, entries, &mut self.copies, number);
+        self.copies.drop_call(number);
+        self.copies.keep_needed(entries);
+        Some(outcome)
     }
 
     /// Whether a thread has an open call, or an outcome that was not yet taken.
@@ -347,6 +336,6 @@ impl Kernel {
         ensures { result ≡ is_busy self.now thread }
     {
         let entries = self.course.entries();
-        open_call(entries, thread).is_some() || has_call_of(entries, &self.untaken, thread)
+        open_call(entries, thread).is_some() || self.copies.has_call_of(entries, thread)
     }
 }

@@ -3,11 +3,13 @@
 
 mod answers;
 mod command;
+mod copies;
 mod course;
 mod ending;
 mod exchange;
 mod kernel;
 mod messages;
+mod numbers;
 mod obeying;
 mod refusal;
 mod room;

@@ -28,7 +28,7 @@ impl Model for Message {
 }
 
 impl Message {
-    // The message of a call, copied.
+    /// The message of a call, copied.
     pub(crate) fn copied(
         alloc: Global,
         call: u64,
@@ -45,6 +45,13 @@ impl Message {
             words: copy,
             strings: strings.copy(alloc)?,
         })
+    }
+
+    /// The number of the call that sends it.
+    pub(crate) fn call(&self) -> u64
+        ensures { result ≡ self.now.call }
+    {
+        self.call
     }
 
     /// What the receiver gets: the untyped words, followed by a simple item of two words for each string, and the strings.

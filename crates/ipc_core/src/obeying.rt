@@ -102,10 +102,7 @@ impl Kernel {
     fn obey_take(&mut self, thread: ThreadId) -> Answer
         ensures { MayObey self.old (command.Take thread) result self.new }
     {
-        match self.take(thread) {
-            Ok(outcome) => Answer::Taken(outcome),
-            Err(refusal) => Answer::Refused(refusal),
-        }
+        Answer::Taken(self.take(thread))
     }
 }
 

@@ -1,16 +1,21 @@
-ghost use Rattle.std.specs.Prelude.{◌≡◌, ◌+◌, ◌*◌, ◌≤◌, length, IfOk};
-ghost use Rattle.ipc_history.specs.Calls.{words_of, strings_of, buffers_of};
+ghost use Rattle.std.specs.Prelude.{◌≡◌, Some, IsTrue, IsFalse};
+ghost use Rattle.ipc_history.specs.Calls.{caller_of, words_of, strings_of, buffers_of};
+ghost use Rattle.ipc_history.specs.Threads.{has_broken};
+ghost use Rattle.ipc_history.specs.Phases.{is_over};
 ghost use Rattle.ipc_history.specs.Legal.{Legal};
 ghost use Rattle.ipc_history.specs.Outcomes.{failure, nothing, received, outcome_of};
 ghost use Rattle.ipc_history.specs.Paired.{IsPair};
+ghost use Rattle.ipc_core.specs.Copies.{Keeps, Holds, calls_of};
+ghost use Rattle.ipc_core.specs.Steps.{is_among, without_call};
 
+use crate::copies::Copies;
 use crate::ending::{Ending, ending_of};
 use crate::messages::Message;
 use ipc_history::{Entry, Outcome};
 use ipc_items::{BufferList, StringList};
-use ipc_rules::{call_at, caller_of, has_broken, is_over, is_propagated, shown_sender, tag_of};
+use ipc_rules::{caller_of, is_propagated, shown_sender, tag_of};
 use ipc_words::{IpcError, MsgTag, ThreadId};
-use std::alloc::{AllocError, Global};
+use std::alloc::Global;
 
 /// What the caller of a call that failed is told.
 fn failure(alloc: Global, call: u64, error: IpcError) -> Outcome
@@ -44,19 +49,20 @@ fn nothing(alloc: Global, call: u64) -> Outcome
     }
 }
 
-/// What the caller of a call that received the message of another call is told.
+/// What the caller of a call is told that received the message of another call. Takes no memory.
 fn received(
-    alloc: Global,
     entries: &[Entry],
     number: u64,
     sending: u64,
-) -> Result<Outcome, AllocError>
+    message: Message,
+    buffers: BufferList,
+) -> Outcome
     requires legal { Legal entries.now }
     requires pair { IsPair entries.now sending number }
-    ensures { IfOk result (λ outcome. outcome ≡ received entries.now sending number) }
+    requires message { message ≡ record { call = sending; words = words_of entries.now sending; strings = strings_of entries.now sending } }
+    requires buffers { buffers ≡ buffers_of entries.now number }
+    ensures { result ≡ received entries.now sending number }
 {
-    let buffers = buffers_of(alloc, entries, number)?;
-    let message = message_of(alloc, entries, sending)?;
     let (words, strings) = message.into_received(&buffers);
     let is_propagated = is_propagated(entries, sending);
     let typed = (2 * strings.len()) as u8;
@@ -68,7 +74,7 @@ fn received(
     } else {
         ThreadId::NILTHREAD
     };
-    Ok(Outcome {
+    Outcome {
         call: number,
         tag,
         sender: shown_sender(entries, sending),
@@ -77,50 +83,32 @@ fn received(
         words,
         strings,
         buffers,
-    })
-}
-
-/// A copy of the message of a call.
-#[tactic(auto, unfolding(ipc_history::specs::Calls::words_of, ipc_history::specs::Calls::strings_of))]
-fn message_of(alloc: Global, entries: &[Entry], number: u64) -> Result<Message, AllocError>
-    requires { length (words_of entries.now number) + 2 * length (strings_of entries.now number) ≤ 63 }
-    ensures { IfOk result (λ message. message ≡ record { call = number; words = words_of entries.now number; strings = strings_of entries.now number }) }
-{
-    match call_at(entries, number) {
-        Some((_, call)) => Message::copied(alloc, number, call.words(), call.strings()),
-        None => Message::copied(alloc, number, &[], &StringList::new(alloc)),
     }
 }
 
-/// A copy of the buffer strings of a call.
-#[tactic(auto, unfolding(ipc_history::specs::Calls::buffers_of))]
-fn buffers_of(alloc: Global, entries: &[Entry], number: u64) -> Result<BufferList, AllocError>
-    ensures { IfOk result (λ buffers. buffers ≡ buffers_of entries.now number) }
-{
-    if let Some((_, call)) = call_at(entries, number) {
-        if let Some(buffers) = call.buffers() {
-            return buffers.copy(alloc);
-        }
-    }
-    Ok(BufferList::new(alloc))
-}
-
-/// The outcome of a call: None while it is open or where its caller has ended.
+/// The outcome of an untaken call that is over and whose caller lives. Its copies are moved out. Takes no memory.
 pub(crate) fn outcome_of(
     alloc: Global,
     entries: &[Entry],
+    copies: &mut Copies,
     number: u64,
-) -> Result<Option<Outcome>, AllocError>
-    requires { Legal entries.now }
-    ensures { IfOk result (λ outcome. outcome ≡ outcome_of entries.now number) }
+) -> Outcome
+    requires legal { Legal entries.now }
+    requires keeps { Keeps entries.now copies.old }
+    requires untaken { IsTrue (is_among number (calls_of copies.old.untaken)) }
+    requires over { IsTrue (is_over entries.now number) }
+    requires lives { IsFalse (has_broken entries.now (caller_of entries.now number)) }
+    ensures told { outcome_of entries.now number ≡ Some result }
+    ensures others { without_call number (calls_of copies.new.untaken) ≡ without_call number (calls_of copies.old.untaken) }
+    ensures holds { Holds entries.now (without_call number (calls_of copies.old.untaken)) copies.new }
 {
-    if !is_over(entries, number) || has_broken(entries, caller_of(entries, number)) {
-        return Ok(None);
-    }
-    let outcome = match ending_of(entries, number) {
+    match ending_of(entries, number) {
         Some(Ending::Failure(code)) => failure(alloc, number, IpcError::from_word(code)),
-        Some(Ending::Received(sending)) => received(alloc, entries, number, sending)?,
+        Some(Ending::Received(sending)) => {
+            let buffers = copies.take_buffers(number);
+            let message = copies.take_message(sending);
+            received(entries, number, sending, message, buffers)
+        }
         None => nothing(alloc, number),
-    };
-    Ok(Some(outcome))
+    }
 }

@@ -208,3 +208,93 @@ fn buffers_are_taken_whole(rt: HostRuntime) -> Result<(), Fail> {
     assert_eq!(rt; list.first_pointer(0), 0);
     Ok(())
 }
+
+#[test]
+fn a_copy_of_buffers_stands_apart(rt: HostRuntime) -> Result<(), Fail> {
+    let mut list = BufferList::with_capacity(rt.alloc(), 1, 2)?;
+    let _ = list.push_buffer(&[part(2, 0x2000), part(3, 0x3000)])?;
+    let copy = list.copy(rt.alloc())?;
+    list.clear();
+    assert_eq!(rt; list.is_empty(), true);
+    assert_eq!(rt; copy.len(), 1);
+    assert_eq!(rt; copy.capacity(0), 5);
+    assert_eq!(rt; copy.first_pointer(0), 0x2000);
+    Ok(())
+}
+
+// Whether a list takes one buffer string of as many substrings of a length.
+fn takes_equal(alloc: Global, count: usize, length: u64) -> Result<bool, AllocError> {
+    let buffers = vec![in alloc; vec![in alloc; part(length, 0); count]?]?;
+    Ok(BufferList::of(alloc, buffers)?.is_some())
+}
+
+#[test]
+fn substrings_are_counted(rt: HostRuntime) -> Result<(), Fail> {
+    let a = rt.alloc();
+    assert_eq!(rt; takes_equal(a, 0, 1)?, false);
+    assert_eq!(rt; takes_equal(a, 31, 1)?, true);
+    assert_eq!(rt; takes_equal(a, 32, 1)?, false);
+    Ok(())
+}
+
+#[test]
+fn lengths_of_substrings_are_bounded(rt: HostRuntime) -> Result<(), Fail> {
+    let a = rt.alloc();
+    assert_eq!(rt; takes_equal(a, 1, LENGTH_LIMIT - 1)?, true);
+    assert_eq!(rt; takes_equal(a, 1, LENGTH_LIMIT)?, false);
+    Ok(())
+}
+
+// Whether a list takes one buffer string of as many substrings, no two of one length.
+fn takes_unequal(alloc: Global, count: u64) -> Result<bool, AllocError> {
+    let mut parts = Vec::new(alloc);
+    for length in 0..count {
+        parts.push(part(length, 0))?;
+    }
+    Ok(BufferList::of(alloc, vec![in alloc; parts]?)?.is_some())
+}
+
+#[test]
+fn words_of_buffers_are_counted(rt: HostRuntime) -> Result<(), Fail> {
+    let a = rt.alloc();
+    assert_eq!(rt; takes_unequal(a, 16)?, true);
+    assert_eq!(rt; takes_unequal(a, 17)?, false);
+    Ok(())
+}
+
+// Whether a list takes as many empty strings.
+fn takes_empty(alloc: Global, count: usize) -> Result<bool, AllocError> {
+    let mut strings = Vec::new(alloc);
+    for _ in 0..count {
+        strings.push(Vec::new(alloc))?;
+    }
+    Ok(StringList::of(alloc, strings)?.is_some())
+}
+
+#[test]
+fn strings_are_counted(rt: HostRuntime) -> Result<(), Fail> {
+    assert_eq!(rt; takes_empty(rt.alloc(), 31)?, true);
+    assert_eq!(rt; takes_empty(rt.alloc(), 32)?, false);
+    Ok(())
+}
+
+#[test]
+fn strings_fit_to_the_last_byte(rt: HostRuntime) -> Result<(), Fail> {
+    let strings = strings(rt.alloc())?;
+    let mut buffers = BufferList::new(rt.alloc());
+    let _ = buffers.push_buffer(&[part(3, 0x1000)])?;
+    assert_eq!(rt; fit(&strings, Some(&buffers)), Fit::Overflow { offset: 3 });
+    let _ = buffers.push_buffer(&[part(2, 0x2000), part(3, 0x3000)])?;
+    assert_eq!(rt; fit(&strings, Some(&buffers)), Fit::Fits);
+    Ok(())
+}
+
+#[test]
+fn nothing_fits_where_no_strings_are_taken(rt: HostRuntime) -> Result<(), Fail> {
+    assert_eq!(rt;
+        fit(&strings(rt.alloc())?, None),
+        Fit::Overflow { offset: 0 }
+    );
+    assert_eq!(rt; fit(&StringList::new(rt.alloc()), None), Fit::Fits);
+    Ok(())
+}

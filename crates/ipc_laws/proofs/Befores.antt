@@ -40,10 +40,15 @@ module _ (P Q : List Entry) (n : ℕ) (c : is_called P n ≡ true) where
   unfolding before_call
   before_call_kept = before_kept (calls n) P Q (called_any P n c)
 
+  -- whether it may show another sender
+  pub propagated_kept : is_propagated (P ++ Q) n ≡ is_propagated P n
+  unfolding is_propagated
+  propagated_kept = rw (before_call_kept, tag_of_kept P Q n c, originator_of_kept P Q n c, caller_of_kept P Q n c) refl
+
   -- the sender that it shows
   pub shown_kept : shown_sender (P ++ Q) n ≡ shown_sender P n
-  unfolding shown_sender is_propagated
-  shown_kept = rw (before_call_kept, tag_of_kept P Q n c, originator_of_kept P Q n c, caller_of_kept P Q n c) refl
+  unfolding shown_sender
+  shown_kept = rw (propagated_kept, originator_of_kept P Q n c, caller_of_kept P Q n c) refl
 
   -- when its receive phase began, where it has begun
   pub receive_start_kept : ((to_of P n == nilthread) || is_sent P n) ≡ true → receive_start (P ++ Q) n ≡ receive_start P n

@@ -26,7 +26,7 @@ use Rattle.ipc_laws.proofs.WordLemmas.{first_some_push, last_some_push, option_o
 or_last : (a b : Bool) → (a || (b || false)) ≡ (a || b)
 or_last a b = grind arith
 
-any_push : (p : Entry → Bool) (P : List Entry) (e : Entry) → list_any p (P ++ e ∷ []) ≡ (list_any p P || p e)
+pub any_push : (p : Entry → Bool) (P : List Entry) (e : Entry) → list_any p (P ++ e ∷ []) ≡ (list_any p P || p e)
 any_push p P e = list_any-append p P (e ∷ []) ∙ or_last (list_any p P) (p e)
 
 unwrap_or_or : (a b : Option ℕ) (d : ℕ) → unwrap_or (option_or a b) d ≡ unwrap_or a (unwrap_or b d)

@@ -23,7 +23,7 @@ use Rattle.ipc_laws.proofs.PhaseParts.{failing_send, meets_parts, passes_parts}
 use Rattle.ipc_laws.proofs.Places.{Place, any_at, any_place, first_at, place_after}
 use Rattle.ipc_laws.proofs.Tests.{left, none_of, not_both, refuted, right}
 
-closes_names : (n : ℕ) (e : Entry) → closes n e ≡ true → (names n e ≡ true) × (calls n e ≡ false)
+pub closes_names : (n : ℕ) (e : Entry) → closes n e ≡ true → (names n e ≡ true) × (calls n e ≡ false)
 closes_names n (Written (Failed k code)) g = (g, refl)
 closes_names n (Written (Overflowed k m offset)) g = (g, refl)
 closes_names n (Written (Aborted k m count)) g = (g, refl)
@@ -88,7 +88,7 @@ pub broken_at : (F Q : List Entry) (t : ℕ) → has_broken (F ++ Given (Broke t
 unfolding has_broken
 broken_at F Q t = any_at (breaks t) _ _ (record { front = F; rest = Q; whole = refl }) (eq-eqb t t refl)
 
-caller_here : (H : List Entry) (n thread : ℕ) (call : CallParts) (at : Place H (Given (Called n thread call))) → is_called at.front n ≡ false → caller_of H n ≡ thread
+pub caller_here : (H : List Entry) (n thread : ℕ) (call : CallParts) (at : Place H (Given (Called n thread call))) → is_called at.front n ≡ false → caller_of H n ≡ thread
 unfolding is_called call_at
 caller_here H n thread call at absent = caller_at H n thread call (first_at (call_in n) H _ (thread, call) at (none_of _ (rw absent refl)) (rw (eq-eqb n n refl) refl))
 

@@ -120,10 +120,10 @@ called_place H n h = which (call_at H n) refl
     which (Some c) e = let t = first_place (call_in n) H c e in go c e t.0 t.1 t.2
 
 -- every entry but a Called names only calls that aren't over
-named_by : (P : List Entry) (n k m : ℕ) → is_over P k ≡ false → is_over P m ≡ false → ((k == n) || (m == n)) ≡ true → is_over P n ≡ false
+pub named_by : (P : List Entry) (n k m : ℕ) → is_over P k ≡ false → is_over P m ≡ false → ((k == n) || (m == n)) ≡ true → is_over P n ≡ false
 named_by P n k m p q h = elim (or_cases (k == n) (m == n) h) [ inl a ↦ (let e : k ≡ n = eqb-true k n a in rw e at p) | inr b ↦ (let e : m ≡ n = eqb-true m n b in rw e at q) ]
 
-named_alone : (P : List Entry) (n k : ℕ) → is_over P k ≡ false → (k == n) ≡ true → is_over P n ≡ false
+pub named_alone : (P : List Entry) (n k : ℕ) → is_over P k ≡ false → (k == n) ≡ true → is_over P n ≡ false
 named_alone P n k p h = let e : k ≡ n = eqb-true k n h in rw e at p
 
 pub written_names : (P : List Entry) (n : ℕ) (output : Output) → Means P output → names n (Written output) ≡ true → is_over P n ≡ false

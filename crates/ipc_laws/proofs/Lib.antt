@@ -22,7 +22,7 @@ pub mod RoomFalls
 pub mod InputRoom
 pub mod OpenCalls
 pub mod Moving
-pub mod AtChanges
+pub mod IdleChanges
 pub mod Clock
 pub mod OnePhase
 pub mod Settling
@@ -35,3 +35,16 @@ pub mod Changing
 pub mod Senders
 pub mod LiveThreads
 pub mod OneLive
+pub mod Lasting
+pub mod CallOrder
+pub mod Resting
+pub mod Comes
+pub mod InputLeaves
+pub mod Together
+pub mod Touching
+pub mod IdleOutputs
+pub mod InputLaws
+pub mod EntryTouches
+pub mod EntryLeaves
+pub mod TransferKept
+pub mod Closings

@@ -9,7 +9,7 @@ use Rattle.ipc_history.specs.CallParts.{CallParts}
 use Rattle.ipc_history.specs.Words.{first_some, last}
 use Rattle.ipc_history.specs.Entries.{count_in, number_in}
 use Rattle.ipc_history.specs.Calls.{numbers, call_at, is_called, to_of, strings_of, message_size}
-use Rattle.ipc_history.specs.Phases.{is_transferring, moved_bytes}
+use Rattle.ipc_history.specs.Phases.{receiver_of, is_transferring, moved_bytes}
 use Rattle.ipc_history.specs.NextOutput.{next_output, stop_after, turn_after, end_of, partner_gone_of, meeting_of, timeout_of}
 use Rattle.ipc_history.specs.Legal.{Legal, Follows, Quiet, is_admissible, may_move}
 use Rattle.ipc_history.specs.declared.entry.Entry.{Entry}
@@ -37,7 +37,7 @@ none_left : {X : Type 0} (a b : Option X) → option_or a b ≡ None → a ≡ N
 none_left None b h = refl
 none_left (Some x) b h = h
 
-none_right : {X : Type 0} (a b : Option X) → option_or a b ≡ None → b ≡ None
+pub none_right : {X : Type 0} (a b : Option X) → option_or a b ≡ None → b ≡ None
 none_right None b h = h
 none_right (Some x) b h = absurd (none-some x (sym h))
 
@@ -120,7 +120,7 @@ moved_within P h = legal_induction Within nothing step P h
 
 -- While n is transferring in a quiet history, some of its bytes are left
 
-transferring_whole : (P : List Entry) (n m : ℕ) → Passes P n m → is_transferring P n m ≡ true
+pub transferring_whole : (P : List Entry) (n m : ℕ) → Passes P n m → is_transferring P n m ≡ true
 unfolding is_transferring
 transferring_whole P n m p = rw (p.pair, eq-eqb m m refl, p.running, p.opened, p.opened_too) refl
 
@@ -132,9 +132,13 @@ some_left P h q n m p = elim (cases_order (moved_bytes P n) (message_size P n)) 
   | inr (inr l) ↦ absurd (omega (arith, moved_within P h n))
 ]
 
-pub transferring_to : (P : List Entry) → Legal P → (n m : ℕ) → Passes P n m → (to_of P n == nilthread) ≡ false
-transferring_to P h n m p =
-    let at = began_place P n m p.pair in
+-- the sending call of a transfer has a receiver
+pub paired_to : (P : List Entry) → Legal P → (n m : ℕ) → receiver_of P n ≡ Some m → (to_of P n == nilthread) ≡ false
+paired_to P h n m pair =
+    let at = began_place P n m pair in
     let s = (meets_at P h n m at).sends in
     let same : to_of P n ≡ to_of at.front n = ap (λ l. to_of l n) at.whole ∙ to_of_kept at.front _ n (open_is_called at.front n s.opened) in
     ap (λ t. t == nilthread) same ∙ s.named
+
+pub transferring_to : (P : List Entry) → Legal P → (n m : ℕ) → Passes P n m → (to_of P n == nilthread) ≡ false
+transferring_to P h n m p = paired_to P h n m p.pair

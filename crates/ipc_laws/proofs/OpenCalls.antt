@@ -57,7 +57,7 @@ once_in n k xs e = rw e (up_to_once n k).1
 
 -- The caller of an open call lives
 
-caller_opened : (P : List Entry) → Legal P → (n : ℕ) → is_called P n ≡ true → was_opened P (caller_of P n) ≡ true
+pub caller_opened : (P : List Entry) → Legal P → (n : ℕ) → is_called P n ≡ true → was_opened P (caller_of P n) ≡ true
 unfolding was_opened is_live
 caller_opened P h n c =
     let made = called_place P n c in

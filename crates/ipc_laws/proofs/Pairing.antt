@@ -5,12 +5,13 @@ use Rattle.std.proofs.Common.{◌≡◌, refl, sym, ◌∙◌, ℕ, ◌≤◌, t
 use Rattle.std.specs.List.{list_any}
 use Rattle.ipc_history.specs.Words.{first_some}
 use Rattle.ipc_history.specs.Entries.{ends, ends_send, ends_receive, begins_send, begins_receive, closes, receiver_in, sender_in}
+use Rattle.ipc_history.specs.Calls.{is_called}
 use Rattle.ipc_history.specs.Phases.{is_sent, receiver_of, sender_of}
 use Rattle.ipc_history.specs.Legal.{Legal}
 use Rattle.ipc_history.specs.declared.entry.Entry.{Entry}
 use Rattle.ipc_history.specs.declared.entry.Entry.TheVariants.{Written}
 use Rattle.ipc_history.specs.declared.entry.Output.TheVariants.{Began, Ended}
-use Rattle.ipc_laws.proofs.Growth.{open_is_not_closed, receiver_of_kept}
+use Rattle.ipc_laws.proofs.Growth.{is_called_kept, open_is_called, open_is_not_closed, receiver_of_kept}
 use Rattle.ipc_laws.proofs.Histories.{began_place, began_place_of_sender, ended_place, legal_front, means_at, sent_place}
 use Rattle.ipc_laws.proofs.Once.{Once, count_once}
 use Rattle.ipc_laws.proofs.PhaseParts.{Meets, Passes, meets_parts, passes_parts}
@@ -25,6 +26,13 @@ passes_at H h n m at = passes_parts at.front n m (means_at H h (Ended n m) at).0
 
 pub meets_at : (H : List Entry) → Legal H → (n m : ℕ) (at : Place H (Written (Began n m))) → Meets at.front n m
 meets_at H h n m at = meets_parts at.front n m (means_at H h (Began n m) at).0
+
+-- the two calls of a transfer were made
+pub pair_called : (P : List Entry) → Legal P → (n m : ℕ) → receiver_of P n ≡ Some m → (is_called P n ≡ true) × (is_called P m ≡ true)
+pair_called P h n m pair =
+    let at = began_place P n m pair in
+    let p = meets_at P h n m at in
+    (rw at.whole (is_called_kept at.front _ n (open_is_called at.front n p.sends.opened)), rw at.whole (is_called_kept at.front _ m (open_is_called at.front m p.receives.opened)))
 
 -- what ended had begun
 pub ended_pair : (H : List Entry) → Legal H → (n m : ℕ) → list_any (ends n m) H ≡ true → receiver_of H n ≡ Some m

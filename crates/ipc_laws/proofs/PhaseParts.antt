@@ -1,9 +1,10 @@
 -- What it says that a call is in a phase.
-use Rattle.std.proofs.Common.{◌≡◌, ℕ, ◌%◌, Bool, true, false, ◌&&◌, ◌||◌, ◌==◌, eqb-true, List, Some, None, ◌⊎◌, inl, inr, arith}
+use Rattle.std.proofs.Common.{◌≡◌, refl, ℕ, ◌%◌, Bool, true, false, ◌&&◌, ◌||◌, ◌==◌, eqb-true, List, Some, None, ◌⊎◌, inl, inr, arith}
 use Rattle.std.specs.List.{list_any}
 use Rattle.ipc_words.specs.ThreadId.{nilthread}
 use Rattle.ipc_history.specs.Entries.{ends}
 use Rattle.ipc_history.specs.Calls.{caller_of, to_of, from_of}
+use Rattle.ipc_history.specs.Threads.{has_broken}
 use Rattle.ipc_history.specs.Phases.{is_sent, receiver_of, sender_of, is_over, is_sending, is_transferring, is_receiving}
 use Rattle.ipc_history.specs.Matching.{shown_sender, accepts, matches}
 use Rattle.ipc_history.specs.Timing.{is_due, is_due_at}
@@ -66,25 +67,36 @@ second_of : (a b c d : Bool) → ((a && b) || (c && d)) ≡ true → a ≡ false
 second_of a b c d h q = grind arith
 
 module _ (P : List Entry) (n : ℕ) where
-  left_open : (k m other : ℕ) → is_left P n k m other ≡ true → is_over P n ≡ false
+  pub left_open : (k m other : ℕ) → is_left P n k m other ≡ true → is_over P n ≡ false
   unfolding is_left
   left_open k m other h = refuted _ (left _ _ (left _ _ h))
 
-  left_running : (k m other : ℕ) → is_left P n k m other ≡ true → list_any (ends k m) P ≡ false
+  pub left_running : (k m other : ℕ) → is_left P n k m other ≡ true → list_any (ends k m) P ≡ false
   unfolding is_left
   left_running k m other h = refuted _ (right _ _ (left _ _ h))
 
-  partner_gone_sends : is_send_partner_gone P n ≡ true → Sends P n
+  pub left_broken : (k m other : ℕ) → is_left P n k m other ≡ true → has_broken P (caller_of P other) ≡ true
+  unfolding is_left
+  left_broken k m other h = right _ _ h
+
+  pub partner_gone_sends : is_send_partner_gone P n ≡ true → Sends P n
   unfolding is_send_partner_gone
   partner_gone_sends h = sends_parts P n n (left _ _ h)
 
-  partner_gone_receives : is_receive_partner_gone P n ≡ true → Receives P n
+  pub partner_gone_receives : is_receive_partner_gone P n ≡ true → Receives P n
   unfolding is_receive_partner_gone
   partner_gone_receives h = receives_parts P n n (left _ _ (left _ _ (left _ _ h)))
 
-  due_receives : is_due P n ≡ true → is_sending P n ≡ false → Receives P n
+  pub due_receives : is_due P n ≡ true → is_sending P n ≡ false → Receives P n
   unfolding is_due is_due_at
   due_receives h q = receives_parts P n n (second_of _ _ _ _ h q)
+
+  pub due_open : is_due P n ≡ true → is_over P n ≡ false
+  due_open h = go (is_sending P n) refl
+    where
+      go : (b : Bool) → is_sending P n ≡ b → is_over P n ≡ false
+      go true s = (sends_parts P n n s).opened
+      go false s = (due_receives h s).opened
 
   pub failing : (code : ℕ) → WhyFailed P n code → Failing P n
   failing code (StoppedSend s e) = Unsent (sends_parts P n n s)

@@ -35,7 +35,7 @@ legal_push P e h g F f rest whole = elim (push_place P F e f rest whole) [
   | inr t ↦ h F f t.0 t.1
 ]
 
-written_follows : (P : List Entry) (o : Output) → next_output P ≡ Some o → Follows P (Written o)
+pub written_follows : (P : List Entry) (o : Output) → next_output P ≡ Some o → Follows P (Written o)
 unfolding Follows
 written_follows P o e = e
 

@@ -5,7 +5,8 @@ use Rattle.ipc_history.specs.CallParts.{CallParts, is_normal}
 use Rattle.ipc_history.specs.Words.{first_some}
 use Rattle.ipc_history.specs.Entries.{input_in, begins_send, begins_receive, names, calls, closes, ends}
 use Rattle.ipc_history.specs.Calls.{numbers, calls_made, call_at, is_called, caller_of, tag_of, words_of, strings_of, message_size}
-use Rattle.ipc_history.specs.Phases.{is_over, receiver_of, is_sending, is_transferring, is_receiving, moved_bytes}
+use Rattle.ipc_history.specs.Threads.{has_broken, is_live}
+use Rattle.ipc_history.specs.Phases.{is_over, open_call, receiver_of, is_sending, is_transferring, is_receiving, moved_bytes}
 use Rattle.ipc_history.specs.Matching.{matches}
 use Rattle.ipc_history.specs.Timing.{is_due, is_due_at}
 use Rattle.ipc_history.specs.NextOutput.{next_output, MovesFit}
@@ -44,6 +45,10 @@ MessagesAreNormal = (H : List Entry) → Legal H → (n : ℕ) → IsNormalMessa
 abbrev pub OverStays : Type 0
 OverStays = (P Q : List Entry) (n : ℕ) → IsTrue (is_called P n) → IsTrue (is_over P n) → IsTrue (is_over (P ++ Q) n)
 
+-- the outcome of a call that is over stays as it is, until its caller ends
+abbrev pub OutcomesStay : Type 0
+OutcomesStay = (P Q : List Entry) → Legal (P ++ Q) → (n : ℕ) → IsTrue (is_called P n) → IsTrue (is_over P n) → IsFalse (has_broken (P ++ Q) (caller_of (P ++ Q) n)) → outcome_of (P ++ Q) n ≡ outcome_of P n
+
 -- but for the Called itself, an entry names only calls that are made and not over
 abbrev pub NamesOpenCalls : Type 0
 NamesOpenCalls = (P : List Entry) (e : Entry) → Follows P e → (n : ℕ) → IsTrue (names n e) → IsFalse (calls n e) → IsTrue (is_called P n) × IsFalse (is_over P n)
@@ -51,6 +56,21 @@ NamesOpenCalls = (P : List Entry) (e : Entry) → Follows P e → (n : ℕ) → 
 -- two open calls of one caller are one
 abbrev pub OneOpenCall : Type 0
 OneOpenCall = (H : List Entry) → Legal H → (n k : ℕ) → IsFalse (is_over H n) → IsFalse (is_over H k) → caller_of H n ≡ caller_of H k → n ≡ k
+
+-- an open call is of a live thread; it is that thread's open call, and the last of its calls
+pub record IsOpenCall (H : List Entry) (n : ℕ) : Type 0 where
+  pub called : IsTrue (is_called H n)
+  pub live : IsTrue (is_live H (caller_of H n))
+  pub found : open_call H (caller_of H n) ≡ Some n
+  pub last : (k : ℕ) → IsTrue (is_called H k) → caller_of H k ≡ caller_of H n → k ≤ n
+
+abbrev pub OpenCallIsLast : Type 0
+OpenCallIsLast = (H : List Entry) → Legal H → (n : ℕ) → IsFalse (is_over H n) → IsOpenCall H n
+
+-- call order and entry order agree for each caller: where an entry names a later call of it, an earlier one is over, and neither
+-- that entry nor one behind it names the earlier one
+abbrev pub EntriesInOrder : Type 0
+EntriesInOrder = (H : List Entry) → Legal H → (n k : ℕ) → n < k → caller_of H n ≡ caller_of H k → (P rest : List Entry) (e : Entry) → H ≡ P ++ e ∷ rest → IsTrue (names k e) → IsTrue (is_over P n) × IsFalse (list_any (names n) (e ∷ rest))
 
 -- a send begins at most once, and so does a receive
 abbrev pub BeginsOnce : Type 0
@@ -66,6 +86,10 @@ ClosedOnce = (H : List Entry) → Legal H → (n : ℕ) → count_by (closes n) 
 -- a call is in at most one phase: it waits to send, passes to m, waits to receive, or receives from k
 abbrev pub OnePhase : Type 0
 OnePhase = (H : List Entry) → Legal H → (n m k : ℕ) → one_if (is_sending H n) + one_if (is_transferring H n m) + one_if (is_receiving H n) + one_if (is_transferring H k n) ≤ 1
+
+-- the two calls of a transfer that has not ended are over together, where neither caller has ended
+abbrev pub OverTogether : Type 0
+OverTogether = (H : List Entry) → Legal H → (n m : ℕ) → receiver_of H n ≡ Some m → IsFalse (list_any (ends n m) H) → IsFalse (has_broken H (caller_of H n)) → IsFalse (has_broken H (caller_of H m)) → is_over H n ≡ is_over H m
 
 -- what ended had begun
 abbrev pub EndedHadBegun : Type 0

@@ -2,3 +2,4 @@ pub mod Meaning
 pub mod Changes
 pub mod Laws
 pub mod Counting
+pub mod Locality

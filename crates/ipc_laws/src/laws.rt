@@ -1,6 +1,7 @@
 // The laws of histories. Each function is a theorem: it does nothing, and its contract holds of every history.
-ghost use Rattle.ipc_laws.specs.Laws.{OutputMeans, OverStays, NamesOpenCalls, OneOpenCall, BeginsOnce, ClosedOnce, OnePhase, EndedHadBegun, MeetsOne, MovesWithin, QuietMoves, AtMakesDue, AtBrings, AtStaysQuiet, AtFails, MayFollow, Settles, SettlesOnce, NumberedInOrder, CallsAreNormal, MessagesAreNormal, MovesFitLegal, LegalIsPaired, SenderSees, Determined, QuietDetermined};
+ghost use Rattle.ipc_laws.specs.Laws.{OutputMeans, OverStays, NamesOpenCalls, OneOpenCall, BeginsOnce, ClosedOnce, OnePhase, EndedHadBegun, MeetsOne, MovesWithin, QuietMoves, AtMakesDue, AtBrings, AtStaysQuiet, AtFails, MayFollow, Settles, SettlesOnce, NumberedInOrder, CallsAreNormal, MessagesAreNormal, MovesFitLegal, LegalIsPaired, SenderSees, Determined, QuietDetermined, OutcomesStay, OpenCallIsLast, EntriesInOrder, OverTogether};
 ghost use Rattle.ipc_laws.specs.Changes.{EachEntryChanges, OthersUnchanged};
+ghost use Rattle.ipc_laws.specs.Locality.{NextIsPossible, QuietRests, EntriesTouch, ClosingsOpenNothing, OpenedStaysQuiet, CalledBrings, ExregBrings, ExregStops, ExregOnce, BrokeFails, BrokeOnlyFails, AtOnlyFails, MovedEnds};
 ghost use Rattle.ipc_laws.specs.Counting.{StepsFall, StepsBound, OpenBound, OutputsBound, LiveBound, OutputsMost, RoomHolds, InputRoom, AtRoom, PledgeCovers, CommandFits};
 
 /// What the next_output is tells what the history is.
@@ -23,12 +24,20 @@ pub fn calls_last()
     ensures messages { MessagesAreNormal }
 {}
 
-/// One open call for each caller, one transfer for each send and each receive.
+/// What the caller of a call that is over is told stays so.
+pub fn outcomes_stay()
+    ensures stay { OutcomesStay }
+{}
+
+/// One open call for each caller, one after the other; one transfer for each send and each receive.
 pub fn one_at_a_time()
     ensures calls { OneOpenCall }
+    ensures opened { OpenCallIsLast }
+    ensures order { EntriesInOrder }
     ensures begins { BeginsOnce }
     ensures closed { ClosedOnce }
     ensures phase { OnePhase }
+    ensures together { OverTogether }
     ensures ended { EndedHadBegun }
     ensures meets { MeetsOne }
 {}
@@ -61,6 +70,27 @@ pub fn moments()
     ensures brings { AtBrings }
     ensures quiet { AtStaysQuiet }
     ensures fails { AtFails }
+{}
+
+/// An entry makes possible only what it touches.
+pub fn entries_touch_few()
+    ensures next { NextIsPossible }
+    ensures rest { QuietRests }
+    ensures entries { EntriesTouch }
+    ensures closings { ClosingsOpenNothing }
+{}
+
+/// So what comes of an input, after a quiet history, is of the calls that it touches.
+pub fn inputs_touch_few()
+    ensures opened { OpenedStaysQuiet }
+    ensures called { CalledBrings }
+    ensures exreg { ExregBrings }
+    ensures stopped { ExregStops }
+    ensures stops_once { ExregOnce }
+    ensures broke { BrokeFails }
+    ensures lost { BrokeOnlyFails }
+    ensures due { AtOnlyFails }
+    ensures moved { MovedEnds }
 {}
 
 /// The outputs after an input come to an end: at most four for each live thread, so 1,020.

@@ -14,3 +14,5 @@ pub mod Numerals
 pub mod OneSpelling
 pub mod Options
 pub mod Spacing
+pub mod Lengths
+pub mod Longest

@@ -1,5 +1,6 @@
-ghost use Rattle.std.specs.Prelude.{◌≡◌, ℕ, [], ◌∷◌, codes, map, IfOk, IfSome, Some};
+ghost use Rattle.std.specs.Prelude.{◌≡◌, ◌<◌, ℕ, [], ◌∷◌, codes, length, map, IfOk, IfSome, Some, None, Ok};
 ghost use Rattle.ipc_lines.specs.Commands.{command_name, command_fields, command_text, IsCommand};
+ghost use Rattle.ipc_lines.specs.Limit.{most_bytes};
 ghost use Rattle.ipc_lines.specs.Lines.{call_fields};
 ghost use Rattle.ipc_lines.specs.Reading.{IsWord, IsCall};
 ghost use Rattle.ipc_lines.specs.Texts.{hex_text, id_text};
@@ -9,6 +10,7 @@ ghost use Rattle.std.specs.Fmt.{decimal};
 use crate::call_reading::read_call;
 use crate::fields::split;
 use crate::numbers::{read_decimal, read_hex, read_id};
+use crate::reading::MAX_LINE;
 use ipc_history::Call;
 use ipc_words::{Control, ThreadId};
 use std::alloc::{AllocError, Global};
@@ -169,11 +171,15 @@ fn command_of(
     }
 }
 
-/// The command that a line spells, without its newline; `None` for any other line.
+/// The command that a line spells, without its newline; `None` for any other line, as for one of more than [`MAX_LINE`] bytes.
 pub fn read_command(alloc: Global, line: &[u8]) -> Result<Option<Command>, AllocError>
     ensures found { IfOk result (λ answer. IfSome answer (λ command. line.now ≡ command_text command)) }
     ensures only { (command : Command) → IsCommand command → line.now ≡ command_text command → IfOk result (λ answer. answer ≡ Some command) }
+    ensures long { most_bytes < length line.now → result ≡ Ok None }
 {
+    if line.len() > MAX_LINE {
+        return Ok(None);
+    }
     let Some(fields) = split(alloc, line, b' ', MAX_FIELDS)? else {
         return Ok(None);
     };

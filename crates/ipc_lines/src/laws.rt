@@ -1,5 +1,6 @@
 ghost use Rattle.ipc_lines.specs.Spelling.{EachHasOneLine};
 ghost use Rattle.ipc_lines.specs.Laws.{LinesHoldNoNewline, LinesSplitIntoFields};
+ghost use Rattle.ipc_lines.specs.Limit.{LinesAreWithinTheLimit};
 
 /// No line holds a newline.
 pub fn lines_hold_no_newline()
@@ -14,4 +15,9 @@ pub fn lines_split_into_fields()
 /// Two entries that differ have lines that differ.
 pub fn entries_have_lines_of_their_own()
     ensures { EachHasOneLine }
+{}
+
+/// No entry and no command has a line of more than 2,105,343 bytes.
+pub fn lines_are_within_the_limit()
+    ensures { LinesAreWithinTheLimit }
 {}

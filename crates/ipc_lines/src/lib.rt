@@ -3,7 +3,7 @@
 //! A line is its fields with one space between each two; its newline is not part of it. Numbers are
 //! decimals without leading zeros. HEX is `0x` and lower-case digits without leading zeros; 0 is
 //! `0x0`. An id is `nil`, `any` or `local`; `number.version` in decimal where the low six bits of its
-//! word are not all zero; else HEX.
+//! word are not all zero; else HEX. No line has more than [`MAX_LINE`] bytes.
 //!
 //! | Entry | Line |
 //! |---|---|
@@ -39,10 +39,13 @@ pub use calls::call_text;
 pub use commands::{Command, read_command};
 pub use entries::entry_line;
 pub use items::{read_buffers, read_strings, read_words};
-pub use laws::{entries_have_lines_of_their_own, lines_hold_no_newline, lines_split_into_fields};
+pub use laws::{
+    entries_have_lines_of_their_own, lines_are_within_the_limit, lines_hold_no_newline,
+    lines_split_into_fields,
+};
 pub use numbers::{read_decimal, read_hex, read_id};
 pub use outcomes::outcome_line;
-pub use reading::{LineFault, read_entry};
+pub use reading::{LineFault, MAX_LINE, read_entry};
 pub use scalars::{HexText, IdText};
 
 #[cfg(test)]

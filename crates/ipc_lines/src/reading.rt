@@ -1,4 +1,4 @@
-ghost use Rattle.std.specs.Prelude.{◌≡◌, ℕ, [], ◌∷◌, codes, map, Some, Ok, Err, IfOk, IfSome, IsTrue, ◌⊎◌};
+ghost use Rattle.std.specs.Prelude.{◌≡◌, ◌<◌, ℕ, [], ◌∷◌, codes, length, map, Some, Ok, Err, IfOk, IfSome, IsTrue, ◌⊎◌};
 ghost use Rattle.std.specs.Fmt.{decimal};
 ghost use Rattle.ipc_history.specs.CallParts.{CallParts};
 ghost use Rattle.ipc_history.specs.declared.entry.Entry.{Entry};
@@ -7,6 +7,7 @@ ghost use Rattle.ipc_history.specs.declared.entry.Input.TheVariants.{At, Opened,
 ghost use Rattle.ipc_history.specs.declared.entry.Output.TheVariants.{Began, Turned, Ended, Overflowed, Aborted, Failed};
 ghost use Rattle.ipc_words.specs.Control.{is_masked};
 ghost use Rattle.ipc_lines.specs.Texts.{hex_text, id_text};
+ghost use Rattle.ipc_lines.specs.Limit.{most_bytes};
 ghost use Rattle.ipc_lines.specs.Lines.{call_fields, entry_fields, entry_text};
 ghost use Rattle.ipc_lines.specs.Reading.{IsWord, IsCall, IsReadable};
 ghost use Rattle.ipc_lines.specs.Names.{entry_name};
@@ -17,6 +18,9 @@ use crate::numbers::{read_decimal, read_hex, read_id};
 use ipc_history::{Entry, Input, Output};
 use ipc_words::{IpcError, MaskedControl, ThreadId};
 use std::alloc::{AllocError, Global};
+
+/// The most bytes of a line, without its newline. No entry and no command has a longer one.
+pub const MAX_LINE: usize = 2_105_343;
 
 /// The most fields of an entry: its name, a number and those of a call.
 const MAX_FIELDS: usize = 11;
@@ -321,11 +325,16 @@ pub enum LineFault {
     NoMemory,
 }
 
-/// The entry that a line spells, without its newline. `Bad` where no entry has this spelling, as for a second spelling of one.
+/// The entry that a line spells, without its newline. `Bad` where no entry has this spelling, as for a second spelling of one and
+/// for a line of more than [`MAX_LINE`] bytes.
 pub fn read_entry(alloc: Global, line: &[u8]) -> Result<Entry, LineFault>
     ensures found { IfOk result (λ entry. line.now ≡ entry_text entry) }
     ensures only { (entry : Entry) → IsReadable entry → line.now ≡ entry_text entry → (result ≡ Ok entry) ⊎ (result ≡ Err LineFault.NoMemory) }
+    ensures long { most_bytes < length line.now → result ≡ Err LineFault.Bad }
 {
+    if line.len() > MAX_LINE {
+        return Err(LineFault::Bad);
+    }
     match entry_in(alloc, line) {
         Ok(Some(entry)) => Ok(entry),
         Ok(None) => Err(LineFault::Bad),

@@ -1,6 +1,6 @@
 use crate::{
-    LineFault, read_buffers, read_call, read_command, read_decimal, read_entry, read_hex, read_id,
-    read_strings, read_words,
+    LineFault, entry_line, read_buffers, read_call, read_command, read_decimal, read_entry,
+    read_hex, read_id, read_strings, read_words,
 };
 use std::test::Fail;
 
@@ -22,7 +22,7 @@ const GOOD: [&str; 15] = [
     "failed 7 0x2",
 ];
 
-const BAD: [&str; 21] = [
+const BAD: [&str; 29] = [
     "",
     "at",
     "at 05",
@@ -33,23 +33,33 @@ const BAD: [&str; 21] = [
     "at 18446744073709551616",
     "began 7",
     "exreg 2.1 3.1 0x1",
+    "exreg 2.1 3.1 0x8",
     "exreg 2.1 3.1 6",
     "broke 4294967295.4294967295",
     "broke 2.64",
     "broke 0x0",
     "broke 0xffffffffffffffff",
+    "broke 0xffffffffffffffc0",
     "broke 4294967296.1",
     "failed 7 0xA",
+    "failed 7 0x02",
+    "failed 7 0x10000000000000000",
     "called 7 2.1 3.1 any 0x0 0x2 nil 0x7 - -",
     "called 1 2.1 3.1 nil 0x0 0x80 nil - 616263 -",
+    "called 1 2.1 3.1 nil 0x0 0x80 nil - x6A -",
+    "called 1 2.1 3.1 nil 0x0 0x80 nil - x6 -",
+    "called 1 2.1 3.1 nil 0x0 0x80 nil -  -",
     "called 2 2.1 nil any 0x8000 0x0 nil - - -",
+    "called 2 2.1 nil any 0x5 0x0 nil - - 4@4096",
     "called 7 2.1 3.1 any 0x0 0x1 nil 0x7 -",
 ];
 
 #[test]
 fn reads_entries(rt: HostRuntime) -> Result<(), Fail> {
     for line in &GOOD {
-        assert!(rt; read_entry(rt.alloc(), line.as_bytes()).is_ok(), "{line}");
+        let read = read_entry(rt.alloc(), line.as_bytes());
+        let entry = read.ok().ok_or("read")?;
+        assert_eq!(rt; entry_line(rt.alloc(), &entry)?.as_str(), *line);
     }
     Ok(())
 }

@@ -34,5 +34,5 @@ pub use phases::{
     receiver_of, sender_of,
 };
 pub use places::last_call;
-pub use threads::{has_broken, is_live, is_taken, next_version_of, now, space_of};
+pub use threads::{has_broken, is_live, is_taken, last_thread, next_version_of, now, space_of};
 pub use timing::{is_due, is_due_at};

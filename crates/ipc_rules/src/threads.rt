@@ -68,6 +68,7 @@ pub fn space_of(entries: &[Entry], thread: ThreadId) -> u64
     space_at(entries, thread).unwrap_or(0)
 }
 
+/// The last thread of a number that was opened, None where none was.
 #[tactic(auto)]
 pub fn last_thread(entries: &[Entry], number: u32) -> Option<ThreadId>
     ensures { result ≡ last_some (thread_in number) entries.now }

@@ -1,91 +1,106 @@
-use ipc_core::{Advance, Kernel, Refusal};
+ghost use Rattle.std.specs.Prelude.{◌≡◌, ◌++◌, drop, Some, OnOk, IfOk};
+ghost use Rattle.std.specs.String.{string_bytes};
+ghost use Rattle.ipc_lines.specs.Lines.{entry_text};
+ghost use Rattle.ipc_shell.specs.Answers.{answer_text, refusal_number};
+ghost use Rattle.ipc_shell.specs.Printing.{entries_text, ended, Answers};
+
+use crate::commands::kernel_command;
+use ipc_core::{Advance, Answer, ExregAnswer, Kernel, Refusal};
+use ipc_history::{Entry, Outcome};
 use ipc_lines::{Command, HexText, IdText, entry_line, outcome_line};
-use ipc_words::ThreadId;
 use std::alloc::{AllocError, Global};
 
-/// The greatest number and space that a command of a script hands on; more counts as that.
-const MAX_NUMBER: u64 = 65_535;
-
-/// Runs a command: the lines of the entries that it writes, and its answer line.
-pub fn answer(alloc: Global, kernel: &mut Kernel, command: Command) -> Result<String, AllocError> {
+/// Obeys a command: the lines of the entries that it writes, and then its answer line.
+pub fn answer(alloc: Global, kernel: &mut Kernel, command: Command) -> Result<String, AllocError>
+    ensures { IfOk result (λ text. Answers kernel.old command (string_bytes text) kernel.new) }
+{
     let before = kernel.history().len();
-    let answer = answer_line(alloc, kernel, command)?;
+    let answer = kernel.obey(kernel_command(command));
     let mut text = String::new(alloc);
-    for entry in kernel.history().iter().skip(before) {
-        text.push_str(entry_line(alloc, entry)?.as_str())?;
-        text.push('\n')?;
-    }
-    text.push_str(answer.as_str())?;
-    text.push('\n')?;
+    write_entries_from(alloc, &mut text, kernel.history(), before)?;
+    write_answer(alloc, &mut text, &answer)?;
+    text.push_str("\n")?;
     Ok(text)
 }
 
-/// The answer line of a command.
-fn answer_line(alloc: Global, kernel: &mut Kernel, command: Command) -> Result<String, AllocError> {
-    match command {
-        Command::Open { number, space } => {
-            open(
-                alloc,
-                kernel,
-                number.min(MAX_NUMBER) as u32,
-                space.min(MAX_NUMBER) as u32,
-            )
-        }
-        Command::Call(thread, call) => match kernel.enter(thread, call) {
-            Ok(number) => format!(in alloc; "= {number}"),
-            Err(refused) => refusal_line(alloc, refused.refusal),
-        },
-        Command::Exreg {
-            thread,
-            dest,
-            control,
-        } => match kernel.exreg(thread, dest, control) {
-            Ok(answer) => {
-                let result = IdText(answer.result);
-                let control = HexText(answer.control.to_word());
-                let code = HexText(answer.code);
-                format!(in alloc; "= {result} {control} {code}")
-            }
-            Err(refusal) => refusal_line(alloc, refusal),
-        },
-        Command::Broke(thread) => match kernel.broke(thread) {
-            Ok(()) => String::from_str(alloc, "= ok"),
-            Err(refusal) => refusal_line(alloc, refusal),
-        },
-        Command::At(moment) => {
-            kernel.at(moment);
-            String::from_str(alloc, "= ok")
-        }
-        Command::Advance => match kernel.advance() {
-            Advance::Moved => String::from_str(alloc, "= moved"),
-            Advance::Idle => String::from_str(alloc, "= idle"),
-        },
-        Command::Take(thread) => take(alloc, kernel, thread),
+// Appends the lines of the entries from a place on.
+fn write_entries_from(
+    alloc: Global,
+    out: &mut String,
+    entries: &[Entry],
+    place: usize,
+) -> Result<(), AllocError>
+    ensures { OnOk result (string_bytes out.new ≡ string_bytes out.old ++ entries_text (drop place entries.now)) }
+{
+    write_entries(alloc, out, &entries[place.min(entries.len())..])
+}
+
+// Appends the lines of entries.
+fn write_entries(alloc: Global, out: &mut String, entries: &[Entry]) -> Result<(), AllocError>
+    ensures { OnOk result (string_bytes out.new ≡ string_bytes out.old ++ entries_text entries.now) }
+{
+    for entry in entries {
+        write_entry(alloc, out, entry)?;
+    }
+    Ok(())
+}
+
+// Appends the line of an entry.
+fn write_entry(alloc: Global, out: &mut String, entry: &Entry) -> Result<(), AllocError>
+    ensures { OnOk result (string_bytes out.new ≡ string_bytes out.old ++ ended (entry_text entry.now)) }
+{
+    let line = entry_line(alloc, entry)?;
+    out.push_str(line.as_str())?;
+    out.push_str("\n")
+}
+
+// Appends an answer line, without its newline.
+fn write_answer(alloc: Global, out: &mut String, answer: &Answer) -> Result<(), AllocError>
+    ensures { OnOk result (string_bytes out.new ≡ string_bytes out.old ++ answer_text answer.now) }
+{
+    match answer {
+        Answer::Opened(thread) => write!(out, "= {}", IdText(*thread)),
+        Answer::Entered(number) => write!(out, "= {number}"),
+        Answer::Exchanged(answer) => write_exchanged(out, answer),
+        Answer::Done => out.push_str("= ok"),
+        Answer::Advanced(Advance::Moved) => out.push_str("= moved"),
+        Answer::Advanced(Advance::Idle) => out.push_str("= idle"),
+        Answer::Taken(None) => out.push_str("= none"),
+        Answer::Taken(Some(outcome)) => write_outcome(alloc, out, outcome),
+        Answer::Refused(refusal) => write!(out, "! K{}", refusal_number(*refusal)),
     }
 }
 
-fn open(alloc: Global, kernel: &mut Kernel, number: u32, space: u32) -> Result<String, AllocError> {
-    match kernel.open(number, space) {
-        Ok(thread) => {
-            let id = IdText(thread);
-            format!(in alloc; "= {id}")
-        }
-        Err(refusal) => refusal_line(alloc, refusal),
-    }
+// Appends the answer of an ExchangeRegisters.
+fn write_exchanged(out: &mut String, answer: &ExregAnswer) -> Result<(), AllocError>
+    ensures { OnOk result (string_bytes out.new ≡ string_bytes out.old ++ answer_text (Answer.Exchanged answer.now)) }
+{
+    let control = HexText(answer.control.to_word());
+    let code = HexText(answer.code);
+    write!(out, "= {} {control} {code}", IdText(answer.result))
 }
 
-fn take(alloc: Global, kernel: &mut Kernel, thread: ThreadId) -> Result<String, AllocError> {
-    match kernel.take(thread) {
-        Ok(None) => String::from_str(alloc, "= none"),
-        Ok(Some(outcome)) => {
-            let line = outcome_line(alloc, &outcome)?;
-            format!(in alloc; "= {line}")
-        }
-        Err(refusal) => refusal_line(alloc, refusal),
-    }
+// Appends the answer of a taking that has an outcome.
+fn write_outcome(alloc: Global, out: &mut String, outcome: &Outcome) -> Result<(), AllocError>
+    ensures { OnOk result (string_bytes out.new ≡ string_bytes out.old ++ answer_text (Answer.Taken (Some outcome.now))) }
+{
+    let line = outcome_line(alloc, outcome)?;
+    out.push_str("= ")?;
+    out.push_str(line.as_str())
 }
 
-fn refusal_line(alloc: Global, refusal: Refusal) -> Result<String, AllocError> {
-    let number = refusal.number();
-    format!(in alloc; "! K{number}")
+// The number of a refusal, printed after K.
+fn refusal_number(refusal: Refusal) -> u8
+    ensures { result ≡ refusal_number refusal }
+{
+    match refusal {
+        Refusal::BadNumber => 1,
+        Refusal::NumberTaken => 2,
+        Refusal::NumberWorn => 3,
+        Refusal::NoMemory => 4,
+        Refusal::HistoryFull => 5,
+        Refusal::NoThread => 6,
+        Refusal::Busy => 7,
+        Refusal::CallsSpent => 8,
+    }
 }

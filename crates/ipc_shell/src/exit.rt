@@ -1,5 +1,3 @@
-ghost use Rattle.std.specs.Prelude.{◌≡◌};
-
 use std::fmt;
 
 /// How the run of a script ended.
@@ -16,8 +14,13 @@ pub enum Exit {
 }
 
 impl Exit {
+    ghost use Rattle.std.specs.Prelude.{◌≡◌};
+    ghost use Rattle.ipc_shell.specs.Exits.{status_of};
+
     /// The exit status of the program.
-    pub fn status(&self) -> u8 {
+    pub fn status(&self) -> u8
+        ensures { result ≡ status_of self.now }
+    {
         match self {
             Exit::Done => 0,
             Exit::BadLine(_) => 2,
@@ -27,6 +30,11 @@ impl Exit {
 }
 
 impl fmt::Display for Exit {
+    ghost use Rattle.std.specs.Prelude.{Some};
+    ghost use Rattle.ipc_shell.specs.Exits.{exit_text};
+
+    ghost output = { λ exit. Some (exit_text exit) };
+
     fn fmt<W: fmt::Write>(&self, f: &mut fmt::Formatter<W>) -> fmt::Result {
         match self {
             Exit::Done => write!(f, "l4sh: done"),

@@ -1,3 +1,6 @@
+ghost use Rattle.std.specs.Prelude.{◌≤◌, length};
+ghost use Rattle.ipc_shell.specs.Reading.{ReadsLine, ReadsPiece, Adds, IsCut};
+
 use std::io::{BufRead, ErrorKind};
 
 /// The longest line, in bytes without its newline.
@@ -44,10 +47,12 @@ enum Piece {
 }
 
 /// Reads the next line. The last one may lack its newline.
-pub fn next_line<R: BufRead>(reader: &mut R, line: &mut Vec<u8>) -> NextLine {
+pub fn next_line<R: BufRead>(reader: &mut R, line: &mut Vec<u8>) -> NextLine
+    ensures { ReadsLine (R.remaining reader.old) (R.remaining reader.new) line.new.items result }
+{
     line.clear();
     let mut interrupted = 0u32;
-    for _ in 0..MAX_READS {
+    'reads: for _ in 0..MAX_READS {
         match next_piece(reader, line) {
             Piece::Part => interrupted = 0,
             Piece::LineEnd => return NextLine::Line,
@@ -68,30 +73,51 @@ pub fn next_line<R: BufRead>(reader: &mut R, line: &mut Vec<u8>) -> NextLine {
 }
 
 /// Reads a part of a line.
-fn next_piece<R: BufRead>(reader: &mut R, line: &mut Vec<u8>) -> Piece {
-    let (taken, piece) = match reader.fill_buf() {
-        Ok(chunk) => append(line, chunk),
-        Err(error) if error.kind() == ErrorKind::Interrupted => return Piece::Interrupted,
-        Err(_) => return Piece::Failed,
+fn next_piece<R: BufRead>(reader: &mut R, line: &mut Vec<u8>) -> Piece
+    ensures { ReadsPiece (R.remaining reader.old) (R.remaining reader.new)
+        line.old.items line.new.items result }
+{
+    let chunk = match reader.fill_buf() {
+        Ok(chunk) => chunk,
+        Err(error) => {
+            return if error.kind() == ErrorKind::Interrupted {
+                Piece::Interrupted
+            } else {
+                Piece::Failed
+            };
+        }
     };
+    let (taken, piece) = append(line, chunk);
     reader.consume(taken);
     piece
 }
 
 /// Appends what a chunk has of the line; answers how many of its bytes are done with.
-fn append(line: &mut Vec<u8>, chunk: &[u8]) -> (usize, Piece) {
+fn append(line: &mut Vec<u8>, chunk: &[u8]) -> (usize, Piece)
+    ensures within { result.0 ≤ length chunk.now }
+    ensures adds { Adds line.old.items line.new.items chunk.now result.0 result.1 }
+{
     if chunk.is_empty() {
         return (0, Piece::InputEnd);
     }
-    let (text, taken, piece) = match chunk.iter().position(|byte| *byte == b'\n') {
-        Some(end) => (&chunk[..end], end + 1, Piece::LineEnd),
-        None => (chunk, chunk.len(), Piece::Part),
-    };
+    let (end, is_whole) = cut(chunk);
+    let text = &chunk[..end];
     if text.len() > MAX_LINE.saturating_sub(line.len()) {
-        return (taken, Piece::TooLong);
+        return (end, Piece::TooLong);
     }
     match line.extend_from_slice(text) {
-        Ok(()) => (taken, piece),
+        Ok(()) if is_whole => (end + 1, Piece::LineEnd),
+        Ok(()) => (end, Piece::Part),
         Err(_) => (0, Piece::NoMemory),
+    }
+}
+
+/// How many bytes of a chunk stand before a newline, and whether there is one.
+fn cut(chunk: &[u8]) -> (usize, bool)
+    ensures { IsCut chunk.now result.0 result.1 }
+{
+    match chunk.iter().position(|byte| *byte == b'\n') {
+        Some(end) => (end, true),
+        None => (chunk.len(), false),
     }
 }

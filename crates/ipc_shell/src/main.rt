@@ -2,9 +2,14 @@
 #![tactic(auto)]
 
 mod answering;
+mod commands;
 mod exit;
+mod holding;
 mod lines;
+mod output;
 mod running;
+#[cfg(test)]
+mod tests;
 
 use clap::error::ErrorKind;
 use exit::Exit;
@@ -28,7 +33,9 @@ fn main(rt: HostRuntime) -> io::Result<ExitCode> {
                 entries: u64::from(entries),
                 calls: u64::from(calls),
             };
-            let mut reader = io::BufReader::new(alloc, rt.reader())?;
+            let Ok(mut reader) = io::BufReader::new(alloc, rt.reader()) else {
+                return ended(&rt, &Exit::NoMemory);
+            };
             let mut writer = io::writer(&rt);
             let exit = run_script(alloc, limits, &mut reader, &mut writer);
             ended(&rt, &exit)

@@ -5,8 +5,13 @@ use Rattle.ipc_lines.specs.Commands.{command_name, command_fields}
 use Rattle.ipc_lines.proofs.Spacing.{command_parts, command_count}
 use Rattle.ipc_lines.proofs.Naming.{command_named}
 use Rattle.ipc_lines.proofs.ListTexts.{spaced_found}
+use Rattle.ipc_lines.proofs.Longest.{lines_are_within_the_limit}
 use Rattle.ipc_lines.proofs.Options.{IfSome-weaker}
 use Rattle.ipc_lines.proofs.commands.read_command.Goals as goal
+
+-- a line past the limit is no command's
+pub returns-then-line-gt-MAX_LINE-clause-only : goal.returns-then-line-gt-MAX_LINE-clause-only
+returns-then-line-gt-MAX_LINE-clause-only c command is e = absurd (omega (arith, c.if-line-gt-MAX_LINE.true, ap length e, lines_are_within_the_limit.1 command is))
 
 pub returns-in-Some-name_of-clause-found : goal.returns-in-Some-name_of-clause-found
 returns-in-Some-name_of-clause-found c =

@@ -27,7 +27,7 @@ returns-else-id-eq0-clause-only c id small e = elim (id_form id) [
             let named : is_named id ≡ is_named c.in-Some-read_hex.id = ap is_named (sym same) in
             let answer = w.has_name.ensures in
             let test = w.if-not-has_name.false in
-            absurd (cc (p, named, answer, test))
+            absurd (cc (p, answer, test))
         | else-id-eq0-via-else-id-eq0 w ↦ absurd (w.if-id-eq0.false (ap (λ m. m % 64) same ∙ q))
       ]
   | is_numbered p q ↦ absurd (hex_not_numbered c.in-Some-read_hex.id (number_of id) _ (sym c.in-Some-read_hex.ensures.found ∙ e ∙ q))

@@ -1,21 +1,25 @@
 use Rattle.std.proofs.Common.{refl, sym, ap, subst, ◌∙◌, max, arith}
+use Rattle.ipc_history.specs.declared.entry.Input.TheVariants.{At}
 use Rattle.ipc_core.specs.Steps.{at_moment}
 use Rattle.ipc_core.proofs.ClockLemmas.{due_legal, kernel_ticks, kernel_waits, Sets, sets_due, sets_undue}
 use Rattle.ipc_core.proofs.Commands.{continued_settled}
+use Rattle.ipc_core.proofs.NewCalls.{ticks_grows}
+use Rattle.ipc_core.proofs.WholeLemmas.{whole_after}
 use Rattle.ipc_core.proofs.kernel.Kernel.at.Goals.{then-is_any_due_at, else-is_any_due_at}
 use Rattle.ipc_core.proofs.kernel.Kernel.at.Goals as goal
 
 pub settle-requires-clause-legal : goal.settle-requires-clause-legal
 settle-requires-clause-legal c =
-    let range = c.self.invariant.stands.in_range in
-    c.tick.ensures.entries.legal (due_legal _ _ _ c.max-moment.result c.self.inside.course c.self.invariant (omega arith) (omega arith) (sym c.is_any_due_at.ensures ∙ c.if-is_any_due_at.true))
+    let range = c.self.invariant.kernel.stands.in_range in
+    c.tick.ensures.entries.legal (due_legal _ _ _ c.max-moment.result c.self.inside.course c.self.invariant.kernel (omega arith) (omega arith) (sym c.is_any_due_at.ensures ∙ c.if-is_any_due_at.true))
 
 pub invariant_of-self : goal.invariant_of-self
 invariant_of-self c =
-    let range = c.self.invariant.stands.in_range in
+    let range = c.self.invariant.kernel.stands.in_range in
     elim c.if-is_any_due_at.branch [
-      | then-is_any_due_at w ↦ rw w.self-inside-is (kernel_ticks _ _ _ c.max-moment.result c.self.inside.course c.self.invariant (omega arith) (omega arith) (sym c.is_any_due_at.ensures ∙ w.if-is_any_due_at.true) w.settle.new.self (continued_settled _ _ _ w.tick.ensures.entries w.settle.ensures.settled) (w.settle.ensures.room ∙ w.tick.ensures.room) (omega arith))
-      | else-is_any_due_at w ↦ rw w.self-inside-is (kernel_waits _ _ _ c.max-moment.result c.self.inside.course c.self.invariant (omega arith) (omega arith) (sym c.is_any_due_at.ensures ∙ w.if-is_any_due_at.false))
+      | then-is_any_due_at w ↦ rw w.self-inside-is (let kernel = kernel_ticks _ _ _ c.max-moment.result c.self.inside.course c.self.invariant.kernel (omega arith) (omega arith) (sym c.is_any_due_at.ensures ∙ w.if-is_any_due_at.true) w.settle.new.self (continued_settled _ _ _ w.tick.ensures.entries w.settle.ensures.settled) (w.settle.ensures.room ∙ w.tick.ensures.room) (omega arith) in
+          whole_after _ _ _ c.self.inside.course.entries _ w.settle.new.self (At c.max-moment.result) c.self.inside.copies w.keep_needed.new.self kernel (ticks_grows _ _ _ (continued_settled _ _ _ w.tick.ensures.entries w.settle.ensures.settled)) refl c.self.invariant.copies_are w.entries.ensures.entries w.keep_needed.ensures)
+      | else-is_any_due_at w ↦ rw w.self-inside-is (record { kernel = kernel_waits _ _ _ c.max-moment.result c.self.inside.course c.self.invariant.kernel (omega arith) (omega arith) (sym c.is_any_due_at.ensures ∙ w.if-is_any_due_at.false); copies_are = c.self.invariant.copies_are })
     ]
 
 pub returns-clause-history : goal.returns-clause-history

@@ -7,6 +7,9 @@ use Rattle.ipc_core.specs.Room.{exreg_need}
 use Rattle.ipc_core.proofs.OpeningLemmas.{may_stop}
 use Rattle.ipc_core.proofs.RefusalLemmas.{exreg_allowed, exreg_busy, exreg_full, exreg_no_thread, idle_no_call, not_since}
 use Rattle.ipc_core.proofs.ReservedLemmas.{kernel_took, reserved, takes_input}
+use Rattle.ipc_core.specs.Copies.{CopiesParts, Keeps, calls_of}
+use Rattle.ipc_core.proofs.NewCalls.{takes_grows}
+use Rattle.ipc_core.proofs.WholeLemmas.{whole_after}
 use Rattle.ipc_core.proofs.kernel.Kernel.exreg.Goals as goal
 
 pub returns-then-not-is_live-clause-cause : goal.returns-then-not-is_live-clause-cause
@@ -38,7 +41,7 @@ take_input-requires-clause-admissible c =
 
 pub take_input-requires-clause-room : goal.take_input-requires-clause-room
 take_input-requires-clause-room c =
-    let had = reserved _ c.args.self.now c.self.inside.course c.reserve.new.self exreg_need c.in-Some.room c.self.view_is c.self.invariant refl c.reserve.ensures.entries c.reserve.ensures.room (not_since _ c.in-Some.ensures.full.1) c.in-Some.ensures.value c.in-Ok.ensures.ok in
+    let had = reserved _ c.args.self.now c.self.inside.course c.reserve.new.self exreg_need c.in-Some.room c.self.view_is c.self.invariant.kernel refl c.reserve.ensures.entries c.reserve.ensures.room (not_since _ c.in-Some.ensures.full.1) c.in-Some.ensures.value c.in-Ok.ensures.ok in
     had.fits
 
 pub invariant_of-self-2 : goal.invariant_of-self-2
@@ -47,8 +50,9 @@ invariant_of-self-2 c =
     let live : is_live c.args.self.now.history c.args.thread ≡ true = cc in
     let idle = idle_no_call c.args.self.now c.args.thread (cc) in
     let admissible = subst (λ l. IsTrue (is_admissible l (Exreg c.args.thread c.args.target c.masked.result))) (sym (c.reserve.ensures.entries ∙ history)) (may_stop c.args.self.now.history c.args.thread c.args.target c.args.control c.masked.result live idle c.masked.ensures) in
-    let had = reserved _ c.args.self.now c.self.inside.course c.reserve.new.self exreg_need c.in-Some.room c.self.view_is c.self.invariant refl c.reserve.ensures.entries c.reserve.ensures.room (not_since _ c.in-Some.ensures.full.1) c.in-Some.ensures.value c.in-Ok.ensures.ok in
-    kernel_took _ _ _ c.reserve.new.self c.take_input.new.self (Exreg c.args.thread c.args.target c.masked.result) had admissible refl c.take_input.ensures.settled c.take_input.ensures.room c.take_input.ensures.spent
+    let had = reserved _ c.args.self.now c.self.inside.course c.reserve.new.self exreg_need c.in-Some.room c.self.view_is c.self.invariant.kernel refl c.reserve.ensures.entries c.reserve.ensures.room (not_since _ c.in-Some.ensures.full.1) c.in-Some.ensures.value c.in-Ok.ensures.ok in
+    let kernel = kernel_took _ _ _ c.reserve.new.self c.take_input.new.self (Exreg c.args.thread c.args.target c.masked.result) had admissible refl c.take_input.ensures.settled c.take_input.ensures.room c.take_input.ensures.spent in
+    whole_after _ _ _ c.reserve.new.self.entries _ c.take_input.new.self (Exreg c.args.thread c.args.target c.masked.result) c.self.inside.copies c.keep_needed.new.self kernel (takes_grows _ _ _ _ c.take_input.ensures.settled) refl (subst (λ l. Keeps l c.self.inside.copies) (sym c.reserve.ensures.entries) c.self.invariant.copies_are) c.entries.ensures.entries c.keep_needed.ensures
 
 pub returns-clause-ok : goal.returns-clause-ok
 returns-clause-ok c =
@@ -56,4 +60,4 @@ returns-clause-ok c =
     let allowed = exreg_allowed c.args.self.now c.args.thread (cc) (cc) (not_since _ c.in-Some.ensures.full.1) in
     let same = ap (λ m. Exreg c.args.thread c.args.target m) c.masked.ensures in
     let takes = takes_input _ c.args.self.now _ c.reserve.new.self (Exreg c.args.thread c.args.target c.masked.result) (Exreg c.args.thread c.args.target (masked_of c.args.control)) c.self.view_is c.reserve.ensures.entries same c.take_input.ensures.settled refl refl refl in
-    (allowed, takes, ap (λ k. k.untaken) c.self.view_is)
+    (allowed, takes, ap (λ (k : CopiesParts). calls_of k.untaken) c.keep_needed.ensures ∙ ap (λ k. k.untaken) c.self.view_is)

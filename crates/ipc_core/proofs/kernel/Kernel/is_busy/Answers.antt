@@ -2,6 +2,7 @@ use Rattle.std.proofs.Common.{◌≡◌, ap, ◌∙◌, subst, ◌==◌, false, 
 use Rattle.std.specs.List.{list_any}
 use Rattle.ipc_history.specs.Calls.{caller_of}
 use Rattle.ipc_history.specs.Phases.{open_call}
+use Rattle.ipc_core.specs.Copies.{calls_of}
 use Rattle.ipc_core.specs.Steps.{is_busy}
 use Rattle.ipc_core.proofs.RefusalLemmas.{busy_by_call, busy_by_outcome}
 use Rattle.ipc_core.proofs.kernel.Kernel.is_busy.Goals as goal
@@ -14,6 +15,5 @@ returns-then-is_some c =
 pub returns-else-is_some : goal.returns-else-is_some
 returns-else-is_some c =
     let none : is_some (open_call c.self.inside.course.entries c.args.thread) ≡ false = cc in
-    let entries_are = ap (λ l. list_any (λ n. caller_of l n == c.args.thread) c.deref.result.now) c.entries-entries.ensures.entries in
-    let calls_are = ap (list_any (λ n. caller_of c.self.inside.course.entries n == c.args.thread)) c.deref.ensures.value in
-    subst (λ k. c.has_call_of.result ≡ is_busy k c.args.thread) c.self.view_is (c.has_call_of.ensures ∙ (entries_are ∙ (calls_are ∙ busy_by_outcome _ c.args.thread none)))
+    let entries_are = ap (λ l. list_any (λ n. caller_of l n == c.args.thread) (calls_of c.self.inside.copies.untaken)) c.entries-entries.ensures.entries in
+    subst (λ k. c.has_call_of.result ≡ is_busy k c.args.thread) c.self.view_is (c.has_call_of.ensures ∙ (entries_are ∙ busy_by_outcome _ c.args.thread none))

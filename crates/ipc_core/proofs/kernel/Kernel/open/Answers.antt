@@ -6,6 +6,9 @@ use Rattle.ipc_core.specs.Room.{open_need}
 use Rattle.ipc_core.proofs.OpeningLemmas.{InRange, may_open_next}
 use Rattle.ipc_core.proofs.RefusalLemmas.{not_since, open_allowed, open_bad, open_full, open_taken, open_worn}
 use Rattle.ipc_core.proofs.ReservedLemmas.{kernel_took, reserved, takes_input}
+use Rattle.ipc_core.specs.Copies.{CopiesParts, Keeps, calls_of}
+use Rattle.ipc_core.proofs.NewCalls.{takes_grows}
+use Rattle.ipc_core.proofs.WholeLemmas.{whole_after}
 use Rattle.ipc_core.proofs.kernel.Kernel.open.Goals as goal
 use Rattle.ipc_core.proofs.kernel.Kernel.open.Goals.{then-number-lt1-via-then-number-lt1, then-number-lt1-via-else-number-lt1+then-number-gt255, then-number-lt1-via-else-number-lt1+else-number-gt255+then-space-lt1, then-number-lt1-via-else-number-lt1+else-number-gt255+else-space-lt1+then-space-gt64}
 
@@ -51,7 +54,7 @@ take_input-requires-clause-admissible c =
 
 pub take_input-requires-clause-room : goal.take_input-requires-clause-room
 take_input-requires-clause-room c =
-    let had = reserved _ c.args.self.now c.self.inside.course c.reserve.new.self open_need c.in-Some-room_for.room c.self.view_is c.self.invariant refl c.reserve.ensures.entries c.reserve.ensures.room (not_since _ c.in-Some-room_for.ensures.full.1) c.in-Some-room_for.ensures.value c.in-Ok.ensures.ok in
+    let had = reserved _ c.args.self.now c.self.inside.course c.reserve.new.self open_need c.in-Some-room_for.room c.self.view_is c.self.invariant.kernel refl c.reserve.ensures.entries c.reserve.ensures.room (not_since _ c.in-Some-room_for.ensures.full.1) c.in-Some-room_for.ensures.value c.in-Ok.ensures.ok in
     had.fits
 
 pub invariant_of-self-2 : goal.invariant_of-self-2
@@ -61,8 +64,9 @@ invariant_of-self-2 c =
     let free : is_taken c.args.self.now.history c.args.number ≡ false = cc in
     let next : next_version c.args.self.now.history c.args.number ≡ Some c.in-Some.version = cc in
     let admissible = subst (λ l. IsTrue (is_admissible l (Opened c.thread_id-thread.result c.from.result))) (sym (c.reserve.ensures.entries ∙ history)) (may_open_next c.args.self.now.history c.thread_id-thread.result c.args.number c.in-Some.version c.from.result range c.thread_id-thread.ensures.number c.thread_id-thread.ensures.version free next) in
-    let had = reserved _ c.args.self.now c.self.inside.course c.reserve.new.self open_need c.in-Some-room_for.room c.self.view_is c.self.invariant refl c.reserve.ensures.entries c.reserve.ensures.room (not_since _ c.in-Some-room_for.ensures.full.1) c.in-Some-room_for.ensures.value c.in-Ok.ensures.ok in
-    kernel_took _ _ _ c.reserve.new.self c.take_input.new.self (Opened c.thread_id-thread.result c.from.result) had admissible refl c.take_input.ensures.settled c.take_input.ensures.room c.take_input.ensures.spent
+    let had = reserved _ c.args.self.now c.self.inside.course c.reserve.new.self open_need c.in-Some-room_for.room c.self.view_is c.self.invariant.kernel refl c.reserve.ensures.entries c.reserve.ensures.room (not_since _ c.in-Some-room_for.ensures.full.1) c.in-Some-room_for.ensures.value c.in-Ok.ensures.ok in
+    let kernel = kernel_took _ _ _ c.reserve.new.self c.take_input.new.self (Opened c.thread_id-thread.result c.from.result) had admissible refl c.take_input.ensures.settled c.take_input.ensures.room c.take_input.ensures.spent in
+    whole_after _ _ _ c.reserve.new.self.entries _ c.take_input.new.self (Opened c.thread_id-thread.result c.from.result) c.self.inside.copies c.keep_needed.new.self kernel (takes_grows _ _ _ _ c.take_input.ensures.settled) refl (subst (λ l. Keeps l c.self.inside.copies) (sym c.reserve.ensures.entries) c.self.invariant.copies_are) c.entries-3.ensures.entries c.keep_needed.ensures
 
 pub returns-clause-ok : goal.returns-clause-ok
 returns-clause-ok c =
@@ -73,4 +77,4 @@ returns-clause-ok c =
     let allowed = open_allowed c.args.self.now c.args.number c.args.space range free c.in-Some.version next (not_since _ c.in-Some-room_for.ensures.full.1) in
     let same = ap (λ s. Opened c.thread_id-thread.result s) c.from.ensures in
     let takes = takes_input _ c.args.self.now _ c.reserve.new.self (Opened c.thread_id-thread.result c.from.result) (Opened c.thread_id-thread.result c.args.space) c.self.view_is c.reserve.ensures.entries same c.take_input.ensures.settled refl refl refl in
-    (allowed, record { number_is = c.thread_id-thread.ensures.number; version_is = next ∙ ap Some (sym c.thread_id-thread.ensures.version); takes = takes; untaken = ap (λ k. k.untaken) c.self.view_is })
+    (allowed, record { number_is = c.thread_id-thread.ensures.number; version_is = next ∙ ap Some (sym c.thread_id-thread.ensures.version); takes = takes; untaken = ap (λ (k : CopiesParts). calls_of k.untaken) c.keep_needed.ensures ∙ ap (λ k. k.untaken) c.self.view_is })

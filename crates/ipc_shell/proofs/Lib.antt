@@ -1,0 +1,5 @@
+pub mod LineLemmas
+pub mod PieceLemmas
+pub mod RunLemmas
+pub mod EndLemmas
+pub mod Examples

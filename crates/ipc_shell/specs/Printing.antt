@@ -1,0 +1,35 @@
+-- What is printed for a command of a script.
+use Rattle.std.specs.Prelude.{◌≡◌, ℕ, List, [], ◌∷◌, ◌++◌, drop, length}
+use Rattle.std.specs.List.{flat_map}
+use Rattle.ipc_history.specs.declared.entry.Entry.{Entry}
+use Rattle.ipc_core.specs.KernelParts.{KernelParts}
+use Rattle.ipc_core.specs.Obeying.{MayObey}
+use Rattle.ipc_core.specs.declared.command.Answer.{Answer}
+use Rattle.ipc_lines.specs.Commands.{IsCommand}
+use Rattle.ipc_lines.specs.Lines.{entry_text}
+use Rattle.ipc_lines.specs.declared.commands.Command.{Command}
+use Rattle.ipc_shell.specs.Answers.{answer_text}
+use Rattle.ipc_shell.specs.KernelCommands.{kernel_command}
+
+-- a line and its newline
+abbrev pub ended : List ℕ → List ℕ
+ended line = line ++ 10 ∷ []
+
+-- the lines of entries
+abbrev pub entries_text : List Entry → List ℕ
+entries_text entries = flat_map (λ entry. ended (entry_text entry)) entries
+
+-- the entries that a kernel wrote
+abbrev pub written : KernelParts → KernelParts → List Entry
+written old new = drop (length old.history) new.history
+
+-- the lines of the entries that a command wrote, in order, and then its answer line
+abbrev pub printed : KernelParts → Answer → KernelParts → List ℕ
+printed old answer new = entries_text (written old new) ++ ended (answer_text answer)
+
+-- the kernel obeyed a command of a script, one of words and of a call in normal form within the limits, and this is printed for it
+pub record Answers (old : KernelParts) (command : Command) (text : List ℕ) (new : KernelParts) : Type 0 where
+  pub in_words : IsCommand command
+  pub answer : Answer
+  pub obeys : MayObey old (kernel_command command) answer new
+  pub text_is : text ≡ printed old answer new

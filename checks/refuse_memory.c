@@ -1,0 +1,46 @@
+/* Loaded before the C library: refuses the growth whose number FAIL_AT gives, counted from 1, and grants all others.
+   COUNT_TO names a file that gets the number of all growths. */
+#define _GNU_SOURCE
+#include <dlfcn.h>
+#include <errno.h>
+#include <stddef.h>
+#include <stdio.h>
+#include <stdlib.h>
+
+static long count, refused = -1;
+static void *(*next_malloc)(size_t);
+static void *(*next_realloc)(void *, size_t);
+
+static int is_refused(void) {
+    if (!next_malloc) {
+        next_malloc = dlsym(RTLD_NEXT, "malloc");
+        next_realloc = dlsym(RTLD_NEXT, "realloc");
+        const char *at = getenv("FAIL_AT");
+        if (at) {
+            refused = atol(at);
+        }
+    }
+    count++;
+    if (count == refused) {
+        errno = ENOMEM;
+        return 1;
+    }
+    return 0;
+}
+
+void *malloc(size_t size) {
+    return is_refused() ? NULL : next_malloc(size);
+}
+
+void *realloc(void *old, size_t size) {
+    return is_refused() ? NULL : next_realloc(old, size);
+}
+
+__attribute__((destructor)) static void tell(void) {
+    const char *path = getenv("COUNT_TO");
+    FILE *file = path ? fopen(path, "w") : NULL;
+    if (file) {
+        fprintf(file, "%ld\n", count);
+        fclose(file);
+    }
+}

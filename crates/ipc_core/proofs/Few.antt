@@ -1,25 +1,21 @@
 -- One command writes at most 1,022 entries.
-use Rattle.std.proofs.Common.{◌≡◌, refl, sym, ap, subst, ◌∙◌, ℕ, ◌+◌, ◌≤◌, Bool, true, false, if◌then◌else◌, List, [], ◌∷◌, ◌++◌, append_assoc, length, map, Option, Some, None, ◌⊎◌, inl, inr, arith}
+use Rattle.std.proofs.Common.{◌≡◌, ap, subst, ◌∙◌, ℕ, ◌+◌, ◌≤◌, Bool, true, false, if◌then◌else◌, List, [], ◌∷◌, ◌++◌, append_assoc, length, map, Option, Some, None, inl, inr, arith}
 use Rattle.std.proofs.lemmas.List.{length-append, length-map}
 use Rattle.std.specs.Prelude.{nat_lt, MatchBool}
-use Rattle.std.specs.List.{list_any}
-use Rattle.ipc_history.specs.Calls.{numbers}
 use Rattle.ipc_history.specs.Legal.{Legal}
 use Rattle.ipc_history.specs.Settled.{Settled}
 use Rattle.ipc_history.specs.Threads.{now}
-use Rattle.ipc_history.specs.Timing.{is_due_at}
 use Rattle.ipc_history.specs.declared.entry.Entry.{Entry}
 use Rattle.ipc_history.specs.declared.entry.Entry.TheVariants.{Given, Written}
 use Rattle.ipc_history.specs.declared.entry.Input.{Input}
 use Rattle.ipc_history.specs.declared.entry.Input.TheVariants as input
 use Rattle.ipc_laws.proofs.LiveThreads.{outputs_most}
-use Rattle.ipc_core.specs.Effects.{Breaks, Exchanges, Gives, Ticks}
 use Rattle.ipc_core.specs.KernelParts.{KernelParts}
-use Rattle.ipc_core.specs.Obeying.{Does, LacksMemory, MayObey, Obeys, ObeysOr, cause_of}
-use Rattle.ipc_core.specs.Steps.{Advances, Enters, Opens, at_if_later, at_moment, with_input}
+use Rattle.ipc_core.specs.Obeying.{Does, MayObey, Obeys, ObeysOr, cause_of}
+use Rattle.ipc_core.specs.Steps.{at_if_later, at_moment, with_input}
 use Rattle.ipc_core.specs.declared.answers.Advance.TheVariants.{Moved, Idle}
 use Rattle.ipc_core.specs.declared.command.Answer.{Answer}
-use Rattle.ipc_core.specs.declared.command.Answer.TheVariants.{Opened, Entered, Exchanged, Done, Advanced, Taken, Refused}
+use Rattle.ipc_core.specs.declared.command.Answer.TheVariants.{Opened, Entered, Exchanged, Done, Advanced, Taken}
 use Rattle.ipc_core.specs.declared.command.Command.{Command}
 use Rattle.ipc_core.specs.declared.command.Command.TheVariants.{Open, Enter, Exreg, Broke, At, Advance, Take}
 use Rattle.ipc_core.specs.declared.refusal.Refusal.{Refusal}

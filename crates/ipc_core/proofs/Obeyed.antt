@@ -1,12 +1,12 @@
 -- How a command is obeyed, or refused.
-use Rattle.std.proofs.Common.{◌≡◌, refl, sym, ap, subst, ℕ, Option, Some, None, ◌⊎◌, inl, inr, true, false, IsTrue, cond}
+use Rattle.std.proofs.Common.{◌≡◌, refl, sym, ap, subst, ℕ, Option, Some, None, inl, inr, false, IsTrue}
 use Rattle.ipc_history.specs.CallParts.{CallParts}
 use Rattle.ipc_history.specs.Legal.{next_moving}
 use Rattle.ipc_history.specs.Outcomes.{OutcomeParts}
 use Rattle.ipc_history.specs.Threads.{is_live}
 use Rattle.ipc_core.specs.Effects.{Breaks, Exchanges, Gives, Ticks}
 use Rattle.ipc_core.specs.KernelParts.{KernelParts}
-use Rattle.ipc_core.specs.Obeying.{Does, LacksMemory, MayObey, Obeys, ObeysOr, cause_of, takes_memory}
+use Rattle.ipc_core.specs.Obeying.{Does, MayObey, Obeys, ObeysOr, cause_of, takes_memory}
 use Rattle.ipc_core.specs.Refusals.{enter_refusal, exreg_refusal, open_refusal}
 use Rattle.ipc_core.specs.Steps.{Advances, Enters, MayRefuse, Opens}
 use Rattle.ipc_core.specs.declared.answers.Advance.TheVariants.{Moved, Idle}

@@ -1,8 +1,8 @@
 -- Commands that are obeyed one after the other.
-use Rattle.std.proofs.Common.{◌≡◌, refl, subst, sym, ◌∙◌, List, [], ◌∷◌, ◌++◌, Option, Some, None, ◌⊎◌, inl, inr, false, true}
+use Rattle.std.proofs.Common.{◌≡◌, refl, subst, sym, ◌∙◌, List, [], ◌∷◌, ◌++◌, inl, inr, false, true}
 use Rattle.std.proofs.lemmas.Bool.{false≢true}
 use Rattle.ipc_core.specs.KernelParts.{KernelParts}
-use Rattle.ipc_core.specs.Obeying.{LacksMemory, MayObey, Obeys, Runs, is_no_memory}
+use Rattle.ipc_core.specs.Obeying.{MayObey, Obeys, Runs, is_no_memory}
 use Rattle.ipc_core.specs.declared.command.Answer.{Answer}
 use Rattle.ipc_core.specs.declared.command.Command.{Command}
 

@@ -1,5 +1,5 @@
 -- What an ExchangeRegisters, a break, a clock reading and the taking of an outcome do to a kernel.
-use Rattle.std.specs.Prelude.{◌≡◌, ℕ, List, [], ◌∷◌, ◌++◌, Option, MatchBool}
+use Rattle.std.specs.Prelude.{◌≡◌, ℕ, [], ◌∷◌, ◌++◌, Option, MatchBool}
 use Rattle.std.specs.List.{list_any}
 use Rattle.ipc_words.specs.Control.{masked_of}
 use Rattle.ipc_history.specs.Calls.{numbers}

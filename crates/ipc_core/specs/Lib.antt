@@ -11,3 +11,4 @@ pub mod Endings
 pub mod Invariants
 pub mod Effects
 pub mod Obeying
+pub mod RefusalNumbers

@@ -1,5 +1,5 @@
 -- What a kernel answers to a command, and what it is then.
-use Rattle.std.specs.Prelude.{◌≡◌, ℕ, List, [], ◌∷◌, Option, Some, None, if◌then◌else◌, ◌⊎◌, min, Bool, true, false, IsTrue}
+use Rattle.std.specs.Prelude.{◌≡◌, ℕ, List, [], ◌∷◌, Option, Some, None, if◌then◌else◌, ◌⊎◌, Bool, true, false, IsTrue}
 use Rattle.ipc_history.specs.Legal.{next_moving}
 use Rattle.ipc_history.specs.Threads.{is_live}
 use Rattle.ipc_core.specs.Effects.{Breaks, Exchanges, Gives, Ticks}

@@ -1,3 +1,6 @@
+ghost use Rattle.std.specs.Prelude.{◌≡◌};
+ghost use Rattle.ipc_core.specs.RefusalNumbers.{refusal_number};
+
 /// Why the kernel refuses a command. A refused command changes nothing.
 #[derive(Clone, Copy, PartialEq, Eq, Debug)]
 pub enum Refusal {
@@ -21,7 +24,9 @@ pub enum Refusal {
 
 impl Refusal {
     /// The number of the refusal, 1 to 8, printed after K.
-    pub fn number(self) -> u8 {
+    pub fn number(self) -> u8
+        ensures { result ≡ refusal_number self }
+    {
         match self {
             Refusal::BadNumber => 1,
             Refusal::NumberTaken => 2,

@@ -1,5 +1,5 @@
 -- How long texts and lines are at most.
-use Rattle.std.proofs.Common.{◌≡◌, ℕ, zero, suc, ◌+◌, ◌*◌, ◌/◌, ◌%◌, ◌^◌, ◌<◌, ◌≤◌, false, List, [], ◌∷◌, ◌++◌, length, map, codes, Option, Some, None, IfSome, ◌⊎◌, ⊎_elim, ap, arith, length-append}
+use Rattle.std.proofs.Common.{◌≡◌, ℕ, zero, suc, ◌+◌, ◌*◌, ◌/◌, ◌%◌, ◌^◌, ◌<◌, ◌≤◌, false, List, [], ◌∷◌, ◌++◌, length, map, codes, Option, Some, None, IfSome, ⊎_elim, ap, arith, length-append}
 use Rattle.std.proofs.Math.Nat.{pow-suc}
 use Rattle.std.specs.Prelude.{sum_by}
 use Rattle.std.specs.Fmt.{decimal, digits, digit_glyph}
@@ -8,7 +8,7 @@ use Rattle.std.proofs.lemmas.Bool.{cases_lt}
 use Rattle.std.proofs.lemmas.Fmt.{length-decimal-le}
 use Rattle.std.proofs.lemmas.List.Elements.{All-head, All-tail}
 use Rattle.std.proofs.lemmas.List.Sums.{sum_by-cons}
-use Rattle.hex.specs.Hex.{IsBytes, encode_lower, lower_digits}
+use Rattle.hex.specs.Hex.{IsBytes, lower_digits}
 use Rattle.hex.proofs.HexLemmas.{length-encode_with}
 use Rattle.ipc_words.specs.ThreadId.{number_of, version_of}
 use Rattle.ipc_items.specs.declared.buffer_list.Substring.{Substring}

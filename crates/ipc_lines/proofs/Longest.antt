@@ -1,13 +1,13 @@
 -- No line is longer than the limit.
-use Rattle.std.proofs.Common.{◌≡◌, ℕ, ◌+◌, ◌*◌, ◌^◌, ◌<◌, ◌≤◌, List, [], ◌∷◌, ◌++◌, length, arith, length-append}
+use Rattle.std.proofs.Common.{◌≡◌, ℕ, ◌+◌, ◌≤◌, List, [], ◌∷◌, length, arith, length-append}
 use Rattle.ipc_history.specs.CallParts.{CallParts}
 use Rattle.ipc_history.specs.declared.entry.Entry.{Entry}
 use Rattle.ipc_history.specs.declared.entry.Entry.TheVariants.{Given, Written}
 use Rattle.ipc_history.specs.declared.entry.Input.TheVariants.{At, Opened, Called, Exreg, Broke, Moved}
 use Rattle.ipc_history.specs.declared.entry.Output.TheVariants.{Began, Turned, Ended, Overflowed, Aborted, Failed}
-use Rattle.ipc_lines.specs.Lines.{spaced, timeouts_of, call_fields, entry_fields, entry_text}
+use Rattle.ipc_lines.specs.Lines.{spaced, timeouts_of, call_fields, entry_fields}
 use Rattle.ipc_lines.specs.Reading.{IsWord, IsCall, IsReadable}
-use Rattle.ipc_lines.specs.Commands.{IsCommand, command_fields, command_text}
+use Rattle.ipc_lines.specs.Commands.{IsCommand, command_fields}
 use Rattle.ipc_lines.specs.Limit.{most_bytes, LinesAreWithinTheLimit}
 use Rattle.ipc_lines.specs.declared.commands.Command.{Command}
 use Rattle.ipc_lines.specs.declared.commands.Command.TheVariants as command

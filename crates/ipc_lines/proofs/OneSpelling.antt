@@ -1,7 +1,7 @@
 -- Two values are not spelled alike.
-use Rattle.std.proofs.Common.{◌≡◌, ◌≢◌, ℕ, suc, ◌+◌, ◌*◌, ◌/◌, ◌%◌, ◌^◌, ◌<◌, ◌≤◌, false, List, [], ◌∷◌, ◌++◌, length, get_or, take, drop, map, codes, Option, Some, None, IfSome, ◌⊎◌, inl, inr, ⊎_elim, append_assoc, length-append, refl, sym, ap, subst, ◌∙◌, arith}
+use Rattle.std.proofs.Common.{◌≡◌, ◌≢◌, ℕ, ◌+◌, ◌<◌, ◌≤◌, false, List, [], ◌∷◌, ◌++◌, length, get_or, drop, map, codes, Option, Some, None, IfSome, append_assoc, length-append, refl, sym, ap, ◌∙◌, arith}
 use Rattle.std.specs.Prelude.{◌==◌}
-use Rattle.std.specs.Fmt.{decimal, digits}
+use Rattle.std.specs.Fmt.{decimal}
 use Rattle.std.specs.Str.Parse.{digits_value}
 use Rattle.std.specs.List.{All, position_or_len, join_with_byte}
 use Rattle.std.proofs.lemmas.Fmt.{decimal_injective, digits_is_IsNumeral}
@@ -11,7 +11,7 @@ use Rattle.hex.proofs.HexLemmas.{decode_of-encode_lower, decode_of-same}
 use Rattle.ipc_words.specs.ThreadId.{number_of, version_of}
 use Rattle.ipc_items.specs.declared.buffer_list.Substring.{Substring}
 use Rattle.ipc_lines.specs.Texts.{hex_text, id_text, listed, words_text, bytes_text, strings_text, substring_text, buffer_text, buffers_text}
-use Rattle.ipc_lines.specs.Reading.{parts_at, IsCall, IsReadable, IsWord, AreWords, IsSubstring, IsBufferList, IsStringList}
+use Rattle.ipc_lines.specs.Reading.{parts_at, IsCall, IsReadable, IsWord, AreWords, IsSubstring, IsBufferList}
 use Rattle.ipc_history.specs.CallParts.{CallParts}
 use Rattle.ipc_history.specs.declared.entry.Entry.{Entry}
 use Rattle.ipc_history.specs.declared.entry.Entry.TheVariants.{Given, Written}
@@ -25,7 +25,7 @@ use Rattle.ipc_lines.proofs.Cuts.{first_at, cut_at}
 use Rattle.ipc_lines.proofs.High.{lacks, hex_high, bytes_high, substring_high, buffer_lacks}
 use Rattle.ipc_lines.proofs.Ids.{IdForm, is_nil, is_any, is_local, is_plain, is_numbered, id_form, hex_not_numbered}
 use Rattle.ipc_lines.proofs.Limits.{masked_word, IsRow, buffer_rows}
-use Rattle.ipc_lines.proofs.ListTexts.{Lacks, AllLack, map_lacks, listed_none, parts_join}
+use Rattle.ipc_lines.proofs.ListTexts.{Lacks, map_lacks, listed_none, parts_join}
 use Rattle.ipc_lines.proofs.Numerals.{digits_high, decimal_low}
 
 -- texts that a byte cuts at the first place

@@ -7,7 +7,7 @@ use Rattle.ipc_history.specs.CallParts.{CallParts}
 use Rattle.ipc_lines.specs.Texts.{hex_text, id_text, words_text, strings_text, buffers_text}
 use Rattle.std.specs.Prelude.{Bool, true, ◌&&◌, nat_lt}
 use Rattle.std.proofs.lemmas.Bool.{and_parts}
-use Rattle.std.proofs.lemmas.List.Elements.{All-nil, All-cons, All-append}
+use Rattle.std.proofs.lemmas.List.Elements.{All-nil, All-cons}
 use Rattle.ipc_history.specs.declared.entry.Entry.{Entry}
 use Rattle.ipc_history.specs.declared.entry.Entry.TheVariants.{Given, Written}
 use Rattle.ipc_history.specs.declared.entry.Input.TheVariants.{At, Opened, Called, Exreg, Broke, Moved}

@@ -1,9 +1,12 @@
-ghost use Rattle.std.specs.Prelude.{◌≡◌, ◌++◌, OnOk, IfOk};
+ghost use Rattle.std.specs.Prelude.{◌≡◌, ◌≤◌, ◌++◌, OnOk, IfOk, length};
 ghost use Rattle.std.specs.String.{string_bytes};
 ghost use Rattle.ipc_history.specs.declared.entry.Entry.TheVariants.{Given, Written};
+ghost use Rattle.ipc_lines.specs.Limit.{most_bytes};
 ghost use Rattle.ipc_lines.specs.Lines.{entry_text};
+ghost use Rattle.ipc_lines.specs.Reading.{IsReadable};
 
 use crate::calls::write_call;
+use crate::readable::entry_is_readable;
 use crate::scalars::{HexText, IdText};
 use ipc_history::{Entry, Input, Output};
 use std::alloc::{AllocError, Global};
@@ -46,8 +49,8 @@ fn write_output(out: &mut String, output: &Output) -> Result<(), AllocError>
     }
 }
 
-/// The line of an entry, without its newline. The error: memory was refused.
-pub fn entry_line(alloc: Global, entry: &Entry) -> Result<String, AllocError>
+// The line of an entry.
+fn line_of(alloc: Global, entry: &Entry) -> Result<String, AllocError>
     ensures { IfOk result (λ line. string_bytes line ≡ entry_text entry.now) }
 {
     let mut line = String::new(alloc);
@@ -56,4 +59,15 @@ pub fn entry_line(alloc: Global, entry: &Entry) -> Result<String, AllocError>
         Entry::Written(output) => write_output(&mut line, output)?,
     }
     Ok(line)
+}
+
+/// The line of an entry, without its newline: at most [`crate::MAX_LINE`] bytes, which [`crate::read_entry`] reads as this entry.
+/// The error: memory was refused.
+pub fn entry_line(alloc: Global, entry: &Entry) -> Result<String, AllocError>
+    ensures value { IfOk result (λ line. string_bytes line ≡ entry_text entry.now) }
+    ensures within { IfOk result (λ line. length (string_bytes line) ≤ most_bytes) }
+    ensures readable { IsReadable entry.now }
+{
+    entry_is_readable(entry);
+    line_of(alloc, entry)
 }

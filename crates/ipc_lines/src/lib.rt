@@ -31,6 +31,7 @@ mod laws;
 mod lists;
 mod numbers;
 mod outcomes;
+mod readable;
 mod reading;
 mod scalars;
 
@@ -45,6 +46,7 @@ pub use laws::{
 };
 pub use numbers::{read_decimal, read_hex, read_id};
 pub use outcomes::outcome_line;
+pub use readable::entry_is_readable;
 pub use reading::{LineFault, MAX_LINE, read_entry};
 pub use scalars::{HexText, IdText};
 

@@ -4,21 +4,9 @@ use Rattle.std.specs.Fmt.{decimal}
 use Rattle.ipc_core.specs.declared.answers.Advance.TheVariants.{Moved, Idle}
 use Rattle.ipc_core.specs.declared.command.Answer.{Answer}
 use Rattle.ipc_core.specs.declared.command.Answer.TheVariants.{Opened, Entered, Exchanged, Done, Advanced, Taken, Refused}
-use Rattle.ipc_core.specs.declared.refusal.Refusal.{Refusal}
-use Rattle.ipc_core.specs.declared.refusal.Refusal.TheVariants.{BadNumber, NumberTaken, NumberWorn, NoMemory, HistoryFull, NoThread, Busy, CallsSpent}
+use Rattle.ipc_core.specs.RefusalNumbers.{refusal_number}
 use Rattle.ipc_lines.specs.Lines.{outcome_fields, spaced}
 use Rattle.ipc_lines.specs.Texts.{hex_text, id_text}
-
--- the number of a refusal, printed after K
-abbrev pub refusal_number : Refusal → ℕ
-refusal_number BadNumber = 1
-refusal_number NumberTaken = 2
-refusal_number NumberWorn = 3
-refusal_number NoMemory = 4
-refusal_number HistoryFull = 5
-refusal_number NoThread = 6
-refusal_number Busy = 7
-refusal_number CallsSpent = 8
 
 -- the fields of an answer line
 abbrev pub answer_fields : Answer → List (List ℕ)

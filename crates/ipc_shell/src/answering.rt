@@ -1,11 +1,11 @@
 ghost use Rattle.std.specs.Prelude.{◌≡◌, ◌++◌, drop, Some, OnOk, IfOk};
 ghost use Rattle.std.specs.String.{string_bytes};
 ghost use Rattle.ipc_lines.specs.Lines.{entry_text};
-ghost use Rattle.ipc_shell.specs.Answers.{answer_text, refusal_number};
+ghost use Rattle.ipc_shell.specs.Answers.{answer_text};
 ghost use Rattle.ipc_shell.specs.Printing.{entries_text, ended, Answers};
 
 use crate::commands::kernel_command;
-use ipc_core::{Advance, Answer, ExregAnswer, Kernel, Refusal};
+use ipc_core::{Advance, Answer, ExregAnswer, Kernel};
 use ipc_history::{Entry, Outcome};
 use ipc_lines::{Command, HexText, IdText, entry_line, outcome_line};
 use std::alloc::{AllocError, Global};
@@ -67,7 +67,7 @@ fn write_answer(alloc: Global, out: &mut String, answer: &Answer) -> Result<(), 
         Answer::Advanced(Advance::Idle) => out.push_str("= idle"),
         Answer::Taken(None) => out.push_str("= none"),
         Answer::Taken(Some(outcome)) => write_outcome(alloc, out, outcome),
-        Answer::Refused(refusal) => write!(out, "! K{}", refusal_number(*refusal)),
+        Answer::Refused(refusal) => write!(out, "! K{}", refusal.number()),
     }
 }
 
@@ -87,20 +87,4 @@ fn write_outcome(alloc: Global, out: &mut String, outcome: &Outcome) -> Result<(
     let line = outcome_line(alloc, outcome)?;
     out.push_str("= ")?;
     out.push_str(line.as_str())
-}
-
-// The number of a refusal, printed after K.
-fn refusal_number(refusal: Refusal) -> u8
-    ensures { result ≡ refusal_number refusal }
-{
-    match refusal {
-        Refusal::BadNumber => 1,
-        Refusal::NumberTaken => 2,
-        Refusal::NumberWorn => 3,
-        Refusal::NoMemory => 4,
-        Refusal::HistoryFull => 5,
-        Refusal::NoThread => 6,
-        Refusal::Busy => 7,
-        Refusal::CallsSpent => 8,
-    }
 }

@@ -57,15 +57,21 @@ impl Read for Slow {
     }
 }
 
-// Takes three bytes a write, and fails where it is full.
+// Takes three bytes a write, after so many writes that are interrupted, and fails where it is full; counts its flushes.
 #[derive(Drop)]
 struct Full {
     taken: Vec<u8>,
     room: usize,
+    interrupted: u32,
+    flushes: u32,
 }
 
 impl Write for Full {
     fn write(&mut self, buf: &[u8]) -> io::Result<usize> {
+        if self.interrupted > 0 {
+            self.interrupted -= 1;
+            return Err(ErrorKind::Interrupted.into());
+        }
         let count = buf.len().min(3).min(self.room);
         if count == 0 {
             return Err(ErrorKind::StorageFull.into());
@@ -76,8 +82,17 @@ impl Write for Full {
     }
 
     fn flush(&mut self) -> io::Result<()> {
+        self.flushes = self.flushes.saturating_add(1);
         Ok(())
     }
+}
+
+// A script of two opens ends so where it is written here.
+fn assert_written(rt: &impl Abort, alloc: Global, writer: &mut Full, exit: Exit, text: &str) {
+    let mut reader = "open 1 1\nopen 2 1\n".as_bytes();
+    let ended = run_script(alloc, LIMITS, &mut reader, writer);
+    assert_eq!(rt; ended, exit);
+    assert_eq!(rt; writer.taken.as_slice(), text.as_bytes());
 }
 
 // A script that is read slowly ends so, and prints this text.
@@ -203,9 +218,17 @@ fn the_last_line_may_lack_its_newline(rt: HostRuntime) {
     );
 }
 
+// A script of a kernel with these limits prints this text.
+fn assert_limited(rt: &impl Abort, alloc: Global, limits: Limits, script: &str, text: &str) {
+    let mut reader = script.as_bytes();
+    let mut written = Vec::new(alloc);
+    let ended = run_script(alloc, limits, &mut reader, &mut written);
+    assert_eq!(rt; ended, Exit::Done);
+    assert_eq!(rt; written.as_slice(), text.as_bytes());
+}
+
 #[test]
-fn limits_refuse_what_is_past_them(rt: HostRuntime) {
-    let alloc = rt.alloc();
+fn a_history_without_room_refuses_an_open(rt: HostRuntime) {
     let limits = Limits {
         entries: 10,
         calls: 1,
@@ -213,13 +236,20 @@ fn limits_refuse_what_is_past_them(rt: HostRuntime) {
     let script = "open 1 1\ncall 1.1 nil any 0x0 0x0 nil - - -\nopen 2 1\nbroke 1.1\n";
     let text =
         "opened 1.1 1\n= 1.1\ncalled 1 1.1 nil any 0x0 0x0 nil - - -\n= 1\n! K5\nbroke 1.1\n= ok\n";
-    let mut reader = script.as_bytes();
-    let mut written = Vec::new(alloc);
-    assert_eq!(rt;
-        run_script(alloc, limits, &mut reader, &mut written),
-        Exit::Done
-    );
-    assert_eq!(rt; written.as_slice(), text.as_bytes());
+    assert_limited(&rt, rt.alloc(), limits, script, text);
+}
+
+#[test]
+fn a_call_past_the_limit_is_refused(rt: HostRuntime) {
+    let limits = Limits {
+        entries: 100,
+        calls: 1,
+    };
+    let script =
+        "open 1 1\ncall 1.1 nil nil 0x0 0x0 nil - - -\ntake 1.1\ncall 1.1 nil nil 0x0 0x0 nil - - -\n";
+    let text =
+        "opened 1.1 1\n= 1.1\ncalled 1 1.1 nil nil 0x0 0x0 nil - - -\n= 1\n= 1 0x0 nil nil 0x0 - -\n! K8\n";
+    assert_limited(&rt, rt.alloc(), limits, script, text);
 }
 
 #[test]
@@ -257,17 +287,28 @@ fn a_line_that_a_failed_read_cuts_off_is_no_command(rt: HostRuntime) -> Result<(
 #[test]
 fn a_full_device_keeps_the_front_of_the_output(rt: HostRuntime) {
     let alloc = rt.alloc();
-    let mut reader = "open 1 1\nopen 2 1\n".as_bytes();
     let mut writer = Full {
         taken: Vec::new(alloc),
         room: 25,
+        interrupted: 0,
+        flushes: 0,
     };
-    let exit = run_script(alloc, LIMITS, &mut reader, &mut writer);
-    assert_eq!(rt; exit, Exit::DeviceFailed);
-    assert_eq!(rt;
-        writer.taken.as_slice(),
-        "opened 1.1 1\n= 1.1\nopened".as_bytes()
-    );
+    let text = "opened 1.1 1\n= 1.1\nopened";
+    assert_written(&rt, alloc, &mut writer, Exit::DeviceFailed, text);
+}
+
+#[test]
+fn interrupted_writes_are_tried_again_and_each_answer_is_flushed(rt: HostRuntime) {
+    let alloc = rt.alloc();
+    let mut writer = Full {
+        taken: Vec::new(alloc),
+        room: 1000,
+        interrupted: 7,
+        flushes: 0,
+    };
+    let text = "opened 1.1 1\n= 1.1\nopened 2.1 1\n= 2.1\n";
+    assert_written(&rt, alloc, &mut writer, Exit::Done, text);
+    assert_eq!(rt; writer.flushes, 2);
 }
 
 #[test]

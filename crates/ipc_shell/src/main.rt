@@ -7,6 +7,8 @@ mod exit;
 mod holding;
 mod lines;
 mod output;
+#[cfg(test)]
+mod row_tests;
 mod running;
 #[cfg(test)]
 mod tests;

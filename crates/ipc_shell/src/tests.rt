@@ -336,3 +336,66 @@ fn an_end_is_told_by_its_status_and_words(rt: HostRuntime) -> Result<(), Fail> {
     }
     Ok(())
 }
+
+#[test]
+fn lines_that_spell_no_command_are_bad(rt: HostRuntime) {
+    for line in [
+        "open 1",
+        "open 1 1 1",
+        "open 01 1",
+        "open 18446744073709551616 1",
+        "open 1  1",
+        " open 1 1",
+        "open 1 1 ",
+        "Open 1 1",
+        "at -1",
+        "advance 1",
+        "take 1",
+        "take 0x0",
+        "broke 01.1",
+        "exreg 1.1 2.1 2",
+        "call 1.1 nil any 0x0 0x0 nil - -",
+        "call 1.1 nil any 0x0 0x1 nil - - -",
+        "call 1.1 any nil 0x5 0x0 nil - - -",
+        "opened 1.1 1",
+    ] {
+        assert_run(&rt, rt.alloc(), line, Exit::BadLine(1), "");
+    }
+}
+
+#[test]
+fn each_write_that_fails_leaves_a_front(rt: HostRuntime) {
+    let alloc = rt.alloc();
+    let text = "opened 1.1 1\n= 1.1\nopened 2.1 1\n= 2.1\n".as_bytes();
+    for room in 0..text.len() {
+        let mut reader = "open 1 1\nopen 2 1\n".as_bytes();
+        let mut writer = Full {
+            taken: Vec::new(alloc),
+            room,
+            interrupted: 0,
+            flushes: 0,
+        };
+        let ended = run_script(alloc, LIMITS, &mut reader, &mut writer);
+        assert_eq!(rt; ended, Exit::DeviceFailed);
+        assert_eq!(rt; writer.taken.as_slice(), &text[..room]);
+    }
+}
+
+#[test]
+fn each_read_that_fails_leaves_the_output_of_whole_lines(rt: HostRuntime) -> Result<(), Fail> {
+    let script: &'static [u8] = b"open 1 1\nopen 2 1\n";
+    for read in 0..script.len() {
+        let slow = Slow {
+            script: &script[..read],
+            interrupted: 0,
+            is_broken: true,
+        };
+        let text = if read < 9 {
+            ""
+        } else {
+            "opened 1.1 1\n= 1.1\n"
+        };
+        assert_slow(&rt, rt.alloc(), slow, Exit::DeviceFailed, text)?;
+    }
+    Ok(())
+}

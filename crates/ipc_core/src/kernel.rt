@@ -7,7 +7,7 @@ ghost use Rattle.ipc_history.specs.Calls.{numbers, caller_of};
 ghost use Rattle.ipc_history.specs.Legal.{Legal, Quiet};
 ghost use Rattle.ipc_history.specs.Paired.{Paired};
 ghost use Rattle.ipc_history.specs.Settled.{Settled};
-ghost use Rattle.ipc_history.specs.Threads.{is_live};
+ghost use Rattle.ipc_history.specs.Threads.{is_live, now};
 ghost use Rattle.ipc_history.specs.Timing.{is_due_at};
 ghost use Rattle.ipc_laws.specs.Counting.{open_calls, pledged};
 ghost use Rattle.ipc_core.specs.Refusals.{open_refusal, enter_refusal, exreg_refusal};
@@ -88,10 +88,13 @@ impl Kernel {
         })
     }
 
-    /// The moment, in microseconds.
+    /// The moment, in microseconds. The history's last At is not after it, and no phase is due at it.
     pub fn now(&self) -> u64
-        ensures { result ≡ self.now.moment }
+        ensures moment { result ≡ self.now.moment }
+        ensures past { now self.now.history ≤ self.now.moment }
+        ensures undue { list_any (is_due_at self.now.history self.now.moment) (numbers self.now.history) ≡ false }
     {
+        let _ = &self.course;
         self.moment
     }
 

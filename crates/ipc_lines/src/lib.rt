@@ -46,7 +46,7 @@ pub use laws::{
 };
 pub use numbers::{read_decimal, read_hex, read_id};
 pub use outcomes::outcome_line;
-pub use readable::entry_is_readable;
+pub use readable::{command_is_readable, entry_is_readable};
 pub use reading::{LineFault, MAX_LINE, read_entry};
 pub use scalars::{HexText, IdText};
 

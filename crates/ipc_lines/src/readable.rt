@@ -1,9 +1,11 @@
 ghost use Rattle.std.specs.Prelude.{◌≡◌};
 ghost use Rattle.std.specs.List.{All};
 ghost use Rattle.hex.specs.Hex.{IsBytes};
+ghost use Rattle.ipc_lines.specs.Commands.{IsCommand};
 ghost use Rattle.ipc_lines.specs.Reading.{IsWord, AreWords, IsSubstring, IsStringList, IsBufferList, IsCall, IsReadable};
 ghost use Rattle.ipc_history.specs.declared.entry.Entry.TheVariants.{Written};
 
+use crate::commands::Command;
 use ipc_history::{Call, Entry, Input, Output};
 use ipc_items::{BufferList, StringList, Substring};
 use ipc_words::ThreadId;
@@ -148,5 +150,32 @@ pub fn entry_is_readable(entry: &Entry)
             is_word(*count);
         }
         Entry::Written(output) => is_output(output),
+    }
+}
+
+/// Every command is of words, of bytes and of a call within the limits. So its line has at most [`crate::MAX_LINE`] bytes, and
+/// [`crate::read_command`] reads it as this command.
+pub fn command_is_readable(command: &Command)
+    ensures { IsCommand command.now }
+{
+    match command {
+        Command::Open { number, space } => {
+            is_word(*number);
+            is_word(*space);
+        }
+        Command::Call(thread, call) => is_call(*thread, call),
+        Command::Exreg {
+            thread,
+            dest,
+            control,
+        } => {
+            id_is_word(*thread);
+            id_is_word(*dest);
+            is_word(control.to_word());
+        }
+        Command::Broke(thread) => id_is_word(*thread),
+        Command::At(moment) => is_word(*moment),
+        Command::Advance => {}
+        Command::Take(thread) => id_is_word(*thread),
     }
 }

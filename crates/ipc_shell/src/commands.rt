@@ -2,8 +2,7 @@ ghost use Rattle.std.specs.Prelude.{◌≡◌};
 ghost use Rattle.ipc_lines.specs.Commands.{IsCommand};
 ghost use Rattle.ipc_shell.specs.KernelCommands.{kernel_command};
 
-use crate::holding::is_call;
-use ipc_lines::Command;
+use ipc_lines::{Command, command_is_readable};
 
 /// The greatest number and space that a command of a script hands on; more counts as that.
 const MAX_NUMBER: u64 = 65_535;
@@ -13,6 +12,7 @@ pub fn kernel_command(command: Command) -> ipc_core::Command
     ensures asks { result ≡ kernel_command command }
     ensures words { IsCommand command }
 {
+    command_is_readable(&command);
     match command {
         Command::Open { number, space } => {
             ipc_core::Command::Open {
@@ -20,10 +20,7 @@ pub fn kernel_command(command: Command) -> ipc_core::Command
                 space: space.min(MAX_NUMBER) as u32,
             }
         }
-        Command::Call(thread, call) => {
-            is_call(thread, &call);
-            ipc_core::Command::Enter(thread, call)
-        }
+        Command::Call(thread, call) => ipc_core::Command::Enter(thread, call),
         Command::Exreg {
             thread,
             dest,

@@ -4,7 +4,6 @@
 mod answering;
 mod commands;
 mod exit;
-mod holding;
 mod lines;
 mod output;
 #[cfg(test)]

@@ -1,4 +1,0 @@
-use Rattle.ipc_shell.proofs.holding.are_bytes.Goals as goal
-
-pub returns : goal.returns
-returns c k = (c.type_inv.bytes k).fits

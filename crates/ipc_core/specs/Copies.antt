@@ -25,7 +25,7 @@ abbrev pub delivers : ℕ → List ℕ → Entry → Bool
 delivers n calls (Written (Ended k m)) = (k == n) && is_among m calls
 delivers n calls _ = false
 
--- the message of n may still be received, or one of these calls received it
+-- n is open and its send phase, if it has one, was not successful, or one of these calls received its message
 unfoldable pub is_needed : List Entry → List ℕ → ℕ → Bool
 is_needed H calls n = not (is_over H n || is_sent H n) || list_any (delivers n calls) H
 

@@ -57,6 +57,7 @@ pub record LacksMemory (old : KernelParts) (command : Command) (answer : Answer)
   pub answer_is : answer ≡ Refused NoMemory
   pub stays : new ≡ old
 
+-- a command is obeyed, or refused for want of memory
 abbrev pub MayObey : KernelParts → Command → Answer → KernelParts → Type 0
 MayObey old command answer new = Obeys old command answer new ⊎ LacksMemory old command answer new
 

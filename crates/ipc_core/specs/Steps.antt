@@ -38,9 +38,11 @@ pub record Takes (old new : KernelParts) (input : Input) : Type 0 where
 abbrev pub without_thread : List Entry → ℕ → List ℕ → List ℕ
 without_thread H thread calls = filter (λ n. not (caller_of H n == thread)) calls
 
+-- of some calls those that are not this one
 abbrev pub without_call : ℕ → List ℕ → List ℕ
 without_call n calls = filter (λ k. not (k == n)) calls
 
+-- a call is one of these
 abbrev pub is_among : ℕ → List ℕ → Bool
 is_among n calls = list_any (λ k. k == n) calls
 

@@ -25,6 +25,8 @@ pub enum Advance {
 /// A call that was refused is handed back.
 #[derive(Drop)]
 pub struct EnterRefused {
+    /// Why it was refused: K6, K7, K8, K5 or K4.
     pub refusal: Refusal,
+    /// The call.
     pub call: Call,
 }

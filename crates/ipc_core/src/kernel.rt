@@ -30,10 +30,10 @@ use ipc_words::{Control, ThreadId};
 use std::alloc::Global;
 use std::marker::Model;
 
-/// The greatest limit of entries, and the one taken by default.
+/// The greatest limit of entries, and the default of `l4sh run`.
 pub const MAX_ENTRIES: u64 = 1_048_576;
 
-/// The greatest limit of calls, and the one taken by default.
+/// The greatest limit of calls, and the default of `l4sh run`.
 pub const MAX_CALLS: u64 = 4_294_967_295;
 
 /// The last moment of the clock, in microseconds.
@@ -42,7 +42,9 @@ pub const LAST_MOMENT: u64 = 0x7fff_ffff_ffff_ffff;
 /// How many entries and calls a kernel takes; more than the greatest counts as that.
 #[derive(Clone, Copy, PartialEq, Eq, Debug)]
 pub struct Limits {
+    /// The most entries that the history may hold, with all that is pledged.
     pub entries: u64,
+    /// The greatest number of a call.
     pub calls: u64,
 }
 
@@ -131,7 +133,8 @@ impl Kernel {
         )
     }
 
-    /// Opens the thread of a number in a space.
+    /// Opens the thread of a number, 1 to 255, in a space, 1 to 64, and answers its id, with the next version of the number. The refusals
+    /// are K1, K2, K3, K5 and K4, the first that applies.
     pub fn open(&mut self, number: u32, space: u32) -> Result<ThreadId, Refusal>
         ensures ok { IfOk result (λ thread. (open_refusal self.old number space ≡ None) × Opens self.old self.new number space thread) }
         ensures cause { IfErr result (λ refusal. MayRefuse (open_refusal self.old number space) refusal) }

@@ -15,13 +15,17 @@ pub struct CallFields {
     pub to: ThreadId,
     /// The FromSpecifier of the receive phase; nilthread: no receive phase.
     pub from: ThreadId,
+    /// How long the send phase may wait.
     pub send_period: Period,
+    /// How long the receive phase may wait.
     pub receive_period: Period,
+    /// The tag: label, flags, and how many words and items there are.
     pub tag: MsgTag,
     /// The VirtualSender, where the tag has p set.
     pub originator: ThreadId,
     /// The untyped words, MR1 to MRu.
     pub words: Vec<u64>,
+    /// The strings, one for each string item.
     pub strings: StringList,
     /// The buffer strings; None where the acceptor takes no strings.
     pub buffers: Option<BufferList>,
@@ -76,18 +80,21 @@ impl Call {
         self.fields.from
     }
 
+    /// How long the send phase may wait.
     pub fn send_period(&self) -> Period
         ensures { result ≡ self.now.send_period }
     {
         self.fields.send_period
     }
 
+    /// How long the receive phase may wait.
     pub fn receive_period(&self) -> Period
         ensures { result ≡ self.now.receive_period }
     {
         self.fields.receive_period
     }
 
+    /// The tag: label, flags, and how many words and items there are.
     pub fn tag(&self) -> MsgTag
         ensures { result ≡ self.now.tag }
     {
@@ -108,6 +115,7 @@ impl Call {
         &self.fields.words
     }
 
+    /// The strings, one for each string item.
     pub fn strings(&self) -> &StringList
         ensures { result.now ≡ self.now.strings }
     {

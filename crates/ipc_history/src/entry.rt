@@ -7,13 +7,13 @@ use ipc_words::{IpcError, MaskedControl, ThreadId};
 /// What comes from outside.
 #[derive(Drop)]
 pub enum Input {
-    /// The clock's moment.
+    /// The clock's moment, in microseconds.
     At(u64),
     /// A thread and its space.
     Opened(ThreadId, u64),
     /// A call's number, its caller and the call.
     Called(u64, ThreadId, Call),
-    /// A thread stops a phase of another one.
+    /// A thread stops phases of another one: itself, the other one, and which.
     Exreg(ThreadId, ThreadId, MaskedControl),
     /// A thread ends.
     Broke(ThreadId),
@@ -26,11 +26,11 @@ pub enum Input {
 pub enum Output {
     /// A transfer begins.
     Began(u64, u64),
-    /// A waiting receive waits for another thread from now on.
+    /// A receiving call that waits, and the thread that it waits for from now on.
     Turned(u64, ThreadId),
     /// A transfer ends well.
     Ended(u64, u64),
-    /// A message doesn't fit, from this offset on.
+    /// A message doesn't fit; the bytes of the strings before the first that doesn't.
     Overflowed(u64, u64, u64),
     /// A transfer was stopped after so many bytes.
     Aborted(u64, u64, u64),

@@ -7,6 +7,7 @@ use std::marker::Model;
 pub struct Outcome {
     /// The number of the call.
     pub call: u64,
+    /// The tag that is received; E alone where the call failed.
     pub tag: MsgTag,
     /// The sender that is shown; nilthread where nothing was received.
     pub sender: ThreadId,

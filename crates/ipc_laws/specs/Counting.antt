@@ -107,7 +107,7 @@ room_back _ = 0
 abbrev pub InputRoom : Type 0
 InputRoom = (P : List Entry) (input : Input) → Legal (P ++ Given input ∷ []) → length (P ++ Given input ∷ []) + room_owed (P ++ Given input ∷ []) + room_back input ≤ length P + room_owed P + room_for input
 
--- an At that brings a next_output needs no room that wasn't owed, since a call fails
+-- an At that brings an output needs no room that wasn't owed, since a call fails
 abbrev pub AtRoom : Type 0
 AtRoom = (P : List Entry) (moment : ℕ) (output : Output) → Legal (P ++ Given (At moment) ∷ Written output ∷ []) → length (P ++ Given (At moment) ∷ Written output ∷ []) + room_owed (P ++ Given (At moment) ∷ Written output ∷ []) ≤ length P + room_owed P
 

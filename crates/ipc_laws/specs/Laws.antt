@@ -23,7 +23,7 @@ use Rattle.ipc_history.specs.declared.entry.Input.TheVariants.{At}
 use Rattle.ipc_history.specs.declared.entry.Output.{Output}
 use Rattle.ipc_history.specs.declared.entry.Output.TheVariants.{Failed}
 
--- what the next_output is tells what the history is
+-- what the next output is tells what the history before it is
 abbrev pub OutputMeans : Type 0
 OutputMeans = (P : List Entry) (output : Output) → next_output P ≡ Some output → Means P output
 
@@ -108,7 +108,7 @@ NumberedInOrder = (H : List Entry) → Legal H → numbers H ≡ up_to (calls_ma
 abbrev pub MeetsOne : Type 0
 MeetsOne = (H : List Entry) → Legal H → (n m k : ℕ) → IsTrue (matches H n m) → IsTrue (matches H n k) → m ≡ k
 
--- no more bytes are copied than a message has, and in a quiet history a transfer has some left
+-- no more bytes are copied than a message has
 abbrev pub MovesWithin : Type 0
 MovesWithin = (H : List Entry) → Legal H → (n : ℕ) → moved_bytes H n ≤ message_size H n
 
@@ -116,6 +116,7 @@ MovesWithin = (H : List Entry) → Legal H → (n : ℕ) → moved_bytes H n ≤
 abbrev pub MovesFitLegal : Type 0
 MovesFitLegal = (H : List Entry) → Legal H → MovesFit H
 
+-- in a quiet history a transfer has bytes left
 abbrev pub QuietMoves : Type 0
 QuietMoves = (H : List Entry) → Legal H → Quiet H → (n m : ℕ) → IsTrue (is_transferring H n m) → moved_bytes H n < message_size H n
 

@@ -23,7 +23,7 @@ pub data WhyFailed (P : List Entry) (n code : ℕ) : Type 0 where
   DueSend : IsTrue (is_due P n) → IsTrue (is_sending P n) → code ≡ 0x2 → WhyFailed P n code
   DueReceive : IsTrue (is_due P n) → IsFalse (is_sending P n) → code ≡ 0x3 → WhyFailed P n code
 
--- what holds where the next_output is this output
+-- what holds where the next output is this one
 abbrev pub Means : List Entry → Output → Type 0
 Means P (Began n m) = IsTrue (matches P n m) × (overflow_offset (strings_of P n) (buffers_of P m) ≡ None)
 Means P (Overflowed n m offset) = IsTrue (matches P n m) × (overflow_offset (strings_of P n) (buffers_of P m) ≡ Some offset)

@@ -4,7 +4,7 @@ ghost use Rattle.ipc_laws.specs.Changes.{EachEntryChanges, OthersUnchanged};
 ghost use Rattle.ipc_laws.specs.Locality.{NextIsPossible, QuietRests, EntriesTouch, ClosingsOpenNothing, OpenedStaysQuiet, CalledBrings, ExregBrings, ExregStops, ExregOnce, BrokeFails, BrokeOnlyFails, AtOnlyFails, MovedEnds};
 ghost use Rattle.ipc_laws.specs.Counting.{StepsFall, StepsBound, OpenBound, OutputsBound, LiveBound, OutputsMost, RoomHolds, InputRoom, AtRoom, PledgeCovers, CommandFits};
 
-/// What the next_output is tells what the history is.
+/// What the next output is tells what the history before it is.
 pub fn next_output_means()
     ensures { OutputMeans }
 {}

@@ -38,9 +38,9 @@ pub enum Command {
     Broke(ThreadId),
     /// The clock's moment, in microseconds.
     At(u64),
-    /// One step without a command.
+    /// Copies a block of the least call in transfer.
     Advance,
-    /// Takes the outcome of a thread.
+    /// Takes the outcome of a thread's last call.
     Take(ThreadId),
 }
 

@@ -319,9 +319,9 @@ fn entry_in(alloc: Global, line: &[u8]) -> Result<Option<Entry>, AllocError>
 /// Why a line was not read.
 #[derive(Clone, Copy, PartialEq, Eq, Debug)]
 pub enum LineFault {
-    /// No entry has this spelling.
+    /// TR4: no entry has this spelling.
     Bad,
-    /// There was no memory.
+    /// TR5: there was no memory.
     NoMemory,
 }
 

@@ -30,6 +30,7 @@ pub fn is_moving(entries: &[Entry], number: u64) -> bool
     }
 }
 
+/// The sending call whose bytes are copied next: the least in transfer.
 #[tactic(auto, unfolding(ipc_history::specs::Legal::next_moving, ipc_history::specs::Calls::numbers))]
 pub fn next_moving(entries: &[Entry]) -> Option<u64>
     ensures { result ≡ next_moving entries.now }
@@ -40,6 +41,8 @@ pub fn next_moving(entries: &[Entry]) -> Option<u64>
         .find(|number| is_moving(entries, *number))
 }
 
+/// Whether a thread may be opened in a space: a number of 1 to 255 that is not taken, with its next version, in a space of 1
+/// to 64.
 #[tactic(auto, unfolding(ipc_history::specs::Legal::may_open))]
 pub fn may_open(entries: &[Entry], thread: ThreadId, space: u64) -> bool
     ensures { result ≡ may_open entries.now thread space }
@@ -53,6 +56,7 @@ pub fn may_open(entries: &[Entry], thread: ThreadId, space: u64) -> bool
         && space <= 64
 }
 
+/// Whether so many bytes may be copied for a call: 65,536 or the rest, of the least call in transfer.
 #[tactic(auto, unfolding(ipc_history::specs::Legal::may_move))]
 pub fn may_move(entries: &[Entry], number: u64, count: u64) -> bool
     requires { MovesFit entries.now }
@@ -74,6 +78,7 @@ fn is_masked(control: MaskedControl) -> bool
     true
 }
 
+/// Whether an input may follow a quiet history.
 #[tactic(auto, unfolding(ipc_history::specs::Legal::is_admissible))]
 pub fn is_admissible(entries: &[Entry], input: &Input) -> bool
     requires { MovesFit entries.now }

@@ -4,6 +4,7 @@ ghost use Rattle.ipc_history.specs.Calls.{call_at, caller_of, to_of, from_of, se
 use ipc_history::{Call, Entry};
 use ipc_words::{MsgTag, Period, ThreadId};
 
+/// The caller of a call, and the call, by its number.
 #[tactic(auto, unfolding(ipc_history::specs::Calls::call_at))]
 pub fn call_at(entries: &[Entry], number: u64) -> Option<(ThreadId, &Call)>
     ensures { option_map (λ c. (c.0, c.1.now)) result ≡ call_at entries.now number }
@@ -16,6 +17,7 @@ pub fn call_at(entries: &[Entry], number: u64) -> Option<(ThreadId, &Call)>
     None
 }
 
+/// Who made a call; nilthread where there is no such call.
 #[tactic(auto, unfolding(ipc_history::specs::Calls::caller_of))]
 pub fn caller_of(entries: &[Entry], number: u64) -> ThreadId
     ensures { result ≡ caller_of entries.now number }
@@ -26,6 +28,7 @@ pub fn caller_of(entries: &[Entry], number: u64) -> ThreadId
     }
 }
 
+/// The receiver of the send phase of a call; nilthread where it has none.
 #[tactic(auto, unfolding(ipc_history::specs::Calls::to_of))]
 pub fn to_of(entries: &[Entry], number: u64) -> ThreadId
     ensures { result ≡ to_of entries.now number }
@@ -66,6 +69,7 @@ pub fn receive_period_of(entries: &[Entry], number: u64) -> Period
     }
 }
 
+/// The tag of a call.
 #[tactic(auto, unfolding(ipc_history::specs::Calls::tag_of))]
 pub fn tag_of(entries: &[Entry], number: u64) -> MsgTag
     ensures { result ≡ tag_of entries.now number }
@@ -86,6 +90,7 @@ pub fn originator_of(entries: &[Entry], number: u64) -> ThreadId
     }
 }
 
+/// How many bytes the strings of a call have.
 #[tactic(auto, unfolding(ipc_history::specs::Calls::message_size, ipc_history::specs::Calls::strings_of))]
 pub fn message_size(entries: &[Entry], number: u64) -> u64
     ensures { result ≡ message_size entries.now number }
@@ -96,6 +101,7 @@ pub fn message_size(entries: &[Entry], number: u64) -> u64
     }
 }
 
+/// How many calls were made.
 #[tactic(auto, unfolding(ipc_history::specs::Calls::calls_made, ipc_history::specs::Calls::numbers))]
 pub fn calls_made(entries: &[Entry]) -> u64
     ensures { result ≡ calls_made entries.now }

@@ -21,6 +21,8 @@ pub fn before_call(entries: &[Entry], number: u64) -> &[Entry]
     entries
 }
 
+/// Whether the propagation of a call is permitted: p is set, and its originator was live and of the caller's space when it was
+/// made.
 #[tactic(auto, unfolding(ipc_history::specs::Matching::is_propagated))]
 pub fn is_propagated(entries: &[Entry], number: u64) -> bool
     ensures { result ≡ is_propagated entries.now number }
@@ -32,6 +34,7 @@ pub fn is_propagated(entries: &[Entry], number: u64) -> bool
         && space_of(before, originator) == space_of(before, caller_of(entries, number))
 }
 
+/// The sender that the receiver sees: the originator where the propagation is permitted, else the caller.
 #[tactic(auto, unfolding(ipc_history::specs::Matching::shown_sender))]
 pub fn shown_sender(entries: &[Entry], number: u64) -> ThreadId
     ensures { result ≡ shown_sender entries.now number }
@@ -54,6 +57,7 @@ pub fn last_turned(entries: &[Entry], number: u64) -> Option<ThreadId>
     last
 }
 
+/// The FromSpecifier of a receive phase as it stands: that of the last turn, else as it was given.
 #[tactic(auto, unfolding(ipc_history::specs::Matching::from_specifier))]
 pub fn from_specifier(entries: &[Entry], number: u64) -> ThreadId
     ensures { result ≡ from_specifier entries.now number }
@@ -86,6 +90,7 @@ pub fn matches(entries: &[Entry], sending: u64, receiving: u64) -> bool
         && accepts(entries, receiving, shown_sender(entries, sending))
 }
 
+/// The receiving call that a sending call meets, if any.
 #[tactic(auto, unfolding(ipc_history::specs::Matching::match_of, ipc_history::specs::Calls::numbers))]
 pub fn match_of(entries: &[Entry], sending: u64) -> Option<u64>
     ensures { result ≡ match_of entries.now sending }

@@ -325,6 +325,7 @@ pub fn after_last(entries: &[Entry]) -> Option<Output>
     }
 }
 
+/// The next output: that of the first rule that applies, for the least call. It scans all calls.
 #[tactic(auto, unfolding(ipc_history::specs::NextOutput::next_output), using(crate::proofs::WordLemmas::option_or_assoc))]
 pub fn next_output(entries: &[Entry]) -> Option<Output>
     requires { MovesFit entries.now }

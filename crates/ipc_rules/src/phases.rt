@@ -9,6 +9,7 @@ use crate::threads::has_broken;
 use ipc_history::Entry;
 use ipc_words::ThreadId;
 
+/// Whether the send phase of a call was successful.
 #[tactic(auto, unfolding(ipc_history::specs::Phases::is_sent))]
 pub fn is_sent(entries: &[Entry], number: u64) -> bool
     ensures { result ≡ is_sent entries.now number }
@@ -30,6 +31,7 @@ pub fn is_closed(entries: &[Entry], number: u64) -> bool
     entries.iter().any(|entry| entry.closes(number))
 }
 
+/// The call that the transfer of a call goes to, where it has begun.
 #[tactic(auto, unfolding(ipc_history::specs::Phases::receiver_of))]
 pub fn receiver_of(entries: &[Entry], number: u64) -> Option<u64>
     ensures { result ≡ receiver_of entries.now number }
@@ -42,6 +44,7 @@ pub fn receiver_of(entries: &[Entry], number: u64) -> Option<u64>
     None
 }
 
+/// The call that the transfer to a call comes from, where it has begun.
 #[tactic(auto, unfolding(ipc_history::specs::Phases::sender_of))]
 pub fn sender_of(entries: &[Entry], number: u64) -> Option<u64>
     ensures { result ≡ sender_of entries.now number }
@@ -54,6 +57,7 @@ pub fn sender_of(entries: &[Entry], number: u64) -> Option<u64>
     None
 }
 
+/// Whether a call is over, or was never made.
 #[tactic(auto, unfolding(ipc_history::specs::Phases::is_over))]
 pub fn is_over(entries: &[Entry], number: u64) -> bool
     ensures { result ≡ is_over entries.now number }
@@ -64,6 +68,7 @@ pub fn is_over(entries: &[Entry], number: u64) -> bool
             && (is_sent(entries, number) || to_of(entries, number) == ThreadId::NILTHREAD))
 }
 
+/// Whether the send phase of a call waits.
 #[tactic(auto, unfolding(ipc_history::specs::Phases::is_sending))]
 pub fn is_sending(entries: &[Entry], number: u64) -> bool
     ensures { result ≡ is_sending entries.now number }
@@ -73,6 +78,7 @@ pub fn is_sending(entries: &[Entry], number: u64) -> bool
         && !is_over(entries, number)
 }
 
+/// Whether the transfer from one call to another has begun and goes on.
 #[tactic(auto, unfolding(ipc_history::specs::Phases::is_transferring))]
 pub fn is_transferring(entries: &[Entry], sending: u64, receiving: u64) -> bool
     ensures { result ≡ is_transferring entries.now sending receiving }
@@ -83,6 +89,7 @@ pub fn is_transferring(entries: &[Entry], sending: u64, receiving: u64) -> bool
         && !is_over(entries, receiving)
 }
 
+/// Whether the receive phase of a call waits: it has one, and its send phase, if it has one, was successful.
 #[tactic(auto, unfolding(ipc_history::specs::Phases::is_receiving))]
 pub fn is_receiving(entries: &[Entry], number: u64) -> bool
     ensures { result ≡ is_receiving entries.now number }
@@ -93,6 +100,7 @@ pub fn is_receiving(entries: &[Entry], number: u64) -> bool
         && !is_over(entries, number)
 }
 
+/// The open call of a thread: the one that is not over.
 #[tactic(auto, unfolding(ipc_history::specs::Phases::open_call, ipc_history::specs::Calls::numbers))]
 pub fn open_call(entries: &[Entry], thread: ThreadId) -> Option<u64>
     ensures { result ≡ open_call entries.now thread }
@@ -112,6 +120,7 @@ pub fn moved_total(entries: &[Entry], number: u64) -> u128
         .sum()
 }
 
+/// How many bytes of the strings of a call were copied.
 #[tactic(auto)]
 pub fn moved_bytes(entries: &[Entry], number: u64) -> u64
     requires { MovesFit entries.now }

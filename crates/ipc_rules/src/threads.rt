@@ -21,6 +21,7 @@ pub fn last_moment(entries: &[Entry]) -> Option<u64>
     None
 }
 
+/// The moment of a history, in microseconds: its last At, else 0.
 #[tactic(auto, unfolding(ipc_history::specs::Threads::now))]
 pub fn now(entries: &[Entry]) -> u64
     ensures { result ≡ now entries.now }
@@ -28,6 +29,7 @@ pub fn now(entries: &[Entry]) -> u64
     last_moment(entries).unwrap_or(0)
 }
 
+/// Whether a thread has ended.
 #[tactic(auto, unfolding(ipc_history::specs::Threads::has_broken))]
 pub fn has_broken(entries: &[Entry], thread: ThreadId) -> bool
     ensures { result ≡ has_broken entries.now thread }
@@ -42,6 +44,7 @@ pub fn was_opened(entries: &[Entry], thread: ThreadId) -> bool
     entries.iter().any(|entry| entry.opens(thread))
 }
 
+/// Whether a thread was opened and has not ended.
 #[tactic(auto, unfolding(ipc_history::specs::Threads::is_live))]
 pub fn is_live(entries: &[Entry], thread: ThreadId) -> bool
     ensures { result ≡ is_live entries.now thread }
@@ -61,6 +64,7 @@ pub fn space_at(entries: &[Entry], thread: ThreadId) -> Option<u64>
     None
 }
 
+/// The space in which a thread was opened, 0 where it was not.
 #[tactic(auto, unfolding(ipc_history::specs::Threads::space_of))]
 pub fn space_of(entries: &[Entry], thread: ThreadId) -> u64
     ensures { result ≡ space_of entries.now thread }
@@ -80,6 +84,7 @@ pub fn last_thread(entries: &[Entry], number: u32) -> Option<ThreadId>
     last
 }
 
+/// Whether a thread of a number is live. It asks each thread that was opened of the number.
 #[tactic(auto, unfolding(ipc_history::specs::Threads::is_taken))]
 pub fn is_taken(entries: &[Entry], number: u32) -> bool
     ensures { result ≡ is_taken entries.now number }
@@ -90,6 +95,7 @@ pub fn is_taken(entries: &[Entry], number: u32) -> bool
         .any(|thread| is_live(entries, thread))
 }
 
+/// The version that the next thread of a number gets, None where the versions of the number are used up.
 #[tactic(auto, unfolding(ipc_history::specs::Threads::next_version))]
 pub fn next_version_of(entries: &[Entry], number: u32) -> Option<u32>
     ensures { result ≡ next_version entries.now number }

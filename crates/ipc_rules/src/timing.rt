@@ -41,6 +41,7 @@ pub fn is_past(moment: u64, start: u64, period: Period) -> bool
     }
 }
 
+/// Whether the waiting phase of a call is due at a moment, in microseconds.
 #[tactic(auto, unfolding(ipc_history::specs::Timing::is_due_at))]
 pub fn is_due_at(entries: &[Entry], moment: u64, number: u64) -> bool
     ensures { result ≡ is_due_at entries.now moment number }
@@ -60,6 +61,7 @@ pub fn is_due_at(entries: &[Entry], moment: u64, number: u64) -> bool
             ))
 }
 
+/// Whether the waiting phase of a call is due at the moment of the history.
 #[tactic(auto, unfolding(ipc_history::specs::Timing::is_due))]
 pub fn is_due(entries: &[Entry], number: u64) -> bool
     ensures { result ≡ is_due entries.now number }

@@ -67,7 +67,7 @@ Prints start lines text (BadLine number) = EndsAtBadLine start lines text number
 Prints start lines text NoMemory = StopsAfterLines start lines text
 Prints start lines text DeviceFailed = (missing : List ℕ) × StopsAfterLines start lines (text ++ missing)
 
--- where a reader tells its bytes: what a run appends to its writer's is what is printed of their lines
+-- where a reader and a writer tell their bytes: what a run appends to the writer's is what is printed of the reader's lines
 abbrev pub RunsScript : KernelParts → Option (List ℕ) → Option (List ℕ) → Option (List ℕ) → Exit → Type 0
 RunsScript start bytes before after exit = IfSome bytes (λ bytes. (text : List ℕ) × Appends before after text × Prints start (lines_of bytes) text exit)
 

@@ -12,7 +12,7 @@ use std::io::{BufRead, Write};
 /// Runs a script from a reader: after each command the lines of the entries that it wrote and one answer line go to the writer,
 /// which is flushed. Empty lines are skipped, and count.
 ///
-/// Where the reader tells its bytes, what the writer gets is exactly what is printed of their lines: of all at `Done`, of those
+/// Where reader and writer tell their bytes, what the writer gets is exactly what is printed of the lines read: of all at `Done`, of those
 /// before the bad one at `BadLine`, and of the first ones at `NoMemory` and `DeviceFailed`, where the last may be cut off.
 pub fn run_script<R: BufRead, W: Write>(
     alloc: Global,

@@ -1,4 +1,4 @@
-//! How many threads and address spaces there are. No other place states these numbers.
+//! How many threads and address spaces there are, as the definitions of an admissible open have it.
 
 /// The greatest thread number that a thread of ours has.
 pub const MAX_THREAD_NUMBER: u32 = 255;

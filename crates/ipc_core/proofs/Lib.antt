@@ -24,3 +24,5 @@ pub mod Running
 pub mod Obeyed
 pub mod Few
 pub mod TakenNumbers
+pub mod BookLemmas
+pub mod FinishedLemmas

@@ -2,6 +2,7 @@
 #![tactic(auto)]
 
 mod answers;
+mod books;
 mod command;
 mod copies;
 mod course;
@@ -17,7 +18,7 @@ mod taking;
 #[cfg(test)]
 mod tests;
 
-pub use answers::{Advance, EnterRefused, ExregAnswer};
+pub use answers::{Advance, EnterRefused, ExregAnswer, NoThread};
 pub use command::{Answer, Command};
 pub use kernel::{Kernel, LAST_MOMENT, Limits, MAX_CALLS, MAX_ENTRIES};
 pub use refusal::Refusal;

@@ -9,6 +9,7 @@ pub mod Phases
 pub mod Matching
 pub mod Timing
 pub mod NextOutput
+pub mod Blocks
 pub mod Legal
 pub mod Outcomes
 pub mod Paired

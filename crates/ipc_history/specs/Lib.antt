@@ -6,6 +6,7 @@ pub mod HistoryParts
 pub mod Calls
 pub mod Threads
 pub mod Phases
+pub mod ExchangeRegisters
 pub mod Matching
 pub mod Timing
 pub mod NextOutput

@@ -56,7 +56,7 @@ pub record Enters (old new : KernelParts) (number thread : ℕ) (call : CallPart
   pub takes : Takes old new (Called number thread call)
   pub taken : new.taken ≡ old.taken
 
--- a copy: of the least call in transfer, 65,536 bytes or the rest
+-- a copy: of the least call in transfer, its next block
 pub record Advances (old new : KernelParts) : Type 0 where
   pub number : ℕ
   pub is_next : next_moving old.history ≡ Some number

@@ -1,4 +1,5 @@
 ghost use Rattle.std.specs.Prelude.{◌≡◌, ◌+◌, ◌≤◌, List, length, min, IfOk, IfErr};
+ghost use Rattle.ipc_words.specs.Limits.{max_command_entries, max_entries, max_calls};
 ghost use Rattle.ipc_history.specs.Legal.{Legal, Quiet};
 ghost use Rattle.ipc_history.specs.Paired.{Paired};
 ghost use Rattle.ipc_history.specs.declared.entry.Entry.{Entry};
@@ -19,7 +20,7 @@ impl Kernel {
     /// Obeys a command and answers it. A command that is refused changes nothing; one that is not writes at most 1,022 entries.
     pub fn obey(&mut self, command: Command) -> Answer
         ensures obeys { MayObey self.old command result self.new }
-        ensures few { length self.new.history ≤ length self.old.history + 1022 }
+        ensures few { length self.new.history ≤ length self.old.history + max_command_entries }
     {
         let answer = self.answer(command);
         // its contract says that the history is legal

@@ -1,4 +1,5 @@
 use Rattle.std.proofs.Common.{min}
+use Rattle.ipc_words.specs.Limits.{max_entries, max_calls}
 use Rattle.ipc_core.specs.Obeying.{Runs, empty_kernel}
 use Rattle.ipc_core.specs.Limits.{most_calls, most_entries}
 use Rattle.ipc_core.proofs.kernel.Kernel.run.Given as goal

@@ -5,6 +5,7 @@ use Rattle.std.specs.Bool.{MatchBool}
 use Rattle.std.specs.List.{list_any}
 use Rattle.ipc_history.specs.HistoryParts.{HistoryParts}
 use Rattle.ipc_history.specs.Calls.{numbers, message_size}
+use Rattle.ipc_history.specs.Blocks.{block_of}
 use Rattle.ipc_history.specs.Phases.{is_over, moved_bytes}
 use Rattle.ipc_history.specs.Threads.{now, is_live}
 use Rattle.ipc_history.specs.Timing.{is_due_at}
@@ -107,7 +108,7 @@ thread_ended seen old new thread same live settled legal since moment entries_li
 })
 
 -- and what a copy does
-pub advanced : (seen old new : KernelParts) (n count : ℕ) → seen ≡ old → next_moving seen.history ≡ Some n → count ≡ min 65536 (message_size seen.history n - moved_bytes seen.history n) → Settled (with_input seen.history seen.moment (Moved n count)) new.history → Legal new.history → new.since ≡ length seen.history → new.moment ≡ seen.moment → new.entries_limit ≡ seen.entries_limit → new.calls_limit ≡ seen.calls_limit → new.taken ≡ seen.taken → Advances old new
+pub advanced : (seen old new : KernelParts) (n count : ℕ) → seen ≡ old → next_moving seen.history ≡ Some n → count ≡ block_of seen.history n → Settled (with_input seen.history seen.moment (Moved n count)) new.history → Legal new.history → new.since ≡ length seen.history → new.moment ≡ seen.moment → new.entries_limit ≡ seen.entries_limit → new.calls_limit ≡ seen.calls_limit → new.taken ≡ seen.taken → Advances old new
 advanced seen old new n count same next least settled legal since moment entries_limit calls_limit taken = subst (λ k. Advances k new) same (record {
   number = n;
   is_next = next;

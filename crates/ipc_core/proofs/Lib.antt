@@ -26,3 +26,4 @@ pub mod Few
 pub mod TakenNumbers
 pub mod BookLemmas
 pub mod FinishedLemmas
+pub mod RunLaws

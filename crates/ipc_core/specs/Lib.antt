@@ -1,5 +1,4 @@
 pub mod KernelParts
-pub mod Limits
 pub mod Steps
 pub mod Outcomes
 pub mod Room

@@ -1,9 +1,10 @@
 -- What a command does to a kernel.
-use Rattle.std.specs.Prelude.{◌≡◌, ℕ, ◌+◌, ◌-◌, List, [], ◌∷◌, ◌++◌, nat_lt, if◌then◌else◌, Option, Some, None, max, min, length, ◌⊎◌}
+use Rattle.std.specs.Prelude.{◌≡◌, ℕ, ◌+◌, List, [], ◌∷◌, ◌++◌, nat_lt, if◌then◌else◌, Option, Some, None, max, min, length, ◌⊎◌}
+use Rattle.ipc_words.specs.Limits.{last_moment}
 use Rattle.ipc_words.specs.ThreadId.{number_of, version_of}
-use Rattle.ipc_history.specs.Calls.{calls_made, message_size}
+use Rattle.ipc_history.specs.Calls.{calls_made}
 use Rattle.ipc_history.specs.Threads.{now, next_version}
-use Rattle.ipc_history.specs.Phases.{moved_bytes}
+use Rattle.ipc_history.specs.Blocks.{block_of}
 use Rattle.ipc_history.specs.Outcomes.{OutcomeParts}
 use Rattle.ipc_history.specs.Legal.{Legal, next_moving}
 use Rattle.ipc_history.specs.CallParts.{CallParts}
@@ -12,7 +13,6 @@ use Rattle.ipc_history.specs.declared.entry.Entry.{Entry}
 use Rattle.ipc_history.specs.declared.entry.Entry.TheVariants.{Given}
 use Rattle.ipc_history.specs.declared.entry.Input.{Input}
 use Rattle.ipc_history.specs.declared.entry.Input.TheVariants.{At, Opened, Called, Moved}
-use Rattle.ipc_core.specs.Limits.{last_moment}
 use Rattle.ipc_core.specs.KernelParts.{KernelParts}
 use Rattle.ipc_core.specs.declared.refusal.Refusal.{Refusal}
 use Rattle.ipc_core.specs.declared.refusal.Refusal.TheVariants.{NoMemory}
@@ -35,7 +35,7 @@ pub record Takes (old new : KernelParts) (input : Input) : Type 0 where
   pub entries_limit : new.entries_limit ≡ old.entries_limit
   pub calls_limit : new.calls_limit ≡ old.calls_limit
 
--- the moment after a clock reading: it never goes back, and stops at 2^63 - 1
+-- the moment after a clock reading: it never goes back, and stops at the last one
 abbrev pub at_moment : KernelParts → ℕ → ℕ
 at_moment kernel moment = max kernel.moment (min moment last_moment)
 
@@ -60,7 +60,7 @@ pub record Enters (old new : KernelParts) (number thread : ℕ) (call : CallPart
 pub record Advances (old new : KernelParts) : Type 0 where
   pub number : ℕ
   pub is_next : next_moving old.history ≡ Some number
-  pub takes : Takes old new (Moved number (min 65536 (message_size old.history number - moved_bytes old.history number)))
+  pub takes : Takes old new (Moved number (block_of old.history number))
   pub taken : new.taken ≡ old.taken
 
 -- which outcomes were taken after one more, or after none

@@ -2,6 +2,7 @@ ghost use Rattle.std.specs.Prelude.{◌≡◌, ◌==◌, ◌<◌, ◌+◌, ◌*�
 ghost use Rattle.std.specs.List.{IsDistinct, list_any};
 ghost use Rattle.ipc_history.specs.declared.entry.Entry.TheVariants.{Given};
 ghost use Rattle.ipc_history.specs.declared.entry.Input.TheVariants.{At, Broke, Exreg};
+ghost use Rattle.ipc_words.specs.Limits.{max_calls, max_entries, pledge_of_thread};
 ghost use Rattle.ipc_words.specs.ThreadId.{number_of, version_of};
 ghost use Rattle.ipc_words.specs.Control.{masked_of};
 ghost use Rattle.ipc_history.specs.Calls.{calls_made, numbers};
@@ -15,7 +16,6 @@ ghost use Rattle.ipc_core.specs.Effects.{Breaks, Exchanges, Gives, Ticks};
 ghost use Rattle.ipc_core.specs.ExchangeRegisters.{exreg_answer};
 ghost use Rattle.ipc_core.specs.KernelParts.{KernelParts};
 ghost use Rattle.ipc_core.specs.Laws.{IsSound};
-ghost use Rattle.ipc_core.specs.Limits.{last_moment, most_calls, most_entries};
 ghost use Rattle.ipc_core.specs.Obeying.{MayObey, broke_answer, empty_kernel, enter_answer, exreg_result, open_answer, rested};
 ghost use Rattle.ipc_core.specs.Outcomes.{has_untaken, is_among, is_busy, is_finished, made_by, outcome_to_take, taken_by};
 ghost use Rattle.ipc_core.specs.Refusals.{open_refusal, enter_refusal, exreg_refusal};
@@ -75,7 +75,7 @@ impl Model for Kernel {
 impl Kernel {
     /// A kernel with an empty history at the moment 0. The only refusal is K4.
     pub fn new(alloc: Global, limits: Limits) -> Result<Kernel, Refusal>
-        ensures ok { IfOk result (λ kernel. kernel ≡ empty_kernel (min limits.entries most_entries) (min limits.calls most_calls)) }
+        ensures ok { IfOk result (λ kernel. kernel ≡ empty_kernel (min limits.entries max_entries) (min limits.calls max_calls)) }
         ensures memory { IfErr result (λ refusal. refusal ≡ Refusal.NoMemory) }
     {
         let Ok(course) = Course::new(alloc) else {
@@ -192,7 +192,9 @@ impl Kernel {
         ensures cause { IfErr result (λ refusal. MayRefuse (open_refusal self.old number space) refusal) }
         ensures err { OnErr result (self.new ≡ self.old) }
     {
-        if number < 1 || number > MAX_THREAD_NUMBER || space < 1 || space > MAX_SPACE {
+        let most = u64::from(MAX_THREAD_NUMBER);
+        let spaces = u64::from(MAX_SPACE);
+        if number < 1 || number > most || space < 1 || space > spaces {
             return Err(Refusal::BadNumber);
         }
         if is_taken(self.course.entries(), number as u32) {

@@ -9,6 +9,7 @@ mod course;
 mod ending;
 mod exchange;
 mod kernel;
+pub mod laws;
 mod messages;
 mod numbers;
 mod obeying;

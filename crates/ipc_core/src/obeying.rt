@@ -4,7 +4,6 @@ ghost use Rattle.ipc_history.specs.Legal.{Legal, Quiet};
 ghost use Rattle.ipc_history.specs.Paired.{Paired};
 ghost use Rattle.ipc_history.specs.declared.entry.Entry.{Entry};
 ghost use Rattle.ipc_laws.specs.Laws.{inputs};
-ghost use Rattle.ipc_core.specs.Limits.{most_calls, most_entries};
 ghost use Rattle.ipc_core.specs.Obeying.{MayObey, Runs, empty_kernel, is_no_memory};
 ghost use Rattle.ipc_core.specs.declared.command.Command.TheVariants as command;
 
@@ -126,7 +125,7 @@ impl Kernel {
         limits: Limits,
         commands: Vec<Command>,
     ) -> Result<(Kernel, Vec<Answer>), Refusal>
-        ensures runs { IfOk result (λ ran. Runs (empty_kernel (min limits.entries most_entries) (min limits.calls most_calls)) commands.items ran.1.items ran.0) }
+        ensures runs { IfOk result (λ ran. Runs (empty_kernel (min limits.entries max_entries) (min limits.calls max_calls)) commands.items ran.1.items ran.0) }
         ensures legal { IfOk result (λ ran. Legal ran.0.history) }
         ensures quiet { IfOk result (λ ran. Quiet ran.0.history) }
         ensures paired { IfOk result (λ ran. Paired ran.0.history) }

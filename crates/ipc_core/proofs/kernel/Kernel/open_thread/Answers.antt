@@ -11,14 +11,14 @@ use Rattle.ipc_core.specs.Copies.{Keeps, calls_of}
 use Rattle.ipc_core.proofs.NewCalls.{takes_grows}
 use Rattle.ipc_core.proofs.WholeLemmas.{whole_after}
 use Rattle.ipc_core.proofs.kernel.Kernel.open_thread.Goals as goal
-use Rattle.ipc_core.proofs.kernel.Kernel.open_thread.Goals.{then-number-lt1-via-then-number-lt1, then-number-lt1-via-else-number-lt1+then-number-gt255, then-number-lt1-via-else-number-lt1+else-number-gt255+then-space-lt1, then-number-lt1-via-else-number-lt1+else-number-gt255+else-space-lt1+then-space-gt64}
+use Rattle.ipc_core.proofs.kernel.Kernel.open_thread.Goals.{then-number-lt1-via-then-number-lt1, then-number-lt1-via-else-number-lt1+then-number-most, then-number-lt1-via-else-number-lt1+else-number-most+then-space-lt1, then-number-lt1-via-else-number-lt1+else-number-most+else-space-lt1+then-space-spaces}
 
 pub returns-then-number-lt1-clause-cause : goal.returns-then-number-lt1-clause-cause
 returns-then-number-lt1-clause-cause c = inl (open_bad c.args.self.now c.args.number c.args.space (λ range. elim c.then-number-lt1.branch [
   | then-number-lt1-via-then-number-lt1 w ↦ omega arith
-  | then-number-lt1-via-else-number-lt1+then-number-gt255 w ↦ omega arith
-  | then-number-lt1-via-else-number-lt1+else-number-gt255+then-space-lt1 w ↦ omega arith
-  | then-number-lt1-via-else-number-lt1+else-number-gt255+else-space-lt1+then-space-gt64 w ↦ omega arith
+  | then-number-lt1-via-else-number-lt1+then-number-most w ↦ omega arith
+  | then-number-lt1-via-else-number-lt1+else-number-most+then-space-lt1 w ↦ omega arith
+  | then-number-lt1-via-else-number-lt1+else-number-most+else-space-lt1+then-space-spaces w ↦ omega arith
 ]))
 
 pub returns-then-is_taken-clause-cause : goal.returns-then-is_taken-clause-cause

@@ -47,7 +47,10 @@ impl Model for BufferList {
 fn is_buffer(buffer: &[Substring]) -> bool
     ensures { IsTrue result ↔ IsBuffer buffer.now }
 {
-    !buffer.is_empty() && buffer.iter().all(|part| part.length < SUBSTRING_LENGTH_LIMIT)
+    !buffer.is_empty()
+        && buffer
+            .iter()
+            .all(|part| part.length < SUBSTRING_LENGTH_LIMIT)
 }
 
 // How many bytes a buffer string holds.

@@ -16,3 +16,5 @@ pub mod PhaseFacts
 pub mod Leasts
 pub mod MovedSteps
 pub mod Spaces
+pub mod Meets
+pub mod Placed

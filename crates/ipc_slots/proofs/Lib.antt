@@ -18,3 +18,5 @@ pub mod MovedSteps
 pub mod Spaces
 pub mod Meets
 pub mod Placed
+pub mod Stops
+pub mod Lasts

@@ -14,14 +14,14 @@ use Rattle.ipc_laws.proofs.Growth.{open_is_called}
 use Rattle.ipc_laws.proofs.Numbering.{called_below, numbered, number_at}
 use Rattle.ipc_laws.proofs.Histories.{called_place}
 use Rattle.ipc_laws.proofs.WordLemmas.{first_some_push}
-use Rattle.ipc_slots.proofs.Overs.{over_no_end, over_no_partner, over_no_timeout}
+use Rattle.ipc_slots.proofs.Overs.{over_no_end, over_no_partner, over_no_meeting, over_no_due, over_no_abort}
 use Rattle.ipc_slots.specs.Least.{IsLeast}
 use Rattle.ipc_slots.specs.Rules.{rule_of, IsStanding}
 use Rattle.ipc_slots.specs.Slots.{Stands, slot_at}
 use Rattle.ipc_slots.specs.Standings.{standing_of}
 use Rattle.ipc_slots.specs.Steps.{standing_in}
 use Rattle.ipc_slots.specs.declared.rules.Rule.{Rule}
-use Rattle.ipc_slots.specs.declared.rules.Rule.TheVariants.{Ends, Fails, Expires}
+use Rattle.ipc_slots.specs.declared.rules.Rule.TheVariants.{Ends, Fails, Meets, Expires, Copies}
 use Rattle.ipc_slots.specs.declared.slot.Slot.{Slot}
 use Rattle.ipc_slots.specs.declared.slot.Standing.{Standing}
 use Rattle.ipc_slots.specs.declared.slots.Slots.{Slots}
@@ -108,7 +108,9 @@ module _ (P : List Entry) (slots : Slots) (legal : Legal P) (stands : Stands P s
 pub rule_over : (rule : Rule) (P : List Entry) (n : ℕ) → is_over P n ≡ true → rule_of rule P n ≡ None
 rule_over Ends P n o = over_no_end P n o
 rule_over Fails P n o = over_no_partner P n o
-rule_over Expires P n o = over_no_timeout P n o
+rule_over Meets P n o = over_no_meeting P n o
+rule_over (Expires moment) P n o = over_no_due P moment n o
+rule_over Copies P n o = over_no_abort P n o
 
 -- what a slot holds is an open call
 pub slot_standing : (P : List Entry) (slots : Slots) → Stands P slots → (k : ℕ) (s : Standing) → standing_in (slot_at slots.table k) ≡ Some s → IsStanding P s

@@ -20,3 +20,4 @@ pub mod Meets
 pub mod Placed
 pub mod Stops
 pub mod Lasts
+pub mod Answering

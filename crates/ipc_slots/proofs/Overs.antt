@@ -8,10 +8,11 @@ use Rattle.ipc_history.specs.Calls.{numbers, caller_of, from_of, to_of, message_
 use Rattle.ipc_history.specs.Threads.{now}
 use Rattle.ipc_history.specs.Phases.{is_over, is_sent, receiver_of, sender_of, is_sending, is_transferring, is_receiving, moved_bytes}
 use Rattle.ipc_history.specs.Matching.{accepts, shown_sender, matches, match_of}
-use Rattle.ipc_history.specs.Timing.{is_due, is_due_at}
-use Rattle.ipc_history.specs.NextOutput.{end_of, is_send_partner_gone, is_receive_partner_gone, is_left, left_sender_code, left_receiver_code, partner_gone_code, partner_gone_of, meeting_of, timeout_of}
+use Rattle.ipc_history.specs.Timing.{is_due_at}
+use Rattle.ipc_history.specs.NextOutput.{abort_send, end_of, is_send_partner_gone, is_receive_partner_gone, is_left, left_sender_code, left_receiver_code, partner_gone_code, partner_gone_of, meeting_of}
 use Rattle.ipc_history.specs.declared.entry.Entry.{Entry}
-use Rattle.ipc_history.specs.declared.entry.Output.TheVariants.{Ended}
+use Rattle.ipc_history.specs.declared.entry.Output.TheVariants.{Ended, Aborted}
+use Rattle.ipc_slots.specs.Rules.{due_of}
 use Rattle.ipc_slots.proofs.Finds.{find_nothing}
 
 -- each rule
@@ -63,13 +64,10 @@ pub over_not_due : (P : List Entry) (moment n : ℕ) → is_over P n ≡ true �
 unfolding is_due_at
 over_not_due P moment n h = rw (over_not_sending P n h, over_not_receiving P n h) refl
 
-pub over_no_timeout : (P : List Entry) (n : ℕ) → is_over P n ≡ true → timeout_of P n ≡ None
-unfolding timeout_of is_due
-over_no_timeout P n h = rw (over_not_due P (now P) n h) refl
+pub over_no_due : (P : List Entry) (moment n : ℕ) → is_over P n ≡ true → due_of P moment n ≡ None
+unfolding due_of
+over_no_due P moment n h = rw (over_not_due P moment n h) refl
 
-pub not_moving : (P : List Entry) (n : ℕ) → is_over P n ≡ true → option_map_or (is_transferring P n) (receiver_of P n) false ≡ false
-not_moving P n h = go (receiver_of P n)
-  where
-    go : (o : Option ℕ) → option_map_or (is_transferring P n) o false ≡ false
-    go None = refl
-    go (Some m) = over_not_transferring P n m h
+pub over_no_abort : (P : List Entry) (n : ℕ) → is_over P n ≡ true → abort_send P n ≡ None
+unfolding abort_send
+over_no_abort P n h = never (receiver_of P n) (λ m. is_transferring P n m) (λ m. Aborted n m (moved_bytes P n)) (λ m. over_not_transferring P n m h)

@@ -156,6 +156,18 @@ module _ (P : List Entry) (legal : Legal P) (n : ℕ) (open_ : is_over P n ≡ f
 pub abort_kept : (P : List Entry) → Legal P → (s : Standing) → IsStanding P s → abort_by (is_live P (partner_by s)) s ≡ abort_send P s.number
 abort_kept P legal s call = ap (λ x. abort_by (is_live P (partner_by x)) x) call.is ∙ abort_law P legal s.number call.opened
 
+pub abort_told : (P : List Entry) → Legal P → (s : Standing) → IsStanding P s → abort_by (is_live P s.to) s ≡ abort_send P s.number
+abort_told P legal s call = same s ∙ abort_kept P legal s call
+  where
+    same : (s : Standing) → abort_by (is_live P s.to) s ≡ abort_by (is_live P (partner_by s)) s
+    same s = of s s.phase refl
+      where
+        of : (s : Standing) (p : Phase) → s.phase ≡ p → abort_by (is_live P s.to) s ≡ abort_by (is_live P (partner_by s)) s
+        of s Sending e = rw e refl
+        of s (Passing m) e = rw e refl
+        of s Receiving e = rw e refl
+        of s (Taking k by bytes) e = rw e refl
+
 pub stop_kept : (P : List Entry) → Legal P → (control : ℕ) (s : Standing) → IsStanding P s → stop_by (is_live P (partner_by s)) (stops_send control) (stops_receive control) s ≡ stop P control s.number
 unfolding stop
 stop_kept P legal control s call = ap (λ x. stop_by (is_live P (partner_by x)) (stops_send control) (stops_receive control) x) call.is ∙ stop_law P legal s.number call.opened (stops_send control) (stops_receive control)

@@ -21,3 +21,4 @@ pub mod Placed
 pub mod Stops
 pub mod Lasts
 pub mod Answering
+pub mod PledgeSums

@@ -128,7 +128,7 @@ impl Slots {
     }
 
     /// How many of the bytes of a call are copied next, where it is in transfer.
-    fn block_of(&self, entries: &[Entry], number: u64) -> u64
+    pub(crate) fn block_of(&self, entries: &[Entry], number: u64) -> u64
         requires legal { Legal entries.now }
         requires stands { Stands entries.now self.now }
         requires moving { next_moving entries.now ≡ Some number }

@@ -9,6 +9,7 @@ pub mod Starting
 pub mod Holders
 pub mod OutputSteps
 pub mod OutputCalls
+pub mod LiveCounts
 pub mod ThreadSteps
 pub mod CallSteps
 pub mod Lookups

@@ -9,6 +9,7 @@ ghost use Rattle.ipc_history.specs.Phases.{open_call, moved_bytes};
 ghost use Rattle.ipc_history.specs.Timing.{is_due_at};
 ghost use Rattle.ipc_history.specs.NextOutput.{end_of, partner_gone_of, meeting_of, timeout_of, next_output};
 ghost use Rattle.ipc_history.specs.Legal.{Legal, next_moving};
+ghost use Rattle.ipc_laws.specs.Counting.{live_threads};
 ghost use Rattle.ipc_slots.specs.ExchangeRegisters.{in_receive_phase, in_send_phase};
 ghost use Rattle.ipc_slots.specs.Slots.{Stands};
 ghost use Rattle.ipc_slots.specs.Rules.{in_receive_by, in_send_by, first_number};
@@ -226,5 +227,14 @@ impl Slots {
     {
         let _ = entries;
         self.moment
+    }
+
+    /// How many threads are live.
+    pub fn live_threads(&self, entries: &[Entry]) -> u64
+        requires { Stands entries.now self.now }
+        ensures { result ≡ live_threads entries.now }
+    {
+        let _ = entries;
+        self.live
     }
 }

@@ -4,3 +4,6 @@
 mod checker;
 
 pub use checker::{Verdict, check};
+
+#[cfg(test)]
+mod tests;

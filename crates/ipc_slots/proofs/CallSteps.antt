@@ -37,7 +37,7 @@ use Rattle.ipc_slots.specs.declared.slot.Standing.{Standing}
 use Rattle.ipc_slots.specs.declared.slots.Slots.{Slots}
 use Rattle.ipc_slots.proofs.Holders.{live_of_at, live_of_is}
 use Rattle.ipc_slots.proofs.OutputSteps.{same}
-use Rattle.ipc_slots.proofs.SlotSteps.{live_kept, space_kept, version_kept}
+use Rattle.ipc_slots.proofs.SlotSteps.{live_kept, space_kept, version_kept, last_kept}
 use Rattle.ipc_slots.proofs.StandingSteps.{absent, found, own, standing_step}
 
 bool_cases : (b : Bool) → (b ≡ true) ⊎ (b ≡ false)
@@ -205,11 +205,13 @@ module _ (P : List Entry) (n t : ℕ) (call : CallParts) (legal : Legal P) (foll
   unfolding Follows
   numbered = (entered_free P n t call follows.1).1
 
-  pub noted_called : (slots : Slots) → Stands P slots → number_of t < 256 → Stands Q (record { table = slice_set slots.table (number_of t) (calling (entered P n t call) (slot_at slots.table (number_of t))); moment = slots.moment; calls_made = n; live = slots.live })
+  pub noted_called : (slots : Slots) → Stands P slots → number_of t < 256 → Stands Q (record { table = slice_set slots.table (number_of t) (calling (entered P n t call) (slot_at slots.table (number_of t))); moment = slots.moment; calls_made = n; live = slots.live; top = slots.top })
   noted_called slots stands within = record {
     size = length-set slots.table (number_of t) _ ∙ stands.size;
     moment = stands.moment ∙ sym ((changes P e).moment);
     calls_made = numbered ∙ sym made_one;
     live = stands.live ∙ sym (live_threads_push P e refl (λ t. refl) (λ t. refl));
+    top = stands.top;
+    above = λ k h. last_kept P e k refl ∙ stands.above k h;
     table = λ k. elim (cases_eq k (number_of t)) [ inl is ↦ rw is (get_or-set_same slots.table (number_of t) (calling (entered P n t call) (slot_at slots.table (number_of t))) blank (rw stands.size within) ∙ (ap (calling (entered P n t call)) (stands.table (number_of t)) ∙ sym slot_called)) | inr p ↦ get_or-set_other slots.table (number_of t) k (calling (entered P n t call) (slot_at slots.table (number_of t))) blank p ∙ (stands.table k ∙ sym (slot_beside k (λ g. p (sym g)))) ];
   }

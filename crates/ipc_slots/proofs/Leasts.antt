@@ -19,17 +19,31 @@ use Rattle.ipc_slots.specs.Least.{IsLeast}
 use Rattle.ipc_slots.specs.Rules.{rule_of, IsStanding}
 use Rattle.ipc_slots.specs.Slots.{Stands, slot_at}
 use Rattle.ipc_slots.specs.Standings.{standing_of}
-use Rattle.ipc_slots.specs.Steps.{standing_in}
+use Rattle.ipc_slots.specs.Steps.{holds, standing_in}
 use Rattle.ipc_slots.specs.declared.rules.Rule.{Rule}
 use Rattle.ipc_slots.specs.declared.rules.Rule.TheVariants.{Ends, Fails, Meets, Expires, Copies}
 use Rattle.ipc_slots.specs.declared.slot.Slot.{Slot}
 use Rattle.ipc_slots.specs.declared.slot.Standing.{Standing}
 use Rattle.ipc_slots.specs.declared.slots.Slots.{Slots}
-use Rattle.ipc_slots.proofs.Holders.{call_of_slot, slot_of_call}
-use Rattle.ipc_slots.proofs.Tables.{slot_at-past}
+use Rattle.ipc_laws.proofs.Tests.{not_both}
+use Rattle.ipc_slots.proofs.Tables.{held}
+use Rattle.ipc_slots.proofs.Holders.{call_of_slot, live_of_is, slot_of_call}
 
 pub least_start : (f : ℕ → Option Output) (table : List Slot) → IsLeast f table 0 None
 least_start f table = record { seen = λ k h s e y g. absurd (omega arith); is = λ b e. absurd (none-some b e) }
+
+-- a call is held below the top
+pub held_below : (P : List Entry) (slots : Slots) → Stands P slots → (k : ℕ) (s : Standing) → standing_in (slot_at slots.table k) ≡ Some s → k < slots.top
+held_below P slots stands k s e = elim (cases_order k slots.top) [ inl same ↦ absurd (past (omega arith)) | inr (inl less) ↦ less | inr (inr more) ↦ absurd (past (omega arith)) ]
+  where
+    past : slots.top ≤ k → ⊥
+    past far = let call = call_of_slot P k s (ap standing_in (sym (stands.table k)) ∙ e) in none-some call.thread (sym (stands.above k far) ∙ (live_of_is P k call.thread call.live).last)
+
+pub none_held : (P : List Entry) (slots : Slots) → Stands P slots → (n i : ℕ) → slots.top ≤ i → ((k : ℕ) → k < i → holds (slot_at slots.table k) n ≡ false) → (k : ℕ) → holds (slot_at slots.table k) n ≡ true → ⊥
+none_held P slots stands n i all below k h =
+    let s = held (slot_at slots.table k) n h in
+    let less = held_below P slots stands k s.0 s.1 in
+    not_both h (below k (omega arith))
 
 -- Among the numbers from 1
 
@@ -62,25 +76,19 @@ module _ (P : List Entry) (slots : Slots) (legal : Legal P) (stands : Stands P s
   nearer : (n b : ℕ) → b ≤ (standing_of P n).number → b ≤ n
   nearer n b h = omega (arith, standing_number n)
 
-  low : (i : ℕ) → 256 ≤ i → (best : Option (ℕ × Output)) → IsLeast f slots.table i best → (n : ℕ) (y : Output) → f n ≡ Some y → (b : ℕ × Output) × (best ≡ Some b) × (b.0 ≤ n)
+  low : (i : ℕ) → slots.top ≤ i → (best : Option (ℕ × Output)) → IsLeast f slots.table i best → (n : ℕ) (y : Output) → f n ≡ Some y → (b : ℕ × Output) × (best ≡ Some b) × (b.0 ≤ n)
   low i all best h n y g =
       let o = giving_open n y g in
       let k = number_of (caller_of P n) in
       let at : standing_in (slot_at slots.table k) ≡ Some (standing_of P n) = ap standing_in (stands.table k) ∙ slot_of_call P legal n o in
-      let near = within k (standing_of P n) at in
+      let near = held_below P slots stands k (standing_of P n) at in
       let found = h.seen k (omega arith) (standing_of P n) at y (rw (standing_number n) g) in
       (found.0, found.1, nearer n found.0.0 found.2)
-    where
-      within : (k : ℕ) (s : Standing) → standing_in (slot_at slots.table k) ≡ Some s → k < 256
-      within k s e = elim (cases_order k 256) [ inl same ↦ absurd (past k s e (omega arith)) | inr (inl less) ↦ less | inr (inr more) ↦ absurd (past k s e (omega arith)) ]
-        where
-          past : (k : ℕ) (s : Standing) → standing_in (slot_at slots.table k) ≡ Some s → 256 ≤ k → ⊥
-          past k s e far = none-some s (sym (ap standing_in (slot_at-past slots.table k (rw stands.size far))) ∙ e)
 
   positive : (n : ℕ) → is_over P n ≡ false → 0 < n
   positive n o = let made = called_place P n (open_is_called P n o) in let at = number_at P legal n made.thread made.call made.at in omega arith
 
-  pub least_is : (i : ℕ) → 256 ≤ i → (best : Option (ℕ × Output)) → IsLeast f slots.table i best → first_some f (numbers P) ≡ option_map (λ b. b.1) best
+  pub least_is : (i : ℕ) → slots.top ≤ i → (best : Option (ℕ × Output)) → IsLeast f slots.table i best → first_some f (numbers P) ≡ option_map (λ b. b.1) best
   least_is i all best h = ap (first_some f) (numbered P legal) ∙ go best refl
     where
       nothing : best ≡ None → (n : ℕ) → f n ≡ None
@@ -116,5 +124,5 @@ rule_over Copies P n o = over_no_abort P n o
 pub slot_standing : (P : List Entry) (slots : Slots) → Stands P slots → (k : ℕ) (s : Standing) → standing_in (slot_at slots.table k) ≡ Some s → IsStanding P s
 slot_standing P slots stands k s e = let is = call_of_slot P k s (ap standing_in (sym (stands.table k)) ∙ e) in record { opened = is.opened; is = is.is }
 
-pub least_told : (P : List Entry) (slots : Slots) (rule : Rule) (i : ℕ) (best o : Option (ℕ × Output)) → Legal P → Stands P slots → 256 ≤ i → IsLeast (rule_of rule P) slots.table i best → best ≡ o → option_map (λ b. b.1) o ≡ first_some (rule_of rule P) (numbers P)
+pub least_told : (P : List Entry) (slots : Slots) (rule : Rule) (i : ℕ) (best o : Option (ℕ × Output)) → Legal P → Stands P slots → slots.top ≤ i → IsLeast (rule_of rule P) slots.table i best → best ≡ o → option_map (λ b. b.1) o ≡ first_some (rule_of rule P) (numbers P)
 least_told P slots rule i best o legal stands all h e = ap (option_map (λ b. b.1)) (sym e) ∙ sym (least_is P slots legal stands (rule_of rule P) (rule_over rule P) i all best h)

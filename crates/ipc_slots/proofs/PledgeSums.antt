@@ -26,7 +26,7 @@ use Rattle.ipc_slots.specs.Steps.{standing_in}
 use Rattle.ipc_slots.specs.declared.slot.Standing.{Standing}
 use Rattle.ipc_slots.specs.declared.slots.Slots.{Slots}
 use Rattle.ipc_slots.proofs.Holders.{slot_of_call}
-use Rattle.ipc_slots.proofs.Leasts.{slot_standing}
+use Rattle.ipc_slots.proofs.Leasts.{held_below, slot_standing}
 use Rattle.ipc_slots.proofs.OutputSteps.{one_holder}
 use Rattle.ipc_slots.proofs.Tables.{holds_it}
 use Rattle.ipc_slots.proofs.ThreadSteps.{live_within}
@@ -59,6 +59,15 @@ sum_past f i v at none (suc n) h = go (λ l. sum_past f i v at none n l) (cases_
     go : (i < n → sum_below f n ≡ v) → (n ≡ i) ⊎ (n ≢ i) → sum_below f n + f n ≡ v
     go again (inl e) = let here : f n ≡ v = ap f e ∙ at in omega (arith, here, sum_before f i none n (omega (arith, e)))
     go again (inr e) = let nothing = none n e in let less : i < n = omega (arith, e, h) in omega (arith, nothing, again less)
+
+-- nothing counts from a place on
+sum_tail : (f : ℕ → ℕ) (t : ℕ) → ((k : ℕ) → t ≤ k → f k ≡ 0) → (n : ℕ) → t ≤ n → sum_below f n ≡ sum_below f t
+sum_tail f t none zero h = let same : zero ≡ t = omega arith in ap (sum_below f) same
+sum_tail f t none (suc n) h = go (λ l. sum_tail f t none n l) (cases_eq (suc n) t)
+  where
+    go : (t ≤ n → sum_below f n ≡ sum_below f t) → (suc n ≡ t) ⊎ (suc n ≢ t) → sum_below f (suc n) ≡ sum_below f t
+    go again (inl e) = ap (sum_below f) e
+    go again (inr e) = let less : t ≤ n = omega (arith, e, h) in omega (arith, again less, none n less)
 
 -- of the calls up to a number, and of one number
 weight : (ℕ → Bool) → Option Standing → ℕ
@@ -140,5 +149,12 @@ module _ (P : List Entry) (slots : Slots) (legal : Legal P) (stands : Stands P s
       low : (n : ℕ) → n ≤ calls_made P → nat_le n (calls_made P) ≡ true
       low n h = grind (arith, nat_tests)
 
-  pub pledges_told : (i total : ℕ) → 256 ≤ i → i ≤ 256 → total ≡ sum_below (λ k. pledge_in (slot_at slots.table k)) i → total ≡ sum_by (pledge_of P) (numbers P)
-  pledges_told i total past within e = let all : i ≡ 256 = omega arith in e ∙ (ap (sum_below (λ k. pledge_in (slot_at slots.table k))) all ∙ pledges_are)
+  pub pledges_told : (i total : ℕ) → slots.top ≤ i → i ≤ slots.top → total ≡ sum_below (λ k. pledge_in (slot_at slots.table k)) i → total ≡ sum_by (pledge_of P) (numbers P)
+  pledges_told i total past within e = let all : i ≡ slots.top = omega arith in e ∙ (ap (sum_below (λ k. pledge_in (slot_at slots.table k))) all ∙ (sym (sum_tail (λ k. pledge_in (slot_at slots.table k)) slots.top above 256 stands.top) ∙ pledges_are))
+    where
+      above : (k : ℕ) → slots.top ≤ k → pledge_in (slot_at slots.table k) ≡ 0
+      above k far = go (standing_in (slot_at slots.table k)) refl
+        where
+          go : (o : Option Standing) → standing_in (slot_at slots.table k) ≡ o → option_map_or pledge_by o 0 ≡ 0
+          go None h = refl
+          go (Some s) h = let less = held_below P slots stands k s h in absurd (omega arith)

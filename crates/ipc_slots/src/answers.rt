@@ -1,16 +1,14 @@
 ghost use Rattle.std.specs.Prelude.{◌≡◌, ◌-◌, ◌↔◌, ◌<◌, min, Some, None, IsNone, IfSome, IsTrue};
-ghost use Rattle.std.specs.Prelude.{option_and_then};
-ghost use Rattle.std.specs.Option.{option_or};
 ghost use Rattle.std.specs.List.{list_any};
-ghost use Rattle.ipc_history.specs.Words.{first_some};
 ghost use Rattle.ipc_history.specs.Calls.{numbers, calls_made, message_size};
 ghost use Rattle.ipc_history.specs.Threads.{now, is_taken, next_version};
 ghost use Rattle.ipc_history.specs.Phases.{open_call, moved_bytes};
 ghost use Rattle.ipc_history.specs.Timing.{is_due_at};
-ghost use Rattle.ipc_history.specs.NextOutput.{end_of, partner_gone_of, meeting_of, timeout_of, next_output};
+ghost use Rattle.ipc_history.specs.NextOutput.{timeout_of, next_output};
 ghost use Rattle.ipc_history.specs.Legal.{Legal, next_moving};
 ghost use Rattle.ipc_laws.specs.Counting.{live_threads};
 ghost use Rattle.ipc_slots.specs.ExchangeRegisters.{in_receive_phase, in_send_phase};
+ghost use Rattle.ipc_slots.specs.Outputs.{least_of, waiting_output};
 ghost use Rattle.ipc_slots.specs.Slots.{Stands};
 ghost use Rattle.ipc_slots.specs.Rules.{in_receive_by, in_send_by, first_number};
 
@@ -71,7 +69,7 @@ impl Slots {
     fn first_timeout(&self, entries: &[Entry]) -> Option<Output>
         requires legal { Legal entries.now }
         requires stands { Stands entries.now self.now }
-        ensures { result ≡ first_some (timeout_of entries.now) (numbers entries.now) }
+        ensures { result ≡ least_of timeout_of entries.now }
     {
         self.least(entries, &Rule::Expires(self.moment))
     }
@@ -80,7 +78,7 @@ impl Slots {
     fn waiting_output(&self, entries: &[Entry]) -> Option<Output>
         requires legal { Legal entries.now }
         requires stands { Stands entries.now self.now }
-        ensures { result ≡ option_or (first_some (end_of entries.now) (numbers entries.now)) (option_or (first_some (partner_gone_of entries.now) (numbers entries.now)) (option_or (first_some (meeting_of entries.now) (numbers entries.now)) (first_some (timeout_of entries.now) (numbers entries.now)))) }
+        ensures { result ≡ waiting_output entries.now }
     {
         if let Some(output) = self.least(entries, &Rule::Ends) {
             return Some(output);
@@ -147,7 +145,8 @@ impl Slots {
         requires legal { Legal entries.now }
         requires stands { Stands entries.now self.now }
         ensures none { IsNone result ↔ (next_moving entries.now ≡ None) }
-        ensures some { IfSome result (λ next. (next_moving entries.now ≡ Some next.0) × (next.1 ≡ min 65536 (message_size entries.now next.0 - moved_bytes entries.now next.0))) }
+        ensures some { IfSome result (λ next. (next_moving entries.now ≡ Some next.0)
+            × (next.1 ≡ min 65536 (message_size entries.now next.0 - moved_bytes entries.now next.0))) }
     {
         match self.next_moving(entries) {
             Some(number) => Some((number, self.block_of(entries, number))),

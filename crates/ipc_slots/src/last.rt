@@ -1,5 +1,4 @@
 ghost use Rattle.std.specs.Prelude.{◌≡◌, Some, None};
-ghost use Rattle.std.specs.Option.{option_or};
 ghost use Rattle.std.specs.Prelude.{option_and_then};
 ghost use Rattle.ipc_history.specs.Phases.{open_call};
 ghost use Rattle.ipc_history.specs.Words.{last};
@@ -8,6 +7,7 @@ ghost use Rattle.ipc_history.specs.Legal.{Legal};
 ghost use Rattle.ipc_history.specs.declared.entry.Entry.TheVariants.{Given, Written};
 ghost use Rattle.ipc_history.specs.declared.entry.Input.TheVariants.{Exreg};
 ghost use Rattle.ipc_history.specs.declared.entry.Output.TheVariants.{Began};
+ghost use Rattle.ipc_slots.specs.Outputs.{last_output};
 ghost use Rattle.ipc_slots.specs.Slots.{Stands};
 ghost use Rattle.ipc_slots.specs.Rules.{IsStanding, IsSmall, stop_by, turn_by, turn_of};
 
@@ -163,7 +163,7 @@ impl Slots {
     pub(crate) fn after_last(&self, entries: &[Entry]) -> Option<Output>
         requires legal { Legal entries.now }
         requires stands { Stands entries.now self.now }
-        ensures { result ≡ option_or (option_and_then (stop_after entries.now) (last entries.now)) (option_and_then (turn_after entries.now) (last entries.now)) }
+        ensures { result ≡ last_output entries.now }
     {
         let entry = entries.last()?;
         match self.stop_after(entries, entry) {

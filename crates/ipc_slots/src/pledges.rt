@@ -43,7 +43,7 @@ impl Slots {
     {
         let _ = entries;
         let mut total = 0;
-        for place in 0..256 {
+        for place in 0..self.top {
             total += u128::from(self.pledge_at(place));
         }
         total

@@ -4,8 +4,11 @@
 mod failures;
 mod fault;
 mod memory;
+mod piece;
 mod port;
 mod reading;
+#[cfg(test)]
+mod tests;
 mod turns;
 mod whole;
 mod writing;
@@ -13,6 +16,7 @@ mod writing;
 pub use failures::Failures;
 pub use fault::PortFault;
 pub use memory::{MemoryPort, Trouble};
+pub use piece::{PIECE_SIZE, Piece};
 pub use port::{PortRead, PortWrite};
 pub use reading::ReadPort;
 pub use whole::write_all;

@@ -16,7 +16,7 @@ mod writing;
 pub use failures::Failures;
 pub use fault::PortFault;
 pub use memory::{MemoryPort, Trouble};
-pub use piece::{PIECE_SIZE, Piece};
+pub use piece::{PIECE_SIZE, PieceBuffer};
 pub use port::{PortRead, PortWrite};
 pub use reading::ReadPort;
 pub use whole::write_all;

@@ -81,6 +81,13 @@ impl<'a> MemoryPort<'a> {
         self.is_complete.then_some(self.output.as_slice())
     }
 
+    /// Whether a flush stands after the last write.
+    pub fn is_flushed(&self) -> bool
+        ensures { result ≡ self.now.is_flushed }
+    {
+        self.is_flushed
+    }
+
     // Counts a call, which meets its trouble.
     fn turn(&mut self) -> Result<(), PortFault>
         ensures failed { OnErr result (self.old.failures < self.new.failures) }

@@ -12,28 +12,28 @@ pub const PIECE_SIZE: usize = 8192;
 
 /// The bytes of a read that were not used yet, seen as their list.
 #[derive(Drop)]
-pub struct Piece {
+pub struct PieceBuffer {
     bytes: [u8; PIECE_SIZE],
     start: usize,
     end: usize,
 }
 
-impl Model for Piece {
+impl Model for PieceBuffer {
     ghost use Rattle.std.specs.Prelude.{ℕ, ◌≤◌, ◌-◌, List, take, drop};
 
     ghost Value = { List ℕ };
 
-    ghost view = { λ piece. take (piece.end - piece.start) (drop piece.start piece.bytes) };
+    ghost view = { λ held. take (held.end - held.start) (drop held.start held.bytes) };
 
-    ghost invariant = { λ piece. (piece.start ≤ piece.end) × (piece.end ≤ 8192) };
+    ghost invariant = { λ held. (held.start ≤ held.end) × (held.end ≤ 8192) };
 }
 
-impl Piece {
+impl PieceBuffer {
     /// No bytes.
-    pub fn new() -> Piece
+    pub fn new() -> PieceBuffer
         ensures { result ≡ [] }
     {
-        Piece {
+        PieceBuffer {
             bytes: [0; PIECE_SIZE],
             start: 0,
             end: 0,

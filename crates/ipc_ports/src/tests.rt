@@ -1,8 +1,8 @@
 ghost use Rattle.std.specs.Prelude.{◌≡◌, ◌<◌};
 
 use super::{
-    Failures, MemoryPort, Piece, PortFault, PortRead, PortWrite, ReadPort, Trouble, WritePort,
-    write_all,
+    Failures, MemoryPort, PieceBuffer, PortFault, PortRead, PortWrite, ReadPort, Trouble,
+    WritePort, write_all,
 };
 use std::alloc::{AllocError, Global};
 use std::io;
@@ -183,7 +183,7 @@ fn one_call_of_a_memory_port_meets_trouble(rt: HostRuntime) {
 #[test]
 fn a_piece_holds_what_is_left_of_a_read(rt: HostRuntime) -> Result<(), PortFault> {
     let mut port: &[u8] = b"abcde";
-    let mut piece = Piece::new();
+    let mut piece = PieceBuffer::new();
     piece.fill(&mut port)?;
     let count = piece.bytes().len().min(3);
     piece.consume(count);

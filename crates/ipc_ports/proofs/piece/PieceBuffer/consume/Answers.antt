@@ -1,5 +1,5 @@
 use Rattle.ipc_ports.proofs.Pieces.{piece_shorter}
-use Rattle.ipc_ports.proofs.piece.Piece.consume.Goals as goal
+use Rattle.ipc_ports.proofs.piece.PieceBuffer.consume.Goals as goal
 
 pub returns : goal.returns
 returns c =

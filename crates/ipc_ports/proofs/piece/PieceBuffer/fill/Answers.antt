@@ -1,6 +1,6 @@
 use Rattle.std.proofs.Common.{◌≡◌, ◌-◌, length, arith}
 use Rattle.ipc_ports.proofs.Pieces.{piece_costs}
-use Rattle.ipc_ports.proofs.piece.Piece.fill.Goals as goal
+use Rattle.ipc_ports.proofs.piece.PieceBuffer.fill.Goals as goal
 
 pub returns-clause-fewer : goal.returns-clause-fewer
 returns-clause-fewer g c =

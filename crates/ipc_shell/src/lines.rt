@@ -66,11 +66,7 @@ pub fn next_line<P: PortRead>(
 }
 
 /// Reads a part of a line.
-fn next_piece<P: PortRead>(
-    port: &mut P,
-    buffer: &mut PieceBuffer,
-    line: &mut Vec<u8>,
-) -> Piece
+fn next_piece<P: PortRead>(port: &mut P, buffer: &mut PieceBuffer, line: &mut Vec<u8>) -> Piece
     ensures piece { ReadsPiece (prepend_known buffer.old (P.remaining port.old))
         (prepend_known buffer.new (P.remaining port.new)) line.old.items line.new.items result }
     ensures failed { result ≡ Piece.Failed → P.failures port.old < P.failures port.new }

@@ -1,5 +1,6 @@
 //! The program `l4sh`: runs scripts of opens, calls, clock readings, cancels and breaks, and prints what happens.
 #![tactic(auto)]
+
 ghost use Rattle.std.specs.Prelude.{◌≡◌, ◌<◌};
 
 mod answering;

@@ -28,7 +28,7 @@ pub fn run_script<R: PortRead, W: PortWrite>(
         (W.written writer.old) (W.written writer.new) result }
     ensures device { result ≡ Exit.DeviceFailed
         → HasFailed (R.failures reader.old + W.failures writer.old)
-            (R.failures reader.new + W.failures writer.new) (R.remaining reader.old) }
+        (R.failures reader.new + W.failures writer.new) (R.remaining reader.old) }
     ensures flushed { result ≢ Exit.DeviceFailed
         → W.flushed writer.old ≡ true → W.flushed writer.new ≡ true }
 {

@@ -8,11 +8,11 @@ use Rattle.ipc_shell.proofs.lines.next_line.Given as goal
 
 abbrev pub invariant-reads : goal.invariant-reads
 invariant-reads g l = record {
-    one : IsOneLine l.line.items;
-    short : length l.line.items ≤ longest_line;
-    read : Consumes (prepend_known l.fn.buffer (g.P.PortRead.remaining l.fn.port)) (prepend_known l.buffer (g.P.PortRead.remaining l.port)) l.line.items;
-    kept : g.P.PortRead.failures l.port ≡ g.P.PortRead.failures l.fn.port
-  }
+  one : IsOneLine l.line.items;
+  short : length l.line.items ≤ longest_line;
+  read : Consumes (prepend_known l.fn.buffer (g.P.PortRead.remaining l.fn.port)) (prepend_known l.buffer (g.P.PortRead.remaining l.port)) l.line.items;
+  kept : g.P.PortRead.failures l.port ≡ g.P.PortRead.failures l.fn.port;
+}
 
 abbrev pub decreases-reads : goal.decreases-reads
 decreases-reads g l = most_left (g.P.PortRead.reads_left l.port) l.buffer

@@ -4,16 +4,14 @@ ghost use Rattle.ipc_ports.specs.Ports.{most_left};
 ghost use Rattle.ipc_shell.specs.Reading.{ReadsLine, ReadsPiece, Adds, IsCut};
 
 use ipc_ports::{PieceBuffer, PortRead};
-
-/// The longest line, in bytes without its newline.
-pub const MAX_LINE: usize = 2_105_343;
+use ipc_words::limits::MAX_LINE_BYTES;
 
 /// What was read next.
 #[derive(Clone, Copy, PartialEq, Eq, Debug)]
 pub enum NextLine {
     /// A line, without its newline.
     Line,
-    /// A line that is longer than [`MAX_LINE`]; it is not kept whole.
+    /// A line that is longer than [`MAX_LINE_BYTES`]; it is not kept whole.
     TooLong,
     /// The end of the input.
     End,
@@ -96,7 +94,7 @@ fn append(line: &mut Vec<u8>, chunk: &[u8]) -> (usize, Piece)
     }
     let (end, is_whole) = cut(chunk);
     let text = &chunk[..end];
-    if text.len() > MAX_LINE.saturating_sub(line.len()) {
+    if text.len() > MAX_LINE_BYTES.saturating_sub(line.len()) {
         return (end, Piece::TooLong);
     }
     match line.extend_from_slice(text) {

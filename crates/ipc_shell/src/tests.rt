@@ -1,5 +1,5 @@
 use super::exit::Exit;
-use super::lines::MAX_LINE;
+use ipc_words::limits::MAX_LINE_BYTES;
 use super::running::run_script;
 use ipc_core::Limits;
 use ipc_ports::{MemoryPort, PortRead, Trouble};
@@ -205,7 +205,7 @@ fn interrupted_calls_change_nothing(rt: HostRuntime) {
 #[test]
 fn a_line_past_the_limit_is_bad(rt: HostRuntime) -> Result<(), Fail> {
     let alloc = rt.alloc();
-    let script = vec![in alloc; b'a'; MAX_LINE + 1]?;
+    let script = vec![in alloc; b'a'; MAX_LINE_BYTES + 1]?;
     let mut writer = MemoryPort::new(alloc, &[]);
     let exit = run_script(alloc, LIMITS, &mut script.as_slice(), &mut writer);
     assert_eq!(rt; exit, Exit::BadLine(1));

@@ -12,8 +12,8 @@ use Rattle.ipc_frame.specs.declared.kind.Side.TheVariants.{Server, Client}
 use Rattle.ipc_frame.specs.declared.frame.Frame.{Frame}
 use Rattle.ipc_frame.specs.declared.frame.Frame.TheVariants as frame
 use Rattle.ipc_frame.specs.Numbers.{IsBytes, number_text, number_in, fields_text, fields_in, AreWords, words_text, words_in}
-use Rattle.ipc_frame.specs.Parts.{words_of, piece_text, pieces_text}
-use Rattle.ipc_frame.specs.Frames.{kind_byte, side_of, kinds, widths, kind_of, fields_of, tail_of, size_of, body_of, spelling, IsPiece, HasTail, IsFrame}
+use Rattle.ipc_frame.specs.Parts.{IsPiece, words_of, piece_text, pieces_text}
+use Rattle.ipc_frame.specs.Frames.{kind_byte, side_of, kinds, widths, kind_of, fields_of, tail_of, size_of, body_of, spelling, HasTail, IsFrame}
 use Rattle.ipc_frame.specs.Reading.{Whole, kind_among, is_wrong_size, is_longer, least_size, has_too_many_words, least_size_with, pieces_in, ipc_parts, ipcr_parts, frame_of, whole_if, body_known, fields_known, kind_known, size_known, reading}
 use Rattle.ipc_frame.proofs.NumberLemmas.{number_below, number_spelled, number_taken, bytes_drop, bytes_take}
 use Rattle.ipc_frame.proofs.FieldLemmas.{fields_fit, fields_taken, length_words_in, words_spelled}

@@ -1,6 +1,8 @@
 pub mod Numbers
 pub mod Parts
+pub mod Making
 pub mod Frames
+pub mod FaultNumber
 pub mod Reading
 pub mod Stream
 pub mod Laws

@@ -13,6 +13,12 @@ use ipc_words::MsgTag;
 /// The most bytes of a body.
 pub const MAX_BODY: usize = 2_097_152;
 
+/// The most message registers from MR1 on.
+pub const MAX_WORDS: usize = 63;
+
+/// The most buffer registers from BR1 on.
+pub const MAX_BUFFER_WORDS: usize = 32;
+
 /// What the bytes of a frame show so far.
 pub enum Judgement {
     /// Nothing before so many more bytes are there.
@@ -46,7 +52,7 @@ fn words_fault(size: usize, words: usize, buffer_words: usize) -> Option<FrameFa
     ensures { result ≡ (if nat_lt 63 words || nat_lt 32 buffer_words then Some FrameFault.TooManyWords
         else if nat_lt size (46 + 8 * words + 8 * buffer_words) then Some FrameFault.WrongSize else None) }
 {
-    if words > 63 || buffer_words > 32 {
+    if words > MAX_WORDS || buffer_words > MAX_BUFFER_WORDS {
         Some(FrameFault::TooManyWords)
     } else if size < 46 + 8 * words + 8 * buffer_words {
         Some(FrameFault::WrongSize)
@@ -80,7 +86,7 @@ fn ipcr_fault(size: usize, head: &[u8]) -> Option<FrameFault>
     ensures { result ≡ words_fault FrameKind.Ipcr size (fields_in (widths FrameKind.Ipcr) head.now) }
 {
     let words = ipcr_words(head);
-    if words > 63 {
+    if words > MAX_WORDS {
         Some(FrameFault::TooManyWords)
     } else if size < 34 + 8 * words {
         Some(FrameFault::WrongSize)

@@ -3,7 +3,10 @@
 
 mod encoding;
 mod fault;
+mod fitting;
 mod frame;
+mod ipc;
+mod ipcr;
 mod judging;
 mod kind;
 mod laws;
@@ -12,8 +15,10 @@ mod window;
 
 pub use encoding::{Encoder, encode};
 pub use fault::FrameFault;
-pub use frame::{Frame, IpcFrame, IpcrFrame, Placed};
-pub use judging::{Judgement, MAX_BODY, judge};
+pub use frame::Frame;
+pub use ipc::{IpcFrame, IpcParts};
+pub use ipcr::{IpcrFrame, IpcrParts, Placed};
+pub use judging::{Judgement, MAX_BODY, MAX_BUFFER_WORDS, MAX_WORDS, judge};
 pub use kind::Side;
 pub use laws::{
     any_pieces, none_begins_another, read_is_spelled, short_is_exact, spelled_is_read, told_stays,

@@ -44,7 +44,7 @@ side_found Client byte kind e = kind_among_all (λ k. side_of k ≡ Client) (kin
 are_words_in : (count : ℕ) (bytes : List ℕ) → IsBytes bytes → AreWords (words_in count bytes)
 are_words_in count bytes h = rw (length_words_in count bytes) (fields_fit (replicate count 8) bytes h)
 
-some_mapped : {X Y : Type 0} (f : X → Y) (o : Option X) (y : Y) → option_map f o ≡ Some y → (x : X) × (o ≡ Some x) × (f x ≡ y)
+pub some_mapped : {X Y : Type 0} (f : X → Y) (o : Option X) (y : Y) → option_map f o ≡ Some y → (x : X) × (o ≡ Some x) × (f x ≡ y)
 some_mapped f None y e = absurd (cc)
 some_mapped f (Some x) y e = (x, refl, cc)
 
@@ -229,12 +229,12 @@ whole_shown side bytes f n e =
     (k.0, record { size_there = a.0; within = ltb-false _ _ b.0; kind_there = d.0; kind_is = k.1; behind = k.2 })
 
 -- a size that is not wrong
-wrong_fixed : (kind : FrameKind) (size : ℕ) → is_wrong_size kind size ≡ false → (least_size kind ≤ size) × (is_longer kind ≡ false → size ≤ least_size kind)
+pub wrong_fixed : (kind : FrameKind) (size : ℕ) → is_wrong_size kind size ≡ false → (least_size kind ≤ size) × (is_longer kind ≡ false → size ≤ least_size kind)
 wrong_fixed kind size e =
     let tests = or_parts _ _ e in
     (ltb-false _ _ tests.0, λ fixed. let t = rw fixed at tests.1 in ltb-false (least_size kind) size t)
 
-least_is_head : (kind : FrameKind) → 1 + sum (widths kind) ≤ least_size kind
+pub least_is_head : (kind : FrameKind) → 1 + sum (widths kind) ≤ least_size kind
 least_is_head Hello = omega arith
 least_is_head Ipc = omega arith
 least_is_head Exreg = omega arith
@@ -283,6 +283,34 @@ joined_parts a b c d xs =
     ∙ (ap (λ ys. take b x1 ++ ys) (append_assoc (take c x2) (take d x3) (drop d x3)
     ∙ (ap (λ ys. take c x2 ++ ys) (take-append-drop d x3) ∙ take-append-drop c x2)) ∙ take-append-drop b x1)) ∙ take-append-drop a xs)
 
+-- the frame is that of its numbers and what comes after them
+pub shown_found : (side : Side) (bytes : List ℕ) (f : Frame) (n : ℕ) (kind : FrameKind) → IsBytes bytes → Shown side bytes f n kind → Found kind (take (sum (widths kind)) (drop 1 (drop 4 bytes))) (take (number_in 4 (take 4 bytes) - (1 + sum (widths kind))) (drop (sum (widths kind)) (drop 1 (drop 4 bytes)))) f
+shown_found side bytes f n kind h s =
+    let size = number_in 4 (take 4 bytes) in
+    let rest1 = drop 4 bytes in
+    let rest2 = drop 1 rest1 in
+    let rest3 = drop (sum (widths kind)) rest2 in
+    let head = take (sum (widths kind)) rest2 in
+    let tail = take (size - (1 + sum (widths kind))) rest3 in
+    let b1 = bytes_drop 4 bytes h in
+    let b2 = bytes_drop 1 rest1 b1 in
+    let b3 = bytes_drop (sum (widths kind)) rest2 b2 in
+    let wrong = wrong_fixed kind size s.behind.right_size in
+    let least = least_is_head kind in
+    let right = wrong.0 in
+    let fields = s.behind.fields in
+    let tail_length : length tail ≡ size - (1 + sum (widths kind)) = length-take-le (size - (1 + sum (widths kind))) rest3 fields.there in
+    let body : 1 + (sum (widths kind) + length tail) ≡ size = omega arith in
+    let asked : Asked kind head tail = record {
+      tail_bytes = bytes_take (size - (1 + sum (widths kind))) rest3 b3;
+      head_bytes = bytes_take (sum (widths kind)) rest2 b2;
+      within = omega (arith, s.within, body);
+      few_words = fields.few_words;
+      room = omega (arith, fields.room, body);
+      no_tail = λ fixed. let most = wrong.1 fixed in let is_head = head_is_least kind fixed in omega arith;
+    } in
+    frame_found kind head tail f asked fields.made
+
 frame_begins : (side : Side) (bytes : List ℕ) (f : Frame) (n : ℕ) (kind : FrameKind) → IsBytes bytes → Shown side bytes f n kind → Begins side bytes f n
 unfolding spelling body_of
 frame_begins side bytes f n kind h s =
@@ -294,9 +322,7 @@ frame_begins side bytes f n kind h s =
     let tail = take (size - (1 + sum (widths kind))) rest3 in
     let b1 = bytes_drop 4 bytes h in
     let b2 = bytes_drop 1 rest1 b1 in
-    let b3 = bytes_drop (sum (widths kind)) rest2 b2 in
     let head_bytes = bytes_take (sum (widths kind)) rest2 b2 in
-    let tail_bytes = bytes_take (size - (1 + sum (widths kind))) rest3 b3 in
     let wrong = wrong_fixed kind size s.behind.right_size in
     let least = least_is_head kind in
     let right = wrong.0 in
@@ -304,15 +330,7 @@ frame_begins side bytes f n kind h s =
     let head_length : length head ≡ sum (widths kind) = length-take-le (sum (widths kind)) rest2 s.behind.there in
     let tail_length : length tail ≡ size - (1 + sum (widths kind)) = length-take-le (size - (1 + sum (widths kind))) rest3 fields.there in
     let body : 1 + (sum (widths kind) + length tail) ≡ size = omega arith in
-    let asked : Asked kind head tail = record {
-      tail_bytes = tail_bytes;
-      head_bytes = head_bytes;
-      within = omega (arith, s.within, body);
-      few_words = fields.few_words;
-      room = omega (arith, fields.room, body);
-      no_tail = λ fixed. let most = wrong.1 fixed in let is_head = head_is_least kind fixed in omega arith;
-    } in
-    let found = frame_found kind head tail f asked fields.made in
+    let found = shown_found side bytes f n kind h s in
     let byte_is = kind_among_byte (kinds side) (number_in 1 (take 1 rest1)) kind s.kind_is in
     let size_is : size_of f ≡ size = found.size ∙ body in
     let t_size : number_text 4 (size_of f) ≡ take 4 bytes = ap (number_text 4) size_is ∙ number_taken 4 bytes h s.size_there in

@@ -5,6 +5,7 @@ pub mod Frames
 pub mod FaultNumber
 pub mod Reading
 pub mod Stream
+pub mod Decoding
 pub mod Laws
 pub mod Window
 pub mod FirstPiece

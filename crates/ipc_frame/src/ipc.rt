@@ -1,5 +1,5 @@
 ghost use Rattle.std.specs.Prelude.{IfSome, IfNone, Ok, Err, ◌≡◌, ◌≤◌, ◌^◌, length};
-ghost use Rattle.ipc_frame.specs.Parts.{ipc_size};
+ghost use Rattle.ipc_frame.specs.Parts.{IsIpc, ipc_size};
 ghost use Rattle.ipc_frame.specs.Frames.{IsFrame};
 ghost use Rattle.ipc_frame.specs.Making.{ipc_fault};
 
@@ -74,10 +74,18 @@ impl IpcFrame {
         if parts.payload.len() > MAX_BODY - numbers {
             return Err(FrameFault::TooLong);
         }
+        Ok(IpcFrame::of(parts))
+    }
+
+    // The frame of parts that are within the limits.
+    pub(crate) fn of(parts: IpcParts) -> IpcFrame
+        requires { IsIpc parts }
+        ensures { result ≡ parts }
+    {
         are_words(&parts.words);
         are_words(&parts.buffer_words);
         are_bytes(&parts.payload);
-        Ok(IpcFrame { parts })
+        IpcFrame { parts }
     }
 
     /// The receiver of the send phase; nilthread: no send phase.

@@ -1,10 +1,11 @@
 ghost use Rattle.std.specs.Prelude.{IfOk, IfSome, IfNone, Ok, Err, true, ◌≡◌, ◌≤◌, ◌<◌, ◌^◌, not, nat_lt, length};
 ghost use Rattle.std.specs.List.{AllByRecursion};
 ghost use Rattle.ipc_frame.specs.Numbers.{IsBytes};
-ghost use Rattle.ipc_frame.specs.Parts.{IsPiece, pieces_text, ipcr_size};
+ghost use Rattle.ipc_frame.specs.Parts.{IsPiece, IsIpcr, pieces_text, ipcr_size};
 ghost use Rattle.ipc_frame.specs.Frames.{IsFrame};
 ghost use Rattle.ipc_frame.specs.Making.{ipcr_fault};
 
+use crate::cutting::copied;
 use crate::fault::FrameFault;
 use crate::frame::Frame;
 use crate::fitting::{are_bytes, are_words};
@@ -40,8 +41,7 @@ impl Placed {
     pub fn new(alloc: Global, pointer: u64, bytes: &[u8]) -> Result<Placed, AllocError>
         ensures { IfOk result (λ piece. piece ≡ record { pointer = pointer; bytes = bytes.now }) }
     {
-        let mut copy = Vec::with_capacity(alloc, bytes.len())?;
-        copy.extend_from_slice(bytes)?;
+        let copy = copied(alloc, bytes)?;
         are_bytes(&copy);
         Ok(Placed {
             pointer,
@@ -140,8 +140,17 @@ impl IpcrFrame {
         if !pieces_within(&parts.pieces, MAX_BODY - (34 + 8 * words)) {
             return Err(FrameFault::TooLong);
         }
+        Ok(IpcrFrame::of(parts))
+    }
+
+    // The frame of parts that are within the limits.
+    pub(crate) fn of(parts: IpcrParts) -> IpcrFrame
+        requires is { IsIpcr parts }
+        requires pieces { AllByRecursion IsPiece parts.pieces }
+        ensures { result ≡ parts }
+    {
         are_words(&parts.words);
-        Ok(IpcrFrame { parts })
+        IpcrFrame { parts }
     }
 
     /// The tag of the message that was received.

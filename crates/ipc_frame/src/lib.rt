@@ -1,6 +1,9 @@
 //! The frames of the wire protocol: their spelling, and reading them from a stream in any pieces.
 #![tactic(auto)]
 
+mod cutting;
+mod decoder;
+mod decoding;
 mod encoding;
 mod fault;
 mod fitting;
@@ -13,6 +16,8 @@ mod laws;
 mod pieces;
 mod window;
 
+pub use decoder::Decoder;
+pub use decoding::decode;
 pub use encoding::{Encoder, encode};
 pub use fault::FrameFault;
 pub use frame::Frame;

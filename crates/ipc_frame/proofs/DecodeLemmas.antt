@@ -111,15 +111,17 @@ whole_at side bytes f n h e =
     let least = least_is_head kind in
     let right = (wrong_fixed kind size s.behind.right_size).0 in
     let m : MakesFrame kind (fields_in (widths kind) (take (sum (widths kind)) (drop 1 (drop 4 bytes)))) (take (size - (1 + sum (widths kind))) (drop (sum (widths kind)) (drop 1 (drop 4 bytes)))) f = record { made = s.behind.fields.made; has = found.has; size = found.size } in
-    let m2 = subst (λ xs. MakesFrame kind (fields_in (widths kind) (take (sum (widths kind)) xs)) (take (size - (1 + sum (widths kind))) (drop (sum (widths kind)) xs)) f) rest_is m in
-    (kind, record {
-      there = omega (arith, within, count, size_is);
-      least = omega (arith, least, right, size_is);
-      kind_is = ap (kind_among (kinds side)) (sym byte_is) ∙ s.kind_is;
-      is = found.kind_is;
-      count = count ∙ ap (λ k. 4 + k) size_is;
-      makes = subst (λ k. MakesFrame kind (fields_in (widths kind) (take (sum (widths kind)) (drop 5 bytes))) (take (k - (1 + sum (widths kind))) (drop (sum (widths kind)) (drop 5 bytes))) f) size_is m2;
-    })
+    let m2 = subst (λ xs. MakesFrame kind (fields_in (widths kind) (take (sum (widths kind)) xs)) (take (size - (1 + sum (widths kind))) (drop (sum (widths kind)) xs)) f) rest_is m in (
+      kind,
+      record {
+        there = omega (arith, within, count, size_is);
+        least = omega (arith, least, right, size_is);
+        kind_is = ap (kind_among (kinds side)) (sym byte_is) ∙ s.kind_is;
+        is = found.kind_is;
+        count = count ∙ ap (λ k. 4 + k) size_is;
+        makes = subst (λ k. MakesFrame kind (fields_in (widths kind) (take (sum (widths kind)) (drop 5 bytes))) (take (k - (1 + sum (widths kind))) (drop (sum (widths kind)) (drop 5 bytes))) f) size_is m2;
+      },
+    )
 
 pub whole_of : (side : Side) (bytes : List ℕ) (f : Frame) (n : ℕ) (kind : FrameKind) → IsBytes bytes → reading side bytes ≡ Whole f n → kind_among (kinds side) (slice_index bytes 4) ≡ Some kind → WholeAt side bytes kind f n
 whole_of side bytes f n kind h e k =

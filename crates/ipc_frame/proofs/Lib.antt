@@ -10,3 +10,4 @@ pub mod Vectors
 pub mod PieceLemmas
 pub mod EndLemmas
 pub mod DecodeLemmas
+pub mod PlacingLemmas

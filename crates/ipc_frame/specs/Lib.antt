@@ -9,3 +9,4 @@ pub mod Decoding
 pub mod Laws
 pub mod Window
 pub mod FirstPiece
+pub mod Replies

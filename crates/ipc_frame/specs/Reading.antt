@@ -1,5 +1,6 @@
 -- What the bytes of a stream show of its first frame, and when: each test is made as soon as the bytes that it looks at are there.
-use Rattle.std.specs.Prelude.{◌≡◌, ℕ, zero, suc, ◌+◌, ◌-◌, ◌*◌, ◌^◌, ◌==◌, ◌||◌, ◌&&◌, Bool, true, false, not, nat_lt, List, [], ◌∷◌, length, take, drop, slice_index, sum, Option, Some, None, option_map, if◌then◌else◌}
+use Rattle.std.specs.Prelude.{◌≡◌, ℕ, zero, suc, ◌+◌, ◌-◌, ◌*◌, ◌==◌, ◌||◌, ◌&&◌, Bool, true, false, not, nat_lt, List, [], ◌∷◌, length, take, drop, slice_index, sum, Option, Some, None, option_map, if◌then◌else◌}
+use Rattle.ipc_words.specs.Limits.{max_message_words, max_buffer_words, max_frame_body}
 use Rattle.ipc_items.specs.Pieces.{PlacedBytes}
 use Rattle.ipc_frame.specs.declared.fault.FrameFault.{FrameFault}
 use Rattle.ipc_frame.specs.declared.fault.FrameFault.TheVariants.{TooLong, UnknownKind, WrongSize, TooManyWords}
@@ -57,8 +58,8 @@ is_wrong_size kind size = nat_lt size (least_size kind) || (not (is_longer kind)
 
 -- the numbers after the kind: IPC has the tag in place 4 and b in place 6, IPCR the tag in place 0
 abbrev pub has_too_many_words : FrameKind → List ℕ → Bool
-has_too_many_words Ipc fields = nat_lt 63 (words_of (slice_index fields 4)) || nat_lt 32 (slice_index fields 6)
-has_too_many_words Ipcr fields = nat_lt 63 (words_of (slice_index fields 0))
+has_too_many_words Ipc fields = nat_lt max_message_words (words_of (slice_index fields 4)) || nat_lt max_buffer_words (slice_index fields 6)
+has_too_many_words Ipcr fields = nat_lt max_message_words (words_of (slice_index fields 0))
 has_too_many_words _ fields = false
 
 -- the body length that their words ask for at least
@@ -139,7 +140,7 @@ kind_known size (Some kind) rest =
 -- the four length bytes are there: F1, and F3 for a body length of 0
 unfoldable pub size_known : Side → ℕ → List ℕ → Reading
 size_known side size rest =
-    bad_if (nat_lt (2 ^ 21) size) TooLong (
+    bad_if (nat_lt max_frame_body size) TooLong (
     bad_if (size == 0) WrongSize (
     once 1 rest (λ kind behind. kind_known size (kind_among (kinds side) (number_in 1 kind)) behind)))
 

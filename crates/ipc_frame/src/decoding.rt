@@ -121,7 +121,11 @@ fn read_numbers(kind: FrameKind, head: &[u8]) -> Frame
             let (result, head) = split_u64(head);
             let (control, head) = split_u64(head);
             let (code, _) = split_u64(head);
-            Frame::Exregr(ThreadId::from_word(result), Control::from_word(control), code)
+            Frame::Exregr(
+                ThreadId::from_word(result),
+                Control::from_word(control),
+                code,
+            )
         }
         FrameKind::Refused => Frame::Refused(head[0]),
         FrameKind::Fault => Frame::Fault(head[0], head[1]),

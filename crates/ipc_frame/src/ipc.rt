@@ -4,9 +4,9 @@ ghost use Rattle.ipc_frame.specs.Frames.{IsFrame};
 ghost use Rattle.ipc_frame.specs.Making.{ipc_fault};
 
 use crate::fault::FrameFault;
-use crate::frame::Frame;
 use crate::fitting::{are_bytes, are_words};
-use crate::judging::{MAX_BODY, MAX_BUFFER_WORDS, MAX_WORDS};
+use crate::frame::Frame;
+use ipc_words::limits::{MAX_BUFFER_WORDS, MAX_FRAME_BODY, MAX_MESSAGE_WORDS};
 use ipc_words::{MsgTag, ThreadId, Timeouts};
 use std::marker::Model;
 
@@ -64,14 +64,14 @@ impl IpcFrame {
         ensures fault { IfSome (ipc_fault parts) (λ fault. result ≡ Err fault) }
     {
         let words = parts.tag.untyped() as usize + parts.tag.typed() as usize;
-        if words > MAX_WORDS || parts.buffer_words.len() > MAX_BUFFER_WORDS {
+        if words > MAX_MESSAGE_WORDS || parts.buffer_words.len() > MAX_BUFFER_WORDS {
             return Err(FrameFault::TooManyWords);
         }
         if parts.words.len() != words {
             return Err(FrameFault::WrongSize);
         }
         let numbers = 46 + 8 * words + 8 * parts.buffer_words.len();
-        if parts.payload.len() > MAX_BODY - numbers {
+        if parts.payload.len() > MAX_FRAME_BODY - numbers {
             return Err(FrameFault::TooLong);
         }
         Ok(IpcFrame::of(parts))
@@ -158,7 +158,15 @@ impl IpcFrame {
         ensures { IsFrame (Frame.Ipc self.now) }
     {
         let _parts = &self.parts;
-        let _threads = (self.to().to_word(), self.from().to_word(), self.originator().to_word());
-        let _registers = (self.tag().to_word(), self.acceptor(), self.timeouts().to_word());
+        let _threads = (
+            self.to().to_word(),
+            self.from().to_word(),
+            self.originator().to_word(),
+        );
+        let _registers = (
+            self.tag().to_word(),
+            self.acceptor(),
+            self.timeouts().to_word(),
+        );
     }
 }

@@ -7,9 +7,9 @@ ghost use Rattle.ipc_frame.specs.Making.{ipcr_fault};
 
 use crate::cutting::copied;
 use crate::fault::FrameFault;
-use crate::frame::Frame;
 use crate::fitting::{are_bytes, are_words};
-use crate::judging::{MAX_BODY, MAX_WORDS};
+use crate::frame::Frame;
+use ipc_words::limits::{MAX_FRAME_BODY, MAX_MESSAGE_WORDS};
 use ipc_words::{IpcError, MsgTag, ThreadId};
 use std::alloc::{AllocError, Global};
 use std::marker::Model;
@@ -131,13 +131,13 @@ impl IpcrFrame {
         ensures fault { IfSome (ipcr_fault parts) (λ fault. result ≡ Err fault) }
     {
         let words = parts.tag.untyped() as usize + parts.tag.typed() as usize;
-        if words > MAX_WORDS {
+        if words > MAX_MESSAGE_WORDS {
             return Err(FrameFault::TooManyWords);
         }
         if parts.words.len() != words || parts.pieces.len() > MAX_PIECES {
             return Err(FrameFault::WrongSize);
         }
-        if !pieces_within(&parts.pieces, MAX_BODY - (34 + 8 * words)) {
+        if !pieces_within(&parts.pieces, MAX_FRAME_BODY - (34 + 8 * words)) {
             return Err(FrameFault::TooLong);
         }
         Ok(IpcrFrame::of(parts))

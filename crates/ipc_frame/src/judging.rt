@@ -9,15 +9,7 @@ use crate::kind::{FrameKind, Side};
 use crate::pieces::pieces_fit;
 use byteorder::{BigEndian, ByteOrder};
 use ipc_words::MsgTag;
-
-/// The most bytes of a body.
-pub const MAX_BODY: usize = 2_097_152;
-
-/// The most message registers from MR1 on.
-pub const MAX_WORDS: usize = 63;
-
-/// The most buffer registers from BR1 on.
-pub const MAX_BUFFER_WORDS: usize = 32;
+use ipc_words::limits::{MAX_BUFFER_WORDS, MAX_FRAME_BODY, MAX_MESSAGE_WORDS};
 
 /// What the bytes of a frame show so far.
 pub enum Judgement {
@@ -52,7 +44,7 @@ fn words_fault(size: usize, words: usize, buffer_words: usize) -> Option<FrameFa
     ensures { result ≡ (if nat_lt 63 words || nat_lt 32 buffer_words then Some FrameFault.TooManyWords
         else if nat_lt size (46 + 8 * words + 8 * buffer_words) then Some FrameFault.WrongSize else None) }
 {
-    if words > MAX_WORDS || buffer_words > MAX_BUFFER_WORDS {
+    if words > MAX_MESSAGE_WORDS || buffer_words > MAX_BUFFER_WORDS {
         Some(FrameFault::TooManyWords)
     } else if size < 46 + 8 * words + 8 * buffer_words {
         Some(FrameFault::WrongSize)
@@ -86,7 +78,7 @@ fn ipcr_fault(size: usize, head: &[u8]) -> Option<FrameFault>
     ensures { result ≡ words_fault FrameKind.Ipcr size (fields_in (widths FrameKind.Ipcr) head.now) }
 {
     let words = ipcr_words(head);
-    if words > MAX_WORDS {
+    if words > MAX_MESSAGE_WORDS {
         Some(FrameFault::TooManyWords)
     } else if size < 34 + 8 * words {
         Some(FrameFault::WrongSize)
@@ -195,7 +187,7 @@ pub fn judge(side: Side, held: &[u8], behind: usize) -> Judgement
         return Judgement::Short(4 - held.len());
     }
     let size = read_u32(held) as usize;
-    if size > MAX_BODY {
+    if size > MAX_FRAME_BODY {
         return Judgement::Bad(FrameFault::TooLong);
     }
     if size == 0 {

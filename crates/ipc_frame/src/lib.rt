@@ -14,6 +14,7 @@ mod judging;
 mod kind;
 mod laws;
 mod pieces;
+mod replies;
 mod window;
 
 pub use decoder::Decoder;
@@ -23,11 +24,12 @@ pub use fault::FrameFault;
 pub use frame::Frame;
 pub use ipc::{IpcFrame, IpcParts};
 pub use ipcr::{IpcrFrame, IpcrParts, Placed};
-pub use judging::{Judgement, MAX_BODY, MAX_BUFFER_WORDS, MAX_WORDS, judge};
+pub use judging::{Judgement, judge};
 pub use kind::Side;
 pub use laws::{
     any_pieces, none_begins_another, read_is_spelled, short_is_exact, spelled_is_read, told_stays,
 };
+pub use replies::ipcr_of;
 
 #[cfg(test)]
 mod tests;

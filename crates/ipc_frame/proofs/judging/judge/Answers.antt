@@ -7,8 +7,8 @@ pub returns-then-held-lt4 : goal.returns-then-held-lt4
 returns-then-held-lt4 c =
     short_start c.args.side c.args.held.now c.args.behind c.if-held-lt4.true (no_more c.args.behind 50 (length c.args.held.now) c.requires.head (omega (arith, c.if-held-lt4.true)))
 
-pub returns-then-size-gt-MAX_BODY : goal.returns-then-size-gt-MAX_BODY
-returns-then-size-gt-MAX_BODY c =
+pub returns-then-size-gt-MAX_FRAME_BODY : goal.returns-then-size-gt-MAX_FRAME_BODY
+returns-then-size-gt-MAX_FRAME_BODY c =
     too_long c.args.side c.args.held.now c.args.behind c.if-held-lt4.false (omega arith)
 
 pub returns-then-size-eq0 : goal.returns-then-size-eq0

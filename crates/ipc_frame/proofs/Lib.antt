@@ -9,3 +9,4 @@ pub mod JudgeLemmas
 pub mod Vectors
 pub mod PieceLemmas
 pub mod EndLemmas
+pub mod ShortLemmas

@@ -11,3 +11,4 @@ pub mod PieceLemmas
 pub mod EndLemmas
 pub mod DecodeLemmas
 pub mod PlacingLemmas
+pub mod ShortLemmas

@@ -153,8 +153,8 @@ impl IpcFrame {
         &self.parts.payload
     }
 
-    // It is within the grammar. Its numbers are read so that the prover knows their ranges.
-    pub(crate) fn is_frame(&self)
+    /// It is within the grammar. Its numbers are read so that the prover knows their ranges.
+    pub fn is_frame(&self)
         ensures { IsFrame (Frame.Ipc self.now) }
     {
         let _parts = &self.parts;

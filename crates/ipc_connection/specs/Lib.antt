@@ -1,0 +1,6 @@
+pub mod Chain
+pub mod Faults
+pub mod Asking
+pub mod Replying
+pub mod Desk
+pub mod Outcomes

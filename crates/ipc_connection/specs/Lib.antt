@@ -3,4 +3,3 @@ pub mod Faults
 pub mod Asking
 pub mod Replying
 pub mod Desk
-pub mod Outcomes

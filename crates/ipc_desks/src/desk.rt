@@ -1,5 +1,5 @@
 ghost use Rattle.std.specs.Prelude.{◌≡◌, ◌≤◌, ◌+◌, ◌<◌, ◌^◌, length, not, Some, None, IsTrue};
-ghost use Rattle.ipc_history.specs.Outcomes.{failure, nothing};
+ghost use Rattle.ipc_history.specs.Outcomes.{failure, nothing, HasItsWords};
 ghost use Rattle.ipc_desks.specs.Desks.{blank_desk};
 ghost use Rattle.ipc_desks.specs.Messages.{MessageParts, delivered};
 ghost use Rattle.ipc_desks.specs.Steps.{finished, emptied, cleared, entered, entered_told, waits_in, buffers_in, outcome_in_told, is_ready, is_nothing, unbuffered, taken_from};
@@ -195,7 +195,8 @@ pub(crate) fn delivered(
     shown: ThreadId,
     buffers: BufferList,
 ) -> Outcome
-    requires { length message.strings ≤ length buffers }
+    requires fits { length message.strings ≤ length buffers }
+    requires counted { HasItsWords (delivered number message caller shown buffers).tag (delivered number message caller shown buffers).words }
     ensures { result ≡ delivered number message caller shown buffers }
 {
     let is_propagated = message.tag().propagates() && message.originator() == shown;

@@ -1,0 +1,13 @@
+pub mod MessageLemmas
+pub mod LastCalls
+pub mod CallDesks
+pub mod DeskSteps
+pub mod Finishing
+pub mod QuietEntries
+pub mod CalledDesks
+pub mod OutputDesks
+pub mod HandOver
+pub mod TakenDesks
+pub mod Standings
+pub mod Beginning
+pub mod EndedNotes

@@ -1,0 +1,5 @@
+pub mod CallsOf
+pub mod Messages
+pub mod Desks
+pub mod Finishes
+pub mod Steps

@@ -1,0 +1,512 @@
+ghost use Rattle.std.specs.Prelude.{◌≡◌, ◌≤◌, ◌+◌, ◌<◌, ◌^◌, ◌++◌, ◌∷◌, ◌*◌, [], ℕ, length, Some, None, List, IfOk, IfSome, IsTrue, IsFalse, IsNone, false, ◌==◌, ◌&&◌};
+ghost use Rattle.ipc_words.specs.ThreadId.{nilthread, number_of};
+ghost use Rattle.ipc_history.specs.Calls.{caller_of};
+ghost use Rattle.ipc_history.specs.Entries.{number_in};
+ghost use Rattle.ipc_history.specs.Legal.{Legal, Follows};
+ghost use Rattle.ipc_history.specs.Phases.{is_over};
+ghost use Rattle.ipc_history.specs.Threads.{is_live};
+ghost use Rattle.ipc_history.specs.declared.entry.Entry.TheVariants.{Given, Written};
+ghost use Rattle.ipc_history.specs.declared.entry.Input.TheVariants.{Called, Broke};
+ghost use Rattle.ipc_history.specs.declared.entry.Output.TheVariants.{Ended, Overflowed, Aborted, Failed};
+ghost use Rattle.ipc_history.specs.Outcomes.{failure};
+ghost use Rattle.ipc_slots.specs.Slots.{Stands};
+ghost use Rattle.ipc_slots.specs.Standings.{standing_of};
+ghost use Rattle.ipc_desks.specs.CallsOf.{made_by, taken_by, is_busy, last_call, outcome_to_take};
+ghost use Rattle.ipc_desks.specs.Desks.{Keeps, blank_desk, desk_at};
+ghost use Rattle.ipc_desks.specs.Finishes.{finishes, is_named};
+ghost use Rattle.ipc_desks.specs.Messages.{prepared};
+
+use crate::desk::{Desk, delivered, failure, nothing};
+use crate::finished::Finished;
+use crate::message::{Message, Prepared};
+use ipc_history::{Call, Entry, Input, Outcome, Output};
+use ipc_items::BufferList;
+use ipc_slots::{Slots, Standing};
+use ipc_words::{IpcError, ThreadId};
+use std::alloc::{AllocError, Global};
+use std::marker::Model;
+
+/// A desk for each thread number, seen as their list.
+///
+/// A desk keeps the message of its thread's call until that was sent, and what the thread is to be told of the call.
+#[derive(Drop)]
+pub struct Desks {
+    alloc: Global,
+    desks: Vec<Desk>,
+}
+
+impl Model for Desks {
+    ghost use Rattle.std.specs.Prelude.{List};
+    ghost use Rattle.ipc_desks.specs.declared.desk.Desk.{Desk};
+
+    ghost Value = { List Desk };
+
+    ghost view = { λ d. d.desks.items };
+}
+
+impl Desks {
+    /// The desks of an empty history.
+    pub fn new(alloc: Global) -> Result<Desks, AllocError>
+        ensures { IfOk result (λ desks. Keeps [] [] desks) }
+    {
+        let mut desks = Vec::with_capacity(alloc, 256)?;
+        for _ in 0..256_usize {
+            desks.push_reserved(Desk::blank());
+        }
+        Ok(Desks { alloc, desks })
+    }
+}
+
+// One desk.
+impl Desks {
+    ghost use Rattle.ipc_desks.specs.Steps.{Changed, finished, emptied, entered, left, buffers_in, outcome_in_told, unbuffered, taken_from, is_ready};
+
+    fn desk(&self, place: usize) -> &Desk
+        requires { place < length self.now }
+        ensures { result.now ≡ desk_at self.now place }
+    {
+        &self.desks[place]
+    }
+
+    /// Keeps the outcome of a call.
+    fn finish(&mut self, place: usize, outcome: Outcome)
+        requires { place < length self.old }
+        ensures { Changed place (finished outcome) self.old self.new }
+    {
+        self.desks[place].finish(outcome);
+    }
+
+    /// Moves the message out that was sent.
+    fn take_message(&mut self, place: usize) -> Option<Message>
+        requires { place < length self.old }
+        ensures result { result ≡ (desk_at self.old place).message }
+        ensures desks { Changed place emptied self.old self.new }
+    {
+        self.desks[place].take_message()
+    }
+
+    /// Moves the buffer strings out that were filled.
+    fn take_buffers(&mut self, place: usize) -> BufferList
+        requires { place < length self.old }
+        ensures result { result ≡ buffers_in (desk_at self.old place).told }
+        ensures desks { Changed place unbuffered self.old self.new }
+    {
+        let alloc = self.alloc;
+        self.desks[place].take_buffers(alloc)
+    }
+
+    /// Moves an outcome out that is ready.
+    fn take_outcome(&mut self, place: usize) -> Option<Outcome>
+        requires within { place < length self.old }
+        requires few { IsTrue (is_ready (desk_at self.old place).told)
+            → (desk_at self.old place).taken + 1 < 2 ^ 64 }
+        ensures result { result ≡ outcome_in_told (desk_at self.old place).told }
+        ensures desks { Changed place taken_from self.old self.new }
+    {
+        self.desks[place].take()
+    }
+
+    /// Keeps nothing for a thread that ended.
+    fn leave(&mut self, place: usize)
+        requires { place < length self.old }
+        ensures { Changed place left self.old self.new }
+    {
+        self.desks[place] = Desk::blank();
+    }
+
+    /// Keeps the copies of a new call.
+    fn enter(&mut self, place: usize, number: u64, call: &Call, copies: Prepared)
+        requires within { place < length self.old }
+        requires few { (desk_at self.old place).made + 1 < 2 ^ 64 }
+        ensures { Changed place (entered number call.now copies) self.old self.new }
+    {
+        let alloc = self.alloc;
+        self.desks[place].enter(alloc, number, call, copies);
+    }
+}
+
+// What is read of a live thread's desk.
+impl Desks {
+    /// The place of a live thread's desk.
+    fn place_of_thread(&self, entries: &[Entry], thread: ThreadId) -> usize
+        requires legal { Legal entries.now }
+        requires live { IsTrue (is_live entries.now thread) }
+        ensures place { result ≡ number_of thread }
+        ensures within { result < 256 }
+    {
+        let _ = entries;
+        let _ = &self.desks;
+        thread.number() as usize
+    }
+
+    /// Whether a live thread is busy: it made a call whose outcome was not yet taken.
+    pub fn is_busy(&self, entries: &[Entry], taken: &[u64], thread: ThreadId) -> bool
+        requires legal { Legal entries.now }
+        requires keeps { Keeps entries.now taken.now self.now }
+        requires live { IsTrue (is_live entries.now thread) }
+        ensures { result ≡ is_busy entries.now taken.now thread }
+    {
+        let _ = (entries.len(), taken.len());
+        self.desk(self.place_of_thread(entries, thread)).is_busy()
+    }
+
+    /// How many calls a live thread made.
+    pub fn made(&self, entries: &[Entry], taken: &[u64], thread: ThreadId) -> u64
+        requires legal { Legal entries.now }
+        requires keeps { Keeps entries.now taken.now self.now }
+        requires live { IsTrue (is_live entries.now thread) }
+        ensures { result ≡ made_by entries.now thread }
+    {
+        let _ = (entries.len(), taken.len());
+        self.desk(self.place_of_thread(entries, thread)).made
+    }
+
+    /// How many outcomes of calls of a live thread were taken.
+    pub fn taken(&self, entries: &[Entry], taken: &[u64], thread: ThreadId) -> u64
+        requires legal { Legal entries.now }
+        requires keeps { Keeps entries.now taken.now self.now }
+        requires live { IsTrue (is_live entries.now thread) }
+        ensures { result ≡ taken_by entries.now taken.now thread }
+    {
+        let _ = (entries.len(), taken.len());
+        self.desk(self.place_of_thread(entries, thread)).taken
+    }
+
+    /// Moves the outcome out that a live thread may take: that of its last call, where it is over and was not taken yet. Takes no
+    /// memory. Where there is none nothing changes.
+    pub fn take(&mut self, entries: &[Entry], taken: &[u64], thread: ThreadId) -> Option<Outcome>
+        requires legal { Legal entries.now }
+        requires keeps { Keeps entries.now taken.now self.old }
+        requires live { IsTrue (is_live entries.now thread) }
+        ensures given { result ≡ outcome_to_take entries.now taken.now thread }
+        ensures call { IfSome result (λ outcome. last_call entries.now thread ≡ Some outcome.call) }
+        ensures some { IfSome result (λ outcome.
+            Keeps entries.now (taken.now ++ outcome.call ∷ []) self.new) }
+        ensures none { result ≡ None → Keeps entries.now taken.now self.new }
+    {
+        let _made = self.made(entries, taken, thread);
+        let place = self.place_of_thread(entries, thread);
+        self.take_outcome(place)
+    }
+}
+
+// What an entry makes of the desks. Each names the entries before it.
+impl Desks {
+    ghost use Rattle.ipc_desks.specs.Steps.{Failing};
+
+    /// The place of the desk that waits for the outcome of an open call.
+    fn place_of(&self, entries: &[Entry], taken: &[u64], number: u64) -> usize
+        requires legal { Legal entries.now }
+        requires keeps { Keeps entries.now taken.now self.now }
+        requires open { IsFalse (is_over entries.now number) }
+        ensures within { result < 256 }
+        ensures place { result ≡ number_of (caller_of entries.now number) }
+    {
+        let _ = (entries.len(), taken.len());
+        for place in 0..256 {
+            if self.desk(place).waits(number) {
+                return place;
+            }
+        }
+        unreachable!()
+    }
+
+    /// Takes note of the failure of a call.
+    fn note_failed(
+        &mut self,
+        entries: &[Entry],
+        taken: &[u64],
+        slots: &Slots,
+        number: u64,
+        error: IpcError,
+    ) -> Finished
+        requires legal { Legal entries.now }
+        requires follows { Follows entries.now (Written (Failed number error)) }
+        requires stands { Stands entries.now slots.now }
+        requires keeps { Keeps entries.now taken.now self.old }
+        ensures keeps { Keeps (entries.now ++ Written (Failed number error) ∷ []) taken.now self.new }
+        ensures finished { (t : ℕ) → is_named result t ≡ finishes entries.now (Written (Failed number error)) t }
+    {
+        let place = self.place_of(entries, taken, number);
+        let call = standing(entries, slots, number, place);
+        let alloc = self.alloc;
+        self.finish(place, failure(alloc, number, error));
+        Finished {
+            first: Some(call.caller),
+            second: None,
+        }
+    }
+
+    /// Keeps the failures of a sending and a receiving call, and says whose they are.
+    fn fail_both(
+        &mut self,
+        entries: &[Entry],
+        taken: &[u64],
+        slots: &Slots,
+        sending: u64,
+        receiving: u64,
+        code: u64,
+    ) -> Finished
+        requires legal { Legal entries.now }
+        requires stands { Stands entries.now slots.now }
+        requires keeps { Keeps entries.now taken.now self.old }
+        requires sends { IsFalse (is_over entries.now sending) }
+        requires receives { IsFalse (is_over entries.now receiving) }
+        requires small { code < 2 ^ 32 }
+        ensures desks { Failing (number_of (caller_of entries.now sending)) (number_of (caller_of entries.now receiving)) (failure sending code) (failure receiving (code + 1)) self.old self.new }
+        ensures finished { result ≡ record { first = Some (caller_of entries.now sending); second = Some (caller_of entries.now receiving) } }
+    {
+        let from = self.place_of(entries, taken, sending);
+        let to = self.place_of(entries, taken, receiving);
+        let sender = standing(entries, slots, sending, from);
+        let receiver = standing(entries, slots, receiving, to);
+        let alloc = self.alloc;
+        self.finish(from, failure(alloc, sending, IpcError::from_word(code)));
+        self.finish(to, failure(alloc, receiving, IpcError::from_word(code + 1)));
+        Finished {
+            first: Some(sender.caller),
+            second: Some(receiver.caller),
+        }
+    }
+
+    /// Takes note of an overflow.
+    fn note_overflowed(
+        &mut self,
+        entries: &[Entry],
+        taken: &[u64],
+        slots: &Slots,
+        sending: u64,
+        receiving: u64,
+        offset: u64,
+    ) -> Finished
+        requires legal { Legal entries.now }
+        requires follows { Follows entries.now (Written (Overflowed sending receiving offset)) }
+        requires stands { Stands entries.now slots.now }
+        requires keeps { Keeps entries.now taken.now self.old }
+        ensures keeps { Keeps (entries.now ++ Written (Overflowed sending receiving offset) ∷ []) taken.now self.new }
+        ensures finished { (t : ℕ) → is_named result t ≡ finishes entries.now (Written (Overflowed sending receiving offset)) t }
+    {
+        self.fail_both(entries, taken, slots, sending, receiving, 0x8 + 16 * offset)
+    }
+
+    /// Takes note of an abort.
+    fn note_aborted(
+        &mut self,
+        entries: &[Entry],
+        taken: &[u64],
+        slots: &Slots,
+        sending: u64,
+        receiving: u64,
+        count: u64,
+    ) -> Finished
+        requires legal { Legal entries.now }
+        requires follows { Follows entries.now (Written (Aborted sending receiving count)) }
+        requires stands { Stands entries.now slots.now }
+        requires keeps { Keeps entries.now taken.now self.old }
+        ensures keeps { Keeps (entries.now ++ Written (Aborted sending receiving count) ∷ []) taken.now self.new }
+        ensures finished { (t : ℕ) → is_named result t ≡ finishes entries.now (Written (Aborted sending receiving count)) t }
+    {
+        self.fail_both(entries, taken, slots, sending, receiving, 0xe + 16 * count)
+    }
+}
+
+// A message that is delivered, and every entry.
+impl Desks {
+    ghost use Rattle.ipc_history.specs.Outcomes.{received};
+    ghost use Rattle.ipc_desks.specs.Steps.{Moved};
+
+    /// Moves the message of a sending call and the buffer strings of a receiving call into the outcome of the receiving one.
+    fn hand_over(
+        &mut self,
+        entries: &[Entry],
+        taken: &[u64],
+        receiving: u64,
+        call: &Standing,
+        from: usize,
+        to: usize,
+    ) -> Outcome
+        requires legal { Legal entries.now }
+        requires follows { Follows entries.now (Written (Ended call.now.number receiving)) }
+        requires keeps { Keeps entries.now taken.now self.old }
+        requires call { call.now ≡ standing_of entries.now call.now.number }
+        requires sender { from ≡ number_of (caller_of entries.now call.now.number) }
+        requires receiver { to ≡ number_of (caller_of entries.now receiving) }
+        requires from_within { from < 256 }
+        requires to_within { to < 256 }
+        ensures outcome { result ≡ received entries.now call.now.number receiving }
+        ensures desks { Moved from to self.old self.new }
+    {
+        let _ = (entries.len(), taken.len());
+        let Some(message) = self.take_message(from) else {
+            unreachable!()
+        };
+        let buffers = self.take_buffers(to);
+        delivered(receiving, message, call.caller, call.shown, buffers)
+    }
+
+    /// Takes note of a transfer that ended well.
+    fn note_ended(
+        &mut self,
+        entries: &[Entry],
+        taken: &[u64],
+        slots: &Slots,
+        sending: u64,
+        receiving: u64,
+    ) -> Finished
+        requires legal { Legal entries.now }
+        requires follows { Follows entries.now (Written (Ended sending receiving)) }
+        requires stands { Stands entries.now slots.now }
+        requires keeps { Keeps entries.now taken.now self.old }
+        ensures keeps { Keeps (entries.now ++ Written (Ended sending receiving) ∷ []) taken.now self.new }
+        ensures finished { (t : ℕ) → is_named result t ≡ finishes entries.now (Written (Ended sending receiving)) t }
+    {
+        let from = self.place_of(entries, taken, sending);
+        let to = self.place_of(entries, taken, receiving);
+        let sender = standing(entries, slots, sending, from);
+        let receiver = standing(entries, slots, receiving, to);
+        let outcome = self.hand_over(entries, taken, receiving, &sender, from, to);
+        self.finish(to, outcome);
+        if sender.from != ThreadId::NILTHREAD {
+            return Finished {
+                first: None,
+                second: Some(receiver.caller),
+            };
+        }
+        let alloc = self.alloc;
+        self.finish(from, nothing(alloc, sending));
+        Finished {
+            first: Some(sender.caller),
+            second: Some(receiver.caller),
+        }
+    }
+
+    /// Takes note of an output.
+    fn note_output(
+        &mut self,
+        entries: &[Entry],
+        taken: &[u64],
+        slots: &Slots,
+        output: &Output,
+    ) -> Finished
+        requires legal { Legal entries.now }
+        requires follows { Follows entries.now (Written output.now) }
+        requires stands { Stands entries.now slots.now }
+        requires keeps { Keeps entries.now taken.now self.old }
+        ensures keeps { Keeps (entries.now ++ Written output.now ∷ []) taken.now self.new }
+        ensures finished { (t : ℕ) → is_named result t ≡ finishes entries.now (Written output.now) t }
+    {
+        match *output {
+            Output::Began(_, _) | Output::Turned(_, _) => Finished::NONE,
+            Output::Ended(sending, receiving) => {
+                self.note_ended(entries, taken, slots, sending, receiving)
+            }
+            Output::Overflowed(sending, receiving, offset) => {
+                self.note_overflowed(entries, taken, slots, sending, receiving, offset)
+            }
+            Output::Aborted(sending, receiving, count) => {
+                self.note_aborted(entries, taken, slots, sending, receiving, count)
+            }
+            Output::Failed(number, error) => {
+                self.note_failed(entries, taken, slots, number, error)
+            }
+        }
+    }
+
+    /// Takes note of a break: nothing is kept for a thread that ended.
+    fn note_broke(&mut self, entries: &[Entry], taken: &[u64], thread: ThreadId)
+        requires legal { Legal entries.now }
+        requires follows { Follows entries.now (Given (Broke thread)) }
+        requires keeps { Keeps entries.now taken.now self.old }
+        ensures keeps { Keeps (entries.now ++ Given (Broke thread) ∷ []) taken.now self.new }
+        ensures finished { (t : ℕ) → finishes entries.now (Given (Broke thread)) t ≡ false }
+    {
+        let _ = taken.len();
+        let place = self.place_of_thread(entries, thread);
+        self.leave(place);
+    }
+
+    /// Takes note of an input, any but a call.
+    fn note_input(&mut self, entries: &[Entry], taken: &[u64], input: &Input) -> Finished
+        requires legal { Legal entries.now }
+        requires follows { Follows entries.now (Given input.now) }
+        requires keeps { Keeps entries.now taken.now self.old }
+        requires plain { number_in (Given input.now) ≡ None }
+        ensures keeps { Keeps (entries.now ++ Given input.now ∷ []) taken.now self.new }
+        ensures finished { (t : ℕ) → is_named result t ≡ finishes entries.now (Given input.now) t }
+    {
+        if let Input::Broke(thread) = input {
+            self.note_broke(entries, taken, *thread);
+            return Finished::NONE;
+        }
+        Finished::NONE
+    }
+
+    /// Takes note of the next entry of a legal history, any but a call, and says whose call it ended. Takes no memory.
+    pub fn note(
+        &mut self,
+        entries: &[Entry],
+        taken: &[u64],
+        slots: &Slots,
+        entry: &Entry,
+    ) -> Finished
+        requires legal { Legal entries.now }
+        requires follows { Follows entries.now entry.now }
+        requires stands { Stands entries.now slots.now }
+        requires keeps { Keeps entries.now taken.now self.old }
+        requires plain { number_in entry.now ≡ None }
+        ensures keeps { Keeps (entries.now ++ entry.now ∷ []) taken.now self.new }
+        ensures finished { (t : ℕ) → is_named result t ≡ finishes entries.now entry.now t }
+    {
+        match entry {
+            Entry::Written(output) => self.note_output(entries, taken, slots, output),
+            Entry::Given(input) => self.note_input(entries, taken, input),
+        }
+    }
+
+    /// Takes note of a call, whose copies these are, and says whether it is over at once: its caller is then told nothing. Takes no
+    /// memory.
+    pub fn note_called(
+        &mut self,
+        entries: &[Entry],
+        taken: &[u64],
+        number: u64,
+        caller: ThreadId,
+        call: &Call,
+        copies: Prepared,
+    ) -> Finished
+        requires legal { Legal entries.now }
+        requires follows { Follows entries.now (Given (Called number caller call.now)) }
+        requires keeps { Keeps entries.now taken.now self.old }
+        requires copies { copies ≡ prepared call.now }
+        ensures keeps { Keeps (entries.now ++ Given (Called number caller call.now) ∷ []) taken.now self.new }
+        ensures finished { (t : ℕ) → is_named result t ≡ finishes entries.now (Given (Called number caller call.now)) t }
+    {
+        let _ = taken.len();
+        let place = self.place_of_thread(entries, caller);
+        self.enter(place, number, call, copies);
+        Finished::at_once(caller, is_over_at_once(call))
+    }
+}
+
+/// Whether a call is over as soon as it is entered: it has neither phase.
+fn is_over_at_once(call: &Call) -> bool
+    ensures { result ≡ ((call.now.from == nilthread) && (call.now.to == nilthread)) }
+{
+    call.from() == ThreadId::NILTHREAD && call.to() == ThreadId::NILTHREAD
+}
+
+/// What the slot at the place of an open call's caller says of the call.
+fn standing(entries: &[Entry], slots: &Slots, number: u64, place: usize) -> Standing
+    requires legal { Legal entries.now }
+    requires stands { Stands entries.now slots.now }
+    requires open { IsFalse (is_over entries.now number) }
+    requires within { place < 256 }
+    requires place { place ≡ number_of (caller_of entries.now number) }
+    ensures { result ≡ standing_of entries.now number }
+{
+    let _ = (entries.len(), number);
+    let Some(call) = slots.call_at(place) else {
+        unreachable!()
+    };
+    call
+}

@@ -69,7 +69,7 @@ module _ (H : List Entry) (moment : ℕ) where
   unfolding has_broken
   same_broken t = same_any (breaks t) refl
 
-  same_live : (t : ℕ) → is_live after_at t ≡ is_live H t
+  pub same_live : (t : ℕ) → is_live after_at t ≡ is_live H t
   unfolding is_live was_opened
   same_live t = rw (same_any (opens t) refl, same_broken t) refl
 
@@ -84,7 +84,7 @@ module _ (H : List Entry) (moment : ℕ) where
   same_moved : (n : ℕ) → moved_bytes after_at n ≡ moved_bytes H n
   same_moved n = (changes H (Given (At moment))).bytes n ∙ add-zero (moved_bytes H n)
 
-  same_over : (n : ℕ) → is_over after_at n ≡ is_over H n
+  pub same_over : (n : ℕ) → is_over after_at n ≡ is_over H n
   unfolding is_over
   same_over n = rw (same_any (closes n) refl, same_caller n, same_broken (caller_of H n), same_from n, same_sent n, same_to n) refl
 

@@ -1,32 +1,27 @@
 -- What keeps the books of a kernel.
-use Rattle.std.proofs.lemmas.Bool.{false≢true, false_from_ne_true, or_cases, or_left, or_right}
+use Rattle.std.proofs.lemmas.Bool.{false≢true, false_from_ne_true, or_cases}
 use Rattle.std.proofs.lemmas.List.{length-append}
 use Rattle.std.proofs.lemmas.List.Elements.{All-head, All-nil, All-push, All-tail, All-weaker}
 use Rattle.std.proofs.lemmas.List.Folds.{list_any-append}
 use Rattle.std.proofs.lemmas.Map.Keys.{IsDistinct-push}
 use Rattle.std.proofs.lemmas.Map.Steps.{length-le_from_distinct_below}
-use Rattle.std.proofs.Common.{◌≡◌, refl, sym, ap, ap₂, ◌∙◌, subst, ℕ, ◌+◌, ◌<◌, ◌≤◌, Bool, true, false, not, ◌||◌, ◌&&◌, ◌==◌, eq-eqb, eqb-true, cond, List, [], ◌∷◌, ◌++◌, append-nil, length, take, filter, inl, inr, arith}
+use Rattle.std.proofs.Common.{◌≡◌, refl, sym, ap, ap₂, ◌∙◌, subst, ℕ, ◌+◌, ◌<◌, ◌≤◌, Bool, true, false, ◌||◌, ◌==◌, eq-eqb, eqb-true, List, [], ◌∷◌, ◌++◌, length, Option, Some, None, IfSome, inl, inr, arith}
 use Rattle.std.specs.Prelude.{All}
 use Rattle.std.specs.Cmp.{IsEquivalence}
-use Rattle.std.specs.List.{AllByRecursion, IsDistinct, list_any}
-use Rattle.ipc_history.specs.Calls.{call_at, caller_of, is_called}
-use Rattle.ipc_history.specs.Threads.{has_broken, is_live}
-use Rattle.ipc_history.specs.Phases.{is_over}
-use Rattle.ipc_history.specs.Legal.{Legal}
+use Rattle.std.specs.List.{IsDistinct, list_any}
+use Rattle.ipc_history.specs.CallParts.{CallParts}
+use Rattle.ipc_history.specs.Calls.{call_at, is_called}
+use Rattle.ipc_history.specs.Outcomes.{OutcomeParts}
 use Rattle.ipc_history.specs.declared.entry.Entry.{Entry}
-use Rattle.ipc_history.specs.declared.entry.Entry.TheVariants.{Given}
 use Rattle.ipc_history.specs.declared.entry.Input.{Input}
 use Rattle.ipc_history.specs.declared.entry.Input.TheVariants.{Called}
-use Rattle.ipc_laws.specs.Counting.{threads}
-use Rattle.ipc_laws.proofs.Growth.{caller_of_kept, has_broken_kept, is_called_kept, over_kept}
+use Rattle.ipc_laws.proofs.Growth.{is_called_kept, over_kept}
 use Rattle.ipc_laws.proofs.Tests.{not_both}
-use Rattle.ipc_core.specs.Books.{AreBooks, BooksParts, Closes, finished_threads}
-use Rattle.ipc_core.specs.Copies.{without_call}
+use Rattle.ipc_core.specs.Books.{AreBooks}
 use Rattle.ipc_core.specs.KernelParts.{KernelParts}
 use Rattle.ipc_core.specs.Obeying.{rested}
-use Rattle.ipc_core.proofs.CopyLists.{any_left}
-use Rattle.ipc_history.specs.CallParts.{CallParts}
-use Rattle.ipc_core.specs.Outcomes.{IsTaken, finished_from, is_among}
+use Rattle.ipc_core.specs.Outcomes.{IsTaken, is_among}
+use Rattle.ipc_core.specs.Steps.{taken_after}
 use Rattle.ipc_core.proofs.NewCalls.{Grows, is_call, no_new_call}
 
 -- equal numbers
@@ -40,62 +35,47 @@ eqb_sym x y = go (x == y) refl
 pub eqb_equivalence : IsEquivalence (λ (a b : ℕ). a == b)
 eqb_equivalence = record { refl = λ x. eq-eqb x x refl; symm = eqb_sym; congr = λ x y z same. ap (λ w. w == z) (eqb-true x y same) }
 
-none_twice : IsDistinct (λ (a b : ℕ). a == b) []
+pub none_twice : IsDistinct (λ (a b : ℕ). a == b) []
 unfolding IsDistinct
 none_twice = tt
 
 -- the books of the empty history
-pub books_none : (H : List Entry) (kept : List ℕ) (books : BooksParts) → H ≡ [] → books.taken ≡ [] → books.since ≡ 0 → books.finished ≡ [] → AreBooks H kept books
-unfolding is_called call_at finished_threads threads
-books_none H kept books empty none start idle = rw (empty) (record {
-  taken = subst (All (IsTaken [])) (sym none) (All-nil (IsTaken []));
+pub books_none : (H : List Entry) (taken : List ℕ) (since places : ℕ) → H ≡ [] → taken ≡ [] → since ≡ 0 → AreBooks H taken since places
+unfolding is_called call_at
+books_none H taken since places empty none start = rw empty (record {
+  taken_are = subst (All (IsTaken [])) (sym none) (All-nil (IsTaken []));
   once = subst (IsDistinct (λ a b. a == b)) (sym none) none_twice;
-  since = omega (arith, start);
+  begun = omega (arith, start);
   room = λ n called. absurd (false≢true called);
-  finished = idle;
-  untaken = λ n called. absurd (false≢true called);
 })
 
--- the books after a command, where each call that may still be taken is kept
-module _ (H K E : List Entry) (more : List Entry) (whole : K ≡ H ++ more) (k : ℕ) (old new : BooksParts) (closes : Closes E k old new) (there : E ≡ K) (long : k ≡ length H) where
-  pub books_after : (before kept : List ℕ) (were : BooksParts) → AreBooks H before were → old.taken ≡ were.taken → ((n : ℕ) → is_called K n ≡ true → n < new.room) → ((n : ℕ) → is_called K n ≡ true → has_broken K (caller_of K n) ≡ false → is_among n were.taken ≡ false → is_among n kept ≡ true) → AreBooks K kept new
-  books_after before kept were books same room untaken =
-      let still : new.taken ≡ were.taken = closes.taken ∙ same in
-      record {
-        taken = subst (All (IsTaken K)) (sym still) (All-weaker (IsTaken H) (IsTaken K) stays were.taken books.taken);
-        once = subst (IsDistinct (λ a b. a == b)) (sym still) books.once;
-        since = (let start = closes.since in omega (arith, start, long, ap length whole, length-append H more));
-        room = room;
-        finished = closes.finished ∙ (ap (λ l. finished_threads (take k l) l) there ∙ ap (λ j. finished_threads (take j K) K) (sym closes.since));
-        untaken = λ n called unbroken fresh. untaken n called unbroken (ap (is_among n) (sym still) ∙ fresh);
-      }
-    where
-      stays : (n : ℕ) → IsTaken H n → IsTaken K n
-      stays n is = subst (λ l. IsTaken l n) (sym whole) (record { called = is_called_kept H more n is.called; over = over_kept H more n is.called is.over })
+-- the books after a command, which begins where the history ended
+module _ (H K : List Entry) (input : Input) (grows : Grows H K input) (old new : List ℕ) (same : new ≡ old) (since begun places more : ℕ) (start : since ≡ length H) where
+  stays : (n : ℕ) → IsTaken H n → IsTaken K n
+  stays n is = subst (λ l. IsTaken l n) (sym grows.whole) (record { called = is_called_kept H grows.more n is.called; over = over_kept H grows.more n is.called is.over })
 
--- a call that was there lived where it lives
-lived : (H K more : List Entry) → K ≡ H ++ more → (n : ℕ) → is_called H n ≡ true → has_broken K (caller_of K n) ≡ false → (caller_of K n ≡ caller_of H n) × (has_broken H (caller_of H n) ≡ false)
-lived H K more whole n called unbroken =
-    let caller : caller_of K n ≡ caller_of H n = ap (λ l. caller_of l n) whole ∙ caller_of_kept H more n called in
-    (caller, false_from_ne_true _ (λ broken. not_both (ap (has_broken K) caller ∙ (ap (λ l. has_broken l (caller_of H n)) whole ∙ has_broken_kept H more (caller_of H n) broken)) unbroken))
+  grown : AreBooks H old begun places → ((n : ℕ) → is_called K n ≡ true → n < more) → AreBooks K new since more
+  grown books room = record {
+    taken_are = subst (All (IsTaken K)) (sym same) (All-weaker (IsTaken H) (IsTaken K) stays old books.taken_are);
+    once = subst (IsDistinct (λ a b. a == b)) (sym same) books.once;
+    begun = omega (arith, start, ap length grows.whole, length-append H grows.more);
+    room = room;
+  }
 
--- where no call was entered
-pub books_grown : (H K E : List Entry) (input : Input) → Grows H K input → is_call input ≡ false → (k : ℕ) (old new : BooksParts) → Closes E k old new → E ≡ K → k ≡ length H → (before kept : List ℕ) → AreBooks H before old → ((n : ℕ) → has_broken K (caller_of H n) ≡ false → is_among n before ≡ true → is_among n kept ≡ true) → AreBooks K kept new
-books_grown H K E input grows none k old new closes there long before kept books stay = books_after H K E grows.more grows.whole k old new closes there long before kept old books refl
-    (λ n called. subst (λ r. n < r) (sym closes.room) (books.room n (no_new_call H K input grows none n called)))
-    (λ n called unbroken fresh. (let was = no_new_call H K input grows none n called in let before_too = lived H K grows.more grows.whole n was unbroken in stay n (ap (has_broken K) (sym before_too.0) ∙ unbroken) (books.untaken n was before_too.1 fresh)))
+  -- where no call was entered
+  pub books_grown : is_call input ≡ false → more ≡ places → AreBooks H old begun places → AreBooks K new since more
+  books_grown none room books = grown books (λ n called. (let had = books.room n (no_new_call H K input grows none n called) in omega (arith, had, room)))
 
 -- where one was
-pub books_entered : (H K E : List Entry) (number thread : ℕ) (call : CallParts) → Grows H K (Called number thread call) → (k : ℕ) (were old new : BooksParts) → Closes E k old new → E ≡ K → k ≡ length H → (before kept : List ℕ) → AreBooks H before were → old.taken ≡ were.taken → were.room ≤ old.room → number < old.room → kept ≡ before ++ number ∷ [] → AreBooks K kept new
-books_entered H K E number thread call grows k were old new closes there long before kept books same more fits kept_is = books_after H K E grows.more grows.whole k old new closes there long before kept were books same
-    (λ n called. elim (or_cases _ _ (sym (grows.called n) ∙ called)) [
-      | inl was ↦ (let had = books.room n was in let room = closes.room in omega (arith, had, more, room))
-      | inr it ↦ (let is_n : number ≡ n = eqb-true number n it in let room = closes.room in omega (arith, is_n, fits, room))
-    ])
-    (λ n called unbroken fresh. ap (is_among n) kept_is ∙ (list_any-append (λ k. k == n) before (number ∷ []) ∙ elim (or_cases _ _ (sym (grows.called n) ∙ called)) [
-      | inl was ↦ or_left _ _ (books.untaken n was (lived H K grows.more grows.whole n was unbroken).1 fresh)
-      | inr it ↦ or_right _ _ (or_left _ _ it)
-    ]))
+pub books_entered : (H K : List Entry) (number thread : ℕ) (call : CallParts) → Grows H K (Called number thread call) → (old new : List ℕ) → new ≡ old → (since begun places more : ℕ) → since ≡ length H → places ≤ more → number < more → AreBooks H old begun places → AreBooks K new since more
+books_entered H K number thread call grows old new same since begun places more start wider fits books = grown H K (Called number thread call) grows old new same since begun places more start books (λ n called. elim (or_cases _ _ (sym (grows.called n) ∙ called)) [
+  | inl was ↦ (let had = books.room n was in omega (arith, had, wider))
+  | inr it ↦ (let is_n : number ≡ n = eqb-true number n it in omega (arith, is_n, fits))
+])
+
+-- where nothing was written
+pub books_rest : (H : List Entry) (taken : List ℕ) (since begun places : ℕ) → since ≡ length H → AreBooks H taken begun places → AreBooks H taken since places
+books_rest H taken since begun places start books = record { taken_are = books.taken_are; once = books.once; begun = omega (arith, start); room = books.room }
 
 -- Taking
 
@@ -118,53 +98,38 @@ pub taken_once : (xs : List ℕ) (n : ℕ) → IsDistinct (λ a b. a == b) xs �
 taken_once xs n once fresh = IsDistinct-push eqb_equivalence xs n once (sym (among_either n xs) ∙ fresh)
 
 -- for which there is room
-pub room_to_take : (H : List Entry) (kept : List ℕ) (books : BooksParts) → AreBooks H kept books → (n : ℕ) → is_called H n ≡ true → is_among n books.taken ≡ false → length books.taken < books.room
-room_to_take H kept books are n called fresh =
-    let below = length-le_from_distinct_below (books.taken ++ n ∷ []) books.room (taken_once books.taken n are.once fresh) (λ q found. each q (sym (list_any-append (λ k. q == k) books.taken (n ∷ [])) ∙ found)) in
-    omega (arith, below, length-append books.taken (n ∷ []))
+pub room_to_take : (H : List Entry) (taken : List ℕ) (since places : ℕ) → AreBooks H taken since places → (n : ℕ) → is_called H n ≡ true → is_among n taken ≡ false → length taken < places
+room_to_take H taken since places books n called fresh =
+    let below = length-le_from_distinct_below (taken ++ n ∷ []) places (taken_once taken n books.once fresh) (λ q found. each q (sym (list_any-append (λ k. q == k) taken (n ∷ [])) ∙ found)) in
+    omega (arith, below, length-append taken (n ∷ []))
   where
-    each : (q : ℕ) → (list_any (λ k. q == k) books.taken || list_any (λ k. q == k) (n ∷ [])) ≡ true → q < books.room
+    each : (q : ℕ) → (list_any (λ k. q == k) taken || list_any (λ k. q == k) (n ∷ [])) ≡ true → q < places
     each q h = elim (or_cases _ _ h) [
-      | inl old ↦ are.room q (among_all (IsTaken H) books.taken q are.taken (among_either q books.taken ∙ old)).called
+      | inl old ↦ books.room q (among_all (IsTaken H) taken q books.taken_are (among_either q taken ∙ old)).called
       | inr new ↦ elim (or_cases (q == n) false new) [
-        | inl same ↦ (let is_n : q ≡ n = eqb-true q n same in are.room q (ap (is_called H) is_n ∙ called))
+        | inl same ↦ (let is_n : q ≡ n = eqb-true q n same in books.room q (ap (is_called H) is_n ∙ called))
         | inr none ↦ absurd (false≢true none)
       ]
     ]
 
 -- the books after an outcome was taken
-pub books_taken : (H : List Entry) (before kept : List ℕ) (old new : BooksParts) → AreBooks H before old → (n : ℕ) → is_called H n ≡ true → is_over H n ≡ true → is_among n old.taken ≡ false → new.taken ≡ old.taken ++ n ∷ [] → new.since ≡ old.since → new.finished ≡ old.finished → new.room ≡ old.room → kept ≡ without_call n before → AreBooks H kept new
-books_taken H before kept old new are n called over fresh taken since finished room kept_is = record {
-  taken = subst (All (IsTaken H)) (sym taken) (All-push (IsTaken H) old.taken n are.taken (record { called = called; over = over }));
-  once = subst (IsDistinct (λ a b. a == b)) (sym taken) (taken_once old.taken n are.once fresh);
-  since = (let start = are.since in omega (arith, since, start));
-  room = λ k made. subst (λ r. k < r) (sym room) (are.room k made);
-  finished = finished ∙ (are.finished ∙ ap (λ j. finished_threads (take j H) H) (sym since));
-  untaken = λ k made unbroken other. (let split = neither (is_among k old.taken) (n == k || false) (sym (list_any-append (λ j. j == k) old.taken (n ∷ [])) ∙ (ap (is_among k) (sym taken) ∙ other)) in ap (is_among k) kept_is ∙ any_left (λ j. j == k) (λ j. not (j == n)) before (λ j same. not_n j k same split.1) (are.untaken k made unbroken split.0));
+pub books_taken : (H : List Entry) (old new : List ℕ) (since places : ℕ) → AreBooks H old since places → (n : ℕ) → is_called H n ≡ true → IsTaken H n → is_among n old ≡ false → new ≡ old ++ n ∷ [] → AreBooks H new since places
+books_taken H old new since places books n called done fresh taken = record {
+  taken_are = subst (All (IsTaken H)) (sym taken) (All-push (IsTaken H) old n books.taken_are done);
+  once = subst (IsDistinct (λ a b. a == b)) (sym taken) (taken_once old n books.once fresh);
+  begun = books.begun;
+  room = books.room;
 }
-  where
-    neither : (a b : Bool) → (a || b) ≡ false → (a ≡ false) × (b ≡ false)
-    neither a b h = (grind arith, grind arith)
 
-    not_n : (j k : ℕ) → (j == k) ≡ true → (n == k || false) ≡ false → not (j == n) ≡ true
-    not_n j k same other = ap not (false_from_ne_true (j == n) (λ is. (
-      let j_is_n : j ≡ n = eqb-true j n is in
-      let j_is_k : j ≡ k = eqb-true j k same in
-      not_both (ap (λ b. b || false) (eq-eqb n k (sym j_is_n ∙ j_is_k))) other)))
-
--- the end of a command that wrote nothing
-pub books_rest : (H E : List Entry) (kept : List ℕ) (places : ℕ) (old new : BooksParts) → Closes E places old new → E ≡ H → places ≡ length H → AreBooks H kept old → AreBooks H kept new
-books_rest H E kept places old new closes there long books = books_after H H E [] (sym (append-nil H)) places old new closes there long kept kept old books refl
-    (λ n called. subst (λ r. n < r) (sym closes.room) (books.room n called))
-    (λ n called unbroken fresh. books.untaken n called unbroken fresh)
-
--- what is seen of a kernel then, and after an outcome was taken
+-- what is seen of a kernel after a command that wrote nothing
 module _ (seen old : KernelParts) (taken : List ℕ) (since : ℕ) where
   pub seen_rested : seen ≡ old → taken ≡ seen.taken → since ≡ length seen.history → record seen { taken = taken; since = since } ≡ rested old
   seen_rested same taken_is since_is = ap₂ (λ t s. record seen { taken = t; since = s }) taken_is since_is ∙ ap rested same
 
-  pub seen_taken : (n call : ℕ) → seen ≡ old → taken ≡ seen.taken ++ n ∷ [] → since ≡ seen.since → call ≡ n → record seen { taken = taken; since = since } ≡ record old { taken = old.taken ++ call ∷ [] }
-  seen_taken n call same taken_is since_is is_n = ap₂ (λ t s. record seen { taken = t; since = s }) taken_is since_is ∙ (ap (λ j. record seen { taken = seen.taken ++ j ∷ [] }) (sym is_n) ∙ ap (λ (k : KernelParts). record k { taken = k.taken ++ call ∷ [] }) same)
-
 pub seen_given : (seen between old : KernelParts) (taken after : List ℕ) (since : ℕ) → seen ≡ between → between ≡ record old { taken = after } → taken ≡ seen.taken → since ≡ length seen.history → record seen { taken = taken; since = since } ≡ record old { taken = after; since = length old.history }
 seen_given seen between old taken after since same did taken_is since_is = seen_rested seen between taken since same taken_is since_is ∙ ap rested did
+
+-- whether one was taken or none
+pub books_took : (H : List Entry) (old new : List ℕ) (since places : ℕ) (outcome : Option OutcomeParts) → AreBooks H old since places → new ≡ taken_after outcome old → IfSome outcome (λ o. IsTaken H o.call) → IfSome outcome (λ o. is_among o.call old ≡ false) → AreBooks H new since places
+books_took H old new since places None books same done fresh = subst (λ t. AreBooks H t since places) (sym same) books
+books_took H old new since places (Some o) books same done fresh = books_taken H old new since places books o.call done.called done fresh same

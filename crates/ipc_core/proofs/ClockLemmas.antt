@@ -3,7 +3,7 @@ use Rattle.std.proofs.Common.{◌≡◌, refl, ◌∙◌, subst, ℕ, ◌+◌, �
 use Rattle.std.proofs.lemmas.Bool.{ltb-true, ltb-false}
 use Rattle.std.specs.Bool.{MatchBool}
 use Rattle.std.specs.List.{list_any}
-use Rattle.ipc_history.specs.HistoryParts.{HistoryParts}
+use Rattle.ipc_core.specs.CourseParts.{CourseParts}
 use Rattle.ipc_history.specs.Calls.{numbers, message_size}
 use Rattle.ipc_history.specs.Blocks.{block_of}
 use Rattle.ipc_history.specs.Phases.{is_over, moved_bytes}
@@ -38,7 +38,7 @@ pub moving_open : (H : List Entry) (n : ℕ) → next_moving H ≡ Some n → Is
 moving_open H n next = (moving_passes H n (min 65536 (message_size H n - moved_bytes H n)) (moved_admissible H n (min 65536 (message_size H n - moved_bytes H n)) next refl)).1.opened
 
 -- where no phase is due at a later moment, the clock alone is set
-pub kernel_waits : (entries_limit calls_limit moment later : ℕ) (course : HistoryParts) → IsKernel entries_limit calls_limit moment course → moment ≤ later → later < 2 ^ 63 → list_any (is_due_at course.entries later) (numbers course.entries) ≡ false → IsKernel entries_limit calls_limit later course
+pub kernel_waits : (entries_limit calls_limit moment later : ℕ) (course : CourseParts) → IsKernel entries_limit calls_limit moment course → moment ≤ later → later < 2 ^ 63 → list_any (is_due_at course.entries later) (numbers course.entries) ≡ false → IsKernel entries_limit calls_limit later course
 kernel_waits entries_limit calls_limit moment later course kernel onward below undue =
     let stands = kernel.stands in
     record {
@@ -56,7 +56,7 @@ kernel_waits entries_limit calls_limit moment later course kernel onward below u
     }
 
 -- a moment at which a phase is due is later than the history's, and its At may follow
-module _ (entries_limit calls_limit moment later : ℕ) (old : HistoryParts) (kernel : IsKernel entries_limit calls_limit moment old) (onward : moment ≤ later) (below : later < 2 ^ 63) (due : list_any (is_due_at old.entries later) (numbers old.entries) ≡ true) where
+module _ (entries_limit calls_limit moment later : ℕ) (old : CourseParts) (kernel : IsKernel entries_limit calls_limit moment old) (onward : moment ≤ later) (below : later < 2 ^ 63) (due : list_any (is_due_at old.entries later) (numbers old.entries) ≡ true) where
   due_later : now old.entries < later
   due_later = go (nat_lt moment later) refl
     where
@@ -71,7 +71,7 @@ module _ (entries_limit calls_limit moment later : ℕ) (old : HistoryParts) (ke
   due_legal = clock_legal old.entries later kernel.stands.legal kernel.stands.quiet due_later below
 
   -- after that At and its outputs
-  pub kernel_ticks : (new : HistoryParts) → Settled (old.entries ++ Given (At later) ∷ []) new.entries → new.room ≡ old.room → length new.entries + room_owed new.entries ≤ length old.entries + room_owed old.entries → IsKernel entries_limit calls_limit later new
+  pub kernel_ticks : (new : CourseParts) → Settled (old.entries ++ Given (At later) ∷ []) new.entries → new.room ≡ old.room → length new.entries + room_owed new.entries ≤ length old.entries + room_owed old.entries → IsKernel entries_limit calls_limit later new
   kernel_ticks new settled same spent =
       let moment_is : now new.entries ≡ later = now_settled _ _ settled ∙ (changes old.entries (Given (At later))).moment in
       let within = kernel.stands.within in

@@ -1,61 +1,144 @@
 -- What keeps a course.
-use Rattle.std.proofs.Common.{◌≡◌, refl, sym, ap, ◌∙◌, subst, ℕ, ◌+◌, ◌<◌, ◌≤◌, ◌^◌, List, [], ◌∷◌, ◌++◌, not, filter, length, length-append, true, false, IsTrue, nat_lt, Some, None, arith}
-use Rattle.std.specs.Option.{option_to_list}
+use Rattle.std.proofs.Common.{◌≡◌, refl, sym, ap, ap₂, ◌∙◌, subst, ℕ, zero, suc, ◌+◌, ◌<◌, ◌≤◌, ◌^◌, ◌==◌, eq-eqb, Bool, not, ◌||◌, if◌then◌else◌, unwrap_or, option_and_then, IfSome, List, [], ◌∷◌, ◌++◌, length, length-append, take, drop, true, false, IsTrue, nat_lt, Option, Some, None, arith}
+use Rattle.std.specs.Option.{option_map_or}
 use Rattle.std.specs.List.{list_any}
-use Rattle.ipc_history.specs.Entries.{number_in}
 use Rattle.ipc_history.specs.Calls.{numbers}
-use Rattle.ipc_history.specs.Phases.{is_over}
-use Rattle.ipc_history.specs.Threads.{now}
+use Rattle.ipc_history.specs.Threads.{has_broken, is_live, now}
 use Rattle.ipc_history.specs.Timing.{is_due_at}
 use Rattle.ipc_history.specs.Legal.{Legal, Quiet, Follows, is_admissible}
 use Rattle.ipc_history.specs.declared.entry.Entry.{Entry}
 use Rattle.ipc_history.specs.declared.entry.Entry.TheVariants.{Given, Written}
-use Rattle.ipc_history.specs.HistoryParts.{HistoryParts}
+use Rattle.ipc_core.specs.CourseParts.{CourseParts, SameBooks}
+use Rattle.ipc_core.specs.Finished.{is_of, with_name}
+use Rattle.ipc_history.specs.Calls.{caller_of}
+use Rattle.ipc_history.specs.Outcomes.{OutcomeParts, nothing, outcome_in, outcome_of}
+use Rattle.ipc_history.specs.Phases.{is_over}
+use Rattle.ipc_history.specs.Words.{first_some}
+use Rattle.ipc_desks.specs.CallsOf.{last_call, outcome_to_take, untaken_outcome}
+use Rattle.ipc_desks.proofs.LastCalls.{last_is}
+use Rattle.std.proofs.lemmas.Option.{none-some}
+use Rattle.ipc_core.specs.Outcomes.{IsTaken, finished_from, is_among}
+use Rattle.ipc_core.proofs.BookLemmas.{none_twice}
+use Rattle.ipc_core.proofs.FinishedLaws.{finished_clock, finished_live, finished_more, finished_none, named_more, named_once, names_few}
+use Rattle.ipc_desks.specs.Desks.{Keeps as DesksKeep}
+use Rattle.ipc_desks.specs.Finishes.{finishes}
+use Rattle.ipc_desks.specs.declared.desk.Desk.{Desk}
+use Rattle.ipc_words.specs.Limits.{table_slots}
+use Rattle.std.proofs.lemmas.List.{take_all, take-append-drop, take-append-le}
+use Rattle.std.specs.List.{IsDistinct}
 use Rattle.ipc_history.specs.NextOutput.{next_output}
 use Rattle.ipc_history.specs.Settled.{Continued, Settled}
 use Rattle.ipc_history.specs.declared.entry.Output.{Output}
 use Rattle.ipc_history.specs.declared.entry.Input.{Input}
 use Rattle.ipc_history.specs.declared.entry.Input.TheVariants.{At}
 use Rattle.ipc_laws.specs.Counting.{all_steps_left, live_threads, room_owed}
-use Rattle.std.proofs.lemmas.Bool.{lt-ltb}
+use Rattle.std.proofs.lemmas.Bool.{lt-ltb, or_left, or_right}
 use Rattle.ipc_laws.proofs.Tests.{both}
 use Rattle.ipc_laws.proofs.Settling.{legal_push}
 use Rattle.ipc_laws.proofs.Histories.{follows_last}
-use Rattle.ipc_rules.specs.Scanning.{open_numbers}
-use Rattle.ipc_core.specs.LiveCount.{live_after}
+use Rattle.ipc_slots.specs.Slots.{Stands as SlotsStand}
+use Rattle.ipc_slots.specs.declared.slots.Slots.{Slots}
 use Rattle.ipc_core.specs.Steps.{at_if_later, with_input}
 use Rattle.ipc_core.specs.CommandRoom.{command_need, is_clock}
 use Rattle.ipc_core.specs.Invariants.{IsCourse}
-use Rattle.ipc_core.proofs.OpenNumbers.{open_numbers_after, open_numbers_none, open_numbers_few, live_threads_after, live_threads_none, live_threads_few}
 use Rattle.ipc_core.proofs.Commands.{clock_brings, clock_legal, clock_room, command_legal, command_room, nothing_legal, continued_none, continued_more, settled_at, output_legal, output_room, output_falls}
 
 -- the empty history
-pub course_none : (H : List Entry) (calls : List ℕ) (live places : ℕ) → H ≡ [] → calls ≡ [] → live ≡ 0 → 256 ≤ places → IsCourse H calls live places
-course_none H calls live places empty no_calls none enough = record {
+take_none : (H : List Entry) → H ≡ [] → (k : ℕ) → take k H ≡ []
+take_none H empty zero = refl
+take_none H empty (suc k) = rw empty refl
+
+pub course_none : (H : List Entry) (slots : Slots) (desks : List Desk) (taken : List ℕ) (since : ℕ) (finished : List ℕ) (width : ℕ) → H ≡ [] → SlotsStand [] slots → DesksKeep [] [] desks → taken ≡ [] → since ≡ 0 → finished ≡ [] → table_slots ≤ width → IsCourse H slots desks taken since finished width
+course_none H slots desks taken since finished width empty stands keeps none start nobody wide = record {
   legal = subst Legal (sym empty) nothing_legal;
-  open_calls_are = no_calls ∙ (sym open_numbers_none ∙ ap open_numbers (sym empty));
-  live_is = none ∙ (sym live_threads_none ∙ ap live_threads (sym empty));
-  places_are_enough = enough;
+  slots_are = subst (λ l. SlotsStand l slots) (sym empty) stands;
+  desks_are = subst (λ l. DesksKeep l taken desks) (sym empty) (subst (λ t. DesksKeep [] t desks) (sym none) keeps);
+  names = λ t. ap (is_among t) nobody ∙ sym (ap₂ (λ p h. finished_from p h t) (take_none H empty since) empty ∙ finished_none [] nothing_legal t);
+  once = subst (IsDistinct (λ a b. a == b)) (sym nobody) none_twice;
+  begun = omega (arith, start);
+  wide = wide;
+}
+
+-- where a command begins it has finished nothing
+pub course_begins : (H : List Entry) (slots : Slots) (desks : List Desk) (taken : List ℕ) (since start : ℕ) (finished names : List ℕ) (width wider : ℕ) → IsCourse H slots desks taken since finished width → start ≡ length H → names ≡ [] → width ≤ wider → IsCourse H slots desks taken start names wider
+course_begins H slots desks taken since start finished names width wider course begins nobody more = record {
+  legal = course.legal;
+  slots_are = course.slots_are;
+  desks_are = course.desks_are;
+  names = λ t. ap (is_among t) nobody ∙ sym (ap (λ p. finished_from p H t) (ap (λ k. take k H) begins ∙ take_all (length H) H (omega arith)) ∙ finished_none H course.legal t);
+  once = subst (IsDistinct (λ a b. a == b)) (sym nobody) none_twice;
+  begun = omega (arith, begins);
+  wide = (let wide = course.wide in omega (arith, wide, more));
 }
 
 -- one more entry that follows
-pub course_more : (H K : List Entry) (e : Entry) (calls more : List ℕ) (live places rooms : ℕ) → IsCourse H calls live places → Follows H e → K ≡ H ++ e ∷ [] → more ≡ filter (λ n. not (is_over K n)) (calls ++ option_to_list (number_in e)) → places ≤ rooms → IsCourse K more (live_after live e) rooms
-course_more H K e calls more live places rooms course follows longer kept enough =
-    let legal : Legal (H ++ e ∷ []) = legal_push H e course.legal follows in
-    let open_now : more ≡ filter (λ n. not (is_over (H ++ e ∷ []) n)) (open_numbers H ++ option_to_list (number_in e)) = kept ∙ (ap (λ l. filter (λ n. not (is_over l n)) (calls ++ option_to_list (number_in e))) longer ∙ ap (λ c. filter (λ n. not (is_over (H ++ e ∷ []) n)) (c ++ option_to_list (number_in e))) course.open_calls_are) in
-    record {
-      legal = subst Legal (sym longer) legal;
-      open_calls_are = open_now ∙ (open_numbers_after H e legal ∙ ap open_numbers (sym longer));
-      live_is = ap (λ l. live_after l e) course.live_is ∙ (sym (live_threads_after H e legal) ∙ ap live_threads (sym longer));
-      places_are_enough = omega (arith, course.places_are_enough);
-    }
+module _ (H E K : List Entry) (e : Entry) (slots : Slots) (desks : List Desk) (taken : List ℕ) (since : ℕ) (finished : List ℕ) (width : ℕ) (course : IsCourse H slots desks taken since finished width) (begun : since ≤ length H) (follows : Follows H e) (here : E ≡ H) (longer : K ≡ H ++ e ∷ []) (fresh : (t : ℕ) → is_of t e ≡ true → finished_from (take since H) H t ≡ false) (first second : Option ℕ) (named : (t : ℕ) → (option_map_or (λ s. s == t) first false || option_map_or (λ s. s == t) second false) ≡ finishes E e t) where
+  same_front : take since K ≡ take since H
+  same_front = ap (take since) longer ∙ take-append-le since H (e ∷ []) begun
 
--- there is a place for one more open call, and few threads are live
-pub place_left : (H : List Entry) (calls : List ℕ) (live places : ℕ) → IsCourse H calls live places → length calls < places
-place_left H calls live places course = let few = open_numbers_few H course.legal in let same : length calls ≡ length (open_numbers H) = ap length course.open_calls_are in omega (arith, course.places_are_enough)
+  -- who is named then
+  pub names_then : (t : ℕ) → is_among t (with_name (with_name finished first) second) ≡ finished_from (take since K) K t
+  names_then t =
+      let step = named_more (with_name finished first) second t ∙ ap (λ b. b || option_map_or (λ s. s == t) second false) (named_more finished first t) in
+      let both : (is_among t finished || option_map_or (λ s. s == t) first false || option_map_or (λ s. s == t) second false) ≡ (is_among t finished || (option_map_or (λ s. s == t) first false || option_map_or (λ s. s == t) second false)) = or_assoc (is_among t finished) (option_map_or (λ s. s == t) first false) (option_map_or (λ s. s == t) second false) in
+      let parts = ap₂ (λ a b. a || b) (course.names t) (named t ∙ ap (λ l. finishes l e t) here) in
+      let more = finished_more (take since H) (drop since H) H e course.legal (sym (take-append-drop since H)) follows t (fresh t) in
+      step ∙ (both ∙ (parts ∙ (sym more ∙ ap₂ (λ p h. finished_from p h t) (sym same_front) (sym longer))))
+    where
+      or_assoc : (a b c : Bool) → ((a || b) || c) ≡ (a || (b || c))
+      or_assoc true b c = refl
+      or_assoc false b c = refl
 
-pub live_few : (H : List Entry) (calls : List ℕ) (live places : ℕ) → IsCourse H calls live places → live < 2 ^ 32
-live_few H calls live places course = let few = live_threads_few H course.legal in let same : live ≡ live_threads H = course.live_is in omega arith
+  legal_then : Legal K
+  legal_then = subst Legal (sym longer) (legal_push H e course.legal follows)
+
+  names_live : (t : ℕ) → is_among t (with_name (with_name finished first) second) ≡ true → is_live K t ≡ true
+  names_live t among = finished_live (take since K) K t (sym (names_then t) ∙ among)
+
+  -- for whom there is a place
+  pub first_place : (t : ℕ) → first ≡ Some t → is_among t finished ≡ false → length finished < width
+  first_place t is absent =
+      let few = names_few K legal_then finished t course.once (λ s among. names_live s (named_more (with_name finished first) second s ∙ or_left _ _ (named_more finished first s ∙ or_left _ _ among))) (names_live t (named_more (with_name finished first) second t ∙ or_left _ _ (named_more finished first t ∙ or_right _ _ (ap (λ o. option_map_or (λ s. s == t) o false) is ∙ eq-eqb t t refl)))) absent in
+      let wide = course.wide in
+      omega (arith, few, wide)
+
+  pub second_place : (t wider : ℕ) → width ≤ wider → second ≡ Some t → is_among t (with_name finished first) ≡ false → length (with_name finished first) < wider
+  second_place t wider more is absent =
+      let few = names_few K legal_then (with_name finished first) t (named_once finished first course.once) (λ s among. names_live s (named_more (with_name finished first) second s ∙ or_left _ _ among)) (names_live t (named_more (with_name finished first) second t ∙ or_right _ _ (ap (λ o. option_map_or (λ s. s == t) o false) is ∙ eq-eqb t t refl))) absent in
+      let wide = course.wide in
+      omega (arith, few, wide, more)
+
+  pub course_more : (after : Slots) (kept : List Desk) (names : List ℕ) (wider : ℕ) → SlotsStand (E ++ e ∷ []) after → DesksKeep (E ++ e ∷ []) taken kept → names ≡ with_name (with_name finished first) second → width ≤ wider → IsCourse K after kept taken since names wider
+  course_more after kept names wider stands keeps names_are more =
+      let whole : E ++ e ∷ [] ≡ K = ap (λ l. l ++ e ∷ []) here ∙ sym longer in
+      record {
+        legal = legal_then;
+        slots_are = subst (λ l. SlotsStand l after) whole stands;
+        desks_are = subst (λ l. DesksKeep l taken kept) whole keeps;
+        names = λ t. ap (is_among t) names_are ∙ names_then t;
+        begun = omega (arith, begun, ap length longer, length-append H (e ∷ []));
+        once = subst (IsDistinct (λ a b. a == b)) (sym names_are) (named_once (with_name finished first) second (named_once finished first course.once));
+        wide = (let wide = course.wide in omega (arith, wide, more));
+      }
+
+-- what holds where there is one
+pub each_some : {X : Type 0} (o : Option X) (P : X → Type 0) → ((x : X) → o ≡ Some x → P x) → IfSome o P
+each_some None P h = tt
+each_some (Some x) P h = h x refl
+
+-- what is taken is over, and was not taken before
+pub took : (H : List Entry) (taken : List ℕ) (t : ℕ) (o : OutcomeParts) → Legal H → outcome_to_take H taken t ≡ Some o → last_call H t ≡ Some o.call → IsTaken H o.call × (is_among o.call taken ≡ false)
+unfolding outcome_to_take outcome_of
+took H taken t o legal given last = go (is_among o.call taken) (is_over H o.call) (has_broken H (caller_of H o.call)) refl refl (sym (ap (option_and_then (untaken_outcome H taken)) last) ∙ given)
+  where
+    go : (a b c : Bool) → is_among o.call taken ≡ a → is_over H o.call ≡ b → (if a then None else (if not b || c then None else Some (unwrap_or (first_some (outcome_in H o.call) H) (nothing o.call)))) ≡ Some o → IsTaken H o.call × (is_among o.call taken ≡ false)
+    go true b c among over e = absurd (none-some o e)
+    go false false c among over e = absurd (none-some o e)
+    go false true c among over e = (record { called = (last_is H legal t o.call last).1; over = over }, among)
+
+-- a command's input ends nobody's outcome that it finished, since it has finished none
+pub input_fresh : (H E : List Entry) (moment since : ℕ) (e : Entry) → Legal H → E ≡ H ++ at_if_later H moment → since ≡ length H → (t : ℕ) → is_of t e ≡ true → finished_from (take since E) E t ≡ false
+input_fresh H E moment since e legal is begins t of = ap₂ (λ p h. finished_from p h t) (ap₂ (λ k l. take k l) begins is ∙ (take-append-le (length H) H (at_if_later H moment) (omega arith) ∙ take_all (length H) H (omega arith))) is ∙ finished_clock H moment legal t
 
 -- there is room for each of the last two entries
 pub room_for_last : (H at : List Entry) (e : Entry) (owed room : ℕ) → length ((H ++ at) ++ e ∷ []) + owed ≤ room → (length H < room) × (length (H ++ at) < room)
@@ -80,30 +163,37 @@ module _ (H : List Entry) (moment room : ℕ) (input : Input) (legal : Legal H) 
   command_places fits = room_for_last H (at_if_later H moment) (Given input) (room_owed (with_input H moment input)) room (let spent = command_spent in omega arith)
 
 -- a course goes on by outputs, within its room
-pub record Goes (old new : HistoryParts) : Type 0 where
+pub record Goes (old new : CourseParts) : Type 0 where
   pub continued : Continued old.entries new.entries
   pub legal : Legal new.entries
   pub room : new.room ≡ old.room
   pub spent : length new.entries + room_owed new.entries ≤ length old.entries + room_owed old.entries
   pub fits : length new.entries + room_owed new.entries ≤ new.room
+  pub books : SameBooks old new
 
-pub goes_none : (old : HistoryParts) → Legal old.entries → length old.entries + room_owed old.entries ≤ old.room → Goes old old
-goes_none old legal fits = record { continued = continued_none old.entries; legal = legal; room = refl; spent = omega arith; fits = fits }
+pub same_books : (course : CourseParts) → SameBooks course course
+same_books course = record { taken = refl; since = refl; places = refl }
+
+pub more_books : (a b c : CourseParts) → SameBooks a b → SameBooks b c → SameBooks a c
+more_books a b c x y = record { taken = y.taken ∙ x.taken; since = y.since ∙ x.since; places = y.places ∙ x.places }
+
+pub goes_none : (old : CourseParts) → Legal old.entries → length old.entries + room_owed old.entries ≤ old.room → Goes old old
+goes_none old legal fits = record { continued = continued_none old.entries; legal = legal; room = refl; spent = omega arith; fits = fits; books = same_books old }
 
 -- the next output follows, and there is a place for it
 pub output_follows : (H : List Entry) (output : Output) → next_output H ≡ Some output → Follows H (Written output)
 unfolding Follows
 output_follows H output next = next
 
-pub output_place : (old new : HistoryParts) (output : Output) → Goes old new → next_output new.entries ≡ Some output → length new.entries < new.room
+pub output_place : (old new : CourseParts) (output : Output) → Goes old new → next_output new.entries ≡ Some output → length new.entries < new.room
 output_place old new output goes next =
     let within = output_room new.entries output goes.legal next in
     let longer = length-append new.entries (Written output ∷ []) in
     let fits = goes.fits in
     omega arith
 
-pub goes_more : (old new after : HistoryParts) (output : Output) → Goes old new → next_output new.entries ≡ Some output → after.entries ≡ new.entries ++ Written output ∷ [] → after.room ≡ new.room → Goes old after
-goes_more old new after output goes next longer same =
+pub goes_more : (old new after : CourseParts) (output : Output) → Goes old new → next_output new.entries ≡ Some output → after.entries ≡ new.entries ++ Written output ∷ [] → after.room ≡ new.room → SameBooks new after → Goes old after
+goes_more old new after output goes next longer same books =
     let within = output_room new.entries output goes.legal next in
     let spent : length (new.entries ++ Written output ∷ []) + room_owed (new.entries ++ Written output ∷ []) ≤ length old.entries + room_owed old.entries = (let before = goes.spent in omega arith) in
     let fits : length (new.entries ++ Written output ∷ []) + room_owed (new.entries ++ Written output ∷ []) ≤ new.room = (let before = goes.fits in omega arith) in
@@ -113,12 +203,13 @@ goes_more old new after output goes next longer same =
       room = same ∙ goes.room;
       spent = subst (λ l. length l + room_owed l ≤ length old.entries + room_owed old.entries) (sym longer) spent;
       fits = subst (λ r. length after.entries + room_owed after.entries ≤ r) (sym same) (subst (λ l. length l + room_owed l ≤ new.room) (sym longer) fits);
+      books = more_books old new after goes.books books;
     }
 
-pub goes_falls : (new after : HistoryParts) (output : Output) → Legal new.entries → next_output new.entries ≡ Some output → after.entries ≡ new.entries ++ Written output ∷ [] → all_steps_left after.entries < all_steps_left new.entries
+pub goes_falls : (new after : CourseParts) (output : Output) → Legal new.entries → next_output new.entries ≡ Some output → after.entries ≡ new.entries ++ Written output ∷ [] → all_steps_left after.entries < all_steps_left new.entries
 goes_falls new after output legal next longer = subst (λ l. all_steps_left l < all_steps_left new.entries) (sym longer) (output_falls new.entries output legal next)
 
-pub goes_settled : (old new : HistoryParts) → Goes old new → Quiet new.entries → Settled old.entries new.entries
+pub goes_settled : (old new : CourseParts) → Goes old new → Quiet new.entries → Settled old.entries new.entries
 goes_settled old new goes quiet = settled_at old.entries new.entries goes.continued quiet
 
 -- where a phase is due, its At and the failure that it brings have their places

@@ -1,10 +1,15 @@
 -- What keeps a kernel.
-use Rattle.std.proofs.Common.{◌≡◌, refl, sym, ◌∙◌, subst, ℕ, ◌+◌, ◌<◌, ◌≤◌, ◌^◌, List, [], false, length, IsTrue, arith}
-use Rattle.std.proofs.lemmas.List.Sums.{length-filter}
+use Rattle.std.proofs.Common.{◌≡◌, refl, sym, ◌∙◌, subst, ℕ, ◌+◌, ◌<◌, ◌≤◌, ◌^◌, List, [], Bool, false, not, cond, length, count_by, filter_map, IsTrue, Option, Some, None, ap, ◌∷◌, arith}
+use Rattle.std.proofs.lemmas.List.Sums.{sum_by-cons}
 use Rattle.std.specs.List.{list_any}
 use Rattle.ipc_words.specs.Limits.{max_entries, max_calls}
-use Rattle.ipc_history.specs.HistoryParts.{HistoryParts}
+use Rattle.ipc_core.specs.CourseParts.{CourseParts}
 use Rattle.ipc_history.specs.Calls.{numbers}
+use Rattle.std.specs.List.{cons_option}
+use Rattle.std.specs.Option.{option_map_or}
+use Rattle.ipc_history.specs.Entries.{number_in}
+use Rattle.ipc_history.specs.Phases.{is_over}
+use Rattle.ipc_core.specs.OpenCalls.{enters_open}
 use Rattle.ipc_history.specs.Threads.{now}
 use Rattle.ipc_history.specs.Timing.{is_due_at}
 use Rattle.ipc_history.specs.Legal.{is_admissible}
@@ -12,14 +17,13 @@ use Rattle.ipc_history.specs.Settled.{Settled}
 use Rattle.ipc_history.specs.declared.entry.Entry.{Entry}
 use Rattle.ipc_history.specs.declared.entry.Input.{Input}
 use Rattle.ipc_laws.specs.Counting.{open_calls, room_owed}
-use Rattle.ipc_rules.specs.Scanning.{open_numbers}
 use Rattle.ipc_core.specs.CommandRoom.{command_need, is_clock}
 use Rattle.ipc_core.specs.Invariants.{IsKernel, Stands}
 use Rattle.ipc_core.specs.Steps.{with_input}
 use Rattle.ipc_core.proofs.Commands.{command_legal, now_settled, now_with_input, nothing_legal, nothing_quiet, nothing_owed, undue_now}
 
 -- the empty kernel
-pub kernel_none : (entries_limit calls_limit : ℕ) (course : HistoryParts) → course.entries ≡ [] → entries_limit ≤ max_entries → calls_limit ≤ max_calls → IsKernel entries_limit calls_limit 0 course
+pub kernel_none : (entries_limit calls_limit : ℕ) (course : CourseParts) → course.entries ≡ [] → entries_limit ≤ max_entries → calls_limit ≤ max_calls → IsKernel entries_limit calls_limit 0 course
 unfolding now numbers
 kernel_none entries_limit calls_limit course empty few_entries few_calls = record {
   stands = subst (λ H. Stands H entries_limit 0) (sym empty) (record {
@@ -36,7 +40,7 @@ kernel_none entries_limit calls_limit course empty few_entries few_calls = recor
 }
 
 -- after an input and its outputs
-module _ (entries_limit calls_limit moment : ℕ) (old new : HistoryParts) (input : Input) where
+module _ (entries_limit calls_limit moment : ℕ) (old new : CourseParts) (input : Input) where
   pub kernel_after : IsKernel entries_limit calls_limit moment old → IsTrue (is_admissible old.entries input) → is_clock input ≡ false → length old.entries + room_owed old.entries + command_need input ≤ entries_limit → length old.entries + room_owed old.entries + command_need input ≤ new.room → Settled (with_input old.entries moment input) new.entries → length new.entries + room_owed new.entries ≤ length old.entries + room_owed old.entries + command_need input → IsKernel entries_limit calls_limit moment new
   kernel_after kernel admissible no_clock within fits settled spent =
       let stands = kernel.stands in
@@ -55,7 +59,15 @@ module _ (entries_limit calls_limit moment : ℕ) (old new : HistoryParts) (inpu
         few_calls = kernel.few_calls;
       }
 
--- the open calls, counted
-pub open_calls_counted : (H : List Entry) → length (open_numbers H) ≡ open_calls H
-unfolding open_numbers open_calls
-open_calls_counted H = length-filter _ (numbers H)
+-- the open calls, counted by their entries
+count_given : (H E : List Entry) → count_by (enters_open H) E ≡ count_by (λ n. not (is_over H n)) (filter_map number_in E)
+count_given H [] = refl
+count_given H (e ∷ E) = sum_by-cons (λ x. cond (enters_open H x) 1 0) e E ∙ one (number_in e) (count_given H E)
+  where
+    one : (o : Option ℕ) → count_by (enters_open H) E ≡ count_by (λ n. not (is_over H n)) (filter_map number_in E) → cond (option_map_or (λ n. not (is_over H n)) o false) 1 0 + count_by (enters_open H) E ≡ count_by (λ n. not (is_over H n)) (cons_option o (filter_map number_in E))
+    one None rest = omega (arith, rest)
+    one (Some n) rest = ap (λ k. cond (not (is_over H n)) 1 0 + k) rest ∙ sym (sum_by-cons (λ k. cond (not (is_over H k)) 1 0) n (filter_map number_in E))
+
+pub open_calls_counted : (H : List Entry) → count_by (enters_open H) H ≡ open_calls H
+unfolding open_calls numbers
+open_calls_counted H = count_given H H

@@ -2,35 +2,35 @@
 use Rattle.std.proofs.lemmas.Bool.{lt-ltb, ltb-true, ltb-false}
 use Rattle.std.proofs.Common.{◌≡◌, sym, ap, ◌∙◌, subst, ℕ, ◌+◌, ◌*◌, ◌<◌, ◌≤◌, false, List, length, IsTrue, Option, Some, None, IfSome, sum_by, arith}
 use Rattle.std.specs.Prelude.{◌↔◌}
-use Rattle.ipc_history.specs.HistoryParts.{HistoryParts}
+use Rattle.ipc_core.specs.CourseParts.{CourseParts}
 use Rattle.ipc_history.specs.Legal.{Legal, is_admissible}
 use Rattle.ipc_history.specs.Settled.{Settled}
 use Rattle.ipc_history.specs.declared.entry.Entry.{Entry}
 use Rattle.ipc_history.specs.declared.entry.Input.{Input}
 use Rattle.ipc_laws.specs.Counting.{live_threads, pledge_of, pledged, room_owed}
 use Rattle.ipc_laws.proofs.Pledge.{pledge_covers}
-use Rattle.ipc_rules.specs.Scanning.{open_numbers}
+use Rattle.ipc_history.specs.Calls.{numbers}
 use Rattle.ipc_core.specs.CommandRoom.{command_need, is_clock}
 use Rattle.ipc_core.specs.Invariants.{IsKernel, Stands}
 use Rattle.ipc_core.specs.KernelParts.{KernelParts}
 use Rattle.ipc_core.specs.Room.{is_full}
 use Rattle.ipc_core.specs.Steps.{Takes, with_input}
 use Rattle.ipc_core.proofs.KernelLemmas.{kernel_after}
-use Rattle.ipc_core.proofs.RoomLemmas.{pledged_among}
 
 -- the history is full where what is left is less than what is pledged and needed
-pub full_where : (kernel : KernelParts) (need left live calls : ℕ) (P : Type 0) → left + length kernel.history ≡ kernel.entries_limit → live ≡ live_threads kernel.history → calls ≡ sum_by (pledge_of kernel.history) (open_numbers kernel.history) → (P ↔ (left < 2 * live + calls + need)) → P ↔ IsTrue (is_full kernel need)
-unfolding is_full
+pub full_where : (kernel : KernelParts) (need left live calls : ℕ) (P : Type 0) → left + length kernel.history ≡ kernel.entries_limit → live ≡ live_threads kernel.history → calls ≡ sum_by (pledge_of kernel.history) (numbers kernel.history) → (P ↔ (left < 2 * live + calls + need)) → P ↔ IsTrue (is_full kernel need)
+unfolding is_full pledged
 full_where kernel need left live calls P split live_is calls_are less =
-    let among = pledged_among kernel.history in (
+    (
       λ p. (let over : left < 2 * live + calls + need = less.0 p in lt-ltb _ _ (omega arith)),
       λ full. less.1 (let over = ltb-true kernel.entries_limit (length kernel.history + pledged kernel.history + need) full in omega arith),
     )
 
 -- and what is pledged and needed is this
-pub room_where : (H : List Entry) (need live calls : ℕ) (found : Option ℕ) → live ≡ live_threads H → calls ≡ sum_by (pledge_of H) (open_numbers H) → IfSome found (λ room. room ≡ 2 * live + calls + need) → IfSome found (λ room. room ≡ pledged H + need)
+pub room_where : (H : List Entry) (need live calls : ℕ) (found : Option ℕ) → live ≡ live_threads H → calls ≡ sum_by (pledge_of H) (numbers H) → IfSome found (λ room. room ≡ 2 * live + calls + need) → IfSome found (λ room. room ≡ pledged H + need)
+unfolding pledged
 room_where H need live calls None live_is calls_are none = none
-room_where H need live calls (Some room) live_is calls_are some = let among = pledged_among H in let same : room ≡ 2 * live + calls + need = some in omega arith
+room_where H need live calls (Some room) live_is calls_are some = let same : room ≡ 2 * live + calls + need = some in omega arith
 
 -- what is pledged and needed fits where the history is not full
 within_where : (kernel : KernelParts) (need : ℕ) → is_full kernel need ≡ false → length kernel.history + pledged kernel.history + need ≤ kernel.entries_limit
@@ -38,13 +38,13 @@ unfolding is_full
 within_where kernel need not_full = ltb-false _ _ not_full
 
 -- a kernel whose course has room for a need
-pub record HasRoomFor (entries_limit calls_limit moment : ℕ) (course : HistoryParts) (need : ℕ) : Type 0 where
+pub record HasRoomFor (entries_limit calls_limit moment : ℕ) (course : CourseParts) (need : ℕ) : Type 0 where
   pub kernel : IsKernel entries_limit calls_limit moment course
   pub within : length course.entries + room_owed course.entries + need ≤ entries_limit
   pub fits : length course.entries + room_owed course.entries + need ≤ course.room
 
 -- the same entries, with more room
-kernel_kept : (entries_limit calls_limit moment : ℕ) (old kept : HistoryParts) → IsKernel entries_limit calls_limit moment old → kept.entries ≡ old.entries → old.room ≤ kept.room → IsKernel entries_limit calls_limit moment kept
+kernel_kept : (entries_limit calls_limit moment : ℕ) (old kept : CourseParts) → IsKernel entries_limit calls_limit moment old → kept.entries ≡ old.entries → old.room ≤ kept.room → IsKernel entries_limit calls_limit moment kept
 kernel_kept entries_limit calls_limit moment old kept kernel same more = record {
   stands = subst (λ H. Stands H entries_limit moment) (sym same) kernel.stands;
   room = subst (λ H. length H + room_owed H ≤ kept.room) (sym same) (let room = kernel.room in omega arith);
@@ -53,7 +53,7 @@ kernel_kept entries_limit calls_limit moment old kept kernel same more = record 
 }
 
 -- what is pledged and needed was reserved
-module _ (view kernel : KernelParts) (old kept : HistoryParts) (need room : ℕ) (view_is : view ≡ kernel) where
+module _ (view kernel : KernelParts) (old kept : CourseParts) (need room : ℕ) (view_is : view ≡ kernel) where
   pub reserved : IsKernel view.entries_limit view.calls_limit view.moment old → old.entries ≡ view.history → kept.entries ≡ old.entries → old.room ≤ kept.room → is_full kernel need ≡ false → room ≡ pledged kernel.history + need → length kept.entries + room ≤ kept.room → HasRoomFor view.entries_limit view.calls_limit view.moment kept need
   reserved stood before same more not_full room_is made =
       let history : kept.entries ≡ kernel.history = same ∙ (before ∙ ap (λ k. k.history) view_is) in
@@ -66,11 +66,11 @@ module _ (view kernel : KernelParts) (old kept : HistoryParts) (need room : ℕ)
       record { kernel = stands; within = omega arith; fits = omega arith }
 
 -- a kernel that took an input for which it had room
-pub kernel_took : (entries_limit calls_limit moment : ℕ) (old new : HistoryParts) (input : Input) → HasRoomFor entries_limit calls_limit moment old (command_need input) → IsTrue (is_admissible old.entries input) → is_clock input ≡ false → Settled (with_input old.entries moment input) new.entries → new.room ≡ old.room → length new.entries + room_owed new.entries ≤ length old.entries + room_owed old.entries + command_need input → IsKernel entries_limit calls_limit moment new
+pub kernel_took : (entries_limit calls_limit moment : ℕ) (old new : CourseParts) (input : Input) → HasRoomFor entries_limit calls_limit moment old (command_need input) → IsTrue (is_admissible old.entries input) → is_clock input ≡ false → Settled (with_input old.entries moment input) new.entries → new.room ≡ old.room → length new.entries + room_owed new.entries ≤ length old.entries + room_owed old.entries + command_need input → IsKernel entries_limit calls_limit moment new
 kernel_took entries_limit calls_limit moment old new input had admissible no_clock settled same spent = kernel_after entries_limit calls_limit moment old new input had.kernel admissible no_clock had.within (let fits = had.fits in omega arith) settled spent
 
 -- and what it did
-pub takes_input : (view old new : KernelParts) (kept : HistoryParts) (given input : Input) → view ≡ old → kept.entries ≡ view.history → given ≡ input → Settled (with_input kept.entries view.moment given) new.history → Legal new.history → new.since ≡ length kept.entries → new.moment ≡ view.moment → new.entries_limit ≡ view.entries_limit → new.calls_limit ≡ view.calls_limit → Takes old new input
+pub takes_input : (view old new : KernelParts) (kept : CourseParts) (given input : Input) → view ≡ old → kept.entries ≡ view.history → given ≡ input → Settled (with_input kept.entries view.moment given) new.history → Legal new.history → new.since ≡ length kept.entries → new.moment ≡ view.moment → new.entries_limit ≡ view.entries_limit → new.calls_limit ≡ view.calls_limit → Takes old new input
 takes_input view old new kept given input view_is same is_input settled legal since moment entries_limit calls_limit = subst (λ k. Takes k new input) view_is (record {
   history = subst (λ i. Settled (with_input view.history view.moment i) new.history) is_input (subst (λ H. Settled (with_input H view.moment given) new.history) same settled);
   legal = λ was. legal;

@@ -1,24 +1,30 @@
 -- What a kernel keeps.
-use Rattle.std.specs.Prelude.{◌≡◌, ℕ, ◌+◌, ◌^◌, ◌≤◌, ◌<◌, List, length, false}
-use Rattle.std.specs.List.{list_any}
+use Rattle.std.specs.Prelude.{◌≡◌, ℕ, ◌+◌, ◌^◌, ◌≤◌, ◌<◌, List, ◌==◌, length, take, false}
+use Rattle.std.specs.List.{IsDistinct, list_any}
 use Rattle.ipc_words.specs.Limits.{table_slots, last_moment, max_entries, max_calls}
 use Rattle.ipc_history.specs.Calls.{numbers}
 use Rattle.ipc_history.specs.Threads.{now}
 use Rattle.ipc_history.specs.Timing.{is_due_at}
-use Rattle.ipc_history.specs.HistoryParts.{HistoryParts}
 use Rattle.ipc_history.specs.Legal.{Legal, Quiet}
 use Rattle.ipc_history.specs.declared.entry.Entry.{Entry}
-use Rattle.ipc_laws.specs.Counting.{live_threads, room_owed}
-use Rattle.ipc_rules.specs.Scanning.{open_numbers}
-use Rattle.ipc_core.specs.Books.{AreBooks, BooksParts}
-use Rattle.ipc_core.specs.Copies.{CopiesParts, Keeps, calls_of}
+use Rattle.ipc_laws.specs.Counting.{room_owed}
+use Rattle.ipc_slots.specs.Slots.{Stands as SlotsStand}
+use Rattle.ipc_desks.specs.Desks.{Keeps as DesksKeep}
+use Rattle.ipc_desks.specs.declared.desk.Desk.{Desk}
+use Rattle.ipc_slots.specs.declared.slots.Slots.{Slots}
+use Rattle.ipc_core.specs.Books.{AreBooks}
+use Rattle.ipc_core.specs.CourseParts.{CourseParts}
+use Rattle.ipc_core.specs.Outcomes.{finished_from, is_among}
 
--- a course: a legal history, its open calls in order, the number of its live threads, and places for an open call of each number
-pub record IsCourse (H : List Entry) (open_calls : List ℕ) (live : ℕ) (places : ℕ) : Type 0 where
+-- a course: a legal history, slots and desks that are its, and the threads whose calls the last command finished, each once
+pub record IsCourse (H : List Entry) (slots : Slots) (desks : List Desk) (taken : List ℕ) (since : ℕ) (finished : List ℕ) (width : ℕ) : Type 0 where
   pub legal : Legal H
-  pub open_calls_are : open_calls ≡ open_numbers H
-  pub live_is : live ≡ live_threads H
-  pub places_are_enough : table_slots ≤ places
+  pub slots_are : SlotsStand H slots
+  pub desks_are : DesksKeep H taken desks
+  pub names : (thread : ℕ) → is_among thread finished ≡ finished_from (take since H) H thread
+  pub once : IsDistinct (λ a b. a == b) finished
+  pub begun : since ≤ length H
+  pub wide : table_slots ≤ width
 
 -- a kernel's history is legal and quiet, within its limit with all that is owed; its moment is not before the history's, and no phase
 -- is due then
@@ -31,14 +37,13 @@ pub record Stands (H : List Entry) (limit moment : ℕ) : Type 0 where
   pub undue : list_any (is_due_at H moment) (numbers H) ≡ false
 
 -- a kernel stands, has room for all that is owed, and its limits are within the greatest
-pub record IsKernel (entries_limit calls_limit moment : ℕ) (course : HistoryParts) : Type 0 where
+pub record IsKernel (entries_limit calls_limit moment : ℕ) (course : CourseParts) : Type 0 where
   pub stands : Stands course.entries entries_limit moment
   pub room : length course.entries + room_owed course.entries ≤ course.room
   pub few_entries : entries_limit ≤ max_entries
   pub few_calls : calls_limit ≤ max_calls
 
--- a whole kernel: with the copies for the outcomes that are still to be taken, and its books
-pub record IsWhole (entries_limit calls_limit moment : ℕ) (course : HistoryParts) (copies : CopiesParts) (books : BooksParts) : Type 0 where
+-- a whole kernel: with its books
+pub record IsWhole (entries_limit calls_limit moment : ℕ) (course : CourseParts) : Type 0 where
   pub kernel : IsKernel entries_limit calls_limit moment course
-  pub copies_are : Keeps course.entries copies
-  pub books_are : AreBooks course.entries (calls_of copies.untaken) books
+  pub books : AreBooks course.entries course.taken course.since course.places

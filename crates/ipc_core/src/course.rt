@@ -1,66 +1,75 @@
-ghost use Rattle.std.specs.Prelude.{◌≡◌, ◌+◌, ◌^◌, ◌≤◌, ◌<◌, [], ◌∷◌, ◌++◌, length, min, ◌-◌, ◌↔◌, Some, None, IsNone, IfSome, IsTrue, IfOk, OnOk, true, false, not, filter, nat_lt, sum_by, vec_len, vec_capacity};
-ghost use Rattle.std.specs.Option.{option_to_list};
-ghost use Rattle.std.specs.List.{list_any};
+ghost use Rattle.std.specs.Prelude.{◌≡◌, ◌+◌, ◌^◌, ◌≤◌, ◌<◌, [], ◌∷◌, ◌++◌, ◌==◌, ℕ, length, take, vec_len, vec_capacity, ◌↔◌, Some, None, IsNone, IfSome, IsTrue, IsFalse, true, false, IfOk, OnOk, nat_lt, sum_by};
+ghost use Rattle.std.specs.List.{IsDistinct, list_any};
+ghost use Rattle.ipc_words.specs.Limits.{last_moment};
 ghost use Rattle.ipc_history.specs.declared.entry.Entry.TheVariants.{Given};
 ghost use Rattle.ipc_history.specs.declared.entry.Input.TheVariants.{At};
-ghost use Rattle.ipc_words.specs.Limits.{last_moment};
 ghost use Rattle.ipc_history.specs.Blocks.{block_of};
-ghost use Rattle.ipc_history.specs.Calls.{numbers};
-ghost use Rattle.ipc_history.specs.Phases.{is_over, moved_bytes};
-ghost use Rattle.ipc_history.specs.Threads.{now};
+ghost use Rattle.ipc_history.specs.Calls.{calls_made, is_called, numbers};
+ghost use Rattle.ipc_history.specs.Phases.{open_call};
+ghost use Rattle.ipc_history.specs.Threads.{is_live, is_taken, next_version, now};
 ghost use Rattle.ipc_history.specs.Legal.{Legal, Quiet, Follows, is_admissible, next_moving};
 ghost use Rattle.ipc_history.specs.NextOutput.{next_output};
 ghost use Rattle.ipc_history.specs.Settled.{Continued, Settled};
 ghost use Rattle.ipc_history.specs.Timing.{is_due_at};
 ghost use Rattle.ipc_laws.specs.Counting.{room_owed, live_threads, pledge_of};
-ghost use Rattle.ipc_rules.specs.Scanning.{open_numbers};
-ghost use Rattle.ipc_core.specs.Steps.{at_if_later, with_input};
+ghost use Rattle.ipc_desks.specs.CallsOf.{is_busy, last_call, made_by, outcome_to_take, taken_by};
+ghost use Rattle.ipc_desks.specs.Desks.{Keeps};
+ghost use Rattle.ipc_desks.specs.Messages.{prepared};
+ghost use Rattle.ipc_desks.specs.Finishes.{finishes, is_named};
+ghost use Rattle.ipc_slots.specs.Slots.{Stands};
+ghost use Rattle.ipc_core.specs.CourseParts.{HasCopies, SameBooks};
+ghost use Rattle.ipc_core.specs.Finished.{IsFresh, with_name};
+ghost use Rattle.ipc_core.specs.Outcomes.{IsTaken, finished_from, is_among};
+ghost use Rattle.ipc_core.specs.Steps.{at_if_later, taken_after, with_input};
 ghost use Rattle.ipc_core.specs.CommandRoom.{command_need, is_clock};
-ghost use Rattle.ipc_core.specs.ExchangeRegisters.{exreg_answer};
-ghost use Rattle.ipc_core.specs.LiveCount.{live_after};
+ghost use Rattle.ipc_core.specs.ExchangeRegisters.{exreg_answer, phases_of};
 
 use crate::answers::ExregAnswer;
-use crate::exchange::exreg_answer;
-use ipc_history::{Entry, History, Input, Output};
-use ipc_rules::{
-    block_to_move, is_any_due_at, is_over, message_size, next_moving_among, next_output_among, now,
-    to_of,
-};
-use ipc_words::ThreadId;
-use ipc_words::limits::{BLOCK_BYTES, PLEDGE_OF_BLOCK, PLEDGE_OF_OPEN_CALL, TABLE_SLOTS};
+use ipc_desks::{Desks, Finished, Prepared};
+use ipc_history::{Call, Entry, History, Input, Outcome, Output};
+use ipc_slots::Slots;
+use ipc_words::limits::TABLE_SLOTS;
+use ipc_words::{Control, ThreadId};
 use std::alloc::{AllocError, Global};
 use std::marker::Model;
 
-/// A legal history, its open calls in order, and how many threads are live.
+/// A legal history, what it says of each thread now, what is kept for each thread, and which outcomes were taken.
 #[derive(Drop)]
 pub(crate) struct Course {
     history: History,
-    open_calls: Vec<u64>,
-    live: u64,
+    slots: Slots,
+    desks: Desks,
+    taken: Vec<u64>,
+    since: usize,
+    finished: Vec<ThreadId>,
 }
 
 impl Model for Course {
     ghost use Rattle.std.specs.Prelude.{vec_capacity};
-    ghost use Rattle.ipc_history.specs.HistoryParts.{HistoryParts};
+    ghost use Rattle.ipc_core.specs.CourseParts.{CourseParts};
     ghost use Rattle.ipc_core.specs.Invariants.{IsCourse};
 
-    ghost Value = { HistoryParts };
+    ghost Value = { CourseParts };
 
-    ghost view = { λ c. c.history };
+    ghost view = { λ c. record { entries = c.history.entries; room = c.history.room; taken = c.taken.items; since = c.since; finished = c.finished.items; places = vec_capacity c.taken } };
 
-    ghost invariant = { λ c. IsCourse c.history.entries c.open_calls.items c.live (vec_capacity c.open_calls) };
+    ghost invariant = { λ c. IsCourse c.history.entries c.slots c.desks c.taken.items c.since c.finished.items (vec_capacity c.finished) };
 }
 
 impl Course {
     /// The course of the empty history.
-    #[tactic(auto, using(crate::proofs::CourseLemmas::course_none))]
     pub(crate) fn new(alloc: Global) -> Result<Course, AllocError>
-        ensures { IfOk result (λ course. course.entries ≡ []) }
+        ensures entries { IfOk result (λ course. course.entries ≡ []) }
+        ensures taken { IfOk result (λ course. course.taken ≡ []) }
+        ensures since { IfOk result (λ course. course.since ≡ 0) }
     {
         Ok(Course {
             history: History::new(alloc),
-            open_calls: Vec::with_capacity(alloc, TABLE_SLOTS)?,
-            live: 0,
+            slots: Slots::new(),
+            desks: Desks::new(alloc)?,
+            taken: Vec::new(alloc),
+            since: 0,
+            finished: Vec::with_capacity(alloc, TABLE_SLOTS)?,
         })
     }
 
@@ -71,59 +80,157 @@ impl Course {
         self.history.entries()
     }
 
-    /// The numbers of the open calls, the least first.
-    pub(crate) fn open_calls(&self) -> &[u64]
-        ensures { result.now ≡ open_numbers self.now.entries }
+    /// How many outcomes were taken.
+    pub(crate) fn takes(&self) -> usize
+        ensures { result ≡ length self.now.taken }
     {
-        &self.open_calls
+        self.taken.len()
+    }
+
+    /// The live threads whose last call the last command finished.
+    pub(crate) fn finished(&self) -> &[ThreadId]
+        ensures names { (thread : ℕ) → is_among thread result.now ≡ finished_from (take self.now.since self.now.entries) self.now.entries thread }
+        ensures once { IsDistinct (λ a b. a == b) result.now }
+    {
+        &self.finished
+    }
+
+    /// How many calls a live thread made.
+    pub(crate) fn made(&self, thread: ThreadId) -> u64
+        requires { IsTrue (is_live self.now.entries thread) }
+        ensures { result ≡ made_by self.now.entries thread }
+    {
+        self.desks
+            .made(self.history.entries(), &self.taken, thread)
+    }
+
+    /// How many outcomes of calls of a live thread were taken.
+    pub(crate) fn taken(&self, thread: ThreadId) -> u64
+        requires { IsTrue (is_live self.now.entries thread) }
+        ensures { result ≡ taken_by self.now.entries self.now.taken thread }
+    {
+        self.desks
+            .taken(self.history.entries(), &self.taken, thread)
+    }
+
+    /// Whether the outcome of a live thread's last call was not yet taken.
+    pub(crate) fn is_busy(&self, thread: ThreadId) -> bool
+        requires { IsTrue (is_live self.now.entries thread) }
+        ensures { result ≡ is_busy self.now.entries self.now.taken thread }
+    {
+        self.desks
+            .is_busy(self.history.entries(), &self.taken, thread)
     }
 
     /// How many threads are live.
     pub(crate) fn live(&self) -> u64
         ensures { result ≡ live_threads self.now.entries }
     {
-        self.live
+        self.slots.live_threads(self.history.entries())
     }
 
-    #[tactic(auto, using(crate::proofs::Scannable::scannable))]
+    /// Whether a thread is live.
+    pub(crate) fn is_live(&self, thread: ThreadId) -> bool
+        ensures { result ≡ is_live self.now.entries thread }
+    {
+        self.slots.is_live(self.history.entries(), thread)
+    }
+
+    /// Whether a thread of a number is live.
+    pub(crate) fn is_taken(&self, number: u32) -> bool
+        ensures { result ≡ is_taken self.now.entries number }
+    {
+        self.slots.is_taken(self.history.entries(), number)
+    }
+
+    /// The version that the next thread of a number gets; None where the number is worn out.
+    pub(crate) fn next_version_of(&self, number: u32) -> Option<u32>
+        ensures { result ≡ next_version self.now.entries number }
+    {
+        self.slots.next_version_of(self.history.entries(), number)
+    }
+
+    /// The open call of a thread.
+    pub(crate) fn open_call_of(&self, thread: ThreadId) -> Option<u64>
+        ensures { result ≡ open_call self.now.entries thread }
+    {
+        self.slots.open_call_of(self.history.entries(), thread)
+    }
+
+    /// How many calls were made.
+    pub(crate) fn calls_made(&self) -> u64
+        ensures { result ≡ calls_made self.now.entries }
+    {
+        self.slots.calls_made(self.history.entries())
+    }
+
     fn next_output(&self) -> Option<Output>
         ensures { result ≡ next_output self.now.entries }
     {
-        next_output_among(self.history.entries(), &self.open_calls)
+        self.slots.next_output(self.history.entries())
     }
 
-    /// What is pledged for the open calls: 5 entries for each, and 2 for each block of its strings.
+    /// What is pledged for the open calls: some entries for each, and more for each block of its strings.
     pub(crate) fn pledged_for_calls(&self) -> u128
-        ensures { result ≡ sum_by (pledge_of self.now.entries) (open_numbers self.now.entries) }
+        ensures { result ≡ sum_by (pledge_of self.now.entries) (numbers self.now.entries) }
     {
-        pledge_sum(self.history.entries(), &self.open_calls)
+        self.slots.pledged_for_calls(self.history.entries())
     }
 
     /// Whether a waiting phase is due at a moment.
-    #[tactic(auto, using(crate::proofs::Scannable::scannable))]
     pub(crate) fn is_any_due_at(&self, moment: u64) -> bool
         ensures { result ≡ list_any (is_due_at self.now.entries moment) (numbers self.now.entries) }
     {
-        is_any_due_at(self.history.entries(), &self.open_calls, moment)
+        self.slots.is_any_due_at(self.history.entries(), moment)
     }
 
     /// The least call in transfer, and how many of its bytes are copied next.
-    #[tactic(auto, using(crate::proofs::Scannable::scannable))]
     pub(crate) fn next_block(&self) -> Option<(u64, u64)>
         ensures none { IsNone result ↔ (next_moving self.now.entries ≡ None) }
         ensures some { IfSome result (λ next. (next_moving self.now.entries ≡ Some next.0) × (next.1 ≡ block_of self.now.entries next.0)) }
     {
-        let entries = self.history.entries();
-        let number = next_moving_among(entries, &self.open_calls)?;
-        Some((number, block_to_move(entries, number)))
+        self.slots.next_block(self.history.entries())
     }
 
-    /// What ExchangeRegisters answers to a thread about a target.
-    #[tactic(auto, using(crate::proofs::Scannable::scannable))]
+    /// What ExchangeRegisters answers to a live thread about a target.
+    #[tactic(auto, unfolding(crate::specs::ExchangeRegisters::exreg_answer))]
     pub(crate) fn exreg_answer(&self, thread: ThreadId, target: ThreadId) -> ExregAnswer
+        requires { IsTrue (is_live self.now.entries thread) }
         ensures { result ≡ exreg_answer self.now.entries thread target }
     {
-        exreg_answer(self.history.entries(), &self.open_calls, thread, target)
+        let entries = self.history.entries();
+        if self.slots.is_live_beside(entries, target, thread) {
+            ExregAnswer {
+                result: target,
+                control: self.phases_of(target),
+                code: 0,
+            }
+        } else {
+            ExregAnswer {
+                result: ThreadId::NILTHREAD,
+                control: Control::from_word(0),
+                code: 2,
+            }
+        }
+    }
+
+    /// R where the thread is in a receive phase, S where it is in a send phase.
+    #[tactic(auto, unfolding(ipc_history::specs::ExchangeRegisters::phases_of))]
+    fn phases_of(&self, thread: ThreadId) -> Control
+        ensures { result ≡ phases_of self.now.entries thread }
+    {
+        let entries = self.history.entries();
+        let receive = if self.slots.is_in_receive_phase(entries, thread) {
+            2
+        } else {
+            0
+        };
+        let send = if self.slots.is_in_send_phase(entries, thread) {
+            4
+        } else {
+            0
+        };
+        Control::from_word(receive + send)
     }
 
     /// Makes room for so many more entries. Where memory is refused nothing changes.
@@ -131,21 +238,97 @@ impl Course {
         ensures entries { self.new.entries ≡ self.old.entries }
         ensures ok { OnOk result (length self.new.entries + more ≤ self.new.room) }
         ensures room { self.old.room ≤ self.new.room }
+        ensures books { SameBooks self.old self.new }
     {
         self.history.reserve(more)
     }
 
-    /// Appends an entry that may follow. Takes no memory.
-    fn append(&mut self, entry: Entry)
+    /// Makes room for so many calls whose outcome is taken. Where memory is refused nothing changes.
+    fn reserve_calls(&mut self, calls: u64) -> Result<(), AllocError>
+        ensures entries { self.new.entries ≡ self.old.entries }
+        ensures room { self.new.room ≡ self.old.room }
+        ensures taken { self.new.taken ≡ self.old.taken }
+        ensures since { self.new.since ≡ self.old.since }
+        ensures places { self.old.places ≤ self.new.places }
+        ensures ok { OnOk result (calls ≤ self.new.places) }
+    {
+        let calls = calls as usize;
+        self.taken.reserve(calls.saturating_sub(self.taken.len()))
+    }
+
+    /// Makes what a call needs: room for so many more entries and for its number among those taken, and its copies. Where memory
+    /// is refused what is seen stays as it is, but for more room.
+    pub(crate) fn prepare(
+        &mut self,
+        alloc: Global,
+        more: usize,
+        number: u64,
+        call: &Call,
+    ) -> Result<Prepared, AllocError>
+        requires { number < 2 ^ 32 }
+        ensures entries { self.new.entries ≡ self.old.entries }
+        ensures room { self.old.room ≤ self.new.room }
+        ensures taken { self.new.taken ≡ self.old.taken }
+        ensures since { self.new.since ≡ self.old.since }
+        ensures places { self.old.places ≤ self.new.places }
+        ensures fits { OnOk result (length self.new.entries + more ≤ self.new.room) }
+        ensures place { OnOk result (number + 1 ≤ self.new.places) }
+        ensures copies { IfOk result (λ copies. copies ≡ prepared call.now) }
+    {
+        self.reserve(more)?;
+        self.reserve_calls(number + 1)?;
+        Prepared::of(alloc, call)
+    }
+
+    /// Begins a command: it has finished no call yet.
+    pub(crate) fn begin(&mut self)
+        ensures entries { self.new.entries ≡ self.old.entries }
+        ensures room { self.new.room ≡ self.old.room }
+        ensures taken { self.new.taken ≡ self.old.taken }
+        ensures since { self.new.since ≡ length self.old.entries }
+        ensures places { self.new.places ≡ self.old.places }
+    {
+        self.since = self.history.len();
+        self.finished.clear();
+    }
+
+    /// Moves the outcome out that a live thread may take. Takes no memory.
+    pub(crate) fn take(&mut self, thread: ThreadId) -> Option<Outcome>
+        requires live { IsTrue (is_live self.old.entries thread) }
+        requires room { (n : ℕ) → IsTrue (is_called self.old.entries n) → IsFalse (is_among n self.old.taken) → length self.old.taken < self.old.places }
+        ensures given { result ≡ outcome_to_take self.old.entries self.old.taken thread }
+        ensures call { IfSome result (λ outcome. last_call self.old.entries thread ≡ Some outcome.call) }
+        ensures done { IfSome result (λ outcome. IsTaken self.old.entries outcome.call) }
+        ensures fresh { IfSome result (λ outcome. is_among outcome.call self.old.taken ≡ false) }
+        ensures taken { self.new.taken ≡ taken_after result self.old.taken }
+        ensures entries { self.new.entries ≡ self.old.entries }
+        ensures room { self.new.room ≡ self.old.room }
+        ensures since { self.new.since ≡ self.old.since }
+        ensures places { self.new.places ≡ self.old.places }
+    {
+        let outcome = self
+            .desks
+            .take(self.history.entries(), &self.taken, thread)?;
+        self.taken.push_reserved(outcome.call);
+        Some(outcome)
+    }
+
+    /// Appends an entry that may follow, with the copies that a call brings. Takes no memory.
+    fn append(&mut self, entry: Entry, copies: Option<Prepared>)
         requires follows { Follows self.old.entries entry }
+        requires copies { HasCopies entry copies }
         requires room { length self.old.entries < self.old.room }
+        requires fresh { IsFresh self.old entry }
         ensures entries { self.new.entries ≡ self.old.entries ++ entry ∷ [] }
         ensures room { self.new.room ≡ self.old.room }
+        ensures books { SameBooks self.old self.new }
     {
-        let number = entry.number();
-        self.live = live_after(self.live, &entry);
+        let entries = self.history.entries();
+        let ended = note(&mut self.desks, entries, &self.taken, &self.slots, &entry, copies);
+        self.slots.note(entries, &entry);
+        add(&mut self.finished, ended.first);
+        add(&mut self.finished, ended.second);
         self.history.push(entry);
-        refresh(&mut self.open_calls, self.history.entries(), number);
     }
 
     /// Writes the outputs that apply, until none does. Takes no memory.
@@ -155,9 +338,10 @@ impl Course {
         ensures settled { Settled self.old.entries self.new.entries }
         ensures room { self.new.room ≡ self.old.room }
         ensures spent { length self.new.entries + room_owed self.new.entries ≤ length self.old.entries + room_owed self.old.entries }
+        ensures books { SameBooks self.old self.new }
     {
         while let Some(output) = self.next_output() {
-            self.append(Entry::Written(output));
+            self.append(Entry::Written(output), None);
         }
     }
 
@@ -167,14 +351,15 @@ impl Course {
         requires room { length self.old.entries < self.old.room }
         ensures entries { self.new.entries ≡ self.old.entries ++ at_if_later self.old.entries moment }
         ensures room { self.new.room ≡ self.old.room }
+        ensures books { SameBooks self.old self.new }
     {
-        if now(self.history.entries()) < moment {
-            self.append(Entry::Given(Input::At(moment)));
+        if self.slots.now(self.history.entries()) < moment {
+            self.append(Entry::Given(Input::At(moment)), None);
         }
     }
 
     /// Appends the At of a moment that is later than the history's, and an input. Takes no memory.
-    pub(crate) fn give(&mut self, moment: u64, input: Input)
+    fn give(&mut self, moment: u64, input: Input, copies: Option<Prepared>)
         requires legal { Legal self.old.entries }
         requires quiet { Quiet self.old.entries }
         requires in_range { moment < last_moment + 1 }
@@ -182,16 +367,19 @@ impl Course {
         requires admissible { IsTrue (is_admissible self.old.entries input) }
         requires no_clock { is_clock input ≡ false }
         requires room { length self.old.entries + room_owed self.old.entries + command_need input ≤ self.old.room }
+        requires copies { HasCopies (Given input) copies }
+        requires begun { self.old.since ≡ length self.old.entries }
+        ensures books { SameBooks self.old self.new }
         ensures entries { self.new.entries ≡ with_input self.old.entries moment input }
         ensures room { self.new.room ≡ self.old.room }
         ensures spent { length self.new.entries + room_owed self.new.entries ≤ length self.old.entries + room_owed self.old.entries + command_need input }
     {
         self.clock(moment);
-        self.append(Entry::Given(input));
+        self.append(Entry::Given(input), copies);
     }
 
     /// Takes an input: appends it, after the At of a later moment, and then the outputs until none applies. Takes no memory.
-    pub(crate) fn take_input(&mut self, moment: u64, input: Input)
+    pub(crate) fn take_input(&mut self, moment: u64, input: Input, copies: Option<Prepared>)
         requires legal { Legal self.old.entries }
         requires quiet { Quiet self.old.entries }
         requires in_range { moment < last_moment + 1 }
@@ -199,11 +387,17 @@ impl Course {
         requires admissible { IsTrue (is_admissible self.old.entries input) }
         requires no_clock { is_clock input ≡ false }
         requires room { length self.old.entries + room_owed self.old.entries + command_need input ≤ self.old.room }
+        requires copies { HasCopies (Given input) copies }
+        ensures legal { Legal self.new.entries }
+        ensures taken { self.new.taken ≡ self.old.taken }
+        ensures since { self.new.since ≡ length self.old.entries }
+        ensures places { self.new.places ≡ self.old.places }
         ensures settled { Settled (with_input self.old.entries moment input) self.new.entries }
         ensures room { self.new.room ≡ self.old.room }
         ensures spent { length self.new.entries + room_owed self.new.entries ≤ length self.old.entries + room_owed self.old.entries + command_need input }
     {
-        self.give(moment, input);
+        self.begin();
+        self.give(moment, input, copies);
         self.settle();
     }
 
@@ -215,72 +409,60 @@ impl Course {
         requires in_range { moment < last_moment + 1 }
         requires due { list_any (is_due_at self.old.entries moment) (numbers self.old.entries) ≡ true }
         requires room { length self.old.entries + room_owed self.old.entries ≤ self.old.room }
+        ensures books { SameBooks self.old self.new }
         ensures entries { Continued (self.old.entries ++ Given (At moment) ∷ []) self.new.entries }
         ensures room { self.new.room ≡ self.old.room }
         ensures spent { length self.new.entries + room_owed self.new.entries ≤ length self.old.entries + room_owed self.old.entries }
     {
-        self.append(Entry::Given(Input::At(moment)));
+        self.append(Entry::Given(Input::At(moment)), None);
         if let Some(output) = self.next_output() {
-            self.append(Entry::Written(output));
+            self.append(Entry::Written(output), None);
         }
     }
 }
 
-/// What is pledged for these calls.
-fn pledge_sum(entries: &[Entry], calls: &[u64]) -> u128
-    ensures { result ≡ sum_by (pledge_of entries.now) calls.now }
-{
-    let mut total = 0;
-    for number in calls {
-        total += u128::from(pledge_of(entries, *number));
-    }
-    total
-}
-
-/// What is pledged for a call: nothing once it is over.
-#[tactic(auto, unfolding(ipc_laws::specs::Counting::pledge_of))]
-fn pledge_of(entries: &[Entry], number: u64) -> u64
-    ensures { result ≡ pledge_of entries.now number }
-{
-    if is_over(entries, number) {
-        0
-    } else if to_of(entries, number) == ThreadId::NILTHREAD {
-        PLEDGE_OF_OPEN_CALL
-    } else {
-        let size = u128::from(message_size(entries, number));
-        let blocks = (size + u128::from(BLOCK_BYTES) - 1) / u128::from(BLOCK_BYTES);
-        PLEDGE_OF_OPEN_CALL + PLEDGE_OF_BLOCK * blocks as u64
-    }
-}
-
-/// Puts the number of a new call at the end, and drops the calls that are over.
-fn refresh(open_calls: &mut Vec<u64>, entries: &[Entry], number: Option<u64>)
-    requires room { vec_len open_calls.old < vec_capacity open_calls.old }
-    ensures items { open_calls.new.items ≡ filter (λ n. not (is_over entries.now n)) (open_calls.old.items ++ option_to_list number) }
-    ensures capacity { vec_capacity open_calls.old ≤ vec_capacity open_calls.new }
-{
-    if let Some(number) = number {
-        open_calls.push_reserved(number);
-    }
-    keep_open(open_calls, entries);
-}
-
-/// Drops the calls that are over.
-fn keep_open(open_calls: &mut Vec<u64>, entries: &[Entry])
-    ensures items { open_calls.new.items ≡ filter (λ n. not (is_over entries.now n)) open_calls.old.items }
-    ensures capacity { vec_capacity open_calls.old ≤ vec_capacity open_calls.new }
-{
-    open_calls.retain(|number| !is_over(entries, *number));
-}
-
-/// How many threads are live after an entry.
-fn live_after(live: u64, entry: &Entry) -> u64
-    requires { live < 2 ^ 32 }
-    ensures { result ≡ live_after live entry.now }
+/// Notes an entry at the desks, and says whose call it ended.
+fn note(
+    desks: &mut Desks,
+    entries: &[Entry],
+    taken: &[u64],
+    slots: &Slots,
+    entry: &Entry,
+    copies: Option<Prepared>,
+) -> Finished
+    requires legal { Legal entries.now }
+    requires follows { Follows entries.now entry.now }
+    requires stands { Stands entries.now slots.now }
+    requires keeps { Keeps entries.now taken.now desks.old }
+    requires copies { HasCopies entry.now copies }
+    ensures keeps { Keeps (entries.now ++ entry.now ∷ []) taken.now desks.new }
+    ensures finished { (t : ℕ) → is_named result t ≡ finishes entries.now entry.now t }
 {
     match entry {
-        Entry::Given(Input::Opened(_, _)) => live + 1,
-        Entry::Given(Input::Broke(_)) => live.saturating_sub(1),
-        _ => live,
+        Entry::Given(Input::Called(number, caller, call)) => match copies {
+            Some(copies) => desks.note_called(entries, taken, *number, *caller, call, copies),
+            None => unreachable!(),
+        },
+        _ => desks.note(entries, taken, slots, entry),
     }
+}
+
+/// Adds a thread to those that are named, where it is not yet there.
+fn add(names: &mut Vec<ThreadId>, thread: Option<ThreadId>)
+    requires { IfSome thread (λ t. IsFalse (is_among t names.old.items) → vec_len names.old < vec_capacity names.old) }
+    ensures items { names.new.items ≡ with_name names.old.items thread }
+    ensures capacity { vec_capacity names.new ≡ vec_capacity names.old }
+{
+    if let Some(thread) = thread {
+        if !is_named(names, thread) {
+            names.push_reserved(thread);
+        }
+    }
+}
+
+/// Whether a thread is named.
+fn is_named(names: &[ThreadId], thread: ThreadId) -> bool
+    ensures { result ≡ is_among thread names.now }
+{
+    names.iter().any(|name| *name == thread)
 }

@@ -19,21 +19,18 @@ ghost use Rattle.ipc_core.specs.Laws.{IsSound};
 ghost use Rattle.ipc_core.specs.Obeying.{MayObey, broke_answer, empty_kernel, enter_answer, exreg_result, open_answer, rested};
 ghost use Rattle.ipc_core.specs.Outcomes.{has_untaken, is_among, is_busy, is_finished, made_by, outcome_to_take, taken_by};
 ghost use Rattle.ipc_core.specs.Refusals.{open_refusal, enter_refusal, exreg_refusal};
+ghost use Rattle.ipc_core.specs.OpenCalls.{enters_open};
 ghost use Rattle.ipc_core.specs.Room.{is_full};
 ghost use Rattle.ipc_core.specs.Steps.{Advances, Enters, MayRefuse, Opens, at_moment, taken_after};
 ghost use Rattle.ipc_core.specs.declared.command.Answer.TheVariants.{Advanced, Done, Taken};
 ghost use Rattle.ipc_core.specs.declared.command.Command.TheVariants as command;
 
 use crate::answers::{Advance, EnterRefused, ExregAnswer, NoThread};
-use crate::books::{Books, among_of, made_by};
-use crate::copies::Copies;
 use crate::course::Course;
-use crate::numbers::is_taken;
 use crate::refusal::Refusal;
 use crate::room::call_need;
-use crate::taking::outcome_of;
 use ipc_history::{Call, Entry, Input, Outcome};
-use ipc_rules::{calls_made, is_live, is_over, last_call, next_version_of, open_call};
+use ipc_rules::is_over;
 use ipc_words::limits::{LAST_MOMENT, MAX_CALLS, MAX_ENTRIES, MAX_SPACE, MAX_THREAD_NUMBER};
 use ipc_words::limits::{NEED_OF_EXCHANGE, NEED_OF_OPEN, PLEDGE_OF_THREAD};
 use ipc_words::{Control, ThreadId};
@@ -56,8 +53,6 @@ pub struct Kernel {
     calls_limit: u64,
     moment: u64,
     course: Course,
-    copies: Copies,
-    books: Books,
     alloc: Global,
 }
 
@@ -67,9 +62,9 @@ impl Model for Kernel {
 
     ghost Value = { KernelParts };
 
-    ghost view = { λ k. record { entries_limit = k.entries_limit; calls_limit = k.calls_limit; moment = k.moment; history = k.course.entries; taken = k.books.taken; since = k.books.since } };
+    ghost view = { λ k. record { entries_limit = k.entries_limit; calls_limit = k.calls_limit; moment = k.moment; history = k.course.entries; taken = k.course.taken; since = k.course.since } };
 
-    ghost invariant = { λ k. IsWhole k.entries_limit k.calls_limit k.moment k.course k.copies k.books };
+    ghost invariant = { λ k. IsWhole k.entries_limit k.calls_limit k.moment k.course };
 }
 
 impl Kernel {
@@ -81,16 +76,11 @@ impl Kernel {
         let Ok(course) = Course::new(alloc) else {
             return Err(Refusal::NoMemory);
         };
-        let Ok(books) = Books::new(alloc) else {
-            return Err(Refusal::NoMemory);
-        };
         Ok(Kernel {
             entries_limit: limits.entries.min(MAX_ENTRIES),
             calls_limit: limits.calls.min(MAX_CALLS),
             moment: 0,
             course,
-            copies: Copies::new(alloc),
-            books,
             alloc,
         })
     }
@@ -121,35 +111,49 @@ impl Kernel {
     pub fn open_calls(&self) -> usize
         ensures { result ≡ open_calls self.now.history }
     {
-        self.course.open_calls().len()
+        let entries = self.course.entries();
+        entries
+            .iter()
+            .filter(|entry| is_open_call(entries, entry))
+            .count()
     }
 
     /// How many calls were made.
     pub fn calls(&self) -> u64
         ensures { result ≡ calls_made self.now.history }
     {
-        calls_made(self.course.entries())
+        self.course.calls_made()
     }
 
     /// How many outcomes were taken.
     pub fn takes(&self) -> u64
         ensures { result ≡ length self.now.taken }
     {
-        self.books.taken().len() as u64
+        self.course.takes() as u64
     }
 
     /// How many calls a live thread entered, 0 for a thread that is not live.
+    #[tactic(auto, unfolding(crate::specs::Outcomes::made_by))]
     pub fn made(&self, thread: ThreadId) -> u64
         ensures { result ≡ made_by self.now.history thread }
     {
-        made_by(self.course.entries(), thread)
+        if self.course.is_live(thread) {
+            self.course.made(thread)
+        } else {
+            0
+        }
     }
 
     /// How many outcomes a live thread took, 0 for a thread that is not live.
+    #[tactic(auto, unfolding(crate::specs::Outcomes::taken_by))]
     pub fn taken(&self, thread: ThreadId) -> u64
         ensures { result ≡ taken_by self.now thread }
     {
-        among_of(self.course.entries(), self.books.taken(), thread)
+        if self.course.is_live(thread) {
+            self.course.taken(thread)
+        } else {
+            0
+        }
     }
 
     /// The live threads whose last call became over by the last command that was obeyed.
@@ -157,7 +161,7 @@ impl Kernel {
         ensures names { (thread : ℕ) → is_among thread result.now ≡ is_finished self.now thread }
         ensures once { IsDistinct (λ a b. a == b) result.now }
     {
-        self.books.finished()
+        self.course.finished()
     }
 }
 
@@ -197,10 +201,10 @@ impl Kernel {
         if number < 1 || number > most || space < 1 || space > spaces {
             return Err(Refusal::BadNumber);
         }
-        if is_taken(self.course.entries(), number as u32) {
+        if self.course.is_taken(number as u32) {
             return Err(Refusal::NumberTaken);
         }
-        let Some(version) = next_version_of(self.course.entries(), number as u32) else {
+        let Some(version) = self.course.next_version_of(number as u32) else {
             return Err(Refusal::NumberWorn);
         };
         let Some(room) = self.room_for(NEED_OF_OPEN) else {
@@ -209,12 +213,9 @@ impl Kernel {
         let Ok(()) = self.course.reserve(room) else {
             return Err(Refusal::NoMemory);
         };
-        let since = self.course.entries().len();
         let thread = thread_id(number as u32, version);
         self.course
-            .take_input(self.moment, Input::Opened(thread, space));
-        self.copies.keep_needed(self.course.entries());
-        self.books.close(self.course.entries(), since);
+            .take_input(self.moment, Input::Opened(thread, space), None);
         Ok(thread)
     }
 
@@ -233,14 +234,11 @@ impl Kernel {
         ensures gone { OnErr result (is_live self.old.history thread ≡ false) }
         ensures err { OnErr result (self.new ≡ self.old) }
     {
-        if !is_live(self.course.entries(), thread) {
+        if !self.course.is_live(thread) {
             return Err(NoThread);
         }
-        let since = self.course.entries().len();
-        self.copies.drop_thread(self.course.entries(), thread);
-        self.course.take_input(self.moment, Input::Broke(thread));
-        self.copies.keep_needed(self.course.entries());
-        self.books.close(self.course.entries(), since);
+        self.course
+            .take_input(self.moment, Input::Broke(thread), None);
         Ok(())
     }
 
@@ -263,14 +261,22 @@ impl Kernel {
         ensures calls_limit { self.new.calls_limit ≡ self.old.calls_limit }
     {
         let moment = self.moment.max(now.min(LAST_MOMENT));
-        let since = self.course.entries().len();
+        self.course.begin();
         if self.course.is_any_due_at(moment) {
             self.course.tick(moment);
             self.course.settle();
-            self.copies.keep_needed(self.course.entries());
         }
         self.moment = moment;
-        self.books.close(self.course.entries(), since);
+    }
+}
+
+/// Whether an entry enters a call that is open.
+fn is_open_call(entries: &[Entry], entry: &Entry) -> bool
+    ensures { result ≡ enters_open entries.now entry.now }
+{
+    match entry.number() {
+        Some(number) => !is_over(entries, number),
+        None => false,
     }
 }
 
@@ -315,7 +321,7 @@ impl Kernel {
         ensures back { IfErr result (λ refused. refused.call ≡ call) }
         ensures err { OnErr result (self.new ≡ self.old) }
     {
-        if !is_live(self.course.entries(), thread) {
+        if !self.course.is_live(thread) {
             return Err(EnterRefused {
                 refusal: Refusal::NoThread,
                 call,
@@ -327,7 +333,7 @@ impl Kernel {
                 call,
             });
         }
-        let made = calls_made(self.course.entries());
+        let made = self.course.calls_made();
         if made >= self.calls_limit {
             return Err(EnterRefused {
                 refusal: Refusal::CallsSpent,
@@ -340,20 +346,8 @@ impl Kernel {
                 call,
             });
         };
-        let Ok(()) = self.course.reserve(room) else {
-            return Err(EnterRefused {
-                refusal: Refusal::NoMemory,
-                call,
-            });
-        };
         let number = made + 1;
-        let Ok(()) = self.books.reserve(number + 1) else {
-            return Err(EnterRefused {
-                refusal: Refusal::NoMemory,
-                call,
-            });
-        };
-        let Ok(()) = self.copies.enter(self.alloc, number, &call) else {
+        let Ok(copies) = self.course.prepare(self.alloc, room, number, &call) else {
             return Err(EnterRefused {
                 refusal: Refusal::NoMemory,
                 call,
@@ -361,11 +355,8 @@ impl Kernel {
         };
         let is_normal = call.is_normal();
         prove!(is_normal);
-        let since = self.course.entries().len();
         self.course
-            .take_input(self.moment, Input::Called(number, thread, call));
-        self.copies.keep_needed(self.course.entries());
-        self.books.close(self.course.entries(), since);
+            .take_input(self.moment, Input::Called(number, thread, call), Some(copies));
         Ok(number)
     }
 
@@ -394,8 +385,7 @@ impl Kernel {
         ensures cause { IfErr result (λ refusal. MayRefuse (exreg_refusal self.old thread) refusal) }
         ensures err { OnErr result (self.new ≡ self.old) }
     {
-        let entries = self.course.entries();
-        if !is_live(entries, thread) {
+        if !self.course.is_live(thread) {
             return Err(Refusal::NoThread);
         }
         if self.is_busy(thread) {
@@ -407,11 +397,8 @@ impl Kernel {
         let Ok(()) = self.course.reserve(room) else {
             return Err(Refusal::NoMemory);
         };
-        let since = self.course.entries().len();
         let answer = self.course.exreg_answer(thread, target);
-        self.course.take_input(self.moment, Input::Exreg(thread, target, control.masked()));
-        self.copies.keep_needed(self.course.entries());
-        self.books.close(self.course.entries(), since);
+        self.course.take_input(self.moment, Input::Exreg(thread, target, control.masked()), None);
         Ok(answer)
     }
 
@@ -428,15 +415,12 @@ impl Kernel {
         ensures moved { result ≡ Advance.Moved → Advances self.old self.new }
         ensures idle { result ≡ Advance.Idle → (next_moving self.old.history ≡ None) × (self.new ≡ rested self.old) }
     {
-        let since = self.course.entries().len();
         let Some((number, block)) = self.course.next_block() else {
-            self.books.close(self.course.entries(), since);
+            self.course.begin();
             return Advance::Idle;
         };
         self.course
-            .take_input(self.moment, Input::Moved(number, block));
-        self.copies.keep_needed(self.course.entries());
-        self.books.close(self.course.entries(), since);
+            .take_input(self.moment, Input::Moved(number, block), None);
         Advance::Moved
     }
 
@@ -447,8 +431,7 @@ impl Kernel {
         ensures obeys { MayObey self.old (command.Take thread) (Taken result) self.new }
     {
         let outcome = self.take_outcome(thread);
-        let since = self.course.entries().len();
-        self.books.close(self.course.entries(), since);
+        self.course.begin();
         outcome
     }
 
@@ -457,27 +440,17 @@ impl Kernel {
         ensures outcome { result ≡ outcome_to_take self.old thread }
         ensures taken { self.new ≡ record self.old { taken = taken_after result self.old.taken } }
     {
-        let entries = self.course.entries();
-        if !is_live(entries, thread) {
+        if !self.course.is_live(thread) {
             return None;
         }
-        let number = last_call(entries, thread)?;
-        if self.books.was_taken(number) || !is_over(entries, number) {
-            return None;
-        }
-        let outcome = outcome_of(self.alloc, entries, &mut self.copies, number);
-        self.copies.drop_call(number);
-        self.copies.keep_needed(entries);
-        self.books.take(number);
-        Some(outcome)
+        self.course.take(thread)
     }
 
     /// Whether a thread has an open call, or an outcome that was not yet taken.
     fn is_busy(&self, thread: ThreadId) -> bool
         ensures { result ≡ is_busy self.now thread }
     {
-        let entries = self.course.entries();
-        open_call(entries, thread).is_some() || self.has_untaken(thread)
+        self.course.open_call_of(thread).is_some() || self.has_untaken(thread)
     }
 
     /// Whether the outcome of a live thread's last call was not yet taken.
@@ -485,13 +458,6 @@ impl Kernel {
     fn has_untaken(&self, thread: ThreadId) -> bool
         ensures { result ≡ has_untaken self.now thread }
     {
-        let entries = self.course.entries();
-        if !is_live(entries, thread) {
-            return false;
-        }
-        match last_call(entries, thread) {
-            Some(number) => !self.books.was_taken(number),
-            None => false,
-        }
+        self.course.is_live(thread) && self.course.is_busy(thread)
     }
 }

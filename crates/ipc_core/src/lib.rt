@@ -2,20 +2,13 @@
 #![tactic(auto)]
 
 mod answers;
-mod books;
 mod command;
-mod copies;
 mod course;
-mod ending;
-mod exchange;
 mod kernel;
 pub mod laws;
-mod messages;
-mod numbers;
 mod obeying;
 mod refusal;
 mod room;
-mod taking;
 #[cfg(test)]
 mod tests;
 

@@ -5,11 +5,11 @@ use Rattle.ipc_items.specs.declared.buffer_list.Substring.{Substring}
 use Rattle.ipc_history.specs.Calls.{caller_of, from_of, buffers_of, strings_of}
 use Rattle.ipc_history.specs.Matching.{shown_sender}
 use Rattle.ipc_history.specs.Outcomes.{HasItsWords, OutcomeParts, nothing, received}
+use Rattle.ipc_laws.proofs.ReceivedWords.{received_counted}
 use Rattle.ipc_history.specs.Legal.{Legal, Follows}
 use Rattle.ipc_history.specs.declared.entry.Entry.{Entry}
 use Rattle.ipc_history.specs.declared.entry.Entry.TheVariants.{Written}
 use Rattle.ipc_history.specs.declared.entry.Output.TheVariants.{Ended}
-use Rattle.ipc_laws.proofs.ReceivedWords.{received_counted}
 use Rattle.ipc_laws.proofs.Tests.{refuted}
 use Rattle.ipc_slots.specs.Standings.{standing_of}
 use Rattle.ipc_slots.specs.declared.slot.Standing.{Standing}
@@ -27,11 +27,12 @@ module _ (P : List Entry) (n m : ℕ) (legal : Legal P) (follows : Follows P (Wr
   pub put_together : (message : MessageParts) (call : Standing) (buffers : List (List Substring)) → message ≡ message_of P n → call ≡ standing_of P n → buffers ≡ buffers_of P m → delivered m message call.caller call.shown buffers ≡ received P n m
   put_together message call buffers a b c = rw (a, b, c, standing_caller P n, standing_shown P n) (delivered_is P n m legal follows)
 
+  -- and its words are as many as its tag says
+  pub has_words : (message : MessageParts) (call : Standing) (buffers : List (List Substring)) → message ≡ message_of P n → call ≡ standing_of P n → buffers ≡ buffers_of P m → HasItsWords (delivered m message call.caller call.shown buffers).tag (delivered m message call.caller call.shown buffers).words
+  has_words message call buffers a b c = subst (λ (o : OutcomeParts). HasItsWords o.tag o.words) (sym (put_together message call buffers a b c)) (received_counted P legal n m (strings_fit P n m legal follows))
+
   pub fits_buffers : (message : MessageParts) (buffers : List (List Substring)) → message ≡ message_of P n → buffers ≡ buffers_of P m → length message.strings ≤ length buffers
   fits_buffers message buffers a b = rw (a, b, message_strings P n) (strings_fit P n m legal follows)
-
-  pub counted_words : (message : MessageParts) (call : Standing) (buffers : List (List Substring)) → message ≡ message_of P n → call ≡ standing_of P n → buffers ≡ buffers_of P m → HasItsWords (delivered m message call.caller call.shown buffers).tag (delivered m message call.caller call.shown buffers).words
-  counted_words message call buffers a b c = subst (λ o. HasItsWords o.tag o.words) (sym (put_together message call buffers a b c)) (received_counted P legal n m (strings_fit P n m legal follows))
 
   module _ (taken : List ℕ) (old moved told : List Desk) (keeps : Keeps P taken old) (s : Standing) (is : s ≡ standing_of P n) (i j : ℕ) (from : i ≡ number_of (caller_of P n)) (to : j ≡ number_of (caller_of P m)) (o : OutcomeParts) (outcome : o ≡ received P s.number m) (moves : Moved i j old moved) (tells : Changed j (finished o) moved told) where
     moves_now : Moved (number_of (caller_of P n)) (number_of (caller_of P m)) old moved

@@ -1,5 +1,5 @@
 ghost use Rattle.std.specs.Prelude.{◌≡◌, ◌≤◌, ◌+◌, ◌<◌, ◌^◌, length, not, Some, None, IsTrue};
-ghost use Rattle.ipc_history.specs.Outcomes.{failure, nothing, HasItsWords};
+ghost use Rattle.ipc_history.specs.Outcomes.{HasItsWords, failure, nothing};
 ghost use Rattle.ipc_desks.specs.Desks.{blank_desk};
 ghost use Rattle.ipc_desks.specs.Messages.{MessageParts, delivered};
 ghost use Rattle.ipc_desks.specs.Steps.{finished, emptied, cleared, entered, entered_told, waits_in, buffers_in, outcome_in_told, is_ready, is_nothing, unbuffered, taken_from};
@@ -196,7 +196,7 @@ pub(crate) fn delivered(
     buffers: BufferList,
 ) -> Outcome
     requires fits { length message.strings ≤ length buffers }
-    requires counted { HasItsWords (delivered number message caller shown buffers).tag (delivered number message caller shown buffers).words }
+    requires words { HasItsWords (delivered number message caller shown buffers).tag (delivered number message caller shown buffers).words }
     ensures { result ≡ delivered number message caller shown buffers }
 {
     let is_propagated = message.tag().propagates() && message.originator() == shown;

@@ -1,4 +1,6 @@
-use Rattle.ipc_core.proofs.CourseLemmas.{clock_follows, command_follows, command_places, command_spent}
+use Rattle.ipc_core.proofs.CourseLemmas.{input_fresh, more_books, clock_follows, command_follows, command_places, command_spent}
+use Rattle.std.proofs.Common.{◌∙◌}
+use Rattle.ipc_history.specs.declared.entry.Entry.TheVariants.{Given}
 use Rattle.ipc_core.proofs.course.Course.give.Goals as goal
 
 pub clock-requires-clause-follows : goal.clock-requires-clause-follows
@@ -15,3 +17,9 @@ append-requires-clause-room c = rw (c.clock.ensures.entries, c.clock.ensures.roo
 
 pub returns-clause-spent : goal.returns-clause-spent
 returns-clause-spent c = rw (c.append.ensures.entries, c.clock.ensures.entries) (command_spent _ _ c.args.self.now.room c.args.input c.requires.legal c.requires.quiet c.requires.in_range c.requires.undue c.requires.admissible c.requires.no_clock)
+
+pub append-requires-clause-fresh : goal.append-requires-clause-fresh
+append-requires-clause-fresh c = input_fresh _ _ c.args.moment _ (Given c.args.input) c.requires.legal c.clock.ensures.entries (c.clock.ensures.books.since ∙ c.requires.begun)
+
+pub returns-clause-books : goal.returns-clause-books
+returns-clause-books c = more_books _ _ _ c.clock.ensures.books c.append.ensures.books

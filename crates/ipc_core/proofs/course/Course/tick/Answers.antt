@@ -1,5 +1,6 @@
+use Rattle.std.proofs.lemmas.Bool.{false≢true}
 use Rattle.std.proofs.Common.{sym, ◌∙◌}
-use Rattle.ipc_core.proofs.CourseLemmas.{output_follows, tick_brings, tick_continues, tick_follows, tick_next, tick_place, tick_spends}
+use Rattle.ipc_core.proofs.CourseLemmas.{more_books, output_follows, tick_brings, tick_continues, tick_follows, tick_next, tick_place, tick_spends}
 use Rattle.ipc_core.proofs.course.Course.tick.Goals as goal
 
 pub append-requires-clause-follows : goal.append-requires-clause-follows
@@ -22,3 +23,12 @@ returns-in-Some-clause-spent c = tick_spends _ c.args.moment _ c.requires.legal 
 
 pub returns-in_default-clause-spent : goal.returns-in_default-clause-spent
 returns-in_default-clause-spent c = absurd (tick_brings _ c.args.moment _ c.requires.legal c.requires.quiet c.requires.later c.requires.in_range c.requires.due c.requires.room _ c.append.ensures.entries (sym c.next_output.ensures ∙ c.in_default.is))
+
+pub append-requires-clause-fresh : goal.append-requires-clause-fresh
+append-requires-clause-fresh c = λ t none. absurd (false≢true none)
+
+pub append-requires-in-Some-clause-fresh : goal.append-requires-in-Some-clause-fresh
+append-requires-in-Some-clause-fresh c = λ t none. absurd (false≢true none)
+
+pub returns-in-Some-clause-books : goal.returns-in-Some-clause-books
+returns-in-Some-clause-books c = more_books _ _ _ c.append.ensures.books c.append-in-Some.ensures.books

@@ -14,7 +14,7 @@ pub returns-clause-sound : goal.returns-clause-sound
 returns-clause-sound c = subst IsSound c.self.view_is (record {
   legal = c.self.invariant.kernel.stands.legal;
   quiet = c.self.invariant.kernel.stands.quiet;
-  taken = c.self.invariant.books_are.taken;
-  once = c.self.invariant.books_are.once;
-  since = c.self.invariant.books_are.since;
+  taken = c.self.invariant.books.taken_are;
+  once = c.self.invariant.books.once;
+  since = c.self.invariant.books.begun;
 })

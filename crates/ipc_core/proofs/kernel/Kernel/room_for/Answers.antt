@@ -2,12 +2,12 @@ use Rattle.std.proofs.Common.{◌≡◌, ◌+◌, ap, subst, IfSome, IsNone, IsT
 use Rattle.std.specs.Prelude.{◌↔◌}
 use Rattle.ipc_laws.specs.Counting.{pledged}
 use Rattle.ipc_core.specs.Room.{is_full}
-use Rattle.ipc_core.proofs.OpenNumbers.{live_threads_few}
+use Rattle.ipc_laws.proofs.LiveThreads.{live_bound}
 use Rattle.ipc_core.proofs.ReservedLemmas.{full_where, room_where}
 use Rattle.ipc_core.proofs.kernel.Kernel.room_for.Goals as goal
 
 pub room_within-requires : goal.room_within-requires
-room_within-requires c = let few = live_threads_few c.self.inside.course.entries c.self.invariant.kernel.stands.legal in omega arith
+room_within-requires c = let few = live_bound c.self.inside.course.entries c.self.invariant.kernel.stands.legal in omega arith
 
 pub returns-clause-full : goal.returns-clause-full
 returns-clause-full c =

@@ -1,0 +1,47 @@
+-- A kernel after a command that wrote nothing.
+use Rattle.std.proofs.Common.{◌≡◌, sym, ap, ap₂, ◌∙◌, subst, ℕ, ◌+◌, ◌≤◌, false, List, length, Option, IfSome, arith}
+use Rattle.ipc_history.specs.declared.entry.Entry.{Entry}
+use Rattle.ipc_laws.specs.Counting.{room_owed}
+use Rattle.ipc_core.specs.Books.{AreBooks}
+use Rattle.ipc_core.specs.CourseParts.{CourseParts}
+use Rattle.ipc_core.specs.Invariants.{IsKernel, IsWhole, Stands}
+use Rattle.ipc_core.specs.KernelParts.{KernelParts}
+use Rattle.ipc_core.specs.Obeying.{rested}
+use Rattle.ipc_core.proofs.BookLemmas.{books_rest, books_took}
+use Rattle.ipc_history.specs.Outcomes.{OutcomeParts}
+use Rattle.ipc_core.specs.Outcomes.{IsTaken, is_among}
+use Rattle.ipc_core.specs.Steps.{taken_after}
+
+-- a course with the same entries and the same room
+pub kernel_same : (entries_limit calls_limit moment : ℕ) (old new : CourseParts) → IsKernel entries_limit calls_limit moment old → new.entries ≡ old.entries → old.room ≤ new.room → IsKernel entries_limit calls_limit moment new
+kernel_same entries_limit calls_limit moment old new kernel same more = record {
+  stands = subst (λ H. Stands H entries_limit moment) (sym same) kernel.stands;
+  room = subst (λ H. length H + room_owed H ≤ new.room) (sym same) (let room = kernel.room in omega (arith, room, more));
+  few_entries = kernel.few_entries;
+  few_calls = kernel.few_calls;
+}
+
+-- where a command has begun and nothing more
+pub rests : (entries_limit calls_limit moment : ℕ) (old new : CourseParts) → IsWhole entries_limit calls_limit moment old → new.entries ≡ old.entries → new.room ≡ old.room → new.taken ≡ old.taken → new.since ≡ length old.entries → new.places ≡ old.places → IsWhole entries_limit calls_limit moment new
+rests entries_limit calls_limit moment old new whole same room taken since places = record {
+  kernel = kernel_same entries_limit calls_limit moment old new whole.kernel same (omega (arith, room));
+  books = subst (λ H. AreBooks H new.taken new.since new.places) (sym same) (subst (λ t. AreBooks old.entries t new.since new.places) (sym taken) (subst (λ p. AreBooks old.entries old.taken new.since p) (sym places) (books_rest old.entries old.taken new.since old.since old.places since whole.books)));
+}
+
+-- and what is seen of it then
+module _ (seen old : KernelParts) (entries : List Entry) (taken : List ℕ) (since : ℕ) where
+  pub seen_begun : seen ≡ old → entries ≡ seen.history → taken ≡ seen.taken → since ≡ length seen.history → record seen { history = entries; taken = taken; since = since } ≡ rested old
+  seen_begun same entries_are taken_are since_is = (λ i. record seen { history = entries_are i; taken = taken_are i; since = since_is i }) ∙ ap rested same
+
+pub begins_rested : (seen old : KernelParts) (new : CourseParts) → seen ≡ old → new.entries ≡ seen.history → new.taken ≡ seen.taken → new.since ≡ length seen.history → record seen { history = new.entries; taken = new.taken; since = new.since } ≡ rested old
+begins_rested seen old new same entries taken since = seen_begun seen old new.entries new.taken new.since same entries taken since
+
+-- after an outcome was taken, or none
+pub takes_one : (entries_limit calls_limit moment : ℕ) (old new : CourseParts) (outcome : Option OutcomeParts) → IsWhole entries_limit calls_limit moment old → new.entries ≡ old.entries → new.room ≡ old.room → new.taken ≡ taken_after outcome old.taken → new.since ≡ old.since → new.places ≡ old.places → IfSome outcome (λ o. IsTaken old.entries o.call) → IfSome outcome (λ o. is_among o.call old.taken ≡ false) → IsWhole entries_limit calls_limit moment new
+takes_one entries_limit calls_limit moment old new outcome whole same room taken since places done fresh = record {
+  kernel = kernel_same entries_limit calls_limit moment old new whole.kernel same (omega (arith, room));
+  books = subst (λ H. AreBooks H new.taken new.since new.places) (sym same) (subst (λ s. AreBooks old.entries new.taken s new.places) (sym since) (subst (λ p. AreBooks old.entries new.taken old.since p) (sym places) (books_took old.entries old.taken new.taken old.since old.places outcome whole.books taken done fresh)));
+}
+
+pub seen_took : (seen old : KernelParts) (new : CourseParts) (outcome : Option OutcomeParts) → seen ≡ old → new.entries ≡ seen.history → new.taken ≡ taken_after outcome seen.taken → new.since ≡ seen.since → record seen { history = new.entries; taken = new.taken; since = new.since } ≡ record old { taken = taken_after outcome old.taken }
+seen_took seen old new outcome same entries taken since = (λ i. record seen { history = entries i; taken = taken i; since = since i }) ∙ ap (λ (k : KernelParts). record k { taken = taken_after outcome k.taken }) same

@@ -1,0 +1,16 @@
+ghost use Rattle.ipc_exchange.specs.Laws.{CallsAreAccepted, LegalStays, PiecesJoin};
+
+/// Where no growth is refused, a piece and then another are the two joined.
+pub fn pieces_join()
+    ensures { PiecesJoin }
+{}
+
+/// The calls of the history are those that the kernel accepted, in order, whatever happens.
+pub fn calls_are_accepted()
+    ensures { CallsAreAccepted }
+{}
+
+/// A legal history stays legal, whatever happens.
+pub fn legal_stays()
+    ensures { LegalStays }
+{}

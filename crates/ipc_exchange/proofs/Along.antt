@@ -73,7 +73,7 @@ module _
     by_along Leave old new place asked serves = tells_along old new place _ asked serves
     by_along (Refuse class number) old new place asked serves = tells_along old new place _ asked serves
 
-    serves_along : (old new : ServiceParts) (place : ℕ) (heard : Result Heard FrameFault) (asked : List Asked) → Serves memory old place heard asked new → R old.kernel asked new.kernel
+    pub serves_along : (old new : ServiceParts) (place : ℕ) (heard : Result Heard FrameFault) (asked : List Asked) → Serves memory old place heard asked new → R old.kernel asked new.kernel
     unfolding Serves
     serves_along old new place heard asked serves = by_along (asks (line_at old.lines place).stage heard) old new place asked serves
 
@@ -92,7 +92,7 @@ module _
         (subst (λ a. R old.service.kernel a between) (sym commands.asked_is) (one old.service.kernel between command commands.answer obeys))
         (delivered_along old.service.lines between))
 
-    event_along : (event : Event) (old new : ExchangeParts) (asked : List Asked) → Happens memory old event asked new → R old.service.kernel asked new.service.kernel
+    pub event_along : (event : Event) (old new : ExchangeParts) (asked : List Asked) → Happens memory old event asked new → R old.service.kernel asked new.service.kernel
     event_along (Connect space) old new asked happens = stays _ _ asked happens.0 (ap (λ (s : ExchangeParts). s.service.kernel) happens.1)
     event_along (Piece place piece) old new asked feeds =
         subst (λ H. R old.service.kernel asked H) (sym (ap (λ (s : ExchangeParts). s.service.kernel) feeds.new_is))

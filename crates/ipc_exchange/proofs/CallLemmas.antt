@@ -118,7 +118,7 @@ obeyed_legal Ample old new command answer obeys legal = obeys_legal old new comm
 obeyed_legal MayLack old new command answer (inl obeys) legal = obeys_legal old new command answer legal obeys
 obeyed_legal MayLack old new command answer (inr lacks) legal = subst (λ (k : KernelParts). Legal k.history) (sym lacks.stays) legal
 
-obeys_in_legal : (memory : Memory) (old new : KernelParts) (command : Command) (answer : Answer) → ObeysIn memory old command answer new → Legal old.history → Legal new.history
+pub obeys_in_legal : (memory : Memory) (old new : KernelParts) (command : Command) (answer : Answer) → ObeysIn memory old command answer new → Legal old.history → Legal new.history
 obeys_in_legal memory old new command answer (after, obeys, is) legal = subst (λ (k : KernelParts). Legal k.history) (sym is) (obeyed_legal memory old after command answer obeys legal)
 
 pub legal_stays : LegalStays

@@ -9,3 +9,4 @@ pub mod ServingLemmas
 pub mod PiecesLemmas
 pub mod Along
 pub mod CallLemmas
+pub mod OnceLemmas

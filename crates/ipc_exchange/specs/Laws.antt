@@ -54,3 +54,10 @@ CallsAreAccepted = (memory : Memory) (old new : ExchangeParts) (events : List Ev
     → HappenAll memory old events asked new
     → calls_in new.service.kernel.history
     ≡ calls_in old.service.kernel.history ++ filter_map accepted asked
+
+-- without want of memory each list of events has one end, and one trace of commands and answers
+abbrev pub HappenOnce : Type 0
+HappenOnce = (old one other : ExchangeParts) (events : List Event) (asked others : List Asked)
+    → Legal old.service.kernel.history
+    → HappenAll Ample old events asked one → HappenAll Ample old events others other
+    → (asked ≡ others) × (one ≡ other)

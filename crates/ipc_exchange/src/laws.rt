@@ -1,4 +1,4 @@
-ghost use Rattle.ipc_exchange.specs.Laws.{CallsAreAccepted, LegalStays, PiecesJoin};
+ghost use Rattle.ipc_exchange.specs.Laws.{CallsAreAccepted, HappenOnce, LegalStays, PiecesJoin};
 
 /// Where no growth is refused, a piece and then another are the two joined.
 pub fn pieces_join()
@@ -13,4 +13,9 @@ pub fn calls_are_accepted()
 /// A legal history stays legal, whatever happens.
 pub fn legal_stays()
     ensures { LegalStays }
+{}
+
+/// Where no growth is refused, each list of events has one end, and one trace of commands and answers.
+pub fn happen_once()
+    ensures { HappenOnce }
 {}

@@ -7,5 +7,5 @@ mod replying;
 mod service;
 mod told;
 
-pub use laws::{calls_are_accepted, legal_stays, pieces_join};
+pub use laws::{calls_are_accepted, happen_once, legal_stays, pieces_join};
 pub use replying::Replies;

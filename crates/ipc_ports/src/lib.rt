@@ -4,6 +4,7 @@
 mod failures;
 mod fault;
 mod memory;
+mod newline;
 mod piece;
 mod port;
 mod reading;
@@ -16,6 +17,7 @@ mod writing;
 pub use failures::Failures;
 pub use fault::PortFault;
 pub use memory::{MemoryPort, Trouble};
+pub use newline::line_end;
 pub use piece::{PIECE_SIZE, PieceBuffer};
 pub use port::{PortRead, PortWrite};
 pub use reading::ReadPort;

@@ -56,6 +56,7 @@ impl PieceBuffer {
         ensures bytes { Keeps (prepend_known self.old (P.remaining port.old))
             (prepend_known self.new (P.remaining port.new)) }
         ensures end { OnOk result (length self.new ≡ 0 → IsAtEnd (P.remaining port.new)) }
+        ensures err { OnErr result (length self.new ≡ 0) }
         ensures failed { OnErr result (P.failures port.old < P.failures port.new) }
         ensures kept { OnOk result (P.failures port.new ≡ P.failures port.old) }
         ensures fewer { OnOk result (0 < length self.new → most_left (P.reads_left port.new) self.new

@@ -30,5 +30,5 @@ a_moved_block = refl
 nothing_to_take : answer_text (Taken None) ≡ codes "= none"
 nothing_to_take = refl
 
-a_great_number : kernel_command (script.Open 65536 1) ≡ kernel.Open 65535 1
+a_great_number : kernel_command (script.Open 65536 1) ≡ kernel.Open 65536 1
 a_great_number = refl

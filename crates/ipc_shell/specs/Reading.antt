@@ -1,7 +1,7 @@
 -- What is read of a script, where a reader tells its bytes.
-use Rattle.std.specs.Prelude.{◌≡◌, ◌≢◌, ℕ, ◌+◌, ◌<◌, ◌≤◌, List, [], ◌∷◌, ◌++◌, Bool, true, false, Option, length, take, IfSome}
-use Rattle.std.specs.List.{All}
+use Rattle.std.specs.Prelude.{◌≡◌, ℕ, ◌+◌, ◌<◌, ◌≤◌, List, [], ◌∷◌, ◌++◌, Option, length, take, IfSome}
 use Rattle.std.specs.Option.{IsSomeAnd}
+use Rattle.ipc_ports.specs.Lines.{IsOneLine}
 use Rattle.std.specs.Io.KnownBytes.{Consumes, IsAtEnd}
 use Rattle.ipc_shell.specs.ScriptLines.{lines_of, longest_line}
 use Rattle.ipc_shell.specs.declared.lines.NextLine.{NextLine}
@@ -22,10 +22,6 @@ ReadsLine old new line next.End = IfSome old (λ bytes. lines_of bytes ≡ [])
 ReadsLine old new line next.Failed = Unit {0}
 ReadsLine old new line next.NoMemory = Unit {0}
 
--- bytes of one line
-abbrev pub IsOneLine : List ℕ → Type 0
-IsOneLine bytes = All (λ byte. byte ≢ 10) bytes
-
 -- what a read adds to a line
 abbrev pub ReadsPiece : Option (List ℕ) → Option (List ℕ) → List ℕ → List ℕ → Piece → Type 0
 ReadsPiece old new before line piece.Part = (part : List ℕ) × (line ≡ before ++ part) × IsOneLine part × Consumes old new part × (length before ≤ longest_line → length line ≤ longest_line)
@@ -43,8 +39,3 @@ Adds before line chunk taken piece.TooLong = IsOneLine (take taken chunk) × (lo
 Adds before line chunk taken piece.InputEnd = (line ≡ before) × (taken ≡ 0) × (length chunk ≡ 0)
 Adds before line chunk taken piece.Failed = Unit {0}
 Adds before line chunk taken piece.NoMemory = Unit {0}
-
--- so many bytes of a chunk stand before its first newline, or before its end where it has none
-abbrev pub IsCut : List ℕ → ℕ → Bool → Type 0
-IsCut chunk end false = (end ≡ length chunk) × IsOneLine chunk
-IsCut chunk end true = (end < length chunk) × IsOneLine (take end chunk) × (take (end + 1) chunk ≡ take end chunk ++ 10 ∷ [])

@@ -1,9 +1,9 @@
 ghost use Rattle.std.specs.Prelude.{◌≡◌, ◌≢◌, ◌≤◌, ◌<◌, length};
 ghost use Rattle.std.specs.Io.KnownBytes.{prepend_known};
 ghost use Rattle.ipc_ports.specs.Ports.{most_left};
-ghost use Rattle.ipc_shell.specs.Reading.{ReadsLine, ReadsPiece, Adds, IsCut};
+ghost use Rattle.ipc_shell.specs.Reading.{ReadsLine, ReadsPiece, Adds};
 
-use ipc_ports::{PieceBuffer, PortRead};
+use ipc_ports::{PieceBuffer, PortRead, line_end};
 use ipc_words::limits::MAX_LINE_BYTES;
 
 /// What was read next.
@@ -92,7 +92,7 @@ fn append(line: &mut Vec<u8>, chunk: &[u8]) -> (usize, Piece)
     if chunk.is_empty() {
         return (0, Piece::InputEnd);
     }
-    let (end, is_whole) = cut(chunk);
+    let (end, is_whole) = line_end(chunk);
     let text = &chunk[..end];
     if text.len() > MAX_LINE_BYTES.saturating_sub(line.len()) {
         return (end, Piece::TooLong);
@@ -101,15 +101,5 @@ fn append(line: &mut Vec<u8>, chunk: &[u8]) -> (usize, Piece)
         Ok(()) if is_whole => (end + 1, Piece::LineEnd),
         Ok(()) => (end, Piece::Part),
         Err(_) => (0, Piece::NoMemory),
-    }
-}
-
-/// How many bytes of a chunk stand before a newline, and whether there is one.
-fn cut(chunk: &[u8]) -> (usize, bool)
-    ensures { IsCut chunk.now result.0 result.1 }
-{
-    match chunk.iter().position(|byte| *byte == b'\n') {
-        Some(end) => (end, true),
-        None => (chunk.len(), false),
     }
 }

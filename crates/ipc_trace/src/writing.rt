@@ -1,0 +1,123 @@
+//! A trace that is written.
+ghost use Rattle.std.specs.Prelude.{◌≡◌, ◌↔◌, true, false, Err, OnOk, OnErr, IfOk, IfErr};
+ghost use Rattle.std.specs.String.{string_bytes};
+ghost use Rattle.ipc_lines.specs.Lines.{entry_text};
+ghost use Rattle.ipc_trace.specs.Putting.{FailsInLine, IsNoDevice, PutsLine};
+ghost use Rattle.ipc_trace.specs.Traces.{ended};
+
+use crate::fault::PutFault;
+use ipc_history::Entry;
+use ipc_lines::entry_line;
+use ipc_ports::{PortWrite, write_all};
+use std::alloc::{AllocError, Global};
+use std::marker::Model;
+
+/// Writes the lines of entries to a port. After a failure of the device it writes nothing more.
+#[derive(Drop)]
+pub struct TraceWriter<P: PortWrite> {
+    alloc: Global,
+    port: P,
+    is_stopped: bool,
+}
+
+impl<P: PortWrite> Model for TraceWriter<P> {
+    ghost use Rattle.ipc_trace.specs.Putting.{TraceParts};
+
+    ghost Value = { TraceParts };
+
+    ghost view = { λ trace. record {
+      written = P.written trace.port;
+      failures = P.failures trace.port;
+      is_stopped = trace.is_stopped;
+    } };
+}
+
+impl<P: PortWrite> TraceWriter<P> {
+    /// A trace behind what the port has.
+    pub fn new(alloc: Global, port: P) -> TraceWriter<P>
+        ensures { result ≡ record { written = P.written port; failures = P.failures port; is_stopped = false } }
+    {
+        TraceWriter {
+            alloc,
+            port,
+            is_stopped: false,
+        }
+    }
+
+    /// Writes the line of an entry.
+    ///
+    /// # Errors
+    ///
+    /// TR1, only where the count of failures rose in this call; TR2; TR5.
+    pub fn put(&mut self, entry: &Entry) -> Result<(), PutFault>
+        ensures ok { OnOk result (PutsLine self.old self.new (ended (entry_text entry.now))) }
+        ensures device { result ≡ Err PutFault.DeviceFailed
+            → FailsInLine self.old self.new (ended (entry_text entry.now)) }
+        ensures stopped { (result ≡ Err PutFault.Stopped) ↔ (self.old.is_stopped ≡ true) }
+        ensures same { IsNoDevice result → self.new ≡ self.old }
+    {
+        if self.is_stopped {
+            return Err(PutFault::Stopped);
+        }
+        match ended_line(self.alloc, entry) {
+            Ok(line) => self.put_bytes(line.as_bytes()),
+            Err(_) => Err(PutFault::NoMemory),
+        }
+    }
+
+    /// Writes a line whose text is given, without its newline.
+    ///
+    /// # Errors
+    ///
+    /// As of [`TraceWriter::put`].
+    pub fn put_text(&mut self, line: &str) -> Result<(), PutFault>
+        ensures ok { OnOk result (PutsLine self.old self.new (ended line.now)) }
+        ensures device { result ≡ Err PutFault.DeviceFailed
+            → FailsInLine self.old self.new (ended line.now) }
+        ensures stopped { (result ≡ Err PutFault.Stopped) ↔ (self.old.is_stopped ≡ true) }
+        ensures same { IsNoDevice result → self.new ≡ self.old }
+    {
+        if self.is_stopped {
+            return Err(PutFault::Stopped);
+        }
+        match ended_text(self.alloc, line) {
+            Ok(line) => self.put_bytes(line.as_bytes()),
+            Err(_) => Err(PutFault::NoMemory),
+        }
+    }
+
+    // Writes the bytes of a line, its newline too.
+    fn put_bytes(&mut self, line: &[u8]) -> Result<(), PutFault>
+        requires going { self.old.is_stopped ≡ false }
+        ensures ok { OnOk result (PutsLine self.old self.new line.now) }
+        ensures err { OnErr result (FailsInLine self.old self.new line.now) }
+        ensures device { IfErr result (λ fault. fault ≡ PutFault.DeviceFailed) }
+    {
+        match write_all(&mut self.port, line) {
+            Ok(()) => Ok(()),
+            Err(_) => {
+                self.is_stopped = true;
+                Err(PutFault::DeviceFailed)
+            }
+        }
+    }
+}
+
+// The line of an entry, with its newline.
+fn ended_line(alloc: Global, entry: &Entry) -> Result<String, AllocError>
+    ensures { IfOk result (λ line. string_bytes line ≡ ended (entry_text entry.now)) }
+{
+    let mut line = entry_line(alloc, entry)?;
+    line.push_str("\n")?;
+    Ok(line)
+}
+
+// A line with its newline.
+fn ended_text(alloc: Global, text: &str) -> Result<String, AllocError>
+    ensures { IfOk result (λ line. string_bytes line ≡ ended text.now) }
+{
+    let mut line = String::new(alloc);
+    line.push_str(text)?;
+    line.push_str("\n")?;
+    Ok(line)
+}

@@ -1,11 +1,13 @@
 -- What a command does to a kernel.
 use Rattle.std.specs.Prelude.{◌≡◌, ℕ, ◌+◌, ◌-◌, List, [], ◌∷◌, ◌++◌, Bool, not, ◌||◌, nat_lt, if◌then◌else◌, filter, ◌==◌, Option, Some, None, is_some, option_and_then, max, min, ◌⊎◌}
 use Rattle.std.specs.List.{list_any}
+use Rattle.ipc_words.specs.Limits.{last_moment}
 use Rattle.ipc_words.specs.ThreadId.{number_of, version_of}
 use Rattle.ipc_history.specs.Calls.{caller_of, calls_made, message_size}
 use Rattle.ipc_history.specs.Threads.{now, is_live, next_version}
 use Rattle.ipc_history.specs.Phases.{moved_bytes, open_call}
 use Rattle.ipc_history.specs.Outcomes.{OutcomeParts, outcome_of}
+use Rattle.ipc_history.specs.Blocks.{block_of}
 use Rattle.ipc_history.specs.Legal.{next_moving}
 use Rattle.ipc_history.specs.CallParts.{CallParts}
 use Rattle.ipc_history.specs.Settled.{Settled}
@@ -54,9 +56,9 @@ outcome_to_take kernel thread = (if is_live kernel.history thread then option_an
 unfoldable pub is_busy : KernelParts → ℕ → Bool
 is_busy kernel thread = is_some (open_call kernel.history thread) || list_any (λ n. caller_of kernel.history n == thread) kernel.untaken
 
--- the moment after a clock reading: it never goes back, and stops at 2^63 - 1
+-- the moment after a clock reading: it never goes back, and stops at the last one
 abbrev pub at_moment : KernelParts → ℕ → ℕ
-at_moment kernel moment = max kernel.moment (min moment 0x7fff_ffff_ffff_ffff)
+at_moment kernel moment = max kernel.moment (min moment last_moment)
 
 -- a refusal has its cause: the first that applies, or no memory where none does
 abbrev pub MayRefuse : Option Refusal → Refusal → Type 0
@@ -75,11 +77,11 @@ pub record Enters (old new : KernelParts) (number thread : ℕ) (call : CallPart
   pub takes : Takes old new (Called number thread call)
   pub untaken : new.untaken ≡ old.untaken ++ number ∷ []
 
--- a copy: of the least call in transfer, 65,536 bytes or the rest
+-- a copy: of the least call in transfer, its next block
 pub record Advances (old new : KernelParts) : Type 0 where
   pub number : ℕ
   pub is_next : next_moving old.history ≡ Some number
-  pub takes : Takes old new (Moved number (min 65536 (message_size old.history number - moved_bytes old.history number)))
+  pub takes : Takes old new (Moved number (block_of old.history number))
   pub untaken : new.untaken ≡ old.untaken
 
 -- what is still to be taken after an outcome

@@ -1,5 +1,6 @@
 ghost use Rattle.std.specs.Prelude.{◌≡◌, ◌==◌, ◌<◌, ◌+◌, ◌*◌, ◌-◌, ◌^◌, ◌≤◌, [], ◌∷◌, ◌++◌, length, max, min, false, ◌↔◌, Some, None, IsNone, IsTrue, IfOk, IfErr, IfSome, OnOk, OnErr, MatchBool};
 ghost use Rattle.std.specs.List.{list_any};
+ghost use Rattle.ipc_words.specs.Limits.{max_entries, max_calls, pledge_of_thread};
 ghost use Rattle.ipc_history.specs.declared.entry.Entry.TheVariants.{Given};
 ghost use Rattle.ipc_history.specs.declared.entry.Input.TheVariants.{At, Broke, Exreg};
 ghost use Rattle.ipc_words.specs.ThreadId.{number_of, version_of};
@@ -26,18 +27,11 @@ use crate::room::call_need;
 use crate::taking::outcome_of;
 use ipc_history::{Call, Entry, Input, Outcome};
 use ipc_rules::{calls_made, is_live, is_over, last_call, next_version_of, open_call};
+use ipc_words::limits::{LAST_MOMENT, MAX_CALLS, MAX_ENTRIES, MAX_SPACE, MAX_THREAD_NUMBER};
+use ipc_words::limits::{NEED_OF_EXCHANGE, NEED_OF_OPEN, PLEDGE_OF_THREAD};
 use ipc_words::{Control, ThreadId};
 use std::alloc::Global;
 use std::marker::Model;
-
-/// The greatest limit of entries, and the default of `l4sh run`.
-pub const MAX_ENTRIES: u64 = 1_048_576;
-
-/// The greatest limit of calls, and the default of `l4sh run`.
-pub const MAX_CALLS: u64 = 4_294_967_295;
-
-/// The last moment of the clock, in microseconds.
-pub const LAST_MOMENT: u64 = 0x7fff_ffff_ffff_ffff;
 
 /// How many entries and calls a kernel takes; more than the greatest counts as that.
 #[derive(Clone, Copy, PartialEq, Eq, Debug)]
@@ -74,7 +68,7 @@ impl Model for Kernel {
 impl Kernel {
     /// A kernel with an empty history at the moment 0. The only refusal is K4.
     pub fn new(alloc: Global, limits: Limits) -> Result<Kernel, Refusal>
-        ensures ok { IfOk result (λ kernel. kernel ≡ record { entries_limit = min limits.entries MAX_ENTRIES; calls_limit = min limits.calls MAX_CALLS; moment = 0; history = []; untaken = [] }) }
+        ensures ok { IfOk result (λ kernel. kernel ≡ record { entries_limit = min limits.entries max_entries; calls_limit = min limits.calls max_calls; moment = 0; history = []; untaken = [] }) }
         ensures memory { IfErr result (λ refusal. refusal ≡ Refusal.NoMemory) }
     {
         let Ok(course) = Course::new(alloc) else {
@@ -140,7 +134,7 @@ impl Kernel {
         ensures cause { IfErr result (λ refusal. MayRefuse (open_refusal self.old number space) refusal) }
         ensures err { OnErr result (self.new ≡ self.old) }
     {
-        if number < 1 || number > 255 || space < 1 || space > 64 {
+        if number < 1 || number > MAX_THREAD_NUMBER || space < 1 || space > MAX_SPACE {
             return Err(Refusal::BadNumber);
         }
         if is_taken(self.course.entries(), number) {
@@ -149,7 +143,7 @@ impl Kernel {
         let Some(version) = next_version_of(self.course.entries(), number) else {
             return Err(Refusal::NumberWorn);
         };
-        let Some(room) = self.room_for(4) else {
+        let Some(room) = self.room_for(NEED_OF_OPEN) else {
             return Err(Refusal::HistoryFull);
         };
         let Ok(()) = self.course.reserve(room) else {
@@ -199,9 +193,9 @@ impl Kernel {
 fn room_within(left: u64, live: u64, calls: u128, need: u64) -> Option<usize>
     requires { live < 2 ^ 32 }
     ensures full { IsNone result ↔ (left < 2 * live + calls + need) }
-    ensures value { IfSome result (λ room. room ≡ 2 * live + calls + need) }
+    ensures value { IfSome result (λ room. room ≡ pledge_of_thread * live + calls + need) }
 {
-    let threads = 2 * live;
+    let threads = PLEDGE_OF_THREAD * live;
     if left < need || left - need < threads || u128::from(left - need - threads) < calls {
         None
     } else {
@@ -291,7 +285,7 @@ impl Kernel {
         if self.is_busy(thread) {
             return Err(Refusal::Busy);
         }
-        let Some(room) = self.room_for(2) else {
+        let Some(room) = self.room_for(NEED_OF_EXCHANGE) else {
             return Err(Refusal::HistoryFull);
         };
         let Ok(()) = self.course.reserve(room) else {

@@ -19,5 +19,6 @@ mod tests;
 
 pub use answers::{Advance, EnterRefused, ExregAnswer};
 pub use command::{Answer, Command};
-pub use kernel::{Kernel, LAST_MOMENT, Limits, MAX_CALLS, MAX_ENTRIES};
+pub use kernel::{Kernel, Limits};
+pub use ipc_words::limits::{LAST_MOMENT, MAX_CALLS, MAX_ENTRIES};
 pub use refusal::Refusal;

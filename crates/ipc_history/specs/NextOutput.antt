@@ -2,6 +2,7 @@
 use Rattle.std.specs.Prelude.{ℕ, ◌+◌, ◌*◌, ◌^◌, ◌≤◌, List, Bool, ◌&&◌, ◌||◌, not, Option, Some, None, option_map, option_and_then, ◌==◌, if◌then◌else◌}
 use Rattle.std.specs.List.{list_any}
 use Rattle.std.specs.Option.{option_or, option_map_or}
+use Rattle.ipc_words.specs.Limits.{max_string_bytes}
 use Rattle.ipc_words.specs.ThreadId.{anythread, anylocalthread}
 use Rattle.ipc_words.specs.Control.{stops_receive, stops_send}
 use Rattle.ipc_items.specs.Fit.{overflow_offset}
@@ -91,4 +92,4 @@ next_output P = option_or (option_and_then (stop_after P) (last P)) (option_or (
 
 -- no call has copied more bytes than a message may have
 abbrev pub MovesFit : List Entry → Type 0
-MovesFit P = (n : ℕ) → moved_bytes P n ≤ 2 ^ 20
+MovesFit P = (n : ℕ) → moved_bytes P n ≤ max_string_bytes

@@ -1,7 +1,8 @@
 -- What the caller of a call is told (L4 X.2 manual, Ipc: output parameters).
-use Rattle.std.specs.Prelude.{ℕ, ◌+◌, ◌*◌, ◌^◌, List, [], ◌++◌, Bool, ◌||◌, not, Option, Some, None, unwrap_or, length, ◌==◌, if◌then◌else◌}
+use Rattle.std.specs.Prelude.{◌≡◌, ◌≤◌, ℕ, ◌+◌, ◌*◌, ◌^◌, List, [], ◌++◌, Bool, ◌||◌, not, Option, Some, None, unwrap_or, length, ◌==◌, if◌then◌else◌}
+use Rattle.ipc_words.specs.Limits.{max_message_words}
 use Rattle.ipc_words.specs.ThreadId.{nilthread}
-use Rattle.ipc_words.specs.MsgTag.{label_of, untyped_of}
+use Rattle.ipc_words.specs.MsgTag.{label_of, untyped_of, typed_of}
 use Rattle.ipc_items.specs.Pieces.{PlacedBytes, pieces_of_all, simple_items}
 use Rattle.ipc_items.specs.declared.buffer_list.Substring.{Substring}
 use Rattle.ipc_history.specs.Words.{first_some}
@@ -24,6 +25,11 @@ pub record OutcomeParts : Type 0 where
   pub words : List ℕ
   pub strings : List (List ℕ)
   pub buffers : List (List Substring)
+
+-- the words are as many as the tag says, untyped and typed together, and no more than a message has
+pub record HasItsWords (tag : ℕ) (words : List ℕ) : Type 0 where
+  pub counted : length words ≡ untyped_of tag + typed_of tag
+  pub few : length words ≤ max_message_words
 
 -- where the received bytes go, string by string
 abbrev pub pieces_in : OutcomeParts → List (List PlacedBytes)

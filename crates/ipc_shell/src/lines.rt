@@ -1,10 +1,8 @@
 ghost use Rattle.std.specs.Prelude.{◌≤◌, length};
 ghost use Rattle.ipc_shell.specs.Reading.{ReadsLine, ReadsPiece, Adds, IsCut};
 
+use ipc_words::limits::MAX_LINE_BYTES;
 use std::io::{BufRead, ErrorKind};
-
-/// The longest line, in bytes without its newline.
-pub const MAX_LINE: usize = 2_105_343;
 
 /// So many interrupted reads in a row are a failed device.
 const MAX_INTERRUPTED: u32 = 1000;
@@ -17,7 +15,7 @@ const MAX_READS: u64 = 0x8000_0000_0000_0000;
 pub enum NextLine {
     /// A line, without its newline.
     Line,
-    /// A line that is longer than [`MAX_LINE`]; it is not kept whole.
+    /// A line that is longer than [`MAX_LINE_BYTES`]; it is not kept whole.
     TooLong,
     /// The end of the input.
     End,
@@ -102,7 +100,7 @@ fn append(line: &mut Vec<u8>, chunk: &[u8]) -> (usize, Piece)
     }
     let (end, is_whole) = cut(chunk);
     let text = &chunk[..end];
-    if text.len() > MAX_LINE.saturating_sub(line.len()) {
+    if text.len() > MAX_LINE_BYTES.saturating_sub(line.len()) {
         return (end, Piece::TooLong);
     }
     match line.extend_from_slice(text) {

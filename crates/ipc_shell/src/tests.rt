@@ -1,5 +1,5 @@
 use super::exit::Exit;
-use super::lines::MAX_LINE;
+use ipc_words::limits::MAX_LINE_BYTES;
 use super::running::run_script;
 use ipc_core::Limits;
 use std::alloc::Global;
@@ -314,7 +314,7 @@ fn interrupted_writes_are_tried_again_and_each_answer_is_flushed(rt: HostRuntime
 #[test]
 fn a_line_past_the_limit_is_bad(rt: HostRuntime) -> Result<(), Fail> {
     let alloc = rt.alloc();
-    let script = vec![in alloc; b'a'; MAX_LINE + 1]?;
+    let script = vec![in alloc; b'a'; MAX_LINE_BYTES + 1]?;
     let mut reader = script.as_slice();
     let mut written = Vec::new(alloc);
     let exit = run_script(alloc, LIMITS, &mut reader, &mut written);

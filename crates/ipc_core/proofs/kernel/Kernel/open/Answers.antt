@@ -10,14 +10,14 @@ use Rattle.ipc_core.specs.Copies.{CopiesParts, Keeps, calls_of}
 use Rattle.ipc_core.proofs.NewCalls.{takes_grows}
 use Rattle.ipc_core.proofs.WholeLemmas.{whole_after}
 use Rattle.ipc_core.proofs.kernel.Kernel.open.Goals as goal
-use Rattle.ipc_core.proofs.kernel.Kernel.open.Goals.{then-number-lt1-via-then-number-lt1, then-number-lt1-via-else-number-lt1+then-number-gt255, then-number-lt1-via-else-number-lt1+else-number-gt255+then-space-lt1, then-number-lt1-via-else-number-lt1+else-number-gt255+else-space-lt1+then-space-gt64}
+use Rattle.ipc_core.proofs.kernel.Kernel.open.Goals.{then-number-lt1-via-then-number-lt1, then-number-lt1-via-else-number-lt1+then-number-gt-MAX_THREAD_NUMBER, then-number-lt1-via-else-number-lt1+else-number-gt-MAX_THREAD_NUMBER+then-space-lt1, then-number-lt1-via-else-number-lt1+else-number-gt-MAX_THREAD_NUMBER+else-space-lt1+then-space-gt-MAX_SPACE}
 
 pub returns-then-number-lt1-clause-cause : goal.returns-then-number-lt1-clause-cause
 returns-then-number-lt1-clause-cause c = inl (open_bad c.args.self.now c.args.number c.args.space (λ range. elim c.then-number-lt1.branch [
   | then-number-lt1-via-then-number-lt1 w ↦ omega arith
-  | then-number-lt1-via-else-number-lt1+then-number-gt255 w ↦ omega arith
-  | then-number-lt1-via-else-number-lt1+else-number-gt255+then-space-lt1 w ↦ omega arith
-  | then-number-lt1-via-else-number-lt1+else-number-gt255+else-space-lt1+then-space-gt64 w ↦ omega arith
+  | then-number-lt1-via-else-number-lt1+then-number-gt-MAX_THREAD_NUMBER w ↦ omega arith
+  | then-number-lt1-via-else-number-lt1+else-number-gt-MAX_THREAD_NUMBER+then-space-lt1 w ↦ omega arith
+  | then-number-lt1-via-else-number-lt1+else-number-gt-MAX_THREAD_NUMBER+else-space-lt1+then-space-gt-MAX_SPACE w ↦ omega arith
 ]))
 
 pub returns-then-is_taken-clause-cause : goal.returns-then-is_taken-clause-cause

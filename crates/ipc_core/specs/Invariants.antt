@@ -10,7 +10,8 @@ use Rattle.ipc_history.specs.Legal.{Legal, Quiet}
 use Rattle.ipc_history.specs.declared.entry.Entry.{Entry}
 use Rattle.ipc_laws.specs.Counting.{live_threads, room_owed}
 use Rattle.ipc_rules.specs.Scanning.{open_numbers}
-use Rattle.ipc_core.specs.Copies.{CopiesParts, Keeps}
+use Rattle.ipc_core.specs.Books.{AreBooks, BooksParts}
+use Rattle.ipc_core.specs.Copies.{CopiesParts, Keeps, calls_of}
 
 -- a course: a legal history, its open calls in order, the number of its live threads, and places for an open call of each number
 pub record IsCourse (H : List Entry) (open_calls : List ℕ) (live : ℕ) (places : ℕ) : Type 0 where
@@ -36,7 +37,8 @@ pub record IsKernel (entries_limit calls_limit moment : ℕ) (course : HistoryPa
   pub few_entries : entries_limit ≤ max_entries
   pub few_calls : calls_limit ≤ max_calls
 
--- a whole kernel: with the copies for the outcomes that are still to be taken
-pub record IsWhole (entries_limit calls_limit moment : ℕ) (course : HistoryParts) (copies : CopiesParts) : Type 0 where
+-- a whole kernel: with the copies for the outcomes that are still to be taken, and its books
+pub record IsWhole (entries_limit calls_limit moment : ℕ) (course : HistoryParts) (copies : CopiesParts) (books : BooksParts) : Type 0 where
   pub kernel : IsKernel entries_limit calls_limit moment course
   pub copies_are : Keeps course.entries copies
+  pub books_are : AreBooks course.entries (calls_of copies.untaken) books

@@ -5,7 +5,7 @@ use Rattle.ipc_history.specs.CallParts.{CallParts}
 use Rattle.ipc_history.specs.Calls.{calls_made}
 use Rattle.ipc_history.specs.Threads.{is_live, is_taken, next_version}
 use Rattle.ipc_core.specs.KernelParts.{KernelParts}
-use Rattle.ipc_core.specs.Steps.{is_busy}
+use Rattle.ipc_core.specs.Outcomes.{is_busy}
 use Rattle.ipc_core.specs.Room.{is_full, open_need, call_need, exreg_need}
 use Rattle.ipc_core.specs.declared.refusal.Refusal.{Refusal}
 use Rattle.ipc_core.specs.declared.refusal.Refusal.TheVariants.{BadNumber, NumberTaken, NumberWorn, HistoryFull, NoThread, Busy, CallsSpent}

@@ -7,7 +7,7 @@ ghost use Rattle.ipc_laws.specs.Laws.{inputs};
 ghost use Rattle.ipc_core.specs.Obeying.{MayObey, Runs, empty_kernel, is_no_memory};
 ghost use Rattle.ipc_core.specs.declared.command.Command.TheVariants as command;
 
-use crate::answers::Advance;
+use crate::answers::NoThread;
 use crate::command::{Answer, Command};
 use crate::kernel::{Kernel, Limits};
 use crate::refusal::Refusal;
@@ -45,7 +45,7 @@ impl Kernel {
         }
     }
 
-    fn obey_open(&mut self, number: u32, space: u32) -> Answer
+    fn obey_open(&mut self, number: u64, space: u64) -> Answer
         ensures { MayObey self.old (command.Open number space) result self.new }
     {
         match self.open(number, space) {
@@ -80,7 +80,7 @@ impl Kernel {
     {
         match self.broke(thread) {
             Ok(()) => Answer::Done,
-            Err(refusal) => Answer::Refused(refusal),
+            Err(NoThread) => Answer::Refused(Refusal::NoThread),
         }
     }
 
@@ -94,10 +94,7 @@ impl Kernel {
     fn obey_advance(&mut self) -> Answer
         ensures { MayObey self.old command.Advance result self.new }
     {
-        match self.advance() {
-            Advance::Moved => Answer::Advanced(Advance::Moved),
-            Advance::Idle => Answer::Advanced(Advance::Idle),
-        }
+        Answer::Advanced(self.advance())
     }
 
     fn obey_take(&mut self, thread: ThreadId) -> Answer

@@ -3,7 +3,7 @@ use Rattle.std.specs.Prelude.{◌≡◌, ℕ, ◌+◌, ◌==◌, None, false, le
 use Rattle.ipc_history.specs.Threads.{is_live}
 use Rattle.ipc_core.specs.Effects.{Breaks, Exchanges, Ticks}
 use Rattle.ipc_core.specs.KernelParts.{KernelParts}
-use Rattle.ipc_core.specs.Obeying.{Does}
+use Rattle.ipc_core.specs.Obeying.{MayObey}
 use Rattle.ipc_core.specs.Outcomes.{made_by}
 use Rattle.ipc_core.specs.Refusals.{enter_refusal, exreg_refusal, open_refusal}
 use Rattle.ipc_core.specs.Steps.{Enters, MayRefuse, Opens}
@@ -34,8 +34,8 @@ pub record EntersSeated {C : Type 0} (old new : KernelParts) (seat after : CallS
   pub counted : seat.made ≡ made_by old.history seat.thread
   pub cause : enter_refusal old seat.thread call ≡ None
   pub enters : Enters old new number seat.thread call
-  pub thread : after.thread ≡ seat.thread
-  pub made : after.made ≡ seat.made + 1
+  pub thread_stays : after.thread ≡ seat.thread
+  pub made_rises : after.made ≡ seat.made + 1
 
 -- the seat is as it was
 pub record SameSeat {C : Type 0} (seat after : CallSeat C) : Type 0 where
@@ -45,19 +45,19 @@ pub record SameSeat {C : Type 0} (seat after : CallSeat C) : Type 0 where
 -- the call was refused and is handed back, and nothing changed
 pub record KeepsCall {C : Type 0} (old new : KernelParts) (seat after : CallSeat C) (call back : CallParts) (refusal : Refusal) : Type 0 where
   pub cause : SeatRefuses seat.made (made_by old.history seat.thread) (enter_refusal old seat.thread call) refusal
-  pub seat : SameSeat seat after
-  pub back : back ≡ call
+  pub same : SameSeat seat after
+  pub handed_back : back ≡ call
   pub stays : new ≡ old
 
 pub record ExchangesSeated {C : Type 0} (old new : KernelParts) (seat after : CallSeat C) (target control : ℕ) (answer : ExregAnswer) : Type 0 where
   pub counted : seat.made ≡ made_by old.history seat.thread
   pub cause : exreg_refusal old seat.thread ≡ None
   pub exchanges : Exchanges old new seat.thread target control answer
-  pub seat : SameSeat seat after
+  pub same : SameSeat seat after
 
 pub record KeepsRegisters {C : Type 0} (old new : KernelParts) (seat after : CallSeat C) (refusal : Refusal) : Type 0 where
   pub cause : SeatRefuses seat.made (made_by old.history seat.thread) (exreg_refusal old seat.thread) refusal
-  pub seat : SameSeat seat after
+  pub same : SameSeat seat after
   pub stays : new ≡ old
 
 -- what a step does after its clock reading; an answer of another kind than the step's never comes
@@ -70,7 +70,7 @@ StepDoes old (step.Exreg seat target control) (told.Exchanged after answer) new 
 StepDoes old (step.Exreg seat target control) (told.NotExchanged after refusal) new = KeepsRegisters old new seat after refusal
 StepDoes old (step.Broke thread) (told.Broken broken) new = Breaks old new thread × (broken ≡ thread)
 StepDoes old (step.Broke thread) (told.NotThere gone) new = (is_live old.history thread ≡ false) × (gone ≡ thread) × (new ≡ old)
-StepDoes old step.Advance (told.Advanced advance) new = Does old command.Advance (answer.Advanced advance) new
+StepDoes old step.Advance (told.Advanced advance) new = MayObey old command.Advance (answer.Advanced advance) new
 StepDoes old step.Tick told.Ticked new = new ≡ old
 StepDoes old _ _ new = ⊥
 

@@ -1,5 +1,5 @@
 -- How many threads a history opened.
-use Rattle.std.specs.Prelude.{ℕ, Bool, true, false, List, count_by}
+use Rattle.std.specs.Prelude.{ℕ, Bool, true, false, List, filter, length}
 use Rattle.ipc_history.specs.declared.entry.Entry.{Entry}
 use Rattle.ipc_history.specs.declared.entry.Entry.TheVariants.{Given}
 use Rattle.ipc_history.specs.declared.entry.Input.TheVariants.{Opened}
@@ -9,4 +9,4 @@ opens_a_thread (Given (Opened thread space)) = true
 opens_a_thread _ = false
 
 unfoldable pub opens : List Entry → ℕ
-opens H = count_by opens_a_thread H
+opens H = length (filter opens_a_thread H)

@@ -1,10 +1,12 @@
 //! What stands under the lock: the kernel with its books, and the post boxes.
-ghost use Rattle.std.specs.Prelude.{◌≡◌, ◌+◌, IfSome, OnSome, OnNone};
+ghost use Rattle.std.specs.Prelude.{◌≡◌, ◌+◌, IfSome, IfNone};
 
 use crate::post_box::{PostBox, Posted};
 use crate::seated::{Answer, Locked, Taken};
 use crate::seats::TakeSeat;
 use crate::step::Step;
+use ipc_words::ThreadId;
+use ipc_words::limits::TABLE_SLOTS;
 use std::alloc::{AllocError, Global};
 use std::sync::ledger::Ledger;
 use std::sync::{Arc, Condvar};
@@ -35,6 +37,8 @@ pub(crate) struct Inside<C: Ledger, T: Ledger> {
     boxes: Vec<PostBox<T>>,
     free: Vec<usize>,
     owners: Vec<Option<usize>>,
+    finished: Vec<ThreadId>,
+    begun: bool,
     closed: bool,
     alloc: Global,
 }
@@ -67,7 +71,9 @@ impl<C: Ledger, T: Ledger> Inside<C, T> {
             locked,
             boxes: Vec::new(alloc),
             free: Vec::new(alloc),
-            owners: vec![in alloc; None; 256]?,
+            owners: vec![in alloc; None; TABLE_SLOTS]?,
+            finished: Vec::with_capacity(alloc, 2 * TABLE_SLOTS)?,
+            begun: false,
             closed: false,
             alloc,
         })
@@ -75,14 +81,21 @@ impl<C: Ledger, T: Ledger> Inside<C, T> {
 
     /// Makes one step, and answers whom it concerns.
     pub(crate) fn act(&mut self, now: u64, step: Step<C>) -> (Answer<C, T>, Bells) {
-        let answer = self.locked.act(now, step);
-        (answer, self.bells())
+        let before = self.locked.entries();
+        let ends_a_thread = matches!(&step, Step::Broke(_));
+        self.finished.clear();
+        let answer = self.locked.act(now, step, &mut self.finished);
+        self.begun = self.locked.has_begun_since(before) || self.begun && !answer.is_idle();
+        let mut bells = self.bells();
+        // whoever waits for an outcome of the thread waits in vain
+        bells.strays = bells.strays || ends_a_thread;
+        (answer, bells)
     }
 
     /// The bells of the writers whose threads' calls the last step finished, or that it ended.
     fn bells(&self) -> Bells {
         let mut bells = Bells::none();
-        for thread in self.locked.finished() {
+        for thread in &self.finished {
             match self.writer_of(thread.number()) {
                 None => bells.strays = true,
                 Some(bell) => bells.add(bell),
@@ -101,8 +114,8 @@ impl<C: Ledger, T: Ledger> Inside<C, T> {
     pub(crate) fn take_for(&mut self, seat: &mut TakeSeat<T>) -> Option<Taken<T>>
         ensures thread { seat.new.thread ≡ seat.old.thread }
         ensures named { IfSome result (λ taken. (taken.thread ≡ seat.old.thread) × (taken.amount ≡ seat.new.taken)) }
-        ensures taken { OnSome result (seat.new.taken ≡ seat.old.taken + 1) }
-        ensures none { OnNone result (seat.new.taken ≡ seat.old.taken) }
+        ensures taken { IfSome result (λ _. seat.new.taken ≡ seat.old.taken + 1) }
+        ensures none { IfNone result (seat.new.taken ≡ seat.old.taken) }
     {
         self.locked.take_seated(seat)
     }
@@ -198,7 +211,7 @@ impl<C: Ledger, T: Ledger> Inside<C, T> {
 
     /// Whether a transfer has begun, so that the mover has work.
     pub(crate) fn has_begun(&self) -> bool {
-        self.locked.has_begun()
+        self.begun
     }
 
     pub(crate) fn is_closed(&self) -> bool {

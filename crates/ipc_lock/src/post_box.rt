@@ -31,7 +31,7 @@ pub struct PostBox<T: Ledger> {
 
 impl<T: Ledger> PostBox<T> {
     /// An empty box.
-    fn new(alloc: Global) -> Result<Self, AllocError>
+    pub(crate) fn new(alloc: Global) -> Result<Self, AllocError>
         ensures { IfOk result (λ b. (b.posted ≡ None) × (b.shut ≡ false)) }
     {
         Ok(PostBox {

@@ -1,21 +1,25 @@
 //! What the lock keeps, and the calls that change it. Nobody else makes an [`Answer`] or a [`Taken`].
-ghost use Rattle.std.specs.Prelude.{◌≡◌, ◌+◌, ◌^◌, [], ◌∷◌, false, None, Some, IfOk, IfErr, IfSome, OnOk, OnErr, OnSome, OnNone, length, min};
+ghost use Rattle.std.specs.Prelude.{◌≡◌, ◌+◌, ◌^◌, [], ◌∷◌, false, None, Some, IfOk, IfErr, IfSome, OnOk, OnErr, IfNone, length, min};
 ghost use Rattle.ipc_history.specs.Calls.{calls_made};
 ghost use Rattle.ipc_history.specs.Threads.{is_live};
 ghost use Rattle.ipc_core.specs.Effects.{Breaks, Exchanges, Gives, Ticks};
-ghost use Rattle.ipc_core.specs.Limits.{most_calls, most_entries};
-ghost use Rattle.ipc_core.specs.Obeying.{Does, empty_kernel};
+ghost use Rattle.ipc_words.specs.Limits.{max_calls, max_entries};
+ghost use Rattle.ipc_core.specs.Obeying.{MayObey, empty_kernel};
 ghost use Rattle.ipc_core.specs.declared.command.Answer.TheVariants as answer;
 ghost use Rattle.ipc_core.specs.declared.command.Command.TheVariants as command;
 ghost use Rattle.ipc_core.specs.Outcomes.{made_by, outcome_to_take, taken_by};
 ghost use Rattle.ipc_core.specs.Refusals.{enter_refusal, exreg_refusal, open_refusal};
 ghost use Rattle.ipc_core.specs.Steps.{Enters, MayRefuse, Opens};
+ghost use Rattle.ipc_lock.specs.Acting.{Acts, StepDoes};
 ghost use Rattle.ipc_lock.specs.Opens.{opens};
+ghost use Rattle.ipc_lock.specs.declared.step.Step.TheVariants as step;
 ghost use Rattle.ipc_lock.specs.Seats.{SeatRefuses, TakesNothing};
 
 use crate::seats::{CallSeat, TakeSeat};
-use ipc_core::{EnterRefused, ExregAnswer, Kernel, Limits, NoThread, Refusal};
-use ipc_history::{Call, Outcome};
+use crate::step::Step;
+use crate::told::Told;
+use ipc_core::{Advance, EnterRefused, ExregAnswer, Kernel, Limits, NoThread, Refusal};
+use ipc_history::{Call, Entry, Input, Outcome, Output};
 use ipc_words::{Control, ThreadId};
 use std::alloc::Global;
 use std::marker::PhantomData;
@@ -37,8 +41,6 @@ pub struct Locked<C: Ledger, T: Ledger> {
     pub ghost take_parts: { takes_left.parts + opens kernel.history ≡ 2 ^ 63 },
     pub ghost no_calls_left: { calls_left.amount ≡ 0 },
     pub ghost no_takes_left: { takes_left.amount ≡ 0 },
-    finished: Vec<ThreadId>,
-    begun: bool,
 }
 
 /// An outcome that was taken: of which thread, and the how manieth it is. Only `take_seated` makes one.
@@ -94,7 +96,7 @@ impl<C: Ledger, T: Ledger> Locked<C, T> {
         requires takes_parts { takes.parts ≡ T.parts }
         requires many_takes { takes.parts ≡ 2 ^ 63 }
         ensures ok { IfOk result (λ locked. locked.kernel
-            ≡ empty_kernel (min limits.entries most_entries) (min limits.calls most_calls)) }
+            ≡ empty_kernel (min limits.entries max_entries) (min limits.calls max_calls)) }
         ensures memory { IfErr result (λ refusal. refusal ≡ Refusal.NoMemory) }
     {
         let kernel = Kernel::new(alloc, limits)?;
@@ -124,11 +126,12 @@ impl<C: Ledger, T: Ledger> Locked<C, T> {
     {
         let Locked {
             kernel,
-            calls: _,
             calls_left,
-            takes: _,
             takes_left,
+            ..
         } = self;
+        // a history has fewer entries than a ledger has parts
+        let _ = kernel.history().len();
         let thread = kernel.open(number, space)?;
         let made = calls_left.split_off(1, 0);
         let taken = takes_left.split_off(1, 0);
@@ -168,18 +171,14 @@ impl<C: Ledger, T: Ledger> Locked<C, T> {
         ensures err_seat { OnErr result (seat.new.made ≡ seat.old.made) }
         ensures err_book { OnErr result (self.new.calls.total ≡ self.old.calls.total) }
     {
-        let Locked {
-            kernel,
-            calls,
-            calls_left: _,
-            takes: _,
-            takes_left: _,
-        } = self;
+        let Locked { kernel, calls, .. } = self;
         let CallSeat {
             thread,
             made,
             share,
         } = seat;
+        // a thread made fewer calls than there are entries
+        let _ = kernel.history().len();
         if kernel.made(*thread) != *made {
             return Err(EnterRefused {
                 refusal: Refusal::NoThread,
@@ -207,13 +206,7 @@ impl<C: Ledger, T: Ledger> Locked<C, T> {
             (exreg_refusal self.old.kernel seat.now.thread) refusal) }
         ensures err { OnErr result (self.new.kernel ≡ self.old.kernel) }
     {
-        let Locked {
-            kernel,
-            calls: _,
-            calls_left: _,
-            takes: _,
-            takes_left: _,
-        } = self;
+        let Locked { kernel, .. } = self;
         if kernel.made(seat.thread) != seat.made {
             return Err(Refusal::NoThread);
         }
@@ -227,21 +220,15 @@ impl<C: Ledger, T: Ledger> Locked<C, T> {
     pub fn take_seated(&mut self, seat: &mut TakeSeat<T>) -> Option<Taken<T>>
         ensures some { IfSome result (λ taken. Gives self.old.kernel self.new.kernel seat.old.thread (Some taken.outcome)) }
         ensures named { IfSome result (λ taken. (taken.thread ≡ seat.old.thread) × (taken.amount ≡ seat.new.taken)) }
-        ensures counted { OnSome result (seat.old.taken ≡ taken_by self.old.kernel seat.old.thread) }
-        ensures taken { OnSome result (seat.new.taken ≡ seat.old.taken + 1) }
-        ensures book { OnSome result (self.new.takes.total ≡ self.old.takes.total + 1) }
+        ensures counted { IfSome result (λ _. seat.old.taken ≡ taken_by self.old.kernel seat.old.thread) }
+        ensures taken { IfSome result (λ _. seat.new.taken ≡ seat.old.taken + 1) }
+        ensures book { IfSome result (λ _. self.new.takes.total ≡ self.old.takes.total + 1) }
         ensures thread { seat.new.thread ≡ seat.old.thread }
-        ensures none { OnNone result (TakesNothing self.old.kernel self.new.kernel seat.old.thread seat.old.taken) }
-        ensures none_seat { OnNone result (seat.new.taken ≡ seat.old.taken) }
-        ensures none_book { OnNone result (self.new.takes.total ≡ self.old.takes.total) }
+        ensures none { IfNone result (TakesNothing self.old.kernel self.new.kernel seat.old.thread seat.old.taken) }
+        ensures none_seat { IfNone result (seat.new.taken ≡ seat.old.taken) }
+        ensures none_book { IfNone result (self.new.takes.total ≡ self.old.takes.total) }
     {
-        let Locked {
-            kernel,
-            calls: _,
-            calls_left: _,
-            takes,
-            takes_left: _,
-        } = self;
+        let Locked { kernel, takes, .. } = self;
         let TakeSeat {
             thread,
             taken,
@@ -251,6 +238,8 @@ impl<C: Ledger, T: Ledger> Locked<C, T> {
             return None;
         }
         let outcome = kernel.take(*thread)?;
+        // a count of outcomes fits
+        let _ = kernel.takes();
         takes.add(share, 1);
         *taken += 1;
         Some(Taken {
@@ -275,13 +264,7 @@ impl<C: Ledger, T: Ledger> Locked<C, T> {
         ensures gone { OnErr result (is_live self.old.kernel.history thread ≡ false) }
         ensures err { OnErr result (self.new.kernel ≡ self.old.kernel) }
     {
-        let Locked {
-            kernel,
-            calls: _,
-            calls_left: _,
-            takes: _,
-            takes_left: _,
-        } = self;
+        let Locked { kernel, .. } = self;
         kernel.broke(thread)
     }
 
@@ -289,26 +272,14 @@ impl<C: Ledger, T: Ledger> Locked<C, T> {
     fn tick(&mut self, now: u64)
         ensures { Ticks self.old.kernel self.new.kernel now }
     {
-        let Locked {
-            kernel,
-            calls: _,
-            calls_left: _,
-            takes: _,
-            takes_left: _,
-        } = self;
+        let Locked { kernel, .. } = self;
         kernel.at(now);
     }
 
     fn advance(&mut self) -> Advance
-        ensures { Does self.old.kernel command.Advance (answer.Advanced result) self.new.kernel }
+        ensures { MayObey self.old.kernel command.Advance (answer.Advanced result) self.new.kernel }
     {
-        let Locked {
-            kernel,
-            calls: _,
-            calls_left: _,
-            takes: _,
-            takes_left: _,
-        } = self;
+        let Locked { kernel, .. } = self;
         kernel.advance()
     }
 }
@@ -327,21 +298,27 @@ impl<C: Ledger, T: Ledger> Answer<C, T> {
         let Answer { told } = self;
         told
     }
+
+    /// Whether it says that no transfer goes on.
+    pub fn is_idle(&self) -> bool {
+        matches!(&self.told, Told::Advanced(Advance::Idle))
+    }
 }
 
 impl<C: Ledger, T: Ledger> Locked<C, T> {
-    /// Sets the clock to `now`, in microseconds, and then obeys the step.
-    pub fn act(&mut self, now: u64, step: Step<C>) -> Answer<C, T>
+    /// Sets the clock to `now`, in microseconds, and then obeys the step. The threads whose calls it finished are put into
+    /// `finished`, which has room for them.
+    pub fn act(&mut self, now: u64, step: Step<C>, finished: &mut Vec<ThreadId>) -> Answer<C, T>
         ensures { Acts self.old.kernel self.new.kernel now step result.told }
     {
-        self.forget_finished();
         self.tick(now);
-        self.note_finished();
+        self.note_finished(finished);
         let told = self.obey(step);
-        self.note_finished();
+        self.note_finished(finished);
         Answer { told }
     }
 
+    #[tactic(auto, unfolding(crate::specs::Acting::StepDoes))]
     fn obey(&mut self, step: Step<C>) -> Told<C, T>
         ensures { StepDoes self.old.kernel step result self.new.kernel }
     {
@@ -355,6 +332,7 @@ impl<C: Ledger, T: Ledger> Locked<C, T> {
         }
     }
 
+    #[tactic(auto, unfolding(crate::specs::Acting::StepDoes))]
     fn hello(&mut self, number: u64, space: u64) -> Told<C, T>
         ensures { StepDoes self.old.kernel (step.Hello number space) result self.new.kernel }
     {
@@ -364,6 +342,7 @@ impl<C: Ledger, T: Ledger> Locked<C, T> {
         }
     }
 
+    #[tactic(auto, unfolding(crate::specs::Acting::StepDoes))]
     fn enter(&mut self, seat: CallSeat<C>, call: Call) -> Told<C, T>
         ensures { StepDoes self.old.kernel (step.Enter seat call) result self.new.kernel }
     {
@@ -374,6 +353,7 @@ impl<C: Ledger, T: Ledger> Locked<C, T> {
         }
     }
 
+    #[tactic(auto, unfolding(crate::specs::Acting::StepDoes))]
     fn exreg(&mut self, seat: CallSeat<C>, target: ThreadId, control: Control) -> Told<C, T>
         ensures { StepDoes self.old.kernel (step.Exreg seat target control) result self.new.kernel }
     {
@@ -383,6 +363,7 @@ impl<C: Ledger, T: Ledger> Locked<C, T> {
         }
     }
 
+    #[tactic(auto, unfolding(crate::specs::Acting::StepDoes))]
     fn broke(&mut self, thread: ThreadId) -> Told<C, T>
         ensures { StepDoes self.old.kernel (step.Broke thread) result self.new.kernel }
     {
@@ -392,39 +373,42 @@ impl<C: Ledger, T: Ledger> Locked<C, T> {
         }
     }
 
-    /// The threads whose calls the last step finished.
-    pub(crate) fn finished(&self) -> &[ThreadId] {
-        &self.finished
+    /// Notes whose calls the last command finished.
+    fn note_finished(&self, finished: &mut Vec<ThreadId>) {
+        for thread in self.kernel.finished() {
+            // its room was made before: without it a writer would be told later
+            let _ = finished.push(*thread);
+        }
     }
 
-    /// Whether a transfer has begun that has not ended.
-    pub(crate) fn has_begun(&self) -> bool {
-        self.begun
+    /// Whether a transfer has begun, among the entries behind so many, that has not ended among them.
+    pub(crate) fn has_begun_since(&self, before: usize) -> bool {
+        let mut begun = 0u64;
+        let mut ended = 0u64;
+        for entry in self.kernel.history().iter().skip(before) {
+            match entry {
+                Entry::Written(Output::Began(_, _)) => begun = begun.saturating_add(1),
+                Entry::Written(Output::Ended(_, _)) => ended = ended.saturating_add(1),
+                _ => {}
+            }
+        }
+        begun > ended
     }
 
     /// Whether a thread is live.
     pub(crate) fn is_live(&self, thread: ThreadId) -> bool {
-        self.kernel.is_live(thread)
+        for entry in self.kernel.history().iter().rev() {
+            match entry {
+                Entry::Given(Input::Broke(ended)) if *ended == thread => return false,
+                Entry::Given(Input::Opened(opened, _)) if *opened == thread => return true,
+                _ => {}
+            }
+        }
+        false
     }
 
     /// How many entries the history has.
     pub(crate) fn entries(&self) -> usize {
         self.kernel.history().len()
-    }
-
-    fn forget_finished(&mut self)
-        ensures { self.new.kernel ≡ self.old.kernel }
-    {
-        self.finished.clear();
-    }
-
-    /// Notes whose calls the last command finished, and whether it left a transfer.
-    fn note_finished(&mut self)
-        ensures { self.new.kernel ≡ self.old.kernel }
-    {
-        for thread in self.kernel.finished() {
-            // its room was made with the kernel
-            let _ = self.finished.push(*thread);
-        }
     }
 }

@@ -1,5 +1,5 @@
 //! The kernel and the post boxes under one lock. Here it is only taken; what is done under it stands in its own files.
-ghost use Rattle.std.specs.Prelude.{◌≡◌, ◌^◌, IfSome, OnSome, OnNone, ◌+◌};
+ghost use Rattle.std.specs.Prelude.{◌≡◌, ◌^◌, IfSome, IfNone, ◌+◌};
 
 use crate::inside::{Bells, Inside, Next};
 use crate::post_box::Posted;
@@ -63,8 +63,8 @@ impl<C: Ledger, T: Ledger> SharedKernel<C, T> {
     pub fn wait_outcome<R: Wait>(&self, rt: &R, seat: &mut TakeSeat<T>) -> Option<Taken<T>>
         ensures thread { seat.new.thread ≡ seat.old.thread }
         ensures named { IfSome result (λ taken. (taken.thread ≡ seat.old.thread) × (taken.amount ≡ seat.new.taken)) }
-        ensures taken { OnSome result (seat.new.taken ≡ seat.old.taken + 1) }
-        ensures none { OnNone result (seat.new.taken ≡ seat.old.taken) }
+        ensures taken { IfSome result (λ _. seat.new.taken ≡ seat.old.taken + 1) }
+        ensures none { IfNone result (seat.new.taken ≡ seat.old.taken) }
     {
         let mut inside = self.inside.lock(rt);
         for _ in rt.forever() {

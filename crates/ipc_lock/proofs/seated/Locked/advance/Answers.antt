@@ -1,0 +1,11 @@
+use Rattle.std.proofs.Common.{rules, arith, ◌≡◌, length}
+use Rattle.ipc_lock.proofs.Counts.{advance_same}
+use Rattle.ipc_lock.proofs.seated.Locked.advance.Goals as goal
+
+pub invariant_of-self : goal.invariant_of-self
+invariant_of-self g c =
+    let same = advance_same _ _ _ c.advance.result c.advance.ensures.moved c.advance.ensures.idle in
+    let calls = same.calls in
+    let opens = same.opens in
+    let taken = same.taken in
+    search (rules, arith)

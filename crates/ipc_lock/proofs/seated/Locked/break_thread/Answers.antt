@@ -1,0 +1,11 @@
+use Rattle.std.proofs.Common.{rules, arith, ◌≡◌, length}
+use Rattle.ipc_lock.proofs.Counts.{broke_same}
+use Rattle.ipc_lock.proofs.seated.Locked.break_thread.Goals as goal
+
+pub invariant_of-self : goal.invariant_of-self
+invariant_of-self g c =
+    let same = broke_same _ _ c.args.thread _ c.broke.result c.broke.ensures.ok c.broke.ensures.err in
+    let calls = same.calls in
+    let opens = same.opens in
+    let taken = same.taken in
+    search (rules, arith)

@@ -1,0 +1,11 @@
+use Rattle.std.proofs.Common.{rules, arith, ◌≡◌, length}
+use Rattle.ipc_lock.proofs.Counts.{ticks_same}
+use Rattle.ipc_lock.proofs.seated.Locked.tick.Goals as goal
+
+pub invariant_of-self : goal.invariant_of-self
+invariant_of-self g c =
+    let same = ticks_same _ _ c.args.now c.at.ensures.ticks in
+    let calls = same.calls in
+    let opens = same.opens in
+    let taken = same.taken in
+    search (rules, arith)

@@ -1,0 +1,16 @@
+-- When a seat is refused.
+use Rattle.std.specs.Prelude.{◌≡◌, ℕ, ◌==◌, Option, None, MatchBool, length, false, ◌⊎◌}
+use Rattle.ipc_core.specs.KernelParts.{KernelParts}
+use Rattle.ipc_core.specs.Outcomes.{outcome_to_take, taken_by}
+use Rattle.ipc_core.specs.Effects.{Gives}
+use Rattle.ipc_core.specs.Steps.{MayRefuse}
+use Rattle.ipc_core.specs.declared.refusal.Refusal.{Refusal}
+use Rattle.ipc_core.specs.declared.refusal.Refusal.TheVariants.{NoThread}
+
+-- K6 where the seat's amount is not the kernel's count for its thread; else what the kernel says
+abbrev pub SeatRefuses : ℕ → ℕ → Option Refusal → Refusal → Type 0
+SeatRefuses amount count cause refusal = MatchBool (amount == count) (MayRefuse cause refusal) (refusal ≡ NoThread)
+
+-- nothing is taken: the amount is not the kernel's count, and nothing changed; or there is nothing to take
+abbrev pub TakesNothing : KernelParts → KernelParts → ℕ → ℕ → Type 0
+TakesNothing old new thread amount = MatchBool (amount == taken_by old thread) (Gives old new thread None) (new ≡ old)

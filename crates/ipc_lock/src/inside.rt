@@ -1,0 +1,228 @@
+//! What stands under the lock: the kernel with its books, and the post boxes.
+ghost use Rattle.std.specs.Prelude.{◌≡◌, ◌+◌, IfSome, IfNone};
+
+use crate::post_box::{PostBox, Posted};
+use crate::seated::{Answer, Locked, Taken};
+use crate::seats::TakeSeat;
+use crate::step::Step;
+use ipc_words::ThreadId;
+use ipc_words::limits::TABLE_SLOTS;
+use std::alloc::{AllocError, Global};
+use std::sync::ledger::Ledger;
+use std::sync::{Arc, Condvar};
+
+/// What a writer writes next.
+#[derive(Drop)]
+pub enum Next<T: Ledger> {
+    /// The outcome of the thread's last call.
+    Outcome(Taken<T>),
+    /// What the reader posted.
+    Posted(Posted<T>),
+    /// The box is shut and empty.
+    Gone,
+}
+
+/// Whom a step concerns. Most steps finish at most two calls; the bells of more are rung under the lock.
+#[derive(Drop)]
+pub(crate) struct Bells {
+    pub(crate) first: Option<Arc<Condvar>>,
+    pub(crate) second: Option<Arc<Condvar>>,
+    pub(crate) strays: bool,
+}
+
+/// The kernel with its books, the boxes, which of them are free, and for each thread number the box of its writer.
+#[derive(Drop)]
+pub(crate) struct Inside<C: Ledger, T: Ledger> {
+    locked: Locked<C, T>,
+    boxes: Vec<PostBox<T>>,
+    free: Vec<usize>,
+    owners: Vec<Option<usize>>,
+    finished: Vec<ThreadId>,
+    begun: bool,
+    closed: bool,
+    alloc: Global,
+}
+
+impl Bells {
+    fn none() -> Bells {
+        Bells {
+            first: None,
+            second: None,
+            strays: false,
+        }
+    }
+
+    /// Keeps a bell for later, or rings it now where two are kept.
+    fn add(&mut self, bell: Arc<Condvar>) {
+        if self.first.is_none() {
+            self.first = Some(bell);
+        } else if self.second.is_none() {
+            self.second = Some(bell);
+        } else {
+            bell.notify_one();
+        }
+    }
+}
+
+impl<C: Ledger, T: Ledger> Inside<C, T> {
+    /// Without boxes.
+    pub(crate) fn new(alloc: Global, locked: Locked<C, T>) -> Result<Self, AllocError> {
+        Ok(Inside {
+            locked,
+            boxes: Vec::new(alloc),
+            free: Vec::new(alloc),
+            owners: vec![in alloc; None; TABLE_SLOTS]?,
+            finished: Vec::with_capacity(alloc, 2 * TABLE_SLOTS)?,
+            begun: false,
+            closed: false,
+            alloc,
+        })
+    }
+
+    /// Makes one step, and answers whom it concerns.
+    pub(crate) fn act(&mut self, now: u64, step: Step<C>) -> (Answer<C, T>, Bells) {
+        let before = self.locked.entries();
+        let ends_a_thread = matches!(&step, Step::Broke(_));
+        self.finished.clear();
+        let answer = self.locked.act(now, step, &mut self.finished);
+        self.begun = self.locked.has_begun_since(before) || self.begun && !answer.is_idle();
+        let mut bells = self.bells();
+        // whoever waits for an outcome of the thread waits in vain
+        bells.strays = bells.strays || ends_a_thread;
+        (answer, bells)
+    }
+
+    /// The bells of the writers whose threads' calls the last step finished, or that it ended.
+    fn bells(&self) -> Bells {
+        let mut bells = Bells::none();
+        for thread in &self.finished {
+            match self.writer_of(thread.number()) {
+                None => bells.strays = true,
+                Some(bell) => bells.add(bell),
+            }
+        }
+        bells
+    }
+
+    /// The bell of the writer of a thread's number.
+    fn writer_of(&self, number: u32) -> Option<Arc<Condvar>> {
+        let place = (*self.owners.get(number as usize)?)?;
+        self.bell(place)
+    }
+
+    /// Takes the outcome of the seat's thread's last call, where it is over.
+    pub(crate) fn take_for(&mut self, seat: &mut TakeSeat<T>) -> Option<Taken<T>>
+        ensures thread { seat.new.thread ≡ seat.old.thread }
+        ensures named { IfSome result (λ taken. (taken.thread ≡ seat.old.thread) × (taken.amount ≡ seat.new.taken)) }
+        ensures taken { IfSome result (λ _. seat.new.taken ≡ seat.old.taken + 1) }
+        ensures none { IfNone result (seat.new.taken ≡ seat.old.taken) }
+    {
+        self.locked.take_seated(seat)
+    }
+
+    /// Whether the seat's thread is live.
+    pub(crate) fn is_live(&self, seat: &TakeSeat<T>) -> bool {
+        self.locked.is_live(seat.thread())
+    }
+
+    /// What the box's writer writes next: an outcome before a posted answer, and Gone where the box is shut and empty.
+    pub(crate) fn next(&mut self, place: usize, seat: &mut Option<TakeSeat<T>>) -> Option<Next<T>> {
+        if let Some(seat) = seat {
+            self.own(seat.thread().number(), place);
+            if let Some(taken) = self.take_for(seat) {
+                return Some(Next::Outcome(taken));
+            }
+        }
+        let post_box = self.boxes.get_mut(place)?;
+        if let Some(posted) = post_box.take() {
+            return Some(Next::Posted(posted));
+        }
+        if post_box.is_shut() {
+            return Some(Next::Gone);
+        }
+        None
+    }
+
+    /// The outcomes of the thread of a number are told to this box's writer.
+    fn own(&mut self, number: u32, place: usize) {
+        if let Some(owner) = self.owners.get_mut(number as usize) {
+            *owner = Some(place);
+        }
+    }
+
+    /// Leaves an answer. A full or shut box, or one that is not there, hands it back.
+    pub(crate) fn post(&mut self, place: usize, posted: Posted<T>) -> Result<(), Posted<T>> {
+        match self.boxes.get_mut(place) {
+            Some(post_box) => post_box.post(posted),
+            None => Err(posted),
+        }
+    }
+
+    pub(crate) fn shut(&mut self, place: usize) {
+        if let Some(post_box) = self.boxes.get_mut(place) {
+            post_box.shut();
+        }
+    }
+
+    pub(crate) fn is_empty(&self, place: usize) -> bool {
+        self.boxes.get(place).map_or(true, |post_box| post_box.is_empty())
+    }
+
+    /// Whether the box was shut. One that is not there counts as shut.
+    pub(crate) fn is_shut(&self, place: usize) -> bool {
+        self.boxes.get(place).map_or(true, |post_box| post_box.is_shut())
+    }
+
+    /// The bell of a box's writer.
+    pub(crate) fn bell(&self, place: usize) -> Option<Arc<Condvar>> {
+        self.boxes.get(place)?.bell()
+    }
+
+    /// The bell of a box's reader.
+    pub(crate) fn emptied(&self, place: usize) -> Option<Arc<Condvar>> {
+        self.boxes.get(place)?.emptied()
+    }
+
+    /// An empty box: one that was given back, else a new one.
+    pub(crate) fn connect_box(&mut self) -> Result<usize, AllocError> {
+        if let Some(place) = self.free.pop() {
+            if let Some(post_box) = self.boxes.get_mut(place) {
+                post_box.reopen();
+                return Ok(place);
+            }
+        }
+        let place = self.boxes.len();
+        // so that giving a box back takes no memory
+        self.free.reserve(place.saturating_add(1))?;
+        self.boxes.push(PostBox::new(self.alloc)?)?;
+        Ok(place)
+    }
+
+    /// Gives a box back that nobody uses any more.
+    pub(crate) fn release_box(&mut self, place: usize) {
+        for owner in self.owners.iter_mut() {
+            if *owner == Some(place) {
+                *owner = None;
+            }
+        }
+        // its room was made with the box
+        let _ = self.free.push(place);
+    }
+
+    /// Whether a transfer has begun, so that the mover has work.
+    pub(crate) fn has_begun(&self) -> bool {
+        self.begun
+    }
+
+    pub(crate) fn is_closed(&self) -> bool {
+        self.closed
+    }
+
+    pub(crate) fn close(&mut self) {
+        self.closed = true;
+    }
+
+    pub(crate) fn entries(&self) -> usize {
+        self.locked.entries()
+    }
+}

@@ -1,0 +1,18 @@
+//! The kernel under a lock: seats that tie callers to its one history, and a post box for each connection.
+#![tactic(auto)]
+
+mod inside;
+mod post_box;
+mod seated;
+mod seats;
+mod shared_kernel;
+mod step;
+mod told;
+
+pub use inside::Next;
+pub use post_box::{PostBox, Posted};
+pub use seated::{Answer, Locked, Taken};
+pub use seats::{CallSeat, TakeSeat};
+pub use shared_kernel::SharedKernel;
+pub use step::Step;
+pub use told::Told;

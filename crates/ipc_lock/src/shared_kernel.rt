@@ -1,0 +1,210 @@
+//! The kernel and the post boxes under one lock. Here it is only taken; what is done under it stands in its own files.
+ghost use Rattle.std.specs.Prelude.{◌≡◌, ◌^◌, IfSome, IfNone, ◌+◌};
+
+use crate::inside::{Bells, Inside, Next};
+use crate::post_box::Posted;
+use crate::seated::{Answer, Locked, Taken};
+use crate::seats::TakeSeat;
+use crate::step::Step;
+use ipc_core::{Advance, Limits, Refusal};
+use ipc_words::ThreadId;
+use std::alloc::Global;
+use std::sync::ledger::{Blank, Ledger};
+use std::sync::{Condvar, Mutex, Wait};
+
+/// One kernel for all workers of a server, and a post box for each connection.
+#[derive(Drop)]
+pub struct SharedKernel<C: Ledger, T: Ledger> {
+    inside: Mutex<Inside<C, T>>,
+    work: Condvar,
+    strays: Condvar,
+}
+
+impl<C: Ledger, T: Ledger> SharedKernel<C, T> {
+    /// An empty kernel without boxes. The only refusal is K4.
+    pub fn new(
+        alloc: Global,
+        limits: Limits,
+        calls: Blank,
+        takes: Blank,
+    ) -> Result<Self, Refusal>
+        requires calls_name { calls.name ≡ C.name }
+        requires calls_parts { calls.parts ≡ C.parts }
+        requires many_calls { calls.parts ≡ 2 ^ 63 }
+        requires takes_name { takes.name ≡ T.name }
+        requires takes_parts { takes.parts ≡ T.parts }
+        requires many_takes { takes.parts ≡ 2 ^ 63 }
+    {
+        let locked = Locked::new(alloc, limits, calls, takes)?;
+        let Ok(inside) = Inside::new(alloc, locked) else {
+            return Err(Refusal::NoMemory);
+        };
+        Ok(SharedKernel {
+            inside: Mutex::new(inside),
+            work: Condvar::new(),
+            strays: Condvar::new(),
+        })
+    }
+
+    /// Takes the lock, makes one step, and wakes those whom it concerns.
+    pub fn submit<R: Wait>(&self, rt: &R, now: u64, step: Step<C>) -> Answer<C, T> {
+        let mut inside = self.inside.lock(rt);
+        let (answer, bells) = inside.act(now, step);
+        let begun = inside.has_begun();
+        drop(inside);
+        self.ring(bells);
+        if begun {
+            self.work.notify_one();
+        }
+        answer
+    }
+
+    /// Waits for the outcome of the seat's thread's last call. None once the thread is not live.
+    pub fn wait_outcome<R: Wait>(&self, rt: &R, seat: &mut TakeSeat<T>) -> Option<Taken<T>>
+        ensures thread { seat.new.thread ≡ seat.old.thread }
+        ensures named { IfSome result (λ taken. (taken.thread ≡ seat.old.thread) × (taken.amount ≡ seat.new.taken)) }
+        ensures taken { IfSome result (λ _. seat.new.taken ≡ seat.old.taken + 1) }
+        ensures none { IfNone result (seat.new.taken ≡ seat.old.taken) }
+    {
+        let mut inside = self.inside.lock(rt);
+        for _ in rt.forever() {
+            if let Some(taken) = inside.take_for(seat) {
+                return Some(taken);
+            }
+            if !inside.is_live(seat) {
+                return None;
+            }
+            inside = self.strays.wait(rt, inside);
+        }
+        None
+    }
+
+    /// Makes an empty box, and answers its number. The only refusal is K4.
+    pub fn connect_box<R: Wait>(&self, rt: &R) -> Result<usize, Refusal> {
+        match self.inside.lock(rt).connect_box() {
+            Ok(place) => Ok(place),
+            Err(_) => Err(Refusal::NoMemory),
+        }
+    }
+
+    /// Gives a box back that nobody uses any more.
+    pub fn release_box<R: Wait>(&self, rt: &R, place: usize) {
+        self.inside.lock(rt).release_box(place);
+    }
+
+    /// Leaves an answer for the box's writer. A full or shut box hands it back.
+    pub fn post<R: Wait>(
+        &self,
+        rt: &R,
+        place: usize,
+        posted: Posted<T>,
+    ) -> Result<(), Posted<T>> {
+        let mut inside = self.inside.lock(rt);
+        inside.post(place, posted)?;
+        let bell = inside.bell(place);
+        drop(inside);
+        if let Some(bell) = bell {
+            bell.notify_one();
+        }
+        Ok(())
+    }
+
+    /// Waits until the box is empty; false once it is shut.
+    pub fn wait_empty<R: Wait>(&self, rt: &R, place: usize) -> bool {
+        let mut inside = self.inside.lock(rt);
+        for _ in rt.forever() {
+            if inside.is_shut(place) {
+                return false;
+            }
+            if inside.is_empty(place) {
+                return true;
+            }
+            let Some(emptied) = inside.emptied(place) else {
+                return false;
+            };
+            inside = emptied.wait(rt, inside);
+        }
+        false
+    }
+
+    /// Waits for what the box's writer writes next: an outcome of the seat's thread before a posted answer, and Gone where the
+    /// box is shut and empty.
+    pub fn wait_next<R: Wait>(
+        &self,
+        rt: &R,
+        place: usize,
+        seat: &mut Option<TakeSeat<T>>,
+    ) -> Next<T> {
+        let mut inside = self.inside.lock(rt);
+        let Some(bell) = inside.bell(place) else {
+            return Next::Gone;
+        };
+        for _ in rt.forever() {
+            if let Some(next) = inside.next(place, seat) {
+                return next;
+            }
+            inside = bell.wait(rt, inside);
+        }
+        Next::Gone
+    }
+
+    /// Shuts a box: nothing more can be posted, what is in it can still be taken.
+    pub fn shut<R: Wait>(&self, rt: &R, place: usize) {
+        let mut inside = self.inside.lock(rt);
+        inside.shut(place);
+        let bell = inside.bell(place);
+        let emptied = inside.emptied(place);
+        drop(inside);
+        if let Some(bell) = bell {
+            bell.notify_all();
+        }
+        if let Some(emptied) = emptied {
+            emptied.notify_all();
+        }
+    }
+
+    /// Waits until a transfer has begun; false once the kernel was closed.
+    pub fn wait_work<R: Wait>(&self, rt: &R) -> bool {
+        let mut inside = self.inside.lock(rt);
+        for _ in rt.forever() {
+            if inside.is_closed() {
+                return false;
+            }
+            if inside.has_begun() {
+                return true;
+            }
+            inside = self.work.wait(rt, inside);
+        }
+        false
+    }
+
+    /// Ends the waiting of the mover and of the trace. Called once, after all sessions were joined.
+    pub fn close<R: Wait>(&self, rt: &R) {
+        let mut inside = self.inside.lock(rt);
+        inside.close();
+        drop(inside);
+        self.work.notify_all();
+    }
+
+    /// How many entries the history has, to say when it is near its limit.
+    pub fn entries<R: Wait>(&self, rt: &R) -> usize {
+        self.inside.lock(rt).entries()
+    }
+
+    fn ring(&self, bells: Bells) {
+        let Bells {
+            first,
+            second,
+            strays,
+        } = bells;
+        if let Some(bell) = first {
+            bell.notify_one();
+        }
+        if let Some(bell) = second {
+            bell.notify_one();
+        }
+        if strays {
+            self.strays.notify_all();
+        }
+    }
+}

@@ -1,0 +1,14 @@
+//! The loops of a session: they carry frames to the kernel and outcomes back, over any port, desk and gate.
+#![tactic(auto)]
+
+mod ending;
+mod gate;
+mod next;
+mod taking;
+mod writing;
+
+pub use ending::{Ending, WriteEnding};
+pub use gate::{Gate, Open};
+pub use next::Next;
+pub use taking::TakeDesk;
+pub use writing::write_loop;

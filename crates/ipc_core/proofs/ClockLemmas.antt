@@ -5,6 +5,7 @@ use Rattle.std.specs.Bool.{MatchBool}
 use Rattle.std.specs.List.{list_any}
 use Rattle.ipc_history.specs.HistoryParts.{HistoryParts}
 use Rattle.ipc_history.specs.Calls.{numbers, message_size}
+use Rattle.ipc_history.specs.Blocks.{block_of}
 use Rattle.ipc_history.specs.Phases.{is_over, moved_bytes}
 use Rattle.ipc_history.specs.Threads.{now, is_live}
 use Rattle.ipc_history.specs.Timing.{is_due_at}
@@ -19,7 +20,8 @@ use Rattle.ipc_laws.proofs.Histories.{moving_passes}
 use Rattle.ipc_laws.proofs.Tests.{both, not_both}
 use Rattle.ipc_core.specs.Invariants.{IsKernel}
 use Rattle.ipc_core.specs.KernelParts.{KernelParts}
-use Rattle.ipc_core.specs.Steps.{Takes, with_input, without_thread}
+use Rattle.ipc_core.specs.Effects.{Breaks}
+use Rattle.ipc_core.specs.Steps.{Advances, with_input}
 use Rattle.ipc_core.proofs.Commands.{clock_legal, now_settled, undue_now}
 
 -- the break of a live thread, and a copy of the least call in transfer, may follow
@@ -99,5 +101,17 @@ pub sets_undue : (H : List Entry) (moment : ℕ) (new : List Entry) → list_any
 sets_undue H moment new undue same = rw undue same
 
 -- what the break of a thread does, said of a kernel's view
-pub thread_ended : (seen old new : KernelParts) (thread : ℕ) → seen ≡ old → is_live seen.history thread ≡ true → Settled (with_input seen.history seen.moment (Broke thread)) new.history → new.moment ≡ seen.moment → new.entries_limit ≡ seen.entries_limit → new.calls_limit ≡ seen.calls_limit → new.untaken ≡ without_thread seen.history thread seen.untaken → IsTrue (is_live old.history thread) × Takes old new (Broke thread) × (new.untaken ≡ without_thread old.history thread old.untaken)
-thread_ended seen old new thread same live settled moment entries_limit calls_limit untaken = subst (λ k. IsTrue (is_live k.history thread) × Takes k new (Broke thread) × (new.untaken ≡ without_thread k.history thread k.untaken)) same (live, record { history = settled; moment = moment; entries_limit = entries_limit; calls_limit = calls_limit }, untaken)
+pub thread_ended : (seen old new : KernelParts) (thread : ℕ) → seen ≡ old → is_live seen.history thread ≡ true → Settled (with_input seen.history seen.moment (Broke thread)) new.history → Legal new.history → new.since ≡ length seen.history → new.moment ≡ seen.moment → new.entries_limit ≡ seen.entries_limit → new.calls_limit ≡ seen.calls_limit → new.taken ≡ seen.taken → IsTrue (is_live old.history thread) × Breaks old new thread
+thread_ended seen old new thread same live settled legal since moment entries_limit calls_limit taken = subst (λ k. IsTrue (is_live k.history thread) × Breaks k new thread) same (live, record {
+  takes = record { history = settled; legal = λ was. legal; since = since; moment = moment; entries_limit = entries_limit; calls_limit = calls_limit };
+  taken = taken;
+})
+
+-- and what a copy does
+pub advanced : (seen old new : KernelParts) (n count : ℕ) → seen ≡ old → next_moving seen.history ≡ Some n → count ≡ block_of seen.history n → Settled (with_input seen.history seen.moment (Moved n count)) new.history → Legal new.history → new.since ≡ length seen.history → new.moment ≡ seen.moment → new.entries_limit ≡ seen.entries_limit → new.calls_limit ≡ seen.calls_limit → new.taken ≡ seen.taken → Advances old new
+advanced seen old new n count same next least settled legal since moment entries_limit calls_limit taken = subst (λ k. Advances k new) same (record {
+  number = n;
+  is_next = next;
+  takes = record { history = subst (λ c. Settled (with_input seen.history seen.moment (Moved n c)) new.history) least settled; legal = λ was. legal; since = since; moment = moment; entries_limit = entries_limit; calls_limit = calls_limit };
+  taken = taken;
+})

@@ -13,7 +13,7 @@ use Rattle.ipc_laws.proofs.Growth.{is_called_kept, words_of_kept, strings_of_kep
 use Rattle.ipc_laws.proofs.Tests.{not_both}
 use Rattle.ipc_core.specs.Copies.{CopiesParts, Holds, Keeps, IsCopy, HasBuffers, calls_of, is_needed, needed_alone, with_copies}
 use Rattle.ipc_core.specs.Messages.{MessageParts}
-use Rattle.ipc_core.specs.Steps.{is_among}
+use Rattle.ipc_core.specs.Outcomes.{is_among}
 use Rattle.ipc_core.specs.declared.copies.Untaken.{Untaken}
 use Rattle.ipc_core.proofs.Commands.{nothing_legal}
 use Rattle.ipc_core.proofs.CopyLists.{any_left, any_passing, filter_of_map}

@@ -16,7 +16,8 @@ use Rattle.ipc_core.specs.Room.{is_full, call_need}
 use Rattle.ipc_history.specs.Settled.{Settled}
 use Rattle.ipc_laws.specs.Counting.{pledged, room_owed}
 use Rattle.ipc_laws.proofs.Pledge.{pledge_covers}
-use Rattle.ipc_core.specs.Steps.{Enters, is_busy, with_input}
+use Rattle.ipc_core.specs.Outcomes.{is_busy}
+use Rattle.ipc_core.specs.Steps.{Enters, with_input}
 use Rattle.ipc_core.specs.declared.refusal.Refusal.TheVariants.{NoThread, Busy, CallsSpent, HistoryFull}
 
 -- what a program says of a list holds of the same list under another name
@@ -99,9 +100,9 @@ called_within kernel thread made limit call Q pass same same_limit legal =
     let moved : length Q + pledged Q + call_need call ≤ limit = rw (same, same_limit) within in
     owed_fits Q (call_need call) limit legal moved
 
-pub enters : (inside kernel new : KernelParts) (thread number : ℕ) (call : CallParts) → inside ≡ kernel → number ≡ calls_made kernel.history + 1 → Settled (with_input inside.history inside.moment (Called number thread call)) new.history → new.moment ≡ inside.moment → new.entries_limit ≡ inside.entries_limit → new.calls_limit ≡ inside.calls_limit → new.untaken ≡ inside.untaken ++ number ∷ [] → Enters kernel new number thread call
-enters inside kernel new thread number call same next settled moment entries_limit calls_limit untaken = subst (λ old. Enters old new number thread call) same (record {
+pub enters : (inside kernel new : KernelParts) (thread number : ℕ) (call : CallParts) → inside ≡ kernel → number ≡ calls_made kernel.history + 1 → Settled (with_input inside.history inside.moment (Called number thread call)) new.history → Legal new.history → new.since ≡ length inside.history → new.moment ≡ inside.moment → new.entries_limit ≡ inside.entries_limit → new.calls_limit ≡ inside.calls_limit → new.taken ≡ inside.taken → Enters kernel new number thread call
+enters inside kernel new thread number call same next settled legal since moment entries_limit calls_limit taken = subst (λ old. Enters old new number thread call) same (record {
   number_is = next ∙ ap (λ k. calls_made k.history + 1) (sym same);
-  takes = record { history = settled; moment = moment; entries_limit = entries_limit; calls_limit = calls_limit };
-  untaken = untaken;
+  takes = record { history = settled; legal = λ was. legal; since = since; moment = moment; entries_limit = entries_limit; calls_limit = calls_limit };
+  taken = taken;
 })

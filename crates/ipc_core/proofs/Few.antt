@@ -54,7 +54,7 @@ does_few old (Exreg thread target control) (Exchanged answer) new does legal = t
 does_few old (Broke thread) Done new does legal = takes_few old.history new.history old.moment (input.Broke thread) does.takes.history legal
 does_few old (At reading) Done new does legal = ticks_few old.history new.history (at_moment old reading) _ does.history legal
 does_few old Advance (Advanced Moved) new does legal = takes_few old.history new.history old.moment _ does.takes.history legal
-does_few old Advance (Advanced Idle) new does legal = same_few old new does.1
+does_few old Advance (Advanced Idle) new does legal = rw does.1 (omega arith)
 does_few old (Take thread) (Taken outcome) new does legal = rw does.taken (omega arith)
 does_few old _ _ new does legal = absurd does
 

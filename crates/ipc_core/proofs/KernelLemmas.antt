@@ -2,6 +2,7 @@
 use Rattle.std.proofs.Common.{◌≡◌, refl, sym, ◌∙◌, subst, ℕ, ◌+◌, ◌<◌, ◌≤◌, ◌^◌, List, [], false, length, IsTrue, arith}
 use Rattle.std.proofs.lemmas.List.Sums.{length-filter}
 use Rattle.std.specs.List.{list_any}
+use Rattle.ipc_words.specs.Limits.{max_entries, max_calls}
 use Rattle.ipc_history.specs.HistoryParts.{HistoryParts}
 use Rattle.ipc_history.specs.Calls.{numbers}
 use Rattle.ipc_history.specs.Threads.{now}
@@ -18,7 +19,7 @@ use Rattle.ipc_core.specs.Steps.{with_input}
 use Rattle.ipc_core.proofs.Commands.{command_legal, now_settled, now_with_input, nothing_legal, nothing_quiet, nothing_owed, undue_now}
 
 -- the empty kernel
-pub kernel_none : (entries_limit calls_limit : ℕ) (course : HistoryParts) → course.entries ≡ [] → entries_limit ≤ 2 ^ 20 → calls_limit < 2 ^ 32 → IsKernel entries_limit calls_limit 0 course
+pub kernel_none : (entries_limit calls_limit : ℕ) (course : HistoryParts) → course.entries ≡ [] → entries_limit ≤ max_entries → calls_limit ≤ max_calls → IsKernel entries_limit calls_limit 0 course
 unfolding now numbers
 kernel_none entries_limit calls_limit course empty few_entries few_calls = record {
   stands = subst (λ H. Stands H entries_limit 0) (sym empty) (record {

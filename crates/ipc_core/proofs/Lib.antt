@@ -24,3 +24,6 @@ pub mod Running
 pub mod Obeyed
 pub mod Few
 pub mod TakenNumbers
+pub mod BookLemmas
+pub mod FinishedLemmas
+pub mod RunLaws

@@ -18,7 +18,8 @@ use Rattle.ipc_laws.proofs.Pairing.{ended_at, ended_pair, legal_before, passes_a
 use Rattle.ipc_laws.proofs.Places.{Place, any_at, any_place, place_behind}
 use Rattle.ipc_laws.proofs.Tests.{both, left, neither_left, not_both, refuted, right}
 use Rattle.ipc_core.specs.Copies.{delivers, is_needed}
-use Rattle.ipc_core.specs.Steps.{is_among, without_call}
+use Rattle.ipc_core.specs.Copies.{without_call}
+use Rattle.ipc_core.specs.Outcomes.{is_among}
 use Rattle.ipc_core.proofs.CopyLists.{any_passing}
 
 -- the Ended of n with one of these calls, at its place

@@ -1,15 +1,17 @@
 -- How a command is obeyed, or refused.
-use Rattle.std.proofs.Common.{◌≡◌, refl, sym, ap, subst, ℕ, Option, Some, None, inl, inr, false, IsTrue}
+use Rattle.std.proofs.Common.{◌≡◌, refl, sym, ap, subst, ℕ, Option, Some, None, inl, inr, false, IsTrue, Result, Ok, Err, IfOk, IfErr, OnOk, OnErr}
 use Rattle.ipc_history.specs.CallParts.{CallParts}
 use Rattle.ipc_history.specs.Legal.{next_moving}
 use Rattle.ipc_history.specs.Outcomes.{OutcomeParts}
 use Rattle.ipc_history.specs.Threads.{is_live}
 use Rattle.ipc_core.specs.Effects.{Breaks, Exchanges, Gives, Ticks}
 use Rattle.ipc_core.specs.KernelParts.{KernelParts}
-use Rattle.ipc_core.specs.Obeying.{Does, MayObey, Obeys, ObeysOr, cause_of, takes_memory}
+use Rattle.ipc_core.specs.Obeying.{Does, MayObey, Obeys, ObeysOr, cause_of, open_answer, enter_answer, exreg_result, broke_answer, rested, takes_memory}
 use Rattle.ipc_core.specs.Refusals.{enter_refusal, exreg_refusal, open_refusal}
 use Rattle.ipc_core.specs.Steps.{Advances, Enters, MayRefuse, Opens}
 use Rattle.ipc_core.specs.declared.answers.Advance.TheVariants.{Moved, Idle}
+use Rattle.ipc_core.specs.declared.answers.Advance.{Advance as Step}
+use Rattle.ipc_core.specs.declared.answers.EnterRefused.{EnterRefused}
 use Rattle.ipc_core.specs.declared.answers.ExregAnswer.{ExregAnswer}
 use Rattle.ipc_core.specs.declared.command.Answer.{Answer}
 use Rattle.ipc_core.specs.declared.command.Answer.TheVariants.{Opened, Entered, Exchanged, Done, Advanced, Taken, Refused}
@@ -76,10 +78,31 @@ module _ (old new : KernelParts) where
   unfolding cause_of Does
   advance_moved does = obeys old new Advance (Advanced Moved) refl does
 
-  pub advance_idle : next_moving old.history ≡ None → new ≡ old → MayObey old Advance (Advanced Idle) new
+  pub advance_idle : next_moving old.history ≡ None → new ≡ rested old → MayObey old Advance (Advanced Idle) new
   unfolding cause_of Does
   advance_idle none stays = obeys old new Advance (Advanced Idle) refl (none, stays)
 
   pub take_obeys : (thread : ℕ) (outcome : Option OutcomeParts) → Gives old new thread outcome → MayObey old (Take thread) (Taken outcome) new
   unfolding cause_of Does
   take_obeys thread outcome does = obeys old new (Take thread) (Taken outcome) refl does
+
+  -- what the contracts say of a result
+  pub opened_so : (number space : ℕ) (result : Result ℕ Refusal) → IfOk result (λ thread. (open_refusal old number space ≡ None) × Opens old new number space thread) → IfErr result (λ refusal. MayRefuse (open_refusal old number space) refusal) → OnErr result (new ≡ old) → MayObey old (Open number space) (open_answer result) new
+  opened_so number space (Ok thread) ok cause stays = open_obeys number space thread ok.0 ok.1
+  opened_so number space (Err refusal) ok cause stays = open_refused number space refusal cause stays
+
+  pub entered_so : (thread : ℕ) (call : CallParts) (result : Result ℕ EnterRefused) → IfOk result (λ number. (enter_refusal old thread call ≡ None) × Enters old new number thread call) → IfErr result (λ refused. MayRefuse (enter_refusal old thread call) refused.refusal) → OnErr result (new ≡ old) → MayObey old (Enter thread call) (enter_answer result) new
+  entered_so thread call (Ok number) ok cause stays = enter_obeys thread number call ok.0 ok.1
+  entered_so thread call (Err refused) ok cause stays = enter_refused thread call refused.refusal cause stays
+
+  pub exchanged_so : (thread target control : ℕ) (result : Result ExregAnswer Refusal) → IfOk result (λ answer. (exreg_refusal old thread ≡ None) × Exchanges old new thread target control answer) → IfErr result (λ refusal. MayRefuse (exreg_refusal old thread) refusal) → OnErr result (new ≡ old) → MayObey old (Exreg thread target control) (exreg_result result) new
+  exchanged_so thread target control (Ok answer) ok cause stays = exreg_obeys thread target control answer ok.0 ok.1
+  exchanged_so thread target control (Err refusal) ok cause stays = exreg_refused thread target control refusal cause stays
+
+  pub broken_so : {T E : Type 0} (thread : ℕ) (result : Result T E) → OnOk result (IsTrue (is_live old.history thread) × Breaks old new thread) → OnErr result (is_live old.history thread ≡ false) → OnErr result (new ≡ old) → MayObey old (Broke thread) (broke_answer result) new
+  broken_so thread (Ok done) ok gone stays = broke_obeys thread ok.0 ok.1
+  broken_so thread (Err none) ok gone stays = broke_refused thread NoThread gone refl stays
+
+  pub advanced_so : (result : Step) → (result ≡ Moved → Advances old new) → (result ≡ Idle → (next_moving old.history ≡ None) × (new ≡ rested old)) → MayObey old Advance (Advanced result) new
+  advanced_so Moved moved idle = advance_moved (moved refl)
+  advanced_so Idle moved idle = advance_idle (idle refl).0 (idle refl).1

@@ -1,15 +1,13 @@
 -- Which cause a refusal has.
 use Rattle.std.proofs.lemmas.Bool.{le-ltb, ltb-false, false_from_ne_true, true≢false}
 use Rattle.std.proofs.Common.{◌≡◌, refl, ℕ, ◌==◌, ◌||◌, Bool, true, false, Option, Some, None, is_some, nat_lt, arith}
-use Rattle.std.specs.List.{list_any}
-use Rattle.ipc_history.specs.Calls.{caller_of}
 use Rattle.ipc_history.specs.Threads.{is_live, is_taken, next_version}
 use Rattle.ipc_history.specs.Phases.{open_call}
 use Rattle.ipc_laws.proofs.Tests.{neither_left}
 use Rattle.ipc_core.specs.KernelParts.{KernelParts}
 use Rattle.ipc_core.specs.Room.{is_full, open_need, exreg_need}
 use Rattle.ipc_core.specs.Refusals.{open_refusal, exreg_refusal}
-use Rattle.ipc_core.specs.Steps.{is_busy}
+use Rattle.ipc_core.specs.Outcomes.{has_untaken, is_busy}
 use Rattle.ipc_core.specs.declared.refusal.Refusal.TheVariants.{BadNumber, NumberTaken, NumberWorn, HistoryFull, NoThread, Busy}
 use Rattle.ipc_core.proofs.OpeningLemmas.{InRange}
 
@@ -19,7 +17,7 @@ pub busy_by_call : (kernel : KernelParts) (thread : ℕ) → is_some (open_call 
 unfolding is_busy
 busy_by_call kernel thread found = rw found refl
 
-pub busy_by_outcome : (kernel : KernelParts) (thread : ℕ) → is_some (open_call kernel.history thread) ≡ false → list_any (λ n. caller_of kernel.history n == thread) kernel.untaken ≡ is_busy kernel thread
+pub busy_by_outcome : (kernel : KernelParts) (thread : ℕ) → is_some (open_call kernel.history thread) ≡ false → has_untaken kernel thread ≡ is_busy kernel thread
 unfolding is_busy
 busy_by_outcome kernel thread none = rw none refl
 

@@ -3,7 +3,7 @@ use Rattle.std.proofs.lemmas.Bool.{lt-ltb, ltb-true, ltb-false}
 use Rattle.std.proofs.Common.{◌≡◌, sym, ap, ◌∙◌, subst, ℕ, ◌+◌, ◌*◌, ◌<◌, ◌≤◌, false, List, length, IsTrue, Option, Some, None, IfSome, sum_by, arith}
 use Rattle.std.specs.Prelude.{◌↔◌}
 use Rattle.ipc_history.specs.HistoryParts.{HistoryParts}
-use Rattle.ipc_history.specs.Legal.{is_admissible}
+use Rattle.ipc_history.specs.Legal.{Legal, is_admissible}
 use Rattle.ipc_history.specs.Settled.{Settled}
 use Rattle.ipc_history.specs.declared.entry.Entry.{Entry}
 use Rattle.ipc_history.specs.declared.entry.Input.{Input}
@@ -70,9 +70,11 @@ pub kernel_took : (entries_limit calls_limit moment : ℕ) (old new : HistoryPar
 kernel_took entries_limit calls_limit moment old new input had admissible no_clock settled same spent = kernel_after entries_limit calls_limit moment old new input had.kernel admissible no_clock had.within (let fits = had.fits in omega arith) settled spent
 
 -- and what it did
-pub takes_input : (view old new : KernelParts) (kept : HistoryParts) (given input : Input) → view ≡ old → kept.entries ≡ view.history → given ≡ input → Settled (with_input kept.entries view.moment given) new.history → new.moment ≡ view.moment → new.entries_limit ≡ view.entries_limit → new.calls_limit ≡ view.calls_limit → Takes old new input
-takes_input view old new kept given input view_is same is_input settled moment entries_limit calls_limit = subst (λ k. Takes k new input) view_is (record {
+pub takes_input : (view old new : KernelParts) (kept : HistoryParts) (given input : Input) → view ≡ old → kept.entries ≡ view.history → given ≡ input → Settled (with_input kept.entries view.moment given) new.history → Legal new.history → new.since ≡ length kept.entries → new.moment ≡ view.moment → new.entries_limit ≡ view.entries_limit → new.calls_limit ≡ view.calls_limit → Takes old new input
+takes_input view old new kept given input view_is same is_input settled legal since moment entries_limit calls_limit = subst (λ k. Takes k new input) view_is (record {
   history = subst (λ i. Settled (with_input view.history view.moment i) new.history) is_input (subst (λ H. Settled (with_input H view.moment given) new.history) same settled);
+  legal = λ was. legal;
+  since = since ∙ ap length same;
   moment = moment;
   entries_limit = entries_limit;
   calls_limit = calls_limit;

@@ -10,7 +10,8 @@ use Rattle.ipc_history.specs.Paired.{IsPair}
 use Rattle.ipc_history.specs.declared.entry.Entry.{Entry}
 use Rattle.ipc_core.specs.Copies.{CopiesParts, Holds, Keeps, IsCopy, HasBuffers, TakenOut, calls_of, is_needed, needed_alone}
 use Rattle.ipc_core.specs.Messages.{MessageParts}
-use Rattle.ipc_core.specs.Steps.{is_among, without_call}
+use Rattle.ipc_core.specs.Copies.{without_call}
+use Rattle.ipc_core.specs.Outcomes.{is_among}
 use Rattle.ipc_core.specs.declared.copies.Untaken.{Untaken}
 use Rattle.ipc_core.proofs.CopyKeeping.{pruned}
 use Rattle.ipc_core.proofs.CopyLists.{all_left, filter_of_map, other_left, others_left, taken_has}

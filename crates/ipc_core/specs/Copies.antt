@@ -9,7 +9,7 @@ use Rattle.ipc_history.specs.declared.entry.Entry.{Entry}
 use Rattle.ipc_history.specs.declared.entry.Entry.TheVariants.{Written}
 use Rattle.ipc_history.specs.declared.entry.Output.TheVariants.{Ended}
 use Rattle.ipc_core.specs.Messages.{MessageParts}
-use Rattle.ipc_core.specs.Steps.{is_among}
+use Rattle.ipc_core.specs.Outcomes.{is_among}
 use Rattle.ipc_core.specs.declared.copies.Untaken.{Untaken}
 
 -- the calls whose outcome was not yet taken, with their buffer strings, and the messages
@@ -19,6 +19,10 @@ pub record CopiesParts : Type 0 where
 
 abbrev pub calls_of : List Untaken → List ℕ
 calls_of untaken = map (λ u. u.call) untaken
+
+-- of some calls those that are not this one
+abbrev pub without_call : ℕ → List ℕ → List ℕ
+without_call n calls = filter (λ k. not (k == n)) calls
 
 -- an Ended of n with one of these calls
 abbrev pub delivers : ℕ → List ℕ → Entry → Bool

@@ -1,5 +1,6 @@
 -- What ends a call.
 use Rattle.std.specs.Prelude.{ℕ, ◌+◌, ◌*◌, ◌^◌, ◌≤◌, List, Option, Some, None, if◌then◌else◌, ◌==◌}
+use Rattle.ipc_words.specs.Limits.{max_string_bytes}
 use Rattle.ipc_history.specs.Outcomes.{OutcomeParts, failure, received}
 use Rattle.ipc_history.specs.declared.entry.Entry.{Entry}
 use Rattle.ipc_history.specs.declared.entry.Entry.TheVariants.{Written}
@@ -17,8 +18,8 @@ ending_in n _ = None
 
 -- the offset of an overflow and the count of an abort are those of a message
 abbrev pub IsSmall : Entry → Type 0
-IsSmall (Written (Overflowed k m offset)) = offset ≤ 2 ^ 20
-IsSmall (Written (Aborted k m count)) = count ≤ 2 ^ 20
+IsSmall (Written (Overflowed k m offset)) = offset ≤ max_string_bytes
+IsSmall (Written (Aborted k m count)) = count ≤ max_string_bytes
 IsSmall _ = Unit {0}
 
 -- the outcome of the call n that ended so

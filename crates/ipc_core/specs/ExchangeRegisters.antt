@@ -1,14 +1,10 @@
 -- What ExchangeRegisters answers (L4 X.2 manual, ExchangeRegisters: result, control and the bits S and R).
-use Rattle.std.specs.Prelude.{ℕ, ◌+◌, List, ◌&&◌, if◌then◌else◌, ◌==◌}
+use Rattle.std.specs.Prelude.{ℕ, List, ◌&&◌, if◌then◌else◌, ◌==◌}
 use Rattle.ipc_words.specs.ThreadId.{nilthread}
 use Rattle.ipc_history.specs.Threads.{is_live, space_of}
 use Rattle.ipc_history.specs.declared.entry.Entry.{Entry}
-use Rattle.ipc_rules.specs.ExchangeRegisters.{in_receive_phase, in_send_phase}
+unfoldable pub use Rattle.ipc_history.specs.ExchangeRegisters.{phases_of}
 use Rattle.ipc_core.specs.declared.answers.ExregAnswer.{ExregAnswer}
-
--- R (2) where the thread is in a receive phase, S (4) where it is in a send phase
-unfoldable pub phases_of : List Entry → ℕ → ℕ
-phases_of H thread = (if in_receive_phase H thread then 2 else 0) + (if in_send_phase H thread then 4 else 0)
 
 -- nilthread and code 2 where the target is not a live thread of the caller's space; else its id, and its phases before the command
 unfoldable pub exreg_answer : List Entry → ℕ → ℕ → ExregAnswer

@@ -2,11 +2,12 @@
 use Rattle.std.specs.Prelude.{ℕ, List}
 use Rattle.ipc_history.specs.declared.entry.Entry.{Entry}
 
--- the greatest number of entries and of calls, the moment in microseconds, the history, and the calls of live threads whose
--- outcome was not yet taken, open ones too
+-- the greatest number of entries and of calls, the moment in microseconds, the history, the numbers of the calls whose outcome
+-- was taken, in that order, and how long the history was before the last command that was obeyed
 pub record KernelParts : Type 0 where
   pub entries_limit : ℕ
   pub calls_limit : ℕ
   pub moment : ℕ
   pub history : List Entry
-  pub untaken : List ℕ
+  pub taken : List ℕ
+  pub since : ℕ

@@ -1,5 +1,6 @@
 pub mod KernelParts
 pub mod Steps
+pub mod Outcomes
 pub mod Room
 pub mod CommandRoom
 pub mod LiveCount
@@ -12,3 +13,5 @@ pub mod Invariants
 pub mod Effects
 pub mod Obeying
 pub mod RefusalNumbers
+pub mod Books
+pub mod Laws

@@ -1,5 +1,5 @@
 -- What a kernel answers to a command, and what it is then.
-use Rattle.std.specs.Prelude.{◌≡◌, ℕ, List, [], ◌∷◌, Option, Some, None, if◌then◌else◌, ◌⊎◌, Bool, true, false, IsTrue}
+use Rattle.std.specs.Prelude.{◌≡◌, ℕ, List, [], ◌∷◌, Option, Some, None, if◌then◌else◌, ◌⊎◌, Bool, true, false, IsTrue, length, Result, Ok, Err}
 use Rattle.ipc_history.specs.Legal.{next_moving}
 use Rattle.ipc_history.specs.Threads.{is_live}
 use Rattle.ipc_core.specs.Effects.{Breaks, Exchanges, Gives, Ticks}
@@ -7,6 +7,8 @@ use Rattle.ipc_core.specs.KernelParts.{KernelParts}
 use Rattle.ipc_core.specs.Refusals.{enter_refusal, exreg_refusal, open_refusal}
 use Rattle.ipc_core.specs.Steps.{Advances, Enters, Opens}
 use Rattle.ipc_core.specs.declared.answers.Advance.TheVariants.{Moved, Idle}
+use Rattle.ipc_core.specs.declared.answers.EnterRefused.{EnterRefused}
+use Rattle.ipc_core.specs.declared.answers.ExregAnswer.{ExregAnswer}
 use Rattle.ipc_core.specs.declared.command.Answer.{Answer}
 use Rattle.ipc_core.specs.declared.command.Answer.TheVariants.{Opened, Entered, Exchanged, Done, Advanced, Taken, Refused}
 use Rattle.ipc_core.specs.declared.command.Command.{Command}
@@ -29,6 +31,10 @@ takes_memory (Enter thread call) = true
 takes_memory (Exreg thread target control) = true
 takes_memory _ = false
 
+-- a command that was obeyed and wrote nothing
+abbrev pub rested : KernelParts → KernelParts
+rested kernel = record kernel { since = length kernel.history }
+
 -- what a command that is not refused does, and how it is answered
 unfoldable pub Does : KernelParts → Command → Answer → KernelParts → Type 0
 Does old (Open number space) (Opened thread) new = Opens old new number space thread
@@ -37,7 +43,7 @@ Does old (Exreg thread target control) (Exchanged answer) new = Exchanges old ne
 Does old (Broke thread) Done new = Breaks old new thread
 Does old (At reading) Done new = Ticks old new reading
 Does old Advance (Advanced Moved) new = Advances old new
-Does old Advance (Advanced Idle) new = (next_moving old.history ≡ None) × (new ≡ old)
+Does old Advance (Advanced Idle) new = (next_moving old.history ≡ None) × (new ≡ rested old)
 Does old (Take thread) (Taken outcome) new = Gives old new thread outcome
 Does old _ _ new = ⊥
 
@@ -61,6 +67,23 @@ pub record LacksMemory (old : KernelParts) (command : Command) (answer : Answer)
 abbrev pub MayObey : KernelParts → Command → Answer → KernelParts → Type 0
 MayObey old command answer new = Obeys old command answer new ⊎ LacksMemory old command answer new
 
+-- the answers that the results of open, enter, exreg and broke are
+abbrev pub open_answer : Result ℕ Refusal → Answer
+open_answer (Ok thread) = Opened thread
+open_answer (Err refusal) = Refused refusal
+
+abbrev pub enter_answer : Result ℕ EnterRefused → Answer
+enter_answer (Ok number) = Entered number
+enter_answer (Err refused) = Refused refused.refusal
+
+abbrev pub exreg_result : Result ExregAnswer Refusal → Answer
+exreg_result (Ok answer) = Exchanged answer
+exreg_result (Err refusal) = Refused refusal
+
+abbrev pub broke_answer : {T E : Type 0} → Result T E → Answer
+broke_answer (Ok done) = Done
+broke_answer (Err gone) = Refused NoThread
+
 -- the answer is a refusal for want of memory
 abbrev pub is_no_memory : Answer → Bool
 is_no_memory (Refused NoMemory) = true
@@ -74,4 +97,4 @@ Runs old _ _ new = ⊥
 
 -- a kernel with an empty history at the moment 0
 abbrev pub empty_kernel : ℕ → ℕ → KernelParts
-empty_kernel entries_limit calls_limit = record { entries_limit = entries_limit; calls_limit = calls_limit; moment = 0; history = []; untaken = [] }
+empty_kernel entries_limit calls_limit = record { entries_limit = entries_limit; calls_limit = calls_limit; moment = 0; history = []; taken = []; since = 0 }

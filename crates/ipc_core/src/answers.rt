@@ -30,3 +30,7 @@ pub struct EnterRefused {
     /// The call.
     pub call: Call,
 }
+
+/// K6: the thread is not live.
+#[derive(Clone, Copy, PartialEq, Eq, Debug)]
+pub struct NoThread;

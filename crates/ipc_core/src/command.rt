@@ -8,8 +8,8 @@ use ipc_words::{Control, ThreadId};
 pub enum Command {
     /// Opens the thread of a number, 1 to 255, in a space, 1 to 64.
     Open {
-        number: u32,
-        space: u32,
+        number: u64,
+        space: u64,
     },
     /// Enters a call of a thread (L4 X.2 manual, Ipc).
     Enter(ThreadId, Call),

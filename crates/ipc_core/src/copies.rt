@@ -3,7 +3,7 @@ ghost use Rattle.std.specs.List.{list_any};
 ghost use Rattle.ipc_history.specs.Calls.{caller_of};
 ghost use Rattle.ipc_core.specs.Copies.{TakenOut, calls_of, delivers, is_needed, with_copies, needed_alone};
 ghost use Rattle.ipc_core.specs.Messages.{MessageParts};
-ghost use Rattle.ipc_core.specs.Steps.{is_among};
+ghost use Rattle.ipc_core.specs.Outcomes.{is_among};
 ghost use Rattle.ipc_core.specs.declared.copies.Untaken.{Untaken};
 
 use crate::messages::Message;
@@ -46,22 +46,6 @@ impl Copies {
             untaken: Vec::new(alloc),
             messages: Vec::new(alloc),
         }
-    }
-
-    /// Whether the outcome of a call was not yet taken.
-    pub(crate) fn is_untaken(&self, call: u64) -> bool
-        ensures { result ≡ is_among call (calls_of self.now.untaken) }
-    {
-        self.untaken.iter().any(|untaken| untaken.call == call)
-    }
-
-    /// Whether the outcome of a call of a thread was not yet taken.
-    pub(crate) fn has_call_of(&self, entries: &[Entry], thread: ThreadId) -> bool
-        ensures { result ≡ list_any (λ n. caller_of entries.now n == thread) (calls_of self.now.untaken) }
-    {
-        self.untaken
-            .iter()
-            .any(|untaken| caller_of(entries, untaken.call) == thread)
     }
 
     /// Copies a new call. Where memory is refused nothing changes.

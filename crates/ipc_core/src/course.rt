@@ -3,7 +3,9 @@ ghost use Rattle.std.specs.Option.{option_to_list};
 ghost use Rattle.std.specs.List.{list_any};
 ghost use Rattle.ipc_history.specs.declared.entry.Entry.TheVariants.{Given};
 ghost use Rattle.ipc_history.specs.declared.entry.Input.TheVariants.{At};
-ghost use Rattle.ipc_history.specs.Calls.{numbers, message_size};
+ghost use Rattle.ipc_words.specs.Limits.{last_moment};
+ghost use Rattle.ipc_history.specs.Blocks.{block_of};
+ghost use Rattle.ipc_history.specs.Calls.{numbers};
 ghost use Rattle.ipc_history.specs.Phases.{is_over, moved_bytes};
 ghost use Rattle.ipc_history.specs.Threads.{now};
 ghost use Rattle.ipc_history.specs.Legal.{Legal, Quiet, Follows, is_admissible, next_moving};
@@ -25,6 +27,7 @@ use ipc_rules::{
     to_of,
 };
 use ipc_words::ThreadId;
+use ipc_words::limits::{BLOCK_BYTES, PLEDGE_OF_BLOCK, PLEDGE_OF_OPEN_CALL, TABLE_SLOTS};
 use std::alloc::{AllocError, Global};
 use std::marker::Model;
 
@@ -56,7 +59,7 @@ impl Course {
     {
         Ok(Course {
             history: History::new(alloc),
-            open_calls: Vec::with_capacity(alloc, 256)?,
+            open_calls: Vec::with_capacity(alloc, TABLE_SLOTS)?,
             live: 0,
         })
     }
@@ -108,7 +111,7 @@ impl Course {
     #[tactic(auto, using(crate::proofs::Scannable::scannable))]
     pub(crate) fn next_block(&self) -> Option<(u64, u64)>
         ensures none { IsNone result ↔ (next_moving self.now.entries ≡ None) }
-        ensures some { IfSome result (λ next. (next_moving self.now.entries ≡ Some next.0) × (next.1 ≡ min 65536 (message_size self.now.entries next.0 - moved_bytes self.now.entries next.0))) }
+        ensures some { IfSome result (λ next. (next_moving self.now.entries ≡ Some next.0) × (next.1 ≡ block_of self.now.entries next.0)) }
     {
         let entries = self.history.entries();
         let number = next_moving_among(entries, &self.open_calls)?;
@@ -174,7 +177,7 @@ impl Course {
     pub(crate) fn give(&mut self, moment: u64, input: Input)
         requires legal { Legal self.old.entries }
         requires quiet { Quiet self.old.entries }
-        requires in_range { moment < 2 ^ 63 }
+        requires in_range { moment < last_moment + 1 }
         requires undue { list_any (is_due_at self.old.entries moment) (numbers self.old.entries) ≡ false }
         requires admissible { IsTrue (is_admissible self.old.entries input) }
         requires no_clock { is_clock input ≡ false }
@@ -191,7 +194,7 @@ impl Course {
     pub(crate) fn take_input(&mut self, moment: u64, input: Input)
         requires legal { Legal self.old.entries }
         requires quiet { Quiet self.old.entries }
-        requires in_range { moment < 2 ^ 63 }
+        requires in_range { moment < last_moment + 1 }
         requires undue { list_any (is_due_at self.old.entries moment) (numbers self.old.entries) ≡ false }
         requires admissible { IsTrue (is_admissible self.old.entries input) }
         requires no_clock { is_clock input ≡ false }
@@ -209,7 +212,7 @@ impl Course {
         requires legal { Legal self.old.entries }
         requires quiet { Quiet self.old.entries }
         requires later { now self.old.entries < moment }
-        requires in_range { moment < 2 ^ 63 }
+        requires in_range { moment < last_moment + 1 }
         requires due { list_any (is_due_at self.old.entries moment) (numbers self.old.entries) ≡ true }
         requires room { length self.old.entries + room_owed self.old.entries ≤ self.old.room }
         ensures entries { Continued (self.old.entries ++ Given (At moment) ∷ []) self.new.entries }
@@ -242,9 +245,11 @@ fn pledge_of(entries: &[Entry], number: u64) -> u64
     if is_over(entries, number) {
         0
     } else if to_of(entries, number) == ThreadId::NILTHREAD {
-        5
+        PLEDGE_OF_OPEN_CALL
     } else {
-        (5 + 2 * ((u128::from(message_size(entries, number)) + 65_535) / 65_536)) as u64
+        let size = u128::from(message_size(entries, number));
+        let blocks = (size + u128::from(BLOCK_BYTES) - 1) / u128::from(BLOCK_BYTES);
+        PLEDGE_OF_OPEN_CALL + PLEDGE_OF_BLOCK * blocks as u64
     }
 }
 

@@ -1,23 +1,31 @@
-ghost use Rattle.std.specs.Prelude.{◌≡◌, ◌==◌, ◌<◌, ◌+◌, ◌*◌, ◌-◌, ◌^◌, ◌≤◌, [], ◌∷◌, ◌++◌, length, max, min, false, ◌↔◌, Some, None, IsNone, IsTrue, IfOk, IfErr, IfSome, OnOk, OnErr, MatchBool};
-ghost use Rattle.std.specs.List.{list_any};
+ghost use Rattle.std.specs.Prelude.{◌≡◌, ◌==◌, ◌<◌, ◌+◌, ◌*◌, ◌-◌, ◌^◌, ◌≤◌, [], ◌∷◌, ◌++◌, ℕ, length, max, min, false, ◌↔◌, Some, None, IsNone, IsTrue, IfOk, IfErr, IfSome, OnOk, OnErr, MatchBool};
+ghost use Rattle.std.specs.List.{IsDistinct, list_any};
 ghost use Rattle.ipc_history.specs.declared.entry.Entry.TheVariants.{Given};
 ghost use Rattle.ipc_history.specs.declared.entry.Input.TheVariants.{At, Broke, Exreg};
+ghost use Rattle.ipc_words.specs.Limits.{max_calls, max_entries, pledge_of_thread};
 ghost use Rattle.ipc_words.specs.ThreadId.{number_of, version_of};
-ghost use Rattle.ipc_history.specs.Calls.{numbers, caller_of};
-ghost use Rattle.ipc_history.specs.Legal.{Legal, Quiet};
+ghost use Rattle.ipc_words.specs.Control.{masked_of};
+ghost use Rattle.ipc_history.specs.Calls.{calls_made, numbers};
+ghost use Rattle.ipc_history.specs.Legal.{Legal, Quiet, next_moving};
 ghost use Rattle.ipc_history.specs.Paired.{Paired};
 ghost use Rattle.ipc_history.specs.Settled.{Settled};
 ghost use Rattle.ipc_history.specs.Threads.{is_live, now};
 ghost use Rattle.ipc_history.specs.Timing.{is_due_at};
 ghost use Rattle.ipc_laws.specs.Counting.{open_calls, pledged};
-ghost use Rattle.ipc_core.specs.Refusals.{open_refusal, enter_refusal, exreg_refusal};
-ghost use Rattle.ipc_words.specs.Control.{masked_of};
-ghost use Rattle.ipc_history.specs.Legal.{next_moving};
+ghost use Rattle.ipc_core.specs.Effects.{Breaks, Exchanges, Gives, Ticks};
 ghost use Rattle.ipc_core.specs.ExchangeRegisters.{exreg_answer};
+ghost use Rattle.ipc_core.specs.KernelParts.{KernelParts};
+ghost use Rattle.ipc_core.specs.Laws.{IsSound};
+ghost use Rattle.ipc_core.specs.Obeying.{MayObey, broke_answer, empty_kernel, enter_answer, exreg_result, open_answer, rested};
+ghost use Rattle.ipc_core.specs.Outcomes.{has_untaken, is_among, is_busy, is_finished, made_by, outcome_to_take, taken_by};
+ghost use Rattle.ipc_core.specs.Refusals.{open_refusal, enter_refusal, exreg_refusal};
 ghost use Rattle.ipc_core.specs.Room.{is_full};
-ghost use Rattle.ipc_core.specs.Steps.{Takes, Opens, Enters, Advances, MayRefuse, without_thread, at_moment, is_busy, outcome_to_take, untaken_after};
+ghost use Rattle.ipc_core.specs.Steps.{Advances, Enters, MayRefuse, Opens, at_moment, taken_after};
+ghost use Rattle.ipc_core.specs.declared.command.Answer.TheVariants.{Advanced, Done, Taken};
+ghost use Rattle.ipc_core.specs.declared.command.Command.TheVariants as command;
 
-use crate::answers::{Advance, EnterRefused, ExregAnswer};
+use crate::answers::{Advance, EnterRefused, ExregAnswer, NoThread};
+use crate::books::{Books, among_of, made_by};
 use crate::copies::Copies;
 use crate::course::Course;
 use crate::numbers::is_taken;
@@ -26,23 +34,16 @@ use crate::room::call_need;
 use crate::taking::outcome_of;
 use ipc_history::{Call, Entry, Input, Outcome};
 use ipc_rules::{calls_made, is_live, is_over, last_call, next_version_of, open_call};
+use ipc_words::limits::{LAST_MOMENT, MAX_CALLS, MAX_ENTRIES, MAX_SPACE, MAX_THREAD_NUMBER};
+use ipc_words::limits::{NEED_OF_EXCHANGE, NEED_OF_OPEN, PLEDGE_OF_THREAD};
 use ipc_words::{Control, ThreadId};
 use std::alloc::Global;
 use std::marker::Model;
 
-/// The greatest limit of entries, and the default of `l4sh run`.
-pub const MAX_ENTRIES: u64 = 1_048_576;
-
-/// The greatest limit of calls, and the default of `l4sh run`.
-pub const MAX_CALLS: u64 = 4_294_967_295;
-
-/// The last moment of the clock, in microseconds.
-pub const LAST_MOMENT: u64 = 0x7fff_ffff_ffff_ffff;
-
 /// How many entries and calls a kernel takes; more than the greatest counts as that.
 #[derive(Clone, Copy, PartialEq, Eq, Debug)]
 pub struct Limits {
-    /// The most entries that the history may hold, with all that is pledged.
+    /// The most entries that the history may hold before a command, with all that is pledged and that the command needs.
     pub entries: u64,
     /// The greatest number of a call.
     pub calls: u64,
@@ -56,28 +57,31 @@ pub struct Kernel {
     moment: u64,
     course: Course,
     copies: Copies,
+    books: Books,
     alloc: Global,
 }
 
 impl Model for Kernel {
     ghost use Rattle.ipc_core.specs.KernelParts.{KernelParts};
-    ghost use Rattle.ipc_core.specs.Copies.{calls_of};
     ghost use Rattle.ipc_core.specs.Invariants.{IsWhole};
 
     ghost Value = { KernelParts };
 
-    ghost view = { λ k. record { entries_limit = k.entries_limit; calls_limit = k.calls_limit; moment = k.moment; history = k.course.entries; untaken = calls_of k.copies.untaken } };
+    ghost view = { λ k. record { entries_limit = k.entries_limit; calls_limit = k.calls_limit; moment = k.moment; history = k.course.entries; taken = k.books.taken; since = k.books.since } };
 
-    ghost invariant = { λ k. IsWhole k.entries_limit k.calls_limit k.moment k.course k.copies };
+    ghost invariant = { λ k. IsWhole k.entries_limit k.calls_limit k.moment k.course k.copies k.books };
 }
 
 impl Kernel {
     /// A kernel with an empty history at the moment 0. The only refusal is K4.
     pub fn new(alloc: Global, limits: Limits) -> Result<Kernel, Refusal>
-        ensures ok { IfOk result (λ kernel. kernel ≡ record { entries_limit = min limits.entries MAX_ENTRIES; calls_limit = min limits.calls MAX_CALLS; moment = 0; history = []; untaken = [] }) }
+        ensures ok { IfOk result (λ kernel. kernel ≡ empty_kernel (min limits.entries max_entries) (min limits.calls max_calls)) }
         ensures memory { IfErr result (λ refusal. refusal ≡ Refusal.NoMemory) }
     {
         let Ok(course) = Course::new(alloc) else {
+            return Err(Refusal::NoMemory);
+        };
+        let Ok(books) = Books::new(alloc) else {
             return Err(Refusal::NoMemory);
         };
         Ok(Kernel {
@@ -86,6 +90,7 @@ impl Kernel {
             moment: 0,
             course,
             copies: Copies::new(alloc),
+            books,
             alloc,
         })
     }
@@ -106,6 +111,8 @@ impl Kernel {
         ensures legal { Legal self.now.history }
         ensures quiet { Quiet self.now.history }
         ensures paired { Paired self.now.history }
+        ensures within { length self.now.history ≤ self.now.entries_limit }
+        ensures sound { IsSound self.now }
     {
         self.course.entries()
     }
@@ -115,6 +122,42 @@ impl Kernel {
         ensures { result ≡ open_calls self.now.history }
     {
         self.course.open_calls().len()
+    }
+
+    /// How many calls were made.
+    pub fn calls(&self) -> u64
+        ensures { result ≡ calls_made self.now.history }
+    {
+        calls_made(self.course.entries())
+    }
+
+    /// How many outcomes were taken.
+    pub fn takes(&self) -> u64
+        ensures { result ≡ length self.now.taken }
+    {
+        self.books.taken().len() as u64
+    }
+
+    /// How many calls a live thread entered, 0 for a thread that is not live.
+    pub fn made(&self, thread: ThreadId) -> u64
+        ensures { result ≡ made_by self.now.history thread }
+    {
+        made_by(self.course.entries(), thread)
+    }
+
+    /// How many outcomes a live thread took, 0 for a thread that is not live.
+    pub fn taken(&self, thread: ThreadId) -> u64
+        ensures { result ≡ taken_by self.now thread }
+    {
+        among_of(self.course.entries(), self.books.taken(), thread)
+    }
+
+    /// The live threads whose last call became over by the last command that was obeyed.
+    pub fn finished(&self) -> &[ThreadId]
+        ensures names { (thread : ℕ) → is_among thread result.now ≡ is_finished self.now thread }
+        ensures once { IsDistinct (λ a b. a == b) result.now }
+    {
+        self.books.finished()
     }
 }
 
@@ -135,63 +178,99 @@ impl Kernel {
 
     /// Opens the thread of a number, 1 to 255, in a space, 1 to 64, and answers its id, with the next version of the number. The refusals
     /// are K1, K2, K3, K5 and K4, the first that applies.
-    pub fn open(&mut self, number: u32, space: u32) -> Result<ThreadId, Refusal>
+    pub fn open(&mut self, number: u64, space: u64) -> Result<ThreadId, Refusal>
+        ensures ok { IfOk result (λ thread. (open_refusal self.old number space ≡ None) × Opens self.old self.new number space thread) }
+        ensures cause { IfErr result (λ refusal. MayRefuse (open_refusal self.old number space) refusal) }
+        ensures err { OnErr result (self.new ≡ self.old) }
+        ensures obeys { MayObey self.old (command.Open number space) (open_answer result) self.new }
+    {
+        self.open_thread(number, space)
+    }
+
+    fn open_thread(&mut self, number: u64, space: u64) -> Result<ThreadId, Refusal>
         ensures ok { IfOk result (λ thread. (open_refusal self.old number space ≡ None) × Opens self.old self.new number space thread) }
         ensures cause { IfErr result (λ refusal. MayRefuse (open_refusal self.old number space) refusal) }
         ensures err { OnErr result (self.new ≡ self.old) }
     {
-        if number < 1 || number > 255 || space < 1 || space > 64 {
+        let most = u64::from(MAX_THREAD_NUMBER);
+        let spaces = u64::from(MAX_SPACE);
+        if number < 1 || number > most || space < 1 || space > spaces {
             return Err(Refusal::BadNumber);
         }
-        if is_taken(self.course.entries(), number) {
+        if is_taken(self.course.entries(), number as u32) {
             return Err(Refusal::NumberTaken);
         }
-        let Some(version) = next_version_of(self.course.entries(), number) else {
+        let Some(version) = next_version_of(self.course.entries(), number as u32) else {
             return Err(Refusal::NumberWorn);
         };
-        let Some(room) = self.room_for(4) else {
+        let Some(room) = self.room_for(NEED_OF_OPEN) else {
             return Err(Refusal::HistoryFull);
         };
         let Ok(()) = self.course.reserve(room) else {
             return Err(Refusal::NoMemory);
         };
-        let thread = thread_id(number, version);
+        let since = self.course.entries().len();
+        let thread = thread_id(number as u32, version);
         self.course
-            .take_input(self.moment, Input::Opened(thread, u64::from(space)));
+            .take_input(self.moment, Input::Opened(thread, space));
         self.copies.keep_needed(self.course.entries());
+        self.books.close(self.course.entries(), since);
         Ok(thread)
     }
 
     /// Ends a live thread. Takes no memory. The only refusal is K6.
-    pub fn broke(&mut self, thread: ThreadId) -> Result<(), Refusal>
-        ensures ok { OnOk result (IsTrue (is_live self.old.history thread) × Takes self.old self.new (Broke thread) × (self.new.untaken ≡ without_thread self.old.history thread self.old.untaken)) }
-        ensures cause { IfErr result (λ refusal. (is_live self.old.history thread ≡ false) × (refusal ≡ Refusal.NoThread)) }
+    pub fn broke(&mut self, thread: ThreadId) -> Result<(), NoThread>
+        ensures ok { OnOk result (IsTrue (is_live self.old.history thread) × Breaks self.old self.new thread) }
+        ensures gone { OnErr result (is_live self.old.history thread ≡ false) }
+        ensures err { OnErr result (self.new ≡ self.old) }
+        ensures obeys { MayObey self.old (command.Broke thread) (broke_answer result) self.new }
+    {
+        self.end_thread(thread)
+    }
+
+    fn end_thread(&mut self, thread: ThreadId) -> Result<(), NoThread>
+        ensures ok { OnOk result (IsTrue (is_live self.old.history thread) × Breaks self.old self.new thread) }
+        ensures gone { OnErr result (is_live self.old.history thread ≡ false) }
         ensures err { OnErr result (self.new ≡ self.old) }
     {
         if !is_live(self.course.entries(), thread) {
-            return Err(Refusal::NoThread);
+            return Err(NoThread);
         }
+        let since = self.course.entries().len();
         self.copies.drop_thread(self.course.entries(), thread);
         self.course.take_input(self.moment, Input::Broke(thread));
         self.copies.keep_needed(self.course.entries());
+        self.books.close(self.course.entries(), since);
         Ok(())
     }
 
     /// Sets the clock, in microseconds: it never goes back, and stops at [`LAST_MOMENT`]. Takes no memory.
     pub fn at(&mut self, now: u64)
+        ensures ticks { Ticks self.old self.new now }
+        ensures obeys { MayObey self.old (command.At now) Done self.new }
+    {
+        self.set_clock(now);
+        // its contract says that the history is legal
+        let _ = self.history();
+    }
+
+    fn set_clock(&mut self, now: u64)
         ensures moment { self.new.moment ≡ at_moment self.old now }
         ensures history { MatchBool (list_any (is_due_at self.old.history (at_moment self.old now)) (numbers self.old.history)) (Settled (self.old.history ++ Given (At (at_moment self.old now)) ∷ []) self.new.history) (self.new.history ≡ self.old.history) }
-        ensures untaken { self.new.untaken ≡ self.old.untaken }
+        ensures taken { self.new.taken ≡ self.old.taken }
+        ensures since { self.new.since ≡ length self.old.history }
         ensures entries_limit { self.new.entries_limit ≡ self.old.entries_limit }
         ensures calls_limit { self.new.calls_limit ≡ self.old.calls_limit }
     {
         let moment = self.moment.max(now.min(LAST_MOMENT));
+        let since = self.course.entries().len();
         if self.course.is_any_due_at(moment) {
             self.course.tick(moment);
             self.course.settle();
             self.copies.keep_needed(self.course.entries());
         }
         self.moment = moment;
+        self.books.close(self.course.entries(), since);
     }
 }
 
@@ -199,9 +278,9 @@ impl Kernel {
 fn room_within(left: u64, live: u64, calls: u128, need: u64) -> Option<usize>
     requires { live < 2 ^ 32 }
     ensures full { IsNone result ↔ (left < 2 * live + calls + need) }
-    ensures value { IfSome result (λ room. room ≡ 2 * live + calls + need) }
+    ensures value { IfSome result (λ room. room ≡ pledge_of_thread * live + calls + need) }
 {
-    let threads = 2 * live;
+    let threads = PLEDGE_OF_THREAD * live;
     if left < need || left - need < threads || u128::from(left - need - threads) < calls {
         None
     } else {
@@ -221,6 +300,16 @@ impl Kernel {
     /// Enters a call of a live thread that has neither an open call nor an outcome that was not yet taken. Answers the call's number.
     /// A call that is refused is handed back.
     pub fn enter(&mut self, thread: ThreadId, call: Call) -> Result<u64, EnterRefused>
+        ensures ok { IfOk result (λ number. (enter_refusal self.old thread call ≡ None) × Enters self.old self.new number thread call) }
+        ensures cause { IfErr result (λ refused. MayRefuse (enter_refusal self.old thread call) refused.refusal) }
+        ensures back { IfErr result (λ refused. refused.call ≡ call) }
+        ensures err { OnErr result (self.new ≡ self.old) }
+        ensures obeys { MayObey self.old (command.Enter thread call) (enter_answer result) self.new }
+    {
+        self.enter_call(thread, call)
+    }
+
+    fn enter_call(&mut self, thread: ThreadId, call: Call) -> Result<u64, EnterRefused>
         ensures ok { IfOk result (λ number. (enter_refusal self.old thread call ≡ None) × Enters self.old self.new number thread call) }
         ensures cause { IfErr result (λ refused. MayRefuse (enter_refusal self.old thread call) refused.refusal) }
         ensures back { IfErr result (λ refused. refused.call ≡ call) }
@@ -258,6 +347,12 @@ impl Kernel {
             });
         };
         let number = made + 1;
+        let Ok(()) = self.books.reserve(number + 1) else {
+            return Err(EnterRefused {
+                refusal: Refusal::NoMemory,
+                call,
+            });
+        };
         let Ok(()) = self.copies.enter(self.alloc, number, &call) else {
             return Err(EnterRefused {
                 refusal: Refusal::NoMemory,
@@ -266,9 +361,11 @@ impl Kernel {
         };
         let is_normal = call.is_normal();
         prove!(is_normal);
+        let since = self.course.entries().len();
         self.course
             .take_input(self.moment, Input::Called(number, thread, call));
         self.copies.keep_needed(self.course.entries());
+        self.books.close(self.course.entries(), since);
         Ok(number)
     }
 
@@ -279,8 +376,21 @@ impl Kernel {
         target: ThreadId,
         control: Control,
     ) -> Result<ExregAnswer, Refusal>
-        ensures ok { OnOk result ((exreg_refusal self.old thread ≡ None) × Takes self.old self.new (Exreg thread target (masked_of control)) × (self.new.untaken ≡ self.old.untaken)) }
-        ensures answer { IfOk result (λ answer. answer ≡ exreg_answer self.old.history thread target) }
+        ensures ok { IfOk result (λ answer. (exreg_refusal self.old thread ≡ None) × Exchanges self.old self.new thread target control answer) }
+        ensures cause { IfErr result (λ refusal. MayRefuse (exreg_refusal self.old thread) refusal) }
+        ensures err { OnErr result (self.new ≡ self.old) }
+        ensures obeys { MayObey self.old (command.Exreg thread target control) (exreg_result result) self.new }
+    {
+        self.stop_phases(thread, target, control)
+    }
+
+    fn stop_phases(
+        &mut self,
+        thread: ThreadId,
+        target: ThreadId,
+        control: Control,
+    ) -> Result<ExregAnswer, Refusal>
+        ensures ok { IfOk result (λ answer. (exreg_refusal self.old thread ≡ None) × Exchanges self.old self.new thread target control answer) }
         ensures cause { IfErr result (λ refusal. MayRefuse (exreg_refusal self.old thread) refusal) }
         ensures err { OnErr result (self.new ≡ self.old) }
     {
@@ -291,49 +401,74 @@ impl Kernel {
         if self.is_busy(thread) {
             return Err(Refusal::Busy);
         }
-        let Some(room) = self.room_for(2) else {
+        let Some(room) = self.room_for(NEED_OF_EXCHANGE) else {
             return Err(Refusal::HistoryFull);
         };
         let Ok(()) = self.course.reserve(room) else {
             return Err(Refusal::NoMemory);
         };
+        let since = self.course.entries().len();
         let answer = self.course.exreg_answer(thread, target);
         self.course.take_input(self.moment, Input::Exreg(thread, target, control.masked()));
         self.copies.keep_needed(self.course.entries());
+        self.books.close(self.course.entries(), since);
         Ok(answer)
     }
 
     /// Copies a block of the least call in transfer: 65,536 bytes, or the rest. Takes no memory.
     pub fn advance(&mut self) -> Advance
         ensures moved { result ≡ Advance.Moved → Advances self.old self.new }
-        ensures idle { result ≡ Advance.Idle → (next_moving self.old.history ≡ None) × (self.new ≡ self.old) }
+        ensures idle { result ≡ Advance.Idle → (next_moving self.old.history ≡ None) × (self.new ≡ rested self.old) }
+        ensures obeys { MayObey self.old command.Advance (Advanced result) self.new }
     {
+        self.copy_block()
+    }
+
+    fn copy_block(&mut self) -> Advance
+        ensures moved { result ≡ Advance.Moved → Advances self.old self.new }
+        ensures idle { result ≡ Advance.Idle → (next_moving self.old.history ≡ None) × (self.new ≡ rested self.old) }
+    {
+        let since = self.course.entries().len();
         let Some((number, block)) = self.course.next_block() else {
+            self.books.close(self.course.entries(), since);
             return Advance::Idle;
         };
         self.course
             .take_input(self.moment, Input::Moved(number, block));
         self.copies.keep_needed(self.course.entries());
+        self.books.close(self.course.entries(), since);
         Advance::Moved
     }
 
     /// The outcome of a live thread's last call, once, where the call is over. Takes no memory.
-    #[tactic(auto, unfolding(crate::specs::Steps::outcome_to_take))]
     pub fn take(&mut self, thread: ThreadId) -> Option<Outcome>
         ensures outcome { result ≡ outcome_to_take self.old thread }
-        ensures taken { self.new ≡ record self.old { untaken = untaken_after result self.old.untaken } }
+        ensures taken { self.new ≡ record self.old { taken = taken_after result self.old.taken; since = length self.old.history } }
+        ensures obeys { MayObey self.old (command.Take thread) (Taken result) self.new }
+    {
+        let outcome = self.take_outcome(thread);
+        let since = self.course.entries().len();
+        self.books.close(self.course.entries(), since);
+        outcome
+    }
+
+    #[tactic(auto, unfolding(crate::specs::Outcomes::outcome_to_take))]
+    fn take_outcome(&mut self, thread: ThreadId) -> Option<Outcome>
+        ensures outcome { result ≡ outcome_to_take self.old thread }
+        ensures taken { self.new ≡ record self.old { taken = taken_after result self.old.taken } }
     {
         let entries = self.course.entries();
         if !is_live(entries, thread) {
             return None;
         }
         let number = last_call(entries, thread)?;
-        if !self.copies.is_untaken(number) || !is_over(entries, number) {
+        if self.books.was_taken(number) || !is_over(entries, number) {
             return None;
         }
         let outcome = outcome_of(self.alloc, entries, &mut self.copies, number);
         self.copies.drop_call(number);
         self.copies.keep_needed(entries);
+        self.books.take(number);
         Some(outcome)
     }
 
@@ -342,6 +477,21 @@ impl Kernel {
         ensures { result ≡ is_busy self.now thread }
     {
         let entries = self.course.entries();
-        open_call(entries, thread).is_some() || self.copies.has_call_of(entries, thread)
+        open_call(entries, thread).is_some() || self.has_untaken(thread)
+    }
+
+    /// Whether the outcome of a live thread's last call was not yet taken.
+    #[tactic(auto, unfolding(crate::specs::Outcomes::has_untaken))]
+    fn has_untaken(&self, thread: ThreadId) -> bool
+        ensures { result ≡ has_untaken self.now thread }
+    {
+        let entries = self.course.entries();
+        if !is_live(entries, thread) {
+            return false;
+        }
+        match last_call(entries, thread) {
+            Some(number) => !self.books.was_taken(number),
+            None => false,
+        }
     }
 }

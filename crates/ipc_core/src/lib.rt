@@ -2,12 +2,14 @@
 #![tactic(auto)]
 
 mod answers;
+mod books;
 mod command;
 mod copies;
 mod course;
 mod ending;
 mod exchange;
 mod kernel;
+pub mod laws;
 mod messages;
 mod numbers;
 mod obeying;
@@ -17,7 +19,8 @@ mod taking;
 #[cfg(test)]
 mod tests;
 
-pub use answers::{Advance, EnterRefused, ExregAnswer};
+pub use answers::{Advance, EnterRefused, ExregAnswer, NoThread};
 pub use command::{Answer, Command};
-pub use kernel::{Kernel, LAST_MOMENT, Limits, MAX_CALLS, MAX_ENTRIES};
+pub use kernel::{Kernel, Limits};
+pub use ipc_words::limits::{LAST_MOMENT, MAX_CALLS, MAX_ENTRIES};
 pub use refusal::Refusal;

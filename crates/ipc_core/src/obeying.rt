@@ -1,4 +1,5 @@
 ghost use Rattle.std.specs.Prelude.{◌≡◌, ◌+◌, ◌≤◌, List, length, min, IfOk, IfErr};
+ghost use Rattle.ipc_words.specs.Limits.{max_command_entries, max_entries, max_calls};
 ghost use Rattle.ipc_history.specs.Legal.{Legal, Quiet};
 ghost use Rattle.ipc_history.specs.Paired.{Paired};
 ghost use Rattle.ipc_history.specs.declared.entry.Entry.{Entry};
@@ -6,9 +7,9 @@ ghost use Rattle.ipc_laws.specs.Laws.{inputs};
 ghost use Rattle.ipc_core.specs.Obeying.{MayObey, Runs, empty_kernel, is_no_memory};
 ghost use Rattle.ipc_core.specs.declared.command.Command.TheVariants as command;
 
-use crate::answers::Advance;
+use crate::answers::NoThread;
 use crate::command::{Answer, Command};
-use crate::kernel::{Kernel, Limits, MAX_CALLS, MAX_ENTRIES};
+use crate::kernel::{Kernel, Limits};
 use crate::refusal::Refusal;
 use ipc_history::Call;
 use ipc_words::{Control, ThreadId};
@@ -18,7 +19,7 @@ impl Kernel {
     /// Obeys a command and answers it. A command that is refused changes nothing; one that is not writes at most 1,022 entries.
     pub fn obey(&mut self, command: Command) -> Answer
         ensures obeys { MayObey self.old command result self.new }
-        ensures few { length self.new.history ≤ length self.old.history + 1022 }
+        ensures few { length self.new.history ≤ length self.old.history + max_command_entries }
     {
         let answer = self.answer(command);
         // its contract says that the history is legal
@@ -44,7 +45,7 @@ impl Kernel {
         }
     }
 
-    fn obey_open(&mut self, number: u32, space: u32) -> Answer
+    fn obey_open(&mut self, number: u64, space: u64) -> Answer
         ensures { MayObey self.old (command.Open number space) result self.new }
     {
         match self.open(number, space) {
@@ -79,7 +80,7 @@ impl Kernel {
     {
         match self.broke(thread) {
             Ok(()) => Answer::Done,
-            Err(refusal) => Answer::Refused(refusal),
+            Err(NoThread) => Answer::Refused(Refusal::NoThread),
         }
     }
 
@@ -93,10 +94,7 @@ impl Kernel {
     fn obey_advance(&mut self) -> Answer
         ensures { MayObey self.old command.Advance result self.new }
     {
-        match self.advance() {
-            Advance::Moved => Answer::Advanced(Advance::Moved),
-            Advance::Idle => Answer::Advanced(Advance::Idle),
-        }
+        Answer::Advanced(self.advance())
     }
 
     fn obey_take(&mut self, thread: ThreadId) -> Answer
@@ -127,7 +125,7 @@ impl Kernel {
         limits: Limits,
         commands: Vec<Command>,
     ) -> Result<(Kernel, Vec<Answer>), Refusal>
-        ensures runs { IfOk result (λ ran. Runs (empty_kernel (min limits.entries MAX_ENTRIES) (min limits.calls MAX_CALLS)) commands.items ran.1.items ran.0) }
+        ensures runs { IfOk result (λ ran. Runs (empty_kernel (min limits.entries max_entries) (min limits.calls max_calls)) commands.items ran.1.items ran.0) }
         ensures legal { IfOk result (λ ran. Legal ran.0.history) }
         ensures quiet { IfOk result (λ ran. Quiet ran.0.history) }
         ensures paired { IfOk result (λ ran. Paired ran.0.history) }

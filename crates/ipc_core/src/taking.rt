@@ -6,7 +6,8 @@ ghost use Rattle.ipc_history.specs.Legal.{Legal};
 ghost use Rattle.ipc_history.specs.Outcomes.{failure, nothing, received, outcome_of};
 ghost use Rattle.ipc_history.specs.Paired.{IsPair};
 ghost use Rattle.ipc_core.specs.Copies.{Keeps, Holds, calls_of};
-ghost use Rattle.ipc_core.specs.Steps.{is_among, without_call};
+ghost use Rattle.ipc_core.specs.Copies.{without_call};
+ghost use Rattle.ipc_core.specs.Outcomes.{is_among};
 
 use crate::copies::Copies;
 use crate::ending::{Ending, ending_of};

@@ -19,4 +19,4 @@ is_buffer_passes : (parts : List Substring) → IsBuffer parts → is_buffer par
 is_buffer_passes parts h = both _ _ (lt-ltb _ _ h.0) (passes _ (λ part. nat_lt part.length (2 ^ 54)) (λ part below. lt-ltb _ _ below) parts h.1)
 
 pub are_buffers_passes : (buffers : List (List Substring)) → AreBuffers buffers → are_buffers buffers ≡ true
-are_buffers_passes buffers h = both _ _ (both _ _ (passes _ is_buffer is_buffer_passes buffers h.0) (le-leb _ _ h.1)) (le-leb _ _ h.2)
+are_buffers_passes buffers h = both _ _ (passes _ is_buffer is_buffer_passes buffers h.0) (le-leb _ _ h.1)

@@ -4,8 +4,8 @@ use Rattle.ipc_words.specs.ThreadId.{nilthread}
 use Rattle.ipc_items.specs.Strings.{size_of}
 use Rattle.ipc_items.specs.declared.buffer_list.Substring.{Substring}
 use Rattle.ipc_history.specs.CallParts.{CallParts}
-use Rattle.ipc_history.specs.Words.{first_some}
-use Rattle.ipc_history.specs.Entries.{number_in, call_in}
+use Rattle.ipc_history.specs.Words.{first_some, last_some}
+use Rattle.ipc_history.specs.Entries.{number_in, number_by, call_in}
 use Rattle.ipc_history.specs.declared.entry.Entry.{Entry}
 
 -- the numbers of the calls, in the order in which they were made, so the least comes first
@@ -19,6 +19,10 @@ calls_made P = length (numbers P)
 -- the caller of the call n, and its parts
 unfoldable pub call_at : List Entry → ℕ → Option (ℕ × CallParts)
 call_at P n = first_some (call_in n) P
+
+-- the last call that a thread made
+unfoldable pub last_call : List Entry → ℕ → Option ℕ
+last_call P thread = last_some (number_by thread) P
 
 -- there is a call of this number
 unfoldable pub is_called : List Entry → ℕ → Bool

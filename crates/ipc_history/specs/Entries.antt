@@ -50,6 +50,11 @@ abbrev pub call_in : ℕ → Entry → Option (ℕ × CallParts)
 call_in n (Given (Called k thread call)) = (if k == n then Some (thread, call) else None)
 call_in n _ = None
 
+-- the number of a call of the thread that was entered
+abbrev pub number_by : ℕ → Entry → Option ℕ
+number_by thread (Given (Called n caller call)) = (if caller == thread then Some n else None)
+number_by thread _ = None
+
 -- the bytes of a Moved(n, ·)
 abbrev pub count_in : ℕ → Entry → ℕ
 count_in n (Given (Moved k count)) = (if k == n then count else 0)

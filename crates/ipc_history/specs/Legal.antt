@@ -1,12 +1,14 @@
 -- What may follow, and what a history is.
 use Rattle.std.specs.Prelude.{◌≡◌, ℕ, ◌+◌, ◌-◌, ◌^◌, List, ◌∷◌, ◌++◌, Bool, false, ◌&&◌, not, Option, Some, None, find, min, is_none, IsTrue, nat_lt, nat_le, ◌==◌}
 use Rattle.std.specs.Option.{option_map_or}
+use Rattle.ipc_words.specs.Limits.{max_thread_number, max_space, last_moment}
 use Rattle.ipc_words.specs.ThreadId.{number_of, version_of}
 use Rattle.ipc_words.specs.Control.{is_masked}
 use Rattle.ipc_history.specs.CallParts.{is_normal}
 use Rattle.ipc_history.specs.Calls.{numbers, calls_made, message_size}
 use Rattle.ipc_history.specs.Threads.{now, is_live, is_taken, next_version}
 use Rattle.ipc_history.specs.Phases.{receiver_of, open_call, is_transferring, moved_bytes}
+use Rattle.ipc_history.specs.Blocks.{block_of}
 use Rattle.ipc_history.specs.NextOutput.{next_output}
 use Rattle.ipc_history.specs.declared.entry.Entry.{Entry}
 use Rattle.ipc_history.specs.declared.entry.Entry.TheVariants.{Given, Written}
@@ -25,18 +27,18 @@ is_free P thread = is_live P thread && is_none (open_call P thread)
 unfoldable pub next_moving : List Entry → Option ℕ
 next_moving P = find (λ n. option_map_or (is_transferring P n) (receiver_of P n) false) (numbers P)
 
--- a number of 1 to 255 that is not taken opens with its next version, in a space of 1 to 64
+-- a number within its limit that is not taken opens with its next version, in a space within its limit
 unfoldable pub may_open : List Entry → ℕ → ℕ → Bool
-may_open P thread space = nat_le 1 (number_of thread) && nat_le (number_of thread) 255 && not (is_taken P (number_of thread)) && option_map_or (λ version. version == version_of thread) (next_version P (number_of thread)) false && nat_le 1 space && nat_le space 64
+may_open P thread space = nat_le 1 (number_of thread) && nat_le (number_of thread) max_thread_number && not (is_taken P (number_of thread)) && option_map_or (λ version. version == version_of thread) (next_version P (number_of thread)) false && nat_le 1 space && nat_le space max_space
 
--- a copy is of the least call in transfer: 65,536 bytes or the rest
+-- a copy is of the least call in transfer: its next block
 unfoldable pub may_move : List Entry → ℕ → ℕ → Bool
-may_move P n count = option_map_or (λ k. k == n) (next_moving P) false && (count == min 65536 (message_size P n - moved_bytes P n))
+may_move P n count = option_map_or (λ k. k == n) (next_moving P) false && (count == block_of P n)
 
 -- which inputs may follow a quiet history: a later moment; an open; a call in normal form, of a free thread, with the next number;
 -- an ExchangeRegisters of a free thread; the break of a live thread; a copy
 unfoldable pub is_admissible : List Entry → Input → Bool
-is_admissible P (At moment) = nat_lt (now P) moment && nat_lt moment (2 ^ 63)
+is_admissible P (At moment) = nat_lt (now P) moment && nat_lt moment (last_moment + 1)
 is_admissible P (Opened thread space) = may_open P thread space
 is_admissible P (Called n thread call) = is_free P thread && (n == calls_made P + 1) && is_normal call
 is_admissible P (Exreg thread target control) = is_free P thread && is_masked control

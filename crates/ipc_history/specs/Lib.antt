@@ -6,9 +6,11 @@ pub mod HistoryParts
 pub mod Calls
 pub mod Threads
 pub mod Phases
+pub mod ExchangeRegisters
 pub mod Matching
 pub mod Timing
 pub mod NextOutput
+pub mod Blocks
 pub mod Legal
 pub mod Outcomes
 pub mod Paired

@@ -1,9 +1,13 @@
 -- The one output that comes next. Our choice (docs/PROFILE.md): the six rules, their order, and of several calls the least number first.
-use Rattle.std.specs.Prelude.{ℕ, ◌+◌, ◌*◌, ◌^◌, ◌≤◌, List, Bool, ◌&&◌, ◌||◌, not, Option, Some, None, option_map, option_and_then, ◌==◌, if◌then◌else◌}
+use Rattle.std.specs.Prelude.{ℕ, ◌+◌, ◌*◌, ◌≤◌, List, [], ◌∷◌, Bool, ◌&&◌, ◌||◌, not, Option, Some, None, option_map, option_and_then, ◌==◌, if◌then◌else◌}
 use Rattle.std.specs.List.{list_any}
 use Rattle.std.specs.Option.{option_or, option_map_or}
+use Rattle.ipc_words.specs.Limits.{max_string_bytes}
 use Rattle.ipc_words.specs.ThreadId.{anythread, anylocalthread}
 use Rattle.ipc_words.specs.Control.{stops_receive, stops_send}
+use Rattle.ipc_words.specs.IpcError.{failure_code}
+use Rattle.ipc_words.specs.declared.ipc_error.Phase.TheVariants.{Send, Receive}
+use Rattle.ipc_words.specs.declared.ipc_error.ErrorKind.TheVariants as kind
 use Rattle.ipc_items.specs.Fit.{overflow_offset}
 use Rattle.ipc_history.specs.Words.{last, first_some}
 use Rattle.ipc_history.specs.Entries.{ends}
@@ -27,10 +31,10 @@ abort_receive P m = option_and_then (λ n. if is_transferring P n m then Some (A
 
 -- what S and R stop in the open call c: a waiting phase fails, cancelled by another thread (e=3); a transfer is aborted (e=7)
 unfoldable pub stop_send : List Entry → ℕ → Option Output
-stop_send P c = (if is_sending P c then Some (Failed c 0x6) else abort_send P c)
+stop_send P c = (if is_sending P c then Some (Failed c (failure_code Send kind.Cancelled 0)) else abort_send P c)
 
 unfoldable pub stop_receive : List Entry → ℕ → Option Output
-stop_receive P c = (if is_receiving P c then Some (Failed c 0x7) else abort_receive P c)
+stop_receive P c = (if is_receiving P c then Some (Failed c (failure_code Receive kind.Cancelled 0)) else abort_receive P c)
 
 unfoldable pub stop : List Entry → ℕ → ℕ → Option Output
 stop P control c = option_or (if stops_send control then stop_send P c else None) (if stops_receive control then stop_receive P c else None)
@@ -63,13 +67,16 @@ unfoldable pub is_left : List Entry → ℕ → ℕ → ℕ → ℕ → Bool
 is_left P n k m other = not (is_over P n) && not (list_any (ends k m) P) && has_broken P (caller_of P other)
 
 unfoldable pub left_sender_code : List Entry → ℕ → Option ℕ
-left_sender_code P n = option_and_then (λ m. if is_left P n n m m then Some (0xe + 16 * moved_bytes P n) else None) (receiver_of P n)
+left_sender_code P n = option_and_then (λ m. if is_left P n n m m then Some (failure_code Send kind.Aborted (moved_bytes P n)) else None) (receiver_of P n)
 
 unfoldable pub left_receiver_code : List Entry → ℕ → Option ℕ
-left_receiver_code P m = option_and_then (λ n. if is_left P m n m n then Some (0xf + 16 * moved_bytes P n) else None) (sender_of P m)
+left_receiver_code P m = option_and_then (λ n. if is_left P m n m n then Some (failure_code Receive kind.Aborted (moved_bytes P n)) else None) (sender_of P m)
 
 unfoldable pub partner_gone_code : List Entry → ℕ → Option ℕ
-partner_gone_code P n = (if is_send_partner_gone P n then Some 0x4 else (if is_receive_partner_gone P n then Some 0x5 else option_or (left_sender_code P n) (left_receiver_code P n)))
+partner_gone_code P n =
+    (if is_send_partner_gone P n then Some (failure_code Send kind.NonExistingPartner 0)
+    else (if is_receive_partner_gone P n then Some (failure_code Receive kind.NonExistingPartner 0)
+    else option_or (left_sender_code P n) (left_receiver_code P n)))
 
 unfoldable pub partner_gone_of : List Entry → ℕ → Option Output
 partner_gone_of P n = option_map (λ code. Failed n code) (partner_gone_code P n)
@@ -83,12 +90,30 @@ meeting_of P n = option_map (meeting P n) (match_of P n)
 
 -- 6. the waiting phase of n is due: it fails, timed out (e=1)
 unfoldable pub timeout_of : List Entry → ℕ → Option Output
-timeout_of P n = (if is_due P n then Some (Failed n (if is_sending P n then 0x2 else 0x3)) else None)
+timeout_of P n =
+    (if is_due P n then Some (Failed n (if is_sending P n then failure_code Send kind.Timeout 0 else failure_code Receive kind.Timeout 0)) else None)
+
+-- what each rule gives, in their order
+abbrev pub rule_outputs : List Entry → List (Option Output)
+rule_outputs P =
+    option_and_then (stop_after P) (last P)
+    ∷ option_and_then (turn_after P) (last P)
+    ∷ first_some (end_of P) (numbers P)
+    ∷ first_some (partner_gone_of P) (numbers P)
+    ∷ first_some (meeting_of P) (numbers P)
+    ∷ first_some (timeout_of P) (numbers P)
+    ∷ []
+
+-- the first that is given of these
+abbrev pub first_given : List (Option Output) → Option Output
+first_given [] = None
+first_given (given ∷ []) = given
+first_given (given ∷ later ∷ rest) = option_or given (first_given (later ∷ rest))
 
 -- the next output: that of the first rule that applies, for the least call
 unfoldable pub next_output : List Entry → Option Output
-next_output P = option_or (option_and_then (stop_after P) (last P)) (option_or (option_and_then (turn_after P) (last P)) (option_or (first_some (end_of P) (numbers P)) (option_or (first_some (partner_gone_of P) (numbers P)) (option_or (first_some (meeting_of P) (numbers P)) (first_some (timeout_of P) (numbers P))))))
+next_output P = first_given (rule_outputs P)
 
 -- no call has copied more bytes than a message may have
 abbrev pub MovesFit : List Entry → Type 0
-MovesFit P = (n : ℕ) → moved_bytes P n ≤ 2 ^ 20
+MovesFit P = (n : ℕ) → moved_bytes P n ≤ max_string_bytes

@@ -1,7 +1,11 @@
 -- What the caller of a call is told (L4 X.2 manual, Ipc: output parameters).
-use Rattle.std.specs.Prelude.{ℕ, ◌+◌, ◌*◌, ◌^◌, List, [], ◌++◌, Bool, ◌||◌, not, Option, Some, None, unwrap_or, length, ◌==◌, if◌then◌else◌}
+use Rattle.std.specs.Prelude.{◌≡◌, ◌≤◌, ℕ, ◌+◌, ◌*◌, ◌^◌, List, [], ◌++◌, Bool, ◌||◌, not, Option, Some, None, unwrap_or, length, ◌==◌, if◌then◌else◌}
+use Rattle.ipc_words.specs.Limits.{max_message_words}
 use Rattle.ipc_words.specs.ThreadId.{nilthread}
-use Rattle.ipc_words.specs.MsgTag.{label_of, untyped_of}
+use Rattle.ipc_words.specs.IpcError.{failure_code}
+use Rattle.ipc_words.specs.declared.ipc_error.Phase.TheVariants.{Send, Receive}
+use Rattle.ipc_words.specs.declared.ipc_error.ErrorKind.TheVariants as kind
+use Rattle.ipc_words.specs.MsgTag.{label_of, untyped_of, typed_of}
 use Rattle.ipc_items.specs.Pieces.{PlacedBytes, pieces_of_all, simple_items}
 use Rattle.ipc_items.specs.declared.buffer_list.Substring.{Substring}
 use Rattle.ipc_history.specs.Words.{first_some}
@@ -24,6 +28,11 @@ pub record OutcomeParts : Type 0 where
   pub words : List ℕ
   pub strings : List (List ℕ)
   pub buffers : List (List Substring)
+
+-- the words are as many as the tag says, untyped and typed together, and no more than a message has
+pub record HasItsWords (tag : ℕ) (words : List ℕ) : Type 0 where
+  pub counted : length words ≡ untyped_of tag + typed_of tag
+  pub few : length words ≤ max_message_words
 
 -- where the received bytes go, string by string
 abbrev pub pieces_in : OutcomeParts → List (List PlacedBytes)
@@ -57,8 +66,8 @@ received H n m = record {
 -- what an entry tells of n, as the sender or as the receiver
 abbrev pub outcome_in : List Entry → ℕ → Entry → Option OutcomeParts
 outcome_in H n (Written (Failed k code)) = (if k == n then Some (failure n code) else None)
-outcome_in H n (Written (Overflowed k m offset)) = (if k == n then Some (failure n (0x8 + 16 * offset)) else (if m == n then Some (failure n (0x9 + 16 * offset)) else None))
-outcome_in H n (Written (Aborted k m count)) = (if k == n then Some (failure n (0xe + 16 * count)) else (if m == n then Some (failure n (0xf + 16 * count)) else None))
+outcome_in H n (Written (Overflowed k m offset)) = (if k == n then Some (failure n (failure_code Send kind.MessageOverflow offset)) else (if m == n then Some (failure n (failure_code Receive kind.MessageOverflow offset)) else None))
+outcome_in H n (Written (Aborted k m count)) = (if k == n then Some (failure n (failure_code Send kind.Aborted count)) else (if m == n then Some (failure n (failure_code Receive kind.Aborted count)) else None))
 outcome_in H n (Written (Ended k m)) = (if m == n then Some (received H k n) else None)
 outcome_in H n _ = None
 

@@ -1,5 +1,5 @@
 -- In which phase a call is (L4 X.2 manual, Ipc: the send phase comes first; if it fails there is no receive phase).
-use Rattle.std.specs.Prelude.{ℕ, List, Bool, false, ◌&&◌, ◌||◌, not, Option, find, is_none, sum_by, ◌==◌}
+use Rattle.std.specs.Prelude.{ℕ, List, Bool, false, ◌&&◌, ◌||◌, not, Option, filter, find, is_none, sum_by, ◌==◌}
 use Rattle.std.specs.List.{list_any}
 use Rattle.std.specs.Option.{option_map_or}
 use Rattle.ipc_words.specs.ThreadId.{nilthread}
@@ -23,6 +23,10 @@ sender_of P m = first_some (sender_in m) P
 -- n is over: an entry closed it; its caller ended; its send phase ended and it has no receive phase; it has neither phase
 unfoldable pub is_over : List Entry → ℕ → Bool
 is_over P n = list_any (closes n) P || has_broken P (caller_of P n) || ((from_of P n == nilthread) && (is_sent P n || (to_of P n == nilthread)))
+
+-- the numbers of the open calls, the least first
+unfoldable pub open_numbers : List Entry → List ℕ
+open_numbers P = filter (λ n. not (is_over P n)) (numbers P)
 
 -- the open call of a thread: the one that is not over
 unfoldable pub open_call : List Entry → ℕ → Option ℕ

@@ -5,6 +5,7 @@ ghost use Rattle.ipc_history.specs.CallParts.{is_normal, is_tag_normal, is_empty
 ghost use Rattle.ipc_history.specs.Fields.{parts_of};
 
 use ipc_items::{BufferList, StringList};
+use ipc_words::limits::MAX_MESSAGE_WORDS;
 use ipc_words::{MsgTag, Period, ThreadId};
 use std::marker::Model;
 
@@ -148,7 +149,7 @@ fn counts(fields: &CallFields) -> bool
     let typed = 2 * fields.strings.len() as u128;
     u128::from(fields.tag.untyped()) == untyped
         && u128::from(fields.tag.typed()) == typed
-        && untyped + typed <= 63
+        && untyped + typed <= MAX_MESSAGE_WORDS as u128
         && !fields.tag.redirects()
         && !fields.tag.crosses()
         && !fields.tag.has_failed()

@@ -3,6 +3,8 @@ use ipc_words::{IpcError, MsgTag, ThreadId};
 use std::marker::Model;
 
 /// What the caller of a call is told, seen as its parts (L4 X.2 manual, Ipc: output parameters).
+///
+/// The words are as many as the tag says, and no more than a message has.
 #[derive(Drop)]
 pub struct Outcome {
     /// The number of the call.
@@ -24,9 +26,11 @@ pub struct Outcome {
 }
 
 impl Model for Outcome {
-    ghost use Rattle.ipc_history.specs.Outcomes.{OutcomeParts};
+    ghost use Rattle.ipc_history.specs.Outcomes.{OutcomeParts, HasItsWords};
 
     ghost Value = { OutcomeParts };
 
     ghost view = { λ o. record { call = o.call; tag = o.tag; sender = o.sender; actual = o.actual; error = o.error; words = o.words.items; strings = o.strings; buffers = o.buffers } };
+
+    ghost invariant = { λ o. HasItsWords o.tag o.words.items };
 }

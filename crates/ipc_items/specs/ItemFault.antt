@@ -2,6 +2,7 @@
 use Rattle.std.specs.Prelude.{ℕ, ◌+◌, ◌*◌, ◌^◌, ◌==◌, ◌||◌, ◌&&◌, Bool, List, [], ◌∷◌, length, Option, Some, None, nat_lt, if◌then◌else◌}
 use Rattle.std.specs.Option.{option_or}
 use Rattle.std.specs.List.{list_any}
+use Rattle.ipc_words.specs.Limits.{max_string_bytes}
 use Rattle.ipc_items.specs.declared.item_fault.ItemFault.{ItemFault}
 use Rattle.ipc_items.specs.declared.item_fault.ItemFault.TheVariants.{PastWords, ReservedBit, OutsidePayload, TooLong}
 use Rattle.ipc_items.specs.ItemWords.{ItemWords, has_reserved_bit, count_of, goes_on, length_of}
@@ -24,7 +25,9 @@ bytes_in item = count_of item.descriptor * length_of item.descriptor
 
 -- the fault of an item's ranges, where the items before it name some bytes of the payload
 abbrev pub range_fault : ℕ → ℕ → ItemWords → Option ItemFault
-range_fault size before item = (if list_any (is_outside size (length_of item.descriptor)) item.pointers then Some OutsidePayload else (if nat_lt (2 ^ 20) (before + bytes_in item) then Some TooLong else None))
+range_fault size before item =
+    (if list_any (is_outside size (length_of item.descriptor)) item.pointers then Some OutsidePayload
+    else (if nat_lt max_string_bytes (before + bytes_in item) then Some TooLong else None))
 
 -- the first fault of string items, where the items before them name some bytes
 abbrev pub string_fault : ℕ → ℕ → List ItemWords → Option ItemFault

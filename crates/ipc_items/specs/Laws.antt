@@ -1,6 +1,7 @@
 -- What holds of every list of strings.
 use Rattle.std.specs.Prelude.{◌≡◌, ℕ, ◌+◌, ◌*◌, ◌≤◌, ◌^◌, List, [], ◌∷◌, None, Ok, length, map}
 use Rattle.std.specs.List.{concat}
+use Rattle.ipc_words.specs.Limits.{max_string_bytes}
 use Rattle.ipc_items.specs.declared.buffer_list.Substring.{Substring}
 use Rattle.ipc_items.specs.Strings.{size_of}
 use Rattle.ipc_items.specs.Fit.{overflow_offset}
@@ -18,4 +19,4 @@ simple_words offset (string ∷ strings) = length string * 1024 ∷ offset ∷ s
 
 -- strings are read as they are spelled
 abbrev pub SpelledStringsAreRead : Type 0
-SpelledStringsAreRead = (strings : List (List ℕ)) → size_of strings ≤ 2 ^ 20 → string_reading (simple_words 0 strings) (concat strings) ≡ Ok strings
+SpelledStringsAreRead = (strings : List (List ℕ)) → size_of strings ≤ max_string_bytes → string_reading (simple_words 0 strings) (concat strings) ≡ Ok strings

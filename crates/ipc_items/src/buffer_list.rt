@@ -1,6 +1,7 @@
 ghost use Rattle.std.specs.Prelude.{◌≡◌, ◌==◌, ◌↔◌, IsTrue, ℕ, ◌<◌, ◌^◌, ◌≤◌, List, [], ◌∷◌, ◌++◌, length, sum_by, if◌then◌else◌, IfOk, IfErr, IsOk, IsOkUnless, OnErr, slice_get, option_copied};
 ghost use Rattle.std.specs.Option.{SomeIff, option_map_or};
-ghost use Rattle.ipc_items.specs.Buffers.{buffers_of, capacity, words_of, IsBuffer, AreBuffers};
+ghost use Rattle.ipc_words.specs.Limits.{max_buffer_words};
+ghost use Rattle.ipc_items.specs.Buffers.{buffers_of, capacity, IsBuffer, AreBuffers};
 ghost use Rattle.ipc_items.specs.StringItem.{buffer_reading};
 ghost use Rattle.ipc_items.specs.Pieces.{first_pointer};
 
@@ -8,17 +9,9 @@ use crate::item_fault::ItemFault;
 use crate::iter::Iter;
 use crate::reading::{buffer_check, buffer_rows};
 use crate::rows::Rows;
+use ipc_words::limits::{MAX_SUBSTRINGS, SUBSTRING_LENGTH_LIMIT};
 use std::alloc::{AllocError, Global};
 use std::marker::Model;
-
-/// The most substrings that the buffer strings of a call have together.
-pub const MAX_SUBSTRINGS: usize = 31;
-
-/// The most words that spell the buffer strings of a call.
-pub const MAX_BUFFER_WORDS: usize = 32;
-
-/// The length of a substring is below this.
-pub const LENGTH_LIMIT: u64 = 0x40_0000_0000_0000;
 
 /// A substring of a buffer string: how many bytes it holds, and the pointer that is handed back with them.
 #[derive(Clone, Copy, Debug, PartialEq, Eq)]
@@ -31,8 +24,8 @@ pub struct Substring {
 
 /// The buffer strings of a call, seen as the list of their substrings.
 ///
-/// Each has a substring, there are at most [`MAX_SUBSTRINGS`] together, each of a length below
-/// [`LENGTH_LIMIT`], and at most [`MAX_BUFFER_WORDS`] words can spell them.
+/// Each has a substring, and there are at most [`MAX_SUBSTRINGS`] together, each of a length below
+/// [`SUBSTRING_LENGTH_LIMIT`].
 #[derive(Debug, Drop)]
 pub struct BufferList {
     rows: Rows<Substring>,
@@ -54,38 +47,10 @@ impl Model for BufferList {
 fn is_buffer(buffer: &[Substring]) -> bool
     ensures { IsTrue result ↔ IsBuffer buffer.now }
 {
-    !buffer.is_empty() && buffer.iter().all(|part| part.length < LENGTH_LIMIT)
-}
-
-// The least number of words that spells a buffer string.
-fn words(buffer: &[Substring]) -> usize
-    requires { length buffer.now ≤ 31 }
-    ensures { result ≡ words_of buffer.now }
-{
-    let Some((first, rest)) = buffer.split_first() else {
-        return 0;
-    };
-    let mut runs = 1;
-    let mut before = first.length;
-    for part in rest {
-        if part.length != before {
-            runs += 1;
-        }
-        before = part.length;
-    }
-    runs + buffer.len()
-}
-
-// The least number of words that spells buffer strings.
-fn total_words(rows: &Rows<Substring>) -> usize
-    requires { AreBuffers rows.now }
-    ensures { result ≡ sum_by words_of rows.now }
-{
-    let mut total = 0;
-    for k in 0..rows.len() {
-        total += words(rows.row(k));
-    }
-    total
+    !buffer.is_empty()
+        && buffer
+            .iter()
+            .all(|part| part.length < SUBSTRING_LENGTH_LIMIT)
 }
 
 // How many bytes a buffer string holds.
@@ -137,9 +102,10 @@ impl BufferList {
         Ok(Some(list))
     }
 
-    /// The buffer strings that buffer items spell, or the first fault. There are at most 32 words.
+    /// The buffer strings that buffer items spell, or the first fault. There are at most as many words as
+    /// a frame has for them.
     pub fn read(alloc: Global, words: &[u64]) -> Result<Self, ItemFault>
-        requires { length words.now ≤ 32 }
+        requires { length words.now ≤ max_buffer_words }
         ensures ok { IfOk result (λ list. buffer_reading words.now ≡ Ok list) }
         ensures fault { IfErr (buffer_reading words.now) (λ fault. result ≡ Err fault) }
         ensures memory { IsOk (buffer_reading words.now)
@@ -159,9 +125,6 @@ impl BufferList {
         ensures err { OnErr result (self.new ≡ self.old) }
     {
         if !is_buffer(buffer) || buffer.len() > MAX_SUBSTRINGS - self.rows.total() {
-            return Ok(false);
-        }
-        if words(buffer) > MAX_BUFFER_WORDS - total_words(&self.rows) {
             return Ok(false);
         }
         self.rows.push(buffer)?;

@@ -1,5 +1,6 @@
-ghost use Rattle.std.specs.Prelude.{◌≡◌, ◌==◌, ◌↔◌, IsTrue, ℕ, ◌^◌, ◌≤◌, List, [], ◌∷◌, ◌++◌, length, if◌then◌else◌, IfOk, IfErr, IsOk, IsOkUnless, IfSome, OnErr, slice_get, option_copied};
+ghost use Rattle.std.specs.Prelude.{◌≡◌, ◌==◌, ◌↔◌, IsTrue, ℕ, ◌*◌, ◌≤◌, List, [], ◌∷◌, ◌++◌, length, if◌then◌else◌, IfOk, IfErr, IsOk, IsOkUnless, IfSome, OnErr, slice_get, option_copied};
 ghost use Rattle.std.specs.Option.{SomeIff, option_map_or};
+ghost use Rattle.ipc_words.specs.Limits.{max_message_words, max_string_bytes};
 ghost use Rattle.ipc_items.specs.Strings.{strings_of, size_of, AreStrings};
 ghost use Rattle.ipc_items.specs.StringItem.{string_reading};
 ghost use Rattle.ipc_items.specs.Fit.{overflow_offset, accepted};
@@ -10,14 +11,9 @@ use crate::item_fault::ItemFault;
 use crate::iter::Iter;
 use crate::reading::{string_rows, string_size};
 use crate::rows::Rows;
+use ipc_words::limits::{MAX_STRING_BYTES, MAX_STRINGS};
 use std::alloc::{AllocError, Global};
 use std::marker::Model;
-
-/// The most strings that a message holds.
-pub const MAX_STRINGS: usize = 31;
-
-/// The most bytes that the strings of a message have together.
-pub const MAX_STRING_BYTES: usize = 1_048_576;
 
 /// The strings of a message, seen as the list of their bytes.
 ///
@@ -70,10 +66,12 @@ impl StringList {
         Ok(Some(StringList { rows }))
     }
 
-    /// The strings that string items spell over a payload, or the first fault. There are at most 63 words.
+    /// The strings that string items spell over a payload, or the first fault. There are at most as many words as a
+    /// message has.
     pub fn read(alloc: Global, words: &[u64], payload: &[u8]) -> Result<Self, ItemFault>
-        requires { length words.now ≤ 63 }
+        requires { length words.now ≤ max_message_words }
         ensures ok { IfOk result (λ list. string_reading words.now payload.now ≡ Ok list) }
+        ensures few { IfOk result (λ list. 2 * length list ≤ length words.now) }
         ensures fault { IfErr (string_reading words.now payload.now) (λ fault. result ≡ Err fault) }
         ensures memory { IsOk (string_reading words.now payload.now)
             → IsOkUnless result ItemFault.NoMemory }
@@ -117,7 +115,7 @@ impl StringList {
     /// The sum of the lengths of the strings.
     pub fn size(&self) -> u64
         ensures sum { result ≡ size_of self.now }
-        ensures bound { size_of self.now ≤ 2 ^ 20 }
+        ensures bound { size_of self.now ≤ max_string_bytes }
     {
         self.rows.total() as u64
     }

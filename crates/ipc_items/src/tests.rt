@@ -1,4 +1,5 @@
 use super::*;
+use ipc_words::limits::SUBSTRING_LENGTH_LIMIT;
 use std::alloc::{AllocError, Global};
 use std::test::Fail;
 
@@ -240,25 +241,25 @@ fn substrings_are_counted(rt: HostRuntime) -> Result<(), Fail> {
 #[test]
 fn lengths_of_substrings_are_bounded(rt: HostRuntime) -> Result<(), Fail> {
     let a = rt.alloc();
-    assert_eq!(rt; takes_equal(a, 1, LENGTH_LIMIT - 1)?, true);
-    assert_eq!(rt; takes_equal(a, 1, LENGTH_LIMIT)?, false);
+    assert_eq!(rt; takes_equal(a, 1, SUBSTRING_LENGTH_LIMIT - 1)?, true);
+    assert_eq!(rt; takes_equal(a, 1, SUBSTRING_LENGTH_LIMIT)?, false);
     Ok(())
 }
 
-// Whether a list takes one buffer string of as many substrings, no two of one length.
+// Whether a list takes as many buffer strings of one substring each, no two of one length.
 fn takes_unequal(alloc: Global, count: u64) -> Result<bool, AllocError> {
-    let mut parts = Vec::new(alloc);
+    let mut buffers = Vec::new(alloc);
     for length in 0..count {
-        parts.push(part(length, 0))?;
+        buffers.push(vec![in alloc; part(length, 0)]?)?;
     }
-    Ok(BufferList::of(alloc, vec![in alloc; parts]?)?.is_some())
+    Ok(BufferList::of(alloc, buffers)?.is_some())
 }
 
 #[test]
-fn words_of_buffers_are_counted(rt: HostRuntime) -> Result<(), Fail> {
+fn substrings_are_counted_over_all_buffers(rt: HostRuntime) -> Result<(), Fail> {
     let a = rt.alloc();
-    assert_eq!(rt; takes_unequal(a, 16)?, true);
-    assert_eq!(rt; takes_unequal(a, 17)?, false);
+    assert_eq!(rt; takes_unequal(a, 31)?, true);
+    assert_eq!(rt; takes_unequal(a, 32)?, false);
     Ok(())
 }
 

@@ -13,6 +13,7 @@ pub mod JoinedPieces
 pub mod Told
 pub mod Delivery
 pub mod Normal
+pub mod ReceivedWords
 pub mod Promise
 pub mod Determined
 pub mod Numbering

@@ -1,9 +1,11 @@
 -- How many outputs are still to come, and how much room is owed.
 use Rattle.std.specs.Prelude.{◌≡◌, ℕ, ◌+◌, ◌-◌, ◌*◌, ◌/◌, ◌<◌, ◌≤◌, List, [], ◌∷◌, ◌++◌, Bool, true, false, not, ◌||◌, Some, is_none, if◌then◌else◌, ◌==◌, sum_by, count_by, filter_map, length, map}
 use Rattle.std.specs.Option.{option_map_or}
+use Rattle.ipc_words.specs.Limits.{max_thread_number, max_outputs, pledge_of_thread, pledge_of_open_call, pledge_of_block}
 use Rattle.ipc_words.specs.ThreadId.{nilthread}
 use Rattle.ipc_items.specs.Strings.{size_of}
 use Rattle.ipc_history.specs.CallParts.{CallParts}
+use Rattle.ipc_history.specs.Blocks.{blocks}
 use Rattle.ipc_history.specs.Words.{last}
 use Rattle.ipc_history.specs.Entries.{opened_in}
 use Rattle.ipc_history.specs.Calls.{numbers, to_of, from_of, message_size}
@@ -45,11 +47,11 @@ all_steps_left P = sum_by (steps_left P) (numbers P) + turn_left P
 
 -- Room. The blocks of the bytes of n that are still to be copied; none without a send phase
 unfoldable pub blocks_left : List Entry → ℕ → ℕ
-blocks_left P n = (if to_of P n == nilthread then 0 else (message_size P n - moved_bytes P n + 65535) / 65536)
+blocks_left P n = (if to_of P n == nilthread then 0 else blocks (message_size P n - moved_bytes P n))
 
 -- and of a whole call
 abbrev pub blocks_of : CallParts → ℕ
-blocks_of call = (if call.to == nilthread then 0 else (size_of call.strings + 65535) / 65536)
+blocks_of call = (if call.to == nilthread then 0 else blocks (size_of call.strings))
 
 -- what an open call may still need: its outputs, an At before it is due, an At and a Moved for each block
 unfoldable pub room_of : List Entry → ℕ → ℕ
@@ -84,12 +86,12 @@ OpenBound = (P : List Entry) → Legal P → open_calls P ≤ live_threads P
 abbrev pub OutputsBound : Type 0
 OutputsBound = (P : List Entry) (input : Input) (outputs : List Output) → Legal (P ++ Given input ∷ map Written outputs) → length outputs ≤ 4 * live_threads (P ++ Given input ∷ [])
 
--- each number has at most one live thread, so after an input come at most 1,020 outputs
+-- each number has at most one live thread, so after an input come at most four outputs for each number
 abbrev pub LiveBound : Type 0
-LiveBound = (P : List Entry) → Legal P → live_threads P ≤ 255
+LiveBound = (P : List Entry) → Legal P → live_threads P ≤ max_thread_number
 
 abbrev pub OutputsMost : Type 0
-OutputsMost = (P : List Entry) (input : Input) (outputs : List Output) → Legal (P ++ Given input ∷ map Written outputs) → length outputs ≤ 1020
+OutputsMost = (P : List Entry) (input : Input) (outputs : List Output) → Legal (P ++ Given input ∷ map Written outputs) → length outputs ≤ max_outputs
 
 -- the room that an input needs with its own entry, and the room that it gives back. An At that stands before it needs one more
 abbrev pub room_for : Input → ℕ
@@ -111,12 +113,12 @@ InputRoom = (P : List Entry) (input : Input) → Legal (P ++ Given input ∷ [])
 abbrev pub AtRoom : Type 0
 AtRoom = (P : List Entry) (moment : ℕ) (output : Output) → Legal (P ++ Given (At moment) ∷ Written output ∷ []) → length (P ++ Given (At moment) ∷ Written output ∷ []) + room_owed (P ++ Given (At moment) ∷ Written output ∷ []) ≤ length P + room_owed P
 
--- what is pledged covers what is owed: 2 for each live thread, and 5 and 2 for each block of each open call
+-- what is pledged covers what is owed: something for each live thread, each open call, and each block of each open call
 unfoldable pub pledge_of : List Entry → ℕ → ℕ
-pledge_of P n = (if is_over P n then 0 else 5 + 2 * (if to_of P n == nilthread then 0 else (message_size P n + 65535) / 65536))
+pledge_of P n = (if is_over P n then 0 else pledge_of_open_call + pledge_of_block * (if to_of P n == nilthread then 0 else blocks (message_size P n)))
 
 unfoldable pub pledged : List Entry → ℕ
-pledged P = 2 * live_threads P + sum_by (pledge_of P) (numbers P)
+pledged P = pledge_of_thread * live_threads P + sum_by (pledge_of P) (numbers P)
 
 abbrev pub PledgeCovers : Type 0
 PledgeCovers = (P : List Entry) → Legal P → room_owed P ≤ pledged P

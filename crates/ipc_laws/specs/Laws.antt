@@ -1,6 +1,7 @@
 -- The laws of histories.
 use Rattle.std.specs.Prelude.{◌≡◌, ℕ, zero, suc, [], ◌∷◌, ◌+◌, ◌*◌, ◌^◌, ◌%◌, length, ◌<◌, ◌≤◌, List, ◌++◌, Option, Some, None, IsTrue, IsFalse, ◌⊎◌, filter_map, count_by, Bool, if◌then◌else◌}
 use Rattle.std.specs.List.{list_any}
+use Rattle.ipc_words.specs.Limits.{max_message_words, max_string_bytes}
 use Rattle.ipc_history.specs.CallParts.{CallParts, is_normal}
 use Rattle.ipc_history.specs.Words.{first_some}
 use Rattle.ipc_history.specs.Entries.{input_in, begins_send, begins_receive, names, calls, closes, ends}
@@ -35,8 +36,8 @@ CallsAreNormal = (H : List Entry) → Legal H → (n thread : ℕ) (call : CallP
 pub record IsNormalMessage (H : List Entry) (n : ℕ) : Type 0 where
   pub untyped : untyped_of (tag_of H n) ≡ length (words_of H n)
   pub typed : typed_of (tag_of H n) ≡ 2 * length (strings_of H n)
-  pub together : length (words_of H n) + 2 * length (strings_of H n) ≤ 63
-  pub size : message_size H n ≤ 2 ^ 20
+  pub together : length (words_of H n) + 2 * length (strings_of H n) ≤ max_message_words
+  pub size : message_size H n ≤ max_string_bytes
 
 abbrev pub MessagesAreNormal : Type 0
 MessagesAreNormal = (H : List Entry) → Legal H → (n : ℕ) → IsNormalMessage H n

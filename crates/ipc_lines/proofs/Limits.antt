@@ -6,7 +6,7 @@ use Rattle.std.proofs.lemmas.List.Elements.{All-head, All-tail, All-take, All-ni
 use Rattle.std.proofs.lemmas.List.{length-take}
 use Rattle.std.proofs.lemmas.List.Sums.{sum_by-take-drop, sum_by-cons}
 use Rattle.ipc_items.specs.declared.buffer_list.Substring.{Substring}
-use Rattle.ipc_items.specs.Buffers.{IsBuffer, AreBuffers, words_of}
+use Rattle.ipc_items.specs.Buffers.{IsBuffer, AreBuffers}
 use Rattle.ipc_items.specs.Strings.{AreStrings}
 use Rattle.std.specs.Prelude.{IsTrue}
 use Rattle.std.proofs.lemmas.Bool.Decides.{nat_tests}
@@ -54,7 +54,7 @@ pub strings_take : (n : ℕ) (list : List (List ℕ)) → AreStrings list → Ar
 strings_take n list h = (let len = length-take n list in omega arith, omega (arith, h.1, sum_by-take-drop (λ s. length s) list n))
 
 pub buffers_take : (n : ℕ) (list : List (List Substring)) → AreBuffers list → AreBuffers (take n list)
-buffers_take n list h = (All-take IsBuffer n list h.0, omega (arith, h.1, sum_by-take-drop (λ parts. length parts) list n), omega (arith, h.2, sum_by-take-drop words_of list n))
+buffers_take n list h = (All-take IsBuffer n list h.0, omega (arith, h.1, sum_by-take-drop (λ parts. length parts) list n))
 
 pub normal_words : (call : CallParts) → IsTrue (is_normal call) → length call.words ≤ 63
 unfolding is_normal

@@ -10,8 +10,8 @@ ghost use Rattle.std.specs.Fmt.{decimal};
 use crate::call_reading::read_call;
 use crate::fields::split;
 use crate::numbers::{read_decimal, read_hex, read_id};
-use crate::reading::MAX_LINE;
 use ipc_history::Call;
+use ipc_words::limits::MAX_LINE_BYTES;
 use ipc_words::{Control, ThreadId};
 use std::alloc::{AllocError, Global};
 
@@ -171,13 +171,13 @@ fn command_of(
     }
 }
 
-/// The command that a line spells, without its newline; `None` for any other line, as for one of more than [`MAX_LINE`] bytes.
+/// The command that a line spells, without its newline; `None` for any other line, as for one of more than [`MAX_LINE_BYTES`] bytes.
 pub fn read_command(alloc: Global, line: &[u8]) -> Result<Option<Command>, AllocError>
     ensures found { IfOk result (λ answer. IfSome answer (λ command. line.now ≡ command_text command)) }
     ensures only { (command : Command) → IsCommand command → line.now ≡ command_text command → IfOk result (λ answer. answer ≡ Some command) }
     ensures long { most_bytes < length line.now → result ≡ Ok None }
 {
-    if line.len() > MAX_LINE {
+    if line.len() > MAX_LINE_BYTES {
         return Ok(None);
     }
     let Some(fields) = split(alloc, line, b' ', MAX_FIELDS)? else {

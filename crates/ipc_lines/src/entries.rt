@@ -61,7 +61,7 @@ fn line_of(alloc: Global, entry: &Entry) -> Result<String, AllocError>
     Ok(line)
 }
 
-/// The line of an entry, without its newline: at most [`crate::MAX_LINE`] bytes, which [`crate::read_entry`] reads as this entry.
+/// The line of an entry, without its newline: at most [`ipc_words::limits::MAX_LINE_BYTES`] bytes, which [`crate::read_entry`] reads as this entry.
 /// The error: memory was refused.
 pub fn entry_line(alloc: Global, entry: &Entry) -> Result<String, AllocError>
     ensures value { IfOk result (λ line. string_bytes line ≡ entry_text entry.now) }

@@ -2,6 +2,7 @@ ghost use Rattle.std.specs.Prelude.{◌≡◌, ℕ, Option, ◌<◌, ◌≤◌, 
 ghost use Rattle.std.specs.Option.{IsSomeAnd};
 ghost use Rattle.std.specs.Char.{is_ascii_uppercase};
 ghost use Rattle.std.specs.List.{All, list_any};
+ghost use Rattle.ipc_words.specs.Limits.{max_message_words, max_substrings};
 ghost use Rattle.hex.specs.Hex.{IsBytes};
 ghost use Rattle.ipc_items.specs.declared.buffer_list.Substring.{Substring};
 ghost use Rattle.ipc_lines.specs.Reading.{AreWords, IsStringList, IsSubstring, IsBufferList};
@@ -10,11 +11,9 @@ ghost use Rattle.ipc_lines.specs.Texts.{hex_text, words_text, bytes_text, string
 use crate::fields::{cut, is_text, split};
 use crate::numbers::{read_decimal, read_hex};
 use hex::FromHexError;
-use ipc_items::{BufferList, MAX_STRINGS, MAX_SUBSTRINGS, StringList, Substring};
+use ipc_items::{BufferList, StringList, Substring};
+use ipc_words::limits::{MAX_MESSAGE_WORDS, MAX_STRINGS, MAX_SUBSTRINGS};
 use std::alloc::{AllocError, Global};
-
-/// The most untyped words of a message.
-const MAX_WORDS: usize = 63;
 
 // The words that these texts spell as HEX.
 fn words_of(alloc: Global, texts: &[&[u8]]) -> Result<Option<Vec<u64>>, AllocError>
@@ -31,15 +30,15 @@ fn words_of(alloc: Global, texts: &[&[u8]]) -> Result<Option<Vec<u64>>, AllocErr
     Ok(Some(words))
 }
 
-/// The words that these bytes spell, at most 63; `None` for any other bytes.
+/// The words that these bytes spell, at most as many as a message has; `None` for any other bytes.
 pub fn read_words(alloc: Global, bytes: &[u8]) -> Result<Option<Vec<u64>>, AllocError>
     ensures found { IfOk result (λ words. IfSome words (λ list. bytes.now ≡ words_text list.items)) }
-    ensures only { (list : List ℕ) → AreWords list → length list ≤ 63 → bytes.now ≡ words_text list → IfOk result (λ words. IsSomeAnd words (λ found. found.items ≡ list)) }
+    ensures only { (list : List ℕ) → AreWords list → length list ≤ max_message_words → bytes.now ≡ words_text list → IfOk result (λ words. IsSomeAnd words (λ found. found.items ≡ list)) }
 {
     if is_text(bytes, b"-") {
         return Ok(Some(Vec::new(alloc)));
     }
-    match split(alloc, bytes, b',', MAX_WORDS)? {
+    match split(alloc, bytes, b',', MAX_MESSAGE_WORDS)? {
         Some(texts) => words_of(alloc, &texts),
         None => Ok(None),
     }
@@ -143,7 +142,7 @@ fn substrings_of(alloc: Global, texts: &[&[u8]]) -> Result<Option<Vec<Substring>
 // The buffer string that this text spells, of at most as many substrings as a call has.
 fn read_buffer(alloc: Global, text: &[u8]) -> Result<Option<Vec<Substring>>, AllocError>
     ensures found { IfOk result (λ parts. IfSome parts (λ list. text.now ≡ buffer_text list.items)) }
-    ensures only { (list : List Substring) → All IsSubstring list → 0 < length list → length list ≤ 31 → text.now ≡ buffer_text list → IfOk result (λ parts. IsSomeAnd parts (λ found. found.items ≡ list)) }
+    ensures only { (list : List Substring) → All IsSubstring list → 0 < length list → length list ≤ max_substrings → text.now ≡ buffer_text list → IfOk result (λ parts. IsSomeAnd parts (λ found. found.items ≡ list)) }
 {
     match split(alloc, text, b'+', MAX_SUBSTRINGS)? {
         Some(texts) => substrings_of(alloc, &texts),

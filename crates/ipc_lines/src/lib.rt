@@ -3,7 +3,7 @@
 //! A line is its fields with one space between each two; its newline is not part of it. Numbers are
 //! decimals without leading zeros. HEX is `0x` and lower-case digits without leading zeros; 0 is
 //! `0x0`. An id is `nil`, `any` or `local`; `number.version` in decimal where the low six bits of its
-//! word are not all zero; else HEX. No line of an entry has more than [`MAX_LINE`] bytes.
+//! word are not all zero; else HEX. No line of an entry has more than [`ipc_words::limits::MAX_LINE_BYTES`] bytes.
 //!
 //! | Entry | Line |
 //! |---|---|
@@ -47,7 +47,7 @@ pub use laws::{
 pub use numbers::{read_decimal, read_hex, read_id};
 pub use outcomes::outcome_line;
 pub use readable::{command_is_readable, entry_is_readable};
-pub use reading::{LineFault, MAX_LINE, read_entry};
+pub use reading::{LineFault, read_entry};
 pub use scalars::{HexText, IdText};
 
 #[cfg(test)]

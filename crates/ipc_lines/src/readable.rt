@@ -124,7 +124,7 @@ fn is_output(output: &Output)
     }
 }
 
-/// Every entry is of words, of bytes and of calls within the limits. So its line has at most [`crate::MAX_LINE`] bytes, and
+/// Every entry is of words, of bytes and of calls within the limits. So its line has at most [`ipc_words::limits::MAX_LINE_BYTES`] bytes, and
 /// [`crate::read_entry`] reads it as this entry.
 pub fn entry_is_readable(entry: &Entry)
     ensures { IsReadable entry.now }
@@ -153,7 +153,7 @@ pub fn entry_is_readable(entry: &Entry)
     }
 }
 
-/// Every command is of words, of bytes and of a call within the limits. So its line has at most [`crate::MAX_LINE`] bytes, and
+/// Every command is of words, of bytes and of a call within the limits. So its line has at most [`ipc_words::limits::MAX_LINE_BYTES`] bytes, and
 /// [`crate::read_command`] reads it as this command.
 pub fn command_is_readable(command: &Command)
     ensures { IsCommand command.now }

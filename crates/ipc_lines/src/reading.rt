@@ -17,10 +17,8 @@ use crate::fields::split;
 use crate::numbers::{read_decimal, read_hex, read_id};
 use ipc_history::{Entry, Input, Output};
 use ipc_words::{IpcError, MaskedControl, ThreadId};
+use ipc_words::limits::MAX_LINE_BYTES;
 use std::alloc::{AllocError, Global};
-
-/// The most bytes of a line, without its newline. No entry and no command has a longer one.
-pub const MAX_LINE: usize = 2_105_343;
 
 /// The most fields of an entry: its name, a number and those of a call.
 const MAX_FIELDS: usize = 11;
@@ -326,13 +324,13 @@ pub enum LineFault {
 }
 
 /// The entry that a line spells, without its newline. `Bad` where no entry has this spelling, as for a second spelling of one and
-/// for a line of more than [`MAX_LINE`] bytes.
+/// for a line of more than [`MAX_LINE_BYTES`] bytes.
 pub fn read_entry(alloc: Global, line: &[u8]) -> Result<Entry, LineFault>
     ensures found { IfOk result (λ entry. line.now ≡ entry_text entry) }
     ensures only { (entry : Entry) → IsReadable entry → line.now ≡ entry_text entry → (result ≡ Ok entry) ⊎ (result ≡ Err LineFault.NoMemory) }
     ensures long { most_bytes < length line.now → result ≡ Err LineFault.Bad }
 {
-    if line.len() > MAX_LINE {
+    if line.len() > MAX_LINE_BYTES {
         return Err(LineFault::Bad);
     }
     match entry_in(alloc, line) {

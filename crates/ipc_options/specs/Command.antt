@@ -1,5 +1,6 @@
 -- The command that `l4sh` asks `clap` for.
 use Rattle.std.specs.Prelude.{ℕ, Some, [], ◌∷◌, codes, true}
+use Rattle.ipc_words.specs.Limits.{max_entries, max_calls}
 use Rattle.clap.specs.Words.{App, Rule, Text, new_app, new_rule, with_rule, with_subcommand}
 use Rattle.clap.specs.Simple.{on_top}
 use Rattle.clap.specs.declared.builder.value_parser.ValueParser.TheVariants.{Unsigned}
@@ -15,8 +16,8 @@ number_rule id most default = record (new_rule id) {
 
 abbrev pub run_app : App
 run_app = with_rule
-    (with_rule (new_app (codes "run")) (number_rule (codes "entries") 1048576 (codes "1048576")))
-    (number_rule (codes "calls") 4294967295 (codes "4294967295"))
+    (with_rule (new_app (codes "run")) (number_rule (codes "entries") max_entries (codes "1048576")))
+    (number_rule (codes "calls") max_calls (codes "4294967295"))
 
 -- `l4sh` with its one subcommand, which has to be there
 abbrev pub shell_app : App

@@ -1,6 +1,7 @@
 -- What the words of `l4sh` ask for.
 use Rattle.std.specs.Prelude.{◌≡◌, ◌≤◌, ℕ, List, Option, Some, codes, option_map, true, IsSomeAnd}
 use Rattle.std.specs.Str.Parse.{digits_value, without_leading_plus}
+use Rattle.ipc_words.specs.Limits.{max_entries, max_calls}
 use Rattle.clap.specs.Words.{IsUnsignedIn, Row, Text, one_of, subcommand_of, takes}
 use Rattle.ipc_options.specs.Command.{shell_app}
 use Rattle.ipc_options.specs.declared.shell.ShellOptions.{ShellOptions}
@@ -8,7 +9,7 @@ use Rattle.ipc_options.specs.declared.shell.ShellOptions.TheVariants.{Run}
 
 -- each number is within its limit
 abbrev pub IsWithinLimits : ShellOptions → Type 0
-IsWithinLimits (Run entries calls) = (entries ≤ 1048576) × (calls ≤ 4294967295)
+IsWithinLimits (Run entries calls) = (entries ≤ max_entries) × (calls ≤ max_calls)
 
 -- the number that an option has among the matches of `run`
 abbrev pub number_in : List Row → Text → Option ℕ
@@ -21,8 +22,8 @@ HasNumbersIn rows (Run entries calls) = (number_in rows (codes "entries") ≡ So
 
 -- the matches of `run` have a decimal number within its limit for each option
 abbrev pub ReadsAsNumbers : List Row → Type 0
-ReadsAsNumbers rows = IsSomeAnd (one_of (codes "entries") rows) (IsUnsignedIn 0 1048576)
-    × IsSomeAnd (one_of (codes "calls") rows) (IsUnsignedIn 0 4294967295)
+ReadsAsNumbers rows = IsSomeAnd (one_of (codes "entries") rows) (IsUnsignedIn 0 max_entries)
+    × IsSomeAnd (one_of (codes "calls") rows) (IsUnsignedIn 0 max_calls)
 
 -- the options have the numbers that the words, or the defaults, give the options of `run`
 abbrev pub HasNumbersOf : List Text → ShellOptions → Type 0

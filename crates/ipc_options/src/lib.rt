@@ -3,4 +3,4 @@
 
 mod shell;
 
-pub use shell::{MAX_CALLS, MAX_ENTRIES, ShellOptions, shell_options};
+pub use shell::{ShellOptions, shell_options};

@@ -10,13 +10,8 @@ ghost use Rattle.ipc_options.specs.Shell.{ReadsAsNumbers, number_in};
 use clap::builder::ValueParser;
 use clap::error::ErrorKind;
 use clap::{Arg, ArgMatches, Command, Error};
+use ipc_words::limits::{MAX_CALLS, MAX_ENTRIES};
 use std::alloc::{AllocError, Global};
-
-/// The largest `--entries`: the most entries that the history of a run may hold.
-pub const MAX_ENTRIES: u32 = 1_048_576;
-
-/// The largest `--calls`: the most calls that may be made in a run.
-pub const MAX_CALLS: u32 = 4_294_967_295;
 
 /// What `l4sh` was asked for.
 #[derive(Clone, Copy, PartialEq, Eq, Debug)]
@@ -85,7 +80,7 @@ fn run_command<'a>(alloc: Global) -> Result<Command<'a>, AllocError>
 fn number_option<'a>(
     alloc: Global,
     id: &'a str,
-    most: u32,
+    most: u64,
     default: &'a str,
     help: &'a str,
 ) -> Arg<'a>
@@ -95,7 +90,7 @@ fn number_option<'a>(
     Arg::new(alloc, id)
         .long(id)
         .value_name("N")
-        .value_parser(ValueParser::unsigned(0, u64::from(most)))
+        .value_parser(ValueParser::unsigned(0, most))
         .default_value(default)
         .help(help)
 }
@@ -107,7 +102,7 @@ fn run_options(run: &ArgMatches<'_>) -> Option<ShellOptions>
 {
     let entries = number(run, "entries")?;
     let calls = number(run, "calls")?;
-    if entries <= MAX_ENTRIES {
+    if u64::from(entries) <= MAX_ENTRIES {
         Some(ShellOptions::Run { entries, calls })
     } else {
         None
@@ -117,7 +112,7 @@ fn run_options(run: &ArgMatches<'_>) -> Option<ShellOptions>
 fn number(run: &ArgMatches<'_>, id: &str) -> Option<u32>
     ensures number { IfSome result (λ n. number_in (rows_of (found_of run.now)) id.now ≡ Some n) }
     ensures found { IsSomeAnd (one_of id.now (rows_of (found_of run.now)))
-        (IsUnsignedIn 0 4294967295) → IsSome result }
+        (IsUnsignedIn 0 u32.MAX) → IsSome result }
 {
     run.get_one::<u32>(id)
 }

@@ -1,29 +1,18 @@
 -- What lets a history be read from its end, and its open calls alone be asked. Every legal history has it.
-use Rattle.std.specs.Prelude.{◌≡◌, ℕ, List, ◌∷◌, ◌++◌, Bool, true, false, not, filter, Option, Some, None, IsTrue, IsFalse, ◌==◌, if◌then◌else◌}
+use Rattle.std.specs.Prelude.{◌≡◌, ℕ, List, ◌∷◌, ◌++◌, Bool, true, false, Option, Some, None, IsTrue, IsFalse, ◌==◌, if◌then◌else◌}
 use Rattle.std.specs.List.{list_any}
 use Rattle.ipc_history.specs.CallParts.{CallParts}
-use Rattle.ipc_history.specs.Words.{last_some}
+pub use Rattle.ipc_history.specs.Entries.{number_by}
 use Rattle.ipc_history.specs.Entries.{names}
-use Rattle.ipc_history.specs.Calls.{numbers, caller_of}
+unfoldable pub use Rattle.ipc_history.specs.Calls.{last_call}
+use Rattle.ipc_history.specs.Calls.{caller_of}
 use Rattle.ipc_history.specs.Threads.{has_broken, is_live}
+unfoldable pub use Rattle.ipc_history.specs.Phases.{open_numbers}
 use Rattle.ipc_history.specs.Phases.{is_over}
 use Rattle.ipc_history.specs.NextOutput.{MovesFit}
 use Rattle.ipc_history.specs.declared.entry.Entry.{Entry}
 use Rattle.ipc_history.specs.declared.entry.Entry.TheVariants.{Given}
 use Rattle.ipc_history.specs.declared.entry.Input.TheVariants.{Opened, Called, Broke}
-
--- the numbers of the open calls, the least first
-unfoldable pub open_numbers : List Entry → List ℕ
-open_numbers P = filter (λ n. not (is_over P n)) (numbers P)
-
--- the number of a call of the thread that was entered
-abbrev pub number_by : ℕ → Entry → Option ℕ
-number_by thread (Given (Called n caller call)) = (if caller == thread then Some n else None)
-number_by thread _ = None
-
--- the last call that a thread made
-unfoldable pub last_call : List Entry → ℕ → Option ℕ
-last_call P thread = last_some (number_by thread) P
 
 -- moves: no call has copied more bytes than a message may have. open_is_last: an open call is the last one of its caller.
 -- new_number: where a call is entered, its number is new. live_caller: and its caller is live. unbroken: where a thread opens,

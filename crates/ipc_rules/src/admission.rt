@@ -11,6 +11,7 @@ use crate::outputs::next_output;
 use crate::phases::{is_transferring, moved_bytes, open_call, receiver_of};
 use crate::threads::{is_live, is_taken, next_version_of, now};
 use ipc_history::{Entry, Input};
+use ipc_words::limits::{BLOCK_BYTES, LAST_MOMENT, MAX_SPACE, MAX_THREAD_NUMBER};
 use ipc_words::{MaskedControl, ThreadId};
 
 #[tactic(auto, unfolding(ipc_history::specs::Legal::is_free))]
@@ -41,22 +42,22 @@ pub fn next_moving(entries: &[Entry]) -> Option<u64>
         .find(|number| is_moving(entries, *number))
 }
 
-/// Whether a thread may be opened in a space: a number of 1 to 255 that is not taken, with its next version, in a space of 1
-/// to 64.
+/// Whether a thread may be opened in a space: a number within its limit that is not taken, with its next version,
+/// in a space within its limit.
 #[tactic(auto, unfolding(ipc_history::specs::Legal::may_open))]
 pub fn may_open(entries: &[Entry], thread: ThreadId, space: u64) -> bool
     ensures { result ≡ may_open entries.now thread space }
 {
     let number = thread.number();
     1 <= number
-        && number <= 255
+        && number <= MAX_THREAD_NUMBER
         && !is_taken(entries, number)
         && next_version_of(entries, number) == Some(thread.version())
         && 1 <= space
-        && space <= 64
+        && space <= u64::from(MAX_SPACE)
 }
 
-/// Whether so many bytes may be copied for a call: 65,536 or the rest, of the least call in transfer.
+/// Whether so many bytes may be copied for a call: its next block, of the least call in transfer.
 #[tactic(auto, unfolding(ipc_history::specs::Legal::may_move))]
 pub fn may_move(entries: &[Entry], number: u64, count: u64) -> bool
     requires { MovesFit entries.now }
@@ -66,7 +67,7 @@ pub fn may_move(entries: &[Entry], number: u64, count: u64) -> bool
         && count
             == message_size(entries, number)
                 .saturating_sub(moved_bytes(entries, number))
-                .min(65_536)
+                .min(BLOCK_BYTES)
 }
 
 /// Every control that may be handed in has no bit but R and S.
@@ -85,7 +86,7 @@ pub fn is_admissible(entries: &[Entry], input: &Input) -> bool
     ensures { result ≡ is_admissible entries.now input.now }
 {
     match input {
-        Input::At(moment) => now(entries) < *moment && *moment < 0x8000_0000_0000_0000,
+        Input::At(moment) => now(entries) < *moment && *moment <= LAST_MOMENT,
         Input::Opened(thread, space) => may_open(entries, *thread, *space),
         Input::Called(number, caller, call) => {
             is_free(entries, *caller)

@@ -1,5 +1,6 @@
 ghost use Rattle.std.specs.Prelude.{◌≡◌, ◌-◌, min, IsFalse};
 ghost use Rattle.std.specs.List.{list_any};
+ghost use Rattle.ipc_history.specs.Blocks.{block_of};
 ghost use Rattle.ipc_history.specs.Calls.{numbers, message_size};
 ghost use Rattle.ipc_history.specs.Phases.{is_over, moved_bytes};
 ghost use Rattle.ipc_history.specs.Timing.{is_due_at};
@@ -14,6 +15,7 @@ use crate::phases::is_transferring;
 use crate::reading::open_call_at;
 use ipc_history::Entry;
 use ipc_words::ThreadId;
+use ipc_words::limits::BLOCK_BYTES;
 
 /// Whether the waiting phase of some call is due at a moment.
 #[tactic(auto, using(crate::proofs::Overs::due_among))]
@@ -47,16 +49,16 @@ pub fn next_moving_among(entries: &[Entry], opened: &[u64]) -> Option<u64>
     None
 }
 
-/// How many bytes of the message of an open call are copied next: 65,536 or the rest.
+/// How many bytes of the message of an open call are copied next: a block, or the rest.
 pub fn block_to_move(entries: &[Entry], number: u64) -> u64
     requires scannable { IsScannable entries.now }
     requires open { IsFalse (is_over entries.now number) }
-    ensures { result ≡ min 65536 (message_size entries.now number - moved_bytes entries.now number) }
+    ensures { result ≡ block_of entries.now number }
 {
     let call = open_call_at(entries, number);
     size_of_message(entries, &call)
         .saturating_sub(call.moved)
-        .min(65_536)
+        .min(BLOCK_BYTES)
 }
 
 /// Whether a thread waits to send, or is the sender of a transfer.

@@ -1,5 +1,6 @@
 pub mod LineLemmas
 pub mod PieceLemmas
+pub mod PutLemmas
 pub mod RunLemmas
 pub mod EndLemmas
 pub mod Examples

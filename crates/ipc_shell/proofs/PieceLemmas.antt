@@ -1,9 +1,6 @@
 -- From what a chunk adds to a line to what a read does, and from the reads of a line to the line.
-use Rattle.std.proofs.Common.{◌≡◌, ◌≢◌, ℕ, ◌<◌, ◌≤◌, Option, Some, None, IfSome, List, [], ◌∷◌, ◌++◌, length, take, sym, ap, subst, ◌∙◌, arith, append_assoc, append-nil}
-use Rattle.std.specs.Io.{StartsWith}
-use Rattle.std.specs.Io.KnownBytes.{Keeps, Consumes, IsAtEnd}
-use Rattle.std.specs.Io.BufRead.{DropsConsumable}
-use Rattle.std.proofs.BufReadLemmas.{Consumes_shown}
+use Rattle.std.proofs.Common.{◌≡◌, ◌≢◌, ℕ, ◌<◌, ◌≤◌, Option, Some, None, IfSome, List, [], ◌∷◌, ◌++◌, length, take, drop, sym, ap, subst, ◌∙◌, arith, append_assoc, append-nil, take-append-drop}
+use Rattle.std.specs.Io.KnownBytes.{Keeps, Consumes, IsAtEnd, prepend_known}
 use Rattle.std.proofs.KnownBytes.{Consumes-trans, Consumes-kept}
 use Rattle.std.proofs.lemmas.List.Elements.{All-append}
 use Rattle.ipc_shell.specs.ScriptLines.{lines_of, longest_line}
@@ -18,30 +15,32 @@ known_front None c part h = tt
 known_front (Some x) None part h = absurd h
 known_front (Some x) (Some z) part h = (z, h)
 
-known_end : (a : Option (List ℕ)) (n : ℕ) → n ≡ 0 → IfSome a (λ xs. n ≡ 0 → xs ≡ []) → IsAtEnd a
-known_end None n zero h = tt
-known_end (Some x) n zero h = h zero
+-- a buffer was filled, and so many of its bytes were used
+pub used : (a rest : Option (List ℕ)) (shown : List ℕ) (n : ℕ) → Keeps a (prepend_known shown rest) → Consumes a (prepend_known (drop n shown) rest) (take n shown)
+used None rest shown n kept = tt
+used (Some x) None shown n kept = absurd kept
+used (Some x) (Some y) shown n kept = sym kept ∙ ap (λ bytes. bytes ++ y) (sym (take-append-drop n shown)) ∙ append_assoc (take n shown) (drop n shown) y
 
--- a chunk was shown, and so many of its bytes were consumed
-pub piece_read : (a b c : Option (List ℕ)) (buffered : Option ℕ) (shown before line : List ℕ) (n : ℕ) (piece : Piece) → n ≤ length shown
-    → IfSome a (λ xs. StartsWith xs shown) → IfSome a (λ xs. length shown ≡ 0 → xs ≡ []) → Keeps a b
-    → IfSome a (λ _. IfSome buffered (λ k. length shown ≤ k)) → DropsConsumable b c buffered n → Adds before line shown n piece → ReadsPiece a c before line piece
-piece_read a b c buffered shown before line n piece.Part within front end kept fits drops (is, one, short) =
-    let moved = Consumes_shown a b c buffered shown n within front end kept fits drops in
-    (take n shown, is, one, moved.0, short)
-piece_read a b c buffered shown before line n piece.LineEnd within front end kept fits drops (part, cutting, is, one, short) =
-    let moved = Consumes_shown a b c buffered shown n within front end kept fits drops in
-    (part, is, one, subst (Consumes a c) cutting moved.0, short)
-piece_read a b c buffered shown before line n piece.TooLong within front end kept fits drops (one, long) =
-    let moved = Consumes_shown a b c buffered shown n within front end kept fits drops in
-    (take n shown, one, long, known_front a c (take n shown) moved.0)
-piece_read a b c buffered shown before line n piece.InputEnd within front end kept fits drops (same, zero, none) =
-    let moved = Consumes_shown a b c buffered shown n within front end kept fits drops in
+-- nothing was left to show
+known_end : (a rest : Option (List ℕ)) (shown : List ℕ) → Keeps a (prepend_known shown rest) → length shown ≡ 0 → IsAtEnd rest → IsAtEnd a
+known_end None rest shown kept none end = tt
+known_end (Some x) None shown kept none end = absurd kept
+known_end (Some x) (Some y) [] kept none end = sym kept ∙ end
+known_end (Some x) (Some y) (b ∷ bs) kept none end = absurd (omega (arith, none))
+
+-- a buffer was filled, and what is added to a line was used
+pub piece_read : (a rest : Option (List ℕ)) (shown before line : List ℕ) (n : ℕ) (piece : Piece) → Keeps a (prepend_known shown rest)
+    → (length shown ≡ 0 → IsAtEnd rest) → Adds before line shown n piece → ReadsPiece a (prepend_known (drop n shown) rest) before line piece
+piece_read a rest shown before line n piece.Part kept end (is, one, short) = (take n shown, is, one, used a rest shown n kept, short)
+piece_read a rest shown before line n piece.LineEnd kept end (part, cutting, is, one, short) =
+    (part, is, one, subst (Consumes a (prepend_known (drop n shown) rest)) cutting (used a rest shown n kept), short)
+piece_read a rest shown before line n piece.TooLong kept end (one, long) =
+    (take n shown, one, long, known_front a (prepend_known (drop n shown) rest) (take n shown) (used a rest shown n kept))
+piece_read a rest shown before line n piece.InputEnd kept end (same, zero, none) =
     let nothing : take n shown ≡ [] = ap (λ k. take k shown) zero in
-    (same, subst (Consumes a c) nothing moved.0, known_end a (length shown) none end)
-piece_read a b c buffered shown before line n piece.Interrupted within front end kept fits drops never = absurd never
-piece_read a b c buffered shown before line n piece.Failed within front end kept fits drops h = tt
-piece_read a b c buffered shown before line n piece.NoMemory within front end kept fits drops h = tt
+    (same, subst (Consumes a (prepend_known (drop n shown) rest)) nothing (used a rest shown n kept), known_end a rest shown kept none (end none))
+piece_read a rest shown before line n piece.Failed kept end h = tt
+piece_read a rest shown before line n piece.NoMemory kept end h = tt
 
 -- a read that took nothing
 pub line_kept : (a b c : Option (List ℕ)) (before line : List ℕ) → Consumes a b before → (line ≡ before) → Keeps b c → Consumes a c line

@@ -1,10 +1,11 @@
 -- The lines that were taken so far, one more at a time.
-use Rattle.std.proofs.Common.{◌≡◌, ℕ, ◌+◌, ◌<◌, ◌≤◌, Option, Some, None, IfSome, List, [], ◌∷◌, ◌++◌, length, refl, sym, ap, subst, ◌∙◌, arith, append_assoc, append-nil, length-append}
+use Rattle.std.proofs.Common.{◌≡◌, ◌≢◌, rules, ℕ, ◌+◌, ◌<◌, ◌≤◌, Option, Some, None, IfSome, List, [], ◌∷◌, ◌++◌, length, refl, sym, ap, subst, ◌∙◌, arith, append_assoc, append-nil, length-append}
 use Rattle.std.specs.Option.{IsSomeAnd}
-use Rattle.std.specs.Io.KnownBytes.{Appends}
+use Rattle.std.specs.Io.KnownBytes.{Appends, prepend_known}
 use Rattle.std.proofs.KnownBytes.{Appends-nil, Appends-trans}
 use Rattle.ipc_core.specs.KernelParts.{KernelParts}
 use Rattle.ipc_shell.specs.ScriptLines.{lines_of, longest_line}
+use Rattle.ipc_shell.specs.Failing.{most_lines}
 use Rattle.ipc_shell.specs.Reading.{ReadsLine}
 use Rattle.ipc_shell.specs.Running.{RunsLine, TakesLine, TakesLines, EndsLine}
 use Rattle.ipc_shell.specs.declared.lines.NextLine.TheVariants as next
@@ -29,9 +30,18 @@ pub record TakenOf (start : KernelParts) (bytes rest : List ℕ) (printed_before
 abbrev pub SoFar : KernelParts → Option (List ℕ) → Option (List ℕ) → Option (List ℕ) → Option (List ℕ) → KernelParts → ℕ → Type 0
 SoFar start bytes rest before now kernel number = IfSome bytes (λ bytes. IsSomeAnd rest (λ rest. TakenOf start bytes rest before now kernel number))
 
-pub none_taken : (start : KernelParts) (bytes before : Option (List ℕ)) → SoFar start bytes bytes before before start 1
-none_taken start None before = tt
-none_taken start (Some bytes) before = record { before = []; text = []; lines_are = refl; number_is = refl; taken = (refl, refl); appended = Appends-nil before }
+pub none_taken : (start : KernelParts) (bytes before : Option (List ℕ)) (held : List ℕ) → held ≡ [] → SoFar start bytes (prepend_known held bytes) before before start 1
+none_taken start None before held none = tt
+none_taken start (Some bytes) before [] none = record { before = []; text = []; lines_are = refl; number_is = refl; taken = (refl, refl); appended = Appends-nil before }
+none_taken start (Some bytes) before (x ∷ xs) none = absurd (omega (arith, ap length none))
+
+-- so many lines stand before one of this number
+pub many_taken : (start : KernelParts) (bytes rest before now : Option (List ℕ)) (kernel : KernelParts) (number : ℕ) → SoFar start bytes rest before now kernel number → most_lines < number
+    → IfSome bytes (λ bytes. most_lines ≤ length (lines_of bytes))
+many_taken start None rest before now kernel number so_far many = tt
+many_taken start (Some bytes) None before now kernel number so_far many = absurd so_far
+many_taken start (Some bytes) (Some rest) before now kernel number so_far many =
+    omega (arith, ap length so_far.lines_are, length-append so_far.before (lines_of rest), so_far.number_is, many)
 
 -- a line that is not empty spells a command
 pub takes_filled : (old new : KernelParts) (line text : List ℕ) → 0 < length line → length line ≤ longest_line → RunsLine old line text new → TakesLine old line text new
@@ -76,3 +86,13 @@ one_command start kernel new line number before now after (Some bytes) None left
 one_command start kernel new line number before now after (Some bytes) (Some rest) left some so_far read (text, runs, appended) =
     one_more start kernel new line text number before now after (Some bytes) (Some rest) left so_far read
     (takes_filled kernel new line text some (short_line (Some rest) left line read) runs) appended
+
+-- a line that was read is no failure
+pub line_is_no_failure : next.Line ≢ next.Failed
+line_is_no_failure is = absurd (search rules)
+
+pub none_is_not_some : {X : Type 0} {x : X} (value : Option X) → value ≡ None → value ≡ Some x → ⊥
+none_is_not_some value none some = cc
+
+pub some_injective : {X : Type 0} {x y : X} → Some x ≡ Some y → x ≡ y
+some_injective is = cc

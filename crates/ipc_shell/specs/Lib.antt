@@ -5,4 +5,5 @@ pub mod Answers
 pub mod Printing
 pub mod Running
 pub mod Putting
+pub mod Failing
 pub mod Exits

@@ -2,7 +2,7 @@
 use Rattle.std.specs.Prelude.{◌≡◌, ◌≢◌, ℕ, ◌+◌, ◌<◌, ◌≤◌, List, [], ◌∷◌, ◌++◌, Bool, true, false, Option, length, take, IfSome}
 use Rattle.std.specs.List.{All}
 use Rattle.std.specs.Option.{IsSomeAnd}
-use Rattle.std.specs.Io.KnownBytes.{Keeps, Consumes, IsAtEnd}
+use Rattle.std.specs.Io.KnownBytes.{Consumes, IsAtEnd}
 use Rattle.ipc_shell.specs.ScriptLines.{lines_of, longest_line}
 use Rattle.ipc_shell.specs.declared.lines.NextLine.{NextLine}
 use Rattle.ipc_shell.specs.declared.lines.NextLine.TheVariants as next
@@ -32,7 +32,6 @@ ReadsPiece old new before line piece.Part = (part : List ℕ) × (line ≡ befor
 ReadsPiece old new before line piece.LineEnd = (part : List ℕ) × (line ≡ before ++ part) × IsOneLine part × Consumes old new (part ++ 10 ∷ []) × (length before ≤ longest_line → length line ≤ longest_line)
 ReadsPiece old new before line piece.TooLong = (part : List ℕ) × IsOneLine part × (longest_line < length (before ++ part)) × IfSome old (λ bytes. (rest : List ℕ) × (bytes ≡ part ++ rest))
 ReadsPiece old new before line piece.InputEnd = (line ≡ before) × Consumes old new [] × IsAtEnd old
-ReadsPiece old new before line piece.Interrupted = (line ≡ before) × Keeps old new
 ReadsPiece old new before line piece.Failed = Unit {0}
 ReadsPiece old new before line piece.NoMemory = Unit {0}
 
@@ -42,7 +41,6 @@ Adds before line chunk taken piece.Part = (line ≡ before ++ take taken chunk) 
 Adds before line chunk taken piece.LineEnd = (part : List ℕ) × (take taken chunk ≡ part ++ 10 ∷ []) × (line ≡ before ++ part) × IsOneLine part × (length before ≤ longest_line → length line ≤ longest_line)
 Adds before line chunk taken piece.TooLong = IsOneLine (take taken chunk) × (longest_line < length (before ++ take taken chunk))
 Adds before line chunk taken piece.InputEnd = (line ≡ before) × (taken ≡ 0) × (length chunk ≡ 0)
-Adds before line chunk taken piece.Interrupted = ⊥
 Adds before line chunk taken piece.Failed = Unit {0}
 Adds before line chunk taken piece.NoMemory = Unit {0}
 

@@ -1,10 +1,10 @@
 -- The run of a script: its lines, and what is printed.
 use Rattle.std.specs.Prelude.{◌≡◌, ◌≢◌, ℕ, ◌+◌, ◌<◌, ◌≤◌, min, List, [], ◌∷◌, ◌++◌, Option, Some, None, IfSome, length, ◌⊎◌}
 use Rattle.std.specs.Io.KnownBytes.{Appends}
+use Rattle.ipc_words.specs.Limits.{max_entries, max_calls}
 use Rattle.ipc_core.specs.KernelParts.{KernelParts}
 use Rattle.ipc_core.specs.Obeying.{empty_kernel}
 use Rattle.ipc_core.specs.declared.kernel.Limits.{Limits}
-use Rattle.ipc_core.specs.declared.kernel.TheConstants.{MAX_ENTRIES, MAX_CALLS}
 use Rattle.ipc_lines.specs.Commands.{IsCommand, command_text}
 use Rattle.ipc_lines.specs.declared.commands.Command.{Command}
 use Rattle.ipc_shell.specs.Printing.{Answers}
@@ -14,7 +14,7 @@ use Rattle.ipc_shell.specs.declared.exit.Exit.TheVariants.{Done, BadLine, NoMemo
 
 -- the kernel that a script begins with: more than the greatest limits counts as those
 abbrev pub first_kernel : Limits → KernelParts
-first_kernel limits = empty_kernel (min limits.entries MAX_ENTRIES) (min limits.calls MAX_CALLS)
+first_kernel limits = empty_kernel (min limits.entries max_entries) (min limits.calls max_calls)
 
 -- a line that spells a command: the kernel obeys it, and this is printed
 pub record RunsLine (old : KernelParts) (line text : List ℕ) (new : KernelParts) : Type 0 where

@@ -1,5 +1,6 @@
 -- Our choice (docs/FORMATS.md): the lines of a script.
 use Rattle.std.specs.Prelude.{ℕ, List, [], ◌∷◌, if◌then◌else◌, ◌==◌}
+use Rattle.ipc_words.specs.Limits.{max_line_bytes}
 
 -- a byte before the first line
 abbrev pub before_first : ℕ → List (List ℕ) → List (List ℕ)
@@ -13,4 +14,4 @@ lines_of (byte ∷ bytes) = (if byte == 10 then [] ∷ lines_of bytes else befor
 
 -- the most bytes of a line, without its newline
 abbrev pub longest_line : ℕ
-longest_line = 2105343
+longest_line = max_line_bytes

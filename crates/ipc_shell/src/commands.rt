@@ -4,9 +4,6 @@ ghost use Rattle.ipc_shell.specs.KernelCommands.{kernel_command};
 
 use ipc_lines::{Command, command_is_readable};
 
-/// The greatest number and space that a command of a script hands on; more counts as that.
-const MAX_NUMBER: u64 = 65_535;
-
 /// What a command of a script asks of the kernel.
 pub fn kernel_command(command: Command) -> ipc_core::Command
     ensures asks { result ≡ kernel_command command }
@@ -14,12 +11,7 @@ pub fn kernel_command(command: Command) -> ipc_core::Command
 {
     command_is_readable(&command);
     match command {
-        Command::Open { number, space } => {
-            ipc_core::Command::Open {
-                number: number.min(MAX_NUMBER) as u32,
-                space: space.min(MAX_NUMBER) as u32,
-            }
-        }
+        Command::Open { number, space } => ipc_core::Command::Open { number, space },
         Command::Call(thread, call) => ipc_core::Command::Enter(thread, call),
         Command::Exreg {
             thread,

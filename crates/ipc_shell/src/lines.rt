@@ -1,23 +1,17 @@
-ghost use Rattle.std.specs.Prelude.{◌≤◌, length};
+ghost use Rattle.std.specs.Prelude.{◌≡◌, ◌≢◌, ◌≤◌, ◌<◌, length};
+ghost use Rattle.std.specs.Io.KnownBytes.{prepend_known};
+ghost use Rattle.ipc_ports.specs.Ports.{most_left};
 ghost use Rattle.ipc_shell.specs.Reading.{ReadsLine, ReadsPiece, Adds, IsCut};
 
-use std::io::{BufRead, ErrorKind};
-
-/// The longest line, in bytes without its newline.
-pub const MAX_LINE: usize = 2_105_343;
-
-/// So many interrupted reads in a row are a failed device.
-const MAX_INTERRUPTED: u32 = 1000;
-
-/// After so many reads the device counts as failed.
-const MAX_READS: u64 = 0x8000_0000_0000_0000;
+use ipc_ports::{PieceBuffer, PortRead};
+use ipc_words::limits::MAX_LINE_BYTES;
 
 /// What was read next.
 #[derive(Clone, Copy, PartialEq, Eq, Debug)]
 pub enum NextLine {
     /// A line, without its newline.
     Line,
-    /// A line that is longer than [`MAX_LINE`]; it is not kept whole.
+    /// A line that is longer than [`MAX_LINE_BYTES`]; it is not kept whole.
     TooLong,
     /// The end of the input.
     End,
@@ -38,71 +32,69 @@ enum Piece {
     TooLong,
     /// The end of the input.
     InputEnd,
-    /// The read was interrupted, and took nothing.
-    Interrupted,
     /// The read failed.
     Failed,
     /// No memory.
     NoMemory,
 }
 
-/// Reads the next line. The last one may lack its newline.
-pub fn next_line<R: BufRead>(reader: &mut R, line: &mut Vec<u8>) -> NextLine
-    ensures { ReadsLine (R.remaining reader.old) (R.remaining reader.new) line.new.items result }
+/// Reads the next line, through a buffer. The last one may lack its newline.
+pub fn next_line<P: PortRead>(
+    port: &mut P,
+    buffer: &mut PieceBuffer,
+    line: &mut Vec<u8>,
+) -> NextLine
+    ensures line { ReadsLine (prepend_known buffer.old (P.remaining port.old))
+        (prepend_known buffer.new (P.remaining port.new)) line.new.items result }
+    ensures failed { result ≡ NextLine.Failed → P.failures port.old < P.failures port.new }
+    ensures kept { result ≢ NextLine.Failed → P.failures port.new ≡ P.failures port.old }
 {
     line.clear();
-    let mut interrupted = 0u32;
-    'reads: for _ in 0..MAX_READS {
-        match next_piece(reader, line) {
-            Piece::Part => interrupted = 0,
+    'reads: loop {
+        match next_piece(port, buffer, line) {
+            Piece::Part => {}
             Piece::LineEnd => return NextLine::Line,
             Piece::TooLong => return NextLine::TooLong,
             Piece::InputEnd if line.is_empty() => return NextLine::End,
             Piece::InputEnd => return NextLine::Line,
-            Piece::Interrupted => {
-                interrupted = interrupted.saturating_add(1);
-                if interrupted >= MAX_INTERRUPTED {
-                    return NextLine::Failed;
-                }
-            }
             Piece::Failed => return NextLine::Failed,
             Piece::NoMemory => return NextLine::NoMemory,
         }
     }
-    NextLine::Failed
 }
 
 /// Reads a part of a line.
-fn next_piece<R: BufRead>(reader: &mut R, line: &mut Vec<u8>) -> Piece
-    ensures { ReadsPiece (R.remaining reader.old) (R.remaining reader.new)
-        line.old.items line.new.items result }
+fn next_piece<P: PortRead>(port: &mut P, buffer: &mut PieceBuffer, line: &mut Vec<u8>) -> Piece
+    ensures piece { ReadsPiece (prepend_known buffer.old (P.remaining port.old))
+        (prepend_known buffer.new (P.remaining port.new)) line.old.items line.new.items result }
+    ensures failed { result ≡ Piece.Failed → P.failures port.old < P.failures port.new }
+    ensures kept { result ≢ Piece.Failed → P.failures port.new ≡ P.failures port.old }
+    ensures fewer { result ≡ Piece.Part → most_left (P.reads_left port.new) buffer.new
+        < most_left (P.reads_left port.old) buffer.old }
 {
-    let chunk = match reader.fill_buf() {
-        Ok(chunk) => chunk,
-        Err(error) => {
-            return if error.kind() == ErrorKind::Interrupted {
-                Piece::Interrupted
-            } else {
-                Piece::Failed
-            };
+    match buffer.fill(port) {
+        Ok(()) => {
+            let (taken, piece) = append(line, buffer.bytes());
+            buffer.consume(taken);
+            piece
         }
-    };
-    let (taken, piece) = append(line, chunk);
-    reader.consume(taken);
-    piece
+        Err(_) => Piece::Failed,
+    }
 }
 
 /// Appends what a chunk has of the line; answers how many of its bytes are done with.
 fn append(line: &mut Vec<u8>, chunk: &[u8]) -> (usize, Piece)
     ensures within { result.0 ≤ length chunk.now }
     ensures adds { Adds line.old.items line.new.items chunk.now result.0 result.1 }
+    ensures some { result.1 ≡ Piece.Part → 0 < result.0 }
+    ensures reads { result.1 ≢ Piece.Failed }
 {
     if chunk.is_empty() {
         return (0, Piece::InputEnd);
     }
     let (end, is_whole) = cut(chunk);
     let text = &chunk[..end];
-    if text.len() > MAX_LINE.saturating_sub(line.len()) {
+    if text.len() > MAX_LINE_BYTES.saturating_sub(line.len()) {
         return (end, Piece::TooLong);
     }
     match line.extend_from_slice(text) {

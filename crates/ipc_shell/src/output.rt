@@ -1,38 +1,21 @@
-ghost use Rattle.ipc_shell.specs.Putting.{Puts};
+ghost use Rattle.std.specs.Prelude.{◌≡◌, ◌<◌, OnOk, OnErr, true};
+ghost use Rattle.std.specs.Io.KnownBytes.{Appends};
+ghost use Rattle.ipc_shell.specs.Putting.{AppendsFront};
 
-use std::io::{ErrorKind, Write};
+use ipc_ports::{PortFault, PortWrite, write_all};
 
-/// After so many writes of one text the device counts as failed.
-const MAX_WRITES: u64 = 0x8000_0000_0000_0000;
-
-/// Writes a text and flushes: whether both are done. Where not, a front of the text may stand written.
-pub fn put<W: Write>(writer: &mut W, text: &[u8]) -> bool
-    ensures { Puts (W.contents writer.old) (W.contents writer.new) text.now result }
+/// Writes a text and flushes.
+///
+/// # Errors
+///
+/// F10, F11: the count of failures rose in this call; a front of the text may stand written.
+pub fn put<P: PortWrite>(port: &mut P, text: &[u8]) -> Result<(), PortFault>
+    ensures whole { OnOk result (Appends (P.written port.old) (P.written port.new) text.now) }
+    ensures part { OnErr result (AppendsFront (P.written port.old) (P.written port.new) text.now) }
+    ensures flushed { OnOk result (P.flushed port.new ≡ true) }
+    ensures failed { OnErr result (P.failures port.old < P.failures port.new) }
+    ensures kept { OnOk result (P.failures port.new ≡ P.failures port.old) }
 {
-    if !put_all(writer, text) {
-        return false;
-    }
-    writer.flush().is_ok()
-}
-
-// Writes a text. A write that was interrupted is tried again.
-fn put_all<W: Write>(writer: &mut W, text: &[u8]) -> bool
-    ensures { Puts (W.contents writer.old) (W.contents writer.new) text.now result }
-{
-    let mut rest = text;
-    'writes: for _ in 0..MAX_WRITES {
-        if rest.is_empty() {
-            return true;
-        }
-        match writer.write(rest) {
-            Ok(0) => return false,
-            Ok(count) => rest = &rest[count..],
-            Err(error) => {
-                if error.kind() != ErrorKind::Interrupted {
-                    return false;
-                }
-            }
-        }
-    }
-    false
+    write_all(port, text)?;
+    port.flush()
 }

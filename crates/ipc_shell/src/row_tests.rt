@@ -1,6 +1,7 @@
 use super::exit::Exit;
 use super::running::run_script;
 use ipc_core::{Limits, MAX_CALLS, MAX_ENTRIES};
+use ipc_ports::MemoryPort;
 use std::alloc::Global;
 use std::process::Abort;
 use std::test::Fail;
@@ -13,11 +14,10 @@ fn assert_row(rt: &impl Abort, alloc: Global, entries: u64, script: &str, text: 
         entries,
         calls: MAX_CALLS,
     };
-    let mut reader = script.as_bytes();
-    let mut written = Vec::new(alloc);
-    let ended = run_script(alloc, limits, &mut reader, &mut written);
+    let mut writer = MemoryPort::new(alloc, &[]);
+    let ended = run_script(alloc, limits, &mut script.as_bytes(), &mut writer);
     assert_eq!(rt; ended, Exit::Done);
-    assert_eq!(rt; written.as_slice(), text.as_bytes());
+    assert_eq!(rt; writer.output(), Some(text.as_bytes()));
 }
 
 // The same where each `~` stands for so many bytes of a string.

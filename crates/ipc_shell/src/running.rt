@@ -1,3 +1,5 @@
+ghost use Rattle.std.specs.Prelude.{◌≡◌, ◌≢◌, ◌+◌, ◌<◌, IsNone, Some, true};
+ghost use Rattle.ipc_shell.specs.Failing.{HasFailed};
 ghost use Rattle.ipc_shell.specs.Running.{first_kernel, RunsScript, EndsLine};
 
 use crate::answering::answer;
@@ -6,29 +8,37 @@ use crate::lines::{NextLine, next_line};
 use crate::output::put;
 use ipc_core::{Kernel, Limits};
 use ipc_lines::read_command;
+use ipc_ports::{PieceBuffer, PortRead, PortWrite};
 use std::alloc::Global;
-use std::io::{BufRead, Write};
 
 /// Runs a script from a reader: after each command the lines of the entries that it wrote and one answer line go to the writer,
 /// which is flushed. Empty lines are skipped, and count.
 ///
 /// Where reader and writer tell their bytes, what the writer gets is exactly what is printed of the lines read: of all at `Done`, of those
 /// before the bad one at `BadLine`, and of the first ones at `NoMemory` and `DeviceFailed`, where the last may be cut off.
-pub fn run_script<R: BufRead, W: Write>(
+///
+/// It ends as `DeviceFailed` only where a call of the reader or of the writer failed in this run, or behind 2^64 - 2 lines.
+pub fn run_script<R: PortRead, W: PortWrite>(
     alloc: Global,
     limits: Limits,
     reader: &mut R,
     writer: &mut W,
 ) -> Exit
-    ensures { RunsScript (first_kernel limits) (R.remaining reader.old)
-        (W.contents writer.old) (W.contents writer.new) result }
+    ensures runs { RunsScript (first_kernel limits) (R.remaining reader.old)
+        (W.written writer.old) (W.written writer.new) result }
+    ensures device { result ≡ Exit.DeviceFailed
+        → HasFailed (R.failures reader.old + W.failures writer.old)
+        (R.failures reader.new + W.failures writer.new) (R.remaining reader.old) }
+    ensures flushed { result ≢ Exit.DeviceFailed
+        → W.flushed writer.old ≡ true → W.flushed writer.new ≡ true }
 {
     let Ok(mut kernel) = Kernel::new(alloc, limits) else {
         return Exit::NoMemory;
     };
+    let mut buffer = PieceBuffer::new();
     let mut line = Vec::new(alloc);
     'lines: for number in 1..u64::MAX {
-        match next_line(reader, &mut line) {
+        match next_line(reader, &mut buffer, &mut line) {
             NextLine::Line if line.is_empty() => {}
             NextLine::Line => {
                 if let Some(exit) = run_line(alloc, &mut kernel, &line, number, writer) {
@@ -45,15 +55,20 @@ pub fn run_script<R: BufRead, W: Write>(
 }
 
 /// Runs the command of a line, and writes what it gives. None where the script goes on.
-fn run_line<W: Write>(
+fn run_line<W: PortWrite>(
     alloc: Global,
     kernel: &mut Kernel,
     line: &[u8],
     number: u64,
     writer: &mut W,
 ) -> Option<Exit>
-    ensures { EndsLine kernel.old kernel.new (W.contents writer.old) (W.contents writer.new)
+    ensures ends { EndsLine kernel.old kernel.new (W.written writer.old) (W.written writer.new)
         line.now number result }
+    ensures failed { result ≡ Some Exit.DeviceFailed
+        → W.failures writer.old < W.failures writer.new }
+    ensures kept { IsNone result → W.failures writer.new ≡ W.failures writer.old }
+    ensures flushed { result ≢ Some Exit.DeviceFailed
+        → W.flushed writer.old ≡ true → W.flushed writer.new ≡ true }
 {
     let Ok(command) = read_command(alloc, line) else {
         return Some(Exit::NoMemory);
@@ -64,9 +79,8 @@ fn run_line<W: Write>(
     let Ok(text) = answer(alloc, kernel, command) else {
         return Some(Exit::NoMemory);
     };
-    if put(writer, text.as_bytes()) {
-        None
-    } else {
-        Some(Exit::DeviceFailed)
+    match put(writer, text.as_bytes()) {
+        Ok(()) => None,
+        Err(_) => Some(Exit::DeviceFailed),
     }
 }

@@ -1,10 +1,9 @@
 use super::exit::Exit;
-use super::lines::MAX_LINE;
+use ipc_words::limits::MAX_LINE_BYTES;
 use super::running::run_script;
 use ipc_core::Limits;
+use ipc_ports::{MemoryPort, PortRead, Trouble};
 use std::alloc::Global;
-use std::io;
-use std::io::{BufReader, ErrorKind, Read, Write};
 use std::process::Abort;
 use std::test::Fail;
 
@@ -16,11 +15,21 @@ const LIMITS: Limits = Limits {
 
 // A script ends so, and prints this text.
 fn assert_run(rt: &impl Abort, alloc: Global, script: &str, exit: Exit, text: &str) {
-    let mut reader = script.as_bytes();
-    let mut written = Vec::new(alloc);
-    let ended = run_script(alloc, LIMITS, &mut reader, &mut written);
-    assert_eq!(rt; ended, exit);
-    assert_eq!(rt; written.as_slice(), text.as_bytes());
+    let mut writer = MemoryPort::new(alloc, &[]);
+    assert_ends(rt, alloc, &mut script.as_bytes(), &mut writer, exit, text);
+}
+
+// A script that a port gives ends so, and prints this text to another.
+fn assert_ends<P: PortRead>(
+    rt: &impl Abort,
+    alloc: Global,
+    reader: &mut P,
+    writer: &mut MemoryPort<'_>,
+    exit: Exit,
+    text: &str,
+) {
+    assert_eq!(rt; run_script(alloc, LIMITS, reader, writer), exit);
+    assert_eq!(rt; writer.output(), Some(text.as_bytes()));
 }
 
 // A script ends at its end, and prints this text after its opens of 1 and 2 in space 1.
@@ -31,84 +40,9 @@ fn assert_two(rt: &impl Abort, alloc: Global, script: &str, text: &str) -> Resul
     Ok(())
 }
 
-// Gives one byte a read, after so many reads that are interrupted; fails in place of the end where it is broken.
-#[derive(Drop)]
-struct Slow {
-    script: &'static [u8],
-    interrupted: u32,
-    is_broken: bool,
-}
+const TWO_OPENS: &str = "open 1 1\nopen 2 1\n";
 
-impl Read for Slow {
-    fn read(&mut self, buf: &mut [u8]) -> io::Result<usize> {
-        if self.interrupted > 0 {
-            self.interrupted -= 1;
-            return Err(ErrorKind::Interrupted.into());
-        }
-        if self.script.is_empty() && self.is_broken {
-            return Err(ErrorKind::Other.into());
-        }
-        if self.script.is_empty() || buf.is_empty() {
-            return Ok(0);
-        }
-        buf[0] = self.script[0];
-        self.script = &self.script[1..];
-        Ok(1)
-    }
-}
-
-// Takes three bytes a write, after so many writes that are interrupted, and fails where it is full; counts its flushes.
-#[derive(Drop)]
-struct Full {
-    taken: Vec<u8>,
-    room: usize,
-    interrupted: u32,
-    flushes: u32,
-}
-
-impl Write for Full {
-    fn write(&mut self, buf: &[u8]) -> io::Result<usize> {
-        if self.interrupted > 0 {
-            self.interrupted -= 1;
-            return Err(ErrorKind::Interrupted.into());
-        }
-        let count = buf.len().min(3).min(self.room);
-        if count == 0 {
-            return Err(ErrorKind::StorageFull.into());
-        }
-        self.taken.extend_from_slice(&buf[..count])?;
-        self.room -= count;
-        Ok(count)
-    }
-
-    fn flush(&mut self) -> io::Result<()> {
-        self.flushes = self.flushes.saturating_add(1);
-        Ok(())
-    }
-}
-
-// A script of two opens ends so where it is written here.
-fn assert_written(rt: &impl Abort, alloc: Global, writer: &mut Full, exit: Exit, text: &str) {
-    let mut reader = "open 1 1\nopen 2 1\n".as_bytes();
-    let ended = run_script(alloc, LIMITS, &mut reader, writer);
-    assert_eq!(rt; ended, exit);
-    assert_eq!(rt; writer.taken.as_slice(), text.as_bytes());
-}
-
-// A script that is read slowly ends so, and prints this text.
-fn assert_slow(
-    rt: &impl Abort,
-    alloc: Global,
-    slow: Slow,
-    exit: Exit,
-    text: &str,
-) -> Result<(), Fail> {
-    let mut reader = BufReader::new(alloc, slow)?;
-    let mut written = Vec::new(alloc);
-    assert_eq!(rt; run_script(alloc, LIMITS, &mut reader, &mut written), exit);
-    assert_eq!(rt; written.as_slice(), text.as_bytes());
-    Ok(())
-}
+const TWO_ANSWERS: &str = "opened 1.1 1\n= 1.1\nopened 2.1 1\n= 2.1\n";
 
 #[test]
 fn an_empty_script_prints_nothing(rt: HostRuntime) {
@@ -220,11 +154,10 @@ fn the_last_line_may_lack_its_newline(rt: HostRuntime) {
 
 // A script of a kernel with these limits prints this text.
 fn assert_limited(rt: &impl Abort, alloc: Global, limits: Limits, script: &str, text: &str) {
-    let mut reader = script.as_bytes();
-    let mut written = Vec::new(alloc);
-    let ended = run_script(alloc, limits, &mut reader, &mut written);
+    let mut writer = MemoryPort::new(alloc, &[]);
+    let ended = run_script(alloc, limits, &mut script.as_bytes(), &mut writer);
     assert_eq!(rt; ended, Exit::Done);
-    assert_eq!(rt; written.as_slice(), text.as_bytes());
+    assert_eq!(rt; writer.output(), Some(text.as_bytes()));
 }
 
 #[test]
@@ -253,71 +186,28 @@ fn a_call_past_the_limit_is_refused(rt: HostRuntime) {
 }
 
 #[test]
-fn interrupted_reads_change_nothing(rt: HostRuntime) -> Result<(), Fail> {
-    let slow = Slow {
-        script: b"open 1 1\nopen 2 1",
-        interrupted: 999,
-        is_broken: false,
-    };
-    let text = "opened 1.1 1\n= 1.1\nopened 2.1 1\n= 2.1\n";
-    assert_slow(&rt, rt.alloc(), slow, Exit::Done, text)
-}
-
-#[test]
-fn a_thousand_interrupted_reads_in_a_row_are_a_failed_device(rt: HostRuntime) -> Result<(), Fail> {
-    let slow = Slow {
-        script: b"open 1 1\n",
-        interrupted: 1000,
-        is_broken: false,
-    };
-    assert_slow(&rt, rt.alloc(), slow, Exit::DeviceFailed, "")
-}
-
-#[test]
-fn a_line_that_a_failed_read_cuts_off_is_no_command(rt: HostRuntime) -> Result<(), Fail> {
-    let slow = Slow {
-        script: b"open 1 1\nopen 2 1",
-        interrupted: 0,
-        is_broken: true,
-    };
-    let text = "opened 1.1 1\n= 1.1\n";
-    assert_slow(&rt, rt.alloc(), slow, Exit::DeviceFailed, text)
-}
-
-#[test]
-fn a_full_device_keeps_the_front_of_the_output(rt: HostRuntime) {
+fn interrupted_calls_change_nothing(rt: HostRuntime) {
     let alloc = rt.alloc();
-    let mut writer = Full {
-        taken: Vec::new(alloc),
-        room: 25,
-        interrupted: 0,
-        flushes: 0,
-    };
-    let text = "opened 1.1 1\n= 1.1\nopened";
-    assert_written(&rt, alloc, &mut writer, Exit::DeviceFailed, text);
-}
-
-#[test]
-fn interrupted_writes_are_tried_again_and_each_answer_is_flushed(rt: HostRuntime) {
-    let alloc = rt.alloc();
-    let mut writer = Full {
-        taken: Vec::new(alloc),
-        room: 1000,
-        interrupted: 7,
-        flushes: 0,
-    };
-    let text = "opened 1.1 1\n= 1.1\nopened 2.1 1\n= 2.1\n";
-    assert_written(&rt, alloc, &mut writer, Exit::Done, text);
-    assert_eq!(rt; writer.flushes, 2);
+    let mut reader = MemoryPort::new(alloc, TWO_OPENS.as_bytes()).byte_by_byte();
+    reader = reader.with_trouble(3, Trouble::Interrupted(999));
+    let mut writer = MemoryPort::new(alloc, &[]).with_trouble(1, Trouble::Interrupted(999));
+    assert_ends(
+        &rt,
+        alloc,
+        &mut reader,
+        &mut writer,
+        Exit::Done,
+        TWO_ANSWERS,
+    );
+    assert!(rt; writer.is_flushed());
 }
 
 #[test]
 fn a_line_past_the_limit_is_bad(rt: HostRuntime) -> Result<(), Fail> {
     let alloc = rt.alloc();
-    let script = vec![in alloc; b'a'; MAX_LINE + 1]?;
-    let mut reader = script.as_slice();
-    let mut written = Vec::new(alloc);
-    let exit = run_script(alloc, LIMITS, &mut reader, &mut written);
+    let script = vec![in alloc; b'a'; MAX_LINE_BYTES + 1]?;
+    let mut writer = MemoryPort::new(alloc, &[]);
+    let exit = run_script(alloc, LIMITS, &mut script.as_slice(), &mut writer);
     assert_eq!(rt; exit, Exit::BadLine(1));
     Ok(())
 }
@@ -363,39 +253,52 @@ fn lines_that_spell_no_command_are_bad(rt: HostRuntime) {
     }
 }
 
-#[test]
-fn each_write_that_fails_leaves_a_front(rt: HostRuntime) {
-    let alloc = rt.alloc();
-    let text = "opened 1.1 1\n= 1.1\nopened 2.1 1\n= 2.1\n".as_bytes();
-    for room in 0..text.len() {
-        let mut reader = "open 1 1\nopen 2 1\n".as_bytes();
-        let mut writer = Full {
-            taken: Vec::new(alloc),
-            room,
-            interrupted: 0,
-            flushes: 0,
-        };
-        let ended = run_script(alloc, LIMITS, &mut reader, &mut writer);
-        assert_eq!(rt; ended, Exit::DeviceFailed);
-        assert_eq!(rt; writer.taken.as_slice(), &text[..room]);
-    }
+// Where the call of this number fails, the run ends so, and this much of the text is written.
+fn assert_stops(rt: &impl Abort, alloc: Global, call: u64, trouble: Trouble, count: usize) {
+    let mut reader = TWO_OPENS.as_bytes();
+    let mut writer = MemoryPort::new(alloc, &[]).byte_by_byte();
+    writer = writer.with_trouble(call, trouble);
+    let text = TWO_ANSWERS.as_bytes();
+    assert_eq!(rt;
+        run_script(alloc, LIMITS, &mut reader, &mut writer),
+        Exit::DeviceFailed
+    );
+    assert_eq!(rt; writer.output(), Some(&text[..count.min(text.len())]));
 }
 
 #[test]
-fn each_read_that_fails_leaves_the_output_of_whole_lines(rt: HostRuntime) -> Result<(), Fail> {
-    let script: &'static [u8] = b"open 1 1\nopen 2 1\n";
-    for read in 0..script.len() {
-        let slow = Slow {
-            script: &script[..read],
-            interrupted: 0,
-            is_broken: true,
-        };
-        let text = if read < 9 {
-            ""
+fn each_write_and_flush_that_fails_leaves_a_front(rt: HostRuntime) {
+    // 19 bytes are written, flushed, and 19 more.
+    for call in 0..40u64 {
+        let count = if call < 20 {
+            call.min(19)
         } else {
-            "opened 1.1 1\n= 1.1\n"
+            (call - 1).min(38)
         };
-        assert_slow(&rt, rt.alloc(), slow, Exit::DeviceFailed, text)?;
+        assert_stops(&rt, rt.alloc(), call, Trouble::Fails, count as usize);
     }
-    Ok(())
+    assert_stops(&rt, rt.alloc(), 7, Trouble::Interrupted(1000), 7);
+}
+
+#[test]
+fn each_read_that_fails_leaves_the_output_of_whole_lines(rt: HostRuntime) {
+    let alloc = rt.alloc();
+    for call in 0..19u64 {
+        let mut reader = MemoryPort::new(alloc, TWO_OPENS.as_bytes()).byte_by_byte();
+        reader = reader.with_trouble(call, Trouble::Fails);
+        let mut writer = MemoryPort::new(alloc, &[]);
+        let text = match call {
+            0..9 => "",
+            9..18 => "opened 1.1 1\n= 1.1\n",
+            _ => TWO_ANSWERS,
+        };
+        assert_ends(
+            &rt,
+            alloc,
+            &mut reader,
+            &mut writer,
+            Exit::DeviceFailed,
+            text,
+        );
+    }
 }

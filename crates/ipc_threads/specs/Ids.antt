@@ -1,11 +1,12 @@
 -- Numbers, spaces and ids of threads.
 use Rattle.std.specs.Prelude.{ℕ, Bool, ◌≤◌, ◌+◌, ◌*◌, ◌^◌, ◌&&◌, nat_le}
+use Rattle.ipc_words.specs.Limits.{max_thread_number, max_space}
 
 abbrev pub is_thread_number : ℕ → Bool
-is_thread_number number = nat_le 1 number && nat_le number 255
+is_thread_number number = nat_le 1 number && nat_le number max_thread_number
 
 abbrev pub is_space : ℕ → Bool
-is_space space = nat_le 1 space && nat_le space 64
+is_space space = nat_le 1 space && nat_le space max_space
 
 -- the id of a number and a version
 abbrev pub id_of : ℕ → ℕ → ℕ
@@ -13,4 +14,4 @@ id_of number version = number * 2 ^ 32 + version
 
 -- a thread may have this number and live in this space
 abbrev pub IsPlace : ℕ → ℕ → Type 0
-IsPlace number space = (1 ≤ number) × (number ≤ 255) × (1 ≤ space) × (space ≤ 64)
+IsPlace number space = (1 ≤ number) × (number ≤ max_thread_number) × (1 ≤ space) × (space ≤ max_space)

@@ -2,6 +2,7 @@
 use Rattle.std.specs.Prelude.{◌≡◌, ◌<◌, ℕ, Bool, List, Option, Some, None, not, ◌&&◌, ◌%◌, ◌==◌}
 use Rattle.std.specs.Prelude.{find, if◌then◌else◌, is_some, length, option_map}
 use Rattle.std.specs.Prelude.{slice_index_or, take, unwrap_or}
+use Rattle.ipc_words.specs.Limits.{table_slots}
 use Rattle.ipc_threads.specs.Ids.{is_thread_number}
 use Rattle.ipc_threads.specs.Threads.{slot_of}
 use Rattle.ipc_threads.specs.declared.table.Slot.{Slot}
@@ -35,6 +36,6 @@ IsFirstFault pairs refusal = (k : ℕ) × (k < length pairs) × (fault_at pairs 
 
 -- each number has the version that the pairs give it, 0 where they give none, and no live thread
 pub record IsRestoredFrom (pairs : List (ℕ × ℕ)) (table : List Slot) : Type 0 where
-  pub size : length table ≡ 256
+  pub size : length table ≡ table_slots
   pub slots : (number : ℕ)
       → slot_of table number ≡ record { last = unwrap_or (given pairs number) 0; space = None }

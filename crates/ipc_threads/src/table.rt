@@ -2,22 +2,15 @@
 ghost use Rattle.std.specs.Prelude.{◌≡◌, ◌==◌, ◌<◌, ◌↔◌, ℕ, not, length, replicate, slice_set};
 ghost use Rattle.std.specs.Prelude.{IsNone, IsTrue, IsSome, IfErr, IfOk, OnOk, OnErr, None, Some};
 ghost use Rattle.std.specs.Bool.{OnTrue, OnFalse};
+ghost use Rattle.ipc_words.specs.Limits.{table_slots};
 ghost use Rattle.ipc_words.specs.ThreadId.{number_of, version_of};
 ghost use Rattle.ipc_words.specs.Version.{next_version_of};
 ghost use Rattle.ipc_threads.specs.Ids.{IsPlace, id_of, is_space, is_thread_number};
 
 use crate::ThreadRefusal;
+use ipc_words::limits::{MAX_SPACE, MAX_THREAD_NUMBER, TABLE_SLOTS};
 use ipc_words::{ThreadId, next_version};
 use std::marker::Model;
-
-// To move to the crate of the words.
-const MAX_THREAD_NUMBER: u32 = 255;
-
-// To move to the crate of the words.
-const MAX_SPACE: u32 = 64;
-
-// One slot for each number, 0 among them, which no thread has.
-const SLOTS: usize = 256;
 
 /// What a table keeps of one number.
 #[derive(Clone, Copy, PartialEq, Eq, Debug)]
@@ -31,7 +24,7 @@ pub struct Slot {
 /// The threads by their numbers, seen as the list of the slots of the numbers 0 to 255.
 #[derive(Drop)]
 pub struct ThreadTable {
-    slots: [Slot; SLOTS],
+    slots: [Slot; TABLE_SLOTS],
     live: u32,
 }
 
@@ -55,13 +48,13 @@ impl ThreadTable {
 
     /// A table of which no number had a version yet.
     pub fn new() -> ThreadTable
-        ensures { result ≡ replicate 256 blank }
+        ensures { result ≡ replicate table_slots blank }
     {
         ThreadTable {
             slots: [Slot {
                 last: 0,
                 space: None,
-            }; SLOTS],
+            }; TABLE_SLOTS],
             live: 0,
         }
     }
@@ -85,7 +78,7 @@ impl ThreadTable {
     }
 
     fn restore_number(&mut self, number: u32, version: u32) -> Result<(), ThreadRefusal>
-        requires size { length self.old ≡ 256 }
+        requires size { length self.old ≡ table_slots }
         requires quiet { live_count self.old ≡ 0 }
         ensures quiet { live_count self.new ≡ 0 }
         ensures set { OnOk result (self.new ≡ slice_set self.old number

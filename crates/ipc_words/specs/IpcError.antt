@@ -1,6 +1,6 @@
 -- L4 X.2 manual, ErrorCode: the phase that failed, and what went wrong in it.
 use Rattle.std.specs.Prelude.{ℕ, Option, Some, None, ◌==◌, if◌then◌else◌}
-use Rattle.ipc_words.specs.ErrorCode.{phase_bit}
+use Rattle.ipc_words.specs.ErrorCode.{error_code, phase_bit}
 use Rattle.ipc_words.specs.declared.ipc_error.Phase.{Phase}
 use Rattle.ipc_words.specs.declared.ipc_error.Phase.TheVariants.{Send, Receive}
 use Rattle.ipc_words.specs.declared.ipc_error.ErrorKind.{ErrorKind}
@@ -18,6 +18,10 @@ code_of_kind NonExistingPartner = 2
 code_of_kind Cancelled = 3
 code_of_kind MessageOverflow = 4
 code_of_kind Aborted = 7
+
+-- the code of what went wrong in a phase, at an offset
+abbrev pub failure_code : Phase → ErrorKind → ℕ → ℕ
+failure_code phase kind offset = error_code (bit_of_phase phase) (code_of_kind kind) offset
 
 -- the phase of an error code
 abbrev pub phase_of : ℕ → Phase

@@ -1,4 +1,5 @@
 pub mod Bits
+pub mod Limits
 pub mod ThreadId
 pub mod ThreadIdKind
 pub mod MsgTag

@@ -23,3 +23,7 @@ longest_span = 2_196_875_771_904
 -- the period that a time of 16 bits holds; none where bit 15 is 1, which is a time point
 abbrev pub period_in : ℕ → Option ℕ
 period_in time = (if nat_lt time (2 ^ 15) then Some time else None)
+
+-- the word of zero time that stands for all: e is 1 and m is 0
+abbrev pub no_time : ℕ
+no_time = 0x400

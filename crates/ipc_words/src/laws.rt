@@ -1,6 +1,10 @@
 //! Laws of the words, each a function that computes nothing and whose contract is the law: a word and its fields determine
 //! each other, and what follows for the values made of them.
 ghost use Rattle.ipc_words.specs.Laws.{TagIsSumOfFields, FieldsOfTagReadBack, ReceivedTagReadsBack, IdIsSumOfFields, FieldsOfIdReadBack, GlobalIdIsGlobal, GlobalKindIsOfGlobalId, PeriodIsSumOfFields, FieldsOfPeriodReadBack, SpanOfPeriod, OnlyNeverHasNoSpan, SpanIsBounded, TimeoutsAreSumOfTimes, TimesOfTimeoutsReadBack, PeriodsOfTimeoutsReadBack, ErrorIsSumOfFields, FieldsOfErrorReadBack, PhaseAndKindReadBack, MaskedControlKeepsBits, MaskedControlHasNoOtherBit, MaskedControlIsItsBits, BitsOfControlReadBack, NextVersionIsLeast, OnlyLastVersionHasNoNext};
+ghost use Rattle.std.specs.Prelude.{◌≡◌, Some};
+ghost use Rattle.ipc_words.specs.Time.{span, no_time};
+
+use crate::period::Period;
 
 /// A tag's word is the sum of its fields, each at its place.
 pub fn tag_is_sum_of_fields()
@@ -121,3 +125,12 @@ pub fn next_version_is_least()
 pub fn only_last_version_has_no_next()
     ensures { OnlyLastVersionHasNoNext }
 {}
+
+/// The periods with names, zero time and never: their words are 0x400 and 0, and zero time lasts 0 microseconds.
+pub fn named_periods() -> (Period, Period)
+    ensures zero { result.0 ≡ no_time }
+    ensures length { span no_time ≡ Some 0 }
+    ensures never { result.1 ≡ 0 }
+{
+    (Period::ZERO, Period::NEVER)
+}

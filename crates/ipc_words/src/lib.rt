@@ -1,10 +1,10 @@
 //! The words of the L4 X.2 manual: message tags, thread ids, times, error codes and control words.
 #![tactic(auto)]
 
-pub mod bounds;
 mod control;
 mod ipc_error;
 pub mod laws;
+pub mod limits;
 mod msg_tag;
 mod period;
 mod tag_fields;

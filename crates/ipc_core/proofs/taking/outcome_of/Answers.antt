@@ -1,7 +1,7 @@
 use Rattle.std.proofs.Common.{◌≡◌, ◌==◌, true, sym, ap, ◌∙◌, subst, refl, arith}
 use Rattle.std.specs.List.{list_any}
 use Rattle.ipc_core.specs.Copies.{TakenOut, calls_of}
-use Rattle.ipc_core.specs.Steps.{without_call}
+use Rattle.ipc_core.specs.Copies.{without_call}
 use Rattle.ipc_core.proofs.OutcomeLemmas.{small_entries, received_pair, outcome_ended}
 use Rattle.ipc_core.proofs.TakenCopies.{buffers_are, left_holds, message_is, message_there, others_stay, taken_holds}
 use Rattle.ipc_core.proofs.taking.outcome_of.Goals as goal

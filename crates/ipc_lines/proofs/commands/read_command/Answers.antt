@@ -10,8 +10,8 @@ use Rattle.ipc_lines.proofs.Options.{IfSome-weaker}
 use Rattle.ipc_lines.proofs.commands.read_command.Goals as goal
 
 -- a line past the limit is no command's
-pub returns-then-line-gt-MAX_LINE-clause-only : goal.returns-then-line-gt-MAX_LINE-clause-only
-returns-then-line-gt-MAX_LINE-clause-only c command is e = absurd (omega (arith, c.if-line-gt-MAX_LINE.true, ap length e, lines_are_within_the_limit.1 command is))
+pub returns-then-line-gt-MAX_LINE_BYTES-clause-only : goal.returns-then-line-gt-MAX_LINE_BYTES-clause-only
+returns-then-line-gt-MAX_LINE_BYTES-clause-only c command is e = absurd (omega (arith, c.if-line-gt-MAX_LINE_BYTES.true, ap length e, lines_are_within_the_limit.1 command is))
 
 pub returns-in-Some-name_of-clause-found : goal.returns-in-Some-name_of-clause-found
 returns-in-Some-name_of-clause-found c =

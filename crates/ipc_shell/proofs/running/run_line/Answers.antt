@@ -3,9 +3,9 @@ use Rattle.std.specs.String.{string_bytes}
 use Rattle.ipc_shell.specs.Running.{RunsLine}
 use Rattle.ipc_shell.proofs.running.run_line.Goals as goal
 
-pub returns : goal.returns
-returns g c =
-    let (front, (back, is, appended)) = rw c.if-put.false at c.put.ensures in
+pub returns-clause-ends : goal.returns-clause-ends
+returns-clause-ends g c =
+    let (front, (back, is, appended)) = c.in-Err.ensures.part in
     let runs : RunsLine c.args.kernel.now c.args.line.now (string_bytes c.in-Ok-answer.text) c.answer.new.kernel = record {
       command = c.in-Some.command;
       spells = rw c.in-Some.is at c.in-Ok.ensures.found;

@@ -1,7 +1,20 @@
-use Rattle.std.proofs.Common.{ap, subst}
+use Rattle.std.proofs.Common.{ap, subst, ◌≤◌, length, arith}
 use Rattle.ipc_history.specs.Paired.{Paired}
 use Rattle.ipc_laws.proofs.Promise.{paired}
+use Rattle.ipc_core.specs.Laws.{IsSound}
 use Rattle.ipc_core.proofs.kernel.Kernel.history.Goals as goal
 
 pub returns-clause-paired : goal.returns-clause-paired
 returns-clause-paired c = subst Paired (ap (λ k. k.history) c.self.view_is) (paired _ c.self.invariant.kernel.stands.legal)
+
+pub returns-clause-within : goal.returns-clause-within
+returns-clause-within c = subst (λ k. length k.history ≤ k.entries_limit) c.self.view_is (let within = c.self.invariant.kernel.stands.within in omega arith)
+
+pub returns-clause-sound : goal.returns-clause-sound
+returns-clause-sound c = subst IsSound c.self.view_is (record {
+  legal = c.self.invariant.kernel.stands.legal;
+  quiet = c.self.invariant.kernel.stands.quiet;
+  taken = c.self.invariant.books_are.taken;
+  once = c.self.invariant.books_are.once;
+  since = c.self.invariant.books_are.since;
+})

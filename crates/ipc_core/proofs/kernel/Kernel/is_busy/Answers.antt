@@ -1,9 +1,6 @@
-use Rattle.std.proofs.Common.{◌≡◌, ap, ◌∙◌, subst, ◌==◌, false, true, is_some}
-use Rattle.std.specs.List.{list_any}
-use Rattle.ipc_history.specs.Calls.{caller_of}
+use Rattle.std.proofs.Common.{◌≡◌, ap, ◌∙◌, subst, false, true, is_some}
 use Rattle.ipc_history.specs.Phases.{open_call}
-use Rattle.ipc_core.specs.Copies.{calls_of}
-use Rattle.ipc_core.specs.Steps.{is_busy}
+use Rattle.ipc_core.specs.Outcomes.{has_untaken, is_busy}
 use Rattle.ipc_core.proofs.RefusalLemmas.{busy_by_call, busy_by_outcome}
 use Rattle.ipc_core.proofs.kernel.Kernel.is_busy.Goals as goal
 
@@ -15,5 +12,4 @@ returns-then-is_some c =
 pub returns-else-is_some : goal.returns-else-is_some
 returns-else-is_some c =
     let none : is_some (open_call c.self.inside.course.entries c.args.thread) ≡ false = cc in
-    let entries_are = ap (λ l. list_any (λ n. caller_of l n == c.args.thread) (calls_of c.self.inside.copies.untaken)) c.entries-entries.ensures.entries in
-    subst (λ k. c.has_call_of.result ≡ is_busy k c.args.thread) c.self.view_is (c.has_call_of.ensures ∙ (entries_are ∙ busy_by_outcome _ c.args.thread none))
+    c.has_untaken.ensures ∙ subst (λ k. has_untaken k c.args.thread ≡ is_busy k c.args.thread) c.self.view_is (busy_by_outcome _ c.args.thread none)

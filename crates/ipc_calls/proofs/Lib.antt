@@ -1,0 +1,10 @@
+pub mod ItemLemmas
+pub mod NormalLemmas
+pub mod CallLemmas
+pub mod HeldLemmas
+pub mod FillLemmas
+pub mod HearLemmas
+pub mod WordLemmas
+pub mod AtLemmas
+pub mod TakeLemmas
+pub mod HearingLemmas

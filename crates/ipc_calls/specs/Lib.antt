@@ -1,0 +1,7 @@
+pub mod Reads
+pub mod CallOf
+pub mod Frames
+pub mod Hearing
+pub mod Taking
+pub mod Holding
+pub mod Laws

@@ -1,0 +1,253 @@
+ghost use Rattle.std.specs.Prelude.{◌≡◌, ◌<◌, ◌≤◌, ◌+◌, ◌*◌, ◌^◌, ◌++◌, ◌==◌, ℕ, List, [], length, take, drop, OnErr, OnOk, if◌then◌else◌};
+ghost use Rattle.ipc_frame.specs.Numbers.{IsBytes, number_in, words_in};
+ghost use Rattle.ipc_frame.specs.Parts.{IpcParts};
+ghost use Rattle.ipc_calls.specs.CallOf.{call_of, asks_memory, has_time_point};
+ghost use Rattle.ipc_calls.specs.Reads.{Reads};
+ghost use Rattle.ipc_calls.specs.Holding.{Keeps, ForGone, AreGone, IsWhole, TellsOf, IpcAt, FrameAt, HearsOf, head_in, start_size};
+
+use crate::calls::IpcHead;
+use crate::heard::Heard;
+use byteorder::{BigEndian, ByteOrder};
+use ipc_frame::{Frame, FrameFault, Judgement, Side, judge};
+use ipc_history::Call;
+use ipc_words::{Control, MsgTag, ThreadId, Timeouts};
+use std::alloc::{AllocError, Global};
+use std::marker::Model;
+
+/// The bytes of an IPC frame before its words: length, kind and numbers.
+const HEAD: usize = 50;
+
+/// The most bytes before a payload: the head and 95 words.
+const MAX_START: usize = 810;
+
+/// The bytes of a frame that have come so far, a payload counted off where there was no memory for it.
+#[derive(Drop)]
+pub(crate) struct Held {
+    start: [u8; 810],
+    len: usize,
+    payload: Vec<u8>,
+    lost: usize,
+}
+
+impl Model for Held {
+    ghost use Rattle.std.specs.Prelude.{ℕ, List, ◌++◌, ◌+◌, ◌<◌, ◌≤◌, ◌^◌, take, length};
+    ghost use Rattle.ipc_calls.specs.Holding.{Kept, start_size};
+
+    ghost Value = { Kept };
+
+    ghost view = { λ h. record { bytes = take h.len h.start ++ h.payload.items; lost = h.lost } };
+
+    ghost invariant = { λ h. (h.len ≤ 810)
+        × (50 ≤ h.len → h.len ≤ start_size (take 50 h.start))
+        × (0 < length h.payload.items + h.lost → (50 ≤ h.len) × (start_size (take 50 h.start) ≤ h.len))
+        × (length h.payload.items + h.lost < 2 ^ 32) };
+}
+
+// What the types say of the bytes, for a type's model.
+#[tactic(auto, using(ipc_frame::proofs::NumberLemmas::bytes_append))]
+fn are_bytes(start: &[u8], payload: &[u8])
+    ensures { IsBytes (start.now ++ payload.now) }
+{}
+
+#[tactic(auto, unfolding(ipc_frame::specs::Numbers::number_in))]
+fn read_u16(bytes: &[u8]) -> u16
+    requires { 2 ≤ length bytes.now }
+    ensures { result ≡ number_in 2 bytes.now }
+{
+    BigEndian::read_u16(bytes)
+}
+
+#[tactic(auto, unfolding(ipc_frame::specs::Numbers::number_in))]
+fn read_u32(bytes: &[u8]) -> u32
+    requires { 4 ≤ length bytes.now }
+    ensures { result ≡ number_in 4 bytes.now }
+{
+    BigEndian::read_u32(bytes)
+}
+
+#[tactic(auto, unfolding(ipc_frame::specs::Numbers::number_in))]
+fn read_u64(bytes: &[u8]) -> u64
+    requires { 8 ≤ length bytes.now }
+    ensures { result ≡ number_in 8 bytes.now }
+{
+    BigEndian::read_u64(bytes)
+}
+
+// How many bytes come before a payload.
+#[tactic(auto, unfolding(ipc_frame::specs::Numbers::number_in))]
+fn start_size(head: &[u8]) -> usize
+    requires { 50 ≤ length head.now }
+    ensures { result ≡ start_size head.now }
+{
+    let tag = MsgTag::from_word(BigEndian::read_u64(&head[33..]));
+    let words = tag.untyped() as usize + tag.typed() as usize + head[49] as usize;
+    (HEAD + 8 * words).min(MAX_START)
+}
+
+// The bytes of the start that have come.
+fn front(start: &[u8; 810], len: usize) -> &[u8]
+    requires { len ≤ 810 }
+    ensures front { result.now ≡ take len start.now }
+    ensures size { length (take len start.now) ≡ len }
+{
+    &start[..len]
+}
+
+// Puts bytes behind a payload, which gets its room at once.
+fn store(payload: &mut Vec<u8>, bytes: &[u8], wanted: usize) -> Result<(), AllocError>
+    ensures ok { OnOk result (payload.new.items ≡ payload.old.items ++ bytes.now) }
+    ensures err { OnErr result (payload.new.items ≡ payload.old.items) }
+{
+    if payload.is_empty() {
+        payload.reserve_exact(wanted)?;
+    }
+    payload.extend_from_slice(bytes)
+}
+
+// The numbers of an IPC frame.
+fn read_head(start: &[u8]) -> IpcHead
+    requires { 50 ≤ length start.now }
+    ensures { result ≡ head_in start.now }
+{
+    IpcHead {
+        to: ThreadId::from_word(read_u64(&start[5..])),
+        from: ThreadId::from_word(read_u64(&start[13..])),
+        timeouts: Timeouts::from_word(read_u32(&start[21..])),
+        originator: ThreadId::from_word(read_u64(&start[25..])),
+        tag: MsgTag::from_word(read_u64(&start[33..])),
+        acceptor: read_u64(&start[41..]),
+    }
+}
+
+// Reads so many words from a place on.
+fn read_words(start: &[u8], place: usize, count: usize, words: &mut [u64])
+    requires room { length words.old ≡ count }
+    requires there { place + 8 * count ≤ length start.now }
+    ensures { words.new ≡ words_in count (drop place start.now) }
+{
+    BigEndian::read_u64_into(&start[place..place + 8 * count], words);
+}
+
+// The call of a whole IPC frame.
+fn hear_call(alloc: Global, start: &[u8], payload: &[u8]) -> Result<Call, FrameFault>
+    requires { (ipc : IpcParts) × IpcAt start.now payload.now ipc }
+    ensures { (ipc : IpcParts) → IpcAt start.now payload.now ipc
+        → Reads FrameFault.NoMemory (call_of ipc) (asks_memory ipc) result }
+{
+    let head = read_head(start);
+    let count = head.tag.untyped() as usize + head.tag.typed() as usize;
+    let few = start[49] as usize;
+    let mut words = [0; 63];
+    let words = &mut words[..count];
+    read_words(start, HEAD, count, words);
+    let mut buffer_words = [0; 32];
+    let buffer_words = &mut buffer_words[..few];
+    read_words(start, HEAD + 8 * count, few, buffer_words);
+    head.call(alloc, words, buffer_words, payload)
+}
+
+// What a whole frame says.
+fn hear(alloc: Global, start: &[u8], payload: &[u8]) -> Result<Heard, FrameFault>
+    requires { (f : Frame) × FrameAt start.now payload.now f }
+    ensures { (f : Frame) → FrameAt start.now payload.now f → HearsOf f result }
+{
+    let kind = start[4];
+    if kind == 0x01 {
+        return Ok(Heard::Hello(read_u16(&start[5..])));
+    }
+    if kind == 0x02 {
+        return match hear_call(alloc, start, payload) {
+            Ok(call) => Ok(Heard::Call(call)),
+            Err(fault) => Err(fault),
+        };
+    }
+    if kind == 0x03 {
+        let target = ThreadId::from_word(read_u64(&start[5..]));
+        let control = Control::from_word(read_u64(&start[13..]));
+        return Ok(Heard::Exreg(target, control));
+    }
+    Ok(Heard::Bye)
+}
+
+// What is wrong with a whole IPC frame whose payload was counted off.
+fn lack(start: &[u8]) -> FrameFault
+    requires { 50 ≤ length start.now }
+    ensures { (ipc : IpcParts) (rest : List ℕ) → IpcAt start.now rest ipc
+        → result ≡ (if has_time_point ipc then FrameFault.TimePoint else FrameFault.NoMemory) }
+{
+    if read_head(start).has_time_point() {
+        FrameFault::TimePoint
+    } else {
+        FrameFault::NoMemory
+    }
+}
+
+impl Held {
+    /// No bytes. Takes no memory.
+    pub(crate) fn new(alloc: Global) -> Held
+        ensures { result ≡ record { bytes = []; lost = 0 } }
+    {
+        Held {
+            start: [0; 810],
+            len: 0,
+            payload: Vec::new(alloc),
+            lost: 0,
+        }
+    }
+
+    /// What the bytes show.
+    pub(crate) fn judge(&self) -> Judgement
+        ensures tells { ForGone self.now (λ bytes. TellsOf result bytes) }
+        ensures bytes { IsBytes self.now.bytes }
+    {
+        let start = front(&self.start, self.len);
+        are_bytes(start, &self.payload);
+        judge(Side::Server, start, self.payload.len() + self.lost)
+    }
+
+    /// Takes bytes from the front of these, at least one, where so many are wanted, and says how many.
+    pub(crate) fn keep(&mut self, bytes: &[u8], wanted: usize) -> usize
+        requires some { 0 < length bytes.now }
+        requires few { length self.old.bytes + self.old.lost + length bytes.now < 2 ^ 32 }
+        ensures some { 0 < result }
+        ensures within { result ≤ length bytes.now }
+        ensures keeps { Keeps self.old (take result bytes.now) self.new }
+    {
+        let start = if self.len < HEAD {
+            HEAD
+        } else {
+            start_size(&self.start[..HEAD])
+        };
+        if self.len < start {
+            let count = (start - self.len).min(bytes.len());
+            self.start[self.len..self.len + count].copy_from_slice(&bytes[..count]);
+            self.len += count;
+            return count;
+        }
+        if self.lost > 0 || store(&mut self.payload, bytes, wanted).is_err() {
+            self.lost += bytes.len();
+        }
+        bytes.len()
+    }
+
+    /// Whether no bytes have come.
+    pub(crate) fn is_empty(&self) -> bool
+        ensures { result ≡ (length self.now.bytes + self.now.lost == 0) }
+    {
+        front(&self.start, self.len).is_empty()
+    }
+
+    /// What the frame says, which is whole.
+    pub(crate) fn hear(&self, alloc: Global) -> Result<Heard, FrameFault>
+        requires { (gone : List ℕ) × (f : Frame) × AreGone self.now gone × IsWhole (self.now.bytes ++ gone) f }
+        ensures { (gone : List ℕ) (f : Frame) → AreGone self.now gone
+            → IsWhole (self.now.bytes ++ gone) f → HearsOf f result }
+    {
+        let start = front(&self.start, self.len);
+        are_bytes(start, &self.payload);
+        if self.lost > 0 {
+            return Err(lack(start));
+        }
+        hear(alloc, start, &self.payload)
+    }
+}

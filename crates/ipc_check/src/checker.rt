@@ -1,0 +1,43 @@
+ghost use Rattle.std.specs.Prelude.{◌≡◌, ◌↔◌};
+ghost use Rattle.ipc_history.specs.Legal.{Legal};
+ghost use Rattle.ipc_check.specs.Faults.{IsFirstFault, IfNo};
+ghost use Rattle.ipc_check.specs.declared.checker.Verdict.TheVariants.{Yes};
+
+use ipc_history::{Entry, Output};
+use ipc_slots::Slots;
+
+/// Whether entries are a legal history.
+#[derive(Drop, Clone, Copy, PartialEq, Eq, Debug)]
+pub enum Verdict {
+    /// They are.
+    Yes,
+    /// They are not.
+    No {
+        /// The place of the first entry that does not follow those before it.
+        index: usize,
+        /// The output that the rules ask for there; none where they ask for an admissible input.
+        expected: Option<Output>,
+    },
+}
+
+/// Whether entries are a legal history, in one walk over them. Takes no memory from an allocator.
+pub fn check(entries: &[Entry]) -> Verdict
+    // A yes is said of the legal histories, and of them alone.
+    ensures yes { (result ≡ Yes) ↔ Legal entries.now }
+    // A no names the first entry that does not follow those before it, and the output that is to stand there.
+    ensures no { IfNo result (IsFirstFault entries.now) }
+{
+    let mut slots = Slots::new();
+    for index in 0..entries.len() {
+        let before = &entries[..index];
+        let entry = &entries[index];
+        if !slots.follows(before, entry) {
+            return Verdict::No {
+                index,
+                expected: slots.next_output(before),
+            };
+        }
+        slots.note(before, entry);
+    }
+    Verdict::Yes
+}

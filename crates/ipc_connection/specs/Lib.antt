@@ -1,0 +1,5 @@
+pub mod Chain
+pub mod Faults
+pub mod Asking
+pub mod Replying
+pub mod Desk

@@ -1,0 +1,80 @@
+use Rattle.std.proofs.Common.{◌≡◌, refl, sym, ap, ◌∙◌, subst, length, false, IsTrue, Some, inl, inr, arith}
+use Rattle.ipc_history.specs.Threads.{is_taken, next_version}
+use Rattle.ipc_history.specs.Legal.{Legal, is_admissible}
+use Rattle.ipc_history.specs.declared.entry.Input.TheVariants.{Opened}
+use Rattle.ipc_core.specs.Room.{open_need}
+use Rattle.ipc_core.proofs.OpeningLemmas.{InRange, may_open_next}
+use Rattle.ipc_core.proofs.RefusalLemmas.{not_since, open_allowed, open_bad, open_full, open_taken, open_worn}
+use Rattle.ipc_core.proofs.ReservedLemmas.{kernel_took, reserved, takes_input}
+use Rattle.ipc_core.specs.Books.{AreBooks}
+use Rattle.ipc_core.specs.Copies.{Keeps, calls_of}
+use Rattle.ipc_core.proofs.NewCalls.{takes_grows}
+use Rattle.ipc_core.proofs.WholeLemmas.{whole_after}
+use Rattle.ipc_core.proofs.kernel.Kernel.open_thread.Goals as goal
+use Rattle.ipc_core.proofs.kernel.Kernel.open_thread.Goals.{then-number-lt1-via-then-number-lt1, then-number-lt1-via-else-number-lt1+then-number-most, then-number-lt1-via-else-number-lt1+else-number-most+then-space-lt1, then-number-lt1-via-else-number-lt1+else-number-most+else-space-lt1+then-space-spaces}
+
+pub returns-then-number-lt1-clause-cause : goal.returns-then-number-lt1-clause-cause
+returns-then-number-lt1-clause-cause c = inl (open_bad c.args.self.now c.args.number c.args.space (λ range. elim c.then-number-lt1.branch [
+  | then-number-lt1-via-then-number-lt1 w ↦ omega arith
+  | then-number-lt1-via-else-number-lt1+then-number-most w ↦ omega arith
+  | then-number-lt1-via-else-number-lt1+else-number-most+then-space-lt1 w ↦ omega arith
+  | then-number-lt1-via-else-number-lt1+else-number-most+else-space-lt1+then-space-spaces w ↦ omega arith
+]))
+
+pub returns-then-is_taken-clause-cause : goal.returns-then-is_taken-clause-cause
+returns-then-is_taken-clause-cause c =
+    let history : c.self.inside.course.entries ≡ c.args.self.now.history = ap (λ k. k.history) c.self.view_is in
+    let range : InRange c.args.number c.args.space = record { least = omega arith; most = omega arith; inner = omega arith; outer = omega arith } in
+    inl (open_taken c.args.self.now c.args.number c.args.space range (cc))
+
+pub returns-in_default-clause-cause : goal.returns-in_default-clause-cause
+returns-in_default-clause-cause c =
+    let history : c.self.inside.course.entries ≡ c.args.self.now.history = ap (λ k. k.history) c.self.view_is in
+    let range : InRange c.args.number c.args.space = record { least = omega arith; most = omega arith; inner = omega arith; outer = omega arith } in
+    inl (open_worn c.args.self.now c.args.number c.args.space range (cc) (cc))
+
+pub returns-in_default-room_for-clause-cause : goal.returns-in_default-room_for-clause-cause
+returns-in_default-room_for-clause-cause c =
+    let history : c.self.inside.course.entries ≡ c.args.self.now.history = ap (λ k. k.history) c.self.view_is in
+    let range : InRange c.args.number c.args.space = record { least = omega arith; most = omega arith; inner = omega arith; outer = omega arith } in
+    inl (open_full c.args.self.now c.args.number c.args.space range (cc) c.in-Some.version (cc) (c.in_default-room_for.ensures.full.0 refl))
+
+pub returns-in_default-reserve-clause-cause : goal.returns-in_default-reserve-clause-cause
+returns-in_default-reserve-clause-cause c =
+    let history : c.self.inside.course.entries ≡ c.args.self.now.history = ap (λ k. k.history) c.self.view_is in
+    let range : InRange c.args.number c.args.space = record { least = omega arith; most = omega arith; inner = omega arith; outer = omega arith } in
+    inr (open_allowed c.args.self.now c.args.number c.args.space range (cc) c.in-Some.version (cc) (not_since _ c.in-Some-room_for.ensures.full.1), refl)
+
+pub take_input-requires-clause-admissible : goal.take_input-requires-clause-admissible
+take_input-requires-clause-admissible c =
+    let history : c.self.inside.course.entries ≡ c.args.self.now.history = ap (λ k. k.history) c.self.view_is in
+    let range : InRange c.args.number c.args.space = record { least = omega arith; most = omega arith; inner = omega arith; outer = omega arith } in
+    let free : is_taken c.args.self.now.history c.args.number ≡ false = cc in
+    let next : next_version c.args.self.now.history c.args.number ≡ Some c.in-Some.version = cc in
+    subst (λ l. IsTrue (is_admissible l (Opened c.thread_id-thread.result c.args.space))) (sym (c.reserve.ensures.entries ∙ history)) (may_open_next c.args.self.now.history c.thread_id-thread.result c.args.number c.in-Some.version c.args.space range c.thread_id-thread.ensures.number c.thread_id-thread.ensures.version free next)
+
+pub take_input-requires-clause-room : goal.take_input-requires-clause-room
+take_input-requires-clause-room c =
+    let had = reserved _ c.args.self.now c.self.inside.course c.reserve.new.self open_need c.in-Some-room_for.room c.self.view_is c.self.invariant.kernel refl c.reserve.ensures.entries c.reserve.ensures.room (not_since _ c.in-Some-room_for.ensures.full.1) c.in-Some-room_for.ensures.value c.in-Ok.ensures.ok in
+    had.fits
+
+pub invariant_of-self-2 : goal.invariant_of-self-2
+invariant_of-self-2 c =
+    let history : c.self.inside.course.entries ≡ c.args.self.now.history = ap (λ k. k.history) c.self.view_is in
+    let range : InRange c.args.number c.args.space = record { least = omega arith; most = omega arith; inner = omega arith; outer = omega arith } in
+    let free : is_taken c.args.self.now.history c.args.number ≡ false = cc in
+    let next : next_version c.args.self.now.history c.args.number ≡ Some c.in-Some.version = cc in
+    let admissible = subst (λ l. IsTrue (is_admissible l (Opened c.thread_id-thread.result c.args.space))) (sym (c.reserve.ensures.entries ∙ history)) (may_open_next c.args.self.now.history c.thread_id-thread.result c.args.number c.in-Some.version c.args.space range c.thread_id-thread.ensures.number c.thread_id-thread.ensures.version free next) in
+    let had = reserved _ c.args.self.now c.self.inside.course c.reserve.new.self open_need c.in-Some-room_for.room c.self.view_is c.self.invariant.kernel refl c.reserve.ensures.entries c.reserve.ensures.room (not_since _ c.in-Some-room_for.ensures.full.1) c.in-Some-room_for.ensures.value c.in-Ok.ensures.ok in
+    let kernel = kernel_took _ _ _ c.reserve.new.self c.take_input.new.self (Opened c.thread_id-thread.result c.args.space) had admissible refl c.take_input.ensures.settled c.take_input.ensures.room c.take_input.ensures.spent in
+    whole_after _ _ _ c.reserve.new.self.entries _ _ c.take_input.new.self (Opened c.thread_id-thread.result c.args.space) c.self.inside.copies c.keep_needed.new.self kernel (takes_grows _ _ _ _ c.take_input.ensures.settled) refl (subst (λ l. Keeps l c.self.inside.copies) (sym c.reserve.ensures.entries) c.self.invariant.copies_are) c.entries-3.ensures.entries _ c.self.inside.books c.close.new.self (subst (λ l. AreBooks l (calls_of c.self.inside.copies.untaken) c.self.inside.books) (sym c.reserve.ensures.entries) c.self.invariant.books_are) c.close.ensures c.entries-4.ensures.entries (ap length c.entries-since.ensures.entries) c.keep_needed.ensures
+
+pub returns-clause-ok : goal.returns-clause-ok
+returns-clause-ok c =
+    let history : c.self.inside.course.entries ≡ c.args.self.now.history = ap (λ k. k.history) c.self.view_is in
+    let range : InRange c.args.number c.args.space = record { least = omega arith; most = omega arith; inner = omega arith; outer = omega arith } in
+    let free : is_taken c.args.self.now.history c.args.number ≡ false = cc in
+    let next : next_version c.args.self.now.history c.args.number ≡ Some c.in-Some.version = cc in
+    let allowed = open_allowed c.args.self.now c.args.number c.args.space range free c.in-Some.version next (not_since _ c.in-Some-room_for.ensures.full.1) in
+    let takes = takes_input _ c.args.self.now _ c.reserve.new.self (Opened c.thread_id-thread.result c.args.space) (Opened c.thread_id-thread.result c.args.space) c.self.view_is c.reserve.ensures.entries refl c.take_input.ensures.settled c.entries-4.ensures.legal (c.close.ensures.since ∙ (ap length c.entries-since.ensures.entries)) refl refl refl in
+    (allowed, record { number_is = c.thread_id-thread.ensures.number; version_is = next ∙ ap Some (sym c.thread_id-thread.ensures.version); takes = takes; taken = c.close.ensures.taken ∙ ap (λ k. k.taken) c.self.view_is })

@@ -1,0 +1,7 @@
+// The laws of a kernel. Each function is a theorem: it does nothing, and its contract holds of every kernel.
+ghost use Rattle.ipc_core.specs.Laws.{RunsOnce};
+
+/// The same commands, each obeyed, have one list of answers and one end.
+pub fn runs_once()
+    ensures { RunsOnce }
+{}

@@ -1,0 +1,14 @@
+pub mod NumberLemmas
+pub mod FieldLemmas
+pub mod StageLemmas
+pub mod SpellingLemmas
+pub mod FoundLemmas
+pub mod StreamLemmas
+pub mod WindowLemmas
+pub mod JudgeLemmas
+pub mod Vectors
+pub mod PieceLemmas
+pub mod EndLemmas
+pub mod DecodeLemmas
+pub mod PlacingLemmas
+pub mod ShortLemmas

@@ -1,0 +1,25 @@
+use Rattle.std.proofs.Common.{rules, ◌≡◌, [], ◌∷◌, sym, ◌∙◌, arith}
+use Rattle.std.proofs.lemmas.List.{nil_from_length}
+use Rattle.ipc_frame.proofs.JudgeLemmas.{no_more, short_body, bad_kind, bad_size, right_kind}
+use Rattle.ipc_frame.proofs.judging.judge_body.Goals as goal
+
+pub returns-in_default : goal.returns-in_default
+returns-in_default c =
+    let shape : c.args.body.now ≡ [] = nil_from_length c.args.body.now c.in_default.ensures.cases in
+    let none = no_more c.args.behind 46 0 (λ h. rw shape at (c.requires.head h)) (omega arith) in
+    rw shape (short_body c.args.side c.args.size c.args.behind c.requires.within c.requires.some none)
+
+pub returns-in_default-from_byte : goal.returns-in_default-from_byte
+returns-in_default-from_byte c =
+    let shape : c.args.body.now ≡ c.in-Some.byte.now ∷ c.in-Some.rest.now = search rules in
+    rw shape (bad_kind c.args.side c.args.size c.args.behind c.requires.within c.requires.some c.in-Some.byte.now c.in-Some.rest.now (sym c.from_byte.ensures ∙ c.in_default-from_byte.is))
+
+pub returns-then-is_wrong_size : goal.returns-then-is_wrong_size
+returns-then-is_wrong_size c =
+    let shape : c.args.body.now ≡ c.in-Some.byte.now ∷ c.in-Some.rest.now = search rules in
+    rw shape (bad_size c.args.side c.args.size c.args.behind c.requires.within c.requires.some c.in-Some.byte.now c.in-Some.rest.now c.in-Some-from_byte.kind (sym c.from_byte.ensures ∙ c.in-Some-from_byte.is) (sym c.is_wrong_size.ensures ∙ c.if-is_wrong_size.true))
+
+pub returns : goal.returns
+returns c =
+    let shape : c.args.body.now ≡ c.in-Some.byte.now ∷ c.in-Some.rest.now = search rules in
+    rw shape (right_kind c.args.side c.args.size c.args.behind c.requires.within c.requires.some c.in-Some.byte.now c.in-Some.rest.now c.in-Some-from_byte.kind c.judge_kind.result (sym c.from_byte.ensures ∙ c.in-Some-from_byte.is) c.judge_kind.ensures)

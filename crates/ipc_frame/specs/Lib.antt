@@ -1,0 +1,12 @@
+pub mod Numbers
+pub mod Parts
+pub mod Making
+pub mod Frames
+pub mod FaultNumber
+pub mod Reading
+pub mod Stream
+pub mod Decoding
+pub mod Laws
+pub mod Window
+pub mod FirstPiece
+pub mod Replies

@@ -1,0 +1,103 @@
+ghost use Rattle.std.specs.Prelude.{◌≡◌};
+ghost use Rattle.std.specs.Prelude.{sum, ◌≤◌};
+ghost use Rattle.ipc_frame.specs.Frames.{kind_byte, kinds, widths};
+ghost use Rattle.ipc_frame.specs.Reading.{kind_among, is_wrong_size};
+
+/// Who reads a stream.
+#[derive(Clone, Copy, Debug, PartialEq, Eq)]
+pub enum Side {
+    /// The server reads what clients send.
+    Server,
+    /// A client reads what the server sends.
+    Client,
+}
+
+/// The kinds of frames.
+#[derive(Clone, Copy, PartialEq, Eq)]
+pub(crate) enum FrameKind {
+    Hello,
+    Ipc,
+    Exreg,
+    Bye,
+    Welcome,
+    Ipcr,
+    Exregr,
+    Refused,
+    Fault,
+}
+
+impl FrameKind {
+    /// The kind byte.
+    pub(crate) fn byte(self) -> u8
+        ensures { result ≡ kind_byte self }
+    {
+        match self {
+            FrameKind::Hello => 0x01,
+            FrameKind::Ipc => 0x02,
+            FrameKind::Exreg => 0x03,
+            FrameKind::Bye => 0x04,
+            FrameKind::Welcome => 0x81,
+            FrameKind::Ipcr => 0x82,
+            FrameKind::Exregr => 0x83,
+            FrameKind::Refused => 0x84,
+            FrameKind::Fault => 0x85,
+        }
+    }
+
+    /// The kind of a byte, among those that a side reads.
+    pub(crate) fn from_byte(side: Side, byte: u8) -> Option<FrameKind>
+        ensures { result ≡ kind_among (kinds side) byte }
+    {
+        match side {
+            Side::Server => match byte {
+                0x01 => Some(FrameKind::Hello),
+                0x02 => Some(FrameKind::Ipc),
+                0x03 => Some(FrameKind::Exreg),
+                0x04 => Some(FrameKind::Bye),
+                _ => None,
+            },
+            Side::Client => match byte {
+                0x81 => Some(FrameKind::Welcome),
+                0x82 => Some(FrameKind::Ipcr),
+                0x83 => Some(FrameKind::Exregr),
+                0x84 => Some(FrameKind::Refused),
+                0x85 => Some(FrameKind::Fault),
+                _ => None,
+            },
+        }
+    }
+
+    /// Whether a body of this length is no body of this kind.
+    pub(crate) fn is_wrong_size(self, size: usize) -> bool
+        ensures { result ≡ is_wrong_size self size }
+    {
+        match self {
+            FrameKind::Hello => size != 3,
+            FrameKind::Ipc => size < 46,
+            FrameKind::Exreg => size != 17,
+            FrameKind::Bye => size != 1,
+            FrameKind::Welcome => size != 9,
+            FrameKind::Ipcr => size < 34,
+            FrameKind::Exregr => size != 25,
+            FrameKind::Refused => size != 2,
+            FrameKind::Fault => size != 3,
+        }
+    }
+
+    /// How many bytes the numbers take that come after the kind.
+    pub(crate) fn head(self) -> usize
+        ensures { result ≡ sum (widths self) }
+    {
+        match self {
+            FrameKind::Hello => 2,
+            FrameKind::Ipc => 45,
+            FrameKind::Exreg => 16,
+            FrameKind::Bye => 0,
+            FrameKind::Welcome => 8,
+            FrameKind::Ipcr => 32,
+            FrameKind::Exregr => 24,
+            FrameKind::Refused => 1,
+            FrameKind::Fault => 2,
+        }
+    }
+}

@@ -1,0 +1,80 @@
+ghost use Rattle.std.specs.Prelude.{IfOk, IfErr, None, map, ◌≡◌};
+ghost use Rattle.std.specs.List.{flat_map};
+ghost use Rattle.ipc_items.specs.Pieces.{pieces_of_all};
+ghost use Rattle.ipc_items.specs.Placed.{placed};
+ghost use Rattle.ipc_frame.specs.Making.{ipcr_fault};
+ghost use Rattle.ipc_frame.specs.Replies.{reply_of};
+
+use crate::fault::FrameFault;
+use crate::ipcr::{IpcrFrame, IpcrParts, Placed};
+use ipc_history::Outcome;
+use ipc_items::{BufferList, Piece, StringList, scatter};
+use std::alloc::{AllocError, Global};
+
+// The pieces of all strings, in order; those without bytes are left out.
+fn scattered<'a>(
+    alloc: Global,
+    buffers: &'a BufferList,
+    strings: &'a StringList,
+) -> Result<Vec<Piece<'a>>, AllocError>
+    ensures { IfOk result (λ pieces. map placed pieces.items
+        ≡ flat_map (λ placed. placed) (pieces_of_all buffers.now strings.now)) }
+{
+    let mut pieces = Vec::new(alloc);
+    for place in 0..strings.len() {
+        let (Some(parts), Some(bytes)) = (buffers.get(place), strings.get(place)) else {
+            break;
+        };
+        pieces.extend(scatter(parts, bytes))?;
+    }
+    Ok(pieces)
+}
+
+// The pieces with their bytes copied.
+fn owned(alloc: Global, pieces: &[Piece<'_>]) -> Result<Vec<Placed>, AllocError>
+    ensures { IfOk result (λ copies. copies.items ≡ map placed pieces.now) }
+{
+    let mut copies = Vec::with_capacity(alloc, pieces.len())?;
+    for piece in pieces {
+        copies.push(Placed::new(alloc, piece.pointer, piece.bytes)?)?;
+    }
+    Ok(copies)
+}
+
+// The parts of the frame that tells an outcome.
+fn reply_parts(alloc: Global, outcome: &Outcome) -> Result<IpcrParts, AllocError>
+    ensures { IfOk result (λ parts. parts ≡ reply_of outcome.now) }
+{
+    let mut words = Vec::with_capacity(alloc, outcome.words.len())?;
+    words.extend_from_slice(&outcome.words)?;
+    let pieces = scattered(alloc, &outcome.buffers, &outcome.strings)?;
+    Ok(IpcrParts {
+        tag: outcome.tag,
+        sender: outcome.sender,
+        actual: outcome.actual,
+        error: outcome.error,
+        words,
+        pieces: owned(alloc, &pieces)?,
+    })
+}
+
+// An outcome within its limits makes a frame. The limits are read from its fields.
+fn fits(outcome: &Outcome)
+    ensures { ipcr_fault (reply_of outcome.now) ≡ None }
+{
+    let _words = &outcome.words;
+    let strings = outcome.strings.len();
+    let buffers = outcome.buffers.len();
+}
+
+/// The frame that tells the caller its outcome. F14: there is no memory.
+pub fn ipcr_of(alloc: Global, outcome: &Outcome) -> Result<IpcrFrame, FrameFault>
+    ensures ok { IfOk result (λ ipcr. ipcr ≡ reply_of outcome.now) }
+    ensures memory { IfErr result (λ fault. fault ≡ FrameFault.NoMemory) }
+{
+    fits(outcome);
+    match reply_parts(alloc, outcome) {
+        Ok(parts) => IpcrFrame::new(parts),
+        Err(_) => Err(FrameFault::NoMemory),
+    }
+}

@@ -1,0 +1,43 @@
+//! A count that contracts alone see.
+ghost use Rattle.std.specs.Prelude.{◌≡◌, ◌+◌, ◌<◌};
+
+use std::marker::Model;
+use std::sync::ledger::{Blank, Book, Ledger, Share};
+
+/// How often a device failed, seen as that number. It takes no bytes, and only [`Failures::count`]
+/// changes it.
+#[derive(Drop)]
+pub struct Failures<L: Ledger> {
+    book: Book<L>,
+    share: Share<L>,
+}
+
+impl<L: Ledger> Model for Failures<L> {
+    ghost use Rattle.std.specs.Prelude.{ℕ, ◌<◌};
+
+    ghost Value = { ℕ };
+
+    ghost view = { λ failures. failures.book.total };
+
+    ghost invariant = { λ failures. 0 < failures.share.parts };
+}
+
+impl<L: Ledger> Failures<L> {
+    /// No failure so far.
+    pub fn new(blank: Blank) -> Failures<L>
+        requires name { blank.name ≡ L.name }
+        requires parts { blank.parts ≡ L.parts }
+        requires some { 0 < blank.parts }
+        ensures { result ≡ 0 }
+    {
+        let (book, share) = blank.open::<L>();
+        Failures { book, share }
+    }
+
+    /// One more failure.
+    pub fn count(&mut self)
+        ensures { self.new ≡ self.old + 1 }
+    {
+        self.book.add(&mut self.share, 1);
+    }
+}

@@ -1,0 +1,23 @@
+//! Ports: reads and writes of bytes, with a count of the device's failures that contracts alone see.
+#![tactic(auto)]
+
+mod failures;
+mod fault;
+mod memory;
+mod piece;
+mod port;
+mod reading;
+#[cfg(test)]
+mod tests;
+mod turns;
+mod whole;
+mod writing;
+
+pub use failures::Failures;
+pub use fault::PortFault;
+pub use memory::{MemoryPort, Trouble};
+pub use piece::{PIECE_SIZE, PieceBuffer};
+pub use port::{PortRead, PortWrite};
+pub use reading::ReadPort;
+pub use whole::write_all;
+pub use writing::WritePort;

@@ -1,0 +1,5 @@
+use Rattle.ipc_slots.proofs.PledgeSums.{pledges_told}
+use Rattle.ipc_slots.proofs.slots.Slots.pledged_for_calls.Goals as goal
+
+pub returns : goal.returns
+returns c = pledges_told c.args.entries.now c.args.self.now c.requires.legal c.requires.stands c.loop-place.place c.loop-place.total c.loop-place-test.false c.loop-place.auto.place-end c.loop-place.invariant.0

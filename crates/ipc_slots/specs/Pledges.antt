@@ -1,0 +1,14 @@
+-- What is pledged for an open call, by what is kept of it.
+use Rattle.std.specs.Prelude.{ℕ, ◌+◌, ◌*◌, ◌/◌, ◌==◌, if◌then◌else◌}
+use Rattle.std.specs.Option.{option_map_or}
+use Rattle.ipc_words.specs.ThreadId.{nilthread}
+use Rattle.ipc_slots.specs.Steps.{standing_in}
+use Rattle.ipc_slots.specs.declared.slot.Slot.{Slot}
+use Rattle.ipc_slots.specs.declared.slot.Standing.{Standing}
+
+-- 5 entries, and 2 for each block of the bytes of its strings
+abbrev pub pledge_by : Standing → ℕ
+pledge_by s = 5 + 2 * (if s.to == nilthread then 0 else (s.size + 65535) / 65536)
+
+abbrev pub pledge_in : Slot → ℕ
+pledge_in slot = option_map_or pledge_by (standing_in slot) 0

@@ -1,0 +1,174 @@
+ghost use Rattle.std.specs.Prelude.{◌≡◌, Some, None};
+ghost use Rattle.std.specs.Prelude.{option_and_then};
+ghost use Rattle.ipc_history.specs.Phases.{open_call};
+ghost use Rattle.ipc_history.specs.Words.{last};
+ghost use Rattle.ipc_history.specs.NextOutput.{stop, stop_after, turn_after};
+ghost use Rattle.ipc_history.specs.Legal.{Legal};
+ghost use Rattle.ipc_history.specs.declared.entry.Entry.TheVariants.{Given, Written};
+ghost use Rattle.ipc_history.specs.declared.entry.Input.TheVariants.{Exreg};
+ghost use Rattle.ipc_history.specs.declared.entry.Output.TheVariants.{Began};
+ghost use Rattle.ipc_slots.specs.Outputs.{last_output};
+ghost use Rattle.ipc_slots.specs.Slots.{Stands};
+ghost use Rattle.ipc_slots.specs.Rules.{IsStanding, IsSmall, stop_by, turn_by, turn_of};
+
+use crate::slot::{Phase, Standing};
+use crate::slots::Slots;
+use ipc_history::{Entry, Input, Output};
+use ipc_words::{IpcError, MaskedControl, ThreadId};
+
+impl Standing {
+    /// What ExchangeRegisters stops of it: by S its send phase, by R its receive phase.
+    fn stop(&self, is_partner_live: bool, send: bool, receive: bool) -> Option<Output>
+        ensures { result ≡ stop_by is_partner_live send receive self.now }
+    {
+        match self.phase {
+            Phase::Sending if send => Some(Output::Failed(self.number, IpcError::from_word(0x6))),
+            Phase::Passing(receiver) if send && is_partner_live => {
+                Some(Output::Aborted(self.number, receiver, self.moved))
+            }
+            Phase::Receiving if receive => {
+                Some(Output::Failed(self.number, IpcError::from_word(0x7)))
+            }
+            Phase::Taking(sender, _, bytes) if receive && is_partner_live => {
+                Some(Output::Aborted(sender, self.number, bytes))
+            }
+            _ => None,
+        }
+    }
+
+    /// Its turn, where it waits to receive from a caller whose message begins to pass to another thread.
+    fn turn(&self, caller: ThreadId, to: ThreadId) -> Option<Output>
+        ensures { result ≡ turn_by caller to self.now }
+    {
+        if matches!(&self.phase, Phase::Receiving) && self.awaited == caller {
+            Some(Output::Turned(self.number, to))
+        } else {
+            None
+        }
+    }
+}
+
+impl Slots {
+    /// What S and R stop of an open call.
+    fn stop_call(
+        &self,
+        entries: &[Entry],
+        call: &Standing,
+        control: MaskedControl,
+    ) -> Option<Output>
+        requires legal { Legal entries.now }
+        requires stands { Stands entries.now self.now }
+        requires call { IsStanding entries.now call.now }
+        ensures { result ≡ stop entries.now control call.now.number }
+    {
+        let is_partner_live = self.is_live(entries, call.partner());
+        call.stop(is_partner_live, control.stops_send(), control.stops_receive())
+    }
+
+    /// What S and R stop of the open call of a thread.
+    fn stop_of(&self, entries: &[Entry], thread: ThreadId, control: MaskedControl) -> Option<Output>
+        requires legal { Legal entries.now }
+        requires stands { Stands entries.now self.now }
+        ensures { result ≡ option_and_then (stop entries.now control) (open_call entries.now thread) }
+    {
+        match self.call_of(entries, thread) {
+            Some(call) => self.stop_call(entries, &call, control),
+            None => None,
+        }
+    }
+
+    /// What comes of the message of an open call that begins to pass, where it is propagated.
+    fn turn_of(&self, entries: &[Entry], call: &Standing) -> Option<Output>
+        requires legal { Legal entries.now }
+        requires stands { Stands entries.now self.now }
+        requires call { IsStanding entries.now call.now }
+        ensures { result ≡ turn_of entries.now call.now.number }
+    {
+        if call.shown == call.caller {
+            return None;
+        }
+        let waiting = self.call_of(entries, call.shown)?;
+        waiting.turn(call.caller, call.to)
+    }
+
+    /// What an ExchangeRegisters stops that is the last entry.
+    fn stop_exreg(
+        &self,
+        entries: &[Entry],
+        thread: ThreadId,
+        target: ThreadId,
+        control: MaskedControl,
+    ) -> Option<Output>
+        requires legal { Legal entries.now }
+        requires stands { Stands entries.now self.now }
+        requires last { last entries.now ≡ Some (Given (Exreg thread target control)) }
+        ensures { result ≡ stop_after entries.now (Given (Exreg thread target control)) }
+    {
+        if self.is_live_beside(entries, target, thread) {
+            self.stop_of(entries, target, control)
+        } else {
+            None
+        }
+    }
+
+    /// What a Began makes come that is the last entry.
+    fn turn_began(&self, entries: &[Entry], sending: u64, receiving: u64) -> Option<Output>
+        requires legal { Legal entries.now }
+        requires stands { Stands entries.now self.now }
+        requires last { last entries.now ≡ Some (Written (Began sending receiving)) }
+        ensures { result ≡ turn_after entries.now (Written (Began sending receiving)) }
+    {
+        let _ = receiving;
+        let place = self.place_of(entries, sending);
+        let Some(call) = self.call_at(place) else {
+            unreachable!()
+        };
+        self.turn_of(entries, &call)
+    }
+
+    /// What the last entry stops.
+    #[tactic(auto, unfolding(ipc_history::specs::NextOutput::stop_after))]
+    fn stop_after(&self, entries: &[Entry], entry: &Entry) -> Option<Output>
+        requires legal { Legal entries.now }
+        requires stands { Stands entries.now self.now }
+        requires last { last entries.now ≡ Some entry.now }
+        ensures { result ≡ stop_after entries.now entry.now }
+    {
+        match entry {
+            Entry::Given(Input::Exreg(thread, target, control)) => {
+                self.stop_exreg(entries, *thread, *target, *control)
+            }
+            _ => None,
+        }
+    }
+
+    /// What the last entry turns.
+    #[tactic(auto, unfolding(ipc_history::specs::NextOutput::turn_after))]
+    fn turn_after(&self, entries: &[Entry], entry: &Entry) -> Option<Output>
+        requires legal { Legal entries.now }
+        requires stands { Stands entries.now self.now }
+        requires last { last entries.now ≡ Some entry.now }
+        ensures { result ≡ turn_after entries.now entry.now }
+    {
+        match entry {
+            Entry::Written(Output::Began(sending, receiving)) => {
+                self.turn_began(entries, *sending, *receiving)
+            }
+            _ => None,
+        }
+    }
+
+    /// What the last entry makes come.
+    #[tactic(auto, using(crate::proofs::Lasts::last_is_got))]
+    pub(crate) fn after_last(&self, entries: &[Entry]) -> Option<Output>
+        requires legal { Legal entries.now }
+        requires stands { Stands entries.now self.now }
+        ensures { result ≡ last_output entries.now }
+    {
+        let entry = entries.last()?;
+        match self.stop_after(entries, entry) {
+            Some(output) => Some(output),
+            None => self.turn_after(entries, entry),
+        }
+    }
+}

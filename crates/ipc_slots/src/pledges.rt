@@ -1,0 +1,51 @@
+ghost use Rattle.std.specs.Prelude.{◌≡◌, ◌<◌, sum_by};
+ghost use Rattle.ipc_history.specs.Calls.{numbers};
+ghost use Rattle.ipc_history.specs.Legal.{Legal};
+ghost use Rattle.ipc_laws.specs.Counting.{pledge_of};
+ghost use Rattle.ipc_slots.specs.Slots.{Stands, slot_at};
+ghost use Rattle.ipc_slots.specs.Pledges.{pledge_by, pledge_in};
+
+use crate::slot::Standing;
+use crate::slots::Slots;
+use ipc_history::Entry;
+use ipc_words::ThreadId;
+
+impl Standing {
+    /// The entries that are pledged for it: 5, and 2 for each block of the bytes of its strings.
+    fn pledge(&self) -> u64
+        ensures { result ≡ pledge_by self.now }
+    {
+        if self.to == ThreadId::NILTHREAD {
+            5
+        } else {
+            (5 + 2 * ((u128::from(self.size) + 65_535) / 65_536)) as u64
+        }
+    }
+}
+
+impl Slots {
+    /// The entries that are pledged for the call that the slot at a place holds.
+    fn pledge_at(&self, place: usize) -> u64
+        requires { place < 256 }
+        ensures { result ≡ pledge_in (slot_at self.now.table place) }
+    {
+        match self.call_at(place) {
+            Some(call) => call.pledge(),
+            None => 0,
+        }
+    }
+
+    /// The entries that are pledged for the open calls.
+    pub fn pledged_for_calls(&self, entries: &[Entry]) -> u128
+        requires legal { Legal entries.now }
+        requires stands { Stands entries.now self.now }
+        ensures { result ≡ sum_by (pledge_of entries.now) (numbers entries.now) }
+    {
+        let _ = entries;
+        let mut total = 0;
+        for place in 0..self.top {
+            total += u128::from(self.pledge_at(place));
+        }
+        total
+    }
+}

@@ -1,0 +1,50 @@
+-- How what is heard is served, and how a connection ends by it.
+use Rattle.std.specs.Prelude.{◌≡◌, ◌≢◌, ℕ, ◌==◌, List, [], ◌∷◌, Result, Ok, Err, if◌then◌else◌}
+use Rattle.ipc_frame.specs.declared.fault.FrameFault.{FrameFault}
+use Rattle.ipc_calls.specs.declared.heard.Heard.{Heard}
+use Rattle.ipc_connection.specs.Asking.{asks}
+use Rattle.ipc_connection.specs.Desk.{Asks, DeskCall, left_to_post}
+use Rattle.ipc_connection.specs.Faults.{gone}
+use Rattle.ipc_connection.specs.Replying.{next_stage}
+use Rattle.ipc_connection.specs.declared.asking.Request.{Request}
+use Rattle.ipc_connection.specs.declared.asking.Request.TheVariants.{Open, Enter, Exreg, Leave, Refuse, Nothing}
+use Rattle.ipc_connection.specs.declared.replying.Told.{Told}
+use Rattle.ipc_connection.specs.declared.replying.Told.TheVariants.{Opened, Entered, Exchanged, Refused, Faulted, Left}
+use Rattle.ipc_connection.specs.declared.stage.Stage.{Stage}
+use Rattle.ipc_connection.specs.declared.stage.Stage.TheVariants.{Greeting, Serving, Finished}
+use Rattle.ipc_session.specs.declared.ending.Ending.{Ending}
+use Rattle.ipc_session.specs.declared.ending.Ending.TheVariants.{Protocol, Gone, Bye}
+use Rattle.ipc_session.specs.declared.turned.Turned.{Turned}
+use Rattle.ipc_session.specs.declared.turned.Turned.TheVariants.{On, Over}
+
+-- why a connection ends that was told so: BYE, a thread that is gone, else a FAULT
+abbrev pub ending_by : Told → Ending
+ending_by Left = Bye
+ending_by (Refused number) = (if number == gone then Gone else Protocol)
+ending_by _ = Protocol
+
+abbrev pub turned_at : Told → Stage → Turned
+turned_at told Finished = Over (ending_by told)
+turned_at told stage = On stage
+
+-- what comes after what was told at a stage
+abbrev pub ends_with : Told → Stage → Turned
+ends_with told stage = turned_at told (next_stage stage told)
+
+-- the desk is asked, and what it left is posted
+abbrev pub AsksSo : Stage → Request → List DeskCall → Turned → Type 0
+AsksSo stage request calls turned =
+    (told : Told) × (calls ≡ Asks request told ∷ left_to_post told) × (turned ≡ ends_with told stage)
+
+abbrev pub ServesBy : Stage → Request → List DeskCall → Turned → Type 0
+ServesBy stage Nothing calls turned = (calls ≡ []) × (turned ≡ On stage)
+ServesBy stage (Open number) calls turned = AsksSo stage (Open number) calls turned
+ServesBy stage (Enter thread call) calls turned = AsksSo stage (Enter thread call) calls turned
+ServesBy stage (Exreg thread target control) calls turned = AsksSo stage (Exreg thread target control) calls turned
+ServesBy stage Leave calls turned = (calls ≡ []) × (turned ≡ Over Bye)
+ServesBy stage (Refuse class number) calls turned =
+    (calls ≡ left_to_post (Faulted class number)) × (turned ≡ ends_with (Faulted class number) stage)
+
+-- what is heard at a stage is served with these calls
+unfoldable pub Serves : Stage → Result Heard FrameFault → List DeskCall → Turned → Type 0
+Serves stage heard calls turned = ServesBy stage (asks stage heard) calls turned

@@ -1,4 +1,4 @@
-ghost use Rattle.std.specs.Prelude.{◌≡◌, ◌≢◌, List, [], ◌∷◌};
+ghost use Rattle.std.specs.Prelude.{◌≡◌, List, [], ◌∷◌};
 ghost use Rattle.ipc_connection.specs.Desk.{DeskCall, TellsMore, Asks, left_to_post};
 ghost use Rattle.ipc_connection.specs.declared.asking.Request.TheVariants as request;
 ghost use Rattle.ipc_session.specs.Serving.{Serves, ServesBy, ending_by, ends_with};
@@ -12,13 +12,12 @@ use ipc_frame::FrameFault;
 use ipc_history::Call;
 use ipc_words::{Control, ThreadId};
 
-/// Serves what is heard at a stage that is not the last one.
+/// Serves what is heard at a stage.
 pub(crate) fn serve<D: CallDesk>(
     desk: &mut D,
     stage: Stage,
     heard: Result<Heard, FrameFault>,
 ) -> Turned
-    requires { stage ≢ Stage.Finished }
     ensures { (calls : List DeskCall) × TellsMore (D.log desk.old) (D.log desk.new) calls × Serves stage heard calls result }
 {
     let here = stage;

@@ -1,0 +1,6 @@
+use Rattle.ipc_session.specs.Serving.{Serves}
+use Rattle.ipc_session.proofs.serving.serve.Goals as goal
+
+pub returns : goal.returns
+unfolding Serves
+returns g c = let told = c.serve_request.ensures in (told.0, told.1, rw c.asks-request.ensures at told.2)

@@ -1,0 +1,21 @@
+//! The loops of a session: they carry frames to the kernel and outcomes back, over any port, desk and gate.
+#![tactic(auto)]
+
+mod calling;
+mod ending;
+mod gate;
+mod next;
+mod reading;
+mod serving;
+mod taking;
+mod turned;
+mod writing;
+
+pub use calling::CallDesk;
+pub use ending::{Ending, WriteEnding};
+pub use gate::{Gate, Open};
+pub use next::Next;
+pub use reading::read_loop;
+pub use taking::TakeDesk;
+pub use turned::Turned;
+pub use writing::write_loop;

@@ -1,0 +1,109 @@
+ghost use Rattle.std.specs.Prelude.{◌≡◌, ◌≢◌, ◌<◌, [], true, false, length, Some, OnOk, OnErr, IfOk};
+ghost use Rattle.std.specs.Io.KnownBytes.{Appends};
+ghost use Rattle.ipc_ports.specs.Ports.{AppendsPart};
+ghost use Rattle.ipc_session.specs.Taking.{Encodes, Writes, Wrote, broken_by, is_whole_at};
+
+use crate::ending::WriteEnding;
+use crate::gate::Gate;
+use crate::next::Next;
+use crate::taking::TakeDesk;
+use ipc_frame::Encoder;
+use ipc_ports::{PortFault, PortWrite, write_all};
+
+/// How many bytes go out in one write at most.
+const PIECE: usize = 8192;
+
+/// Writes the next bytes of an encoder; false where none are left.
+fn write_piece<P: PortWrite>(
+    port: &mut P,
+    encoder: &mut Encoder,
+    buffer: &mut [u8; PIECE],
+) -> Result<bool, PortFault>
+    ensures wrote { OnOk result (Writes (P.written port.old) (P.written port.new) encoder.old encoder.new) }
+    ensures more { IfOk result (λ more. more ≡ true → length encoder.new < length encoder.old) }
+    ensures done { IfOk result (λ more. more ≡ false → encoder.old ≡ []) }
+    ensures part { OnErr result (AppendsPart (P.written port.old) (P.written port.new) encoder.old) }
+    ensures failed { OnErr result (P.failures port.old < P.failures port.new) }
+    ensures kept { OnOk result (P.failures port.new ≡ P.failures port.old) }
+{
+    let count = encoder.next(buffer);
+    if count == 0 {
+        return Ok(false);
+    }
+    write_all(port, &buffer[..count])?;
+    Ok(true)
+}
+
+/// Writes the bytes of an encoder, in as few writes as they need.
+fn write_encoder<P: PortWrite>(
+    port: &mut P,
+    encoder: Encoder,
+    buffer: &mut [u8; PIECE],
+) -> Result<(), PortFault>
+    ensures whole { OnOk result (Appends (P.written port.old) (P.written port.new) encoder) }
+    ensures part { OnErr result (AppendsPart (P.written port.old) (P.written port.new) encoder) }
+    ensures failed { OnErr result (P.failures port.old < P.failures port.new) }
+    ensures kept { OnOk result (P.failures port.new ≡ P.failures port.old) }
+{
+    let mut encoder = encoder;
+    'pieces: while write_piece(port, &mut encoder, buffer)? {}
+    Ok(())
+}
+
+/// The encoder of what is given; None where nothing more comes.
+fn encoder_of(next: Next) -> Option<Encoder>
+    ensures { Encodes next result }
+{
+    match next {
+        Next::Frame(frame) => Some(Encoder::new(frame)),
+        Next::Gone => None,
+    }
+}
+
+/// Writes what the desk gives next, and answers how the loop ends, if it does.
+fn write_next<P: PortWrite, D: TakeDesk>(
+    port: &mut P,
+    desk: &mut D,
+    buffer: &mut [u8; PIECE],
+) -> Option<WriteEnding>
+    ensures text { Wrote (D.log desk.old) (D.log desk.new) (P.written port.old) (P.written port.new)
+        (broken_by result) (is_whole_at result) }
+    ensures device { result ≡ Some WriteEnding.Device → P.failures port.old < P.failures port.new }
+    ensures kept { result ≢ Some WriteEnding.Device → P.failures port.new ≡ P.failures port.old }
+    ensures gone { result ≡ Some WriteEnding.Gone → D.gone desk.new ≡ true }
+    ensures goes_on { result ≢ Some WriteEnding.Stopped }
+{
+    let next = desk.next();
+    let Some(encoder) = encoder_of(next) else {
+        return Some(WriteEnding::Gone);
+    };
+    match write_encoder(port, encoder, buffer) {
+        Ok(()) => None,
+        Err(_) => {
+            desk.broke();
+            Some(WriteEnding::Device)
+        }
+    }
+}
+
+/// Writes what the desk gives: the encodings, in order, each once. After a fault of the device a prefix of that text stands,
+/// and the desk is told once that the thread ends.
+pub fn write_loop<P: PortWrite, D: TakeDesk, G: Gate>(
+    port: &mut P,
+    desk: &mut D,
+    gate: &mut G,
+) -> WriteEnding
+    ensures text { Wrote (D.log desk.old) (D.log desk.new) (P.written port.old) (P.written port.new)
+        (broken_by (Some result)) (is_whole_at (Some result)) }
+    ensures device { result ≡ WriteEnding.Device → P.failures port.old < P.failures port.new }
+    ensures stopped { result ≡ WriteEnding.Stopped → G.stopped gate.new ≡ true }
+    ensures gone { result ≡ WriteEnding.Gone → D.gone desk.new ≡ true }
+{
+    let mut buffer = [0u8; PIECE];
+    'turns: while gate.turn() {
+        if let Some(ending) = write_next(port, desk, &mut buffer) {
+            return ending;
+        }
+    }
+    WriteEnding::Stopped
+}

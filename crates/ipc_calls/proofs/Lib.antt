@@ -8,3 +8,4 @@ pub mod WordLemmas
 pub mod AtLemmas
 pub mod TakeLemmas
 pub mod HearingLemmas
+pub mod PieceLemmas

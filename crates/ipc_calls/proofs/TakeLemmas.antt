@@ -27,6 +27,7 @@ pub record Filled (old piece : List ℕ) (new : Kept) (used : ℕ) : Type 0 wher
   pub size : ℕ
   pub read : reading Server (old ++ piece) ≡ Whole frame size
   pub used_is : used ≡ size - length old
+  pub within : length old ≤ size
   pub gone : List ℕ
   pub are_gone : AreGone new gone
   pub whole : IsWhole (new.bytes ++ gone) frame
@@ -48,6 +49,7 @@ filled old piece new used h = go (reading Server (old ++ piece)) refl h
           size = n;
           read = e;
           used_is = omega (arith, same, h.2);
+          within = omega (arith, h.2);
           gone = held.gone;
           are_gone = held.are_gone;
           whole = ap (reading Server) (sym held.bytes_are) ∙ (h.4 ∙ ap (Whole f) (sym count));
@@ -108,14 +110,14 @@ unfolding Takes
 takes_heard old piece kept new used heard is h hears =
     let f = filled old piece kept used h in
     let e = f.read in
-    rw e (record { answer = heard_answer f.frame used (f.size - length old) heard f.used_is (hears f.gone f.frame f.are_gone f.whole); after = no_bytes new is })
+    rw e (f.within, record { answer = heard_answer f.frame used (f.size - length old) heard f.used_is (hears f.gone f.frame f.are_gone f.whole); after = no_bytes new is })
 
 pub takes_fault : (old piece : List ℕ) (kept : Kept) (new : Decoding) (used : ℕ) (fault : FrameFault) → new.spent ≡ true → FillsUp old piece kept (Ok (used, true)) → ((gone : List ℕ) (f : Frame) → AreGone kept gone → IsWhole (kept.bytes ++ gone) f → HearsOf f (Err fault)) → Takes old piece new (Err fault)
 unfolding Takes
 takes_fault old piece kept new used fault spent h hears =
     let f = filled old piece kept used h in
     let e = f.read in
-    rw e (record { answer = fault_answer f.frame (f.size - length old) fault (hears f.gone f.frame f.are_gone f.whole); after = spent })
+    rw e (f.within, record { answer = fault_answer f.frame (f.size - length old) fault (hears f.gone f.frame f.are_gone f.whole); after = spent })
 
 abbrev pub ended : FrameFault → Result ⊤ FrameFault
 ended fault = Err fault

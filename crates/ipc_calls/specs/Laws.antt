@@ -8,7 +8,7 @@ use Rattle.ipc_frame.specs.declared.fault.FrameFault.TheVariants.{NoMemory}
 use Rattle.ipc_frame.specs.declared.frame.Frame.{Frame}
 use Rattle.ipc_frame.specs.declared.kind.Side.TheVariants.{Server}
 use Rattle.ipc_calls.specs.Hearing.{heard_in, heard_of}
-use Rattle.ipc_calls.specs.Taking.{Decoding, Holds, IsUnfinished, TakesUp}
+use Rattle.ipc_calls.specs.Taking.{Decoding, Holds, TakesUp}
 use Rattle.ipc_calls.specs.declared.heard.Heard.{Heard}
 
 -- where bytes end inside a frame, what is heard of them and a piece is what was heard, and then what is heard of the rest with the piece
@@ -45,6 +45,6 @@ StandsAt (Err fault ∷ rest) end decoder = decoder.spent ≡ true
 -- what is heard of a piece, call by call, is what it says behind the bytes held, however they are cut
 abbrev pub PieceIsHeard : Type 0
 PieceIsHeard = (new : Decoding) (bytes piece : List ℕ) (heard : List (Result Heard FrameFault))
-    → IsUnfinished bytes → TakesUp bytes piece heard new
+    → TakesUp bytes piece heard new
     → IsHeardOf (heard_in (stream_of Server (bytes ++ piece))) heard
     × StandsAt heard (stream_of Server (bytes ++ piece)).end new

@@ -1,5 +1,5 @@
 -- A decoder of what the server is sent: what it holds between two pieces, and what it hears of a piece.
-use Rattle.std.specs.Prelude.{◌≡◌, ◌⊎◌, ℕ, ◌-◌, ◌<◌, Bool, true, false, List, [], ◌∷◌, ◌++◌, length, drop, Option, Some, None, Result, Ok, Err, IsOk, IsTrue, ⊤}
+use Rattle.std.specs.Prelude.{◌≡◌, ◌⊎◌, ℕ, ◌-◌, ◌<◌, ◌≤◌, Bool, true, false, List, [], ◌∷◌, ◌++◌, length, drop, Option, Some, None, Result, Ok, Err, IsOk, IsTrue, ⊤}
 use Rattle.ipc_frame.specs.Numbers.{IsBytes}
 use Rattle.ipc_frame.specs.Reading.{Reading, Short, Bad, Whole, reading}
 use Rattle.ipc_frame.specs.declared.fault.FrameFault.{FrameFault}
@@ -56,7 +56,8 @@ pub record Ends (frame : Frame) (used : ℕ) (new : Decoding) (result : Result (
 abbrev pub TakesBy : Reading → List ℕ → List ℕ → Decoding → Result (ℕ × Option Heard) FrameFault → Type 0
 TakesBy (Short wanted) bytes piece new result = (result ≡ Ok (length piece, None)) × Holds new (bytes ++ piece)
 TakesBy (Bad fault) bytes piece new result = (result ≡ Err fault) × (new.spent ≡ true)
-TakesBy (Whole frame size) bytes piece new result = Ends frame (size - length bytes) new result
+TakesBy (Whole frame size) bytes piece new result =
+    (length bytes ≤ size) × Ends frame (size - length bytes) new result
 
 -- a decoder that holds these bytes is given a piece
 unfoldable pub Takes : List ℕ → List ℕ → Decoding → Result (ℕ × Option Heard) FrameFault → Type 0

@@ -10,7 +10,7 @@ mod laws;
 pub use call_decoder::CallDecoder;
 pub use calls::call_of;
 pub use heard::Heard;
-pub use laws::{a_frame_is_heard, frames_add_up};
+pub use laws::{a_frame_is_heard, a_piece_is_heard, frames_add_up};
 
 #[cfg(test)]
 mod tests;

@@ -17,3 +17,4 @@ pub mod BookLemmas
 pub mod FinishedLaws
 pub mod Resting
 pub mod RunLaws
+pub mod IdleLaws

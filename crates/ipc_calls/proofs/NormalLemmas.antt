@@ -55,10 +55,10 @@ tag_normal true p label u words strings low there few unsent =
     let taken = length-take-le u words there in
     let fits : 2 * n < 64 = omega arith in
     six _ _ _ _ _ _
-      (eq-eqb _ _ (omega (arith, tag_untyped label n u low fits p, taken)))
-      (eq-eqb _ _ (tag_typed label n u low fits p))
-      (le-leb _ _ (omega (arith, taken)))
-      (tag_redirects label n u low fits p) (tag_crosses label n u low fits p) (tag_failed label n u low fits p)
+    (eq-eqb _ _ (omega (arith, tag_untyped label n u low fits p, taken)))
+    (eq-eqb _ _ (tag_typed label n u low fits p))
+    (le-leb _ _ (omega (arith, taken)))
+    (tag_redirects label n u low fits p) (tag_crosses label n u low fits p) (tag_failed label n u low fits p)
 tag_normal false p label u words strings low there few unsent = rw (unsent refl) refl
 
 originator_normal : (s p : Bool) (label n u originator : ℕ) → u < 64 → 2 * n < 64 → (propagates (if s then received_tag label p n u else 0) || ((if s && p then originator else nilthread) == nilthread)) ≡ true
@@ -87,12 +87,12 @@ is_normal_call ipc strings buffers there few unsent are_strings are =
     let low : untyped_of ipc.tag < 64 = omega arith in
     let fits : 2 * length strings < 64 = omega arith in
     all_six _ _ _ _ _ _
-      (tag_normal (sends ipc) (propagates ipc.tag) (label_of ipc.tag) (untyped_of ipc.tag) ipc.words strings low there few unsent)
-      (originator_normal (sends ipc) (propagates ipc.tag) (label_of ipc.tag) (length strings) (untyped_of ipc.tag) ipc.originator low fits)
-      (send_normal (ipc.to == nilthread) _ _)
-      (receive_normal (ipc.from == nilthread) (ipc.acceptor % 2 == 1) _ buffers)
-      (buffers_normal (accepts_strings ipc) buffers are refl)
-      (le-leb _ _ are_strings.1)
+    (tag_normal (sends ipc) (propagates ipc.tag) (label_of ipc.tag) (untyped_of ipc.tag) ipc.words strings low there few unsent)
+    (originator_normal (sends ipc) (propagates ipc.tag) (label_of ipc.tag) (length strings) (untyped_of ipc.tag) ipc.originator low fits)
+    (send_normal (ipc.to == nilthread) _ _)
+    (receive_normal (ipc.from == nilthread) (ipc.acceptor % 2 == 1) _ buffers)
+    (buffers_normal (accepts_strings ipc) buffers are refl)
+    (le-leb _ _ are_strings.1)
 
 -- the parts of a call, one by one
 accepted_buffers : (a : Bool) (buffers : Option (List (List Substring))) → is_some buffers ≡ a → buffers ≡ (if a then Some (unwrap_or buffers []) else None)

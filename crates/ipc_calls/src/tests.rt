@@ -2,14 +2,16 @@ use crate::{CallDecoder, Heard};
 use ipc_frame::FrameFault;
 
 const HELLO: [u8; 7] = [0, 0, 0, 3, 1, 0, 2];
+
 const BYE: [u8; 5] = [0, 0, 0, 1, 4];
+
 const EXREG: [u8; 21] = [
     0, 0, 0, 17, 3, 0, 0, 0, 2, 0, 0, 0, 1, 0, 0, 0, 0, 0, 0, 0, 4,
 ];
+
 const CALL: [u8; 58] = [
-    0, 0, 0, 54, 2, 0, 0, 0, 1, 0, 0, 0, 1, 0, 0, 0, 0, 0, 0, 0, 0, 0, 0, 0,
-    0, 0, 0, 0, 0, 0, 0, 0, 0, 0, 0, 0, 0, 0, 0, 0, 1, 0, 0, 0, 0, 0, 0, 0,
-    0, 0, 0, 0, 0, 0, 0, 0, 0, 7,
+    0, 0, 0, 54, 2, 0, 0, 0, 1, 0, 0, 0, 1, 0, 0, 0, 0, 0, 0, 0, 0, 0, 0, 0, 0, 0, 0, 0, 0, 0, 0,
+    0, 0, 0, 0, 0, 0, 0, 0, 0, 1, 0, 0, 0, 0, 0, 0, 0, 0, 0, 0, 0, 0, 0, 0, 0, 0, 7,
 ];
 
 // What is heard, as a short number: the number of a HELLO, 1,000 and the words of a call, 2,000 and a control word, 3,000 for a BYE,
@@ -68,11 +70,20 @@ fn a_proper_prefix_is_unfinished(rt: HostRuntime) {
 fn faults_are_told_at_the_byte_that_shows_them(rt: HostRuntime) {
     let alloc = rt.alloc();
     assert_eq!(rt; 4_003, told(CallDecoder::new(alloc).take(&[0, 0, 0, 0])));
-    assert_eq!(rt; 4_002, told(CallDecoder::new(alloc).take(&[0, 0x20, 0, 0, 5])));
+    assert_eq!(rt;
+        4_002,
+        told(CallDecoder::new(alloc).take(&[0, 0x20, 0, 0, 5]))
+    );
     assert_eq!(rt; 4_001, told(CallDecoder::new(alloc).take(&[0, 0x20, 0, 1])));
-    assert_eq!(rt; 4_002, told(CallDecoder::new(alloc).take(&[0, 0, 0, 9, 0x81])));
+    assert_eq!(rt;
+        4_002,
+        told(CallDecoder::new(alloc).take(&[0, 0, 0, 9, 0x81]))
+    );
     assert_eq!(rt; 4_003, told(CallDecoder::new(alloc).take(&[0, 0, 0, 2, 1])));
-    assert_eq!(rt; 4_003, told(CallDecoder::new(alloc).take(&[0, 0, 0, 0x2d, 2])));
+    assert_eq!(rt;
+        4_003,
+        told(CallDecoder::new(alloc).take(&[0, 0, 0, 0x2d, 2]))
+    );
 }
 
 #[test]

@@ -62,8 +62,22 @@ fn written(output: Output) -> Entry {
 
 // A call to a server, whose answer another server sends for it: the closed wait turns. The entry at `left_out` is missing.
 fn propagation(alloc: Global, left_out: usize) -> Result<Vec<Entry>, Fail> {
-    let asks = plain(alloc, first(2), first(2), Period::NEVER, 0x1, ThreadId::NILTHREAD)?;
-    let passes_on = plain(alloc, first(3), ThreadId::NILTHREAD, Period::NEVER, 0x1001, first(1))?;
+    let asks = plain(
+        alloc,
+        first(2),
+        first(2),
+        Period::NEVER,
+        0x1,
+        ThreadId::NILTHREAD,
+    )?;
+    let passes_on = plain(
+        alloc,
+        first(3),
+        ThreadId::NILTHREAD,
+        Period::NEVER,
+        0x1001,
+        first(1),
+    )?;
     let answers = plain(
         alloc,
         first(1),
@@ -105,7 +119,10 @@ fn string_to(alloc: Global, room: u64) -> Result<Vec<Entry>, Fail> {
     let mut strings = StringList::new(alloc);
     let _ = strings.push(b"abc")?;
     let mut buffers = BufferList::new(alloc);
-    let _ = buffers.push_buffer(&[Substring { length: room, pointer: 0x1000 }])?;
+    let _ = buffers.push_buffer(&[Substring {
+        length: room,
+        pointer: 0x1000,
+    }])?;
     let sends = Call::new(CallFields {
         to: first(2),
         from: ThreadId::NILTHREAD,
@@ -160,19 +177,27 @@ fn a_missing_output_is_named(rt: HostRuntime) -> Result<(), Fail> {
     ];
     for (index, output) in outputs {
         let verdict = check(&propagation(rt.alloc(), index)?);
-        assert_eq!(rt; verdict, Verdict::No { index, expected: Some(output) });
+        assert_eq!(rt;
+            verdict,
+            Verdict::No {
+                index,
+                expected: Some(output)
+            }
+        );
     }
     Ok(())
 }
 
 #[test]
 fn a_version_is_not_opened_twice(rt: HostRuntime) -> Result<(), Fail> {
-    let entries = vec![in rt.alloc();
-        opened(1),
-        Entry::Given(Input::Broke(first(1))),
-        opened(1),
-    ]?;
-    assert_eq!(rt; check(&entries), Verdict::No { index: 2, expected: None });
+    let entries = vec![in rt.alloc(); opened(1), Entry::Given(Input::Broke(first(1))), opened(1)]?;
+    assert_eq!(rt;
+        check(&entries),
+        Verdict::No {
+            index: 2,
+            expected: None
+        }
+    );
     Ok(())
 }
 
@@ -191,7 +216,13 @@ fn a_copy_of_other_bytes_is_not_legal(rt: HostRuntime) -> Result<(), Fail> {
     let mut entries = string_to(rt.alloc(), 3)?;
     entries.push(written(Output::Began(2, 1)))?;
     entries.push(Entry::Given(Input::Moved(2, 2)))?;
-    assert_eq!(rt; check(&entries), Verdict::No { index: 5, expected: None });
+    assert_eq!(rt;
+        check(&entries),
+        Verdict::No {
+            index: 5,
+            expected: None
+        }
+    );
     Ok(())
 }
 

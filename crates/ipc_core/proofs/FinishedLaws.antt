@@ -139,10 +139,10 @@ module _ (P more H : List Entry) (e : Entry) (legal : Legal H) (whole : H ≡ P 
       where
         go : (e : Entry) → Follows H e → calls n e ≡ false
         go (Given (Called k caller call)) f = false_from_ne_true (k == n) (λ same. (
-          let is_n : k ≡ n = eqb-true k n same in
-          let next = (entered H k caller call f.1).1 in
-          let below = called_below H legal n called in
-          omega (arith, is_n, next, below)))
+            let is_n : k ≡ n = eqb-true k n same in
+            let next = (entered H k caller call f.1).1 in
+            let below = called_below H legal n called in
+            omega (arith, is_n, next, below)))
         go _ f = refl
 
     other_more : finished_from P K t ≡ (finished_from P H t || finishes H e t)
@@ -217,10 +217,10 @@ module _ (P more H : List Entry) (e : Entry) (legal : Legal H) (whole : H ≡ P 
           let follows_so : Follows H (Given (Called n s call)) = subst (Follows H) is follows in
           let last : last_call K t ≡ Some n = last_push H e t ∙ rw (is, eq-eqb s t same) refl in
           tests (λ x. is_over K x && not (is_called P x && is_over P x)) (ends_call H e) (is_live K t) (last_call K t) (λ k found. (
-            let is_k : n ≡ k = same_Some n k (sym last ∙ found) in
-            let absent : is_called P k ≡ false = false_from_ne_true _ (λ called. called_new H P more whole legal n s call follows_so (ap (is_called P) is_k ∙ called)) in
-            let calls_it : calls k e ≡ true = ap (calls k) is ∙ eq-eqb n k is_k in
-            ap (λ b. is_over K k && not (b && is_over P k)) absent ∙ ap (λ b. is_over K k && (b || not (is_over H k))) (sym calls_it)))
+          let is_k : n ≡ k = same_Some n k (sym last ∙ found) in
+          let absent : is_called P k ≡ false = false_from_ne_true _ (λ called. called_new H P more whole legal n s call follows_so (ap (is_called P) is_k ∙ called)) in
+          let calls_it : calls k e ≡ true = ap (calls k) is ∙ eq-eqb n k is_k in
+          ap (λ b. is_over K k && not (b && is_over P k)) absent ∙ ap (λ b. is_over K k && (b || not (is_over H k))) (sym calls_it)))
       go (Given (Broke s)) is of = dead _ _ (ended_now s (eqb-true s t (third_only (s == t) of)) is)
       go (Given (At moment)) is of = absurd (false≢true of)
       go (Given (Exreg s target control)) is of = absurd (false≢true of)

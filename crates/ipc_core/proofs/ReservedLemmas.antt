@@ -20,11 +20,10 @@ use Rattle.ipc_core.proofs.KernelLemmas.{kernel_after}
 -- the history is full where what is left is less than what is pledged and needed
 pub full_where : (kernel : KernelParts) (need left live calls : ℕ) (P : Type 0) → left + length kernel.history ≡ kernel.entries_limit → live ≡ live_threads kernel.history → calls ≡ sum_by (pledge_of kernel.history) (numbers kernel.history) → (P ↔ (left < 2 * live + calls + need)) → P ↔ IsTrue (is_full kernel need)
 unfolding is_full pledged
-full_where kernel need left live calls P split live_is calls_are less =
-    (
-      λ p. (let over : left < 2 * live + calls + need = less.0 p in lt-ltb _ _ (omega arith)),
-      λ full. less.1 (let over = ltb-true kernel.entries_limit (length kernel.history + pledged kernel.history + need) full in omega arith),
-    )
+full_where kernel need left live calls P split live_is calls_are less = (
+  λ p. (let over : left < 2 * live + calls + need = less.0 p in lt-ltb _ _ (omega arith)),
+  λ full. less.1 (let over = ltb-true kernel.entries_limit (length kernel.history + pledged kernel.history + need) full in omega arith),
+)
 
 -- and what is pledged and needed is this
 pub room_where : (H : List Entry) (need live calls : ℕ) (found : Option ℕ) → live ≡ live_threads H → calls ≡ sum_by (pledge_of H) (numbers H) → IfSome found (λ room. room ≡ 2 * live + calls + need) → IfSome found (λ room. room ≡ pledged H + need)

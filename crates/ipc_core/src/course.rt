@@ -100,8 +100,7 @@ impl Course {
         requires { IsTrue (is_live self.now.entries thread) }
         ensures { result ≡ made_by self.now.entries thread }
     {
-        self.desks
-            .made(self.history.entries(), &self.taken, thread)
+        self.desks.made(self.history.entries(), &self.taken, thread)
     }
 
     /// How many outcomes of calls of a live thread were taken.
@@ -324,7 +323,14 @@ impl Course {
         ensures books { SameBooks self.old self.new }
     {
         let entries = self.history.entries();
-        let ended = note(&mut self.desks, entries, &self.taken, &self.slots, &entry, copies);
+        let ended = note(
+            &mut self.desks,
+            entries,
+            &self.taken,
+            &self.slots,
+            &entry,
+            copies,
+        );
         self.slots.note(entries, &entry);
         add(&mut self.finished, ended.first);
         add(&mut self.finished, ended.second);

@@ -31,8 +31,10 @@ use crate::refusal::Refusal;
 use crate::room::call_need;
 use ipc_history::{Call, Entry, Input, Outcome};
 use ipc_rules::is_over;
-use ipc_words::limits::{LAST_MOMENT, MAX_CALLS, MAX_ENTRIES, MAX_SPACE, MAX_THREAD_NUMBER};
-use ipc_words::limits::{NEED_OF_EXCHANGE, NEED_OF_OPEN, PLEDGE_OF_THREAD};
+use ipc_words::limits::{
+    LAST_MOMENT, MAX_CALLS, MAX_ENTRIES, MAX_SPACE, MAX_THREAD_NUMBER, NEED_OF_EXCHANGE,
+    NEED_OF_OPEN, PLEDGE_OF_THREAD,
+};
 use ipc_words::{Control, ThreadId};
 use std::alloc::Global;
 use std::marker::Model;
@@ -355,8 +357,11 @@ impl Kernel {
         };
         let is_normal = call.is_normal();
         prove!(is_normal);
-        self.course
-            .take_input(self.moment, Input::Called(number, thread, call), Some(copies));
+        self.course.take_input(
+            self.moment,
+            Input::Called(number, thread, call),
+            Some(copies),
+        );
         Ok(number)
     }
 
@@ -398,7 +403,11 @@ impl Kernel {
             return Err(Refusal::NoMemory);
         };
         let answer = self.course.exreg_answer(thread, target);
-        self.course.take_input(self.moment, Input::Exreg(thread, target, control.masked()), None);
+        self.course.take_input(
+            self.moment,
+            Input::Exreg(thread, target, control.masked()),
+            None,
+        );
         Ok(answer)
     }
 

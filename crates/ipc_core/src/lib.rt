@@ -14,6 +14,6 @@ mod tests;
 
 pub use answers::{Advance, EnterRefused, ExregAnswer, NoThread};
 pub use command::{Answer, Command};
-pub use kernel::{Kernel, Limits};
 pub use ipc_words::limits::{LAST_MOMENT, MAX_CALLS, MAX_ENTRIES};
+pub use kernel::{Kernel, Limits};
 pub use refusal::Refusal;

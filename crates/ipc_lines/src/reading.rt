@@ -16,8 +16,8 @@ use crate::call_reading::read_call;
 use crate::fields::split;
 use crate::numbers::{read_decimal, read_hex, read_id};
 use ipc_history::{Entry, Input, Output};
-use ipc_words::{IpcError, MaskedControl, ThreadId};
 use ipc_words::limits::MAX_LINE_BYTES;
+use ipc_words::{IpcError, MaskedControl, ThreadId};
 use std::alloc::{AllocError, Global};
 
 /// The most fields of an entry: its name, a number and those of a call.

@@ -165,12 +165,16 @@ impl<C: Ledger, T: Ledger> Inside<C, T> {
     }
 
     pub(crate) fn is_empty(&self, place: usize) -> bool {
-        self.boxes.get(place).map_or(true, |post_box| post_box.is_empty())
+        self.boxes
+            .get(place)
+            .map_or(true, |post_box| post_box.is_empty())
     }
 
     /// Whether the box was shut. One that is not there counts as shut.
     pub(crate) fn is_shut(&self, place: usize) -> bool {
-        self.boxes.get(place).map_or(true, |post_box| post_box.is_shut())
+        self.boxes
+            .get(place)
+            .map_or(true, |post_box| post_box.is_shut())
     }
 
     /// The bell of a box's writer.

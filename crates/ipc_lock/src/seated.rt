@@ -83,12 +83,7 @@ impl<T: Ledger> Taken<T> {
 
 impl<C: Ledger, T: Ledger> Locked<C, T> {
     /// An empty kernel, with the books of two new ledgers. The only refusal is K4.
-    pub fn new(
-        alloc: Global,
-        limits: Limits,
-        calls: Blank,
-        takes: Blank,
-    ) -> Result<Self, Refusal>
+    pub fn new(alloc: Global, limits: Limits, calls: Blank, takes: Blank) -> Result<Self, Refusal>
         requires calls_name { calls.name ≡ C.name }
         requires calls_parts { calls.parts ≡ C.parts }
         requires many_calls { calls.parts ≡ 2 ^ 63 }
@@ -152,11 +147,7 @@ impl<C: Ledger, T: Ledger> Locked<C, T> {
 
     /// Enters a call of the seat's thread. K6 also where the seat's amount is not the kernel's count for its thread.
     /// A call that is refused is handed back, and the seat is unchanged.
-    pub fn enter_seated(
-        &mut self,
-        seat: &mut CallSeat<C>,
-        call: Call,
-    ) -> Result<u64, EnterRefused>
+    pub fn enter_seated(&mut self, seat: &mut CallSeat<C>, call: Call) -> Result<u64, EnterRefused>
         ensures ok { IfOk result (λ number. (enter_refusal self.old.kernel seat.old.thread call ≡ None)
             × Enters self.old.kernel self.new.kernel number seat.old.thread call) }
         ensures counted { OnOk result (seat.old.made ≡ made_by self.old.kernel.history seat.old.thread) }

@@ -22,12 +22,7 @@ pub struct SharedKernel<C: Ledger, T: Ledger> {
 
 impl<C: Ledger, T: Ledger> SharedKernel<C, T> {
     /// An empty kernel without boxes. The only refusal is K4.
-    pub fn new(
-        alloc: Global,
-        limits: Limits,
-        calls: Blank,
-        takes: Blank,
-    ) -> Result<Self, Refusal>
+    pub fn new(alloc: Global, limits: Limits, calls: Blank, takes: Blank) -> Result<Self, Refusal>
         requires calls_name { calls.name ≡ C.name }
         requires calls_parts { calls.parts ≡ C.parts }
         requires many_calls { calls.parts ≡ 2 ^ 63 }
@@ -93,12 +88,7 @@ impl<C: Ledger, T: Ledger> SharedKernel<C, T> {
     }
 
     /// Leaves an answer for the box's writer. A full or shut box hands it back.
-    pub fn post<R: Wait>(
-        &self,
-        rt: &R,
-        place: usize,
-        posted: Posted<T>,
-    ) -> Result<(), Posted<T>> {
+    pub fn post<R: Wait>(&self, rt: &R, place: usize, posted: Posted<T>) -> Result<(), Posted<T>> {
         let mut inside = self.inside.lock(rt);
         inside.post(place, posted)?;
         let bell = inside.bell(place);

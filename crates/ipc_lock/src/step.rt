@@ -7,10 +7,7 @@ use std::sync::ledger::Ledger;
 #[derive(Drop)]
 pub enum Step<C: Ledger> {
     /// Opens the thread of a number in a space.
-    Hello {
-        number: u64,
-        space: u64,
-    },
+    Hello { number: u64, space: u64 },
     /// Enters a call of the seat's thread.
     Enter(CallSeat<C>, Call),
     /// Stops phases of a target for the seat's thread.

@@ -20,4 +20,4 @@ least_of rule P = first_some (rule P) (numbers P)
 abbrev pub waiting_output : List Entry → Option Output
 waiting_output P =
     option_or (least_of end_of P)
-        (option_or (least_of partner_gone_of P) (option_or (least_of meeting_of P) (least_of timeout_of P)))
+    (option_or (least_of partner_gone_of P) (option_or (least_of meeting_of P) (least_of timeout_of P)))

@@ -62,7 +62,11 @@ impl Slots {
         ensures { result ≡ stop entries.now control call.now.number }
     {
         let is_partner_live = self.is_live(entries, call.partner());
-        call.stop(is_partner_live, control.stops_send(), control.stops_receive())
+        call.stop(
+            is_partner_live,
+            control.stops_send(),
+            control.stops_receive(),
+        )
     }
 
     /// What S and R stop of the open call of a thread.

@@ -1,8 +1,8 @@
 use super::exit::Exit;
-use ipc_words::limits::MAX_LINE_BYTES;
 use super::running::run_script;
 use ipc_core::Limits;
 use ipc_ports::{MemoryPort, PortRead, Trouble};
+use ipc_words::limits::MAX_LINE_BYTES;
 use std::alloc::Global;
 use std::process::Abort;
 use std::test::Fail;

@@ -7,3 +7,4 @@ pub mod Running
 pub mod Putting
 pub mod Failing
 pub mod Exits
+pub mod Checking

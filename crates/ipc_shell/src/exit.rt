@@ -1,16 +1,18 @@
 use std::fmt;
 
-/// How the run of a script ended.
+/// How the run of a script, or the check of a trace, ended.
 #[derive(Clone, Copy, PartialEq, Eq, Debug)]
 pub enum Exit {
-    /// At the end of the script: status 0.
+    /// At the end of the script, or with a legal trace: status 0.
     Done,
-    /// At a line that is no command, by its number from 1: status 2.
+    /// At a line that is no command or no entry, by its number from 1: status 2.
     BadLine(u64),
     /// The program itself got no memory: status 1.
     NoMemory,
     /// A read or a write failed: status 1.
     DeviceFailed,
+    /// A trace that was checked is no legal history: status 3.
+    Illegal,
 }
 
 impl Exit {
@@ -25,6 +27,7 @@ impl Exit {
             Exit::Done => 0,
             Exit::BadLine(_) => 2,
             Exit::NoMemory | Exit::DeviceFailed => 1,
+            Exit::Illegal => 3,
         }
     }
 }
@@ -41,6 +44,7 @@ impl fmt::Display for Exit {
             Exit::BadLine(number) => write!(f, "l4sh: bad line {number}"),
             Exit::NoMemory => write!(f, "l4sh: no memory"),
             Exit::DeviceFailed => write!(f, "l4sh: device failed"),
+            Exit::Illegal => write!(f, "l4sh: illegal"),
         }
     }
 }

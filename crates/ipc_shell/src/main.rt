@@ -4,6 +4,9 @@
 ghost use Rattle.std.specs.Prelude.{◌≡◌, ◌<◌};
 
 mod answering;
+#[cfg(test)]
+mod check_tests;
+mod checking;
 mod commands;
 mod exit;
 mod lines;
@@ -72,7 +75,7 @@ fn run<L: Ledger, M: Ledger, R: Input + Print>(
 /// Says on standard error why a run ended, where it did not end well, and answers its status.
 fn ended<R: Eprint>(rt: &R, exit: &Exit) -> io::Result<ExitCode> {
     match exit {
-        Exit::Done => {}
+        Exit::Done | Exit::Illegal => {}
         _ => rt.eprintln(exit)?,
     }
     Ok(ExitCode::from(exit.status()))

@@ -1,0 +1,95 @@
+ghost use Rattle.std.specs.Prelude.{◌≡◌, ◌≢◌, ◌+◌, ◌++◌, ◌<◌, ◌^◌, IfOk, OnOk, true};
+ghost use Rattle.std.specs.String.{string_bytes};
+ghost use Rattle.ipc_check.specs.Faults.{IfNo};
+ghost use Rattle.ipc_shell.specs.Checking.{ChecksTrace, PrintsVerdict, expected_text, verdict_text};
+
+use crate::exit::Exit;
+use crate::output::put;
+use ipc_check::{Verdict, check};
+use ipc_history::{Entry, Output};
+use ipc_lines::entry_line;
+use ipc_ports::{PortRead, PortWrite};
+use ipc_trace::{TraceEnd, read_trace};
+use std::alloc::{AllocError, Global};
+
+/// Checks the trace of a reader, and prints to the writer whether it is a legal history: `yes`, or `no N EXPECTED`, N the first line
+/// that does not follow those before it, and EXPECTED the line that the rules ask for there or `input`. Behind the verdict over the
+/// whole lines `torn` tells of a last line without newline. Nothing is printed of a trace with a bad line.
+///
+/// It ends as `DeviceFailed` only where a call of the reader or of the writer failed in this run.
+pub fn check_trace<R: PortRead, W: PortWrite>(alloc: Global, reader: &mut R, writer: &mut W) -> Exit
+    ensures checks { ChecksTrace (R.remaining reader.old)
+        (W.written writer.old) (W.written writer.new) result }
+    ensures device { result ≡ Exit.DeviceFailed
+        → R.failures reader.old + W.failures writer.old
+        < R.failures reader.new + W.failures writer.new }
+    ensures flushed { result ≢ Exit.DeviceFailed
+        → W.flushed writer.old ≡ true → W.flushed writer.new ≡ true }
+{
+    let read = read_trace(alloc, reader);
+    match read.end {
+        TraceEnd::Whole => judge(alloc, &read.entries, false, writer),
+        TraceEnd::Torn => judge(alloc, &read.entries, true, writer),
+        TraceEnd::BadLine(number) => Exit::BadLine(number),
+        TraceEnd::DeviceFailed => Exit::DeviceFailed,
+        TraceEnd::NoMemory => Exit::NoMemory,
+    }
+}
+
+/// Prints the verdict on entries, and whether a torn line stands behind them.
+fn judge<W: PortWrite>(alloc: Global, entries: &[Entry], is_torn: bool, writer: &mut W) -> Exit
+    ensures prints { PrintsVerdict entries.now is_torn (W.written writer.old) (W.written writer.new) result }
+    ensures failed { result ≡ Exit.DeviceFailed → W.failures writer.old < W.failures writer.new }
+    ensures flushed { result ≢ Exit.DeviceFailed
+        → W.flushed writer.old ≡ true → W.flushed writer.new ≡ true }
+{
+    let verdict = check(entries);
+    let Ok(text) = verdict_lines(alloc, &verdict, is_torn) else {
+        return Exit::NoMemory;
+    };
+    match put(writer, text.as_bytes()) {
+        Ok(()) => match verdict {
+            Verdict::Yes => Exit::Done,
+            Verdict::No { .. } => Exit::Illegal,
+        },
+        Err(_) => Exit::DeviceFailed,
+    }
+}
+
+// The lines of a verdict.
+fn verdict_lines(alloc: Global, verdict: &Verdict, is_torn: bool) -> Result<String, AllocError>
+    requires within { IfNo verdict.now (λ index expected. index + 1 < 2 ^ 64) }
+    ensures { IfOk result (λ text. string_bytes text ≡ verdict_text verdict.now is_torn) }
+{
+    let mut text = String::new(alloc);
+    match verdict {
+        Verdict::Yes => text.push_str("yes")?,
+        Verdict::No { index, expected } => {
+            let line = index + 1;
+            write!(text, "no {line} ")?;
+            write_expected(alloc, &mut text, expected)?;
+        }
+    }
+    text.push_str("\n")?;
+    if is_torn {
+        text.push_str("torn\n")?;
+    }
+    Ok(text)
+}
+
+// Appends the line of the output that was expected, or that an input was.
+fn write_expected(
+    alloc: Global,
+    text: &mut String,
+    expected: &Option<Output>,
+) -> Result<(), AllocError>
+    ensures { OnOk result (string_bytes text.new ≡ string_bytes text.old ++ expected_text expected.now) }
+{
+    match expected {
+        Some(output) => {
+            let line = entry_line(alloc, &Entry::Written(*output))?;
+            text.push_str(line.as_str())
+        }
+        None => text.push_str("input"),
+    }
+}

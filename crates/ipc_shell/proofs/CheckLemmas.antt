@@ -11,12 +11,12 @@ pub torn_lines : (bytes left : Option (List ℕ)) (entries : List Entry) → IsR
 torn_lines None left entries read = tt
 torn_lines (Some bytes) None entries (torn, one, some, taken, at_end) = absurd taken
 torn_lines (Some bytes) (Some rest) entries (torn, one, some, taken, at_end) = record {
-    torn = torn;
-    one = one;
-    bytes_are = taken ∙ ap (λ (t : List ℕ). (trace_text entries ++ torn) ++ t) at_end ∙ append-nil (trace_text entries ++ torn);
-    is_there = λ _. some;
-    is_none = λ is. absurd (true_is_not_false is);
-  }
+  torn = torn;
+  one = one;
+  bytes_are = taken ∙ ap (λ (t : List ℕ). (trace_text entries ++ torn) ++ t) at_end ∙ append-nil (trace_text entries ++ torn);
+  is_there = λ _. some;
+  is_none = λ is. absurd (true_is_not_false is);
+}
   where
     true_is_not_false : true ≡ false → ⊥
     true_is_not_false is = cc

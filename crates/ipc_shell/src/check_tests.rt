@@ -23,7 +23,11 @@ fn a_trace_is_judged_by_its_whole_lines(rt: HostRuntime) {
     let cases = [
         ("", Exit::Done, "yes\n"),
         ("opened 1.1 1\nbroke 1.1\n", Exit::Done, "yes\n"),
-        ("opened 1.1 1\nbroke 1.1\nopened 1.1 1\n", Exit::Illegal, "no 3 input\n"),
+        (
+            "opened 1.1 1\nbroke 1.1\nopened 1.1 1\n",
+            Exit::Illegal,
+            "no 3 input\n",
+        ),
         ("opened 1.1 1\nopened 2", Exit::Done, "yes\ntorn\n"),
         ("broke 1.1\nopened 2", Exit::Illegal, "no 1 input\ntorn\n"),
         ("opened 01.1 1\n", Exit::BadLine(1), ""),
@@ -40,7 +44,13 @@ fn an_output_that_is_missing_is_expected(rt: HostRuntime) -> Result<(), AllocErr
     let whole = format!(in alloc; "{MEETING}began 2 1\nended 2 1\n")?;
     assert_checked(&rt, alloc, whole.as_bytes(), Exit::Done, "yes\n");
     let short = format!(in alloc; "{MEETING}ended 2 1\n")?;
-    assert_checked(&rt, alloc, short.as_bytes(), Exit::Illegal, "no 5 began 2 1\n");
+    assert_checked(
+        &rt,
+        alloc,
+        short.as_bytes(),
+        Exit::Illegal,
+        "no 5 began 2 1\n",
+    );
     Ok(())
 }
 
@@ -50,7 +60,10 @@ fn a_device_that_fails_ends_the_check(rt: HostRuntime) {
     let trace = MEETING.as_bytes();
     let mut reader = MemoryPort::new(alloc, trace).with_trouble(0, Trouble::Fails);
     let mut writer = MemoryPort::new(alloc, &[]);
-    assert_eq!(&rt; check_trace(alloc, &mut reader, &mut writer), Exit::DeviceFailed);
+    assert_eq!(&rt;
+        check_trace(alloc, &mut reader, &mut writer),
+        Exit::DeviceFailed
+    );
     assert_eq!(&rt; writer.output(), Some(b"".as_slice()));
     let mut writer = MemoryPort::new(alloc, &[]).byte_by_byte();
     writer = writer.with_trouble(2, Trouble::Fails);

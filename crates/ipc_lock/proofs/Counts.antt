@@ -16,7 +16,8 @@ use Rattle.ipc_history.specs.declared.entry.Input.TheVariants.{At, Opened, Calle
 use Rattle.ipc_history.specs.declared.entry.Output.{Output}
 use Rattle.ipc_core.specs.KernelParts.{KernelParts}
 use Rattle.ipc_core.specs.Steps.{Advances, Enters, MayRefuse, Opens, Takes, at_if_later, at_moment, with_input}
-use Rattle.ipc_core.specs.Outcomes.{among_of, calls_by, made_by, taken_by}
+use Rattle.ipc_core.specs.Outcomes.{made_by, taken_by}
+use Rattle.ipc_desks.specs.CallsOf as calls
 use Rattle.ipc_core.specs.declared.answers.Advance.{Advance}
 use Rattle.ipc_core.specs.declared.answers.Advance.TheVariants as advance
 use Rattle.ipc_core.specs.declared.answers.ExregAnswer.{ExregAnswer}
@@ -218,15 +219,15 @@ ticks_same old new reading t = go _ t.history
 
 -- a thread's share of the counts
 pub made_few : (H : List Entry) (thread : ℕ) → made_by H thread ≤ length H
-unfolding made_by
+unfolding made_by calls.made_by
 made_few H thread = go (is_live H thread)
   where
-    go : (live : Bool) → (if live then count_by (calls_by thread) H else 0) ≤ length H
-    go true = count_by-le-length (calls_by thread) H
+    go : (live : Bool) → (if live then count_by (calls.calls_by thread) H else 0) ≤ length H
+    go true = count_by-le-length (calls.calls_by thread) H
     go false = omega arith
 
 pub taken_few : (kernel : KernelParts) (thread : ℕ) → taken_by kernel thread ≤ length kernel.taken
-unfolding among_of
+unfolding taken_by calls.taken_by
 taken_few kernel thread = go (is_live kernel.history thread)
   where
     go : (live : Bool) → (if live then count_by (λ n. caller_of kernel.history n == thread) kernel.taken else 0) ≤ length kernel.taken

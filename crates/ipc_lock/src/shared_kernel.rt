@@ -131,6 +131,11 @@ impl<C: Ledger, T: Ledger> SharedKernel<C, T> {
         };
         for _ in rt.forever() {
             if let Some(next) = inside.next(place, seat) {
+                let emptied = inside.emptied(place);
+                drop(inside);
+                if let Some(emptied) = emptied {
+                    emptied.notify_one();
+                }
                 return next;
             }
             inside = bell.wait(rt, inside);

@@ -8,6 +8,8 @@ mod next;
 mod reading;
 mod serving;
 mod taking;
+#[cfg(test)]
+mod tests;
 mod turned;
 mod writing;
 

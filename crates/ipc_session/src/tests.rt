@@ -295,3 +295,48 @@ fn a_gate_stops_a_loop(rt: HostRuntime) {
         assert_written(&rt, alloc, 100, turns, WriteEnding::Stopped, text);
     }
 }
+
+// So many parts of a transfer are to be moved.
+#[derive(Drop)]
+struct FakeWork {
+    ticks: u32,
+    parts: u32,
+}
+
+impl WorkDesk for FakeWork {
+    ghost gone = { λ _. true };
+
+    fn tick(&mut self) {
+        self.ticks = self.ticks.saturating_add(1);
+    }
+
+    fn advance(&mut self) -> bool {
+        if self.parts == 0 {
+            return false;
+        }
+        self.parts -= 1;
+        true
+    }
+
+    fn wait(&mut self) -> bool {
+        false
+    }
+}
+
+#[derive(Drop)]
+struct NoPause;
+
+impl Beat for NoPause {
+    fn wait(&mut self) {}
+}
+
+#[test]
+fn work_is_done_until_the_gate_says_stop(rt: HostRuntime) {
+    let mut desk = FakeWork { ticks: 0, parts: 3 };
+    tick_loop(&mut NoPause, &mut desk, &mut Open::new(2));
+    assert_eq!(rt; desk.ticks, 2);
+    assert_eq!(rt; move_loop(&mut desk, &mut Open::new(2)), MoveEnding::Stopped);
+    assert_eq!(rt; desk.parts, 1);
+    assert_eq!(rt; move_loop(&mut desk, &mut Open::new(2)), MoveEnding::Gone);
+    assert_eq!(rt; desk.parts, 0);
+}

@@ -8,7 +8,10 @@ mod next;
 mod reading;
 mod serving;
 mod taking;
+#[cfg(test)]
+mod tests;
 mod turned;
+mod working;
 mod writing;
 
 pub use calling::CallDesk;
@@ -18,4 +21,5 @@ pub use next::Next;
 pub use reading::read_loop;
 pub use taking::TakeDesk;
 pub use turned::Turned;
+pub use working::{Beat, MoveEnding, WorkDesk, move_loop, tick_loop};
 pub use writing::write_loop;

@@ -1,0 +1,59 @@
+ghost use Rattle.std.specs.Prelude.{◌≡◌, Bool, true, false};
+
+use crate::gate::Gate;
+
+/// The work that no connection asks for.
+pub trait WorkDesk {
+    ghost use Rattle.std.specs.Prelude.{Bool};
+
+    // Whether it said that nothing more comes.
+    ghost gone: { Self → Bool };
+
+    /// Ends what is overdue now.
+    fn tick(&mut self);
+
+    /// Moves a part of a begun transfer; false: none is begun.
+    fn advance(&mut self) -> bool;
+
+    /// Waits for a begun transfer; false: none comes any more.
+    fn wait(&mut self) -> bool
+        ensures gone { result ≡ false → gone self.new ≡ true };
+}
+
+/// A clock whose turns are waited for.
+pub trait Beat {
+    /// Waits for the next turn of the clock.
+    fn wait(&mut self);
+}
+
+/// How a mover ended.
+#[derive(Clone, Copy, PartialEq, Eq, Debug)]
+pub enum MoveEnding {
+    /// S3: the gate said stop.
+    Stopped,
+    /// No transfer begins any more.
+    Gone,
+}
+
+/// Ticks the desk at each turn of the clock, until the gate says stop.
+pub fn tick_loop<C: Beat, D: WorkDesk, G: Gate>(clock: &mut C, desk: &mut D, gate: &mut G)
+    ensures stopped { G.stopped gate.new ≡ true }
+{
+    'turns: while gate.turn() {
+        clock.wait();
+        desk.tick();
+    }
+}
+
+/// Moves begun transfers while there are any, and then waits for the next.
+pub fn move_loop<D: WorkDesk, G: Gate>(desk: &mut D, gate: &mut G) -> MoveEnding
+    ensures stopped { result ≡ MoveEnding.Stopped → G.stopped gate.new ≡ true }
+    ensures gone { result ≡ MoveEnding.Gone → D.gone desk.new ≡ true }
+{
+    'turns: while gate.turn() {
+        if !desk.advance() && !desk.wait() {
+            return MoveEnding::Gone;
+        }
+    }
+    MoveEnding::Stopped
+}

@@ -86,7 +86,7 @@ fn propagation(alloc: Global, left_out: usize) -> Result<Vec<Entry>, Fail> {
         0x1,
         ThreadId::NILTHREAD,
     )?;
-    let whole = vec![in alloc;
+    let mut entries = vec![in alloc;
         opened(1),
         opened(2),
         opened(3),
@@ -103,13 +103,8 @@ fn propagation(alloc: Global, left_out: usize) -> Result<Vec<Entry>, Fail> {
         written(Output::Began(5, 3)),
         written(Output::Ended(5, 3)),
     ]?;
-    let mut entries = Vec::new(alloc);
-    let mut place = 0usize;
-    for entry in whole {
-        if place != left_out {
-            entries.push(entry)?;
-        }
-        place += 1;
+    if left_out < entries.len() {
+        let _ = entries.remove(left_out);
     }
     Ok(entries)
 }

@@ -335,7 +335,10 @@ fn work_is_done_until_the_gate_says_stop(rt: HostRuntime) {
     let mut desk = FakeWork { ticks: 0, parts: 3 };
     tick_loop(&mut NoPause, &mut desk, &mut Open::new(2));
     assert_eq!(rt; desk.ticks, 2);
-    assert_eq!(rt; move_loop(&mut desk, &mut Open::new(2)), MoveEnding::Stopped);
+    assert_eq!(rt;
+        move_loop(&mut desk, &mut Open::new(2)),
+        MoveEnding::Stopped
+    );
     assert_eq!(rt; desk.parts, 1);
     assert_eq!(rt; move_loop(&mut desk, &mut Open::new(2)), MoveEnding::Gone);
     assert_eq!(rt; desk.parts, 0);

@@ -1,8 +1,6 @@
-//! The command lines of `l4sh` and `l4d`.
+//! The command line of `l4sh`.
 #![tactic(auto)]
 
-mod server;
 mod shell;
 
-pub use server::{MAX_SPACES, OWNER_ONLY, ServerOptions, server_options};
 pub use shell::{ShellOptions, shell_options};

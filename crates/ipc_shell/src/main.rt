@@ -16,6 +16,8 @@ mod row_tests;
 mod running;
 #[cfg(test)]
 mod tests;
+#[cfg(test)]
+mod transcripts;
 
 use clap::error::ErrorKind;
 use exit::Exit;

@@ -11,7 +11,7 @@ ghost use Rattle.ipc_history.specs.Legal.{Legal, Quiet, Follows, is_admissible, 
 ghost use Rattle.ipc_history.specs.NextOutput.{next_output};
 ghost use Rattle.ipc_history.specs.Settled.{Continued, Settled};
 ghost use Rattle.ipc_history.specs.Timing.{is_due_at};
-ghost use Rattle.ipc_laws.specs.Counting.{room_owed, live_threads, pledge_of};
+ghost use Rattle.ipc_laws.specs.Counting.{open_calls, room_owed, live_threads, pledge_of};
 ghost use Rattle.ipc_desks.specs.CallsOf.{is_busy, last_call, made_by, outcome_to_take, taken_by};
 ghost use Rattle.ipc_desks.specs.Desks.{Keeps};
 ghost use Rattle.ipc_desks.specs.Messages.{prepared};
@@ -154,6 +154,13 @@ impl Course {
         ensures { result ≡ open_call self.now.entries thread }
     {
         self.slots.open_call_of(self.history.entries(), thread)
+    }
+
+    /// How many calls are open.
+    pub(crate) fn open_calls(&self) -> usize
+        ensures { result ≡ open_calls self.now.entries }
+    {
+        self.slots.open_calls(self.history.entries())
     }
 
     /// How many calls were made.

@@ -22,4 +22,4 @@ pub mod Placed
 pub mod Stops
 pub mod Lasts
 pub mod Answering
-pub mod PledgeSums
+pub mod SlotSums

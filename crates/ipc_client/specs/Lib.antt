@@ -5,3 +5,4 @@ pub mod Messages
 pub mod ClientParts
 pub mod Asking
 pub mod Timeouts
+pub mod Building

@@ -2,10 +2,12 @@
 #![tactic(auto)]
 
 mod answer;
+mod building;
 mod client;
 mod device;
 mod error;
 mod message;
+mod message_fault;
 mod reading;
 #[cfg(test)]
 mod tests;
@@ -16,6 +18,7 @@ pub use answer::{Answer, Greeting, Registers};
 pub use client::Client;
 pub use error::ClientError;
 pub use message::{Buffers, Message};
+pub use message_fault::MessageFault;
 pub use reading::read_frame;
 pub use timeout::Timeout;
 pub use writing::write_frame;

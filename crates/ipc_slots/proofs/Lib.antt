@@ -23,3 +23,4 @@ pub mod Stops
 pub mod Lasts
 pub mod Answering
 pub mod SlotSums
+pub mod Nears

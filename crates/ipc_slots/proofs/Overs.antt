@@ -5,7 +5,6 @@ use Rattle.std.specs.Option.{option_map_or}
 use Rattle.ipc_words.specs.ThreadId.{nilthread}
 use Rattle.ipc_history.specs.Entries.{ends}
 use Rattle.ipc_history.specs.Calls.{numbers, caller_of, from_of, to_of, message_size}
-use Rattle.ipc_history.specs.Threads.{now}
 use Rattle.ipc_history.specs.Phases.{is_over, is_sent, receiver_of, sender_of, is_sending, is_transferring, is_receiving, moved_bytes}
 use Rattle.ipc_history.specs.Matching.{accepts, shown_sender, matches, match_of}
 use Rattle.ipc_history.specs.Timing.{is_due_at}

@@ -260,7 +260,7 @@ impl Kernel {
         self.course.begin();
         if self.course.is_any_due_at(moment) {
             self.course.tick(moment);
-            self.course.settle();
+            self.course.settle(None);
         }
         self.moment = moment;
     }

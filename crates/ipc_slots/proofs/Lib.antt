@@ -23,3 +23,5 @@ pub mod Stops
 pub mod Lasts
 pub mod Answering
 pub mod SlotSums
+pub mod Concerns
+pub mod Nears

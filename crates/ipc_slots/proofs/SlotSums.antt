@@ -1,12 +1,12 @@
 -- A sum over the slots is the sum over the calls.
 use Rattle.std.proofs.lemmas.Bool.{cases_eq, ne_eqb}
 use Rattle.std.proofs.lemmas.List.Sums.{sum_by_push}
-use Rattle.std.proofs.Common.{◌≡◌, ◌≢◌, refl, sym, ap, ◌∙◌, ℕ, zero, suc, ◌+◌, ◌*◌, ◌/◌, ◌<◌, ◌≤◌, ◌^◌, ◌==◌, eq-eqb, eqb-true, nat_le, if◌then◌else◌, Bool, true, false, not, cond, List, Option, Some, None, sum_by, ◌⊎◌, inl, inr, arith}
+use Rattle.std.proofs.Common.{◌≡◌, ◌≢◌, refl, sym, ap, ◌∙◌, ℕ, zero, suc, ◌+◌, ◌<◌, ◌≤◌, ◌==◌, eq-eqb, nat_le, if◌then◌else◌, Bool, true, false, not, cond, List, Option, Some, None, sum_by, ◌⊎◌, inl, inr, arith}
 use Rattle.std.specs.Option.{option_map_or}
 use Rattle.std.proofs.lemmas.Bool.Decides.{nat_tests}
 use Rattle.std.proofs.lemmas.Grind.{common_steps}
 use Rattle.std.proofs.lemmas.Option.{same_Some}
-use Rattle.ipc_words.specs.ThreadId.{nilthread, number_of}
+use Rattle.ipc_words.specs.ThreadId.{number_of}
 use Rattle.ipc_history.specs.Calls.{numbers, calls_made, caller_of}
 use Rattle.ipc_history.specs.Phases.{is_over}
 use Rattle.ipc_history.specs.Legal.{Legal}
@@ -19,7 +19,6 @@ use Rattle.ipc_laws.proofs.Numbering.{called_below, numbered, number_at}
 use Rattle.ipc_laws.proofs.OpenCalls.{caller_lives}
 use Rattle.ipc_laws.proofs.Tests.{not_both}
 use Rattle.ipc_slots.specs.Pledges.{open_in, pledge_by, pledge_in}
-use Rattle.ipc_slots.specs.Rules.{IsStanding}
 use Rattle.ipc_slots.specs.Slots.{Stands, slot_at}
 use Rattle.ipc_slots.specs.Standings.{standing_of}
 use Rattle.ipc_slots.specs.Steps.{standing_in}

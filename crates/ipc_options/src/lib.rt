@@ -2,7 +2,9 @@
 #![tactic(auto)]
 
 mod server;
+mod server_words;
 mod shell;
 
-pub use server::{MAX_SPACES, OWNER_ONLY, ServerOptions, server_options};
+pub use server::{MAX_SPACES, OWNER_ONLY, ServerOptions};
+pub use server_words::server_options;
 pub use shell::{ShellOptions, shell_options};

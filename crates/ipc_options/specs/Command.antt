@@ -1,9 +1,9 @@
--- The command that `l4sh` asks `clap` for.
+-- The commands that `l4sh` and `l4d` ask `clap` for.
 use Rattle.std.specs.Prelude.{ℕ, Some, [], ◌∷◌, codes, true}
 use Rattle.ipc_words.specs.Limits.{max_entries, max_calls}
 use Rattle.clap.specs.Words.{App, Rule, Text, new_app, new_rule, with_rule, with_subcommand}
 use Rattle.clap.specs.Simple.{on_top}
-use Rattle.clap.specs.declared.builder.action.ArgAction.TheVariants.{SetTrue}
+use Rattle.clap.specs.declared.builder.action.ArgAction.TheVariants.{Set, SetTrue}
 use Rattle.clap.specs.declared.builder.value_parser.ValueParser.TheVariants.{Unsigned}
 
 -- `--ID N`: a number up to most, by default the one that a text reads as
@@ -53,3 +53,50 @@ proving_app = with_subcommand (with_subcommand
 -- `l4sh` with its subcommands, of which one has to be there
 abbrev pub shell_app : App
 shell_app = with_subcommand proving_app chart_app.top
+
+-- `--dir DIR`, which has to be there
+abbrev pub dir_rule : Rule
+dir_rule = record (new_rule (codes "dir")) {
+  long = Some (codes "dir");
+  value_names = 1;
+  required = true;
+  action = Some Set;
+}
+
+-- `--spaces N`, which has to be there: 1 to 64
+abbrev pub spaces_rule : Rule
+spaces_rule = record (new_rule (codes "spaces")) {
+  long = Some (codes "spaces");
+  value_names = 1;
+  required = true;
+  parser = Some (Unsigned 1 64);
+}
+
+-- `--connections M`: 1 to 65,535
+abbrev pub connections_rule : Rule
+connections_rule = record (new_rule (codes "connections")) {
+  long = Some (codes "connections");
+  value_names = 1;
+  parser = Some (Unsigned 1 65535);
+  defaults = codes "65535" ∷ [];
+}
+
+-- `--mode OCTAL`
+abbrev pub mode_rule : Rule
+mode_rule = record (new_rule (codes "mode")) {
+  long = Some (codes "mode");
+  value_names = 1;
+  defaults = codes "600" ∷ [];
+}
+
+-- `--probe`
+abbrev pub probe_rule : Rule
+probe_rule = record (new_rule (codes "probe")) {
+  long = Some (codes "probe");
+  action = Some SetTrue;
+}
+
+abbrev pub server_app : App
+server_app = with_rule
+    (with_rule (with_rule (with_rule (with_rule (new_app (codes "l4d")) dir_rule) spaces_rule) connections_rule) mode_rule)
+    probe_rule

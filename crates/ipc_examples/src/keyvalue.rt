@@ -32,7 +32,12 @@ pub fn serve<I: PortRead, O: PortWrite, R: Wait>(
         let next = match waiting {
             Some(request) => {
                 let answer = answer(alloc, &mut table, request)?;
-                client.reply_wait(request.sender, answer, Timeout::never(), Buffers::none(alloc))?
+                client.reply_wait(
+                    request.sender,
+                    answer,
+                    Timeout::never(),
+                    Buffers::none(alloc),
+                )?
             }
             None => client.receive(ThreadId::ANYTHREAD, Timeout::never(), Buffers::none(alloc))?,
         };

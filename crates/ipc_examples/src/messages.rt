@@ -1,8 +1,9 @@
 //! What comes back from the server.
 use crate::trouble::Trouble;
 use ipc_client::{Answer, Client, Greeting, Message};
+use ipc_items::StringList;
 use ipc_ports::{PortRead, PortWrite};
-use ipc_words::{MsgTag, ThreadId};
+use ipc_words::ThreadId;
 use std::alloc::Global;
 
 /// A message that was received: at most two of its words.
@@ -48,19 +49,7 @@ pub fn message_of(answer: Answer) -> Result<Result<Received, u64>, Trouble> {
     }
 }
 
-/// A message of words alone, at most 63 of them.
+/// A message of words alone.
 pub fn message(alloc: Global, label: u64, words: &[u64]) -> Result<Message, Trouble> {
-    let mut message = Message::empty(alloc);
-    for word in words {
-        if message.words.push(*word).is_err() {
-            return Err(Trouble::NoMemory);
-        }
-    }
-    let count = words.len().min(63) as u8;
-    let tag = MsgTag::EMPTY.with_label(label);
-    message.tag = match tag.and_then(|tag| tag.with_untyped(count)) {
-        Some(tag) => tag,
-        None => MsgTag::EMPTY,
-    };
-    Ok(message)
+    Ok(Message::of(alloc, label, words, &StringList::new(alloc))?)
 }

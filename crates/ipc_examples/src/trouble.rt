@@ -1,5 +1,5 @@
 //! Why a role ends.
-use ipc_client::ClientError;
+use ipc_client::{ClientError, MessageFault};
 use std::fmt;
 
 /// Why a role ends before its work is done.
@@ -15,6 +15,8 @@ pub enum Trouble {
     NoOutput,
     /// The connection ended.
     Client(ClientError),
+    /// A message is past its limits.
+    LongMessage,
     /// The kernel refused: the number after K.
     Refused(u8),
     /// A call failed with this ErrorCode.
@@ -37,6 +39,15 @@ impl From<ClientError> for Trouble {
     }
 }
 
+impl From<MessageFault> for Trouble {
+    fn from(fault: MessageFault) -> Trouble {
+        match fault {
+            MessageFault::NoMemory => Trouble::NoMemory,
+            _ => Trouble::LongMessage,
+        }
+    }
+}
+
 impl fmt::Display for Trouble {
     fn fmt<W: fmt::Write>(&self, f: &mut fmt::Formatter<W>) -> fmt::Result {
         match self {
@@ -48,6 +59,7 @@ impl fmt::Display for Trouble {
             Trouble::NoServer => write!(f, "nobody listens on space1 of this folder"),
             Trouble::NoOutput => write!(f, "standard output failed"),
             Trouble::Client(error) => write!(f, "{error}"),
+            Trouble::LongMessage => write!(f, "the message is past its limits"),
             Trouble::Refused(number) => write!(f, "refused: K{number}"),
             Trouble::Failed(code) => write!(f, "the call failed: error {code:#x}"),
         }

@@ -22,7 +22,7 @@ use std::os::unix::net::UnixStream;
 use std::process::ExitCode;
 use std::sync::Wait;
 use std::sync::ledger::{Blank, Ledger};
-use trouble::Trouble;
+use trouble::{Trouble, USAGE};
 
 fn main(rt: HostRuntime) -> io::Result<ExitCode> {
     let alloc = rt.alloc();
@@ -32,6 +32,12 @@ fn main(rt: HostRuntime) -> io::Result<ExitCode> {
     let Ok(words) = words.collect::<Vec<String>>(alloc) else {
         return ended(&rt, &Trouble::NoMemory);
     };
+    if let [_, word] = words.as_slice()
+        && word.as_str() == "--help"
+    {
+        println!(rt; "{USAGE}")?;
+        return Ok(ExitCode::from(0));
+    }
     let Some((dir, role)) = Role::of(words.as_slice()) else {
         return ended(&rt, &Trouble::Usage);
     };

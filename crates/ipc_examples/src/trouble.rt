@@ -2,6 +2,15 @@
 use ipc_client::{ClientError, MessageFault};
 use std::fmt;
 
+/// The words that name a role.
+pub const USAGE: &str = "usage: l4x DIR ROLE, where the role is one of
+
+    keyvalue                   thread 1, which keeps a word under each word
+    gateway                    thread 2, which passes requests on to thread 1
+    put KEY VALUE [gateway]    thread 3, which puts a value
+    get KEY [gateway]          thread 3, which prints the value, or nothing
+    sleep MICROSECONDS         thread 4, which sleeps";
+
 /// Why a role ends before its work is done.
 #[derive(Clone, Copy, PartialEq, Eq, Debug)]
 pub enum Trouble {
@@ -51,10 +60,7 @@ impl From<MessageFault> for Trouble {
 impl fmt::Display for Trouble {
     fn fmt<W: fmt::Write>(&self, f: &mut fmt::Formatter<W>) -> fmt::Result {
         match self {
-            Trouble::Usage => write!(
-                f,
-                "usage: DIR keyvalue | DIR gateway | DIR put KEY VALUE [gateway] | DIR get KEY [gateway] | DIR sleep MICROSECONDS"
-            ),
+            Trouble::Usage => write!(f, "{USAGE}"),
             Trouble::NoMemory => write!(f, "no memory"),
             Trouble::NoServer => write!(f, "nobody listens on space1 of this folder"),
             Trouble::NoOutput => write!(f, "standard output failed"),

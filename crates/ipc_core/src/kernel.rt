@@ -259,7 +259,7 @@ impl Kernel {
         ensures calls_limit { self.new.calls_limit ≡ self.old.calls_limit }
     {
         let moment = self.moment.max(now.min(LAST_MOMENT));
-        self.course.begin();
+        self.course.begin_at(moment);
         if self.course.is_any_due_at(moment) {
             self.course.tick(moment);
             self.course.settle(None);

@@ -16,3 +16,5 @@ pub mod FinishedLaws
 pub mod Resting
 pub mod RunLaws
 pub mod IdleLaws
+pub mod OutcomeCall
+pub mod BusyLaws

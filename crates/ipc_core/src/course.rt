@@ -43,18 +43,20 @@ pub(crate) struct Course {
     taken: Vec<u64>,
     since: usize,
     finished: Vec<ThreadId>,
+    /// No waiting phase is due before this moment.
+    calm: u64,
 }
 
 impl Model for Course {
     ghost use Rattle.std.specs.Prelude.{vec_capacity};
     ghost use Rattle.ipc_core.specs.CourseParts.{CourseParts};
-    ghost use Rattle.ipc_core.specs.Invariants.{IsCourse};
+    ghost use Rattle.ipc_core.specs.Invariants.{IsCalm, IsCourse};
 
     ghost Value = { CourseParts };
 
     ghost view = { λ c. record { entries = c.history.entries; room = c.history.room; taken = c.taken.items; since = c.since; finished = c.finished.items; places = vec_capacity c.taken } };
 
-    ghost invariant = { λ c. IsCourse c.history.entries c.slots c.desks c.taken.items c.since c.finished.items (vec_capacity c.finished) };
+    ghost invariant = { λ c. IsCourse c.history.entries c.slots c.desks c.taken.items c.since c.finished.items (vec_capacity c.finished) × IsCalm c.history.entries c.calm };
 }
 
 impl Course {
@@ -71,6 +73,7 @@ impl Course {
             taken: Vec::new(alloc),
             since: 0,
             finished: Vec::with_capacity(alloc, TABLE_SLOTS)?,
+            calm: 0,
         })
     }
 
@@ -201,11 +204,11 @@ impl Course {
         self.slots.pledged_for_calls(self.history.entries())
     }
 
-    /// Whether a waiting phase is due at a moment.
+    /// Whether a waiting phase is due at a moment. Looks at the threads only where one may be.
     pub(crate) fn is_any_due_at(&self, moment: u64) -> bool
         ensures { result ≡ list_any (is_due_at self.now.entries moment) (numbers self.now.entries) }
     {
-        self.slots.is_any_due_at(self.history.entries(), moment)
+        self.calm <= moment && self.slots.is_any_due_at(self.history.entries(), moment)
     }
 
     /// The least call in transfer, and how many of its bytes are copied next.
@@ -316,6 +319,21 @@ impl Course {
         self.finished.clear();
     }
 
+    /// Begins a clock reading. Looks at the threads, for the moment before which none of them is due, only where the moment has come
+    /// that was found before.
+    pub(crate) fn begin_at(&mut self, moment: u64)
+        ensures entries { self.new.entries ≡ self.old.entries }
+        ensures room { self.new.room ≡ self.old.room }
+        ensures taken { self.new.taken ≡ self.old.taken }
+        ensures since { self.new.since ≡ length self.old.entries }
+        ensures places { self.new.places ≡ self.old.places }
+    {
+        self.begin();
+        if self.calm <= moment {
+            self.calm = self.slots.calm_until(self.history.entries());
+        }
+    }
+
     /// Moves the outcome out that a live thread may take. Takes no memory.
     pub(crate) fn take(&mut self, thread: ThreadId) -> Option<Outcome>
         requires live { IsTrue (is_live self.old.entries thread) }
@@ -360,6 +378,7 @@ impl Course {
         add(&mut self.finished, ended.first);
         add(&mut self.finished, ended.second);
         self.history.push(entry);
+        self.calm = 0;
     }
 
     /// Writes the outputs that apply, until none does; the first of them is found under one call where that is known. Takes no memory.

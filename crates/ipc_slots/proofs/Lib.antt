@@ -25,3 +25,4 @@ pub mod Answering
 pub mod SlotSums
 pub mod Concerns
 pub mod Nears
+pub mod Calms

@@ -3,3 +3,4 @@ pub mod ReadLemmas
 pub mod ClientLemmas
 pub mod BuildLemmas
 pub mod CutLemmas
+pub mod PeriodLemmas

@@ -1,5 +1,8 @@
 use crate::{CallDecoder, Heard};
-use ipc_frame::FrameFault;
+use ipc_frame::{Frame, FrameFault, IpcFrame, IpcParts, encode};
+use ipc_words::{MsgTag, ThreadId, Timeouts};
+use std::alloc::Global;
+use std::test::Fail;
 
 const HELLO: [u8; 7] = [0, 0, 0, 3, 1, 0, 2];
 
@@ -100,4 +103,55 @@ fn words_and_periods_out_of_range_are_refused(rt: HostRuntime) {
     assert_eq!(rt; 5_000, told(decoder.take(&late[..57])));
     assert_eq!(rt; 4_012, told(decoder.take(&late[57..])));
     assert_eq!(rt; 4_013, told(decoder.take(&BYE)));
+}
+
+// The call with acceptor 0 and a buffer word whose bit 3 is set.
+const UNREAD_BUFFERS: [u8; 66] = [
+    0, 0, 0, 62, 2, 0, 0, 0, 1, 0, 0, 0, 1, 0, 0, 0, 0, 0, 0, 0, 0, 0, 0, 0, 0, 0, 0, 0, 0, 0, 0,
+    0, 0, 0, 0, 0, 0, 0, 0, 0, 1, 0, 0, 0, 0, 0, 0, 0, 0, 1, 0, 0, 0, 0, 0, 0, 0, 7, 0, 0, 0, 0, 0,
+    0, 0, 8,
+];
+
+#[test]
+fn buffer_words_are_read_only_where_strings_are_accepted(rt: HostRuntime) {
+    let alloc = rt.alloc();
+    assert_eq!(rt; 1_001, told(CallDecoder::new(alloc).take(&UNREAD_BUFFERS)));
+    let mut many = CALL;
+    many[49] = 33;
+    assert_eq!(rt; 4_004, told(CallDecoder::new(alloc).take(&many[..50])));
+}
+
+// A call with so many items that each name all of a payload of 65,536 bytes.
+fn many_strings(alloc: Global, items: u8) -> Result<Vec<u8>, Fail> {
+    let mut words = Vec::new(alloc);
+    for _ in 0..items {
+        words.push(0x400_0000)?;
+        words.push(0)?;
+    }
+    let parts = IpcParts {
+        to: ThreadId::from_word(0x1_0000_0001),
+        from: ThreadId::NILTHREAD,
+        timeouts: Timeouts::from_word(0),
+        originator: ThreadId::NILTHREAD,
+        tag: MsgTag::from_word(128 * u64::from(items)),
+        acceptor: 0,
+        words,
+        buffer_words: Vec::new(alloc),
+        payload: vec![in alloc; 5; 65_536]?,
+    };
+    match IpcFrame::new(parts) {
+        Ok(ipc) => Ok(encode(alloc, Frame::Ipc(ipc))?),
+        Err(_) => Err(Fail::new("no frame")),
+    }
+}
+
+#[test]
+fn strings_of_a_mebibyte_are_heard_and_no_more(rt: HostRuntime) -> Result<(), Fail> {
+    let alloc = rt.alloc();
+    let most = many_strings(alloc, 16)?;
+    assert_eq!(rt; most.len(), 65_842);
+    assert_eq!(rt; 1_000, told(CallDecoder::new(alloc).take(&most)));
+    let more = many_strings(alloc, 17)?;
+    assert_eq!(rt; 4_008, told(CallDecoder::new(alloc).take(&more)));
+    Ok(())
 }

@@ -2,3 +2,5 @@ pub mod WriteLemmas
 pub mod ReadLemmas
 pub mod ClientLemmas
 pub mod BuildLemmas
+pub mod CutLemmas
+pub mod PeriodLemmas

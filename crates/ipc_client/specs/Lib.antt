@@ -6,3 +6,5 @@ pub mod ClientParts
 pub mod Asking
 pub mod Timeouts
 pub mod Building
+pub mod Receiving
+pub mod Buffering

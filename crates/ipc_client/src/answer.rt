@@ -1,6 +1,6 @@
 //! What the server answers.
 use ipc_frame::IpcrFrame;
-use ipc_words::{Control, ThreadId};
+use ipc_words::{Control, IpcError, ThreadId};
 
 /// The answer to HELLO.
 #[derive(Clone, Copy, PartialEq, Eq, Debug)]
@@ -34,4 +34,13 @@ pub enum Registers {
     },
     /// The kernel refused: the number after K. The thread goes on.
     Refused(u8),
+}
+
+/// Why a call that was answered brings no message.
+#[derive(Clone, Copy, PartialEq, Eq, Debug)]
+pub enum Failure {
+    /// The kernel refused the call: the number after K.
+    Refused(u8),
+    /// The call failed: its ErrorCode.
+    Failed(IpcError),
 }

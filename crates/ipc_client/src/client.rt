@@ -8,7 +8,7 @@ ghost use Rattle.ipc_frame.specs.Frames.{spelling};
 ghost use Rattle.ipc_client.specs.Asking.{Answers, Exchanges, Fails, FailsBy, FailsCall, FailsToRead, FailsToSend, FailsBye, IsWithheld, SaysBye};
 ghost use Rattle.ipc_client.specs.Asking.{answer_frame, answers_call, answers_exchange, error_at, greeting_frame, greets, registers_frame};
 ghost use Rattle.ipc_client.specs.Messages.{ipc_of, no_buffers, no_message};
-ghost use Rattle.ipc_client.specs.Timeouts.{zero_period};
+ghost use Rattle.ipc_words.specs.Time.{no_time};
 
 use crate::answer::{Answer, Greeting, Registers};
 use crate::error::ClientError;
@@ -301,10 +301,10 @@ impl<R: PortRead, W: PortWrite> Client<R, W> {
         buffers: Buffers,
     ) -> Result<Answer, ClientError>
         ensures ok { IfOk result (λ answer. Answers self.old self.new
-            (Frame.Ipc (ipc_of to anythread (timeouts_of receive zero_period) message buffers)) (answer_frame answer)) }
+            (Frame.Ipc (ipc_of to anythread (timeouts_of receive no_time) message buffers)) (answer_frame answer)) }
         ensures err { IfErr result (λ error. FailsCall self.old self.new
-            (ipc_of to anythread (timeouts_of receive zero_period) message buffers) error) }
-        ensures limits { IsWithheld self.old self.new (ipc_of to anythread (timeouts_of receive zero_period) message buffers) result }
+            (ipc_of to anythread (timeouts_of receive no_time) message buffers) error) }
+        ensures limits { IsWithheld self.old self.new (ipc_of to anythread (timeouts_of receive no_time) message buffers) result }
         ensures closed { self.old.is_closed ≡ true → (result ≡ Err ClientError.Closed) × (self.new ≡ self.old) }
     {
         let timeouts = Timeouts::of(receive.period(), Period::ZERO);

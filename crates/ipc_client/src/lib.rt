@@ -2,23 +2,28 @@
 #![tactic(auto)]
 
 mod answer;
+mod buffering;
 mod building;
 mod client;
 mod device;
 mod error;
+#[cfg(test)]
+mod examples;
 mod message;
 mod message_fault;
 mod reading;
+mod received;
 #[cfg(test)]
 mod tests;
 mod timeout;
 mod writing;
 
-pub use answer::{Answer, Greeting, Registers};
+pub use answer::{Answer, Failure, Greeting, Registers};
 pub use client::Client;
 pub use error::ClientError;
 pub use message::{Buffers, Message};
-pub use message_fault::MessageFault;
+pub use message_fault::{BufferFault, MessageFault};
 pub use reading::read_frame;
+pub use received::Received;
 pub use timeout::Timeout;
 pub use writing::write_frame;

@@ -10,3 +10,14 @@ pub enum MessageFault {
     /// There is no memory.
     NoMemory,
 }
+
+/// Why buffer strings can't be laid out. Nothing was written.
+#[derive(Clone, Copy, PartialEq, Eq, Debug)]
+pub enum BufferFault {
+    /// More than 16 buffer strings, each taking two of the 32 buffer words.
+    TooManyWords,
+    /// A length of 2^54 bytes or more.
+    TooLong,
+    /// There is no memory.
+    NoMemory,
+}

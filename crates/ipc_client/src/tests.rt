@@ -268,3 +268,19 @@ fn registers_are_exchanged(rt: HostRuntime) -> Result<(), Fail> {
     assert_text(&rt, writer.output(), &[&EXREG]);
     Ok(())
 }
+
+#[test]
+fn a_period_is_the_least_that_is_long_enough(rt: HostRuntime) {
+    let cases = [
+        (0, 0x400),
+        (5, 0x5),
+        (1_023, 0x3ff),
+        (1_025, 0x601),
+        (1_024_000, 0x2be8),
+        (2_196_875_771_904, 0x7fff),
+        (2_196_875_771_905, 0),
+    ];
+    for (micros, word) in cases {
+        assert_eq!(rt; Timeout::micros(micros).period().to_word(), word);
+    }
+}

@@ -1,4 +1,5 @@
 pub mod Answers
+pub mod Keeping
 pub mod Reading
 pub mod Serving
 pub mod Taking

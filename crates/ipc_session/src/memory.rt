@@ -51,7 +51,8 @@ impl MemoryDesk {
 
     /// What it was asked, in order, or None where a growth was refused.
     pub fn deeds(&self) -> Option<&[Deed]>
-        ensures kept { IfSome result (λ deeds. calls_of self.now.is_complete self.now.deeds.items ≡ Some (map call_of deeds.now)) }
+        ensures kept { IfSome result (λ deeds.
+            calls_of self.now.is_complete self.now.deeds.items ≡ Some (map call_of deeds.now)) }
         ensures lost { IfNone result (calls_of self.now.is_complete self.now.deeds.items ≡ None) }
     {
         self.is_complete.then_some(self.deeds.as_slice())

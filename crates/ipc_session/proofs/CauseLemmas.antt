@@ -1,14 +1,12 @@
 -- Why a connection ends: by what was heard last, or by what the desk answered.
 use Rattle.std.proofs.Common.{◌≡◌, ◌≢◌, inl, inr, ℕ, ◌==◌, false, List, [], ◌∷◌, ◌++◌, Result, Ok, Err, refl, sym, ap, subst, ◌∙◌}
 use Rattle.std.proofs.lemmas.Bool.Decides.{eqb_tells}
-use Rattle.std.proofs.lemmas.List.{append_assoc}
 use Rattle.ipc_frame.specs.declared.fault.FrameFault.{FrameFault}
-use Rattle.ipc_frame.specs.declared.frame.Frame.TheVariants as frame
 use Rattle.ipc_calls.specs.declared.heard.Heard.{Heard}
 use Rattle.ipc_calls.specs.declared.heard.Heard.TheVariants as said
 use Rattle.ipc_connection.specs.Asking.{asks}
-use Rattle.ipc_connection.specs.Desk.{Asks, DeskCall, Posts, left_to_post}
-use Rattle.ipc_connection.specs.Faults.{busy, gone, of_kernel}
+use Rattle.ipc_connection.specs.Desk.{Asks, DeskCall, left_to_post}
+use Rattle.ipc_connection.specs.Faults.{busy, fault_number, gone, of_frame, of_session, out_of_place}
 use Rattle.ipc_connection.specs.Replying.{next_stage, reply}
 use Rattle.ipc_connection.specs.declared.asking.Request.{Request}
 use Rattle.ipc_connection.specs.declared.asking.Request.TheVariants as request
@@ -43,7 +41,7 @@ refused_gone stage request ending heard before e = ends_as ending Gone heard _ e
 refused_busy : (stage : Stage) (request : Request) (ending : Ending) (heard : HeardList) (before : List DeskCall) → RefusedSo stage request ending heard before busy
 unfolding next_stage reply
 refused_busy stage request ending heard before e =
-    ends_as ending Protocol heard _ e (before ++ Asks request (told.Refused busy) ∷ [], of_kernel, busy, sym (append_assoc before (Asks request (told.Refused busy) ∷ []) (Posts (frame.Fault of_kernel busy) ∷ [])))
+    ends_as ending Protocol heard _ e (inl (before, request, refl))
 
 refused_on : (stage : Stage) (number : ℕ) → stage ≢ Finished → (number == gone) ≡ false → (number == busy) ≡ false → ends_with (told.Refused number) stage ≡ On stage
 unfolding next_stage
@@ -106,10 +104,19 @@ answered stage (request.Refuse number other) told.Left ending heard before is_on
 by_desk : (stage : Stage) (r : Request) (calls : List DeskCall) (ending : Ending) (heard : HeardList) (before : List DeskCall) → stage ≢ Finished → AsksSo stage r calls (Over ending) → IsCause ending heard (before ++ calls)
 by_desk stage r calls ending heard before is_on (t, is, calls_are, e) = subst (λ (l : List DeskCall). IsCause ending heard (before ++ l)) (sym calls_are) (answered stage r t ending heard before is_on is e)
 
--- a fault was posted
-by_fault : (stage : Stage) (class number : ℕ) (calls : List DeskCall) (ending : Ending) (heard : HeardList) (before : List DeskCall) → calls ≡ left_to_post (told.Faulted class number) → Over ending ≡ ends_with (told.Faulted class number) stage → IsCause ending heard (before ++ calls)
+-- a fault ends as one
+over_fault : (stage : Stage) (class number : ℕ) (ending : Ending) → Over ending ≡ ends_with (told.Faulted class number) stage → Over ending ≡ Over Protocol
 unfolding next_stage
-by_fault stage class number calls ending heard before calls_are e = ends_as ending Protocol heard _ e (before, class, number, ap (λ (l : List DeskCall). before ++ l) calls_are)
+over_fault stage class number ending e = e
+
+-- a fault was heard, or a frame out of place
+by_fault : (stage : Stage) (fault : FrameFault) (calls : List DeskCall) (ending : Ending) (front : HeardList) (before : List DeskCall) → calls ≡ left_to_post (told.Faulted of_frame (fault_number fault)) → Over ending ≡ ends_with (told.Faulted of_frame (fault_number fault)) stage → IsCause ending (front ++ Err fault ∷ []) (before ++ calls)
+by_fault stage fault calls ending front before calls_are e =
+    ends_as ending Protocol _ _ (over_fault stage _ _ ending e) (inr (inl (front, before, fault, refl, ap (λ (l : List DeskCall). before ++ l) calls_are)))
+
+by_place : (stage : Stage) (heard : Heard) (calls : List DeskCall) (ending : Ending) (front : HeardList) (before : List DeskCall) → calls ≡ left_to_post (told.Faulted of_session out_of_place) → Over ending ≡ ends_with (told.Faulted of_session out_of_place) stage → IsCause ending (front ++ Ok heard ∷ []) (before ++ calls)
+by_place stage heard calls ending front before calls_are e =
+    ends_as ending Protocol _ _ (over_fault stage _ _ ending e) (inr (inr (front, before, heard, refl, ap (λ (l : List DeskCall). before ++ l) calls_are)))
 
 by_bye : (calls : List DeskCall) (ending : Ending) (front : HeardList) (before : List DeskCall) → Over ending ≡ Over Bye → IsCause ending (front ++ Ok said.Bye ∷ []) (before ++ calls)
 by_bye calls ending front before e = ends_as ending Bye _ _ e (front, refl)
@@ -117,13 +124,13 @@ by_bye calls ending front before e = ends_as ending Bye _ _ e (front, refl)
 pub cause_of : (stage : Stage) (heard : Result Heard FrameFault) (calls : List DeskCall) (ending : Ending) (front : HeardList) (before : List DeskCall) → stage ≢ Finished → Serves stage heard calls (Over ending) → IsCause ending (front ++ heard ∷ []) (before ++ calls)
 unfolding Serves asks
 cause_of Finished heard calls ending front before is_on s = absurd (is_on refl)
-cause_of Greeting (Err fault) calls ending front before is_on s = by_fault Greeting _ _ calls ending _ before s.0 s.1
+cause_of Greeting (Err fault) calls ending front before is_on s = by_fault Greeting fault calls ending front before s.0 s.1
 cause_of Greeting (Ok (said.Hello number)) calls ending front before is_on s = by_desk Greeting (request.Open number) calls ending _ before is_on s
-cause_of Greeting (Ok (said.Call call)) calls ending front before is_on s = by_fault Greeting _ _ calls ending _ before s.0 s.1
-cause_of Greeting (Ok (said.Exreg target control)) calls ending front before is_on s = by_fault Greeting _ _ calls ending _ before s.0 s.1
+cause_of Greeting (Ok (said.Call call)) calls ending front before is_on s = by_place Greeting _ calls ending front before s.0 s.1
+cause_of Greeting (Ok (said.Exreg target control)) calls ending front before is_on s = by_place Greeting _ calls ending front before s.0 s.1
 cause_of Greeting (Ok said.Bye) calls ending front before is_on s = by_bye calls ending front before s.1
-cause_of (Serving thread) (Err fault) calls ending front before is_on s = by_fault (Serving thread) _ _ calls ending _ before s.0 s.1
-cause_of (Serving thread) (Ok (said.Hello number)) calls ending front before is_on s = by_fault (Serving thread) _ _ calls ending _ before s.0 s.1
+cause_of (Serving thread) (Err fault) calls ending front before is_on s = by_fault (Serving thread) fault calls ending front before s.0 s.1
+cause_of (Serving thread) (Ok (said.Hello number)) calls ending front before is_on s = by_place (Serving thread) _ calls ending front before s.0 s.1
 cause_of (Serving thread) (Ok (said.Call call)) calls ending front before is_on s = by_desk (Serving thread) (request.Enter thread call) calls ending _ before is_on s
 cause_of (Serving thread) (Ok (said.Exreg target control)) calls ending front before is_on s = by_desk (Serving thread) (request.Exreg thread target control) calls ending _ before is_on s
 cause_of (Serving thread) (Ok said.Bye) calls ending front before is_on s = by_bye calls ending front before s.1

@@ -93,7 +93,9 @@ heard_then whole stream frames input heard is h = record {
 
 -- calls and what was heard in front of what caused an ending
 cause_then : (ending : Ending) (front heard : List (Result Heard FrameFault)) (before calls : List DeskCall) → IsCause ending heard calls → IsCause ending (front ++ heard) (before ++ calls)
-cause_then ending.Protocol front heard before calls (early, class, number, is) = (before ++ early, class, number, ap (λ (l : List DeskCall). before ++ l) is ∙ sym (append_assoc before early _))
+cause_then ending.Protocol front heard before calls (inl (early, request, is)) = inl (before ++ early, request, ap (λ (l : List DeskCall). before ++ l) is ∙ sym (append_assoc before early _))
+cause_then ending.Protocol front heard before calls (inr (inl (first, early, fault, said, is))) = inr (inl (front ++ first, before ++ early, fault, ap (λ (l : List (Result Heard FrameFault)). front ++ l) said ∙ sym (append_assoc front first _), ap (λ (l : List DeskCall). before ++ l) is ∙ sym (append_assoc before early _)))
+cause_then ending.Protocol front heard before calls (inr (inr (first, early, other, said, is))) = inr (inr (front ++ first, before ++ early, other, ap (λ (l : List (Result Heard FrameFault)). front ++ l) said ∙ sym (append_assoc front first _), ap (λ (l : List DeskCall). before ++ l) is ∙ sym (append_assoc before early _)))
 cause_then ending.Gone front heard before calls (early, request, is) = (before ++ early, request, ap (λ (l : List DeskCall). before ++ l) is ∙ sym (append_assoc before early _))
 cause_then ending.Bye front heard before calls (early, is) = (front ++ early, ap (λ (l : List (Result Heard FrameFault)). front ++ l) is ∙ sym (append_assoc front early _))
 cause_then ending.Device front heard before calls c = absurd c

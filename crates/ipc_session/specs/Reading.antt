@@ -1,5 +1,5 @@
 -- What a reader did with the bytes that it read, and how it ends by them.
-use Rattle.std.specs.Prelude.{◌≡◌, ℕ, List, [], ◌∷◌, ◌++◌, map, Option, Result, Ok, Err}
+use Rattle.std.specs.Prelude.{◌≡◌, ◌⊎◌, ℕ, List, [], ◌∷◌, ◌++◌, map, Option, Result, Ok, Err}
 use Rattle.std.specs.Io.KnownBytes.{IsAtEnd}
 use Rattle.ipc_frame.specs.Stream.{End, Rest, Stopped, Stream, put_front, stream_of}
 use Rattle.ipc_frame.specs.declared.fault.FrameFault.{FrameFault}
@@ -13,7 +13,7 @@ use Rattle.ipc_calls.specs.Taking.{Decoding, Holds}
 use Rattle.ipc_calls.specs.declared.heard.Heard.{Heard}
 use Rattle.ipc_calls.specs.declared.heard.Heard.TheVariants as said
 use Rattle.ipc_connection.specs.Desk.{Asks, DeskCall, Posts, TellsMore}
-use Rattle.ipc_connection.specs.Faults.{gone}
+use Rattle.ipc_connection.specs.Faults.{busy, fault_number, gone, of_frame, of_kernel, of_session, out_of_place}
 use Rattle.ipc_connection.specs.declared.asking.Request.{Request}
 use Rattle.ipc_connection.specs.declared.replying.Told.TheVariants.{Refused}
 use Rattle.ipc_connection.specs.declared.stage.Stage.{Stage}
@@ -52,10 +52,27 @@ pub record HeardUpTo (stream : Stream) (input : Option (List ℕ)) (heard : List
   pub is_next : IsNext behind.frames behind.end input last
   pub heard_is : heard ≡ map heard_of front ++ last ∷ []
 
--- why a connection ended so: a FAULT was posted last, the desk answered K6 last, or BYE was heard last
+-- the desk answered K7, and that was told
+abbrev pub IsBusy : List DeskCall → Type 0
+IsBusy calls =
+    (front : List DeskCall) × (request : Request)
+    × (calls ≡ front ++ Asks request (Refused busy) ∷ Posts (frame.Fault of_kernel busy) ∷ [])
+
+-- a fault was heard, and told by its number
+abbrev pub IsFault : List (Result Heard FrameFault) → List DeskCall → Type 0
+IsFault heard calls =
+    (before : List (Result Heard FrameFault)) × (front : List DeskCall) × (fault : FrameFault)
+    × (heard ≡ before ++ Err fault ∷ []) × (calls ≡ front ++ Posts (frame.Fault of_frame (fault_number fault)) ∷ [])
+
+-- a frame was out of place, and S1 was told
+abbrev pub IsOutOfPlace : List (Result Heard FrameFault) → List DeskCall → Type 0
+IsOutOfPlace heard calls =
+    (before : List (Result Heard FrameFault)) × (front : List DeskCall) × (other : Heard)
+    × (heard ≡ before ++ Ok other ∷ []) × (calls ≡ front ++ Posts (frame.Fault of_session out_of_place) ∷ [])
+
+-- why a connection ended so, by what was heard or asked last: a FAULT, K6, or BYE
 abbrev pub IsCause : Ending → List (Result Heard FrameFault) → List DeskCall → Type 0
-IsCause Protocol heard calls =
-    (front : List DeskCall) × (class : ℕ) × (number : ℕ) × (calls ≡ front ++ Posts (frame.Fault class number) ∷ [])
+IsCause Protocol heard calls = IsBusy calls ⊎ (IsFault heard calls ⊎ IsOutOfPlace heard calls)
 IsCause Gone heard calls = (front : List DeskCall) × (request : Request) × (calls ≡ front ++ Asks request (Refused gone) ∷ [])
 IsCause Bye heard calls = (front : List (Result Heard FrameFault)) × (heard ≡ front ++ Ok said.Bye ∷ [])
 IsCause _ heard calls = ⊥

@@ -1,10 +1,10 @@
 ghost use Rattle.std.specs.Prelude.{◌≡◌, None, true};
 
 use super::*;
+use ipc_connection::Request;
 use ipc_frame::Frame;
-use ipc_history::Call;
 use ipc_ports::{MemoryPort, PortFault, PortRead, Trouble};
-use ipc_words::{Control, ThreadId};
+use ipc_words::ThreadId;
 use std::alloc::Global;
 use std::process::Abort;
 
@@ -19,10 +19,10 @@ const TALK: [u8; 91] = [
 ];
 
 // What a desk is asked by its frames.
-const DEEDS: [Deed; 3] = [
-    Deed::Opened(2),
-    Deed::Called(1),
-    Deed::Exchanged(0x1_0000_0001),
+const DEEDS: [Brief; 3] = [
+    Brief::Opened(2),
+    Brief::Called(1),
+    Brief::Exchanged(0x1_0000_0001),
 ];
 
 // From the first of these bytes up to the second, so many of its frames are whole.
@@ -34,9 +34,9 @@ const ANSWERS: [u8; 12] = [0, 0, 0, 2, 0x84, 2, 0, 0, 0, 2, 0x84, 1];
 // More turns than any run here takes.
 const ENOUGH: u64 = 1000;
 
-// What a desk was asked.
+// What a desk was asked or told, as far as it matters here.
 #[derive(Clone, Copy, PartialEq, Eq, Debug)]
-enum Deed {
+enum Brief {
     Opened(u16),
     // A call, by the count of its words.
     Called(usize),
@@ -45,70 +45,33 @@ enum Deed {
     // REFUSED, by its number.
     Refused(u8),
     // FAULT, by its class and number.
-    Posted(u8, u8),
+    Faulted(u8, u8),
     Broke,
+    Other,
 }
 
-// Keeps what it was asked, and refuses one of its requests, counted from 0, by a number.
-#[derive(Drop)]
-struct FakeDesk {
-    deeds: Vec<Deed>,
-    asked: usize,
-    refusal: Option<(usize, u8)>,
-}
-
-impl FakeDesk {
-    fn new(alloc: Global, refusal: Option<(usize, u8)>) -> FakeDesk {
-        FakeDesk {
-            deeds: Vec::new(alloc),
-            asked: 0,
-            refusal,
-        }
-    }
-
-    fn note(&mut self, deed: Deed) {
-        let _ = self.deeds.push(deed);
-    }
-
-    fn answer(&mut self) -> Result<(), u8> {
-        let place = self.asked;
-        self.asked = place.saturating_add(1);
-        match self.refusal {
-            Some((refused, number)) if refused == place => Err(number),
-            _ => Ok(()),
-        }
+fn brief_of(deed: &Deed) -> Brief {
+    match deed {
+        Deed::Asked(request, _) => brief_request(request),
+        Deed::Posted(frame) => brief_frame(frame),
+        Deed::Broke => Brief::Broke,
     }
 }
 
-impl CallDesk for FakeDesk {
-    ghost log = { λ _. None };
-
-    fn open(&mut self, number: u16) -> Result<ThreadId, u8> {
-        self.note(Deed::Opened(number));
-        self.answer()?;
-        Ok(ThreadId::from_word(SECOND))
+fn brief_request(request: &Request) -> Brief {
+    match request {
+        Request::Open(number) => Brief::Opened(*number),
+        Request::Enter(_, call) => Brief::Called(call.words().len()),
+        Request::Exreg { target, .. } => Brief::Exchanged(target.to_word()),
+        _ => Brief::Other,
     }
+}
 
-    fn call(&mut self, _thread: ThreadId, call: Call) -> Result<(), u8> {
-        self.note(Deed::Called(call.words().len()));
-        self.answer()
-    }
-
-    fn exreg(&mut self, _thread: ThreadId, target: ThreadId, _control: Control) -> Result<(), u8> {
-        self.note(Deed::Exchanged(target.to_word()));
-        self.answer()
-    }
-
-    fn post(&mut self, frame: Frame) {
-        match frame {
-            Frame::Refused(number) => self.note(Deed::Refused(number)),
-            Frame::Fault(class, number) => self.note(Deed::Posted(class, number)),
-            _ => {}
-        }
-    }
-
-    fn broke(&mut self) {
-        self.note(Deed::Broke);
+fn brief_frame(frame: &Frame) -> Brief {
+    match frame {
+        Frame::Refused(number) => Brief::Refused(*number),
+        Frame::Fault(class, number) => Brief::Faulted(*class, *number),
+        _ => Brief::Other,
     }
 }
 
@@ -172,16 +135,25 @@ fn assert_read<P: PortRead>(
     rt: &impl Abort,
     alloc: Global,
     port: &mut P,
-    refusal: Option<(usize, u8)>,
+    refusal: Option<(u64, u8)>,
     turns: u64,
     end: Ending,
-    deeds: &[Deed],
+    deeds: &[Brief],
 ) {
-    let mut desk = FakeDesk::new(alloc, refusal);
+    let desk = MemoryDesk::new(alloc, ThreadId::from_word(SECOND));
+    let mut desk = match refusal {
+        Some((request, number)) => desk.with_refusal(request, number),
+        None => desk,
+    };
     let ending = read_loop(alloc, port, &mut desk, &mut Open::new(turns));
     assert_eq!(rt; ending, end);
-    assert_eq!(rt; desk.deeds.pop(), Some(Deed::Broke));
-    assert_eq!(rt; desk.deeds.as_slice(), deeds);
+    let kept = desk.deeds().expect(rt, "there is memory for all deeds");
+    let (last, front) = kept.split_last().expect(rt, "it breaks");
+    assert_eq!(rt; brief_of(last), Brief::Broke);
+    assert_eq!(rt; front.len(), deeds.len());
+    for (deed, want) in front.iter().zip(deeds) {
+        assert_eq!(rt; brief_of(deed), *want);
+    }
 }
 
 // A reader of TALK, byte by byte, whose read of this number meets trouble, ends so after these deeds.
@@ -191,7 +163,7 @@ fn assert_troubled(
     call: usize,
     trouble: Trouble,
     end: Ending,
-    deeds: &[Deed],
+    deeds: &[Brief],
 ) {
     let port = MemoryPort::new(alloc, &TALK).byte_by_byte();
     let mut port = port.with_trouble(call as u64, trouble);
@@ -220,24 +192,24 @@ fn assert_written(
 
 #[test]
 fn what_is_heard_is_served(rt: HostRuntime) {
-    let cases: [(&[u8], Ending, &[Deed]); 7] = [
+    let cases: [(&[u8], Ending, &[Brief]); 7] = [
         (&TALK, Ending::Bye, &DEEDS),
         (&TALK[..86], Ending::EndOfInput, &DEEDS),
         (&[], Ending::EndOfInput, &[]),
-        (&TALK[..4], Ending::Protocol, &[Deed::Posted(b'F', 9)]),
+        (&TALK[..4], Ending::Protocol, &[Brief::Faulted(b'F', 9)]),
         // a call before HELLO
-        (&TALK[7..], Ending::Protocol, &[Deed::Posted(b'S', 1)]),
+        (&TALK[7..], Ending::Protocol, &[Brief::Faulted(b'S', 1)]),
         // HELLO twice, and then BYE
         (
             &[0, 0, 0, 3, 1, 0, 2, 0, 0, 0, 3, 1, 0, 2, 0, 0, 0, 1, 4],
             Ending::Protocol,
-            &[Deed::Opened(2), Deed::Posted(b'S', 1)],
+            &[Brief::Opened(2), Brief::Faulted(b'S', 1)],
         ),
         // an unknown kind, and then HELLO
         (
             &[0, 0, 0, 1, 9, 0, 0, 0, 3, 1, 0, 2],
             Ending::Protocol,
-            &[Deed::Posted(b'F', 2)],
+            &[Brief::Faulted(b'F', 2)],
         ),
     ];
     let alloc = rt.alloc();
@@ -252,9 +224,9 @@ fn what_is_heard_is_served(rt: HostRuntime) {
 #[test]
 fn each_refusal_is_told_in_its_place(rt: HostRuntime) {
     let [opened, called, exchanged] = DEEDS;
-    let busy = Deed::Posted(b'K', 7);
-    let refused = Deed::Refused(2);
-    let cases: [(usize, u8, Ending, &[Deed]); 9] = [
+    let busy = Brief::Faulted(b'K', 7);
+    let refused = Brief::Refused(2);
+    let cases: [(u64, u8, Ending, &[Brief]); 9] = [
         (0, 6, Ending::Gone, &[opened]),
         (1, 6, Ending::Gone, &[opened, called]),
         (2, 6, Ending::Gone, &DEEDS),
@@ -266,7 +238,7 @@ fn each_refusal_is_told_in_its_place(rt: HostRuntime) {
             0,
             2,
             Ending::Protocol,
-            &[opened, refused, Deed::Posted(b'S', 1)],
+            &[opened, refused, Brief::Faulted(b'S', 1)],
         ),
         (1, 2, Ending::Bye, &[opened, called, refused, exchanged]),
         (2, 2, Ending::Bye, &[opened, called, exchanged, refused]),

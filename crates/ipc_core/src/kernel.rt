@@ -153,6 +153,13 @@ impl Kernel {
         }
     }
 
+    /// Whether a thread is live.
+    pub fn is_live(&self, thread: ThreadId) -> bool
+        ensures { result ≡ is_live self.now.history thread }
+    {
+        self.course.is_live(thread)
+    }
+
     /// The live threads whose last call became over by the last command that was obeyed.
     pub fn finished(&self) -> &[ThreadId]
         ensures names { (thread : ℕ) → is_among thread result.now ≡ is_finished self.now thread }

@@ -1,0 +1,13 @@
+pub mod OutcomeCall
+pub mod KernelLaws
+pub mod LiveLemmas
+pub mod OutputLemmas
+pub mod ReadyLemmas
+pub mod RestedLemmas
+pub mod TellingLemmas
+pub mod DeliverLemmas
+pub mod ServingLemmas
+pub mod PiecesLemmas
+pub mod Along
+pub mod CallLemmas
+pub mod OnceLemmas

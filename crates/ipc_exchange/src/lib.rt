@@ -1,0 +1,11 @@
+//! Many connections over pieces of bytes, and one kernel.
+#![tactic(auto)]
+
+mod laws;
+mod line;
+mod replying;
+mod service;
+mod told;
+
+pub use laws::{calls_are_accepted, happen_once, legal_stays, pieces_join};
+pub use replying::Replies;

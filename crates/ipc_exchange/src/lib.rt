@@ -3,9 +3,10 @@
 
 mod laws;
 mod line;
-mod replying;
+mod put;
 mod service;
 mod told;
+mod waiting;
 
 pub use laws::{calls_are_accepted, happen_once, legal_stays, pieces_join};
-pub use replying::Replies;
+pub use put::Put;

@@ -1,4 +1,4 @@
-ghost use Rattle.std.specs.Prelude.{◌≡◌, ◌<◌, ◌≤◌, ◌+◌, ℕ, [], List, length, min, take, drop, slice_set, IfOk, IfSome, OnOk, OnErr};
+ghost use Rattle.std.specs.Prelude.{◌≡◌, ◌<◌, ◌≤◌, ◌+◌, ℕ, [], false, List, length, min, take, drop, slice_set, IfOk, IfSome, OnOk, OnErr};
 ghost use Rattle.ipc_words.specs.ThreadId.{number_of};
 ghost use Rattle.ipc_words.specs.Limits.{max_calls, max_entries};
 ghost use Rattle.ipc_core.specs.Laws.{IsSound};
@@ -12,7 +12,7 @@ ghost use Rattle.ipc_exchange.specs.Serving.{Asked, Does, DoesAlone, Leaves, May
 ghost use Rattle.ipc_exchange.specs.Slots.{CanAsk, CanDo, CanServe, CanTell, NoneServes, Ready, StaysReady, lines_of, service_of, slot_at, stage_at, table_told};
 
 use crate::line::Line;
-use crate::replying::Replies;
+use crate::put::Put;
 use crate::told::told_of;
 use ipc_calls::Heard;
 use ipc_connection::{Request, Stage, Told, asks, next_stage, thread_left};
@@ -98,27 +98,29 @@ impl Service {
         self.lines[place].reserve()
     }
 
-    /// Puts the next bytes of the connection in a place into the slice, and says how many.
-    pub(crate) fn output(&mut self, place: usize, out: &mut [u8]) -> usize
+    /// Puts the next bytes of the connection in a place into the slice, and says how many. It stops before the frame of an outcome for
+    /// which there is no memory.
+    pub(crate) fn output(&mut self, alloc: Global, place: usize, out: &mut [u8]) -> Put
         requires within { place < length self.old.slots }
         requires ready { Ready self.old }
-        ensures count { result ≡ min (length out.old) (length (line_at (service_of self.old).lines place).out) }
-        ensures bytes { take result out.new ≡ take result (line_at (service_of self.old).lines place).out }
-        ensures behind { drop result out.new ≡ drop result out.old }
-        ensures left { service_of self.new ≡ without_bytes place result (service_of self.old) }
+        ensures count { result.is_lacking ≡ false → result.count ≡ min (length out.old) (length (line_at (service_of self.old).lines place).out) }
+        ensures few { result.count ≤ length (line_at (service_of self.old).lines place).out }
+        ensures bytes { take result.count out.new ≡ take result.count (line_at (service_of self.old).lines place).out }
+        ensures behind { drop result.count out.new ≡ drop result.count out.old }
+        ensures left { service_of self.new ≡ without_bytes place result.count (service_of self.old) }
         ensures ready { StaysReady self.old self.new }
     {
-        self.lines[place].output(out)
+        self.lines[place].output(alloc, out)
     }
 
     /// The clock is read, in microseconds, and outcomes go out.
-    pub(crate) fn at<R: Replies>(&mut self, now: u64)
+    pub(crate) fn at(&mut self, now: u64)
         requires { Ready self.old }
         ensures done { DoesAlone MayLack (service_of self.old) (command.At now) (service_of self.new) }
         ensures ready { StaysReady self.old self.new }
     {
         self.read_clock(now);
-        self.deliver::<R>();
+        self.deliver();
     }
 
     fn read_clock(&mut self, now: u64)
@@ -133,13 +135,13 @@ impl Service {
     }
 
     /// A block of the least call in transfer is copied, and outcomes go out.
-    pub(crate) fn advance<R: Replies>(&mut self)
+    pub(crate) fn advance(&mut self)
         requires { Ready self.old }
         ensures done { DoesAlone MayLack (service_of self.old) command.Advance (service_of self.new) }
         ensures ready { StaysReady self.old self.new }
     {
         let _ = self.copy_block();
-        self.deliver::<R>();
+        self.deliver();
     }
 
     fn copy_block(&mut self) -> Advance
@@ -155,17 +157,17 @@ impl Service {
     }
 
     /// Serves what was heard on the line in a place.
-    pub(crate) fn serve<R: Replies>(&mut self, place: usize, heard: Result<Heard, FrameFault>)
+    pub(crate) fn serve(&mut self, place: usize, heard: Result<Heard, FrameFault>)
         requires { CanServe self.old place heard }
         ensures served { (asked : List Asked) × Serves MayLack (service_of self.old) place heard asked (service_of self.new) }
         ensures ready { StaysReady self.old self.new }
     {
         let stage = self.lines[place].stage();
         let request = asks(stage, heard);
-        self.serve_request::<R>(place, request);
+        self.serve_request(place, request);
     }
 
-    fn serve_request<R: Replies>(&mut self, place: usize, request: Request)
+    fn serve_request(&mut self, place: usize, request: Request)
         requires { CanAsk self.old place request }
         ensures served { (asked : List Asked) × ServesBy MayLack (service_of self.old) place request asked (service_of self.new) }
         ensures ready { StaysReady self.old self.new }
@@ -175,14 +177,14 @@ impl Service {
             Request::Open(number) => {
                 let space = u64::from(self.lines[place].space());
                 let number = u64::from(number);
-                self.ask::<R>(place, Command::Open { number, space });
+                self.ask(place, Command::Open { number, space });
             }
-            Request::Enter(thread, call) => self.ask::<R>(place, Command::Enter(thread, call)),
+            Request::Enter(thread, call) => self.ask(place, Command::Enter(thread, call)),
             Request::Exreg {
                 thread,
                 target,
                 control,
-            } => self.ask::<R>(
+            } => self.ask(
                 place,
                 Command::Exreg {
                     thread,
@@ -190,19 +192,19 @@ impl Service {
                     control,
                 },
             ),
-            Request::Leave => self.tell::<R>(place, Told::Left),
-            Request::Refuse(class, number) => self.tell::<R>(place, Told::Faulted(class, number)),
+            Request::Leave => self.tell(place, Told::Left),
+            Request::Refuse(class, number) => self.tell(place, Told::Faulted(class, number)),
         }
     }
 
     /// The kernel obeys a command, and its answer is told.
-    fn ask<R: Replies>(&mut self, place: usize, command: Command)
+    fn ask(&mut self, place: usize, command: Command)
         requires { CanDo self.old place command }
         ensures done { (asked : List Asked) × Does MayLack (service_of self.old) place command asked (service_of self.new) }
         ensures ready { StaysReady self.old self.new }
     {
         let told = self.obey(command);
-        self.tell::<R>(place, told);
+        self.tell(place, told);
     }
 
     fn obey(&mut self, command: Command) -> Told
@@ -218,14 +220,14 @@ impl Service {
     }
 
     /// Something is told to the line in a place. Where the connection ends so, its thread ends.
-    fn tell<R: Replies>(&mut self, place: usize, told: Told)
+    fn tell(&mut self, place: usize, told: Told)
         requires { CanTell self.old place told }
         ensures told { (asked : List Asked) × Tells MayLack (service_of self.old) place told asked (service_of self.new) }
         ensures ready { StaysReady self.old self.new }
     {
         let left = self.tell_line(place, told);
         self.leave(left);
-        self.deliver::<R>();
+        self.deliver();
     }
 
     /// Tells a line, and answers the thread that ends so.
@@ -285,17 +287,17 @@ impl Service {
     }
 
     /// Each thread's line is told the outcome that the thread may take.
-    fn deliver<R: Replies>(&mut self)
+    fn deliver(&mut self)
         requires { Ready self.old }
         ensures told { service_of self.new ≡ delivered (rested self.old.kernel) (lines_of self.old.slots) }
         ensures ready { StaysReady self.old self.new }
     {
         for number in 0..THREAD_NUMBERS {
-            self.deliver_number::<R>(number);
+            self.deliver_number(number);
         }
     }
 
-    fn deliver_number<R: Replies>(&mut self, number: usize)
+    fn deliver_number(&mut self, number: usize)
         requires ready { Ready self.old }
         requires within { number < thread_numbers }
         ensures told { service_of self.new ≡ told_outcome (place_of number (lines_of self.old.slots)) (service_of self.old) }
@@ -303,7 +305,7 @@ impl Service {
     {
         let place = self.place_of(number);
         if place < self.lines.len() {
-            self.deliver_at::<R>(place);
+            self.deliver_at(place);
         }
     }
 
@@ -329,7 +331,7 @@ impl Service {
         }
     }
 
-    fn deliver_at<R: Replies>(&mut self, place: usize)
+    fn deliver_at(&mut self, place: usize)
         requires within { place < length self.old.slots }
         requires ready { Ready self.old }
         ensures told { service_of self.new ≡ told_outcome place (service_of self.old) }
@@ -340,7 +342,7 @@ impl Service {
             // its contract says that the kernel is sound
             let _ = self.kernel.history();
             if let Some(outcome) = taken {
-                self.lines[place].push(R::reply(outcome));
+                self.lines[place].push_outcome(outcome);
             }
         }
     }

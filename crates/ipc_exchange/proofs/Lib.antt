@@ -8,6 +8,7 @@ pub mod TellingLemmas
 pub mod DeliverLemmas
 pub mod ServingLemmas
 pub mod PiecesLemmas
+pub mod FeedLemmas
 pub mod Along
 pub mod CallLemmas
 pub mod OnceLemmas

@@ -1,6 +1,7 @@
 //! Many connections over pieces of bytes, and one kernel.
 #![tactic(auto)]
 
+mod feeding;
 mod laws;
 mod line;
 mod put;

@@ -7,6 +7,7 @@ ghost use Rattle.ipc_core.specs.declared.command.Answer.{Answer};
 ghost use Rattle.ipc_core.specs.declared.command.Answer.TheVariants as answer;
 ghost use Rattle.ipc_core.specs.declared.command.Command.TheVariants as command;
 ghost use Rattle.ipc_connection.specs.Replying.{next_stage, thread_left};
+ghost use Rattle.ipc_exchange.specs.Feeding.{has_finished};
 ghost use Rattle.ipc_exchange.specs.Service.{delivered, line_at, place_of, thread_numbers, told_line, told_outcome, with_line, without_bytes};
 ghost use Rattle.ipc_exchange.specs.Serving.{Asked, Does, DoesAlone, Leaves, MayLack, Serves, ServesBy, Tells, told_of};
 ghost use Rattle.ipc_exchange.specs.Slots.{CanAsk, CanDo, CanServe, CanTell, NoneServes, Ready, StaysReady, lines_of, service_of, slot_at, stage_at, table_told};
@@ -72,6 +73,18 @@ impl Service {
         ensures { result ≡ stage_at self.now.slots place }
     {
         self.lines[place].stage()
+    }
+
+    /// Whether the connection in a place has ended.
+    pub(crate) fn has_finished(&self, place: usize) -> bool
+        requires { place < length self.now.slots }
+        ensures { result ≡ has_finished (stage_at self.now.slots place) }
+    {
+        match self.stage(place) {
+            Stage::Finished => true,
+            Stage::Greeting => false,
+            Stage::Serving(_) => false,
+        }
     }
 
     /// One more connection, from a space.

@@ -1,12 +1,14 @@
 -- A piece is served frame by frame.
 use Rattle.std.proofs.Common.{◌≡◌, ◌⊎◌, inl, inr, ℕ, ◌<◌, ◌≤◌, ◌+◌, true, false, List, [], ◌∷◌, ◌++◌, Option, Some, None, Result, Ok, Err, refl, sym, ap, subst, ◌∙◌, length, drop, arith, length-append}
+use Rattle.std.specs.Bool.{⊤}
 use Rattle.ipc_frame.specs.Stream.{End, Rest, stream_of}
 use Rattle.ipc_frame.specs.declared.fault.FrameFault.{FrameFault}
-use Rattle.ipc_frame.specs.declared.fault.FrameFault.TheVariants.{NoMemory}
+use Rattle.ipc_frame.specs.declared.fault.FrameFault.TheVariants.{NoMemory, Unfinished}
 use Rattle.ipc_frame.specs.declared.kind.Side.TheVariants.{Server}
 use Rattle.ipc_calls.specs.Hearing.{heard_in, left_in}
-use Rattle.ipc_calls.specs.Taking.{Decoding, Holds, Takes}
+use Rattle.ipc_calls.specs.Taking.{Decoding, Finishes, Holds, Takes}
 use Rattle.ipc_calls.specs.declared.heard.Heard.{Heard}
+use Rattle.ipc_calls.specs.declared.heard.Heard.TheVariants.{Bye}
 use Rattle.ipc_calls.proofs.PieceLemmas.{take_fails, take_hears, take_rests}
 use Rattle.ipc_connection.specs.Chain.{Chain}
 use Rattle.ipc_connection.specs.declared.stage.Stage.{Stage}
@@ -14,6 +16,7 @@ use Rattle.ipc_connection.specs.declared.stage.Stage.TheVariants.{Greeting, Serv
 use Rattle.ipc_exchange.specs.Service.{ServiceParts, line_at}
 use Rattle.ipc_exchange.specs.Serving.{Asked, Hears, MayLack, Serves}
 use Rattle.ipc_exchange.specs.Slots.{LineSlots, ServiceSlots, service_of, stage_at}
+use Rattle.ipc_exchange.specs.Exchange.{ClosesLine}
 use Rattle.ipc_exchange.specs.Feeding.{FeedsFirst, FeedsLine, HearsOne, HoldsFor, IsHeard, has_finished}
 use Rattle.ipc_exchange.proofs.ServingLemmas.{all_idle_again, fault_finishes}
 use Rattle.ipc_exchange.proofs.TellingLemmas.{line_there}
@@ -144,3 +147,16 @@ taken_as bytes piece new used o p r is some takes = subst (λ x. Takes bytes pie
 -- how many bytes a decoder holds
 pub held_size : (decoder : Decoding) (bytes : List ℕ) → Holds decoder bytes → length bytes ≡ length decoder.kept + decoder.lost
 held_size decoder bytes holds = ap length holds.bytes_are ∙ (length-append decoder.kept holds.gone ∙ ap (λ n. length decoder.kept + n) holds.counted)
+
+-- the end of the input
+pub ends_well : (old new : ServiceParts) (place : ℕ) (bytes : List ℕ) (decoder after : Decoding) (result : Result ⊤ FrameFault) → Finishes bytes decoder after result → result ≡ Ok tt → Holds decoder bytes → ((asked : List Asked) × Serves MayLack old place (Ok Bye) asked new) → ClosesLine old place bytes new after
+ends_well old new place [] decoder after result finishes ok holds served = record { asked = served.0; serves = served.1; holds = holds_all (line_at new.lines place).stage after [] (subst (λ d. Holds d []) (sym finishes.1) holds) }
+ends_well old new place (byte ∷ bytes) decoder after result finishes ok holds served = let no = sym finishes.0 ∙ ok in absurd (cc)
+
+pub ends_inside : (old new : ServiceParts) (place : ℕ) (bytes : List ℕ) (decoder after : Decoding) (result : Result ⊤ FrameFault) (fault : FrameFault) → Finishes bytes decoder after result → result ≡ Err fault → ((asked : List Asked) × Serves MayLack old place (Err fault) asked new) → ClosesLine old place bytes new after
+ends_inside old new place [] decoder after result fault finishes err served = let no = sym finishes.0 ∙ err in absurd (cc)
+ends_inside old new place (byte ∷ bytes) decoder after result fault finishes err served =
+    let same = sym finishes.0 ∙ err in
+    let is : Unfinished ≡ fault = cc in
+    let serves = subst (λ f. Serves MayLack old place (Err f) served.0 new) (sym is) served.1 in
+    record { asked = served.0; serves = serves; holds = holds_ended (line_at new.lines place).stage after [] (fault_finishes MayLack place old new Unfinished served.0 serves) }

@@ -9,6 +9,7 @@ pub mod DeliverLemmas
 pub mod ServingLemmas
 pub mod PiecesLemmas
 pub mod FeedLemmas
+pub mod ExchangeLemmas
 pub mod Along
 pub mod CallLemmas
 pub mod OnceLemmas

@@ -14,7 +14,7 @@ use Rattle.ipc_exchange.specs.Service.{Line, ServiceParts, delivered, delivered_
 use Rattle.ipc_exchange.specs.Serving.{Asked, Memory, Serves, ServesAll, ServesBy, Tells}
 
 -- a line with the stage of the one that it replaces
-set_stage : (lines : List Line) (at place : ℕ) (line : Line) → line.stage ≡ (line_at lines at).stage → (line_at (slice_set lines at line) place).stage ≡ (line_at lines place).stage
+pub set_stage : (lines : List Line) (at place : ℕ) (line : Line) → line.stage ≡ (line_at lines at).stage → (line_at (slice_set lines at line) place).stage ≡ (line_at lines place).stage
 set_stage [] at place line h = refl
 set_stage (l ∷ lines) zero zero line h = h
 set_stage (l ∷ lines) zero (suc place) line h = refl
@@ -57,7 +57,7 @@ module _ (memory : Memory) (place : ℕ) where
   unfolding Serves asks
   idle old new heard asked e serves = subst (λ stage. ServesBy memory old place (asks stage heard) asked new) e serves
 
-  idle_again : (old : ServiceParts) (heard : Result Heard FrameFault) → (line_at old.lines place).stage ≡ Finished → Serves memory old place heard [] old
+  pub idle_again : (old : ServiceParts) (heard : Result Heard FrameFault) → (line_at old.lines place).stage ≡ Finished → Serves memory old place heard [] old
   unfolding Serves asks
   idle_again old heard e = subst (λ stage. ServesBy memory old place (asks stage heard) [] old) (sym e) (refl, refl)
 

@@ -1,6 +1,7 @@
 ghost use Rattle.std.specs.Prelude.{◌≡◌, ◌<◌, ◌≤◌, ◌+◌, ℕ, List, [], length, true, Ok, Err, IfSome, IsNone};
 ghost use Rattle.ipc_calls.specs.Taking.{Holds};
 ghost use Rattle.ipc_calls.specs.declared.heard.Heard.TheVariants.{Bye};
+ghost use Rattle.ipc_exchange.specs.Exchange.{ClosesLine};
 ghost use Rattle.ipc_exchange.specs.Feeding.{FeedsFirst, FeedsLine, HearsOne, IsHeard};
 ghost use Rattle.ipc_exchange.specs.Slots.{CanServe, Ready, StaysReady, service_of};
 
@@ -100,5 +101,20 @@ pub(crate) fn feed_line(
     let mut rest = piece;
     while let Some(used) = feed_first(service, place, decoder, rest) {
         rest = &rest[used..];
+    }
+}
+
+/// Serves the end of the input of the line in a place.
+pub(crate) fn close_line(service: &mut Service, place: usize, decoder: &mut CallDecoder)
+    requires within { place < length service.old.slots }
+    requires ready { Ready service.old }
+    requires holds { (bytes : List ℕ) × Holds decoder.old bytes }
+    ensures closed { (bytes : List ℕ) → Holds decoder.old bytes
+        → ClosesLine (service_of service.old) place bytes (service_of service.new) decoder.new }
+    ensures ready { StaysReady service.old service.new }
+{
+    match decoder.finish() {
+        Ok(()) => service.serve(place, Ok(Heard::Bye)),
+        Err(fault) => service.serve(place, Err(fault)),
     }
 }

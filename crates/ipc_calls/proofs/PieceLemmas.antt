@@ -24,50 +24,50 @@ enough (suc n) (suc m) bytes (Whole f size) e h k =
     let left = length-drop size bytes in
     rw e (ap (put_front (f ∷ [])) (enough n m (drop size bytes) _ refl (omega arith) (omega arith)))
 
-stream_short : (bytes : List ℕ) (wanted : ℕ) → reading Server bytes ≡ Short wanted → stream_of Server bytes ≡ record { frames = []; end = Rest bytes }
+pub stream_short : (bytes : List ℕ) (wanted : ℕ) → reading Server bytes ≡ Short wanted → stream_of Server bytes ≡ record { frames = []; end = Rest bytes }
 unfolding stream_of frames_within
 stream_short bytes wanted e = rw e refl
 
-stream_bad : (bytes : List ℕ) (fault : FrameFault) → reading Server bytes ≡ Bad fault → stream_of Server bytes ≡ record { frames = []; end = Stopped fault }
+pub stream_bad : (bytes : List ℕ) (fault : FrameFault) → reading Server bytes ≡ Bad fault → stream_of Server bytes ≡ record { frames = []; end = Stopped fault }
 unfolding stream_of frames_within
 stream_bad bytes fault e = rw e refl
 
-stream_whole : (bytes : List ℕ) (f : Frame) (n : ℕ) → reading Server bytes ≡ Whole f n → stream_of Server bytes ≡ put_front (f ∷ []) (stream_of Server (drop n bytes))
+pub stream_whole : (bytes : List ℕ) (f : Frame) (n : ℕ) → reading Server bytes ≡ Whole f n → stream_of Server bytes ≡ put_front (f ∷ []) (stream_of Server (drop n bytes))
 unfolding stream_of frames_within
 stream_whole bytes f n e =
     let within = whole_within Server bytes f n e in
     let left = length-drop n bytes in
     rw e (ap (put_front (f ∷ [])) (enough (length bytes) (suc (length (drop n bytes))) (drop n bytes) _ refl (omega arith) (omega arith)))
 
-drop_past : (n : ℕ) (xs ys : List ℕ) → length xs ≤ n → drop n (xs ++ ys) ≡ drop (n - length xs) ys
+pub drop_past : (n : ℕ) (xs ys : List ℕ) → length xs ≤ n → drop n (xs ++ ys) ≡ drop (n - length xs) ys
 drop_past n xs ys h =
     let sum : n ≡ length xs + (n - length xs) = omega arith in
     ap (λ k. drop k (xs ++ ys)) sum ∙ (sym (drop-drop (n - length xs) (length xs) (xs ++ ys)) ∙ ap (drop (n - length xs)) (drop_at xs ys (length xs) refl))
 
 -- the parts of an answer
-abbrev given : ℕ → Option Heard → Result (ℕ × Option Heard) FrameFault
+abbrev pub given : ℕ → Option Heard → Result (ℕ × Option Heard) FrameFault
 given used heard = Ok (used, heard)
 
-abbrev heard_part : Result (ℕ × Option Heard) FrameFault → Option Heard
+abbrev pub heard_part : Result (ℕ × Option Heard) FrameFault → Option Heard
 heard_part (Ok p) = p.1
 heard_part (Err fault) = None
 
-abbrev used_part : Result (ℕ × Option Heard) FrameFault → ℕ
+abbrev pub used_part : Result (ℕ × Option Heard) FrameFault → ℕ
 used_part (Ok p) = p.0
 used_part (Err fault) = 0
 
-none_not : (r : Result Heard FrameFault) (a u : ℕ) → given a None ≡ answer_of u r → ⊥
+pub none_not : (r : Result Heard FrameFault) (a u : ℕ) → given a None ≡ answer_of u r → ⊥
 none_not (Ok heard) a u e = let no : None ≡ Some heard = ap heard_part e in cc
 none_not (Err fault) a u e = cc
 
-some_is : (r : Result Heard FrameFault) (a u : ℕ) (heard : Heard) → given a (Some heard) ≡ answer_of u r → (a ≡ u) × (r ≡ Ok heard)
+pub some_is : (r : Result Heard FrameFault) (a u : ℕ) (heard : Heard) → given a (Some heard) ≡ answer_of u r → (a ≡ u) × (r ≡ Ok heard)
 some_is (Ok other) a u heard e = let no : Some heard ≡ Some other = ap heard_part e in (ap used_part e, cc)
 some_is (Err fault) a u heard e = absurd (cc)
 
-abbrev failed : FrameFault → Result (ℕ × Option Heard) FrameFault
+abbrev pub failed : FrameFault → Result (ℕ × Option Heard) FrameFault
 failed fault = Err fault
 
-err_is : (r : Result Heard FrameFault) (u : ℕ) (fault : FrameFault) → failed fault ≡ answer_of u r → r ≡ Err fault
+pub err_is : (r : Result Heard FrameFault) (u : ℕ) (fault : FrameFault) → failed fault ≡ answer_of u r → r ≡ Err fault
 err_is (Ok heard) u fault e = absurd (cc)
 err_is (Err other) u fault e = let same : fault ≡ other = cc in ap Err (sym same)
 

@@ -31,7 +31,7 @@ use Rattle.ipc_history.specs.Settled.{Continued, Settled}
 use Rattle.ipc_history.specs.declared.entry.Output.{Output}
 use Rattle.ipc_history.specs.declared.entry.Input.{Input}
 use Rattle.ipc_history.specs.declared.entry.Input.TheVariants.{At}
-use Rattle.ipc_laws.specs.Counting.{all_steps_left, live_threads, room_owed}
+use Rattle.ipc_laws.specs.Counting.{all_steps_left, room_owed}
 use Rattle.std.proofs.lemmas.Bool.{lt-ltb, or_left, or_right}
 use Rattle.ipc_laws.proofs.Tests.{both}
 use Rattle.ipc_laws.proofs.Settling.{legal_push}

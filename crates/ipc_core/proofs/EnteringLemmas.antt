@@ -1,6 +1,6 @@
 -- Which calls are refused, and which are admissible.
 use Rattle.std.proofs.lemmas.Bool.{false≢true, lt-ltb, false_from_ne_true, ltb-true, ltb-false}
-use Rattle.std.proofs.Common.{◌≡◌, refl, sym, ap, subst, ◌∙◌, ℕ, ◌+◌, ◌<◌, ◌≤◌, eq-eqb, Bool, true, false, List, [], ◌∷◌, ◌++◌, length, IsTrue, Option, Some, None, is_none, is_some, arith}
+use Rattle.std.proofs.Common.{◌≡◌, refl, sym, ap, subst, ◌∙◌, ℕ, ◌+◌, ◌<◌, ◌≤◌, eq-eqb, Bool, true, false, List, length, IsTrue, Option, Some, None, is_none, is_some, arith}
 use Rattle.std.specs.Prelude.{nat_lt, ◌↔◌}
 use Rattle.ipc_history.specs.CallParts.{CallParts, is_normal}
 use Rattle.ipc_history.specs.Calls.{calls_made}

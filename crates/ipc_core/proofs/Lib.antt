@@ -1,6 +1,4 @@
 pub mod AfterAt
-pub mod Opening
-pub mod Scannable
 pub mod Commands
 pub mod CourseLemmas
 pub mod KernelLemmas

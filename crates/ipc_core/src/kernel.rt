@@ -19,7 +19,6 @@ ghost use Rattle.ipc_core.specs.Laws.{IsSound};
 ghost use Rattle.ipc_core.specs.Obeying.{MayObey, broke_answer, empty_kernel, enter_answer, exreg_result, open_answer, rested};
 ghost use Rattle.ipc_core.specs.Outcomes.{has_untaken, is_among, is_busy, is_finished, made_by, outcome_to_take, taken_by};
 ghost use Rattle.ipc_core.specs.Refusals.{open_refusal, enter_refusal, exreg_refusal};
-ghost use Rattle.ipc_core.specs.OpenCalls.{enters_open};
 ghost use Rattle.ipc_core.specs.Room.{is_full};
 ghost use Rattle.ipc_core.specs.Steps.{Advances, Enters, MayRefuse, Opens, at_moment, taken_after};
 ghost use Rattle.ipc_core.specs.declared.command.Answer.TheVariants.{Advanced, Done, Taken};
@@ -30,7 +29,6 @@ use crate::course::Course;
 use crate::refusal::Refusal;
 use crate::room::call_need;
 use ipc_history::{Call, Entry, Input, Outcome};
-use ipc_rules::is_over;
 use ipc_words::limits::{
     LAST_MOMENT, MAX_CALLS, MAX_ENTRIES, MAX_SPACE, MAX_THREAD_NUMBER, NEED_OF_EXCHANGE,
     NEED_OF_OPEN, PLEDGE_OF_THREAD,
@@ -113,11 +111,7 @@ impl Kernel {
     pub fn open_calls(&self) -> usize
         ensures { result ≡ open_calls self.now.history }
     {
-        let entries = self.course.entries();
-        entries
-            .iter()
-            .filter(|entry| is_open_call(entries, entry))
-            .count()
+        self.course.open_calls()
     }
 
     /// How many calls were made.
@@ -266,19 +260,9 @@ impl Kernel {
         self.course.begin();
         if self.course.is_any_due_at(moment) {
             self.course.tick(moment);
-            self.course.settle();
+            self.course.settle(None);
         }
         self.moment = moment;
-    }
-}
-
-/// Whether an entry enters a call that is open.
-fn is_open_call(entries: &[Entry], entry: &Entry) -> bool
-    ensures { result ≡ enters_open entries.now entry.now }
-{
-    match entry.number() {
-        Some(number) => !is_over(entries, number),
-        None => false,
     }
 }
 

@@ -12,3 +12,4 @@ pub mod EndLemmas
 pub mod DecodeLemmas
 pub mod PlacingLemmas
 pub mod ShortLemmas
+pub mod FaultLemmas

@@ -3,4 +3,4 @@
 
 mod shell;
 
-pub use shell::{ShellOptions, shell_options};
+pub use shell::{ChartOptions, ShellOptions, shell_options};

@@ -1,3 +1,5 @@
 pub mod TellLemmas
+pub mod CauseLemmas
+pub mod TakeLemmas
 pub mod ReadLemmas
 pub mod WriteLemmas

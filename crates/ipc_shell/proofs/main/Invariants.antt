@@ -1,7 +1,7 @@
 use Rattle.ipc_shell.proofs.main.Given as goal
 
-abbrev pub ghosts-run-L-Ledger : goal.ghosts-run-L-Ledger
-ghosts-run-L-Ledger a = record { name = a.reads.name; parts = a.reads.parts }
+abbrev pub ghosts-obey-L-Ledger : goal.ghosts-obey-L-Ledger
+ghosts-obey-L-Ledger a = record { name = a.reads.name; parts = a.reads.parts }
 
-abbrev pub ghosts-run-M-Ledger : goal.ghosts-run-M-Ledger
-ghosts-run-M-Ledger a = record { name = a.writes.name; parts = a.writes.parts }
+abbrev pub ghosts-obey-M-Ledger : goal.ghosts-obey-M-Ledger
+ghosts-obey-M-Ledger a = record { name = a.writes.name; parts = a.writes.parts }

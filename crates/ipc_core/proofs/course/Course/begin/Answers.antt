@@ -1,4 +1,4 @@
-use Rattle.std.proofs.Common.{refl, arith}
+use Rattle.std.proofs.Common.{arith}
 use Rattle.ipc_core.proofs.CourseLemmas.{course_begins}
 use Rattle.ipc_core.proofs.course.Course.begin.Goals as goal
 

@@ -1,4 +1,4 @@
-use Rattle.std.proofs.Common.{◌≡◌, ap, ap₂, sym, subst, ◌∙◌, length, Some, arith}
+use Rattle.std.proofs.Common.{◌≡◌, ap, ap₂, sym, subst, ◌∙◌, length, arith}
 use Rattle.ipc_history.specs.Legal.{Legal}
 use Rattle.ipc_desks.specs.CallsOf.{last_call, outcome_to_take}
 use Rattle.ipc_core.proofs.CourseLemmas.{took}

@@ -1,0 +1,4 @@
+pub mod WriteLemmas
+pub mod ReadLemmas
+pub mod ClientLemmas
+pub mod BuildLemmas

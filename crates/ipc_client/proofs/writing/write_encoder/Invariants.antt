@@ -1,0 +1,13 @@
+-- What went out and what is left are the encoder's bytes.
+use Rattle.std.proofs.Common.{◌≡◌, length}
+use Rattle.ipc_client.specs.Writing.{Writes}
+use Rattle.ipc_client.proofs.writing.write_encoder.Given as goal
+
+abbrev pub invariant-pieces : goal.invariant-pieces
+invariant-pieces g l = record {
+  wrote : Writes (g.P.PortWrite.written l.fn.port) (g.P.PortWrite.written l.port) l.initial.encoder l.encoder;
+  kept : g.P.PortWrite.failures l.port ≡ g.P.PortWrite.failures l.fn.port;
+}
+
+abbrev pub decreases-pieces : goal.decreases-pieces
+decreases-pieces g l = length l.encoder

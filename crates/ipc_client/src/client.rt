@@ -1,0 +1,333 @@
+//! A client of the server.
+ghost use Rattle.std.specs.Prelude.{◌≡◌, Bool, true, false, Err, OnOk, OnErr, IfOk, IfErr, ◌⊎◌};
+ghost use Rattle.ipc_words.specs.ThreadId.{anythread};
+ghost use Rattle.ipc_words.specs.Timeouts.{timeouts_of};
+ghost use Rattle.ipc_frame.specs.declared.frame.Frame.{Frame as AnyFrame};
+ghost use Rattle.std.specs.Io.KnownBytes.{Appends};
+ghost use Rattle.ipc_frame.specs.Frames.{spelling};
+ghost use Rattle.ipc_client.specs.Asking.{Answers, Exchanges, Fails, FailsBy, FailsCall, FailsToRead, FailsToSend, FailsBye, IsWithheld, SaysBye};
+ghost use Rattle.ipc_client.specs.Asking.{answer_frame, answers_call, answers_exchange, error_at, greeting_frame, greets, registers_frame};
+ghost use Rattle.ipc_client.specs.Messages.{ipc_of, no_buffers, no_message};
+ghost use Rattle.ipc_client.specs.Timeouts.{zero_period};
+
+use crate::answer::{Answer, Greeting, Registers};
+use crate::error::ClientError;
+use crate::message::{Buffers, Message};
+use crate::reading::read_frame;
+use crate::timeout::Timeout;
+use crate::writing::write_frame;
+use ipc_frame::{Frame, FrameFault, IpcFrame, IpcParts, Side};
+use ipc_ports::{PortRead, PortWrite};
+use ipc_words::{Control, Period, ThreadId, Timeouts};
+use std::alloc::Global;
+use std::marker::Model;
+
+/// A connection to the server, over a port that it reads and one that it writes. Each call sends one frame and reads one.
+///
+/// A call that the kernel refuses is answered, and so is one that fails. After an error, and after `bye`, every call answers
+/// `Closed` and writes nothing.
+#[derive(Drop)]
+pub struct Client<R: PortRead, W: PortWrite> {
+    alloc: Global,
+    reader: R,
+    writer: W,
+    is_closed: bool,
+}
+
+impl<R: PortRead, W: PortWrite> Model for Client<R, W> {
+    ghost use Rattle.ipc_client.specs.ClientParts.{ClientParts};
+
+    ghost Value = { ClientParts };
+
+    ghost view = { λ client. record {
+      remaining = R.remaining client.reader;
+      written = W.written client.writer;
+      read_failures = R.failures client.reader;
+      write_failures = W.failures client.writer;
+      is_closed = client.is_closed;
+    } };
+}
+
+impl<R: PortRead, W: PortWrite> Client<R, W> {
+    /// A client of a connection on which nothing was said yet.
+    pub fn new(alloc: Global, reader: R, writer: W) -> Client<R, W>
+        ensures { result ≡ record {
+          remaining = R.remaining reader;
+          written = W.written writer;
+          read_failures = R.failures reader;
+          write_failures = W.failures writer;
+          is_closed = false;
+        } }
+    {
+        Client {
+            alloc,
+            reader,
+            writer,
+            is_closed: false,
+        }
+    }
+
+    // Sends a frame, and reads the next one.
+    fn exchange(&mut self, frame: Frame) -> Result<Frame, FrameFault>
+        requires { self.old.is_closed ≡ false }
+        ensures ok { IfOk result (λ answered. Exchanges self.old self.new frame answered) }
+        ensures err { IfErr result (λ fault. FailsToSend self.old self.new frame fault ⊎ FailsToRead self.old self.new frame fault) }
+        ensures open { self.new.is_closed ≡ false }
+    {
+        match write_frame(&mut self.writer, frame) {
+            Ok(()) => read_frame(self.alloc, Side::Client, &mut self.reader),
+            Err(fault) => Err(fault),
+        }
+    }
+
+    // The same, of a client that may be closed; closes it at a fault.
+    fn ask(&mut self, frame: Frame) -> Result<Frame, ClientError>
+        ensures ok { IfOk result (λ answered. Answers self.old self.new frame answered) }
+        ensures err { IfErr result (λ error. (is_answer : AnyFrame → Bool) → Fails is_answer self.old self.new frame error) }
+    {
+        if self.is_closed {
+            return Err(ClientError::Closed);
+        }
+        match self.exchange(frame) {
+            Ok(answered) => Ok(answered),
+            Err(fault) => {
+                self.is_closed = true;
+                Err(ClientError::Frame(fault))
+            }
+        }
+    }
+
+    // Closes the client at a frame that is no answer.
+    fn close_at(&mut self, frame: Frame) -> ClientError
+        ensures error { result ≡ error_at frame }
+        ensures closed { self.new ≡ record self.old { is_closed = true } }
+    {
+        self.is_closed = true;
+        match frame {
+            Frame::Fault(class, number) => ClientError::Fault { class, number },
+            _ => ClientError::Unexpected,
+        }
+    }
+
+    /// Says which thread number the connection wants, and answers the thread's id.
+    ///
+    /// # Errors
+    ///
+    /// As [`ClientError`] says. The client is then closed.
+    pub fn hello(&mut self, number: u16) -> Result<Greeting, ClientError>
+        ensures ok { IfOk result (λ greeting. Answers self.old self.new (Frame.Hello number) (greeting_frame greeting)) }
+        ensures err { IfErr result (λ error. Fails greets self.old self.new (Frame.Hello number) error) }
+        ensures closed { self.old.is_closed ≡ true → (result ≡ Err ClientError.Closed) × (self.new ≡ self.old) }
+    {
+        let answered = match self.ask(Frame::Hello(number)) {
+            Ok(answered) => answered,
+            Err(error) => return Err(error),
+        };
+        match answered {
+            Frame::Welcome(id) => Ok(Greeting::Welcome(id)),
+            Frame::Refused(number) => Ok(Greeting::Refused(number)),
+            other => Err(self.close_at(other)),
+        }
+    }
+
+    /// Makes the call of a frame.
+    ///
+    /// # Errors
+    ///
+    /// As [`ClientError`] says. The client is then closed.
+    pub fn ipc(&mut self, frame: IpcFrame) -> Result<Answer, ClientError>
+        ensures ok { IfOk result (λ answer. Answers self.old self.new (Frame.Ipc frame) (answer_frame answer)) }
+        ensures err { IfErr result (λ error. Fails answers_call self.old self.new (Frame.Ipc frame) error) }
+        ensures closed { self.old.is_closed ≡ true → (result ≡ Err ClientError.Closed) × (self.new ≡ self.old) }
+    {
+        let answered = match self.ask(Frame::Ipc(frame)) {
+            Ok(answered) => answered,
+            Err(error) => return Err(error),
+        };
+        match answered {
+            Frame::Ipcr(outcome) => Ok(Answer::Outcome(outcome)),
+            Frame::Refused(number) => Ok(Answer::Refused(number)),
+            other => Err(self.close_at(other)),
+        }
+    }
+
+    /// ExchangeRegisters: cancels the send phase of a thread of the own space (S of the control word), or its receive phase (R).
+    ///
+    /// # Errors
+    ///
+    /// As [`ClientError`] says. The client is then closed.
+    pub fn exchange_registers(
+        &mut self,
+        dest: ThreadId,
+        control: Control,
+    ) -> Result<Registers, ClientError>
+        ensures ok { IfOk result (λ answer. Answers self.old self.new (Frame.Exreg dest control) (registers_frame answer)) }
+        ensures err { IfErr result (λ error. Fails answers_exchange self.old self.new (Frame.Exreg dest control) error) }
+        ensures closed { self.old.is_closed ≡ true → (result ≡ Err ClientError.Closed) × (self.new ≡ self.old) }
+    {
+        let answered = match self.ask(Frame::Exreg(dest, control)) {
+            Ok(answered) => answered,
+            Err(error) => return Err(error),
+        };
+        match answered {
+            Frame::Exregr(result, control, code) => Ok(Registers::Exchanged {
+                result,
+                control,
+                code,
+            }),
+            Frame::Refused(number) => Ok(Registers::Refused(number)),
+            other => Err(self.close_at(other)),
+        }
+    }
+
+    // Makes the frame of a call, and the call. F4, F3 and F1 come before anything is written.
+    fn ipc_of(
+        &mut self,
+        to: ThreadId,
+        from: ThreadId,
+        timeouts: Timeouts,
+        message: Message,
+        buffers: Buffers,
+    ) -> Result<Answer, ClientError>
+        ensures ok { IfOk result (λ answer. Answers self.old self.new
+            (Frame.Ipc (ipc_of to from timeouts message buffers)) (answer_frame answer)) }
+        ensures err { IfErr result (λ error. FailsCall self.old self.new (ipc_of to from timeouts message buffers) error) }
+        ensures limits { IsWithheld self.old self.new (ipc_of to from timeouts message buffers) result }
+        ensures closed { self.old.is_closed ≡ true → (result ≡ Err ClientError.Closed) × (self.new ≡ self.old) }
+    {
+        if self.is_closed {
+            return Err(ClientError::Closed);
+        }
+        let made = IpcFrame::new(IpcParts {
+            to,
+            from,
+            timeouts,
+            originator: message.sender,
+            tag: message.tag,
+            acceptor: buffers.acceptor,
+            words: message.words,
+            buffer_words: buffers.words,
+            payload: message.payload,
+        });
+        match made {
+            Ok(frame) => self.ipc(frame),
+            Err(fault) => {
+                self.is_closed = true;
+                Err(ClientError::Frame(fault))
+            }
+        }
+    }
+
+    /// Sends a message to a thread, and waits for it so long.
+    ///
+    /// # Errors
+    ///
+    /// As [`ClientError`] says; F4, F3 and F1 of a message past the limits before anything is written. The client is then closed.
+    pub fn send(
+        &mut self,
+        to: ThreadId,
+        message: Message,
+        send: Timeout,
+    ) -> Result<Answer, ClientError>
+        ensures ok { IfOk result (λ answer. Answers self.old self.new
+            (Frame.Ipc (ipc_of to 0 (timeouts_of 0 send) message no_buffers)) (answer_frame answer)) }
+        ensures err { IfErr result (λ error. FailsCall self.old self.new
+            (ipc_of to 0 (timeouts_of 0 send) message no_buffers) error) }
+        ensures limits { IsWithheld self.old self.new (ipc_of to 0 (timeouts_of 0 send) message no_buffers) result }
+        ensures closed { self.old.is_closed ≡ true → (result ≡ Err ClientError.Closed) × (self.new ≡ self.old) }
+    {
+        let timeouts = Timeouts::of(Period::NEVER, send.period());
+        let buffers = Buffers::none(self.alloc);
+        self.ipc_of(to, ThreadId::NILTHREAD, timeouts, message, buffers)
+    }
+
+    /// Receives a message of a sender that the FromSpecifier accepts, and waits for it so long.
+    ///
+    /// # Errors
+    ///
+    /// As [`ClientError`] says; F4 of more than 32 buffer words before anything is written. The client is then closed.
+    pub fn receive(
+        &mut self,
+        from: ThreadId,
+        receive: Timeout,
+        buffers: Buffers,
+    ) -> Result<Answer, ClientError>
+        ensures ok { IfOk result (λ answer. Answers self.old self.new
+            (Frame.Ipc (ipc_of 0 from (timeouts_of receive 0) no_message buffers)) (answer_frame answer)) }
+        ensures err { IfErr result (λ error. FailsCall self.old self.new
+            (ipc_of 0 from (timeouts_of receive 0) no_message buffers) error) }
+        ensures limits { IsWithheld self.old self.new (ipc_of 0 from (timeouts_of receive 0) no_message buffers) result }
+        ensures closed { self.old.is_closed ≡ true → (result ≡ Err ClientError.Closed) × (self.new ≡ self.old) }
+    {
+        let timeouts = Timeouts::of(receive.period(), Period::NEVER);
+        let message = Message::empty(self.alloc);
+        self.ipc_of(ThreadId::NILTHREAD, from, timeouts, message, buffers)
+    }
+
+    /// Sends a message to a thread, and then receives the answer of that thread alone.
+    ///
+    /// # Errors
+    ///
+    /// As [`ClientError`] says; F4, F3 and F1 of what is past the limits before anything is written. The client is then closed.
+    pub fn call(
+        &mut self,
+        to: ThreadId,
+        message: Message,
+        send: Timeout,
+        receive: Timeout,
+        buffers: Buffers,
+    ) -> Result<Answer, ClientError>
+        ensures ok { IfOk result (λ answer. Answers self.old self.new
+            (Frame.Ipc (ipc_of to to (timeouts_of receive send) message buffers)) (answer_frame answer)) }
+        ensures err { IfErr result (λ error. FailsCall self.old self.new
+            (ipc_of to to (timeouts_of receive send) message buffers) error) }
+        ensures limits { IsWithheld self.old self.new (ipc_of to to (timeouts_of receive send) message buffers) result }
+        ensures closed { self.old.is_closed ≡ true → (result ≡ Err ClientError.Closed) × (self.new ≡ self.old) }
+    {
+        let timeouts = Timeouts::of(receive.period(), send.period());
+        self.ipc_of(to, to, timeouts, message, buffers)
+    }
+
+    /// Answers a thread that waits for it, with no time to wait, and then receives a message of any thread.
+    ///
+    /// # Errors
+    ///
+    /// As [`ClientError`] says; F4, F3 and F1 of what is past the limits before anything is written. The client is then closed.
+    pub fn reply_wait(
+        &mut self,
+        to: ThreadId,
+        message: Message,
+        receive: Timeout,
+        buffers: Buffers,
+    ) -> Result<Answer, ClientError>
+        ensures ok { IfOk result (λ answer. Answers self.old self.new
+            (Frame.Ipc (ipc_of to anythread (timeouts_of receive zero_period) message buffers)) (answer_frame answer)) }
+        ensures err { IfErr result (λ error. FailsCall self.old self.new
+            (ipc_of to anythread (timeouts_of receive zero_period) message buffers) error) }
+        ensures limits { IsWithheld self.old self.new (ipc_of to anythread (timeouts_of receive zero_period) message buffers) result }
+        ensures closed { self.old.is_closed ≡ true → (result ≡ Err ClientError.Closed) × (self.new ≡ self.old) }
+    {
+        let timeouts = Timeouts::of(receive.period(), Period::ZERO);
+        self.ipc_of(to, ThreadId::ANYTHREAD, timeouts, message, buffers)
+    }
+
+    /// Says that no more frames come. There is no answer, and the client is closed.
+    ///
+    /// # Errors
+    ///
+    /// F10, F11 of the port that is written; `Closed`.
+    pub fn bye(&mut self) -> Result<(), ClientError>
+        ensures ok { OnOk result (SaysBye self.old self.new) }
+        ensures err { IfErr result (λ error. FailsBye self.old self.new error) }
+        ensures closed { self.old.is_closed ≡ true → (result ≡ Err ClientError.Closed) × (self.new ≡ self.old) }
+    {
+        if self.is_closed {
+            return Err(ClientError::Closed);
+        }
+        self.is_closed = true;
+        match write_frame(&mut self.writer, Frame::Bye) {
+            Ok(()) => Ok(()),
+            Err(fault) => Err(ClientError::Frame(fault)),
+        }
+    }
+}

@@ -24,7 +24,7 @@ use Rattle.ipc_laws.proofs.OpenCalls.{caller_lives, caller_opened}
 use Rattle.ipc_laws.proofs.OneLive.{opened_once}
 use Rattle.ipc_laws.proofs.Places.{any_place}
 use Rattle.ipc_laws.proofs.Tests.{left, not_both, refuted, right}
-use Rattle.ipc_rules.proofs.OpenNumbers.{find_passes}
+use Rattle.ipc_slots.proofs.Finds.{find_passes}
 use Rattle.ipc_core.specs.Effects.{Ticks}
 use Rattle.ipc_core.specs.KernelParts.{KernelParts}
 use Rattle.ipc_core.specs.Laws.{IsSound}
@@ -138,7 +138,7 @@ counts_one p P some =
     let here : ◌≡◌ {A = ℕ} (cond (p q.0) 1 0) 1 = rw q.2 refl in
     rw q.1.whole (omega (arith, sum_by-append (λ e. cond (p e) 1 0) q.1.front (q.0 ∷ q.1.rest), sum_by-cons (λ e. cond (p e) 1 0) q.0 q.1.rest, here))
 
-counts_two : (p : Entry → Bool) (P rest : List Entry) (e : Entry) → list_any p P ≡ true → p e ≡ true → 2 ≤ count_by p (P ++ e ∷ rest)
+pub counts_two : (p : Entry → Bool) (P rest : List Entry) (e : Entry) → list_any p P ≡ true → p e ≡ true → 2 ≤ count_by p (P ++ e ∷ rest)
 counts_two p P rest e some passes =
     let first = counts_one p P some in
     let second : ◌≡◌ {A = ℕ} (cond (p e) 1 0) 1 = rw passes refl in

@@ -1,5 +1,6 @@
 pub mod OutcomeCall
 pub mod KernelLaws
+pub mod Opening
 pub mod LiveLemmas
 pub mod OutputLemmas
 pub mod ReadyLemmas

@@ -33,7 +33,7 @@ use Rattle.ipc_core.specs.declared.command.Command.{Command}
 use Rattle.ipc_core.specs.declared.command.Command.TheVariants.{Open, Enter, Exreg, Broke, At, Advance, Take}
 use Rattle.ipc_core.specs.declared.refusal.Refusal.{Refusal}
 use Rattle.ipc_core.specs.declared.refusal.Refusal.TheVariants.{BadNumber, NumberTaken, NumberWorn, HistoryFull}
-use Rattle.ipc_core.proofs.Opening.{unbroken}
+use Rattle.ipc_exchange.proofs.Opening.{unbroken}
 
 -- entries that break no thread leave it live
 live_more : (P Q : List Entry) (t : ℕ) → list_any (breaks t) Q ≡ false → is_live P t ≡ true → is_live (P ++ Q) t ≡ true

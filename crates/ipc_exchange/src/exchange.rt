@@ -90,7 +90,7 @@ impl Exchange {
             &mut self.decoders[place],
             piece,
         );
-        self.progress(place)
+        self.progress_at(place)
     }
 
     /// The input of a connection ends. A connection that was never given, or has ended, takes no input.
@@ -150,7 +150,18 @@ impl Exchange {
         self.service.len()
     }
 
-    fn progress(&self, place: usize) -> Progress
+    /// Whether a connection goes on. One that was never given does not.
+    pub fn progress(&self, connection: usize) -> Progress
+        ensures progress { (place : ℕ) → connection ≡ place + 1 → result ≡ progress_of (stage_at self.now.service.slots place) }
+        ensures zero { connection ≡ 0 → result ≡ Progress.Finished }
+    {
+        if connection == 0 || connection > self.service.len() {
+            return Progress::Finished;
+        }
+        self.progress_at(connection - 1)
+    }
+
+    fn progress_at(&self, place: usize) -> Progress
         requires { place < length self.now.service.slots }
         ensures { result ≡ progress_of (stage_at self.now.service.slots place) }
     {

@@ -84,12 +84,7 @@ impl Exchange {
         if self.service.has_finished(place) {
             return Progress::Finished;
         }
-        feed_line(
-            &mut self.service,
-            place,
-            &mut self.decoders[place],
-            piece,
-        );
+        feed_line(&mut self.service, place, &mut self.decoders[place], piece);
         self.progress_at(place)
     }
 

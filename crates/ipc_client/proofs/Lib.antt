@@ -4,3 +4,4 @@ pub mod ClientLemmas
 pub mod BuildLemmas
 pub mod CutLemmas
 pub mod PeriodLemmas
+pub mod LawLemmas

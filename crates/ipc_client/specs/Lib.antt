@@ -8,3 +8,4 @@ pub mod Timeouts
 pub mod Building
 pub mod Receiving
 pub mod Buffering
+pub mod Laws

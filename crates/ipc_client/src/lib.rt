@@ -9,6 +9,7 @@ mod device;
 mod error;
 #[cfg(test)]
 mod examples;
+mod laws;
 mod message;
 mod message_fault;
 mod reading;
@@ -21,6 +22,7 @@ mod writing;
 pub use answer::{Answer, Failure, Greeting, Registers};
 pub use client::Client;
 pub use error::ClientError;
+pub use laws::{laid_out_strings_are_read, messages_fit_frames};
 pub use message::{Buffers, Message};
 pub use message_fault::{BufferFault, MessageFault};
 pub use reading::read_frame;

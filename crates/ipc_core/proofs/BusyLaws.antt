@@ -130,7 +130,7 @@ lived P Q t none live = go (list_any (opens t) P) (list_any (breaks t) P) (list_
     go false b c h = absurd (false≢true h)
 
 -- what stays, or falls, of a thread by a command that is not a call of it
-record Keeps (old new : KernelParts) (t : ℕ) : Type 0 where
+pub record Keeps (old new : KernelParts) (t : ℕ) : Type 0 where
   pub last : last_call new.history t ≡ last_call old.history t
   pub taken : (n : ℕ) → is_among n old.taken ≡ true → is_among n new.taken ≡ true
   pub live : (n : ℕ) → last_call old.history t ≡ Some n → is_live new.history t ≡ true → is_live old.history t ≡ true
@@ -219,7 +219,7 @@ gives_taken : (n : ℕ) (taken : List ℕ) (outcome : Option OutcomeParts) → i
 gives_taken n taken None among = among
 gives_taken n taken (Some outcome) among = still_among n taken (outcome.call ∷ []) among
 
-does_keeps : (old new : KernelParts) (command : Command) (answer : Answer) (t : ℕ) → Legal old.history → Legal new.history → Does old command answer new → is_call_of t command ≡ false → Keeps old new t
+pub does_keeps : (old new : KernelParts) (command : Command) (answer : Answer) (t : ℕ) → Legal old.history → Legal new.history → Does old command answer new → is_call_of t command ≡ false → Keeps old new t
 unfolding Does
 does_keeps old new (Open number space) (Opened thread) t before legal does none = opens_keeps old new t (λ n among. ap (is_among n) does.taken ∙ among) thread space before legal does.takes
 does_keeps old new (Enter thread call) (Entered number) t before legal does none = takes_keeps old new t (λ n among. ap (is_among n) does.taken ∙ among) _ does.takes (rw none refl) refl

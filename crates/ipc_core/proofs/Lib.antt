@@ -18,3 +18,4 @@ pub mod RunLaws
 pub mod IdleLaws
 pub mod OutcomeCall
 pub mod BusyLaws
+pub mod UnfinishedLaws

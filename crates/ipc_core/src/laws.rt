@@ -1,5 +1,5 @@
 // The laws of a kernel. Each function is a theorem: it does nothing, and its contract holds of every kernel.
-ghost use Rattle.ipc_core.specs.Laws.{EnteredIsBusy, IdleHasNothing, RunsOnce, StaysIdle, TakenIsIdle};
+ghost use Rattle.ipc_core.specs.Laws.{EnteredIsBusy, IdleHasNothing, RunsOnce, StaysIdle, TakenIsIdle, UnfinishedKeeps};
 
 /// The same commands, each obeyed, have one list of answers and one end.
 pub fn runs_once()
@@ -16,4 +16,9 @@ pub fn busy_by_its_calls()
     ensures idle { StaysIdle }
     ensures entered { EnteredIsBusy }
     ensures taken { TakenIsIdle }
+{}
+
+/// A live thread that the finished ones do not name has to take what it had to take before.
+pub fn unfinished_keeps()
+    ensures { UnfinishedKeeps }
 {}

@@ -332,3 +332,195 @@ fn timeouts<C: Ledger, T: Ledger, R: Wait + Abort>(
     one.is_told(rt, alloc, kernel, "1 0x8000 nil nil 0x3 - -")?;
     two.is_told(rt, alloc, kernel, "2 0x8000 nil nil 0x2 - -")
 }
+
+#[test]
+fn a_transfer_is_stopped_and_its_partner_breaks(rt: HostRuntime) -> Result<(), Fail> {
+    stopped_transfers::<Brand, Brand, _>(
+        &rt,
+        rt.alloc(),
+        Blank::new(1 << 63),
+        Blank::new(1 << 63),
+    )
+}
+
+fn stopped_transfers<C: Ledger, T: Ledger, R: Wait + Abort>(
+    rt: &R,
+    alloc: Global,
+    calls: Blank,
+    takes: Blank,
+) -> Result<(), Fail>
+    requires calls { (calls.name ≡ C.name) × (calls.parts ≡ C.parts) × (calls.parts ≡ 2 ^ 63) }
+    requires takes { (takes.name ≡ T.name) × (takes.parts ≡ T.parts) × (takes.parts ≡ 2 ^ 63) }
+{
+    let kernel = &SharedKernel::<C, T>::new(alloc, ROOM, calls, takes).ok().ok_or("a kernel")?;
+    let one = Party::open(rt, kernel, 1)?;
+    let two = Party::open(rt, kernel, 2)?;
+    let Party { calls: stopper, .. } = Party::open(rt, kernel, 3)?;
+    let (mut one, mut two) = begin_transfer(rt, alloc, kernel, one, two, 1)?;
+    assert!(rt; kernel.wait_work(rt));
+    let stop = Step::Exreg(stopper, first(2), Control::from_word(4));
+    assert_eq!(rt; said(kernel, rt, stop), "exchanged");
+    two.is_told(rt, alloc, kernel, "2 0x8000 nil nil 0x10000e - -")?;
+    one.is_told(rt, alloc, kernel, "1 0x8000 nil nil 0x10000f - -")?;
+    let (one, mut two) = begin_transfer(rt, alloc, kernel, one, two, 3)?;
+    assert_eq!(rt; said(kernel, rt, Step::Broke(one.thread)), "broken");
+    two.is_told(rt, alloc, kernel, "4 0x8000 nil nil 0x10000e - -")?;
+    assert_eq!(rt; said(kernel, rt, Step::Advance), "idle");
+    kernel.close(rt);
+    assert!(rt; !kernel.wait_work(rt));
+    Ok(())
+}
+
+// The first thread receives a string of the second one, by calls from this number on, of which a block is copied.
+fn begin_transfer<C: Ledger, T: Ledger, R: Wait + Abort>(
+    rt: &R,
+    alloc: Global,
+    kernel: &SharedKernel<C, T>,
+    one: Party<C, T>,
+    two: Party<C, T>,
+    number: u64,
+) -> Result<(Party<C, T>, Party<C, T>), Fail> {
+    let receive = receives(alloc, ThreadId::ANYTHREAD, 0, 131_073)?;
+    let one = one.enter(rt, kernel, 0, receive, number)?;
+    let send = sends_string(alloc, first(1), 131_073)?;
+    let two = two.enter(rt, kernel, 0, send, number.saturating_add(1))?;
+    assert_eq!(rt; said(kernel, rt, Step::Advance), "moved");
+    Ok((one, two))
+}
+
+// A step, and what it is told in a word.
+fn said<C: Ledger, T: Ledger, R: Wait>(
+    kernel: &SharedKernel<C, T>,
+    rt: &R,
+    step: Step<C>,
+) -> &'static str {
+    match kernel.submit(rt, 0, step).into_told() {
+        Told::Advanced(Advance::Moved) => "moved",
+        Told::Advanced(Advance::Idle) => "idle",
+        Told::Exchanged(_, _) => "exchanged",
+        Told::Broken(_) => "broken",
+        Told::NotThere(_) => "not there",
+        _ => "another answer",
+    }
+}
+
+#[test]
+fn a_seat_is_stale_once_its_number_was_opened_again(rt: HostRuntime) -> Result<(), Fail> {
+    stale_seats::<Brand, Brand, _>(&rt, rt.alloc(), Blank::new(1 << 63), Blank::new(1 << 63))
+}
+
+fn stale_seats<C: Ledger, T: Ledger, R: Wait + Abort>(
+    rt: &R,
+    alloc: Global,
+    calls: Blank,
+    takes: Blank,
+) -> Result<(), Fail>
+    requires calls { (calls.name ≡ C.name) × (calls.parts ≡ C.parts) × (calls.parts ≡ 2 ^ 63) }
+    requires takes { (takes.name ≡ T.name) × (takes.parts ≡ T.parts) × (takes.parts ≡ 2 ^ 63) }
+{
+    let limits = Limits {
+        entries: MAX_ENTRIES,
+        calls: 1,
+    };
+    let kernel = &SharedKernel::<C, T>::new(alloc, limits, calls, takes)
+        .ok()
+        .ok_or("a kernel")?;
+    let one = Party::open(rt, kernel, 1)?;
+    assert_eq!(rt; said(kernel, rt, Step::Broke(one.thread)), "broken");
+    let again = Party::open(rt, kernel, 1)?;
+    assert!(rt; again.thread != one.thread);
+    let receive = receives(alloc, ThreadId::ANYTHREAD, 0, 0)?;
+    let mut one = one.is_refused(rt, kernel, receive, Refusal::NoThread)?;
+    assert!(rt; kernel.wait_outcome(rt, &mut one.takes).is_none());
+    assert_eq!(rt; said(kernel, rt, Step::Broke(one.thread)), "not there");
+    let again = again.enter(rt, kernel, 0, sends(alloc, first(9), 0, 1)?, 1)?;
+    // busy before the calls are spent, and the seat counts neither
+    let receive = receives(alloc, ThreadId::ANYTHREAD, 0, 0)?;
+    let mut again = again.is_refused(rt, kernel, receive, Refusal::Busy)?;
+    again.is_told(rt, alloc, kernel, "1 0x8000 nil nil 0x4 - -")?;
+    let receive = receives(alloc, ThreadId::ANYTHREAD, 0, 0)?;
+    let again = again.is_refused(rt, kernel, receive, Refusal::CallsSpent)?;
+    assert_eq!(rt; (again.calls.made(), again.takes.taken()), (1, 1));
+    Ok(())
+}
+
+#[test]
+fn two_threads_of_the_machine_meet_ten_thousand_times(rt: HostRuntime) -> Result<(), Fail> {
+    meetings::<Brand, Brand, _>(&rt, rt.alloc(), Blank::new(1 << 63), Blank::new(1 << 63))
+}
+
+fn meetings<C: Ledger + Send + Sync, T: Ledger + Send + Sync, R: Threads + Wait + Abort + Sync>(
+    rt: &R,
+    alloc: Global,
+    calls: Blank,
+    takes: Blank,
+) -> Result<(), Fail>
+    requires calls { (calls.name ≡ C.name) × (calls.parts ≡ C.parts) × (calls.parts ≡ 2 ^ 63) }
+    requires takes { (takes.name ≡ T.name) × (takes.parts ≡ T.parts) × (takes.parts ≡ 2 ^ 63) }
+{
+    let kernel = &SharedKernel::<C, T>::new(alloc, ROOM, calls, takes)
+        .ok()
+        .ok_or("a kernel")?;
+    let one = Party::open(rt, kernel, 1)?;
+    let two = Party::open(rt, kernel, 2)?;
+    let mut receive_calls = Vec::new(alloc);
+    let mut send_calls = Vec::new(alloc);
+    for word in 0..MEETINGS {
+        receive_calls.push(receives(alloc, first(2), 0, 0)?)?;
+        send_calls.push(sends(alloc, first(1), 0, word)?)?;
+    }
+    let (received, sent) = thread::join(
+        rt,
+        move || make_calls(rt, alloc, kernel, one, receive_calls),
+        move || make_calls(rt, alloc, kernel, two, send_calls),
+    );
+    let received = received.ok_or("what was received")?;
+    assert_eq!(rt; received.len(), 10_000);
+    let mut next = 0u64;
+    for word in &received {
+        assert_eq!(rt; *word, Some(next));
+        next = next.saturating_add(1);
+    }
+    let sent = sent.ok_or("what was sent")?;
+    assert_eq!(rt; sent.len(), 10_000);
+    assert!(rt; sent.iter().all(|word| word.is_none()));
+    // two opens, and for each message two calls, began and ended
+    assert_eq!(rt; kernel.entries(rt), 40_002);
+    Ok(())
+}
+
+const MEETINGS: u64 = 10_000;
+
+// Makes calls in turn, each once the one before is over; the first words of their outcomes. None where a call is not entered, where its
+// outcome is not its own, or for want of memory.
+fn make_calls<C: Ledger, T: Ledger, R: Wait>(
+    rt: &R,
+    alloc: Global,
+    kernel: &SharedKernel<C, T>,
+    party: Party<C, T>,
+    calls: Vec<Call>,
+) -> Option<Vec<Option<u64>>> {
+    let Party {
+        thread,
+        calls: mut seat,
+        mut takes,
+    } = party;
+    let mut words = Vec::new(alloc);
+    for call in calls {
+        let Told::Entered(back, number) = kernel.submit(rt, 0, Step::Enter(seat, call)).into_told()
+        else {
+            return None;
+        };
+        seat = back;
+        let taken = kernel.wait_outcome(rt, &mut takes)?;
+        if taken.thread() != thread || taken.amount() != seat.made() {
+            return None;
+        }
+        let outcome = taken.into_outcome();
+        if outcome.call != number {
+            return None;
+        }
+        words.push(outcome.words.first().copied()).ok()?;
+    }
+    Some(words)
+}

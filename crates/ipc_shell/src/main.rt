@@ -1,5 +1,5 @@
-//! The program `l4sh`: runs scripts of opens, calls, clock readings, cancels and breaks, and prints what happens; checks the trace of a
-//! history; draws it as a chart.
+//! The program `l4sh`: runs scripts of opens, calls, clock readings, cancels and breaks, and prints what happens; serves connections
+//! whose bytes a script gives; checks the trace of a history; draws it as a chart.
 #![tactic(auto)]
 
 ghost use Rattle.std.specs.Prelude.{◌≡◌, ◌<◌};
@@ -22,12 +22,14 @@ mod running;
 mod tests;
 #[cfg(test)]
 mod transcripts;
+mod wire_commands;
+mod wiring;
 
 use charting::chart_trace;
 use checking::check_trace;
 use clap::error::ErrorKind;
 use exit::Exit;
-use ipc_core::Limits;
+use ipc_core::{Limits, MAX_CALLS, MAX_ENTRIES};
 use ipc_options::{ShellOptions, shell_options};
 use ipc_ports::{Failures, ReadPort, WritePort};
 use running::run_script;
@@ -38,6 +40,7 @@ use std::marker::Brand;
 use std::process::ExitCode;
 use std::rt::Files;
 use std::sync::ledger::{Blank, Ledger};
+use wiring::wire_script;
 
 fn main(rt: HostRuntime) -> io::Result<ExitCode> {
     let alloc = rt.alloc();
@@ -47,6 +50,10 @@ fn main(rt: HostRuntime) -> io::Result<ExitCode> {
     let Ok(words) = words.collect::<Vec<String>>(alloc) else {
         return ended(&rt, &Exit::NoMemory);
     };
+    if is_wire(&words) {
+        let exit = wire::<Brand, Brand, _>(&rt, alloc, Blank::new(1), Blank::new(1));
+        return ended(&rt, &exit);
+    }
     match shell_options(alloc, &words) {
         Ok(options) => {
             let exit = obey::<Brand, Brand, _>(&rt, alloc, &options, Blank::new(1), Blank::new(1));
@@ -58,6 +65,35 @@ fn main(rt: HostRuntime) -> io::Result<ExitCode> {
             Ok(ExitCode::from(2))
         }
     }
+}
+
+/// Whether the words are those of `l4sh wire`, which takes no option.
+fn is_wire(words: &[String]) -> bool {
+    match words {
+        [_, word] => word.as_str() == "wire",
+        _ => false,
+    }
+}
+
+/// Serves the connections of the script of standard input. Each count of failures begins as a blank.
+fn wire<L: Ledger, M: Ledger, R: Input + Print>(
+    rt: &R,
+    alloc: Global,
+    reads: Blank,
+    writes: Blank,
+) -> Exit
+    requires reads_name { reads.name ≡ L.name }
+    requires reads_parts { (reads.parts ≡ L.parts) × (0 < reads.parts) }
+    requires writes_name { writes.name ≡ M.name }
+    requires writes_parts { (writes.parts ≡ M.parts) × (0 < writes.parts) }
+{
+    let limits = Limits {
+        entries: MAX_ENTRIES,
+        calls: MAX_CALLS,
+    };
+    let mut reader = ReadPort::new(rt.reader(), Failures::<L>::new(reads));
+    let mut writer = WritePort::new(io::writer(rt), Failures::<M>::new(writes));
+    wire_script(alloc, limits, &mut reader, &mut writer)
 }
 
 /// Does what was asked for. The counts of failures, of the reader and of the writer, begin as blanks.

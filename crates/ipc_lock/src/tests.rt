@@ -335,12 +335,7 @@ fn timeouts<C: Ledger, T: Ledger, R: Wait + Abort>(
 
 #[test]
 fn a_transfer_is_stopped_and_its_partner_breaks(rt: HostRuntime) -> Result<(), Fail> {
-    stopped_transfers::<Brand, Brand, _>(
-        &rt,
-        rt.alloc(),
-        Blank::new(1 << 63),
-        Blank::new(1 << 63),
-    )
+    stopped_transfers::<Brand, Brand, _>(&rt, rt.alloc(), Blank::new(1 << 63), Blank::new(1 << 63))
 }
 
 fn stopped_transfers<C: Ledger, T: Ledger, R: Wait + Abort>(
@@ -352,7 +347,9 @@ fn stopped_transfers<C: Ledger, T: Ledger, R: Wait + Abort>(
     requires calls { (calls.name ≡ C.name) × (calls.parts ≡ C.parts) × (calls.parts ≡ 2 ^ 63) }
     requires takes { (takes.name ≡ T.name) × (takes.parts ≡ T.parts) × (takes.parts ≡ 2 ^ 63) }
 {
-    let kernel = &SharedKernel::<C, T>::new(alloc, ROOM, calls, takes).ok().ok_or("a kernel")?;
+    let kernel = &SharedKernel::<C, T>::new(alloc, ROOM, calls, takes)
+        .ok()
+        .ok_or("a kernel")?;
     let one = Party::open(rt, kernel, 1)?;
     let two = Party::open(rt, kernel, 2)?;
     let Party { calls: stopper, .. } = Party::open(rt, kernel, 3)?;

@@ -1,4 +1,5 @@
 pub mod Answers
+pub mod Giving
 pub mod Keeping
 pub mod Laws
 pub mod Reading

@@ -1,6 +1,7 @@
 //! The loops of a session: they carry frames to the kernel and outcomes back, over any port, desk and gate.
 #![tactic(auto)]
 
+mod answers;
 mod calling;
 mod deed;
 mod ending;
@@ -17,6 +18,7 @@ mod turned;
 mod working;
 mod writing;
 
+pub use answers::MemoryAnswers;
 pub use calling::CallDesk;
 pub use deed::Deed;
 pub use ending::{Ending, WriteEnding};

@@ -1,7 +1,7 @@
 ghost use Rattle.std.specs.Prelude.{◌≡◌, None, true};
 
 use super::*;
-use ipc_connection::Request;
+use ipc_connection::{Request, Told};
 use ipc_frame::Frame;
 use ipc_ports::{MemoryPort, PortFault, PortRead, Trouble};
 use ipc_words::ThreadId;
@@ -28,7 +28,10 @@ const DEEDS: [Brief; 3] = [
 // From the first of these bytes up to the second, so many of its frames are whole.
 const STRETCHES: [(usize, usize, usize); 4] = [(0, 7, 0), (7, 65, 1), (65, 86, 2), (86, 91, 3)];
 
-// REFUSED 2, REFUSED 1
+// What a desk gives.
+const GIVEN: [Told; 2] = [Told::Refused(2), Told::Refused(1)];
+
+// The text of it: REFUSED 2, REFUSED 1.
 const ANSWERS: [u8; 12] = [0, 0, 0, 2, 0x84, 2, 0, 0, 0, 2, 0x84, 1];
 
 // More turns than any run here takes.
@@ -72,32 +75,6 @@ fn brief_frame(frame: &Frame) -> Brief {
         Frame::Refused(number) => Brief::Refused(*number),
         Frame::Fault(class, number) => Brief::Faulted(*class, *number),
         _ => Brief::Other,
-    }
-}
-
-// Gives REFUSED with so many numbers, down to 1, and counts the breaks that it is told.
-#[derive(Drop)]
-struct FakeAnswers {
-    left: u8,
-    breaks: u8,
-}
-
-impl TakeDesk for FakeAnswers {
-    ghost log = { λ _. None };
-
-    ghost gone = { λ _. true };
-
-    fn next(&mut self) -> Next {
-        if self.left == 0 {
-            return Next::Gone;
-        }
-        let number = self.left;
-        self.left -= 1;
-        Next::Frame(Frame::Refused(number))
-    }
-
-    fn broke(&mut self) {
-        self.breaks = self.breaks.saturating_add(1);
     }
 }
 
@@ -183,11 +160,20 @@ fn assert_written(
     let mut port = MemoryPort::new(alloc, &[])
         .byte_by_byte()
         .with_trouble(call as u64, trouble);
-    let mut desk = FakeAnswers { left: 2, breaks: 0 };
+    let mut desk = MemoryAnswers::new(alloc, &GIVEN);
     let ending = write_loop(&mut port, &mut desk, &mut Open::new(turns));
     assert_eq!(rt; ending, end);
     assert_eq!(rt; port.output(), Some(text));
-    assert_eq!(rt; desk.breaks, u8::from(end == WriteEnding::Device));
+    let takes = desk
+        .takes()
+        .expect(rt, "there is memory for all that it gave");
+    let mut breaks = 0u8;
+    for take in takes {
+        if take.is_none() {
+            breaks = breaks.saturating_add(1);
+        }
+    }
+    assert_eq!(rt; breaks, u8::from(end == WriteEnding::Device));
 }
 
 #[test]

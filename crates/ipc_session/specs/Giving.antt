@@ -1,0 +1,20 @@
+-- What a desk of answers in memory gave, as the calls of a desk.
+use Rattle.std.specs.Prelude.{List, [], ◌∷◌, Option, Some, None, Bool, if◌then◌else◌}
+use Rattle.std.specs.List.{flat_map}
+use Rattle.ipc_frame.specs.declared.frame.Frame.{Frame}
+use Rattle.ipc_connection.specs.Replying.{reply}
+use Rattle.ipc_connection.specs.declared.replying.Told.{Told}
+use Rattle.ipc_session.specs.Taking.{Breaks, Gave, TakeCall}
+
+abbrev pub gave : Option Frame → List TakeCall
+gave None = []
+gave (Some frame) = Gave frame ∷ []
+
+-- an answer that was given as its frame, or a break
+abbrev pub take_of : Option Told → List TakeCall
+take_of None = Breaks ∷ []
+take_of (Some told) = gave (reply told)
+
+-- all of them, or nothing once one was lost
+abbrev pub takes_of : Bool → List (Option Told) → Option (List TakeCall)
+takes_of is_complete kept = if is_complete then Some (flat_map take_of kept) else None

@@ -1,0 +1,84 @@
+//! A desk of answers in memory, for tests.
+ghost use Rattle.std.specs.Prelude.{◌≡◌, [], Some, None, IfSome, IfNone};
+ghost use Rattle.std.specs.List.{flat_map};
+ghost use Rattle.ipc_session.specs.Giving.{take_of, takes_of};
+ghost use Rattle.ipc_session.specs.Taking.{TellsTaken};
+
+use crate::next::Next;
+use crate::taking::TakeDesk;
+use ipc_connection::{Told, reply};
+use std::alloc::Global;
+
+/// Gives the frames of these answers, in order, up to the first that is told to nobody, and keeps what it gave.
+#[derive(Drop)]
+pub struct MemoryAnswers<'a> {
+    answers: &'a [Told],
+    // What it gave, and None for each break.
+    takes: Vec<Option<Told>>,
+    is_complete: bool,
+    is_gone: bool,
+}
+
+impl<'a> MemoryAnswers<'a> {
+    /// A desk that gives these.
+    pub fn new(alloc: Global, answers: &'a [Told]) -> MemoryAnswers<'a>
+        ensures answers { result.answers.now ≡ answers.now }
+        ensures takes { takes_of result.is_complete result.takes.items ≡ Some [] }
+    {
+        MemoryAnswers {
+            answers,
+            takes: Vec::new(alloc),
+            is_complete: true,
+            is_gone: false,
+        }
+    }
+
+    /// What it gave, in order, with None for each break; None where a growth was refused.
+    pub fn takes(&self) -> Option<&[Option<Told>]>
+        ensures kept { IfSome result (λ takes.
+            takes_of self.now.is_complete self.now.takes.items ≡ Some (flat_map take_of takes.now)) }
+        ensures lost { IfNone result (takes_of self.now.is_complete self.now.takes.items ≡ None) }
+    {
+        self.is_complete.then_some(self.takes.as_slice())
+    }
+
+    fn note(&mut self, take: Option<Told>)
+        ensures gone { self.new.is_gone ≡ self.old.is_gone }
+        ensures told { TellsTaken (takes_of self.old.is_complete self.old.takes.items)
+            (takes_of self.new.is_complete self.new.takes.items) (take_of take) }
+    {
+        if self.takes.push(take).is_err() {
+            self.is_complete = false;
+        }
+    }
+}
+
+impl TakeDesk for MemoryAnswers<'_> {
+    ghost log = { λ desk. takes_of desk.is_complete desk.takes.items };
+
+    ghost gone = { λ desk. desk.is_gone };
+
+    fn next(&mut self) -> Next {
+        let Some((told, rest)) = self.answers.split_first() else {
+            self.is_gone = true;
+            return Next::Gone;
+        };
+        let told = *told;
+        let answered = told;
+        match reply(answered) {
+            Some(frame) => {
+                self.answers = rest;
+                self.note(Some(told));
+                Next::Frame(frame)
+            }
+            None => {
+                self.is_gone = true;
+                Next::Gone
+            }
+        }
+    }
+
+    fn broke(&mut self) {
+        self.note(None);
+    }
+}

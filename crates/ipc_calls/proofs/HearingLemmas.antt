@@ -12,7 +12,7 @@ use Rattle.ipc_calls.specs.Hearing.{heard_in, heard_of, heard_behind}
 use Rattle.ipc_calls.specs.Laws.{FramesAddUp, FrameIsHeard}
 
 -- the stream of a piece behind bytes that end inside a frame
-joined : (bytes rest piece : List ℕ) → (stream_of Server bytes).end ≡ Rest rest → stream_of Server (bytes ++ piece) ≡ put_front (stream_of Server bytes).frames (stream_of Server (rest ++ piece))
+pub joined : (bytes rest piece : List ℕ) → (stream_of Server bytes).end ≡ Rest rest → stream_of Server (bytes ++ piece) ≡ put_front (stream_of Server bytes).frames (stream_of Server (rest ++ piece))
 joined bytes rest piece e =
     sym (more_is_stream Server bytes piece) ∙ ap (λ end. more_by Server (stream_of Server bytes).frames end piece) e
 

@@ -9,7 +9,7 @@ use Rattle.ipc_frame.specs.declared.fault.FrameFault.{FrameFault}
 use Rattle.ipc_frame.specs.declared.fault.FrameFault.TheVariants.{NoMemory}
 use Rattle.ipc_frame.proofs.FoundLemmas.{whole_within}
 use Rattle.ipc_calls.specs.Hearing.{heard_in, heard_of}
-use Rattle.ipc_calls.specs.Taking.{Decoding, Takes, TakesBy, TakesUp, uses_up, hears, fails, answer_of}
+use Rattle.ipc_calls.specs.Taking.{Decoding, Holds, Takes, TakesBy, TakesUp, uses_up, hears, fails, answer_of}
 use Rattle.ipc_calls.specs.Laws.{IsHeardOf, StandsAt, to_fault, PieceIsHeard}
 use Rattle.ipc_calls.specs.declared.heard.Heard.{Heard}
 
@@ -24,50 +24,50 @@ enough (suc n) (suc m) bytes (Whole f size) e h k =
     let left = length-drop size bytes in
     rw e (ap (put_front (f ∷ [])) (enough n m (drop size bytes) _ refl (omega arith) (omega arith)))
 
-stream_short : (bytes : List ℕ) (wanted : ℕ) → reading Server bytes ≡ Short wanted → stream_of Server bytes ≡ record { frames = []; end = Rest bytes }
+pub stream_short : (bytes : List ℕ) (wanted : ℕ) → reading Server bytes ≡ Short wanted → stream_of Server bytes ≡ record { frames = []; end = Rest bytes }
 unfolding stream_of frames_within
 stream_short bytes wanted e = rw e refl
 
-stream_bad : (bytes : List ℕ) (fault : FrameFault) → reading Server bytes ≡ Bad fault → stream_of Server bytes ≡ record { frames = []; end = Stopped fault }
+pub stream_bad : (bytes : List ℕ) (fault : FrameFault) → reading Server bytes ≡ Bad fault → stream_of Server bytes ≡ record { frames = []; end = Stopped fault }
 unfolding stream_of frames_within
 stream_bad bytes fault e = rw e refl
 
-stream_whole : (bytes : List ℕ) (f : Frame) (n : ℕ) → reading Server bytes ≡ Whole f n → stream_of Server bytes ≡ put_front (f ∷ []) (stream_of Server (drop n bytes))
+pub stream_whole : (bytes : List ℕ) (f : Frame) (n : ℕ) → reading Server bytes ≡ Whole f n → stream_of Server bytes ≡ put_front (f ∷ []) (stream_of Server (drop n bytes))
 unfolding stream_of frames_within
 stream_whole bytes f n e =
     let within = whole_within Server bytes f n e in
     let left = length-drop n bytes in
     rw e (ap (put_front (f ∷ [])) (enough (length bytes) (suc (length (drop n bytes))) (drop n bytes) _ refl (omega arith) (omega arith)))
 
-drop_past : (n : ℕ) (xs ys : List ℕ) → length xs ≤ n → drop n (xs ++ ys) ≡ drop (n - length xs) ys
+pub drop_past : (n : ℕ) (xs ys : List ℕ) → length xs ≤ n → drop n (xs ++ ys) ≡ drop (n - length xs) ys
 drop_past n xs ys h =
     let sum : n ≡ length xs + (n - length xs) = omega arith in
     ap (λ k. drop k (xs ++ ys)) sum ∙ (sym (drop-drop (n - length xs) (length xs) (xs ++ ys)) ∙ ap (drop (n - length xs)) (drop_at xs ys (length xs) refl))
 
 -- the parts of an answer
-abbrev given : ℕ → Option Heard → Result (ℕ × Option Heard) FrameFault
+abbrev pub given : ℕ → Option Heard → Result (ℕ × Option Heard) FrameFault
 given used heard = Ok (used, heard)
 
-abbrev heard_part : Result (ℕ × Option Heard) FrameFault → Option Heard
+abbrev pub heard_part : Result (ℕ × Option Heard) FrameFault → Option Heard
 heard_part (Ok p) = p.1
 heard_part (Err fault) = None
 
-abbrev used_part : Result (ℕ × Option Heard) FrameFault → ℕ
+abbrev pub used_part : Result (ℕ × Option Heard) FrameFault → ℕ
 used_part (Ok p) = p.0
 used_part (Err fault) = 0
 
-none_not : (r : Result Heard FrameFault) (a u : ℕ) → given a None ≡ answer_of u r → ⊥
+pub none_not : (r : Result Heard FrameFault) (a u : ℕ) → given a None ≡ answer_of u r → ⊥
 none_not (Ok heard) a u e = let no : None ≡ Some heard = ap heard_part e in cc
 none_not (Err fault) a u e = cc
 
-some_is : (r : Result Heard FrameFault) (a u : ℕ) (heard : Heard) → given a (Some heard) ≡ answer_of u r → (a ≡ u) × (r ≡ Ok heard)
+pub some_is : (r : Result Heard FrameFault) (a u : ℕ) (heard : Heard) → given a (Some heard) ≡ answer_of u r → (a ≡ u) × (r ≡ Ok heard)
 some_is (Ok other) a u heard e = let no : Some heard ≡ Some other = ap heard_part e in (ap used_part e, cc)
 some_is (Err fault) a u heard e = absurd (cc)
 
-abbrev failed : FrameFault → Result (ℕ × Option Heard) FrameFault
+abbrev pub failed : FrameFault → Result (ℕ × Option Heard) FrameFault
 failed fault = Err fault
 
-err_is : (r : Result Heard FrameFault) (u : ℕ) (fault : FrameFault) → failed fault ≡ answer_of u r → r ≡ Err fault
+pub err_is : (r : Result Heard FrameFault) (u : ℕ) (fault : FrameFault) → failed fault ≡ answer_of u r → r ≡ Err fault
 err_is (Ok heard) u fault e = absurd (cc)
 err_is (Err other) u fault e = let same : fault ≡ other = cc in ap Err (sym same)
 
@@ -120,3 +120,71 @@ piece_is_heard new bytes piece heard up = go up
     go (uses_up new bytes piece takes) = step_none new bytes piece (reading Server (bytes ++ piece)) refl takes
     go (hears between new bytes piece used heard rest takes later) = step_hears between new bytes piece used heard rest (reading Server (bytes ++ piece)) refl takes (go later)
     go (fails new bytes piece fault takes) = step_fails new bytes piece fault (reading Server (bytes ++ piece)) refl takes
+
+-- a whole frame that a piece ends: what is heard of the bytes held and the piece is what it says, and then what the rest says
+pub record IsHeardFirst (bytes piece : List ℕ) (used : ℕ) (heard : Heard) (new : Decoding) : Type 0 where
+  pub said : heard_in (stream_of Server (bytes ++ piece)) ≡ Ok heard ∷ heard_in (stream_of Server (drop used piece))
+  pub end : (stream_of Server (bytes ++ piece)).end ≡ (stream_of Server (drop used piece)).end
+  pub holds : Holds new []
+  pub within : used ≤ length piece
+  pub some : 0 < used + length bytes
+
+pub take_hears : (new : Decoding) (bytes piece : List ℕ) (used : ℕ) (heard : Heard) → Takes bytes piece new (Ok (used, Some heard)) → IsHeardFirst bytes piece used heard new
+unfolding Takes
+take_hears new bytes piece used heard takes = go (reading Server (bytes ++ piece)) refl takes
+  where
+    go : (r : Reading) → reading Server (bytes ++ piece) ≡ r → TakesBy r bytes piece new (Ok (used, Some heard)) → IsHeardFirst bytes piece used heard new
+    go (Short wanted) e h = let no : Some heard ≡ None = ap heard_part h.0 in absurd (cc)
+    go (Bad fault) e h = let no = h.0 in absurd (cc)
+    go (Whole f n) e h = elim h.1.answer [
+      | inl is ↦
+          let parts = some_is (heard_of f) used (n - length bytes) heard is in
+          let left : drop n (bytes ++ piece) ≡ drop used piece = drop_past n bytes piece h.0 ∙ ap (λ k. drop k piece) (sym parts.0) in
+          let s = stream_whole (bytes ++ piece) f n e ∙ ap (λ xs. put_front (f ∷ []) (stream_of Server xs)) left in
+          let size = whole_within Server (bytes ++ piece) f n e in
+          record {
+            said = rw (s, parts.1) refl;
+            end = rw s refl;
+            holds = h.1.after;
+            within = omega (arith, size, length-append bytes piece, parts.0);
+            some = omega (arith, size, h.0, parts.0);
+          }
+      | inr is ↦ let no = is.0 in absurd (cc)
+    ]
+
+-- without a whole frame nothing is heard, and all is held
+pub record IsHeldBack (bytes piece : List ℕ) (new : Decoding) : Type 0 where
+  pub said : heard_in (stream_of Server (bytes ++ piece)) ≡ []
+  pub end : (stream_of Server (bytes ++ piece)).end ≡ Rest (bytes ++ piece)
+  pub holds : Holds new (bytes ++ piece)
+
+pub take_rests : (new : Decoding) (bytes piece : List ℕ) (used : ℕ) → Takes bytes piece new (Ok (used, None)) → IsHeldBack bytes piece new
+unfolding Takes
+take_rests new bytes piece used takes = go (reading Server (bytes ++ piece)) refl takes
+  where
+    go : (r : Reading) → reading Server (bytes ++ piece) ≡ r → TakesBy r bytes piece new (Ok (used, None)) → IsHeldBack bytes piece new
+    go (Short wanted) e h = let s = stream_short (bytes ++ piece) wanted e in record { said = rw s refl; end = rw s refl; holds = h.1 }
+    go (Bad fault) e h = let no = h.0 in absurd (cc)
+    go (Whole f n) e h = elim h.1.answer [
+      | inl is ↦ absurd (none_not (heard_of f) used (n - length bytes) is)
+      | inr is ↦ let no = is.0 in absurd (cc)
+    ]
+
+-- a fault is what is heard next, or there is no memory for it
+pub take_fails : (new : Decoding) (bytes piece : List ℕ) (fault : FrameFault) → Takes bytes piece new (Err fault) → ((rest : List (Result Heard FrameFault)) × (heard_in (stream_of Server (bytes ++ piece)) ≡ Err fault ∷ rest)) ⊎ (fault ≡ NoMemory)
+unfolding Takes
+take_fails new bytes piece fault takes = go (reading Server (bytes ++ piece)) refl takes
+  where
+    go : (r : Reading) → reading Server (bytes ++ piece) ≡ r → TakesBy r bytes piece new (Err fault) → ((rest : List (Result Heard FrameFault)) × (heard_in (stream_of Server (bytes ++ piece)) ≡ Err fault ∷ rest)) ⊎ (fault ≡ NoMemory)
+    go (Short wanted) e h = let no = h.0 in absurd (cc)
+    go (Bad other) e h =
+        let is = h.0 in
+        let same : fault ≡ other = cc in
+        let s = stream_bad (bytes ++ piece) other e in
+        inl ([], rw s (ap (λ f. Err f ∷ []) (sym same)))
+    go (Whole f n) e h =
+        let s = stream_whole (bytes ++ piece) f n e in
+        elim h.1.answer [
+          | inl is ↦ let heard = err_is (heard_of f) (n - length bytes) fault is in inl (heard_in (stream_of Server (drop n (bytes ++ piece))), rw (s, heard) refl)
+          | inr is ↦ let lack = is.0 in let same : fault ≡ NoMemory = cc in inr same
+        ]

@@ -31,7 +31,7 @@ use Rattle.ipc_history.specs.Settled.{Continued, Settled}
 use Rattle.ipc_history.specs.declared.entry.Output.{Output}
 use Rattle.ipc_history.specs.declared.entry.Input.{Input}
 use Rattle.ipc_history.specs.declared.entry.Input.TheVariants.{At}
-use Rattle.ipc_laws.specs.Counting.{all_steps_left, live_threads, room_owed}
+use Rattle.ipc_laws.specs.Counting.{all_steps_left, room_owed}
 use Rattle.std.proofs.lemmas.Bool.{lt-ltb, or_left, or_right}
 use Rattle.ipc_laws.proofs.Tests.{both}
 use Rattle.ipc_laws.proofs.Settling.{legal_push}
@@ -40,7 +40,7 @@ use Rattle.ipc_slots.specs.Slots.{Stands as SlotsStand}
 use Rattle.ipc_slots.specs.declared.slots.Slots.{Slots}
 use Rattle.ipc_core.specs.Steps.{at_if_later, with_input}
 use Rattle.ipc_core.specs.CommandRoom.{command_need, is_clock}
-use Rattle.ipc_core.specs.Invariants.{IsCourse}
+use Rattle.ipc_core.specs.Invariants.{IsCalm, IsCourse}
 use Rattle.ipc_core.proofs.Commands.{clock_brings, clock_legal, clock_room, command_legal, command_room, nothing_legal, continued_none, continued_more, settled_at, output_legal, output_room, output_falls}
 
 -- the empty history
@@ -58,6 +58,10 @@ course_none H slots desks taken since finished width empty stands keeps none sta
   begun = omega (arith, start);
   wide = wide;
 }
+
+-- nothing is due before the first moment
+pub calm_none : (H : List Entry) → IsCalm H 0
+calm_none H moment less = absurd (omega arith)
 
 -- where a command begins it has finished nothing
 pub course_begins : (H : List Entry) (slots : Slots) (desks : List Desk) (taken : List ℕ) (since start : ℕ) (finished names : List ℕ) (width wider : ℕ) → IsCourse H slots desks taken since finished width → start ≡ length H → names ≡ [] → width ≤ wider → IsCourse H slots desks taken start names wider

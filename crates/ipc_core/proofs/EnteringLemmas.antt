@@ -1,6 +1,6 @@
 -- Which calls are refused, and which are admissible.
 use Rattle.std.proofs.lemmas.Bool.{false≢true, lt-ltb, false_from_ne_true, ltb-true, ltb-false}
-use Rattle.std.proofs.Common.{◌≡◌, refl, sym, ap, subst, ◌∙◌, ℕ, ◌+◌, ◌<◌, ◌≤◌, eq-eqb, Bool, true, false, List, [], ◌∷◌, ◌++◌, length, IsTrue, Option, Some, None, is_none, is_some, arith}
+use Rattle.std.proofs.Common.{◌≡◌, refl, sym, ap, subst, ◌∙◌, ℕ, ◌+◌, ◌<◌, ◌≤◌, eq-eqb, Bool, true, false, List, length, IsTrue, Option, Some, None, is_none, is_some, arith}
 use Rattle.std.specs.Prelude.{nat_lt, ◌↔◌}
 use Rattle.ipc_history.specs.CallParts.{CallParts, is_normal}
 use Rattle.ipc_history.specs.Calls.{calls_made}
@@ -90,7 +90,7 @@ pub passes_may_call : (kernel : KernelParts) (thread made : ℕ) (call : CallPar
 passes_may_call kernel thread made call H pass same normal = subst (λ l. IsTrue (is_admissible l (Called (made + 1) thread call))) (sym same) (may_call kernel thread (made + 1) call pass.live pass.free (ap (λ n. n + 1) pass.made_is) normal)
 
 -- the room that was made is enough
-pub called_room : (kernel : KernelParts) (Q : List Entry) (more need wanted places : ℕ) → Q ≡ kernel.history → Legal Q → more ≡ pledged kernel.history + need → need ≡ wanted → length Q + more ≤ places → length Q + room_owed Q + wanted ≤ places
+pub called_room : (kernel : KernelParts) (Q : List Entry) (more need wanted places : ℕ) → Q ≡ kernel.history → Legal Q → pledged kernel.history + need ≤ more → need ≡ wanted → length Q + more ≤ places → length Q + room_owed Q + wanted ≤ places
 called_room kernel Q more need wanted places same legal pledge needed fits = let covers = pledge_covers Q legal in let counted : pledged kernel.history ≡ pledged Q = ap pledged (sym same) in omega arith
 
 -- and the limit is kept

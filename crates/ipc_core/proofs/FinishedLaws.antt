@@ -6,19 +6,18 @@ use Rattle.std.proofs.lemmas.List.Sums.{length-filter, sum_by-cons, sum_by_push}
 use Rattle.std.proofs.lemmas.Option.{same_Some}
 use Rattle.std.proofs.lemmas.Map.Keys.{IsDistinct-push}
 use Rattle.std.proofs.lemmas.Map.Made.{length-le_from_is_member}
-use Rattle.std.proofs.Common.{◌≡◌, refl, sym, ap, ap₂, ◌∙◌, subst, ℕ, zero, suc, ◌+◌, ◌<◌, ◌≤◌, Bool, true, false, not, ◌||◌, ◌&&◌, ◌==◌, eq-eqb, eqb-true, cond, if◌then◌else◌, List, [], ◌∷◌, ◌++◌, append-nil, length, filter, filter_map, count_by, Option, Some, None, inl, inr, arith}
+use Rattle.std.proofs.Common.{◌≡◌, refl, sym, ap, ap₂, ◌∙◌, subst, ℕ, zero, suc, ◌<◌, ◌≤◌, Bool, true, false, not, ◌||◌, ◌&&◌, ◌==◌, eq-eqb, eqb-true, cond, if◌then◌else◌, List, [], ◌∷◌, ◌++◌, append-nil, length, filter, filter_map, count_by, Option, Some, None, inl, inr, arith}
 use Rattle.std.specs.Prelude.{nat_lt}
 use Rattle.std.specs.List.{IsDistinct, cons_option, list_any}
-use Rattle.std.specs.Option.{option_map_or, option_or}
+use Rattle.std.specs.Option.{option_map_or}
 use Rattle.ipc_history.specs.Entries.{breaks, calls, opened_in, opens}
 use Rattle.ipc_history.specs.CallParts.{CallParts}
 use Rattle.ipc_history.specs.Calls.{is_called}
 use Rattle.ipc_history.specs.Threads.{has_broken, is_live, now, was_opened}
 use Rattle.ipc_history.specs.Phases.{is_over}
-use Rattle.ipc_history.specs.Legal.{Follows, Legal, is_admissible}
+use Rattle.ipc_history.specs.Legal.{Follows, Legal}
 use Rattle.ipc_history.specs.declared.entry.Entry.{Entry}
 use Rattle.ipc_history.specs.declared.entry.Entry.TheVariants.{Given, Written}
-use Rattle.ipc_history.specs.declared.entry.Input.{Input}
 use Rattle.ipc_history.specs.declared.entry.Input.TheVariants.{At, Opened, Called, Exreg, Broke, Moved}
 use Rattle.ipc_laws.specs.Counting.{live_threads, threads}
 use Rattle.ipc_laws.proofs.Endings.{broken_at, caller_here, live_opened}
@@ -29,7 +28,7 @@ use Rattle.ipc_laws.proofs.Numbering.{called_below, entered, number_at}
 use Rattle.ipc_laws.proofs.OneLive.{opened_once}
 use Rattle.ipc_laws.proofs.OneOpen.{free_parts}
 use Rattle.ipc_laws.proofs.Pairing.{legal_before}
-use Rattle.ipc_laws.proofs.Places.{Place, any_front}
+use Rattle.ipc_laws.proofs.Places.{any_front}
 use Rattle.ipc_laws.proofs.Settling.{legal_push}
 use Rattle.ipc_laws.proofs.Tests.{left, not_both, right}
 use Rattle.ipc_laws.proofs.ThreadChanges.{is_live_push}

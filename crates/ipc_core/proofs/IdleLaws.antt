@@ -1,12 +1,11 @@
 -- A thread that is not busy has nothing to take.
 use Rattle.std.proofs.lemmas.Bool.{true≢false}
-use Rattle.std.proofs.Common.{◌≡◌, refl, ℕ, Bool, true, false, not, ◌&&◌, if◌then◌else◌, List, Option, Some, None, option_and_then}
+use Rattle.std.proofs.Common.{◌≡◌, refl, ℕ, Bool, true, false, not, ◌&&◌, if◌then◌else◌, Option, Some, None, option_and_then}
 use Rattle.std.specs.Option.{option_map_or}
-use Rattle.ipc_history.specs.Outcomes.{OutcomeParts, outcome_of}
+use Rattle.ipc_history.specs.Outcomes.{outcome_of}
 use Rattle.ipc_history.specs.Threads.{is_live}
 use Rattle.ipc_laws.proofs.Tests.{neither_right}
 use Rattle.ipc_desks.specs.CallsOf.{is_busy as waits, last_call, outcome_to_take as waiting, untaken_outcome}
-use Rattle.ipc_core.specs.KernelParts.{KernelParts}
 use Rattle.ipc_core.specs.Laws.{IdleHasNothing}
 use Rattle.ipc_core.specs.Outcomes.{has_untaken, is_among, is_busy, outcome_to_take}
 

@@ -1,22 +1,15 @@
 -- What keeps a kernel.
-use Rattle.std.proofs.Common.{◌≡◌, refl, sym, ◌∙◌, subst, ℕ, ◌+◌, ◌<◌, ◌≤◌, ◌^◌, List, [], Bool, false, not, cond, length, count_by, filter_map, IsTrue, Option, Some, None, ap, ◌∷◌, arith}
-use Rattle.std.proofs.lemmas.List.Sums.{sum_by-cons}
+use Rattle.std.proofs.Common.{◌≡◌, refl, sym, ◌∙◌, subst, ℕ, ◌+◌, ◌≤◌, [], false, length, IsTrue, arith}
 use Rattle.std.specs.List.{list_any}
 use Rattle.ipc_words.specs.Limits.{max_entries, max_calls}
 use Rattle.ipc_core.specs.CourseParts.{CourseParts}
 use Rattle.ipc_history.specs.Calls.{numbers}
-use Rattle.std.specs.List.{cons_option}
-use Rattle.std.specs.Option.{option_map_or}
-use Rattle.ipc_history.specs.Entries.{number_in}
-use Rattle.ipc_history.specs.Phases.{is_over}
-use Rattle.ipc_core.specs.OpenCalls.{enters_open}
 use Rattle.ipc_history.specs.Threads.{now}
 use Rattle.ipc_history.specs.Timing.{is_due_at}
 use Rattle.ipc_history.specs.Legal.{is_admissible}
 use Rattle.ipc_history.specs.Settled.{Settled}
-use Rattle.ipc_history.specs.declared.entry.Entry.{Entry}
 use Rattle.ipc_history.specs.declared.entry.Input.{Input}
-use Rattle.ipc_laws.specs.Counting.{open_calls, room_owed}
+use Rattle.ipc_laws.specs.Counting.{room_owed}
 use Rattle.ipc_core.specs.CommandRoom.{command_need, is_clock}
 use Rattle.ipc_core.specs.Invariants.{IsKernel, Stands}
 use Rattle.ipc_core.specs.Steps.{with_input}
@@ -58,16 +51,3 @@ module _ (entries_limit calls_limit moment : ℕ) (old new : CourseParts) (input
         few_entries = kernel.few_entries;
         few_calls = kernel.few_calls;
       }
-
--- the open calls, counted by their entries
-count_given : (H E : List Entry) → count_by (enters_open H) E ≡ count_by (λ n. not (is_over H n)) (filter_map number_in E)
-count_given H [] = refl
-count_given H (e ∷ E) = sum_by-cons (λ x. cond (enters_open H x) 1 0) e E ∙ one (number_in e) (count_given H E)
-  where
-    one : (o : Option ℕ) → count_by (enters_open H) E ≡ count_by (λ n. not (is_over H n)) (filter_map number_in E) → cond (option_map_or (λ n. not (is_over H n)) o false) 1 0 + count_by (enters_open H) E ≡ count_by (λ n. not (is_over H n)) (cons_option o (filter_map number_in E))
-    one None rest = omega (arith, rest)
-    one (Some n) rest = ap (λ k. cond (not (is_over H n)) 1 0 + k) rest ∙ sym (sum_by-cons (λ k. cond (not (is_over H k)) 1 0) n (filter_map number_in E))
-
-pub open_calls_counted : (H : List Entry) → count_by (enters_open H) H ≡ open_calls H
-unfolding open_calls numbers
-open_calls_counted H = count_given H H

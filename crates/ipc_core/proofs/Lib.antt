@@ -1,6 +1,4 @@
 pub mod AfterAt
-pub mod Opening
-pub mod Scannable
 pub mod Commands
 pub mod CourseLemmas
 pub mod KernelLemmas
@@ -18,3 +16,6 @@ pub mod FinishedLaws
 pub mod Resting
 pub mod RunLaws
 pub mod IdleLaws
+pub mod OutcomeCall
+pub mod BusyLaws
+pub mod UnfinishedLaws

@@ -1,6 +1,6 @@
 -- Which calls a command enters: of a Called its own, of every other command none.
 use Rattle.std.proofs.lemmas.Bool.{false≢true, or_cases}
-use Rattle.std.proofs.Common.{◌≡◌, refl, sym, ap, ap₂, ◌∙◌, ℕ, Bool, true, false, ◌||◌, ◌==◌, if◌then◌else◌, List, [], ◌∷◌, ◌++◌, append_assoc, map, Option, Some, None, is_some, inl, inr}
+use Rattle.std.proofs.Common.{◌≡◌, refl, sym, ap, ap₂, ◌∙◌, ℕ, Bool, true, false, ◌||◌, ◌==◌, if◌then◌else◌, List, [], ◌∷◌, ◌++◌, append_assoc, map, eq-eqb, Option, Some, None, is_some, inl, inr}
 use Rattle.std.specs.Prelude.{nat_lt}
 use Rattle.std.specs.Option.{option_or}
 use Rattle.ipc_history.specs.CallParts.{CallParts}
@@ -14,9 +14,9 @@ use Rattle.ipc_history.specs.declared.entry.Input.{Input}
 use Rattle.ipc_history.specs.declared.entry.Input.TheVariants.{At, Opened, Called, Exreg, Broke, Moved}
 use Rattle.ipc_history.specs.declared.entry.Output.{Output}
 use Rattle.ipc_laws.proofs.Growth.{call_at_kept}
-use Rattle.ipc_laws.proofs.WordLemmas.{first_some_append}
+use Rattle.ipc_laws.proofs.Tests.{not_both}
+use Rattle.ipc_laws.proofs.WordLemmas.{first_some_append, first_some_push}
 use Rattle.ipc_core.specs.Steps.{at_if_later, with_input}
-use Rattle.ipc_core.proofs.Scannable.{new_call_at}
 
 either_some : {X : Type 0} (a b : Option X) → is_some (option_or a b) ≡ (is_some a || is_some b)
 either_some None b = refl
@@ -73,7 +73,16 @@ called_with H moment input n =
     let clock = called_append H (at_if_later H moment) n ∙ (ap (λ b. is_called H n || b) (called_clock H moment n) ∙ no_more (is_called H n)) in
     called_append (H ++ at_if_later H moment) (Given input ∷ []) n ∙ ap₂ (λ a b. a || b) clock (called_given input n)
 
--- and a call that was entered is there
+-- what a Called entered, where its number is new
+new_call_at : (P : List Entry) (n thread : ℕ) (call : CallParts) → is_called P n ≡ false → call_at (P ++ Given (Called n thread call) ∷ []) n ≡ Some (thread, call)
+unfolding is_called call_at
+new_call_at P n thread call absent = first_some_push _ P (Given (Called n thread call)) ∙ absent_first _ _ absent (rw (eq-eqb n n refl) refl)
+  where
+    absent_first : {X : Type 0} (a b : Option X) {x : X} → is_some a ≡ false → b ≡ Some x → option_or a b ≡ Some x
+    absent_first None b absent e = e
+    absent_first (Some y) b absent e = not_both refl absent
+
+-- so a call that was entered is there
 pub call_entered : (H K : List Entry) (moment n thread : ℕ) (call : CallParts) → Settled (with_input H moment (Called n thread call)) K → is_called H n ≡ false → call_at K n ≡ Some (thread, call)
 call_entered H K moment n thread call settled absent =
     let before : is_called (H ++ at_if_later H moment) n ≡ false = called_append H (at_if_later H moment) n ∙ (ap (λ b. is_called H n || b) (called_clock H moment n) ∙ (no_more (is_called H n) ∙ absent)) in

@@ -1,6 +1,6 @@
 -- Which cause a refusal has.
 use Rattle.std.proofs.lemmas.Bool.{le-ltb, ltb-false, false_from_ne_true, true≢false}
-use Rattle.std.proofs.Common.{◌≡◌, refl, ℕ, ◌==◌, ◌||◌, Bool, true, false, Option, Some, None, is_some, nat_lt, arith}
+use Rattle.std.proofs.Common.{◌≡◌, refl, ℕ, ◌||◌, Bool, true, false, Option, Some, None, is_some, nat_lt, arith}
 use Rattle.ipc_history.specs.Threads.{is_live, is_taken, next_version}
 use Rattle.ipc_history.specs.Phases.{open_call}
 use Rattle.ipc_laws.proofs.Tests.{neither_left}

@@ -1,15 +1,21 @@
 -- The room that is made for a command, and the kernel after the command took it.
-use Rattle.std.proofs.lemmas.Bool.{lt-ltb, ltb-true, ltb-false}
-use Rattle.std.proofs.Common.{◌≡◌, sym, ap, ◌∙◌, subst, ℕ, ◌+◌, ◌*◌, ◌<◌, ◌≤◌, false, List, length, IsTrue, Option, Some, None, IfSome, sum_by, arith}
+use Rattle.std.proofs.lemmas.Bool.{le-ltb, lt-ltb, ltb-true, ltb-false}
+use Rattle.std.proofs.lemmas.List.Sums.{sum_by-cons}
+use Rattle.std.proofs.Common.{◌≡◌, sym, ap, ◌∙◌, subst, ℕ, ◌+◌, ◌-◌, ◌*◌, ◌<◌, ◌≤◌, ◌==◌, if◌then◌else◌, Bool, true, false, not, cond, List, [], ◌∷◌, length, IsTrue, Option, Some, None, IfSome, sum_by, arith}
 use Rattle.std.specs.Prelude.{◌↔◌}
 use Rattle.ipc_core.specs.CourseParts.{CourseParts}
 use Rattle.ipc_history.specs.Legal.{Legal, is_admissible}
 use Rattle.ipc_history.specs.Settled.{Settled}
 use Rattle.ipc_history.specs.declared.entry.Entry.{Entry}
 use Rattle.ipc_history.specs.declared.entry.Input.{Input}
-use Rattle.ipc_laws.specs.Counting.{live_threads, pledge_of, pledged, room_owed}
+use Rattle.ipc_laws.specs.Counting.{live_threads, open_calls, pledge_of, pledged, room_owed}
+use Rattle.ipc_laws.proofs.Normal.{normal_message}
+use Rattle.ipc_laws.proofs.OpenCalls.{open_bound}
 use Rattle.ipc_laws.proofs.Pledge.{pledge_covers}
-use Rattle.ipc_history.specs.Calls.{numbers}
+use Rattle.ipc_words.specs.ThreadId.{nilthread}
+use Rattle.ipc_history.specs.Blocks.{blocks}
+use Rattle.ipc_history.specs.Calls.{message_size, numbers, to_of}
+use Rattle.ipc_history.specs.Phases.{is_over}
 use Rattle.ipc_core.specs.CommandRoom.{command_need, is_clock}
 use Rattle.ipc_core.specs.Invariants.{IsKernel, Stands}
 use Rattle.ipc_core.specs.KernelParts.{KernelParts}
@@ -25,11 +31,37 @@ full_where kernel need left live calls P split live_is calls_are less = (
   λ full. less.1 (let over = ltb-true kernel.entries_limit (length kernel.history + pledged kernel.history + need) full in omega arith),
 )
 
--- and what is pledged and needed is this
-pub room_where : (H : List Entry) (need live calls : ℕ) (found : Option ℕ) → live ≡ live_threads H → calls ≡ sum_by (pledge_of H) (numbers H) → IfSome found (λ room. room ≡ 2 * live + calls + need) → IfSome found (λ room. room ≡ pledged H + need)
+-- and there is room made for what is pledged and needed
+pub room_where : (H : List Entry) (need live calls : ℕ) (found : Option ℕ) → live ≡ live_threads H → calls ≡ sum_by (pledge_of H) (numbers H) → IfSome found (λ room. room ≡ 2 * live + calls + need) → IfSome found (λ room. pledged H + need ≤ room)
 unfolding pledged
 room_where H need live calls None live_is calls_are none = none
 room_where H need live calls (Some room) live_is calls_are some = let same : room ≡ 2 * live + calls + need = some in omega arith
+
+-- no thread has more pledged than this
+call_most : (H : List Entry) → Legal H → (n : ℕ) → pledge_of H n ≤ 37 * cond (not (is_over H n)) 1 0
+unfolding pledge_of
+call_most H legal n = go (is_over H n) (to_of H n == nilthread)
+  where
+    go : (over none : Bool) → (if over then 0 else 5 + 2 * (if none then 0 else blocks (message_size H n))) ≤ 37 * cond (not over) 1 0
+    go true none = omega arith
+    go false true = omega arith
+    go false false = let size = (normal_message H legal n).size in omega arith
+
+times_37 : (f g : ℕ → ℕ) (xs : List ℕ) → ((x : ℕ) → f x ≤ 37 * g x) → sum_by f xs ≤ 37 * sum_by g xs
+times_37 f g [] h = omega arith
+times_37 f g (x ∷ xs) h = omega (arith, times_37 f g xs h, h x, sum_by-cons f x xs, sum_by-cons g x xs)
+
+calls_most : (H : List Entry) → Legal H → sum_by (pledge_of H) (numbers H) ≤ 37 * open_calls H
+unfolding open_calls
+calls_most H legal = times_37 (pledge_of H) (λ n. cond (not (is_over H n)) 1 0) (numbers H) (call_most H legal)
+
+pub pledged_most : (H : List Entry) → Legal H → pledged H ≤ 39 * live_threads H
+unfolding pledged
+pledged_most H legal = omega (arith, calls_most H legal, open_bound H legal)
+
+pub room_most : (kernel : KernelParts) (need left live : ℕ) → Legal kernel.history → left + length kernel.history ≡ kernel.entries_limit → live ≡ live_threads kernel.history → need ≤ left → 39 * live ≤ left - need → is_full kernel need ≡ false
+unfolding is_full
+room_most kernel need left live legal split live_is fits most = let bound = pledged_most kernel.history legal in le-ltb _ _ (omega arith)
 
 -- what is pledged and needed fits where the history is not full
 within_where : (kernel : KernelParts) (need : ℕ) → is_full kernel need ≡ false → length kernel.history + pledged kernel.history + need ≤ kernel.entries_limit
@@ -53,7 +85,7 @@ kernel_kept entries_limit calls_limit moment old kept kernel same more = record 
 
 -- what is pledged and needed was reserved
 module _ (view kernel : KernelParts) (old kept : CourseParts) (need room : ℕ) (view_is : view ≡ kernel) where
-  pub reserved : IsKernel view.entries_limit view.calls_limit view.moment old → old.entries ≡ view.history → kept.entries ≡ old.entries → old.room ≤ kept.room → is_full kernel need ≡ false → room ≡ pledged kernel.history + need → length kept.entries + room ≤ kept.room → HasRoomFor view.entries_limit view.calls_limit view.moment kept need
+  pub reserved : IsKernel view.entries_limit view.calls_limit view.moment old → old.entries ≡ view.history → kept.entries ≡ old.entries → old.room ≤ kept.room → is_full kernel need ≡ false → pledged kernel.history + need ≤ room → length kept.entries + room ≤ kept.room → HasRoomFor view.entries_limit view.calls_limit view.moment kept need
   reserved stood before same more not_full room_is made =
       let history : kept.entries ≡ kernel.history = same ∙ (before ∙ ap (λ k. k.history) view_is) in
       let limit : view.entries_limit ≡ kernel.entries_limit = ap (λ k. k.entries_limit) view_is in

@@ -1,5 +1,5 @@
 -- A kernel after a command that wrote nothing.
-use Rattle.std.proofs.Common.{◌≡◌, sym, ap, ap₂, ◌∙◌, subst, ℕ, ◌+◌, ◌≤◌, false, List, length, Option, IfSome, arith}
+use Rattle.std.proofs.Common.{◌≡◌, sym, ap, ◌∙◌, subst, ℕ, ◌+◌, ◌≤◌, false, List, length, Option, IfSome, arith}
 use Rattle.ipc_history.specs.declared.entry.Entry.{Entry}
 use Rattle.ipc_laws.specs.Counting.{room_owed}
 use Rattle.ipc_core.specs.Books.{AreBooks}

@@ -1,31 +1,28 @@
 -- The same commands, each obeyed, have one list of answers and one end.
 use Rattle.std.proofs.lemmas.Option.{none-some, same_Some}
-use Rattle.std.proofs.Common.{◌≡◌, refl, sym, ap, ap₂, ◌∙◌, subst, ℕ, ◌+◌, ◌*◌, ◌/◌, ◌%◌, ◌^◌, Bool, true, false, List, [], ◌∷◌, ◌++◌, length, map, Option, Some, None, unwrap_or, arith}
+use Rattle.std.proofs.Common.{◌≡◌, refl, sym, ap, ap₂, ◌∙◌, subst, ℕ, Bool, true, false, List, [], ◌∷◌, ◌++◌, length, map, Option, Some, None, unwrap_or, arith}
 use Rattle.std.specs.Prelude.{MatchBool}
-use Rattle.std.specs.List.{list_any}
 use Rattle.ipc_words.specs.Control.{masked_of}
 use Rattle.ipc_words.specs.ThreadId.{number_of, version_of}
 use Rattle.ipc_history.specs.Blocks.{block_of}
 use Rattle.ipc_history.specs.CallParts.{CallParts}
-use Rattle.ipc_history.specs.Calls.{calls_made, numbers}
 use Rattle.ipc_history.specs.Threads.{next_version}
 use Rattle.ipc_history.specs.Legal.{Legal, next_moving}
 use Rattle.ipc_history.specs.Settled.{Settled}
-use Rattle.ipc_history.specs.Timing.{is_due_at}
 use Rattle.ipc_history.specs.declared.entry.Entry.{Entry}
 use Rattle.ipc_history.specs.declared.entry.Entry.TheVariants.{Given, Written}
 use Rattle.ipc_history.specs.declared.entry.Input.{Input}
 use Rattle.ipc_history.specs.declared.entry.Input.TheVariants as input
 use Rattle.ipc_laws.proofs.Histories.{legal_front}
 use Rattle.ipc_laws.proofs.Settling.{settles_once}
-use Rattle.ipc_core.specs.Effects.{Gives, Ticks}
+use Rattle.ipc_core.specs.Effects.{Ticks}
 use Rattle.ipc_core.specs.KernelParts.{KernelParts}
-use Rattle.ipc_core.specs.Obeying.{Does, Obeys, ObeysOr, Runs, cause_of, rested}
-use Rattle.ipc_core.specs.Steps.{Takes, at_moment, taken_after, with_input}
+use Rattle.ipc_core.specs.Obeying.{Does, Obeys, ObeysOr, Runs, cause_of}
+use Rattle.ipc_core.specs.Steps.{Takes, at_moment, taken_after}
 use Rattle.ipc_core.specs.Laws.{RunsOnce}
 use Rattle.ipc_core.specs.declared.answers.Advance.TheVariants.{Moved, Idle}
 use Rattle.ipc_core.specs.declared.command.Answer.{Answer}
-use Rattle.ipc_core.specs.declared.command.Answer.TheVariants.{Opened, Entered, Exchanged, Done, Advanced, Taken, Refused}
+use Rattle.ipc_core.specs.declared.command.Answer.TheVariants.{Opened, Entered, Exchanged, Done, Advanced, Taken}
 use Rattle.ipc_core.specs.declared.command.Command.{Command}
 use Rattle.ipc_core.specs.declared.command.Command.TheVariants.{Open, Enter, Exreg, Broke, At, Advance, Take}
 use Rattle.ipc_core.specs.declared.refusal.Refusal.{Refusal}

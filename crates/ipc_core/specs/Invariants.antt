@@ -1,5 +1,5 @@
 -- What a kernel keeps.
-use Rattle.std.specs.Prelude.{◌≡◌, ℕ, ◌+◌, ◌^◌, ◌≤◌, ◌<◌, List, ◌==◌, length, take, false}
+use Rattle.std.specs.Prelude.{◌≡◌, ℕ, ◌+◌, ◌≤◌, ◌<◌, List, ◌==◌, length, take, false, IsFalse}
 use Rattle.std.specs.List.{IsDistinct, list_any}
 use Rattle.ipc_words.specs.Limits.{table_slots, last_moment, max_entries, max_calls}
 use Rattle.ipc_history.specs.Calls.{numbers}
@@ -25,6 +25,10 @@ pub record IsCourse (H : List Entry) (slots : Slots) (desks : List Desk) (taken 
   pub once : IsDistinct (λ a b. a == b) finished
   pub begun : since ≤ length H
   pub wide : table_slots ≤ width
+
+-- no waiting phase is due before this moment
+abbrev pub IsCalm : List Entry → ℕ → Type 0
+IsCalm H calm = (moment : ℕ) → moment < calm → IsFalse (list_any (is_due_at H moment) (numbers H))
 
 -- a kernel's history is legal and quiet, within its limit with all that is owed; its moment is not before the history's, and no phase
 -- is due then

@@ -2,7 +2,6 @@ pub mod KernelParts
 pub mod Steps
 pub mod Outcomes
 pub mod Room
-pub mod OpenCalls
 pub mod CommandRoom
 pub mod Refusals
 pub mod ExchangeRegisters

@@ -1,7 +1,7 @@
 ghost use Rattle.std.specs.Prelude.{◌≡◌, ◌+◌, ◌^◌, ◌≤◌, ◌<◌, [], ◌∷◌, ◌++◌, ◌==◌, ℕ, length, take, vec_len, vec_capacity, ◌↔◌, Some, None, IsNone, IfSome, IsTrue, IsFalse, true, false, IfOk, OnOk, nat_lt, sum_by};
 ghost use Rattle.std.specs.List.{IsDistinct, list_any};
 ghost use Rattle.ipc_words.specs.Limits.{last_moment};
-ghost use Rattle.ipc_history.specs.declared.entry.Entry.TheVariants.{Given};
+ghost use Rattle.ipc_history.specs.declared.entry.Entry.TheVariants.{Given, Written};
 ghost use Rattle.ipc_history.specs.declared.entry.Input.TheVariants.{At};
 ghost use Rattle.ipc_history.specs.Blocks.{block_of};
 ghost use Rattle.ipc_history.specs.Calls.{calls_made, is_called, numbers};
@@ -11,11 +11,12 @@ ghost use Rattle.ipc_history.specs.Legal.{Legal, Quiet, Follows, is_admissible, 
 ghost use Rattle.ipc_history.specs.NextOutput.{next_output};
 ghost use Rattle.ipc_history.specs.Settled.{Continued, Settled};
 ghost use Rattle.ipc_history.specs.Timing.{is_due_at};
-ghost use Rattle.ipc_laws.specs.Counting.{room_owed, live_threads, pledge_of};
+ghost use Rattle.ipc_laws.specs.Counting.{open_calls, room_owed, live_threads, pledge_of};
 ghost use Rattle.ipc_desks.specs.CallsOf.{is_busy, last_call, made_by, outcome_to_take, taken_by};
 ghost use Rattle.ipc_desks.specs.Desks.{Keeps};
 ghost use Rattle.ipc_desks.specs.Messages.{prepared};
 ghost use Rattle.ipc_desks.specs.Finishes.{finishes, is_named};
+ghost use Rattle.ipc_slots.specs.Near.{IsNear};
 ghost use Rattle.ipc_slots.specs.Slots.{Stands};
 ghost use Rattle.ipc_core.specs.CourseParts.{HasCopies, SameBooks};
 ghost use Rattle.ipc_core.specs.Finished.{IsFresh, with_name};
@@ -27,7 +28,7 @@ ghost use Rattle.ipc_core.specs.ExchangeRegisters.{exreg_answer, phases_of};
 use crate::answers::ExregAnswer;
 use ipc_desks::{Desks, Finished, Prepared};
 use ipc_history::{Call, Entry, History, Input, Outcome, Output};
-use ipc_slots::Slots;
+use ipc_slots::{Focus, Slots};
 use ipc_words::limits::TABLE_SLOTS;
 use ipc_words::{Control, ThreadId};
 use std::alloc::{AllocError, Global};
@@ -42,18 +43,20 @@ pub(crate) struct Course {
     taken: Vec<u64>,
     since: usize,
     finished: Vec<ThreadId>,
+    /// No waiting phase is due before this moment.
+    calm: u64,
 }
 
 impl Model for Course {
     ghost use Rattle.std.specs.Prelude.{vec_capacity};
     ghost use Rattle.ipc_core.specs.CourseParts.{CourseParts};
-    ghost use Rattle.ipc_core.specs.Invariants.{IsCourse};
+    ghost use Rattle.ipc_core.specs.Invariants.{IsCalm, IsCourse};
 
     ghost Value = { CourseParts };
 
     ghost view = { λ c. record { entries = c.history.entries; room = c.history.room; taken = c.taken.items; since = c.since; finished = c.finished.items; places = vec_capacity c.taken } };
 
-    ghost invariant = { λ c. IsCourse c.history.entries c.slots c.desks c.taken.items c.since c.finished.items (vec_capacity c.finished) };
+    ghost invariant = { λ c. IsCourse c.history.entries c.slots c.desks c.taken.items c.since c.finished.items (vec_capacity c.finished) × IsCalm c.history.entries c.calm };
 }
 
 impl Course {
@@ -70,6 +73,7 @@ impl Course {
             taken: Vec::new(alloc),
             since: 0,
             finished: Vec::with_capacity(alloc, TABLE_SLOTS)?,
+            calm: 0,
         })
     }
 
@@ -156,6 +160,13 @@ impl Course {
         self.slots.open_call_of(self.history.entries(), thread)
     }
 
+    /// How many calls are open.
+    pub(crate) fn open_calls(&self) -> usize
+        ensures { result ≡ open_calls self.now.entries }
+    {
+        self.slots.open_calls(self.history.entries())
+    }
+
     /// How many calls were made.
     pub(crate) fn calls_made(&self) -> u64
         ensures { result ≡ calls_made self.now.entries }
@@ -163,10 +174,27 @@ impl Course {
         self.slots.calls_made(self.history.entries())
     }
 
-    fn next_output(&self) -> Option<Output>
+    /// The next output; under one call where that is known.
+    fn next_output(&self, focus: Option<Focus>) -> Option<Output>
+        requires near { IfSome focus (λ f. IsNear self.now.entries f) }
         ensures { result ≡ next_output self.now.entries }
     {
-        self.slots.next_output(self.history.entries())
+        let entries = self.history.entries();
+        match focus {
+            Some(focus) => self.slots.output_near(entries, &focus),
+            None => self.slots.next_output(entries),
+        }
+    }
+
+    /// Under which one call the output after the next one is found, where that is known.
+    fn focus_after(&self, focus: Option<Focus>, output: &Output) -> Option<Focus>
+        requires near { IfSome focus (λ f. IsNear self.now.entries f) }
+        requires next { next_output self.now.entries ≡ Some output.now }
+        ensures { IfSome result (λ f. IsNear (self.now.entries ++ Written output.now ∷ []) f) }
+    {
+        let focus = focus?;
+        self.slots
+            .focus_after(self.history.entries(), &focus, output)
     }
 
     /// What is pledged for the open calls: some entries for each, and more for each block of its strings.
@@ -176,11 +204,11 @@ impl Course {
         self.slots.pledged_for_calls(self.history.entries())
     }
 
-    /// Whether a waiting phase is due at a moment.
+    /// Whether a waiting phase is due at a moment. Looks at the threads only where one may be.
     pub(crate) fn is_any_due_at(&self, moment: u64) -> bool
         ensures { result ≡ list_any (is_due_at self.now.entries moment) (numbers self.now.entries) }
     {
-        self.slots.is_any_due_at(self.history.entries(), moment)
+        self.calm <= moment && self.slots.is_any_due_at(self.history.entries(), moment)
     }
 
     /// The least call in transfer, and how many of its bytes are copied next.
@@ -291,6 +319,21 @@ impl Course {
         self.finished.clear();
     }
 
+    /// Begins a clock reading. Looks at the threads, for the moment before which none of them is due, only where the moment has come
+    /// that was found before.
+    pub(crate) fn begin_at(&mut self, moment: u64)
+        ensures entries { self.new.entries ≡ self.old.entries }
+        ensures room { self.new.room ≡ self.old.room }
+        ensures taken { self.new.taken ≡ self.old.taken }
+        ensures since { self.new.since ≡ length self.old.entries }
+        ensures places { self.new.places ≡ self.old.places }
+    {
+        self.begin();
+        if self.calm <= moment {
+            self.calm = self.slots.calm_until(self.history.entries());
+        }
+    }
+
     /// Moves the outcome out that a live thread may take. Takes no memory.
     pub(crate) fn take(&mut self, thread: ThreadId) -> Option<Outcome>
         requires live { IsTrue (is_live self.old.entries thread) }
@@ -335,18 +378,22 @@ impl Course {
         add(&mut self.finished, ended.first);
         add(&mut self.finished, ended.second);
         self.history.push(entry);
+        self.calm = 0;
     }
 
-    /// Writes the outputs that apply, until none does. Takes no memory.
-    pub(crate) fn settle(&mut self)
+    /// Writes the outputs that apply, until none does; the first of them is found under one call where that is known. Takes no memory.
+    pub(crate) fn settle(&mut self, focus: Option<Focus>)
         requires legal { Legal self.old.entries }
+        requires near { IfSome focus (λ f. IsNear self.old.entries f) }
         requires room { length self.old.entries + room_owed self.old.entries ≤ self.old.room }
         ensures settled { Settled self.old.entries self.new.entries }
         ensures room { self.new.room ≡ self.old.room }
         ensures spent { length self.new.entries + room_owed self.new.entries ≤ length self.old.entries + room_owed self.old.entries }
         ensures books { SameBooks self.old self.new }
     {
-        while let Some(output) = self.next_output() {
+        let mut focus = focus;
+        while let Some(output) = self.next_output(focus) {
+            focus = self.focus_after(focus, &output);
             self.append(Entry::Written(output), None);
         }
     }
@@ -364,8 +411,9 @@ impl Course {
         }
     }
 
-    /// Appends the At of a moment that is later than the history's, and an input. Takes no memory.
-    fn give(&mut self, moment: u64, input: Input, copies: Option<Prepared>)
+    /// Appends the At of a moment that is later than the history's, and an input, and says under which one call the next output is
+    /// found, where that is known. Takes no memory.
+    fn give(&mut self, moment: u64, input: Input, copies: Option<Prepared>) -> Option<Focus>
         requires legal { Legal self.old.entries }
         requires quiet { Quiet self.old.entries }
         requires in_range { moment < last_moment + 1 }
@@ -379,9 +427,12 @@ impl Course {
         ensures entries { self.new.entries ≡ with_input self.old.entries moment input }
         ensures room { self.new.room ≡ self.old.room }
         ensures spent { length self.new.entries + room_owed self.new.entries ≤ length self.old.entries + room_owed self.old.entries + command_need input }
+        ensures near { IfSome result (λ f. IsNear self.new.entries f) }
     {
         self.clock(moment);
+        let focus = focus_on(self.entries(), &input);
         self.append(Entry::Given(input), copies);
+        focus
     }
 
     /// Takes an input: appends it, after the At of a later moment, and then the outputs until none applies. Takes no memory.
@@ -403,8 +454,8 @@ impl Course {
         ensures spent { length self.new.entries + room_owed self.new.entries ≤ length self.old.entries + room_owed self.old.entries + command_need input }
     {
         self.begin();
-        self.give(moment, input, copies);
-        self.settle();
+        let focus = self.give(moment, input, copies);
+        self.settle(focus);
     }
 
     /// Appends the At of a moment at which a phase is due, and the output that it brings. Takes no memory.
@@ -421,9 +472,23 @@ impl Course {
         ensures spent { length self.new.entries + room_owed self.new.entries ≤ length self.old.entries + room_owed self.old.entries }
     {
         self.append(Entry::Given(Input::At(moment)), None);
-        if let Some(output) = self.next_output() {
+        if let Some(output) = self.next_output(None) {
             self.append(Entry::Written(output), None);
         }
+    }
+}
+
+/// Under which one call the next output is found after an input: a call alone makes nothing else possible.
+fn focus_on(entries: &[Entry], input: &Input) -> Option<Focus>
+    requires legal { Legal entries.now }
+    requires follows { Follows entries.now (Given input.now) }
+    ensures { IfSome result (λ f. IsNear (entries.now ++ Given input.now ∷ []) f) }
+{
+    match input {
+        Input::Called(number, caller, call) => {
+            Some(Focus::entered(entries, *number, *caller, call))
+        }
+        _ => None,
     }
 }
 

@@ -19,7 +19,6 @@ ghost use Rattle.ipc_core.specs.Laws.{IsSound};
 ghost use Rattle.ipc_core.specs.Obeying.{MayObey, broke_answer, empty_kernel, enter_answer, exreg_result, open_answer, rested};
 ghost use Rattle.ipc_core.specs.Outcomes.{has_untaken, is_among, is_busy, is_finished, made_by, outcome_to_take, taken_by};
 ghost use Rattle.ipc_core.specs.Refusals.{open_refusal, enter_refusal, exreg_refusal};
-ghost use Rattle.ipc_core.specs.OpenCalls.{enters_open};
 ghost use Rattle.ipc_core.specs.Room.{is_full};
 ghost use Rattle.ipc_core.specs.Steps.{Advances, Enters, MayRefuse, Opens, at_moment, taken_after};
 ghost use Rattle.ipc_core.specs.declared.command.Answer.TheVariants.{Advanced, Done, Taken};
@@ -30,10 +29,10 @@ use crate::course::Course;
 use crate::refusal::Refusal;
 use crate::room::call_need;
 use ipc_history::{Call, Entry, Input, Outcome};
-use ipc_rules::is_over;
 use ipc_words::limits::{
-    LAST_MOMENT, MAX_CALLS, MAX_ENTRIES, MAX_SPACE, MAX_THREAD_NUMBER, NEED_OF_EXCHANGE,
-    NEED_OF_OPEN, PLEDGE_OF_THREAD,
+    BLOCK_BYTES, LAST_MOMENT, MAX_CALLS, MAX_ENTRIES, MAX_SPACE, MAX_STRING_BYTES,
+    MAX_THREAD_NUMBER, NEED_OF_EXCHANGE, NEED_OF_OPEN, PLEDGE_OF_BLOCK, PLEDGE_OF_OPEN_CALL,
+    PLEDGE_OF_THREAD,
 };
 use ipc_words::{Control, ThreadId};
 use std::alloc::Global;
@@ -113,11 +112,7 @@ impl Kernel {
     pub fn open_calls(&self) -> usize
         ensures { result ≡ open_calls self.now.history }
     {
-        let entries = self.course.entries();
-        entries
-            .iter()
-            .filter(|entry| is_open_call(entries, entry))
-            .count()
+        self.course.open_calls()
     }
 
     /// How many calls were made.
@@ -158,6 +153,13 @@ impl Kernel {
         }
     }
 
+    /// Whether a thread is live.
+    pub fn is_live(&self, thread: ThreadId) -> bool
+        ensures { result ≡ is_live self.now.history thread }
+    {
+        self.course.is_live(thread)
+    }
+
     /// The live threads whose last call became over by the last command that was obeyed.
     pub fn finished(&self) -> &[ThreadId]
         ensures names { (thread : ℕ) → is_among thread result.now ≡ is_finished self.now thread }
@@ -168,18 +170,19 @@ impl Kernel {
 }
 
 impl Kernel {
-    /// How many entries are pledged with a need, None where the history has no room for them.
+    /// For how many entries to make room: at least for those that are pledged and a need. None where the history has no room for
+    /// them. Asks each call only where the most that can be pledged does not fit.
     fn room_for(&self, need: u64) -> Option<usize>
         ensures full { IsNone result ↔ IsTrue (is_full self.now need) }
-        ensures value { IfSome result (λ room. room ≡ pledged self.now.history + need) }
+        ensures value { IfSome result (λ room. pledged self.now.history + need ≤ room) }
     {
         let left = self.entries_limit - self.course.entries().len() as u64;
-        room_within(
-            left,
-            self.course.live(),
-            self.course.pledged_for_calls(),
-            need,
-        )
+        let live = self.course.live();
+        let most = MOST_PLEDGED * live;
+        if need <= left && most <= left - need {
+            return Some((most + need) as usize);
+        }
+        room_within(left, live, self.course.pledged_for_calls(), need)
     }
 
     /// Opens the thread of a number, 1 to 255, in a space, 1 to 64, and answers its id, with the next version of the number. The refusals
@@ -263,24 +266,19 @@ impl Kernel {
         ensures calls_limit { self.new.calls_limit ≡ self.old.calls_limit }
     {
         let moment = self.moment.max(now.min(LAST_MOMENT));
-        self.course.begin();
+        self.course.begin_at(moment);
         if self.course.is_any_due_at(moment) {
             self.course.tick(moment);
-            self.course.settle();
+            self.course.settle(None);
         }
         self.moment = moment;
     }
 }
 
-/// Whether an entry enters a call that is open.
-fn is_open_call(entries: &[Entry], entry: &Entry) -> bool
-    ensures { result ≡ enters_open entries.now entry.now }
-{
-    match entry.number() {
-        Some(number) => !is_over(entries, number),
-        None => false,
-    }
-}
+/// The most entries that are pledged for a live thread: its own, those of its call, and those of the blocks of its strings.
+const MOST_PLEDGED: u64 = PLEDGE_OF_THREAD
+    + PLEDGE_OF_OPEN_CALL
+    + PLEDGE_OF_BLOCK * (MAX_STRING_BYTES as u64 / BLOCK_BYTES);
 
 /// What is pledged for live threads, 2 for each, and for calls, and a need, None where less is left.
 fn room_within(left: u64, live: u64, calls: u128, need: u64) -> Option<usize>

@@ -1,5 +1,5 @@
 // The laws of a kernel. Each function is a theorem: it does nothing, and its contract holds of every kernel.
-ghost use Rattle.ipc_core.specs.Laws.{IdleHasNothing, RunsOnce};
+ghost use Rattle.ipc_core.specs.Laws.{EnteredIsBusy, IdleHasNothing, RunsOnce, StaysIdle, TakenIsIdle, UnfinishedKeeps};
 
 /// The same commands, each obeyed, have one list of answers and one end.
 pub fn runs_once()
@@ -9,4 +9,16 @@ pub fn runs_once()
 /// A thread that is not busy has nothing to take.
 pub fn idle_has_nothing()
     ensures { IdleHasNothing }
+{}
+
+/// Which threads are busy after a command: one whose call was entered, and none that was not busy before or whose outcome was taken.
+pub fn busy_by_its_calls()
+    ensures idle { StaysIdle }
+    ensures entered { EnteredIsBusy }
+    ensures taken { TakenIsIdle }
+{}
+
+/// A live thread that the finished ones do not name has to take what it had to take before.
+pub fn unfinished_keeps()
+    ensures { UnfinishedKeeps }
 {}

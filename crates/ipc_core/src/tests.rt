@@ -30,14 +30,14 @@ fn receives(alloc: Global, from: ThreadId, receive_period: u16) -> Result<Call, 
     Ok(call.ok_or("a receive")?)
 }
 
-// A send phase alone, of one word, without a timeout.
-fn sends(alloc: Global, to: ThreadId, word: u64) -> Result<Call, Fail> {
+// A send phase alone, of one word, with a period.
+fn sends(alloc: Global, to: ThreadId, word: u64, send_period: u16) -> Result<Call, Fail> {
     let mut words = Vec::new(alloc);
     words.push(word)?;
     let call = Call::new(CallFields {
         to,
         from: ThreadId::NILTHREAD,
-        send_period: period(0)?,
+        send_period: period(send_period)?,
         receive_period: period(0)?,
         tag: MsgTag::from_word(1),
         originator: ThreadId::NILTHREAD,
@@ -161,7 +161,7 @@ fn a_message_is_received(rt: HostRuntime) -> Result<(), Fail> {
     let _ = kernel.open(2, 1);
     let receive = receives(rt.alloc(), ThreadId::ANYTHREAD, 0)?;
     assert_eq!(rt; refusal_of(&mut kernel, first(1), receive), None);
-    let send = sends(rt.alloc(), first(1), 7)?;
+    let send = sends(rt.alloc(), first(1), 7, 0)?;
     assert_eq!(rt; refusal_of(&mut kernel, first(2), send), None);
     // two opens, two calls, began and ended
     assert_eq!(rt; kernel.history().len(), 6);
@@ -254,5 +254,47 @@ fn commands_are_run(rt: HostRuntime) -> Result<(), Fail> {
     assert_eq!(rt; answers.len(), 4);
     // opened, at and broke
     assert_eq!(rt; kernel.history().len(), 3);
+    Ok(())
+}
+
+// A kernel with the threads 1 to 255, of which all but the first send it their number.
+fn senders(alloc: Global, send_period: u16) -> Result<Kernel, Fail> {
+    let mut kernel = kernel(alloc, MAX_ENTRIES, MAX_CALLS)?;
+    for number in 1..=255_u32 {
+        let _ = kernel.open(u64::from(number), 1);
+    }
+    for number in 2..=255_u32 {
+        let send = sends(alloc, first(1), u64::from(number), send_period)?;
+        let _ = kernel.enter(first(number), send);
+    }
+    Ok(kernel)
+}
+
+#[test]
+fn waiting_senders_are_received_in_turn(rt: HostRuntime) -> Result<(), Fail> {
+    let mut kernel = senders(rt.alloc(), 0)?;
+    assert_eq!(rt; kernel.history().len(), 509);
+    assert_eq!(rt; kernel.open_calls(), 254);
+    for number in 2..=255_u32 {
+        let receive = receives(rt.alloc(), ThreadId::ANYTHREAD, 0)?;
+        assert_eq!(rt; refusal_of(&mut kernel, first(1), receive), None);
+        let outcome = kernel.take(first(1)).ok_or("an outcome")?;
+        assert_eq!(rt; outcome.call, 253 + u64::from(number));
+        assert_eq!(rt; outcome.sender, first(number));
+    }
+    assert_eq!(rt; kernel.history().len(), 1271);
+    Ok(())
+}
+
+#[test]
+fn deadlines_come_together(rt: HostRuntime) -> Result<(), Fail> {
+    let mut kernel = senders(rt.alloc(), 5)?;
+    kernel.at(3);
+    kernel.at(4);
+    assert_eq!(rt; kernel.history().len(), 509);
+    kernel.at(5);
+    assert_eq!(rt; kernel.history().len(), 764);
+    assert_eq!(rt; kernel.finished().len(), 254);
+    assert_eq!(rt; kernel.open_calls(), 0);
     Ok(())
 }

@@ -44,23 +44,23 @@ fields_format kind size fields rest =
     let tail : Reading = once (size - (1 + sum (widths kind))) rest (λ tail behind. whole_if size (frame_of kind fields tail)) in
     let long : Bool = nat_lt size (least_size_with kind fields) in
     bad_if_formats (has_too_many_words kind fields) fault.TooManyWords (bad_if long fault.WrongSize tail) tt (
-      bad_if_formats long fault.WrongSize tail tt (
-        once_formats (size - (1 + sum (widths kind))) rest (λ tail behind. whole_if size (frame_of kind fields tail)) (λ tail behind. whole_if_formats size (frame_of kind fields tail))))
+    bad_if_formats long fault.WrongSize tail tt (
+    once_formats (size - (1 + sum (widths kind))) rest (λ tail behind. whole_if size (frame_of kind fields tail)) (λ tail behind. whole_if_formats size (frame_of kind fields tail))))
 
 kind_formats : (size : ℕ) (o : Option FrameKind) (rest : List ℕ) → Formats (kind_known size o rest)
 unfolding kind_known
 kind_formats size None rest = tt
 kind_formats size (Some kind) rest =
     bad_if_formats (is_wrong_size kind size) fault.WrongSize (once (sum (widths kind)) rest (λ head behind. fields_known kind size (fields_in (widths kind) head) behind)) tt (
-      once_formats (sum (widths kind)) rest (λ head behind. fields_known kind size (fields_in (widths kind) head) behind) (λ head behind. fields_format kind size (fields_in (widths kind) head) behind))
+    once_formats (sum (widths kind)) rest (λ head behind. fields_known kind size (fields_in (widths kind) head) behind) (λ head behind. fields_format kind size (fields_in (widths kind) head) behind))
 
 size_formats : (side : Side) (size : ℕ) (rest : List ℕ) → Formats (size_known side size rest)
 unfolding size_known
 size_formats side size rest =
     let next : List ℕ → List ℕ → Reading = λ kind behind. kind_known size (kind_among (kinds side) (number_in 1 kind)) behind in
     bad_if_formats (nat_lt max_frame_body size) fault.TooLong (bad_if (size == 0) fault.WrongSize (once 1 rest next)) tt (
-      bad_if_formats (size == 0) fault.WrongSize (once 1 rest next) tt (
-        once_formats 1 rest next (λ kind behind. kind_formats size (kind_among (kinds side) (number_in 1 kind)) behind)))
+    bad_if_formats (size == 0) fault.WrongSize (once 1 rest next) tt (
+    once_formats 1 rest next (λ kind behind. kind_formats size (kind_among (kinds side) (number_in 1 kind)) behind)))
 
 reading_formats : (side : Side) (bytes : List ℕ) → Formats (reading side bytes)
 unfolding reading

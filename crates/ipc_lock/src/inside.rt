@@ -1,10 +1,12 @@
 //! What stands under the lock: the kernel with its books, and the post boxes.
 ghost use Rattle.std.specs.Prelude.{◌≡◌, ◌+◌, IfSome, IfNone};
+ghost use Rattle.ipc_history.specs.Threads.{is_live};
 
 use crate::post_box::{PostBox, Posted};
 use crate::seated::{Answer, Locked, Taken};
 use crate::seats::TakeSeat;
 use crate::step::Step;
+use ipc_history::Entry;
 use ipc_words::ThreadId;
 use ipc_words::limits::TABLE_SLOTS;
 use std::alloc::{AllocError, Global};
@@ -40,6 +42,9 @@ pub(crate) struct Inside<C: Ledger, T: Ledger> {
     finished: Vec<ThreadId>,
     begun: bool,
     closed: bool,
+    // whether the last step added entries, and whether the trace waits for one
+    has_grown: bool,
+    is_awaited: bool,
     alloc: Global,
 }
 
@@ -75,6 +80,8 @@ impl<C: Ledger, T: Ledger> Inside<C, T> {
             finished: Vec::with_capacity(alloc, 2 * TABLE_SLOTS)?,
             begun: false,
             closed: false,
+            has_grown: false,
+            is_awaited: false,
             alloc,
         })
     }
@@ -85,6 +92,7 @@ impl<C: Ledger, T: Ledger> Inside<C, T> {
         let ends_a_thread = matches!(&step, Step::Broke(_));
         self.finished.clear();
         let answer = self.locked.act(now, step, &mut self.finished);
+        self.has_grown = self.locked.entries() > before;
         self.begun = self.locked.has_begun_since(before) || self.begun && !answer.is_idle();
         let mut bells = self.bells();
         // whoever waits for an outcome of the thread waits in vain
@@ -121,7 +129,9 @@ impl<C: Ledger, T: Ledger> Inside<C, T> {
     }
 
     /// Whether the seat's thread is live.
-    pub(crate) fn is_live(&self, seat: &TakeSeat<T>) -> bool {
+    pub(crate) fn is_live(&self, seat: &TakeSeat<T>) -> bool
+        ensures { result ≡ is_live self.now.locked.kernel.history seat.now.thread }
+    {
         self.locked.is_live(seat.thread())
     }
 
@@ -228,5 +238,22 @@ impl<C: Ledger, T: Ledger> Inside<C, T> {
 
     pub(crate) fn entries(&self) -> usize {
         self.locked.entries()
+    }
+
+    /// A copy of the entry of this place.
+    pub(crate) fn entry(&self, index: usize) -> Result<Option<Entry>, AllocError> {
+        self.locked.entry(self.alloc, index)
+    }
+
+    /// The trace waits for the next entry.
+    pub(crate) fn await_entry(&mut self) {
+        self.is_awaited = true;
+    }
+
+    /// Whether the trace has to be told of the last step: it waits, and there are more entries than before.
+    pub(crate) fn tells_trace(&mut self) -> bool {
+        let is_told = self.is_awaited && self.has_grown;
+        self.is_awaited = self.is_awaited && !is_told;
+        is_told
     }
 }

@@ -1,12 +1,15 @@
 //! The kernel under a lock: seats that tie callers to its one history, and a post box for each connection.
 #![tactic(auto)]
 
+mod copying;
 mod inside;
 mod post_box;
 mod seated;
 mod seats;
 mod shared_kernel;
 mod step;
+#[cfg(test)]
+mod tests;
 mod told;
 
 pub use inside::Next;

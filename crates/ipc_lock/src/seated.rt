@@ -1,5 +1,5 @@
 //! What the lock keeps, and the calls that change it. Nobody else makes an [`Answer`] or a [`Taken`].
-ghost use Rattle.std.specs.Prelude.{◌≡◌, ◌+◌, ◌^◌, [], ◌∷◌, false, None, Some, IfOk, IfErr, IfSome, OnOk, OnErr, IfNone, length, min};
+ghost use Rattle.std.specs.Prelude.{◌≡◌, ◌+◌, ◌^◌, [], ◌∷◌, false, None, Some, IfOk, IfErr, IfSome, OnOk, OnErr, IfNone, length, min, slice_get};
 ghost use Rattle.ipc_history.specs.Calls.{calls_made};
 ghost use Rattle.ipc_history.specs.Threads.{is_live};
 ghost use Rattle.ipc_core.specs.Effects.{Breaks, Exchanges, Gives, Ticks};
@@ -15,13 +15,14 @@ ghost use Rattle.ipc_lock.specs.Opens.{opens};
 ghost use Rattle.ipc_lock.specs.declared.step.Step.TheVariants as step;
 ghost use Rattle.ipc_lock.specs.Seats.{SeatRefuses, TakesNothing};
 
+use crate::copying::copy_entry;
 use crate::seats::{CallSeat, TakeSeat};
 use crate::step::Step;
 use crate::told::Told;
 use ipc_core::{Advance, EnterRefused, ExregAnswer, Kernel, Limits, NoThread, Refusal};
-use ipc_history::{Call, Entry, Input, Outcome, Output};
+use ipc_history::{Call, Entry, Outcome, Output};
 use ipc_words::{Control, ThreadId};
-use std::alloc::Global;
+use std::alloc::{AllocError, Global};
 use std::marker::PhantomData;
 use std::sync::ledger::{Blank, Book, Ledger, Share};
 
@@ -387,19 +388,24 @@ impl<C: Ledger, T: Ledger> Locked<C, T> {
     }
 
     /// Whether a thread is live.
-    pub(crate) fn is_live(&self, thread: ThreadId) -> bool {
-        for entry in self.kernel.history().iter().rev() {
-            match entry {
-                Entry::Given(Input::Broke(ended)) if *ended == thread => return false,
-                Entry::Given(Input::Opened(opened, _)) if *opened == thread => return true,
-                _ => {}
-            }
-        }
-        false
+    pub(crate) fn is_live(&self, thread: ThreadId) -> bool
+        ensures { result ≡ is_live self.now.kernel.history thread }
+    {
+        self.kernel.is_live(thread)
     }
 
     /// How many entries the history has.
     pub(crate) fn entries(&self) -> usize {
         self.kernel.history().len()
+    }
+
+    /// A copy of the entry of this place of the history, counted from 0.
+    pub fn entry(&self, alloc: Global, index: usize) -> Result<Option<Entry>, AllocError>
+        ensures { IfOk result (λ entry. entry ≡ slice_get self.now.kernel.history index) }
+    {
+        match self.kernel.history().get(index) {
+            Some(entry) => Ok(Some(copy_entry(alloc, entry)?)),
+            None => Ok(None),
+        }
     }
 }

@@ -7,8 +7,10 @@ use crate::seated::{Answer, Locked, Taken};
 use crate::seats::TakeSeat;
 use crate::step::Step;
 use ipc_core::{Advance, Limits, Refusal};
+use ipc_history::Entry;
+use ipc_lines::entry_line;
 use ipc_words::ThreadId;
-use std::alloc::Global;
+use std::alloc::{AllocError, Global};
 use std::sync::ledger::{Blank, Ledger};
 use std::sync::{Condvar, Mutex, Wait};
 
@@ -18,6 +20,8 @@ pub struct SharedKernel<C: Ledger, T: Ledger> {
     inside: Mutex<Inside<C, T>>,
     work: Condvar,
     strays: Condvar,
+    trace: Condvar,
+    alloc: Global,
 }
 
 impl<C: Ledger, T: Ledger> SharedKernel<C, T> {
@@ -38,6 +42,8 @@ impl<C: Ledger, T: Ledger> SharedKernel<C, T> {
             inside: Mutex::new(inside),
             work: Condvar::new(),
             strays: Condvar::new(),
+            trace: Condvar::new(),
+            alloc,
         })
     }
 
@@ -46,8 +52,12 @@ impl<C: Ledger, T: Ledger> SharedKernel<C, T> {
         let mut inside = self.inside.lock(rt);
         let (answer, bells) = inside.act(now, step);
         let begun = inside.has_begun();
+        let tells_trace = inside.tells_trace();
         drop(inside);
         self.ring(bells);
+        if tells_trace {
+            self.trace.notify_all();
+        }
         if begun {
             self.work.notify_one();
         }
@@ -179,6 +189,33 @@ impl<C: Ledger, T: Ledger> SharedKernel<C, T> {
         inside.close();
         drop(inside);
         self.work.notify_all();
+        self.trace.notify_all();
+    }
+
+    /// Waits for the entry of this place of the history, counted from 0, and answers its line, without a newline. None once the kernel
+    /// was closed and has no such entry. The entry is copied under the lock, and its line is made outside it.
+    ///
+    /// # Errors
+    ///
+    /// TR5: no memory for the copy or the line.
+    pub fn wait_line<R: Wait>(&self, rt: &R, index: usize) -> Result<Option<String>, AllocError> {
+        match self.wait_entry(rt, index)? {
+            Some(entry) => Ok(Some(entry_line(self.alloc, &entry)?)),
+            None => Ok(None),
+        }
+    }
+
+    fn wait_entry<R: Wait>(&self, rt: &R, index: usize) -> Result<Option<Entry>, AllocError> {
+        let mut inside = self.inside.lock(rt);
+        for _ in rt.forever() {
+            let entry = inside.entry(index)?;
+            if entry.is_some() || inside.is_closed() {
+                return Ok(entry);
+            }
+            inside.await_entry();
+            inside = self.trace.wait(rt, inside);
+        }
+        Ok(None)
     }
 
     /// How many entries the history has, to say when it is near its limit.

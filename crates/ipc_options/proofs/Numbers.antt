@@ -9,13 +9,13 @@ abbrev pub value : Text → ℕ
 value text = digits_value 10 (without_leading_plus text)
 
 -- a number that was read is that of the text
-pub read_number : (E : Type 0) (gives : Text → Result ℕ E → Type 0) (text : Option Text) (read : Option ℕ)
-    → ((t : Text) (r : Result ℕ E) → gives t r → ParsesUnsigned 32 10 t r)
+pub read_number : (E : Type 0) (bits : ℕ) (gives : Text → Result ℕ E → Type 0) (text : Option Text) (read : Option ℕ)
+    → ((t : Text) (r : Result ℕ E) → gives t r → ParsesUnsigned bits 10 t r)
     → (text ≡ None → read ≡ None) → ((t : Text) → text ≡ Some t → ReadsOne gives t read)
     → IfSome read (λ n. option_map value text ≡ Some n)
-read_number E gives text None parses none some = tt
-read_number E gives None (Some n) parses none some = let bad = none refl in cc
-read_number E gives (Some t) (Some n) parses none some =
+read_number E bits gives text None parses none some = tt
+read_number E bits gives None (Some n) parses none some = let bad = none refl in cc
+read_number E bits gives (Some t) (Some n) parses none some =
     let parsed = parses t (Ok n) (some t refl) in
     let same : n ≡ value t = parsed.1 in
     cc

@@ -1,8 +1,9 @@
--- The command that `l4sh` asks `clap` for.
+-- The commands that `l4sh` and `l4d` ask `clap` for.
 use Rattle.std.specs.Prelude.{ℕ, Some, [], ◌∷◌, codes, true}
 use Rattle.ipc_words.specs.Limits.{max_entries, max_calls}
 use Rattle.clap.specs.Words.{App, Rule, Text, new_app, new_rule, with_rule, with_subcommand}
 use Rattle.clap.specs.Simple.{on_top}
+use Rattle.clap.specs.declared.builder.action.ArgAction.TheVariants.{Set, SetTrue}
 use Rattle.clap.specs.declared.builder.value_parser.ValueParser.TheVariants.{Unsigned}
 
 -- `--ID N`: a number up to most, by default the one that a text reads as
@@ -14,13 +15,88 @@ number_rule id most default = record (new_rule id) {
   defaults = default ∷ [];
 }
 
+-- FILE, which has to be there
+abbrev pub file_rule : Rule
+file_rule = record (new_rule (codes "file")) { value_names = 1; required = true }
+
+-- `--threads LIST`
+abbrev pub threads_rule : Rule
+threads_rule = record (new_rule (codes "threads")) { long = Some (codes "threads"); value_names = 1 }
+
+-- `--text`
+abbrev pub text_rule : Rule
+text_rule = record (new_rule (codes "text")) { long = Some (codes "text"); action = Some SetTrue }
+
 abbrev pub run_app : App
 run_app = with_rule
     (with_rule (new_app (codes "run")) (number_rule (codes "entries") max_entries (codes "1048576")))
     (number_rule (codes "calls") max_calls (codes "4294967295"))
 
--- `l4sh` with its one subcommand, which has to be there
-abbrev pub shell_app : App
-shell_app = with_subcommand
+abbrev pub check_app : App
+check_app = with_rule (new_app (codes "check")) file_rule
+
+-- `chart` with its file and the entries that it shows
+abbrev pub chart_places_app : App
+chart_places_app = with_rule (with_rule (with_rule (new_app (codes "chart")) file_rule)
+    (number_rule (codes "from") 4294967295 (codes "1")))
+    (number_rule (codes "to") 4294967295 (codes "4294967295"))
+
+abbrev pub chart_app : App
+chart_app = with_rule (with_rule chart_places_app threads_rule) text_rule
+
+-- `l4sh` with `run` and `check`
+abbrev pub proving_app : App
+proving_app = with_subcommand (with_subcommand
     (on_top (λ shape. record shape { subcommand_required = true }) (new_app (codes "l4sh")))
-    run_app.top
+    run_app.top) check_app.top
+
+-- `l4sh` with its subcommands, of which one has to be there
+abbrev pub shell_app : App
+shell_app = with_subcommand proving_app chart_app.top
+
+-- `--dir DIR`, which has to be there
+abbrev pub dir_rule : Rule
+dir_rule = record (new_rule (codes "dir")) {
+  long = Some (codes "dir");
+  value_names = 1;
+  required = true;
+  action = Some Set;
+}
+
+-- `--spaces N`, which has to be there: 1 to 64
+abbrev pub spaces_rule : Rule
+spaces_rule = record (new_rule (codes "spaces")) {
+  long = Some (codes "spaces");
+  value_names = 1;
+  required = true;
+  parser = Some (Unsigned 1 64);
+}
+
+-- `--connections M`: 1 to 65,535
+abbrev pub connections_rule : Rule
+connections_rule = record (new_rule (codes "connections")) {
+  long = Some (codes "connections");
+  value_names = 1;
+  parser = Some (Unsigned 1 65535);
+  defaults = codes "65535" ∷ [];
+}
+
+-- `--mode OCTAL`
+abbrev pub mode_rule : Rule
+mode_rule = record (new_rule (codes "mode")) {
+  long = Some (codes "mode");
+  value_names = 1;
+  defaults = codes "600" ∷ [];
+}
+
+-- `--probe`
+abbrev pub probe_rule : Rule
+probe_rule = record (new_rule (codes "probe")) {
+  long = Some (codes "probe");
+  action = Some SetTrue;
+}
+
+abbrev pub server_app : App
+server_app = with_rule
+    (with_rule (with_rule (with_rule (with_rule (new_app (codes "l4d")) dir_rule) spaces_rule) connections_rule) mode_rule)
+    probe_rule

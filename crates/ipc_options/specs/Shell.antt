@@ -1,36 +1,71 @@
 -- What the words of `l4sh` ask for.
-use Rattle.std.specs.Prelude.{◌≡◌, ◌≤◌, ℕ, List, Option, Some, codes, option_map, true, IsSomeAnd}
+use Rattle.std.specs.Prelude.{◌≡◌, ◌≤◌, ◌⊎◌, ℕ, Bool, List, Option, Some, codes, option_map, true, false, ⊤, IsSome, IsSomeAnd}
 use Rattle.std.specs.Str.Parse.{digits_value, without_leading_plus}
 use Rattle.ipc_words.specs.Limits.{max_entries, max_calls}
-use Rattle.clap.specs.Words.{IsUnsignedIn, Row, Text, one_of, subcommand_of, takes}
+use Rattle.clap.specs.Words.{IsUnsignedIn, Row, Text, first_of, one_of, subcommand_of, takes}
 use Rattle.ipc_options.specs.Command.{shell_app}
+use Rattle.ipc_options.specs.declared.shell.ChartOptions.{ChartOptions}
 use Rattle.ipc_options.specs.declared.shell.ShellOptions.{ShellOptions}
-use Rattle.ipc_options.specs.declared.shell.ShellOptions.TheVariants.{Run}
+use Rattle.ipc_options.specs.declared.shell.ShellOptions.TheVariants.{Run, Check, Chart}
 
--- each number is within its limit
+-- each number of `run` is within its limit
 abbrev pub IsWithinLimits : ShellOptions → Type 0
 IsWithinLimits (Run entries calls) = (entries ≤ max_entries) × (calls ≤ max_calls)
+IsWithinLimits _ = ⊤
 
--- the number that an option has among the matches of `run`
+-- the number that an option has among the matches of a subcommand
 abbrev pub number_in : List Row → Text → Option ℕ
 number_in rows id = option_map (λ text. digits_value 10 (without_leading_plus text)) (one_of id rows)
 
--- the options have the numbers of the matches of `run`
-abbrev pub HasNumbersIn : List Row → ShellOptions → Type 0
-HasNumbersIn rows (Run entries calls) = (number_in rows (codes "entries") ≡ Some entries)
+-- whether a flag is set among the matches of a subcommand
+abbrev pub IsFlagIn : List Row → Text → Bool → Type 0
+IsFlagIn rows id value = (one_of id rows ≡ Some (codes "true") → value ≡ true)
+    × (one_of id rows ≡ Some (codes "false") → value ≡ false)
+
+-- the options of `chart` are those of its matches
+abbrev pub HasChartIn : List Row → ChartOptions → Type 0
+HasChartIn rows chart = (first_of (codes "file") rows ≡ Some chart.file.now)
+    × (number_in rows (codes "from") ≡ Some chart.from)
+    × (number_in rows (codes "to") ≡ Some chart.to)
+    × (first_of (codes "threads") rows ≡ option_map (λ list. list.now) chart.threads)
+    × IsFlagIn rows (codes "text") chart.is_text
+
+-- the options are those of the matches of the subcommand of this name
+abbrev pub HasMatchesIn : Text → List Row → ShellOptions → Type 0
+HasMatchesIn name rows (Run entries calls) = (name ≡ codes "run")
+    × (number_in rows (codes "entries") ≡ Some entries)
     × (number_in rows (codes "calls") ≡ Some calls)
+HasMatchesIn name rows (Check file) = (name ≡ codes "check")
+    × (first_of (codes "file") rows ≡ Some file.now)
+HasMatchesIn name rows (Chart chart) = (name ≡ codes "chart") × HasChartIn rows chart
 
 -- the matches of `run` have a decimal number within its limit for each option
-abbrev pub ReadsAsNumbers : List Row → Type 0
-ReadsAsNumbers rows = IsSomeAnd (one_of (codes "entries") rows) (IsUnsignedIn 0 max_entries)
+abbrev pub ReadsAsRun : List Row → Type 0
+ReadsAsRun rows = IsSomeAnd (one_of (codes "entries") rows) (IsUnsignedIn 0 max_entries)
     × IsSomeAnd (one_of (codes "calls") rows) (IsUnsignedIn 0 max_calls)
 
--- the options have the numbers that the words, or the defaults, give the options of `run`
-abbrev pub HasNumbersOf : List Text → ShellOptions → Type 0
-HasNumbersOf words options =
-    IsSomeAnd (subcommand_of shell_app words) (λ run. HasNumbersIn run.1 options)
+-- the matches have a file
+abbrev pub ReadsAsCheck : List Row → Type 0
+ReadsAsCheck rows = IsSome (first_of (codes "file") rows)
 
--- the command takes the words, which name `run` with a number within its limit for each option
+-- the matches of `chart` have a file, and a decimal number of 32 bits for each place
+abbrev pub ReadsAsChart : List Row → Type 0
+ReadsAsChart rows = ReadsAsCheck rows
+    × IsSomeAnd (one_of (codes "from") rows) (IsUnsignedIn 0 4294967295)
+    × IsSomeAnd (one_of (codes "to") rows) (IsUnsignedIn 0 4294967295)
+
+-- the matches of the subcommand of this name have what it needs
+abbrev pub Reads : Text → List Row → Type 0
+Reads name rows = ((name ≡ codes "run") × ReadsAsRun rows)
+    ⊎ ((name ≡ codes "check") × ReadsAsCheck rows)
+    ⊎ ((name ≡ codes "chart") × ReadsAsChart rows)
+
+-- the options are those that the words, or the defaults, give the subcommand that they name
+abbrev pub IsAskedBy : List Text → ShellOptions → Type 0
+IsAskedBy words options =
+    IsSomeAnd (subcommand_of shell_app words) (λ named. HasMatchesIn named.0 named.1 options)
+
+-- the command takes the words, which name a subcommand with what it needs
 abbrev pub IsTaken : List Text → Type 0
 IsTaken words = (takes shell_app words ≡ true)
-    × IsSomeAnd (subcommand_of shell_app words) (λ run. (run.0 ≡ codes "run") × ReadsAsNumbers run.1)
+    × IsSomeAnd (subcommand_of shell_app words) (λ named. Reads named.0 named.1)

@@ -1,6 +1,10 @@
-//! The command line of `l4sh`.
+//! The command lines of `l4sh` and `l4d`.
 #![tactic(auto)]
 
+mod server;
+mod server_words;
 mod shell;
 
-pub use shell::{ShellOptions, shell_options};
+pub use server::{MAX_SPACES, OWNER_ONLY, ServerOptions};
+pub use server_words::server_options;
+pub use shell::{ChartOptions, ShellOptions, shell_options};

@@ -1,32 +1,52 @@
 //! The options of `l4sh`, read from its words.
-ghost use Rattle.std.specs.Prelude.{◌≡◌, IfErr, IfOk, IfSome, IsSome, IsSomeAnd, Some, [], false};
+ghost use Rattle.std.specs.Prelude.{◌≡◌, IfErr, IfOk, IfSome, IsSome, IsSomeAnd, Some, [], codes, false, option_map};
 ghost use Rattle.std.specs.Prelude.{map, string_bytes};
-ghost use Rattle.clap.specs.Words.{IsUnsignedIn, app_of, fault_of, found_of, kind_of, one_of, rows_of, rule_of};
+ghost use Rattle.clap.specs.Words.{IsUnsignedIn, app_of, fault_of, first_of, found_of, kind_of, one_of, rows_of, rule_of};
 ghost use Rattle.clap.specs.declared.builder.command.Command.TheViews.{out-Command as fields_of};
-ghost use Rattle.ipc_options.specs.Command.{number_rule, run_app, shell_app};
-ghost use Rattle.ipc_options.specs.Shell.{HasNumbersIn, HasNumbersOf, IsTaken, IsWithinLimits};
-ghost use Rattle.ipc_options.specs.Shell.{ReadsAsNumbers, number_in};
+ghost use Rattle.ipc_options.specs.Command.{chart_app, chart_places_app, check_app, file_rule, number_rule};
+ghost use Rattle.ipc_options.specs.Command.{proving_app, run_app, shell_app, text_rule, threads_rule};
+ghost use Rattle.ipc_options.specs.Shell.{HasMatchesIn, IsAskedBy, IsFlagIn, IsTaken, IsWithinLimits};
+ghost use Rattle.ipc_options.specs.Shell.{Reads, ReadsAsChart, ReadsAsCheck, ReadsAsRun, number_in};
 
 use clap::builder::ValueParser;
 use clap::error::ErrorKind;
-use clap::{Arg, ArgMatches, Command, Error};
+use clap::{Arg, ArgAction, ArgMatches, Command, Error};
 use ipc_words::limits::{MAX_CALLS, MAX_ENTRIES};
 use std::alloc::{AllocError, Global};
 
 /// What `l4sh` was asked for.
 #[derive(Clone, Copy, PartialEq, Eq, Debug)]
-pub enum ShellOptions {
+pub enum ShellOptions<'a> {
     /// `l4sh run`, with the most entries that the history may hold, 0 to `MAX_ENTRIES`, and the
     /// most calls that may be made, 0 to `MAX_CALLS`.
     Run { entries: u32, calls: u32 },
+    /// `l4sh check`, with the path of a trace.
+    Check { file: &'a str },
+    /// `l4sh chart`.
+    Chart(ChartOptions<'a>),
+}
+
+/// What `l4sh chart` was asked for.
+#[derive(Clone, Copy, PartialEq, Eq, Debug)]
+pub struct ChartOptions<'a> {
+    /// The path of a trace.
+    pub file: &'a str,
+    /// The first entry that is shown, counted from 1.
+    pub from: u32,
+    /// The last entry that is shown.
+    pub to: u32,
+    /// The threads that are shown, with commas between them; None: all.
+    pub threads: Option<&'a str>,
+    /// Whether it is drawn as text for a terminal.
+    pub is_text: bool,
 }
 
 /// The command line of `l4sh`. The first word is the program's name. An `Err` is a mistake in the
 /// words, a request for help, or want of memory (the kind `OutOfMemory`), and its `Display` is the
 /// text for the user.
-pub fn shell_options<'a>(alloc: Global, words: &'a [String]) -> Result<ShellOptions, Error>
+pub fn shell_options<'a>(alloc: Global, words: &'a [String]) -> Result<ShellOptions<'a>, Error>
     ensures limits { IfOk result IsWithinLimits }
-    ensures numbers { IfOk result (HasNumbersOf (map string_bytes words.entry.now)) }
+    ensures asked { IfOk result (IsAskedBy (map string_bytes words.entry.now)) }
     ensures faultless { IfOk result (λ _.
         fault_of shell_app (map string_bytes words.entry.now) ≡ []) }
     ensures taken { IfErr result (λ error. IsTaken (map string_bytes words.entry.now)
@@ -35,8 +55,8 @@ pub fn shell_options<'a>(alloc: Global, words: &'a [String]) -> Result<ShellOpti
     let mut command = shell_command(alloc)?;
     let matches = command.try_get_matches_from_mut(words)?;
     let chosen = match matches.subcommand() {
-        Some(("run", run)) => run_options(run),
-        _ => None,
+        Some((name, found)) => options_in(name, found),
+        None => None,
     };
     match chosen {
         Some(options) => Ok(options),
@@ -48,10 +68,18 @@ pub fn shell_options<'a>(alloc: Global, words: &'a [String]) -> Result<ShellOpti
 fn shell_command<'a>(alloc: Global) -> Result<Command<'a>, AllocError>
     ensures { IfOk result (λ command. app_of command ≡ shell_app) }
 {
+    proving_command(alloc)?.subcommand(chart_command(alloc)?)
+}
+
+/// `l4sh` with what it proves: runs and checks.
+fn proving_command<'a>(alloc: Global) -> Result<Command<'a>, AllocError>
+    ensures { IfOk result (λ command. app_of command ≡ proving_app) }
+{
     Command::new(alloc, "l4sh")
         .about("A shell for synchronous IPC between threads")
         .subcommand_required(true)
-        .subcommand(run_command(alloc)?)
+        .subcommand(run_command(alloc)?)?
+        .subcommand(check_command(alloc)?)
 }
 
 fn run_command<'a>(alloc: Global) -> Result<Command<'a>, AllocError>
@@ -76,6 +104,81 @@ fn run_command<'a>(alloc: Global) -> Result<Command<'a>, AllocError>
         ))
 }
 
+fn check_command<'a>(alloc: Global) -> Result<Command<'a>, AllocError>
+    ensures local { IfOk result (λ command. (fields_of command).has_globals ≡ false) }
+    ensures app { IfOk result (λ command. app_of command ≡ check_app) }
+{
+    Command::new(alloc, "check")
+        .about("Says whether a trace is a legal history")
+        .arg(trace_file(alloc))
+}
+
+fn chart_command<'a>(alloc: Global) -> Result<Command<'a>, AllocError>
+    ensures local { IfOk result (λ command. (fields_of command).has_globals ≡ false) }
+    ensures app { IfOk result (λ command. app_of command ≡ chart_app) }
+{
+    chart_places_command(alloc)?
+        .arg(threads_option(alloc))?
+        .arg(text_flag(alloc))
+}
+
+/// `chart` with its file and the entries that it shows.
+fn chart_places_command<'a>(alloc: Global) -> Result<Command<'a>, AllocError>
+    ensures local { IfOk result (λ command. (fields_of command).has_globals ≡ false) }
+    ensures app { IfOk result (λ command. app_of command ≡ chart_places_app) }
+{
+    Command::new(alloc, "chart")
+        .about("Draws a trace as a sequence chart, in SVG on standard output")
+        .arg(trace_file(alloc))?
+        .arg(number_option(
+            alloc,
+            "from",
+            u64::from(u32::MAX),
+            "1",
+            "The first entry that is shown, counted from 1",
+        ))?
+        .arg(number_option(
+            alloc,
+            "to",
+            u64::from(u32::MAX),
+            "4294967295",
+            "The last entry that is shown",
+        ))
+}
+
+/// FILE.
+fn trace_file<'a>(alloc: Global) -> Arg<'a>
+    ensures local { result.global ≡ false }
+    ensures rule { rule_of result ≡ file_rule }
+{
+    Arg::new(alloc, "file")
+        .value_name("FILE")
+        .required(true)
+        .help("A trace: the lines of the entries of a history")
+}
+
+/// The option `--threads LIST`.
+fn threads_option<'a>(alloc: Global) -> Arg<'a>
+    ensures local { result.global ≡ false }
+    ensures rule { rule_of result ≡ threads_rule }
+{
+    Arg::new(alloc, "threads")
+        .long("threads")
+        .value_name("LIST")
+        .help("The threads that are shown, as 1.1,2.1; without it all")
+}
+
+/// The flag `--text`.
+fn text_flag<'a>(alloc: Global) -> Arg<'a>
+    ensures local { result.global ≡ false }
+    ensures rule { rule_of result ≡ text_rule }
+{
+    Arg::new(alloc, "text")
+        .long("text")
+        .action(ArgAction::SetTrue)
+        .help("Draws it as text, for a terminal")
+}
+
 /// The option `--ID N`, of a number up to `most`.
 fn number_option<'a>(
     alloc: Global,
@@ -95,10 +198,24 @@ fn number_option<'a>(
         .help(help)
 }
 
-fn run_options(run: &ArgMatches<'_>) -> Option<ShellOptions>
+/// The options of the subcommand of this name.
+fn options_in<'a>(name: &str, found: &ArgMatches<'a>) -> Option<ShellOptions<'a>>
     ensures limits { IfSome result IsWithinLimits }
-    ensures numbers { IfSome result (HasNumbersIn (rows_of (found_of run.now))) }
-    ensures found { ReadsAsNumbers (rows_of (found_of run.now)) → IsSome result }
+    ensures matches { IfSome result (HasMatchesIn name.now (rows_of (found_of found.now))) }
+    ensures found { Reads name.now (rows_of (found_of found.now)) → IsSome result }
+{
+    match name {
+        "run" => run_options(found),
+        "check" => check_options(found),
+        "chart" => chart_options(found),
+        _ => None,
+    }
+}
+
+fn run_options<'a>(run: &ArgMatches<'a>) -> Option<ShellOptions<'a>>
+    ensures limits { IfSome result IsWithinLimits }
+    ensures matches { IfSome result (HasMatchesIn (codes "run") (rows_of (found_of run.now))) }
+    ensures found { ReadsAsRun (rows_of (found_of run.now)) → IsSome result }
 {
     let entries = number(run, "entries")?;
     let calls = number(run, "calls")?;
@@ -109,12 +226,52 @@ fn run_options(run: &ArgMatches<'_>) -> Option<ShellOptions>
     }
 }
 
-fn number(run: &ArgMatches<'_>, id: &str) -> Option<u32>
-    ensures number { IfSome result (λ n. number_in (rows_of (found_of run.now)) id.now ≡ Some n) }
-    ensures found { IsSomeAnd (one_of id.now (rows_of (found_of run.now)))
+fn check_options<'a>(check: &ArgMatches<'a>) -> Option<ShellOptions<'a>>
+    ensures limits { IfSome result IsWithinLimits }
+    ensures matches { IfSome result (HasMatchesIn (codes "check") (rows_of (found_of check.now))) }
+    ensures found { ReadsAsCheck (rows_of (found_of check.now)) → IsSome result }
+{
+    let file = text(check, "file")?;
+    Some(ShellOptions::Check { file })
+}
+
+fn chart_options<'a>(chart: &ArgMatches<'a>) -> Option<ShellOptions<'a>>
+    ensures limits { IfSome result IsWithinLimits }
+    ensures matches { IfSome result (HasMatchesIn (codes "chart") (rows_of (found_of chart.now))) }
+    ensures found { ReadsAsChart (rows_of (found_of chart.now)) → IsSome result }
+{
+    let file = text(chart, "file")?;
+    let from = number(chart, "from")?;
+    let to = number(chart, "to")?;
+    let threads = text(chart, "threads");
+    let is_text = flag(chart, "text");
+    Some(ShellOptions::Chart(ChartOptions {
+        file,
+        from,
+        to,
+        threads,
+        is_text,
+    }))
+}
+
+fn flag(found: &ArgMatches<'_>, id: &str) -> bool
+    ensures { IsFlagIn (rows_of (found_of found.now)) id.now result }
+{
+    found.get_flag(id)
+}
+
+fn text<'a>(found: &ArgMatches<'a>, id: &str) -> Option<&'a str>
+    ensures { option_map (λ text. text.now) result ≡ first_of id.now (rows_of (found_of found.now)) }
+{
+    found.get_str(id)
+}
+
+fn number(found: &ArgMatches<'_>, id: &str) -> Option<u32>
+    ensures number { IfSome result (λ n. number_in (rows_of (found_of found.now)) id.now ≡ Some n) }
+    ensures found { IsSomeAnd (one_of id.now (rows_of (found_of found.now)))
         (IsUnsignedIn 0 u32.MAX) → IsSome result }
 {
-    run.get_one::<u32>(id)
+    found.get_one::<u32>(id)
 }
 
 #[cfg(test)]
@@ -122,16 +279,16 @@ mod tests {
     use super::*;
     use std::test::Fail;
 
-    fn options_of(alloc: Global, words: &[&str]) -> Result<ShellOptions, Error> {
+    fn words_of(alloc: Global, words: &[&str]) -> Result<Vec<String>, AllocError> {
         let mut strings = Vec::new(alloc);
         for word in words {
             strings.push(String::from_str(alloc, word)?)?;
         }
-        shell_options(alloc, strings.as_slice())
+        Ok(strings)
     }
 
     #[test]
-    fn takes(rt: HostRuntime) -> Result<(), Fail> {
+    fn runs_with_the_limits_that_are_given(rt: HostRuntime) -> Result<(), Fail> {
         let cases: [(&[&str], u32, u32); 5] = [
             (&["l4sh", "run"], 1_048_576, 4_294_967_295),
             (&["l4sh", "run", "--entries", "10"], 10, 4_294_967_295),
@@ -151,7 +308,8 @@ mod tests {
             ),
         ];
         for (words, entries, calls) in cases {
-            let options = options_of(rt.alloc(), words)?;
+            let strings = words_of(rt.alloc(), words)?;
+            let options = shell_options(rt.alloc(), &strings)?;
             assert_eq!(rt;
                 options,
                 ShellOptions::Run { entries, calls },
@@ -162,8 +320,52 @@ mod tests {
     }
 
     #[test]
-    fn refuses(rt: HostRuntime) {
-        let cases: [(&[&str], ErrorKind); 10] = [
+    fn checks_and_charts_the_file_that_is_named(rt: HostRuntime) -> Result<(), Fail> {
+        let strings = words_of(rt.alloc(), &["l4sh", "check", "here/trace"])?;
+        let options = shell_options(rt.alloc(), &strings)?;
+        assert_eq!(rt; options, ShellOptions::Check { file: "here/trace" });
+        let plain = ChartOptions {
+            file: "trace",
+            from: 1,
+            to: 4_294_967_295,
+            threads: None,
+            is_text: false,
+        };
+        let narrow = ChartOptions {
+            file: "trace",
+            from: 7,
+            to: 20,
+            threads: Some("1.1,2.1"),
+            is_text: true,
+        };
+        let cases: [(&[&str], ChartOptions); 2] = [
+            (&["l4sh", "chart", "trace"], plain),
+            (
+                &[
+                    "l4sh",
+                    "chart",
+                    "--from",
+                    "7",
+                    "--to=20",
+                    "--threads",
+                    "1.1,2.1",
+                    "--text",
+                    "trace",
+                ],
+                narrow,
+            ),
+        ];
+        for (words, chart) in cases {
+            let strings = words_of(rt.alloc(), words)?;
+            let options = shell_options(rt.alloc(), &strings)?;
+            assert_eq!(rt; options, ShellOptions::Chart(chart), "at {words:?}");
+        }
+        Ok(())
+    }
+
+    #[test]
+    fn refuses(rt: HostRuntime) -> Result<(), Fail> {
+        let cases: [(&[&str], ErrorKind); 13] = [
             (
                 &["l4sh", "run", "--entries", "1048577"],
                 ErrorKind::ValueValidation,
@@ -178,6 +380,12 @@ mod tests {
             ),
             (&["l4sh", "run", "--entries"], ErrorKind::InvalidValue),
             (&["l4sh", "run", "here"], ErrorKind::UnknownArgument),
+            (&["l4sh", "check"], ErrorKind::MissingRequiredArgument),
+            (&["l4sh", "check", "one", "two"], ErrorKind::UnknownArgument),
+            (
+                &["l4sh", "chart", "--text"],
+                ErrorKind::MissingRequiredArgument,
+            ),
             (&["l4sh", "walk"], ErrorKind::InvalidSubcommand),
             (&["l4sh", "--entries", "10"], ErrorKind::UnknownArgument),
             (&["l4sh"], ErrorKind::MissingSubcommand),
@@ -185,10 +393,12 @@ mod tests {
             (&["l4sh", "help"], ErrorKind::DisplayHelp),
         ];
         for (words, kind) in cases {
-            match options_of(rt.alloc(), words) {
+            let strings = words_of(rt.alloc(), words)?;
+            match shell_options(rt.alloc(), &strings) {
                 Ok(options) => assert!(rt; false, "{options:?} at {words:?}"),
                 Err(error) => assert_eq!(rt; error.kind(), kind, "at {words:?}"),
             }
         }
+        Ok(())
     }
 }

@@ -1,5 +1,5 @@
 -- What goes out, piece by piece and frame by frame.
-use Rattle.std.proofs.Common.{◌≡◌, ℕ, ◌+◌, ◌-◌, ◌≤◌, ◌<◌, List, [], ◌∷◌, ◌++◌, Option, Some, None, Bool, true, false, IsTrue, take, drop, length, map, refl, sym, ap, ◌∙◌, subst, arith}
+use Rattle.std.proofs.Common.{◌≡◌, ℕ, ◌+◌, ◌≤◌, ◌<◌, List, [], ◌∷◌, ◌++◌, Option, Some, None, Bool, true, false, IsTrue, take, drop, length, map, refl, sym, ap, ◌∙◌, subst, arith}
 use Rattle.std.proofs.Math.Seq.{drop-nil, take-add, take-append-add, take-length}
 use Rattle.std.proofs.lemmas.List.{append_assoc, append-nil, length-drop, length-append, take_all, drop-drop}
 use Rattle.std.proofs.KnownBytes.{Appends-trans, Appends-nil}

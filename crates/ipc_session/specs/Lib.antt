@@ -1,3 +1,6 @@
 pub mod Answers
+pub mod Keeping
+pub mod Laws
+pub mod Reading
 pub mod Serving
 pub mod Taking

@@ -49,8 +49,10 @@ abbrev pub is_whole_at : Option WriteEnding → Bool
 is_whole_at (Some ending.Device) = false
 is_whole_at _ = true
 
--- a desk gave frames and then was told something more; of their text so many bytes went out, in order, and all of them where it is whole
-pub record Wrote (old new : Option (List TakeCall)) (before after : Option (List ℕ)) (last : List TakeCall) (is_whole : Bool) : Type 0 where
+-- a desk gave frames and then was told something more; of their text so many bytes went out, in order, and all of them where it is
+-- whole
+pub record Wrote (old new : Option (List TakeCall)) (before after : Option (List ℕ)) (last : List TakeCall)
+    (is_whole : Bool) : Type 0 where
   pub frames : List Frame
   pub tells : TellsTaken old new (map Gave frames ++ last)
   pub count : ℕ

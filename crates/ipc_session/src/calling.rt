@@ -25,7 +25,8 @@ pub trait CallDesk {
 
     /// Stops phases of a target, and posts the answer.
     fn exreg(&mut self, thread: ThreadId, target: ThreadId, control: Control) -> Result<(), u8>
-        ensures told { TellsMore (log self.old) (log self.new) (Asks (request.Exreg thread target control) (entered_told result) ∷ []) };
+        ensures told { TellsMore (log self.old) (log self.new)
+            (Asks (request.Exreg thread target control) (entered_told result) ∷ []) };
 
     /// Posts a refusal or a fault.
     fn post(&mut self, frame: Frame)

@@ -23,7 +23,10 @@ pub struct Open {
 
 impl Open {
     /// A gate of so many turns.
-    pub fn new(turns: u64) -> Open {
+    pub fn new(turns: u64) -> Open
+        ensures turns { result.turns ≡ turns }
+        ensures going { result.stopped ≡ false }
+    {
         Open {
             turns,
             stopped: false,

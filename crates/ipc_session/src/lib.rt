@@ -2,8 +2,11 @@
 #![tactic(auto)]
 
 mod calling;
+mod deed;
 mod ending;
 mod gate;
+mod laws;
+mod memory;
 mod next;
 mod reading;
 mod serving;
@@ -15,8 +18,11 @@ mod working;
 mod writing;
 
 pub use calling::CallDesk;
+pub use deed::Deed;
 pub use ending::{Ending, WriteEnding};
 pub use gate::{Gate, Open};
+pub use laws::answers_determine;
+pub use memory::MemoryDesk;
 pub use next::Next;
 pub use reading::read_loop;
 pub use taking::TakeDesk;

@@ -1,9 +1,8 @@
-ghost use Rattle.std.specs.Prelude.{◌≡◌, ◌<◌, List, [], ◌∷◌, true};
-ghost use Rattle.std.specs.Io.KnownBytes.{IsAtEnd};
-ghost use Rattle.ipc_connection.specs.Desk.{Breaks, DeskCall, TellsMore};
-ghost use Rattle.ipc_session.specs.Serving.{EndsSo, IsEnd, Read};
-ghost use Rattle.ipc_session.specs.declared.turned.Turned.{Turned as AnyTurn};
-ghost use Rattle.ipc_session.specs.declared.turned.Turned.TheVariants.{On};
+ghost use Rattle.std.specs.Prelude.{◌≡◌, ◌≢◌, ◌<◌, ℕ, List, [], ◌∷◌, ◌++◌, Option, true};
+ghost use Rattle.std.specs.Io.KnownBytes.{Consumes, IsAtEnd};
+ghost use Rattle.ipc_calls.specs.Taking.{Holds};
+ghost use Rattle.ipc_connection.specs.Desk.{Breaks};
+ghost use Rattle.ipc_session.specs.Reading.{EndsSo, HasServed, Log, ServesPiece};
 ghost use Rattle.ipc_connection.specs.declared.stage.Stage.TheVariants as at_stage;
 
 use crate::calling::CallDesk;
@@ -22,16 +21,17 @@ const PIECE: usize = 8192;
 /// Reads frames and serves each by the rules of a connection, one after the other, and then tells the desk once that the
 /// thread ends. While the desk makes it wait nothing is read.
 ///
-/// S2 comes only where the device failed in this run, S3 only where the gate said stop, and EndOfInput only where the input was
-/// read to its end. S1, S5 and BYE come by what was heard last.
+/// S1, S5 and BYE come by what the bytes read say or what the desk answered, and nothing behind that is served. S2 comes only
+/// where the device failed in this run, S3 only where the gate said stop, and EndOfInput only where the input was read to its
+/// end, between two frames. At these three ends all whole frames of the bytes read were served.
 pub fn read_loop<P: PortRead, D: CallDesk, G: Gate>(
     alloc: Global,
     port: &mut P,
     desk: &mut D,
     gate: &mut G,
 ) -> Ending
-    ensures calls { (turned : AnyTurn) × EndsSo result turned
-        × Read (D.log desk.old) (D.log desk.new) (On at_stage.Greeting) turned (Breaks ∷ []) }
+    ensures calls { (bytes : List ℕ) × Consumes (P.remaining port.old) (P.remaining port.new) bytes
+        × EndsSo result (D.log desk.old) (D.log desk.new) bytes (P.remaining port.new) (Breaks ∷ []) }
     ensures device { result ≡ Ending.Device → P.failures port.old < P.failures port.new }
     ensures stopped { result ≡ Ending.Stopped → G.stopped gate.new ≡ true }
     ensures ended { result ≡ Ending.EndOfInput → IsAtEnd (P.remaining port.new) }
@@ -48,8 +48,8 @@ fn read_all<P: PortRead, D: CallDesk, G: Gate>(
     desk: &mut D,
     gate: &mut G,
 ) -> Ending
-    ensures calls { (turned : AnyTurn) × EndsSo result turned
-        × Read (D.log desk.old) (D.log desk.new) (On at_stage.Greeting) turned [] }
+    ensures calls { (bytes : List ℕ) × Consumes (P.remaining port.old) (P.remaining port.new) bytes
+        × EndsSo result (D.log desk.old) (D.log desk.new) bytes (P.remaining port.new) [] }
     ensures device { result ≡ Ending.Device → P.failures port.old < P.failures port.new }
     ensures stopped { result ≡ Ending.Stopped → G.stopped gate.new ≡ true }
     ensures ended { result ≡ Ending.EndOfInput → IsAtEnd (P.remaining port.new) }
@@ -75,15 +75,17 @@ fn read_all<P: PortRead, D: CallDesk, G: Gate>(
 
 /// The input is at its end: inside a frame that is a fault.
 fn end_input<D: CallDesk>(desk: &mut D, decoder: &mut CallDecoder, stage: Stage) -> Ending
-    ensures calls { (turned : AnyTurn) × EndsSo result turned
-        × Read (D.log desk.old) (D.log desk.new) (On stage) turned [] }
+    requires { stage ≢ Stage.Finished }
+    ensures calls { (log : Log) (bytes left : List ℕ) (input : Option (List ℕ))
+        → Holds decoder.old left → HasServed log (D.log desk.old) at_stage.Greeting bytes left stage [] → IsAtEnd input
+        → EndsSo result log (D.log desk.new) bytes input [] }
     ensures only { result ≡ Ending.Device → ⊥ }
     ensures never { result ≡ Ending.Stopped → ⊥ }
 {
     match decoder.finish() {
         Ok(()) => Ending::EndOfInput,
         Err(fault) => match serve(desk, stage, Err(fault)) {
-            Turned::On(_) => Ending::EndOfInput,
+            Turned::On(_) => Ending::Protocol,
             Turned::Over(ending) => ending,
         },
     }
@@ -96,8 +98,9 @@ fn serve_piece<D: CallDesk>(
     stage: Stage,
     piece: &[u8],
 ) -> Turned
-    ensures served { Read (D.log desk.old) (D.log desk.new) (On stage) result [] }
-    ensures ends { IsEnd result }
+    requires { stage ≢ Stage.Finished }
+    ensures { (left : List ℕ) (input : Option (List ℕ)) → Holds decoder.old left
+        → ServesPiece (D.log desk.old) (D.log desk.new) stage (left ++ piece.now) input decoder.new result }
 {
     let mut stage = stage;
     let mut rest = piece;
@@ -114,7 +117,8 @@ fn serve_piece<D: CallDesk>(
             Turned::On(next) => stage = next,
             Turned::Over(ending) => return Turned::Over(ending),
         }
-        rest = rest.get(used..).unwrap_or(&[]);
+        let (_, behind) = rest.split_at(used.min(rest.len()));
+        rest = behind;
     }
     Turned::On(stage)
 }

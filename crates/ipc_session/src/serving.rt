@@ -1,7 +1,7 @@
 ghost use Rattle.std.specs.Prelude.{◌≡◌, List, [], ◌∷◌};
 ghost use Rattle.ipc_connection.specs.Desk.{DeskCall, TellsMore, Asks, left_to_post};
 ghost use Rattle.ipc_connection.specs.declared.asking.Request.TheVariants as request;
-ghost use Rattle.ipc_session.specs.Serving.{Serves, ServesBy, ending_by, ends_with};
+ghost use Rattle.ipc_session.specs.Serving.{IsAnswer, Serves, ServesBy, ending_by, ends_with};
 
 use crate::calling::CallDesk;
 use crate::ending::Ending;
@@ -52,7 +52,8 @@ fn serve_request<D: CallDesk>(desk: &mut D, stage: Stage, request: Request) -> T
 }
 
 fn ask_open<D: CallDesk>(desk: &mut D, number: u16) -> Told
-    ensures { TellsMore (D.log desk.old) (D.log desk.new) (Asks (request.Open number) result ∷ []) }
+    ensures told { TellsMore (D.log desk.old) (D.log desk.new) (Asks (request.Open number) result ∷ []) }
+    ensures answer { IsAnswer (request.Open number) result }
 {
     match desk.open(number) {
         Ok(thread) => Told::Opened(thread),
@@ -61,7 +62,8 @@ fn ask_open<D: CallDesk>(desk: &mut D, number: u16) -> Told
 }
 
 fn ask_call<D: CallDesk>(desk: &mut D, thread: ThreadId, call: Call) -> Told
-    ensures { TellsMore (D.log desk.old) (D.log desk.new) (Asks (request.Enter thread call) result ∷ []) }
+    ensures told { TellsMore (D.log desk.old) (D.log desk.new) (Asks (request.Enter thread call) result ∷ []) }
+    ensures answer { IsAnswer (request.Enter thread call) result }
 {
     match desk.call(thread, call) {
         Ok(()) => Told::Entered,
@@ -75,7 +77,8 @@ fn ask_exreg<D: CallDesk>(
     target: ThreadId,
     control: Control,
 ) -> Told
-    ensures { TellsMore (D.log desk.old) (D.log desk.new) (Asks (request.Exreg thread target control) result ∷ []) }
+    ensures told { TellsMore (D.log desk.old) (D.log desk.new) (Asks (request.Exreg thread target control) result ∷ []) }
+    ensures answer { IsAnswer (request.Exreg thread target control) result }
 {
     match desk.exreg(thread, target, control) {
         Ok(()) => Told::Entered,

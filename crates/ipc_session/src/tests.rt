@@ -1,91 +1,77 @@
 ghost use Rattle.std.specs.Prelude.{◌≡◌, None, true};
 
 use super::*;
+use ipc_connection::Request;
 use ipc_frame::Frame;
-use ipc_history::Call;
 use ipc_ports::{MemoryPort, PortFault, PortRead, Trouble};
-use ipc_words::{Control, ThreadId};
+use ipc_words::ThreadId;
 use std::alloc::Global;
 use std::process::Abort;
 
 // The thread 2.1.
 const SECOND: u64 = 0x2_0000_0001;
 
-// HELLO 2, BYE
-const GREETING: [u8; 12] = [0, 0, 0, 3, 1, 0, 2, 0, 0, 0, 1, 4];
-
-// HELLO 2, IPC to 1.1 with tag 1 and the word 7, BYE
-const TALK: [u8; 70] = [
+// HELLO 2; IPC to 1.1 with tag 1 and the word 7; EXREG of 1.1; BYE
+const TALK: [u8; 91] = [
     0, 0, 0, 3, 1, 0, 2, 0, 0, 0, 54, 2, 0, 0, 0, 1, 0, 0, 0, 1, 0, 0, 0, 0, 0, 0, 0, 0, 0, 0, 0,
     0, 0, 0, 0, 0, 0, 0, 0, 0, 0, 0, 0, 0, 0, 0, 0, 1, 0, 0, 0, 0, 0, 0, 0, 0, 0, 0, 0, 0, 0, 0, 0,
-    0, 7, 0, 0, 0, 1, 4,
+    0, 7, 0, 0, 0, 17, 3, 0, 0, 0, 1, 0, 0, 0, 1, 0, 0, 0, 0, 0, 0, 0, 0, 0, 0, 0, 1, 4,
 ];
+
+// What a desk is asked by its frames.
+const DEEDS: [Brief; 3] = [
+    Brief::Opened(2),
+    Brief::Called(1),
+    Brief::Exchanged(0x1_0000_0001),
+];
+
+// From the first of these bytes up to the second, so many of its frames are whole.
+const STRETCHES: [(usize, usize, usize); 4] = [(0, 7, 0), (7, 65, 1), (65, 86, 2), (86, 91, 3)];
 
 // REFUSED 2, REFUSED 1
 const ANSWERS: [u8; 12] = [0, 0, 0, 2, 0x84, 2, 0, 0, 0, 2, 0x84, 1];
 
-// What a desk was asked.
+// More turns than any run here takes.
+const ENOUGH: u64 = 1000;
+
+// What a desk was asked or told, as far as it matters here.
 #[derive(Clone, Copy, PartialEq, Eq, Debug)]
-enum Deed {
+enum Brief {
     Opened(u16),
     // A call, by the count of its words.
     Called(usize),
-    Exchanged(ThreadId),
-    // A fault, by its class and number.
-    Posted(u8, u8),
+    // ExchangeRegisters, by the word of its target.
+    Exchanged(u64),
+    // REFUSED, by its number.
+    Refused(u8),
+    // FAULT, by its class and number.
+    Faulted(u8, u8),
     Broke,
+    Other,
 }
 
-// Keeps what it was asked, and refuses each call with this number, if there is one.
-#[derive(Drop)]
-struct FakeDesk {
-    deeds: Vec<Deed>,
-    refusal: Option<u8>,
-}
-
-impl FakeDesk {
-    fn new(alloc: Global, refusal: Option<u8>) -> FakeDesk {
-        FakeDesk {
-            deeds: Vec::new(alloc),
-            refusal,
-        }
-    }
-
-    fn note(&mut self, deed: Deed) {
-        let _ = self.deeds.push(deed);
-    }
-
-    fn answer(&self) -> Result<(), u8> {
-        self.refusal.map_or(Ok(()), Err)
+fn brief_of(deed: &Deed) -> Brief {
+    match deed {
+        Deed::Asked(request, _) => brief_request(request),
+        Deed::Posted(frame) => brief_frame(frame),
+        Deed::Broke => Brief::Broke,
     }
 }
 
-impl CallDesk for FakeDesk {
-    ghost log = { λ _. None };
-
-    fn open(&mut self, number: u16) -> Result<ThreadId, u8> {
-        self.note(Deed::Opened(number));
-        Ok(ThreadId::from_word(SECOND))
+fn brief_request(request: &Request) -> Brief {
+    match request {
+        Request::Open(number) => Brief::Opened(*number),
+        Request::Enter(_, call) => Brief::Called(call.words().len()),
+        Request::Exreg { target, .. } => Brief::Exchanged(target.to_word()),
+        _ => Brief::Other,
     }
+}
 
-    fn call(&mut self, _thread: ThreadId, call: Call) -> Result<(), u8> {
-        self.note(Deed::Called(call.words().len()));
-        self.answer()
-    }
-
-    fn exreg(&mut self, _thread: ThreadId, target: ThreadId, _control: Control) -> Result<(), u8> {
-        self.note(Deed::Exchanged(target));
-        self.answer()
-    }
-
-    fn post(&mut self, frame: Frame) {
-        if let Frame::Fault(class, number) = frame {
-            self.note(Deed::Posted(class, number));
-        }
-    }
-
-    fn broke(&mut self) {
-        self.note(Deed::Broke);
+fn brief_frame(frame: &Frame) -> Brief {
+    match frame {
+        Frame::Refused(number) => Brief::Refused(*number),
+        Frame::Fault(class, number) => Brief::Faulted(*class, *number),
+        _ => Brief::Other,
     }
 }
 
@@ -144,34 +130,59 @@ impl PortRead for CutPort<'_> {
     }
 }
 
-// A reader over this port ends so, after these deeds of a desk that refuses so.
+// A reader over this port ends so, after these deeds of a desk that refuses so, and then one break.
 fn assert_read<P: PortRead>(
     rt: &impl Abort,
     alloc: Global,
     port: &mut P,
-    refusal: Option<u8>,
+    refusal: Option<(u64, u8)>,
     turns: u64,
     end: Ending,
-    deeds: &[Deed],
+    deeds: &[Brief],
 ) {
-    let mut desk = FakeDesk::new(alloc, refusal);
+    let desk = MemoryDesk::new(alloc, ThreadId::from_word(SECOND));
+    let mut desk = match refusal {
+        Some((request, number)) => desk.with_refusal(request, number),
+        None => desk,
+    };
     let ending = read_loop(alloc, port, &mut desk, &mut Open::new(turns));
     assert_eq!(rt; ending, end);
-    assert_eq!(rt; desk.deeds.as_slice(), deeds);
+    let kept = desk.deeds().expect(rt, "there is memory for all deeds");
+    let (last, front) = kept.split_last().expect(rt, "it breaks");
+    assert_eq!(rt; brief_of(last), Brief::Broke);
+    assert_eq!(rt; front.len(), deeds.len());
+    for (deed, want) in front.iter().zip(deeds) {
+        assert_eq!(rt; brief_of(deed), *want);
+    }
 }
 
-// A writer of two answers, byte by byte, whose write of this number fails, ends so, and this much is written.
+// A reader of TALK, byte by byte, whose read of this number meets trouble, ends so after these deeds.
+fn assert_troubled(
+    rt: &impl Abort,
+    alloc: Global,
+    call: usize,
+    trouble: Trouble,
+    end: Ending,
+    deeds: &[Brief],
+) {
+    let port = MemoryPort::new(alloc, &TALK).byte_by_byte();
+    let mut port = port.with_trouble(call as u64, trouble);
+    assert_read(rt, alloc, &mut port, None, ENOUGH, end, deeds);
+}
+
+// A writer of two answers, byte by byte, whose write of this number meets trouble, ends so, and this much is written.
 fn assert_written(
     rt: &impl Abort,
     alloc: Global,
-    fails_at: u64,
+    call: usize,
+    trouble: Trouble,
     turns: u64,
     end: WriteEnding,
     text: &[u8],
 ) {
     let mut port = MemoryPort::new(alloc, &[])
         .byte_by_byte()
-        .with_trouble(fails_at, Trouble::Fails);
+        .with_trouble(call as u64, trouble);
     let mut desk = FakeAnswers { left: 2, breaks: 0 };
     let ending = write_loop(&mut port, &mut desk, &mut Open::new(turns));
     assert_eq!(rt; ending, end);
@@ -181,119 +192,136 @@ fn assert_written(
 
 #[test]
 fn what_is_heard_is_served(rt: HostRuntime) {
-    let call = &TALK[7..65];
-    let cases: [(&[u8], Option<u8>, Ending, &[Deed]); 6] = [
+    let cases: [(&[u8], Ending, &[Brief]); 7] = [
+        (&TALK, Ending::Bye, &DEEDS),
+        (&TALK[..86], Ending::EndOfInput, &DEEDS),
+        (&[], Ending::EndOfInput, &[]),
+        (&TALK[..4], Ending::Protocol, &[Brief::Faulted(b'F', 9)]),
+        // a call before HELLO
+        (&TALK[7..], Ending::Protocol, &[Brief::Faulted(b'S', 1)]),
+        // HELLO twice, and then BYE
         (
-            &GREETING,
-            None,
-            Ending::Bye,
-            &[Deed::Opened(2), Deed::Broke],
-        ),
-        (
-            &TALK[..7],
-            None,
-            Ending::EndOfInput,
-            &[Deed::Opened(2), Deed::Broke],
-        ),
-        (
-            &TALK[..4],
-            None,
+            &[0, 0, 0, 3, 1, 0, 2, 0, 0, 0, 3, 1, 0, 2, 0, 0, 0, 1, 4],
             Ending::Protocol,
-            &[Deed::Posted(b'F', 9), Deed::Broke],
+            &[Brief::Opened(2), Brief::Faulted(b'S', 1)],
         ),
+        // an unknown kind, and then HELLO
         (
-            call,
-            None,
+            &[0, 0, 0, 1, 9, 0, 0, 0, 3, 1, 0, 2],
             Ending::Protocol,
-            &[Deed::Posted(b'S', 1), Deed::Broke],
-        ),
-        (
-            &TALK,
-            Some(6),
-            Ending::Gone,
-            &[Deed::Opened(2), Deed::Called(1), Deed::Broke],
-        ),
-        (
-            &TALK,
-            Some(7),
-            Ending::Protocol,
-            &[
-                Deed::Opened(2),
-                Deed::Called(1),
-                Deed::Posted(b'K', 7),
-                Deed::Broke,
-            ],
+            &[Brief::Faulted(b'F', 2)],
         ),
     ];
     let alloc = rt.alloc();
-    for (input, refusal, end, deeds) in cases {
+    for (input, end, deeds) in cases {
         let mut port = MemoryPort::new(alloc, input);
-        assert_read(&rt, alloc, &mut port, refusal, 100, end, deeds);
+        assert_read(&rt, alloc, &mut port, None, ENOUGH, end, deeds);
         let mut slow = MemoryPort::new(alloc, input).byte_by_byte();
-        assert_read(&rt, alloc, &mut slow, refusal, 100, end, deeds);
+        assert_read(&rt, alloc, &mut slow, None, ENOUGH, end, deeds);
+    }
+}
+
+#[test]
+fn each_refusal_is_told_in_its_place(rt: HostRuntime) {
+    let [opened, called, exchanged] = DEEDS;
+    let busy = Brief::Faulted(b'K', 7);
+    let refused = Brief::Refused(2);
+    let cases: [(u64, u8, Ending, &[Brief]); 9] = [
+        (0, 6, Ending::Gone, &[opened]),
+        (1, 6, Ending::Gone, &[opened, called]),
+        (2, 6, Ending::Gone, &DEEDS),
+        (0, 7, Ending::Protocol, &[opened, busy]),
+        (1, 7, Ending::Protocol, &[opened, called, busy]),
+        (2, 7, Ending::Protocol, &[opened, called, exchanged, busy]),
+        // without a thread the call has no place
+        (
+            0,
+            2,
+            Ending::Protocol,
+            &[opened, refused, Brief::Faulted(b'S', 1)],
+        ),
+        (1, 2, Ending::Bye, &[opened, called, refused, exchanged]),
+        (2, 2, Ending::Bye, &[opened, called, exchanged, refused]),
+    ];
+    let alloc = rt.alloc();
+    for (place, number, end, deeds) in cases {
+        let mut port = MemoryPort::new(alloc, &TALK);
+        let refusal = Some((place, number));
+        assert_read(&rt, alloc, &mut port, refusal, ENOUGH, end, deeds);
     }
 }
 
 #[test]
 fn each_cut_in_two_is_served_alike(rt: HostRuntime) {
-    let deeds = [Deed::Opened(2), Deed::Called(1), Deed::Broke];
     for cut in 0..TALK.len() {
         let (front, back) = TALK.split_at(cut);
         let mut port = CutPort { front, back };
-        assert_read(&rt, rt.alloc(), &mut port, None, 100, Ending::Bye, &deeds);
+        let alloc = rt.alloc();
+        assert_read(&rt, alloc, &mut port, None, ENOUGH, Ending::Bye, &DEEDS);
     }
 }
 
 #[test]
 fn a_reader_ends_where_a_read_fails(rt: HostRuntime) {
     let alloc = rt.alloc();
-    for call in 0..12 {
-        let port = MemoryPort::new(alloc, &GREETING).byte_by_byte();
-        let mut port = port.with_trouble(call, Trouble::Fails);
-        if call < 7 {
-            assert_read(
-                &rt,
-                alloc,
-                &mut port,
-                None,
-                100,
-                Ending::Device,
-                &[Deed::Broke],
-            );
-        } else {
-            let deeds = [Deed::Opened(2), Deed::Broke];
-            assert_read(&rt, alloc, &mut port, None, 100, Ending::Device, &deeds);
+    for (from, to, count) in STRETCHES {
+        let deeds = &DEEDS[..count];
+        for call in from..to {
+            assert_troubled(&rt, alloc, call, Trouble::Fails, Ending::Device, deeds);
+            let thousand = Trouble::Interrupted(1000);
+            assert_troubled(&rt, alloc, call, thousand, Ending::Device, deeds);
+            let fewer = Trouble::Interrupted(999);
+            assert_troubled(&rt, alloc, call, fewer, Ending::Bye, &DEEDS);
         }
     }
+    // no read of this number is made
+    assert_troubled(&rt, alloc, 91, Trouble::Fails, Ending::Bye, &DEEDS);
 }
 
 #[test]
 fn a_writer_ends_where_a_write_fails(rt: HostRuntime) {
     let alloc = rt.alloc();
-    for count in 0..ANSWERS.len() {
-        let (text, _) = ANSWERS.split_at(count);
-        assert_written(&rt, alloc, count as u64, 100, WriteEnding::Device, text);
+    let fewer = Trouble::Interrupted(999);
+    for call in 0..ANSWERS.len() {
+        let (text, _) = ANSWERS.split_at(call);
+        for trouble in [Trouble::Fails, Trouble::Interrupted(1000)] {
+            let end = WriteEnding::Device;
+            assert_written(&rt, alloc, call, trouble, ENOUGH, end, text);
+        }
+        assert_written(&rt, alloc, call, fewer, ENOUGH, WriteEnding::Gone, &ANSWERS);
     }
-    assert_written(&rt, alloc, 12, 100, WriteEnding::Gone, &ANSWERS);
+    // no write of this number is made
+    let end = WriteEnding::Gone;
+    assert_written(&rt, alloc, 12, Trouble::Fails, ENOUGH, end, &ANSWERS);
 }
 
 #[test]
-fn a_gate_stops_a_loop(rt: HostRuntime) {
+fn a_gate_stops_a_loop_at_each_turn(rt: HostRuntime) {
     let alloc = rt.alloc();
-    for turns in 0..2 {
-        let mut port = MemoryPort::new(alloc, &GREETING).byte_by_byte();
-        assert_read(
-            &rt,
-            alloc,
-            &mut port,
-            None,
-            turns,
-            Ending::Stopped,
-            &[Deed::Broke],
-        );
-        let (text, _) = ANSWERS.split_at(6 * turns as usize);
-        assert_written(&rt, alloc, 100, turns, WriteEnding::Stopped, text);
+    for (from, to, count) in STRETCHES {
+        for turns in from..to {
+            let mut port = MemoryPort::new(alloc, &TALK).byte_by_byte();
+            let deeds = &DEEDS[..count];
+            let end = Ending::Stopped;
+            assert_read(&rt, alloc, &mut port, None, turns as u64, end, deeds);
+        }
     }
+    let mut port = MemoryPort::new(alloc, &TALK).byte_by_byte();
+    assert_read(&rt, alloc, &mut port, None, 91, Ending::Bye, &DEEDS);
+    for turns in 0..3 {
+        let (text, _) = ANSWERS.split_at(6 * turns);
+        let end = WriteEnding::Stopped;
+        assert_written(&rt, alloc, 12, Trouble::Fails, turns as u64, end, text);
+    }
+    assert_written(
+        &rt,
+        alloc,
+        12,
+        Trouble::Fails,
+        3,
+        WriteEnding::Gone,
+        &ANSWERS,
+    );
 }
 
 // So many parts of a transfer are to be moved.

@@ -5,7 +5,7 @@ use Rattle.ipc_trace.specs.Traces.{IsRead, trace_text}
 use Rattle.ipc_trace.specs.declared.fault.TraceEnd.TheVariants as end
 use Rattle.ipc_shell.specs.Checking.{PrintsVerdict, HasLines, ChecksTrace}
 use Rattle.ipc_shell.specs.declared.exit.Exit.{Exit}
-use Rattle.ipc_shell.specs.declared.exit.Exit.TheVariants.{Done, BadLine, NoMemory, DeviceFailed, Illegal}
+use Rattle.ipc_shell.specs.declared.exit.Exit.TheVariants.{Done, BadLine, NoMemory, DeviceFailed, Illegal, BadThreads}
 
 pub torn_lines : (bytes left : Option (List ℕ)) (entries : List Entry) → IsRead bytes left entries end.Torn → IfSome bytes (λ bytes. HasLines bytes entries true)
 torn_lines None left entries read = tt
@@ -28,5 +28,6 @@ judged None before after entries is_torn exit lines prints = tt
 judged (Some bytes) before after entries is_torn Done lines prints = (entries, (is_torn, lines, prints))
 judged (Some bytes) before after entries is_torn Illegal lines prints = (entries, (is_torn, lines, prints))
 judged (Some bytes) before after entries is_torn (BadLine number) lines prints = absurd prints
+judged (Some bytes) before after entries is_torn BadThreads lines prints = absurd prints
 judged (Some bytes) before after entries is_torn NoMemory lines prints = prints
 judged (Some bytes) before after entries is_torn DeviceFailed lines prints = inr (entries, (is_torn, lines, prints))

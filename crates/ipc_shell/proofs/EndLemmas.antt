@@ -8,7 +8,7 @@ use Rattle.ipc_shell.specs.Reading.{ReadsLine}
 use Rattle.ipc_shell.specs.Running.{TakesLines, StopsAfterLines, RunsScript, EndsLine}
 use Rattle.ipc_shell.specs.declared.lines.NextLine.TheVariants as next
 use Rattle.ipc_shell.specs.declared.exit.Exit.{Exit}
-use Rattle.ipc_shell.specs.declared.exit.Exit.TheVariants.{Done, BadLine, NoMemory, DeviceFailed, Illegal}
+use Rattle.ipc_shell.specs.declared.exit.Exit.TheVariants.{Done, BadLine, NoMemory, DeviceFailed, Illegal, BadThreads}
 use Rattle.ipc_shell.proofs.RunLemmas.{TakenOf, SoFar, takes_more, takes_filled}
 
 -- what stands written after some lines, and no more
@@ -74,6 +74,7 @@ ends_at_line start kernel new line number before now after (Some bytes) None lef
 ends_at_line start kernel new line number before now after (Some bytes) (Some rest) None exit some so_far read ended = absurd read
 ends_at_line start kernel new line number before now after (Some bytes) (Some rest) (Some left) Done some so_far read ended = absurd ended
 ends_at_line start kernel new line number before now after (Some bytes) (Some rest) (Some left) Illegal some so_far read ended = absurd ended
+ends_at_line start kernel new line number before now after (Some bytes) (Some rest) (Some left) BadThreads some so_far read ended = absurd ended
 ends_at_line start kernel new line number before now after (Some bytes) (Some rest) (Some left) (BadLine n) some so_far read (same, no_command, none) =
     let text = so_far.text in (
       text,

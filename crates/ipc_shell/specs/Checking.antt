@@ -14,7 +14,7 @@ use Rattle.ipc_check.specs.declared.checker.Verdict.TheVariants.{Yes, No}
 use Rattle.ipc_trace.specs.Traces.{IsNoEntry, trace_text}
 use Rattle.ipc_shell.specs.Printing.{ended}
 use Rattle.ipc_shell.specs.declared.exit.Exit.{Exit}
-use Rattle.ipc_shell.specs.declared.exit.Exit.TheVariants.{Done, BadLine, NoMemory, DeviceFailed, Illegal}
+use Rattle.ipc_shell.specs.declared.exit.Exit.TheVariants.{Done, BadLine, NoMemory, DeviceFailed, Illegal, BadThreads}
 
 -- what the rules ask for
 abbrev pub expected_text : Option Output → List ℕ
@@ -49,6 +49,7 @@ abbrev pub PrintsVerdict : List Entry → Bool → Option (List ℕ) → Option 
 PrintsVerdict entries is_torn before after Done = IsVerdict entries Yes × Appends before after (verdict_text Yes is_torn)
 PrintsVerdict entries is_torn before after Illegal = (index : ℕ) × ((expected : Option Output) × IsVerdict entries (No index expected) × Appends before after (verdict_text (No index expected) is_torn))
 PrintsVerdict entries is_torn before after (BadLine number) = ⊥
+PrintsVerdict entries is_torn before after BadThreads = ⊥
 PrintsVerdict entries is_torn before after NoMemory = Appends before after []
 PrintsVerdict entries is_torn before after DeviceFailed = (verdict : Verdict) × IsVerdict entries verdict × ((front : List ℕ) × ((back : List ℕ) × (verdict_text verdict is_torn ≡ front ++ back) × Appends before after front))
 
@@ -79,6 +80,7 @@ abbrev pub ChecksBytes : List ℕ → Option (List ℕ) → Option (List ℕ) �
 ChecksBytes bytes before after Done = PrintsTrace bytes before after Done
 ChecksBytes bytes before after Illegal = PrintsTrace bytes before after Illegal
 ChecksBytes bytes before after (BadLine number) = HasBadLine bytes number × Appends before after []
+ChecksBytes bytes before after BadThreads = ⊥
 ChecksBytes bytes before after NoMemory = Appends before after []
 ChecksBytes bytes before after DeviceFailed = Appends before after [] ⊎ PrintsTrace bytes before after DeviceFailed
 

@@ -2,7 +2,7 @@
 use Rattle.std.specs.Prelude.{ℕ, List, ◌++◌, codes}
 use Rattle.std.specs.Fmt.{decimal}
 use Rattle.ipc_shell.specs.declared.exit.Exit.{Exit}
-use Rattle.ipc_shell.specs.declared.exit.Exit.TheVariants.{Done, BadLine, NoMemory, DeviceFailed, Illegal}
+use Rattle.ipc_shell.specs.declared.exit.Exit.TheVariants.{Done, BadLine, NoMemory, DeviceFailed, Illegal, BadThreads}
 
 -- the status of the program
 abbrev pub status_of : Exit → ℕ
@@ -11,6 +11,7 @@ status_of (BadLine number) = 2
 status_of NoMemory = 1
 status_of DeviceFailed = 1
 status_of Illegal = 3
+status_of BadThreads = 2
 
 -- the words for standard error
 abbrev pub exit_text : Exit → List ℕ
@@ -19,3 +20,4 @@ exit_text (BadLine number) = codes "l4sh: bad line " ++ decimal number
 exit_text NoMemory = codes "l4sh: no memory"
 exit_text DeviceFailed = codes "l4sh: device failed"
 exit_text Illegal = codes "l4sh: illegal"
+exit_text BadThreads = codes "l4sh: bad list of threads"

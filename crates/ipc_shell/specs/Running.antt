@@ -10,7 +10,7 @@ use Rattle.ipc_lines.specs.declared.commands.Command.{Command}
 use Rattle.ipc_shell.specs.Printing.{Answers}
 use Rattle.ipc_shell.specs.ScriptLines.{lines_of, longest_line}
 use Rattle.ipc_shell.specs.declared.exit.Exit.{Exit}
-use Rattle.ipc_shell.specs.declared.exit.Exit.TheVariants.{Done, BadLine, NoMemory, DeviceFailed, Illegal}
+use Rattle.ipc_shell.specs.declared.exit.Exit.TheVariants.{Done, BadLine, NoMemory, DeviceFailed, Illegal, BadThreads}
 
 -- the kernel that a script begins with: more than the greatest limits counts as those
 abbrev pub first_kernel : Limits → KernelParts
@@ -65,6 +65,7 @@ abbrev pub Prints : KernelParts → List (List ℕ) → List ℕ → Exit → Ty
 Prints start lines text Done = (last : KernelParts) × TakesLines start lines text last
 Prints start lines text (BadLine number) = EndsAtBadLine start lines text number
 Prints start lines text Illegal = ⊥
+Prints start lines text BadThreads = ⊥
 Prints start lines text NoMemory = StopsAfterLines start lines text
 Prints start lines text DeviceFailed = (missing : List ℕ) × StopsAfterLines start lines (text ++ missing)
 
@@ -78,5 +79,6 @@ EndsLine old new before after line number None = (text : List ℕ) × RunsLine o
 EndsLine old new before after line number (Some Done) = ⊥
 EndsLine old new before after line number (Some (BadLine n)) = (n ≡ number) × IsNoCommand line × Appends before after []
 EndsLine old new before after line number (Some Illegal) = ⊥
+EndsLine old new before after line number (Some BadThreads) = ⊥
 EndsLine old new before after line number (Some NoMemory) = Appends before after []
 EndsLine old new before after line number (Some DeviceFailed) = (front : List ℕ) × ((back : List ℕ) × RunsLine old line (front ++ back) new × Appends before after front)

@@ -1,6 +1,6 @@
 use std::fmt;
 
-/// How the run of a script, or the check of a trace, ended.
+/// How the run of a script, or the check or the chart of a trace, ended.
 #[derive(Clone, Copy, PartialEq, Eq, Debug)]
 pub enum Exit {
     /// At the end of the script, or with a legal trace: status 0.
@@ -13,6 +13,8 @@ pub enum Exit {
     DeviceFailed,
     /// A trace that was checked is no legal history: status 3.
     Illegal,
+    /// The list of the threads of a chart has a word that is no thread id: status 2.
+    BadThreads,
 }
 
 impl Exit {
@@ -25,7 +27,7 @@ impl Exit {
     {
         match self {
             Exit::Done => 0,
-            Exit::BadLine(_) => 2,
+            Exit::BadLine(_) | Exit::BadThreads => 2,
             Exit::NoMemory | Exit::DeviceFailed => 1,
             Exit::Illegal => 3,
         }
@@ -45,6 +47,7 @@ impl fmt::Display for Exit {
             Exit::NoMemory => write!(f, "l4sh: no memory"),
             Exit::DeviceFailed => write!(f, "l4sh: device failed"),
             Exit::Illegal => write!(f, "l4sh: illegal"),
+            Exit::BadThreads => write!(f, "l4sh: bad list of threads"),
         }
     }
 }

@@ -1,9 +1,13 @@
-//! The program `l4sh`: runs scripts of opens, calls, clock readings, cancels and breaks, and prints what happens.
+//! The program `l4sh`: runs scripts of opens, calls, clock readings, cancels and breaks, and prints what happens; serves connections
+//! whose bytes a script gives; checks the trace of a history; draws it as a chart.
 #![tactic(auto)]
 
 ghost use Rattle.std.specs.Prelude.{◌≡◌, ◌<◌};
 
 mod answering;
+#[cfg(test)]
+mod chart_tests;
+mod charting;
 #[cfg(test)]
 mod check_tests;
 mod checking;
@@ -16,18 +20,27 @@ mod row_tests;
 mod running;
 #[cfg(test)]
 mod tests;
+#[cfg(test)]
+mod transcripts;
+mod wire_commands;
+mod wiring;
 
+use charting::chart_trace;
+use checking::check_trace;
 use clap::error::ErrorKind;
 use exit::Exit;
-use ipc_core::Limits;
+use ipc_core::{Limits, MAX_CALLS, MAX_ENTRIES};
 use ipc_options::{ShellOptions, shell_options};
 use ipc_ports::{Failures, ReadPort, WritePort};
 use running::run_script;
 use std::alloc::Global;
+use std::fs::File;
 use std::io;
 use std::marker::Brand;
 use std::process::ExitCode;
+use std::rt::Files;
 use std::sync::ledger::{Blank, Ledger};
+use wiring::wire_script;
 
 fn main(rt: HostRuntime) -> io::Result<ExitCode> {
     let alloc = rt.alloc();
@@ -37,13 +50,13 @@ fn main(rt: HostRuntime) -> io::Result<ExitCode> {
     let Ok(words) = words.collect::<Vec<String>>(alloc) else {
         return ended(&rt, &Exit::NoMemory);
     };
+    if is_wire(&words) {
+        let exit = wire::<Brand, Brand, _>(&rt, alloc, Blank::new(1), Blank::new(1));
+        return ended(&rt, &exit);
+    }
     match shell_options(alloc, &words) {
-        Ok(ShellOptions::Run { entries, calls }) => {
-            let limits = Limits {
-                entries: u64::from(entries),
-                calls: u64::from(calls),
-            };
-            let exit = run::<Brand, Brand, _>(&rt, alloc, limits, Blank::new(1), Blank::new(1));
+        Ok(options) => {
+            let exit = obey::<Brand, Brand, _>(&rt, alloc, &options, Blank::new(1), Blank::new(1));
             ended(&rt, &exit)
         }
         Err(error) if error.kind() == ErrorKind::OutOfMemory => ended(&rt, &Exit::NoMemory),
@@ -54,11 +67,18 @@ fn main(rt: HostRuntime) -> io::Result<ExitCode> {
     }
 }
 
-/// Runs the script of standard input. Each count of failures begins as a blank.
-fn run<L: Ledger, M: Ledger, R: Input + Print>(
+/// Whether the words are those of `l4sh wire`, which takes no option.
+fn is_wire(words: &[String]) -> bool {
+    match words {
+        [_, word] => word.as_str() == "wire",
+        _ => false,
+    }
+}
+
+/// Serves the connections of the script of standard input. Each count of failures begins as a blank.
+fn wire<L: Ledger, M: Ledger, R: Input + Print>(
     rt: &R,
     alloc: Global,
-    limits: Limits,
     reads: Blank,
     writes: Blank,
 ) -> Exit
@@ -67,9 +87,50 @@ fn run<L: Ledger, M: Ledger, R: Input + Print>(
     requires writes_name { writes.name ≡ M.name }
     requires writes_parts { (writes.parts ≡ M.parts) × (0 < writes.parts) }
 {
+    let limits = Limits {
+        entries: MAX_ENTRIES,
+        calls: MAX_CALLS,
+    };
     let mut reader = ReadPort::new(rt.reader(), Failures::<L>::new(reads));
     let mut writer = WritePort::new(io::writer(rt), Failures::<M>::new(writes));
-    run_script(alloc, limits, &mut reader, &mut writer)
+    wire_script(alloc, limits, &mut reader, &mut writer)
+}
+
+/// Does what was asked for. The counts of failures, of the reader and of the writer, begin as blanks.
+fn obey<L: Ledger, M: Ledger, R: Files + Input + Print>(
+    rt: &R,
+    alloc: Global,
+    options: &ShellOptions<'_>,
+    reads: Blank,
+    writes: Blank,
+) -> Exit
+    requires reads_name { reads.name ≡ L.name }
+    requires reads_parts { (reads.parts ≡ L.parts) × (0 < reads.parts) }
+    requires writes_name { writes.name ≡ M.name }
+    requires writes_parts { (writes.parts ≡ M.parts) × (0 < writes.parts) }
+{
+    let reads = Failures::<L>::new(reads);
+    let mut writer = WritePort::new(io::writer(rt), Failures::<M>::new(writes));
+    match options {
+        ShellOptions::Run { entries, calls } => {
+            let limits = Limits {
+                entries: u64::from(*entries),
+                calls: u64::from(*calls),
+            };
+            let mut reader = ReadPort::new(rt.reader(), reads);
+            run_script(alloc, limits, &mut reader, &mut writer)
+        }
+        ShellOptions::Check { file } => match File::open(rt, *file) {
+            Ok(trace) => check_trace(alloc, &mut ReadPort::new(trace, reads), &mut writer),
+            Err(_) => Exit::DeviceFailed,
+        },
+        ShellOptions::Chart(chart) => match File::open(rt, chart.file) {
+            Ok(trace) => {
+                chart_trace(alloc, chart, &mut ReadPort::new(trace, reads), &mut writer)
+            }
+            Err(_) => Exit::DeviceFailed,
+        },
+    }
 }
 
 /// Says on standard error why a run ended, where it did not end well, and answers its status.

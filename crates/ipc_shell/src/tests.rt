@@ -32,14 +32,6 @@ fn assert_ends<P: PortRead>(
     assert_eq!(rt; writer.output(), Some(text.as_bytes()));
 }
 
-// A script ends at its end, and prints this text after its opens of 1 and 2 in space 1.
-fn assert_two(rt: &impl Abort, alloc: Global, script: &str, text: &str) -> Result<(), Fail> {
-    let script = format!(in alloc; "open 1 1\nopen 2 1\n{script}")?;
-    let text = format!(in alloc; "opened 1.1 1\n= 1.1\nopened 2.1 1\n= 2.1\n{text}")?;
-    assert_run(rt, alloc, script.as_str(), Exit::Done, text.as_str());
-    Ok(())
-}
-
 const TWO_OPENS: &str = "open 1 1\nopen 2 1\n";
 
 const TWO_ANSWERS: &str = "opened 1.1 1\n= 1.1\nopened 2.1 1\n= 2.1\n";
@@ -47,81 +39,6 @@ const TWO_ANSWERS: &str = "opened 1.1 1\n= 1.1\nopened 2.1 1\n= 2.1\n";
 #[test]
 fn an_empty_script_prints_nothing(rt: HostRuntime) {
     assert_run(&rt, rt.alloc(), "", Exit::Done, "");
-}
-
-#[test]
-fn a_send_meets_the_open_receive_that_waits(rt: HostRuntime) -> Result<(), Fail> {
-    let script =
-        "call 1.1 nil any 0x0 0x0 nil - - -\ncall 2.1 1.1 nil 0x0 0x1 nil 0x7 - -\ntake 1.1\ntake 2.1\n";
-    let text =
-        "called 1 1.1 nil any 0x0 0x0 nil - - -\n= 1\ncalled 2 2.1 1.1 nil 0x0 0x1 nil 0x7 - -\nbegan 2 1\nended 2 1\n= 2\n= 1 0x1 2.1 nil 0x0 0x7 -\n= 2 0x0 nil nil 0x0 - -\n";
-    assert_two(&rt, rt.alloc(), script, text)
-}
-
-#[test]
-fn a_receive_meets_the_send_that_waits(rt: HostRuntime) -> Result<(), Fail> {
-    let script = "call 2.1 1.1 nil 0x0 0x1 nil 0x7 - -\ncall 1.1 nil any 0x0 0x0 nil - - -\n";
-    let text =
-        "called 1 2.1 1.1 nil 0x0 0x1 nil 0x7 - -\n= 1\ncalled 2 1.1 nil any 0x0 0x0 nil - - -\nbegan 1 2\nended 1 2\n= 2\n";
-    assert_two(&rt, rt.alloc(), script, text)
-}
-
-#[test]
-fn a_send_with_no_time_fails_without_a_receiver(rt: HostRuntime) -> Result<(), Fail> {
-    let script = "call 2.1 1.1 nil 0x4000000 0x1 nil 0x7 - -\n";
-    let text = "called 1 2.1 1.1 nil 0x4000000 0x1 nil 0x7 - -\nfailed 1 0x2\n= 1\n";
-    assert_two(&rt, rt.alloc(), script, text)
-}
-
-#[test]
-fn a_receive_fails_when_it_is_due(rt: HostRuntime) -> Result<(), Fail> {
-    let script = "at 100\ncall 1.1 nil any 0x5 0x0 nil - - -\nat 104\nat 105\ntake 1.1\n";
-    let text =
-        "= ok\nat 100\ncalled 1 1.1 nil any 0x5 0x0 nil - - -\n= 1\n= ok\nat 105\nfailed 1 0x3\n= ok\n= 1 0x8000 nil nil 0x3 - -\n";
-    assert_two(&rt, rt.alloc(), script, text)
-}
-
-#[test]
-fn strings_that_do_not_fit_overflow(rt: HostRuntime) -> Result<(), Fail> {
-    let script =
-        "call 1.1 nil any 0x0 0x0 nil - - 3@0x1000,4@0x2000\ncall 2.1 1.1 nil 0x0 0x100 nil - x616263,x68656c6c6f -\n";
-    let text =
-        "called 1 1.1 nil any 0x0 0x0 nil - - 3@0x1000,4@0x2000\n= 1\ncalled 2 2.1 1.1 nil 0x0 0x100 nil - x616263,x68656c6c6f -\noverflowed 2 1 3\n= 2\n";
-    assert_two(&rt, rt.alloc(), script, text)
-}
-
-#[test]
-fn strings_are_scattered_over_their_buffers(rt: HostRuntime) -> Result<(), Fail> {
-    let script =
-        "call 1.1 nil any 0x0 0x0 nil - - 3@0x1000,2@0x2000+3@0x3000\ncall 2.1 1.1 nil 0x0 0x100 nil - x616263,x68656c6c6f -\nadvance\nadvance\ntake 1.1\n";
-    let text =
-        "called 1 1.1 nil any 0x0 0x0 nil - - 3@0x1000,2@0x2000+3@0x3000\n= 1\ncalled 2 2.1 1.1 nil 0x0 0x100 nil - x616263,x68656c6c6f -\nbegan 2 1\n= 2\nmoved 2 8\nended 2 1\n= moved\n= idle\n= 1 0x100 2.1 nil 0x0 0xc00,0x1000,0x1400,0x2000 0x1000:x616263,0x2000:x6865,0x3000:x6c6c6f\n";
-    assert_two(&rt, rt.alloc(), script, text)
-}
-
-#[test]
-fn opens_are_refused_with_their_numbers(rt: HostRuntime) {
-    let script =
-        "open 256 1\nopen 18446744073709551615 1\nopen 1 1\nopen 1 1\ncall 9.1 nil any 0x0 0x0 nil - - -\n";
-    let text = "! K1\n! K1\nopened 1.1 1\n= 1.1\n! K2\n! K6\n";
-    assert_run(&rt, rt.alloc(), script, Exit::Done, text);
-}
-
-#[test]
-fn a_thread_that_waits_is_busy(rt: HostRuntime) {
-    let script =
-        "open 1 1\ncall 1.1 nil any 0x0 0x0 nil - - -\ntake 1.1\ncall 1.1 nil any 0x0 0x0 nil - - -\nbroke 1.1\nbroke 1.1\n";
-    let text =
-        "opened 1.1 1\n= 1.1\ncalled 1 1.1 nil any 0x0 0x0 nil - - -\n= 1\n= none\n! K7\nbroke 1.1\n= ok\n! K6\n";
-    assert_run(&rt, rt.alloc(), script, Exit::Done, text);
-}
-
-#[test]
-fn exchange_registers_stops_a_receive(rt: HostRuntime) -> Result<(), Fail> {
-    let script = "call 1.1 nil 1.1 0x0 0x0 nil - - -\nexreg 2.1 1.1 0x2\n";
-    let text =
-        "called 1 1.1 nil 1.1 0x0 0x0 nil - - -\n= 1\nexreg 2.1 1.1 0x2\nfailed 1 0x7\n= 1.1 0x2 0x0\n";
-    assert_two(&rt, rt.alloc(), script, text)
 }
 
 #[test]

@@ -1,7 +1,7 @@
 -- What the slots answer.
 use Rattle.std.proofs.lemmas.Bool.{false≢true, false_from_ne_true}
-use Rattle.std.proofs.lemmas.Option.{none-some, same_Some, cond_some}
-use Rattle.std.proofs.Common.{◌≡◌, refl, sym, ap, ◌∙◌, cond, ℕ, ◌-◌, ◌==◌, ◌||◌, eqb-true, if◌then◌else◌, Bool, true, false, List, [], ◌∷◌, Option, Some, None, filter_map, find, is_some, option_map, option_and_then}
+use Rattle.std.proofs.lemmas.Option.{none-some}
+use Rattle.std.proofs.Common.{◌≡◌, refl, sym, ap, ◌∙◌, cond, ℕ, ◌==◌, ◌||◌, eqb-true, if◌then◌else◌, Bool, true, false, List, [], ◌∷◌, Option, Some, None, filter_map, find, is_some, option_map, option_and_then}
 use Rattle.std.specs.List.{list_any, cons_option}
 use Rattle.std.specs.Option.{option_map_or, option_or}
 use Rattle.ipc_words.specs.ThreadId.{number_of}
@@ -21,21 +21,19 @@ use Rattle.ipc_history.specs.declared.entry.Output.TheVariants.{Aborted}
 use Rattle.ipc_laws.proofs.Endings.{live_opened}
 use Rattle.ipc_laws.proofs.LiveThreads.{taken}
 use Rattle.ipc_laws.proofs.PhaseParts.{passes_parts}
-use Rattle.ipc_laws.proofs.Tests.{not_both}
 use Rattle.ipc_slots.specs.ExchangeRegisters.{in_receive_phase, in_send_phase}
 use Rattle.ipc_slots.specs.Rules.{IsStanding, due_of, first_number, in_receive_by, in_send_by, partner_by, rule_of}
-use Rattle.ipc_slots.specs.Slots.{Stands, live_at, live_of, slot_at, slot_of}
+use Rattle.ipc_slots.specs.Slots.{live_at, live_of, slot_of}
 use Rattle.ipc_slots.specs.Standings.{standing_of}
 use Rattle.ipc_slots.specs.declared.rules.Rule.TheVariants.{Expires, Copies}
 use Rattle.ipc_slots.specs.declared.slot.Standing.{Standing}
-use Rattle.ipc_slots.specs.declared.slots.Slots.{Slots}
 use Rattle.ipc_slots.proofs.Finds.{find_passes}
 use Rattle.ipc_slots.proofs.Holders.{live_of_at, live_of_is}
 use Rattle.ipc_slots.proofs.Stops.{in_receive_is, in_send_is}
 
 -- Timeouts
 
-due_now : (P : List Entry) (n : ℕ) → due_of P (now P) n ≡ timeout_of P n
+pub due_now : (P : List Entry) (n : ℕ) → due_of P (now P) n ≡ timeout_of P n
 unfolding due_of timeout_of is_due
 due_now P n = refl
 

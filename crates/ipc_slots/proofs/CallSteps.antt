@@ -83,6 +83,9 @@ module _ (P : List Entry) (n t : ℕ) (call : CallParts) (legal : Legal P) (foll
   unfolding call_at
   here = front.call ∙ rw (eq-eqb n n refl) refl
 
+  pub new_caller : caller_of Q n ≡ t
+  new_caller = caller_at Q n t call here
+
   before_it : before_call Q n ≡ P
   unfolding before_call
   before_it = front.calls ∙ rw (eq-eqb n n refl) (append-nil P)

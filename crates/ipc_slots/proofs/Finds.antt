@@ -1,5 +1,5 @@
 -- What is found in a list, and what is not.
-use Rattle.std.proofs.Common.{◌≡◌, refl, sym, ap, ◌∙◌, subst, ℕ, ◌==◌, eqb-true, Bool, true, false, ◌||◌, List, [], ◌∷◌, Option, Some, None, find, arith}
+use Rattle.std.proofs.Common.{◌≡◌, refl, ap, subst, ℕ, ◌==◌, eqb-true, Bool, true, false, ◌||◌, List, [], ◌∷◌, Some, None, find, arith}
 use Rattle.std.proofs.lemmas.Bool.{false≢true}
 use Rattle.std.proofs.lemmas.Option.{none-some}
 use Rattle.std.specs.List.{list_any}

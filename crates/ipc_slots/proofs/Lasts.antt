@@ -2,28 +2,26 @@
 use Rattle.std.proofs.lemmas.Option.{none-some, same_Some}
 use Rattle.std.proofs.Common.{◌≡◌, refl, sym, ap, ◌∙◌, suc, ℕ, ◌-◌, ◌==◌, ◌&&◌, ◌||◌, eq-eqb, if◌then◌else◌, Bool, true, false, List, [], ◌∷◌, ◌++◌, length, Option, Some, None, option_map, option_and_then, slice_get, arith}
 use Rattle.std.specs.Option.{option_or}
-use Rattle.ipc_words.specs.Control.{stops_receive, stops_send}
-use Rattle.ipc_history.specs.Words.{last, last_some}
+use Rattle.ipc_history.specs.Words.{last}
 use Rattle.ipc_history.specs.Calls.{caller_of, to_of}
 use Rattle.ipc_history.specs.Threads.{is_live, space_of}
-use Rattle.ipc_history.specs.Phases.{is_over, is_receiving, open_call}
+use Rattle.ipc_history.specs.Phases.{is_over, open_call}
 use Rattle.ipc_history.specs.Matching.{from_specifier, shown_sender}
 use Rattle.ipc_history.specs.NextOutput.{stop, stop_after, turn_after}
 use Rattle.ipc_history.specs.Legal.{Legal, Follows, is_admissible}
 use Rattle.ipc_history.specs.declared.entry.Entry.{Entry}
 use Rattle.ipc_history.specs.declared.entry.Entry.TheVariants.{Given, Written}
 use Rattle.ipc_history.specs.declared.entry.Input.TheVariants.{Exreg}
-use Rattle.ipc_history.specs.declared.entry.Output.{Output}
-use Rattle.ipc_history.specs.declared.entry.Output.TheVariants.{Began, Turned}
+use Rattle.ipc_history.specs.declared.entry.Output.TheVariants.{Began}
 use Rattle.ipc_laws.proofs.Changing.{changes}
 use Rattle.ipc_laws.proofs.Growth.{open_is_called}
-use Rattle.ipc_laws.proofs.Histories.{follows_last, legal_front, named_open}
+use Rattle.ipc_laws.proofs.Histories.{follows_last, named_open}
 use Rattle.ipc_laws.proofs.OneOpen.{free_parts}
 use Rattle.ipc_laws.proofs.Tests.{left}
 use Rattle.ipc_laws.proofs.ThreadChanges.{is_live_push}
 use Rattle.ipc_slots.specs.Steps.{holds, standing_in}
 use Rattle.ipc_slots.specs.Slots.{Stands, slot_at}
-use Rattle.ipc_slots.specs.Rules.{IsStanding, turn_by, turn_of, turned_by, waits_to_receive}
+use Rattle.ipc_slots.specs.Rules.{IsStanding, turn_by, turn_of, turned_by}
 use Rattle.ipc_slots.specs.Standings.{standing_of}
 use Rattle.ipc_slots.specs.declared.slot.Standing.{Standing}
 use Rattle.ipc_slots.specs.declared.slots.Slots.{Slots}

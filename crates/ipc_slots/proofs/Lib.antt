@@ -22,4 +22,7 @@ pub mod Placed
 pub mod Stops
 pub mod Lasts
 pub mod Answering
-pub mod PledgeSums
+pub mod SlotSums
+pub mod Concerns
+pub mod Nears
+pub mod Calms

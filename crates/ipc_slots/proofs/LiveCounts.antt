@@ -1,7 +1,7 @@
 -- How many threads are live after an open and after a break.
 use Rattle.std.proofs.lemmas.Bool.{false_from_ne_true}
 use Rattle.std.proofs.lemmas.List.Sums.{sum_by-cons, sum_by_push, sum_by-le-sum_by}
-use Rattle.std.proofs.Common.{◌≡◌, refl, sym, ℕ, ◌+◌, ◌-◌, ◌≤◌, Bool, true, false, ◌==◌, eq-eqb, eqb-true, cond, List, [], ◌∷◌, ◌++◌, filter_map, Option, Some, None, sum_by, count_by, arith}
+use Rattle.std.proofs.Common.{◌≡◌, refl, sym, ℕ, ◌+◌, ◌-◌, ◌≤◌, Bool, true, false, ◌==◌, eq-eqb, eqb-true, cond, List, [], ◌∷◌, ◌++◌, filter_map, sum_by, count_by, arith}
 use Rattle.std.specs.List.{cons_option}
 use Rattle.ipc_history.specs.Entries.{opened_in, opens}
 use Rattle.ipc_history.specs.Threads.{is_live}

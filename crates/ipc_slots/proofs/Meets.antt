@@ -1,22 +1,20 @@
 -- The receiving call that an open call meets: the open call of the thread that it sends to.
 use Rattle.std.proofs.lemmas.Option.{none-some, same_Some}
-use Rattle.std.proofs.Common.{◌≡◌, refl, sym, ap, ◌∙◌, subst, ℕ, ◌==◌, eqb-true, eq-eqb, Bool, true, false, not, ◌&&◌, ◌||◌, List, Option, Some, None, find, option_map, option_and_then, if◌then◌else◌, arith}
+use Rattle.std.proofs.Common.{◌≡◌, refl, sym, ap, ◌∙◌, subst, ℕ, ◌==◌, eq-eqb, Bool, true, false, not, ◌&&◌, List, Option, Some, None, find, option_map, option_and_then, if◌then◌else◌, arith}
 use Rattle.std.specs.List.{list_any}
-use Rattle.ipc_words.specs.ThreadId.{anythread, anylocalthread}
-use Rattle.ipc_history.specs.Calls.{numbers, caller_of, to_of, strings_of, buffers_of}
+use Rattle.ipc_history.specs.Calls.{numbers, caller_of, to_of}
 use Rattle.ipc_history.specs.Threads.{is_live, space_of}
 use Rattle.ipc_history.specs.Phases.{is_over, open_call, is_sending, is_receiving}
-use Rattle.ipc_history.specs.Matching.{accepts, from_specifier, shown_sender, matches, match_of}
+use Rattle.ipc_history.specs.Matching.{accepts, shown_sender, matches, match_of}
 use Rattle.ipc_history.specs.NextOutput.{meeting, meeting_of}
 use Rattle.ipc_history.specs.Legal.{Legal}
 use Rattle.ipc_history.specs.declared.entry.Entry.{Entry}
-use Rattle.ipc_history.specs.declared.entry.Output.{Output}
 use Rattle.ipc_laws.proofs.Growth.{open_is_called}
 use Rattle.ipc_laws.proofs.OpenCalls.{caller_lives}
-use Rattle.ipc_laws.proofs.PhaseParts.{meets_parts, receives_parts, Meets}
+use Rattle.ipc_laws.proofs.PhaseParts.{meets_parts}
 use Rattle.ipc_laws.proofs.Places.{any_at}
 use Rattle.ipc_laws.proofs.Steps.{number_of_open}
-use Rattle.ipc_laws.proofs.Tests.{both, left, right, not_both}
+use Rattle.ipc_laws.proofs.Tests.{not_both}
 use Rattle.ipc_slots.specs.Rules.{IsStanding, awaits_by, may_meet_by, waits_to_receive, waits_to_send}
 use Rattle.ipc_slots.specs.Slots.{Stands, live_at, live_in, space_in}
 use Rattle.ipc_slots.specs.Standings.{standing_of, phase_of}

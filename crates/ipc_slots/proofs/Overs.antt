@@ -5,7 +5,6 @@ use Rattle.std.specs.Option.{option_map_or}
 use Rattle.ipc_words.specs.ThreadId.{nilthread}
 use Rattle.ipc_history.specs.Entries.{ends}
 use Rattle.ipc_history.specs.Calls.{numbers, caller_of, from_of, to_of, message_size}
-use Rattle.ipc_history.specs.Threads.{now}
 use Rattle.ipc_history.specs.Phases.{is_over, is_sent, receiver_of, sender_of, is_sending, is_transferring, is_receiving, moved_bytes}
 use Rattle.ipc_history.specs.Matching.{accepts, shown_sender, matches, match_of}
 use Rattle.ipc_history.specs.Timing.{is_due_at}
@@ -56,9 +55,12 @@ pub over_no_partner : (P : List Entry) (n : ℕ) → is_over P n ≡ true → pa
 unfolding partner_gone_of partner_gone_code is_send_partner_gone is_receive_partner_gone left_sender_code left_receiver_code
 over_no_partner P n h = rw (over_not_sending P n h, over_not_receiving P n h, never (receiver_of P n) (λ m. is_left P n n m m) (λ m. 0xe + 16 * moved_bytes P n) (λ m. not_left P n n m m h), never (sender_of P n) (λ k. is_left P n k n k) (λ k. 0xf + 16 * moved_bytes P k) (λ k. not_left P n k n k h)) refl
 
-pub over_no_meeting : (P : List Entry) (n : ℕ) → is_over P n ≡ true → meeting_of P n ≡ None
+pub unsent_no_meeting : (P : List Entry) (n : ℕ) → is_sending P n ≡ false → meeting_of P n ≡ None
 unfolding meeting_of match_of matches
-over_no_meeting P n h = rw (find_nothing (λ m. is_sending P n && is_receiving P m && (to_of P n == caller_of P m) && not (to_of P n == caller_of P n) && accepts P m (shown_sender P n)) (numbers P) (λ m. rw (over_not_sending P n h) refl)) refl
+unsent_no_meeting P n h = rw (find_nothing (λ m. is_sending P n && is_receiving P m && (to_of P n == caller_of P m) && not (to_of P n == caller_of P n) && accepts P m (shown_sender P n)) (numbers P) (λ m. rw h refl)) refl
+
+pub over_no_meeting : (P : List Entry) (n : ℕ) → is_over P n ≡ true → meeting_of P n ≡ None
+over_no_meeting P n h = unsent_no_meeting P n (over_not_sending P n h)
 
 pub over_not_due : (P : List Entry) (moment n : ℕ) → is_over P n ≡ true → is_due_at P moment n ≡ false
 unfolding is_due_at

@@ -1,5 +1,5 @@
 -- An entry, or a list of them, that doesn't name a call says nothing of it.
-use Rattle.std.proofs.Common.{◌≡◌, refl, Bool, ◌&&◌, arith, zero-add, ℕ, ◌==◌, false, List, [], ◌∷◌, ◌++◌, None, sum_by, sym, ◌∙◌}
+use Rattle.std.proofs.Common.{◌≡◌, refl, Bool, ◌&&◌, arith, zero-add, ℕ, ◌==◌, false, List, [], ◌∷◌, ◌++◌, None, sum_by, ◌∙◌}
 use Rattle.std.specs.List.{list_any}
 use Rattle.std.proofs.lemmas.List.Sums.{sum_by-cons}
 use Rattle.ipc_history.specs.Words.{first_some, last_some, before}

@@ -1,7 +1,6 @@
 -- What ExchangeRegisters stops, and which phase it answers, by what is kept of a call.
 use Rattle.std.proofs.lemmas.Bool.{true_from_ne_false}
-use Rattle.std.proofs.lemmas.Option.{none-some}
-use Rattle.std.proofs.Common.{◌≡◌, refl, sym, ap, ◌∙◌, ℕ, ◌==◌, ◌||◌, ◌&&◌, not, eq-eqb, if◌then◌else◌, Bool, true, false, List, Option, Some, None, option_map, option_and_then, arith}
+use Rattle.std.proofs.Common.{◌≡◌, refl, sym, ap, ◌∙◌, ℕ, ◌==◌, ◌||◌, ◌&&◌, not, eq-eqb, if◌then◌else◌, Bool, true, false, List, Option, Some, None, option_map, option_and_then}
 use Rattle.std.specs.List.{list_any}
 use Rattle.std.specs.Option.{option_map_or, option_or}
 use Rattle.ipc_words.specs.ThreadId.{nilthread}

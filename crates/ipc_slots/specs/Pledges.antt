@@ -1,4 +1,4 @@
--- What is pledged for an open call, by what is kept of it.
+-- What is counted of an open call, by what is kept of it: itself, and what is pledged for it.
 use Rattle.std.specs.Prelude.{ℕ, ◌+◌, ◌*◌, ◌/◌, ◌==◌, if◌then◌else◌}
 use Rattle.std.specs.Option.{option_map_or}
 use Rattle.ipc_words.specs.ThreadId.{nilthread}
@@ -12,3 +12,7 @@ pledge_by s = 5 + 2 * (if s.to == nilthread then 0 else (s.size + 65535) / 65536
 
 abbrev pub pledge_in : Slot → ℕ
 pledge_in slot = option_map_or pledge_by (standing_in slot) 0
+
+-- how many open calls a slot holds
+abbrev pub open_in : Slot → ℕ
+open_in slot = option_map_or (λ s. 1) (standing_in slot) 0

@@ -1,9 +1,9 @@
 ghost use Rattle.std.specs.Prelude.{◌≡◌, ◌<◌, sum_by};
 ghost use Rattle.ipc_history.specs.Calls.{numbers};
 ghost use Rattle.ipc_history.specs.Legal.{Legal};
-ghost use Rattle.ipc_laws.specs.Counting.{pledge_of};
+ghost use Rattle.ipc_laws.specs.Counting.{open_calls, pledge_of};
 ghost use Rattle.ipc_slots.specs.Slots.{Stands, slot_at};
-ghost use Rattle.ipc_slots.specs.Pledges.{pledge_by, pledge_in};
+ghost use Rattle.ipc_slots.specs.Pledges.{open_in, pledge_by, pledge_in};
 
 use crate::slot::Standing;
 use crate::slots::Slots;
@@ -29,10 +29,35 @@ impl Slots {
         requires { place < 256 }
         ensures { result ≡ pledge_in (slot_at self.now.table place) }
     {
-        match self.call_at(place) {
+        match self.held(place) {
             Some(call) => call.pledge(),
             None => 0,
         }
+    }
+
+    /// How many open calls the slot at a place holds: one or none.
+    fn open_at(&self, place: usize) -> usize
+        requires { place < 256 }
+        ensures { result ≡ open_in (slot_at self.now.table place) }
+    {
+        match self.held(place) {
+            Some(_) => 1,
+            None => 0,
+        }
+    }
+
+    /// How many calls are open.
+    pub fn open_calls(&self, entries: &[Entry]) -> usize
+        requires legal { Legal entries.now }
+        requires stands { Stands entries.now self.now }
+        ensures { result ≡ open_calls entries.now }
+    {
+        let _ = entries;
+        let mut total = 0;
+        for place in 0..self.top {
+            total += self.open_at(place);
+        }
+        total
     }
 
     /// The entries that are pledged for the open calls.

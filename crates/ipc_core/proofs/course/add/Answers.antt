@@ -1,5 +1,4 @@
-use Rattle.std.proofs.Common.{◌≡◌, sym, ap, ◌∙◌, subst, false, IfSome, Some}
-use Rattle.ipc_core.specs.Finished.{with_name}
+use Rattle.std.proofs.Common.{◌≡◌, sym, ap, ◌∙◌, false}
 use Rattle.ipc_core.specs.Outcomes.{is_among}
 use Rattle.ipc_core.proofs.FinishedLaws.{new_name}
 use Rattle.ipc_core.proofs.course.add.Goals as goal

@@ -7,13 +7,13 @@ use Rattle.ipc_options.proofs.shell.number.Goals as goal
 
 pub returns-clause-number : goal.returns-clause-number
 returns-clause-number c =
-    let rows = one_text-rows (found_of c.args.run.now) c.args.id.now in
-    read_number _ (λ bs r. ParsesUnsigned 32 10 bs r × ExplainsUnsignedError 10 bs r × HasUnsignedDigitsIfOk bs r)
+    let rows = one_text-rows (found_of c.args.found.now) c.args.id.now in
+    read_number _ 32 (λ bs r. ParsesUnsigned 32 10 bs r × ExplainsUnsignedError 10 bs r × HasUnsignedDigitsIfOk bs r)
     _ c.get_one.result (λ t r reads. reads.0)
     (λ none. c.get_one.ensures.none (rows ∙ none)) (λ t some. c.get_one.ensures.value t (rows ∙ some))
 
 pub returns-clause-found : goal.returns-clause-found
 returns-clause-found c =
-    let rows = one_text-rows (found_of c.args.run.now) c.args.id.now in
+    let rows = one_text-rows (found_of c.args.found.now) c.args.id.now in
     found_number _ (λ bs r. ParsesUnsigned 32 10 bs r × ExplainsUnsignedError 10 bs r × HasUnsignedDigitsIfOk bs r)
     _ c.get_one.result (λ t r reads. reads.0) (λ t some. c.get_one.ensures.value t (rows ∙ some))

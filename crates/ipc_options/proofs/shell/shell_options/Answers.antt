@@ -12,7 +12,7 @@ returns-in_err-matches-clause-taken c =
     (ap (λ (app : App). takes app (map string_bytes c.args.words.now)) c.in_ok-command.ensures ∙ taken.0))
 
 -- an `Ok` of the parse comes where the words have no fault
-pub returns-in-Some-clause-faultless : goal.returns-in-Some-clause-faultless
-returns-in-Some-clause-faultless c =
+pub returns-in-Some-chosen-clause-faultless : goal.returns-in-Some-chosen-clause-faultless
+returns-in-Some-chosen-clause-faultless c =
     ap (λ (app : App). fault_of app (map string_bytes c.args.words.now)) (sym c.in_ok-command.ensures)
     ∙ c.in_ok-matches.ensures.kinds (ap is_simple_and_free c.in_ok-command.ensures)

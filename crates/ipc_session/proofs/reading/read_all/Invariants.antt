@@ -1,13 +1,18 @@
--- What was heard so far was served, and the device has not failed.
-use Rattle.std.proofs.Common.{◌≡◌, []}
+-- All whole frames of the bytes read were served, and the device has not failed.
+use Rattle.std.proofs.Common.{◌≡◌, ℕ, List, []}
+use Rattle.std.specs.Io.KnownBytes.{Consumes}
+use Rattle.ipc_calls.specs.Taking.{Holds}
 use Rattle.ipc_connection.specs.declared.stage.Stage.TheVariants.{Greeting}
-use Rattle.ipc_session.specs.Serving.{Read}
-use Rattle.ipc_session.specs.declared.turned.Turned.TheVariants.{On}
+use Rattle.ipc_session.specs.Reading.{HasServed}
 use Rattle.ipc_session.proofs.reading.read_all.Given as goal
 
 abbrev pub invariant-turns : goal.invariant-turns
 invariant-turns g l = record {
-  read : Read (g.D.CallDesk.log l.fn.desk) (g.D.CallDesk.log l.desk) (On Greeting) (On l.stage) [];
+  bytes : List ℕ;
+  left : List ℕ;
+  consumed : Consumes (g.P.PortRead.remaining l.fn.port) (g.P.PortRead.remaining l.port) bytes;
+  holds : Holds l.decoder left;
+  served : HasServed (g.D.CallDesk.log l.fn.desk) (g.D.CallDesk.log l.desk) Greeting bytes left l.stage [];
   kept : g.P.PortRead.failures l.port ≡ g.P.PortRead.failures l.fn.port;
 }
 

@@ -1,11 +1,11 @@
--- What was heard of the piece so far was served.
-use Rattle.std.proofs.Common.{[]}
-use Rattle.ipc_session.specs.Serving.{Read}
-use Rattle.ipc_session.specs.declared.turned.Turned.TheVariants.{On}
+-- Of the piece behind whatever bytes were held, the frames so far were served.
+use Rattle.std.proofs.Common.{ℕ, List, ◌++◌}
+use Rattle.ipc_calls.specs.Taking.{Holds}
+use Rattle.ipc_session.proofs.ReadLemmas.{Progress}
 use Rattle.ipc_session.proofs.reading.serve_piece.Given as goal
 
 abbrev pub invariant-frames : goal.invariant-frames
-invariant-frames g l = Read (g.D.CallDesk.log l.fn.desk) (g.D.CallDesk.log l.desk) (On l.fn.stage) (On l.stage) []
+invariant-frames g l = (left : List ℕ) → Holds l.fn.decoder left → Progress (g.D.CallDesk.log l.fn.desk) (g.D.CallDesk.log l.desk) l.fn.stage (left ++ l.fn.piece) l.stage l.decoder l.rest l.turns
 
 abbrev pub decreases-frames : goal.decreases-frames
 decreases-frames g l = l.turns

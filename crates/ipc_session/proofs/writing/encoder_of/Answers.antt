@@ -1,7 +1,4 @@
-use Rattle.std.proofs.Common.{◌≡◌, sym, ◌∙◌}
-use Rattle.std.proofs.lemmas.List.{append-nil}
-use Rattle.ipc_frame.specs.Frames.{spelling}
-use Rattle.ipc_session.specs.Taking.{text_of}
+use Rattle.std.proofs.Common.{sym, ◌∙◌}
 use Rattle.ipc_session.proofs.WriteLemmas.{text_of_one}
 use Rattle.ipc_session.proofs.writing.encoder_of.Goals as goal
 

@@ -1,4 +1,4 @@
-use Rattle.std.proofs.Common.{◌≡◌, ◌∙◌, rules}
+use Rattle.std.proofs.Common.{◌∙◌, rules}
 use Rattle.ipc_session.proofs.WriteLemmas.{nothing_left, writes_more, writes_all, writes_part}
 use Rattle.ipc_session.proofs.writing.write_encoder.Goals as goal
 

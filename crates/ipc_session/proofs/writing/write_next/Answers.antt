@@ -1,4 +1,4 @@
-use Rattle.ipc_session.proofs.WriteLemmas.{wrote_gone, wrote_given, wrote_given_part}
+use Rattle.ipc_session.proofs.WriteLemmas.{wrote_gone, wrote_given}
 use Rattle.ipc_session.proofs.writing.write_next.Goals as goal
 
 pub returns-in_default-clause-text : goal.returns-in_default-clause-text

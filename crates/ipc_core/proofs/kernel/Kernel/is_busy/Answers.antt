@@ -1,4 +1,4 @@
-use Rattle.std.proofs.Common.{◌≡◌, ap, ◌∙◌, subst, false, true, is_some}
+use Rattle.std.proofs.Common.{◌≡◌, ◌∙◌, subst, false, true, is_some}
 use Rattle.ipc_history.specs.Phases.{open_call}
 use Rattle.ipc_core.specs.Outcomes.{has_untaken, is_busy}
 use Rattle.ipc_core.proofs.RefusalLemmas.{busy_by_call, busy_by_outcome}

@@ -1,5 +1,4 @@
-use Rattle.std.proofs.Common.{◌≡◌, ap, ◌∙◌, length}
-use Rattle.ipc_core.specs.KernelParts.{KernelParts}
+use Rattle.std.proofs.Common.{ap, ◌∙◌}
 use Rattle.ipc_core.specs.Obeying.{rested}
 use Rattle.ipc_core.proofs.Obeyed.{take_obeys}
 use Rattle.ipc_core.proofs.Resting.{begins_rested, rests}

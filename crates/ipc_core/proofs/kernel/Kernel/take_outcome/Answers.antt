@@ -1,6 +1,4 @@
-use Rattle.std.proofs.Common.{refl, sym, ap, ◌∙◌, arith}
-use Rattle.ipc_core.specs.Books.{AreBooks}
-use Rattle.ipc_core.proofs.BookLemmas.{books_took, room_to_take}
+use Rattle.ipc_core.proofs.BookLemmas.{room_to_take}
 use Rattle.ipc_core.proofs.Resting.{seen_took, takes_one}
 use Rattle.ipc_core.proofs.kernel.Kernel.take_outcome.Goals as goal
 

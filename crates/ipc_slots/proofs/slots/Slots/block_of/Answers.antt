@@ -1,4 +1,4 @@
-use Rattle.std.proofs.Common.{sym, ap, ◌∙◌, refl}
+use Rattle.std.proofs.Common.{sym, ◌∙◌}
 use Rattle.ipc_slots.proofs.Answering.{bytes_of, moving_open}
 use Rattle.ipc_slots.proofs.Lasts.{slot_call}
 use Rattle.ipc_slots.proofs.slots.Slots.block_of.Goals as goal

@@ -1,4 +1,4 @@
-use Rattle.std.proofs.Common.{sym, ◌∙◌, refl}
+use Rattle.std.proofs.Common.{sym, ◌∙◌}
 use Rattle.ipc_slots.proofs.Meets.{met_law}
 use Rattle.ipc_slots.proofs.slots.Slots.met_by.Goals as goal
 

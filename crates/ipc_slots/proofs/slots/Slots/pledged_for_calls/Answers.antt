@@ -1,4 +1,4 @@
-use Rattle.ipc_slots.proofs.PledgeSums.{pledges_told}
+use Rattle.ipc_slots.proofs.SlotSums.{pledges_told}
 use Rattle.ipc_slots.proofs.slots.Slots.pledged_for_calls.Goals as goal
 
 pub returns : goal.returns

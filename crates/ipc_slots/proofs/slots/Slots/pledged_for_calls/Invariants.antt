@@ -1,7 +1,7 @@
 use Rattle.std.proofs.Common.{◌≡◌, ◌≤◌, ◌*◌, ◌^◌}
 use Rattle.ipc_slots.specs.Pledges.{pledge_in}
 use Rattle.ipc_slots.specs.Slots.{slot_at}
-use Rattle.ipc_slots.proofs.PledgeSums.{sum_below}
+use Rattle.ipc_slots.proofs.SlotSums.{sum_below}
 use Rattle.ipc_slots.proofs.slots.Slots.pledged_for_calls.Given as goal
 
 abbrev pub invariant-loop-place : goal.invariant-loop-place

@@ -1,4 +1,4 @@
-use Rattle.std.proofs.Common.{sym, ap, ◌∙◌}
+use Rattle.std.proofs.Common.{sym, ◌∙◌}
 use Rattle.ipc_slots.proofs.Lasts.{exreg_live, stop_last}
 use Rattle.ipc_slots.proofs.slots.Slots.stop_exreg.Goals as goal
 

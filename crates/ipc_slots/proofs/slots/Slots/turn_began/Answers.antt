@@ -1,6 +1,6 @@
 use Rattle.std.proofs.Common.{sym, ap, ◌∙◌}
 use Rattle.ipc_slots.specs.Rules.{turn_of}
-use Rattle.ipc_slots.proofs.Lasts.{began_open, began_turn, slot_call, slot_full}
+use Rattle.ipc_slots.proofs.Lasts.{began_open, began_turn, slot_call}
 use Rattle.ipc_slots.proofs.slots.Slots.turn_began.Goals as goal
 
 pub place_of-place-requires-clause-open : goal.place_of-place-requires-clause-open

@@ -1,4 +1,4 @@
-use Rattle.std.proofs.Common.{sym, ap, ◌∙◌, true, eq-eqb}
+use Rattle.std.proofs.Common.{sym, ◌∙◌}
 use Rattle.ipc_slots.proofs.Lasts.{turn_law}
 use Rattle.ipc_slots.proofs.slots.Slots.turn_of.Goals as goal
 

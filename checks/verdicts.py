@@ -1,0 +1,69 @@
+#!/usr/bin/env python3
+"""Runs the built l4sh over scripts, and judges what they print as traces.
+
+    checks/verdicts.py examples/*.l4
+
+The entry lines that a script prints, without its answer lines, are a trace of which `l4sh check` says `yes`. With one output line left
+out that is not the last line, it says `no N EXPECTED`, where N is the place of that line and EXPECTED the line itself. With the last
+newline left out, it says `torn` behind its verdict on the lines before. Anything else is told, and the status is then 1."""
+import os
+import subprocess
+import sys
+import tempfile
+
+ROOT = os.path.dirname(os.path.dirname(os.path.abspath(__file__)))
+OUTPUTS = (b"began ", b"turned ", b"ended ", b"overflowed ", b"aborted ", b"failed ")
+
+
+def l4sh(words, given=b""):
+    done = subprocess.run([f"{ROOT}/l4sh", *words], input=given, capture_output=True)
+    return done.returncode, done.stdout
+
+
+def trace_of(script):
+    """The entry lines that a script prints."""
+    _, printed = l4sh(["run"], script)
+    return [line for line in printed.splitlines(keepends=True) if not line.startswith((b"=", b"!"))]
+
+
+def verdict(lines, room):
+    """The exit status of a check of these lines, and what it prints."""
+    path = os.path.join(room, "trace")
+    with open(path, "wb") as file:
+        file.write(b"".join(lines))
+    return l4sh(["check", path])
+
+
+def wrongs_of(lines, room):
+    """How many verdicts on these lines were looked at, and what is wrong with them."""
+    wrongs = []
+    if verdict(lines, room) != (0, b"yes\n"):
+        wrongs.append("the trace is not judged yes")
+    if verdict(lines[:-1] + [lines[-1][:-1]], room)[1] != verdict(lines[:-1], room)[1] + b"torn\n":
+        wrongs.append("a torn last line is not told, or changes the verdict")
+    places = [place for place, line in enumerate(lines[:-1]) if line.startswith(OUTPUTS)]
+    for place in places:
+        wanted = (3, b"no %d %s" % (place + 1, lines[place]))
+        if verdict(lines[:place] + lines[place + 1 :], room) != wanted:
+            wrongs.append(f"line {place + 1} is left out, and not expected")
+    return len(places) + 2, wrongs
+
+
+def main():
+    count = failed = 0
+    with tempfile.TemporaryDirectory() as room:
+        for path in sys.argv[1:]:
+            with open(path, "rb") as file:
+                lines = trace_of(file.read())
+            if not lines:
+                continue
+            more, wrongs = wrongs_of(lines, room)
+            count += more
+            failed += len(wrongs)
+            for wrong in wrongs:
+                print(f"{path}: {wrong}")
+    print(f"{count} verdicts, {failed} wrong")
+    return 1 if failed or not count else 0
+
+
+sys.exit(main())

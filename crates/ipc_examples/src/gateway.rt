@@ -1,0 +1,32 @@
+//! A gateway before the key-value server: passes each request on in the name of who asked, so that the server answers them itself.
+use crate::calling::Server;
+use crate::messages::{message, message_of};
+use crate::trouble::Trouble;
+use ipc_client::{Buffers, Client, Timeout};
+use ipc_ports::{PortRead, PortWrite};
+use ipc_words::ThreadId;
+use std::alloc::Global;
+use std::sync::Wait;
+
+/// Passes requests on for ever.
+///
+/// The message that goes on has the flag p and shows who asked as its VirtualSender. Who asked waits for the gateway alone. When the
+/// transfer begins that wait is turned to the server, so the answer does not come through here.
+pub fn serve<I: PortRead, O: PortWrite, R: Wait>(
+    rt: &R,
+    alloc: Global,
+    client: &mut Client<I, O>,
+) -> Result<(), Trouble> {
+    for _ in rt.forever() {
+        let never = Timeout::never();
+        let next = client.receive(ThreadId::ANYTHREAD, never, Buffers::none(alloc))?;
+        if let Ok(request) = message_of(next)? {
+            let mut passed = message(alloc, request.label, &request.words)?;
+            passed.tag = passed.tag.with_propagated(true);
+            passed.sender = request.sender;
+            // a request that nobody takes is dropped
+            let _ = message_of(client.send(Server::KeyValue.thread(), passed, never)?)?;
+        }
+    }
+    Ok(())
+}

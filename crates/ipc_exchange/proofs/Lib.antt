@@ -1,0 +1,16 @@
+pub mod OutcomeCall
+pub mod KernelLaws
+pub mod Opening
+pub mod LiveLemmas
+pub mod OutputLemmas
+pub mod ReadyLemmas
+pub mod RestedLemmas
+pub mod TellingLemmas
+pub mod DeliverLemmas
+pub mod ServingLemmas
+pub mod PiecesLemmas
+pub mod FeedLemmas
+pub mod ExchangeLemmas
+pub mod Along
+pub mod CallLemmas
+pub mod OnceLemmas

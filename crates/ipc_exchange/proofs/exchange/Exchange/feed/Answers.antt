@@ -1,0 +1,20 @@
+use Rattle.std.proofs.Common.{sym, ◌∙◌, arith}
+use Rattle.ipc_exchange.specs.Exchange.{ExchangeSlots}
+use Rattle.ipc_exchange.proofs.ExchangeLemmas.{ended_there, feed_happens, feed_keeps, not_fed, skipped_stage}
+use Rattle.ipc_exchange.proofs.exchange.Exchange.feed.Goals as goal
+use Rattle.ipc_exchange.proofs.exchange.Exchange.feed.Goals.{then-connection-eq0-via-then-connection-eq0, then-connection-eq0-via-else-connection-eq0+then-connection-len}
+
+pub returns-then-connection-eq0-clause-happened : goal.returns-then-connection-eq0-clause-happened
+returns-then-connection-eq0-clause-happened c = rw (← c.self.view_is) (λ place at. not_fed (record { service = c.self.inside.service; decoders = c.self.inside.decoders.items }) place c.args.piece.now (elim c.then-connection-eq0.branch [
+  | then-connection-eq0-via-then-connection-eq0 w ↦ absurd (omega (arith, at, w.if-connection-eq0.true))
+  | then-connection-eq0-via-else-connection-eq0+then-connection-len w ↦ skipped_stage (record { service = c.self.inside.service; decoders = c.self.inside.decoders.items }) c.args.connection place at (omega (arith, w.if-connection-len.true, w.len.ensures))
+]))
+
+pub returns-then-has_finished-clause-happened : goal.returns-then-has_finished-clause-happened
+returns-then-has_finished-clause-happened c = rw (← c.self.view_is) (λ place at. not_fed (record { service = c.self.inside.service; decoders = c.self.inside.decoders.items }) place c.args.piece.now (ended_there c.self.inside.service.slots c.args.connection place at (sym c.has_finished.ensures ∙ c.if-has_finished.true)))
+
+pub invariant_of-self : goal.invariant_of-self
+invariant_of-self c = feed_keeps (record { service = c.self.inside.service; decoders = c.self.inside.decoders.items }) c.args.connection c.feed_line.new.service c.feed_line.new.decoder c.index_mut.result.now c.self.invariant c.if-connection-eq0.false (omega (arith, c.if-connection-len.false, c.len.ensures)) (sym c.has_finished.ensures ∙ c.if-has_finished.false) c.index_mut.ensures.value c.args.piece.now c.feed_line.ensures.fed c.feed_line.ensures.ready
+
+pub returns-clause-happened : goal.returns-clause-happened
+returns-clause-happened c = λ place at. feed_happens (record { service = c.self.inside.service; decoders = c.self.inside.decoders.items }) c.args.connection c.feed_line.new.service c.feed_line.new.decoder c.index_mut.result.now c.self.invariant c.if-connection-eq0.false (omega (arith, c.if-connection-len.false, c.len.ensures)) (sym c.has_finished.ensures ∙ c.if-has_finished.false) c.index_mut.ensures.value c.args.piece.now c.feed_line.ensures.fed c.args.self.now place c.self.view_is at

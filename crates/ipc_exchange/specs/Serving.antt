@@ -1,0 +1,100 @@
+-- How what is heard on a connection is served.
+use Rattle.std.specs.Prelude.{◌≡◌, ℕ, List, [], ◌∷◌, ◌++◌, Option, Some, None, Result, Err, slice_set, ◌⊎◌}
+use Rattle.ipc_frame.specs.declared.fault.FrameFault.{FrameFault}
+use Rattle.ipc_frame.specs.declared.fault.FrameFault.TheVariants as fault
+use Rattle.ipc_core.specs.KernelParts.{KernelParts}
+use Rattle.ipc_core.specs.Obeying.{Obeys, MayObey, rested}
+use Rattle.ipc_core.specs.RefusalNumbers.{refusal_number}
+use Rattle.ipc_core.specs.declared.command.Answer.{Answer}
+use Rattle.ipc_core.specs.declared.command.Answer.TheVariants as answer
+use Rattle.ipc_core.specs.declared.command.Command.{Command}
+use Rattle.ipc_core.specs.declared.command.Command.TheVariants as command
+use Rattle.ipc_connection.specs.Asking.{asks}
+use Rattle.ipc_connection.specs.Chain.{Chain}
+use Rattle.ipc_connection.specs.Replying.{next_stage, thread_left}
+use Rattle.ipc_connection.specs.declared.asking.Request.{Request}
+use Rattle.ipc_connection.specs.declared.asking.Request.TheVariants.{Open, Enter, Exreg, Leave, Refuse, Nothing}
+use Rattle.ipc_calls.specs.declared.heard.Heard.{Heard}
+use Rattle.ipc_connection.specs.declared.replying.Told.{Told}
+use Rattle.ipc_connection.specs.declared.replying.Told.TheVariants.{Opened, Entered, Exchanged, Refused, Faulted, Left}
+use Rattle.ipc_exchange.specs.Service.{ServiceParts, delivered, line_at, told_line}
+
+-- whether there is memory for all that is wanted
+pub data Memory : Type 0 where
+  Ample : Memory
+  MayLack : Memory
+
+-- a command that the kernel was given, and its answer
+pub record Asked : Type 0 where
+  pub command : Command
+  pub answer : Answer
+
+abbrev pub AnswersIn : Memory → KernelParts → Command → Answer → KernelParts → Type 0
+AnswersIn Ample old command answer new = Obeys old command answer new
+AnswersIn MayLack old command answer new = MayObey old command answer new
+
+-- a command is obeyed; between commands a kernel is seen at rest
+abbrev pub ObeysIn : Memory → KernelParts → Command → Answer → KernelParts → Type 0
+ObeysIn memory old command answer new =
+    (after : KernelParts) × AnswersIn memory old command answer after × (new ≡ rested after)
+
+-- what a kernel's answer tells a connection
+abbrev pub told_of : Answer → Told
+told_of (answer.Opened thread) = Opened thread
+told_of (answer.Entered number) = Entered
+told_of (answer.Exchanged exchanged) = Exchanged exchanged.result exchanged.control exchanged.code
+told_of (answer.Refused refusal) = Refused (refusal_number refusal)
+told_of answer.Done = Entered
+told_of (answer.Advanced advance) = Entered
+told_of (answer.Taken outcome) = Entered
+
+-- a thread, if there is one, ends
+abbrev pub Leaves : Memory → KernelParts → Option ℕ → List Asked → KernelParts → Type 0
+Leaves memory old None asked new = (asked ≡ []) × (new ≡ old)
+Leaves memory old (Some thread) asked new = (answer : Answer) × (asked ≡ record { command = command.Broke thread; answer = answer } ∷ []) × ObeysIn memory old (command.Broke thread) answer new
+
+-- something is told to the line in a place: its frame goes out; where the connection ends so, its
+-- thread ends; then each thread is told its outcome
+pub record Tells (memory : Memory) (old : ServiceParts) (place : ℕ) (told : Told) (asked : List Asked) (new : ServiceParts) : Type 0 where
+  pub kernel : KernelParts
+  pub leaves : Leaves memory old.kernel (thread_left (line_at old.lines place).stage (next_stage (line_at old.lines place).stage told)) asked kernel
+  pub new_is : new ≡ delivered kernel (slice_set old.lines place (told_line told (line_at old.lines place)))
+
+-- the kernel obeys a command for the line in a place, and its answer is told
+pub record Does (memory : Memory) (old : ServiceParts) (place : ℕ) (command : Command) (asked : List Asked) (new : ServiceParts) : Type 0 where
+  pub answer : Answer
+  pub between : KernelParts
+  pub obeys : ObeysIn memory old.kernel command answer between
+  pub rest : List Asked
+  pub asked_is : asked ≡ record { command = command; answer = answer } ∷ rest
+  pub tells : Tells memory (record { kernel = between; lines = old.lines }) place (told_of answer) rest new
+
+-- a command of nobody's is obeyed, and each thread is told its outcome
+abbrev pub Answers : Memory → ServiceParts → Command → Answer → ServiceParts → Type 0
+Answers memory old command answer new =
+    (between : KernelParts) × ObeysIn memory old.kernel command answer between × (new ≡ delivered between old.lines)
+
+abbrev pub DoesAlone : Memory → ServiceParts → Command → ServiceParts → Type 0
+DoesAlone memory old command new = (answer : Answer) × Answers memory old command answer new
+
+-- a request of the line in a place
+abbrev pub ServesBy : Memory → ServiceParts → ℕ → Request → List Asked → ServiceParts → Type 0
+ServesBy memory old place Nothing asked new = (asked ≡ []) × (new ≡ old)
+ServesBy memory old place (Open number) asked new = Does memory old place (command.Open number (line_at old.lines place).space) asked new
+ServesBy memory old place (Enter thread call) asked new = Does memory old place (command.Enter thread call) asked new
+ServesBy memory old place (Exreg thread target control) asked new = Does memory old place (command.Exreg thread target control) asked new
+ServesBy memory old place Leave asked new = Tells memory old place Left asked new
+ServesBy memory old place (Refuse class number) asked new = Tells memory old place (Faulted class number) asked new
+
+-- what was heard there is served as the stage of the line asks
+unfoldable pub Serves : Memory → ServiceParts → ℕ → Result Heard FrameFault → List Asked → ServiceParts → Type 0
+Serves memory old place heard asked new = ServesBy memory old place (asks (line_at old.lines place).stage heard) asked new
+
+-- one after the other
+abbrev pub ServesAll : Memory → ServiceParts → ℕ → List (Result Heard FrameFault) → List Asked → ServiceParts → Type 0
+ServesAll memory old place heard asked new = Chain (λ before one told after. Serves memory before place one told after) old heard asked new
+
+-- what is heard of what a stream says: all; where a growth was refused the first of it, and then that there is no memory
+abbrev pub Hears : Memory → List (Result Heard FrameFault) → List (Result Heard FrameFault) → Type 0
+Hears Ample said heard = heard ≡ said
+Hears MayLack said heard = (heard ≡ said) ⊎ ((front : List (Result Heard FrameFault)) × (rest : List (Result Heard FrameFault)) × (said ≡ front ++ rest) × (heard ≡ front ++ Err fault.NoMemory ∷ []))

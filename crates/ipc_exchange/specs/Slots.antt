@@ -1,0 +1,178 @@
+-- The lines of a service with their room: how many more answers each can hold without memory.
+use Rattle.std.specs.Prelude.{◌≡◌, ◌≢◌, ℕ, suc, ◌<◌, ◌≤◌, Bool, false, ◌==◌, List, length, map, slice_index_or, slice_set, IsTrue, ⊤, Result, Ok, Err}
+use Rattle.ipc_words.specs.ThreadId.{number_of}
+use Rattle.ipc_frame.specs.declared.fault.FrameFault.{FrameFault}
+use Rattle.ipc_calls.specs.declared.heard.Heard.{Heard}
+use Rattle.ipc_calls.specs.declared.heard.Heard.TheVariants as heard
+use Rattle.ipc_history.specs.Threads.{is_live}
+use Rattle.ipc_core.specs.KernelParts.{KernelParts}
+use Rattle.ipc_core.specs.Laws.{IsSound}
+use Rattle.ipc_core.specs.Obeying.{rested}
+use Rattle.ipc_core.specs.Outcomes.{is_busy}
+use Rattle.ipc_core.specs.declared.command.Command.{Command}
+use Rattle.ipc_core.specs.declared.command.Command.TheVariants.{Open, Enter, Exreg, Broke, At, Advance, Take}
+use Rattle.ipc_connection.specs.declared.asking.Request.{Request}
+use Rattle.ipc_connection.specs.declared.asking.Request.TheVariants as request
+use Rattle.ipc_connection.specs.declared.replying.Told.{Told}
+use Rattle.ipc_connection.specs.declared.replying.Told.TheVariants.{Opened, Entered, Exchanged, Refused, Faulted, Left}
+use Rattle.ipc_connection.specs.declared.stage.Stage.{Stage}
+use Rattle.ipc_connection.specs.declared.stage.Stage.TheVariants.{Greeting, Serving}
+use Rattle.ipc_exchange.specs.Service.{Line, ServiceParts, nobody, thread_numbers}
+
+-- a line, and how many more answers it can hold without memory
+pub record LineSlots : Type 0 where
+  pub line : Line
+  pub free : ℕ
+
+-- the kernel, the lines, and for each thread number the connection that had it last, 0 where none had it
+pub record ServiceSlots : Type 0 where
+  pub kernel : KernelParts
+  pub slots : List LineSlots
+  pub table : List ℕ
+
+abbrev pub lines_of : List LineSlots → List Line
+lines_of slots = map (λ (s : LineSlots). s.line) slots
+
+abbrev pub service_of : ServiceSlots → ServiceParts
+service_of service = record { kernel = rested service.kernel; lines = lines_of service.slots }
+
+abbrev pub no_slots : LineSlots
+no_slots = record { line = nobody; free = 0 }
+
+abbrev pub slot_at : List LineSlots → ℕ → LineSlots
+slot_at slots place = slice_index_or slots place no_slots
+
+abbrev pub stage_at : List LineSlots → ℕ → Stage
+stage_at slots place = (slot_at slots place).line.stage
+
+-- a line that goes on has room for a fault, and for the outcome of its thread's call
+pub record HasRoom (kernel : KernelParts) (slot : LineSlots) : Type 0 where
+  pub greeting : slot.line.stage ≡ Greeting → 1 ≤ slot.free
+  pub serving : (thread : ℕ) → slot.line.stage ≡ Serving thread → 1 ≤ slot.free
+  pub busy : (thread : ℕ) → slot.line.stage ≡ Serving thread → IsTrue (is_busy kernel thread) → 2 ≤ slot.free
+
+-- the thread of the line in a place is live, and the table names the line
+pub record IsPlaced (kernel : KernelParts) (table : List ℕ) (place thread : ℕ) : Type 0 where
+  pub live : IsTrue (is_live kernel.history thread)
+  pub within : number_of thread < thread_numbers
+  pub found : slice_index_or table (number_of thread) 0 ≡ suc place
+
+-- and so the thread of each line
+abbrev pub ArePlaced : KernelParts → List ℕ → List LineSlots → Type 0
+ArePlaced kernel table slots =
+    (place thread : ℕ) → stage_at slots place ≡ Serving thread → IsPlaced kernel table place thread
+
+-- what is true of a service between commands, but for the room of the line in a place
+pub record ReadyBut (but : ℕ) (service : ServiceSlots) : Type 0 where
+  pub sound : IsSound service.kernel
+  pub placed : ArePlaced service.kernel service.table service.slots
+  pub table : length service.table ≡ thread_numbers
+  pub room : (place : ℕ) → place ≢ but → HasRoom service.kernel (slot_at service.slots place)
+
+-- what is true of a service between commands
+pub record Ready (service : ServiceSlots) : Type 0 where
+  pub sound : IsSound service.kernel
+  pub placed : ArePlaced service.kernel service.table service.slots
+  pub table : length service.table ≡ thread_numbers
+  pub room : (place : ℕ) → HasRoom service.kernel (slot_at service.slots place)
+
+-- a thread that the line in a place may get: it is live, and no other line has its number
+pub record IsFresh (kernel : KernelParts) (slots : List LineSlots) (place thread : ℕ) : Type 0 where
+  pub live : IsTrue (is_live kernel.history thread)
+  pub within : number_of thread < thread_numbers
+  pub alone : (other rival : ℕ) → other ≢ place → stage_at slots other ≡ Serving rival
+      → number_of rival ≢ number_of thread
+
+-- where a thread was opened, it is such a one
+abbrev pub MayGet : KernelParts → List LineSlots → ℕ → Told → Type 0
+MayGet kernel slots place (Opened thread) = IsFresh kernel slots place thread
+MayGet kernel slots place Entered = ⊤
+MayGet kernel slots place (Exchanged result control code) = ⊤
+MayGet kernel slots place (Refused number) = ⊤
+MayGet kernel slots place (Faulted class number) = ⊤
+MayGet kernel slots place Left = ⊤
+
+-- the table after something is told to the line in a place
+abbrev pub table_told : Told → ℕ → List ℕ → List ℕ
+table_told (Opened thread) place table = slice_set table (number_of thread) (suc place)
+table_told Entered place table = table
+table_told (Exchanged result control code) place table = table
+table_told (Refused number) place table = table
+table_told (Faulted class number) place table = table
+table_told Left place table = table
+
+-- no line serves the thread
+abbrev pub NoneServes : List LineSlots → ℕ → Type 0
+NoneServes slots thread = (place : ℕ) → stage_at slots place ≢ Serving thread
+
+-- the command is a call of the thread
+abbrev pub is_call_of : ℕ → Command → Bool
+is_call_of thread (Enter caller call) = caller == thread
+is_call_of thread _ = false
+
+-- a command that a line at a stage may ask for: a call is of its own thread
+abbrev pub SuitsStage : Stage → Command → Type 0
+SuitsStage stage (Enter thread call) = stage ≡ Serving thread
+SuitsStage stage (Broke thread) = ⊥
+SuitsStage stage (Open number space) = ⊤
+SuitsStage stage (Exreg thread target control) = ⊤
+SuitsStage stage (At reading) = ⊤
+SuitsStage stage Advance = ⊤
+SuitsStage stage (Take thread) = ⊤
+
+-- a request that a line at a stage, with room for so many answers, may make
+abbrev pub SuitsRequest : Stage → ℕ → Request → Type 0
+SuitsRequest stage free (request.Open number) = 3 ≤ free
+SuitsRequest stage free (request.Enter thread call) = (3 ≤ free) × (stage ≡ Serving thread)
+SuitsRequest stage free (request.Exreg thread target control) = 3 ≤ free
+SuitsRequest stage free request.Leave = 1 ≤ free
+SuitsRequest stage free (request.Refuse class number) = 1 ≤ free
+SuitsRequest stage free request.Nothing = ⊤
+
+-- what is told with room for so many answers: what ends a connection needs no more than one
+abbrev pub SuitsTold : ℕ → Told → Type 0
+SuitsTold free (Opened thread) = 3 ≤ free
+SuitsTold free Entered = 3 ≤ free
+SuitsTold free (Exchanged result control code) = 3 ≤ free
+SuitsTold free (Refused number) = 3 ≤ free
+SuitsTold free (Faulted class number) = 1 ≤ free
+SuitsTold free Left = 1 ≤ free
+
+-- room for an answer, a fault and an outcome is wanted for a frame that the kernel is asked about
+abbrev pub WantsRoom : Result Heard FrameFault → Type 0
+WantsRoom (Ok (heard.Hello number)) = ⊤
+WantsRoom (Ok (heard.Call call)) = ⊤
+WantsRoom (Ok (heard.Exreg target control)) = ⊤
+WantsRoom (Ok heard.Bye) = ⊥
+WantsRoom (Err fault) = ⊥
+
+-- the line in a place can be served what was heard
+pub record CanServe (service : ServiceSlots) (place : ℕ) (said : Result Heard FrameFault) : Type 0 where
+  pub within : place < length service.slots
+  pub ready : Ready service
+  pub room : WantsRoom said → 3 ≤ (slot_at service.slots place).free
+
+-- can make a request
+pub record CanAsk (service : ServiceSlots) (place : ℕ) (request : Request) : Type 0 where
+  pub within : place < length service.slots
+  pub ready : Ready service
+  pub suits : SuitsRequest (stage_at service.slots place) (slot_at service.slots place).free request
+
+-- can give the kernel a command
+pub record CanDo (service : ServiceSlots) (place : ℕ) (command : Command) : Type 0 where
+  pub within : place < length service.slots
+  pub ready : Ready service
+  pub room : 3 ≤ (slot_at service.slots place).free
+  pub suits : SuitsStage (stage_at service.slots place) command
+
+-- and can be told something
+pub record CanTell (service : ServiceSlots) (place : ℕ) (told : Told) : Type 0 where
+  pub within : place < length service.slots
+  pub ready : ReadyBut place service
+  pub room : SuitsTold (slot_at service.slots place).free told
+  pub fresh : MayGet service.kernel service.slots place told
+
+-- the service is ready again, and has the same lines
+pub record StaysReady (old new : ServiceSlots) : Type 0 where
+  pub ready : Ready new
+  pub same : length new.slots ≡ length old.slots

@@ -1,0 +1,169 @@
+ghost use Rattle.std.specs.Prelude.{◌≡◌, ◌<◌, ◌≤◌, ◌+◌, ℕ, [], false, length, min, take, drop, nat_le, if◌then◌else◌, IfOk, IfErr, OnErr};
+ghost use Rattle.ipc_words.specs.Limits.{max_calls, max_entries};
+ghost use Rattle.ipc_exchange.specs.Service.{line_at, without_bytes};
+ghost use Rattle.ipc_exchange.specs.Slots.{service_of, stage_at};
+ghost use Rattle.ipc_exchange.specs.Events.{Connect, Copy, ExchangeParts, Finish, Piece, Reading, empty_exchange};
+ghost use Rattle.ipc_exchange.specs.Exchange.{Happened, Shows, max_connections, progress_of};
+
+use crate::feeding::{close_line, feed_line};
+use crate::progress::{ConnectRefused, Progress};
+use crate::put::Put;
+use crate::service::Service;
+use ipc_calls::CallDecoder;
+use ipc_core::Limits;
+use std::alloc::{AllocError, Global};
+use std::marker::Model;
+
+/// The most connections of one exchange.
+const MAX_CONNECTIONS: usize = 65_535;
+
+/// Many connections over pieces of bytes, and one kernel. Connections are numbered from 1 on.
+#[derive(Drop)]
+pub struct Exchange {
+    alloc: Global,
+    service: Service,
+    decoders: Vec<CallDecoder>,
+}
+
+impl Model for Exchange {
+    ghost use Rattle.ipc_exchange.specs.Exchange.{ExchangeSlots, IsExchange};
+
+    ghost Value = { ExchangeSlots };
+
+    ghost view = { λ e. record { service = e.service; decoders = e.decoders.items } };
+
+    ghost invariant = { λ e. IsExchange (record { service = e.service; decoders = e.decoders.items }) };
+}
+
+impl Exchange {
+    /// An exchange without connections, whose kernel has these limits. Err, F14: there is no memory.
+    pub fn new(alloc: Global, limits: Limits) -> Result<Exchange, AllocError>
+        ensures { IfOk result (λ exchange. Shows exchange (empty_exchange (min limits.entries max_entries) (min limits.calls max_calls))) }
+    {
+        let service = Service::new(alloc, limits)?;
+        Ok(Exchange {
+            alloc,
+            service,
+            decoders: Vec::new(alloc),
+        })
+    }
+
+    /// One more connection, from a space, 1 to 64; answers its number. A refused one uses up no number.
+    pub fn connect(&mut self, space: u32) -> Result<usize, ConnectRefused>
+        ensures ok { IfOk result (λ number. number ≡ length self.old.service.slots + 1) }
+        ensures happened { IfOk result (λ number. Happened self.old (Connect space) self.new) }
+        ensures cause { IfErr result (λ refused. refused
+            ≡ (if nat_le max_connections (length self.old.service.slots) then ConnectRefused.TooMany else ConnectRefused.NoMemory)) }
+        ensures few { IfOk result (λ number. number ≤ max_connections) }
+        ensures err { OnErr result (self.new ≡ self.old) }
+    {
+        let count = self.service.len();
+        if count >= MAX_CONNECTIONS {
+            return Err(ConnectRefused::TooMany);
+        }
+        let Ok(()) = self.decoders.reserve(1) else {
+            return Err(ConnectRefused::NoMemory);
+        };
+        let Ok(()) = self.service.connect(self.alloc, space) else {
+            return Err(ConnectRefused::NoMemory);
+        };
+        self.decoders.push_reserved(CallDecoder::new(self.alloc));
+        Ok(count + 1)
+    }
+
+    /// A piece of bytes comes on a connection. A connection that was never given, or has ended, takes no input.
+    pub fn feed(&mut self, connection: usize, piece: &[u8]) -> Progress
+        ensures happened { (place : ℕ) → connection ≡ place + 1 → Happened self.old (Piece place piece.now) self.new }
+        ensures progress { (place : ℕ) → connection ≡ place + 1 → result ≡ progress_of (stage_at self.new.service.slots place) }
+        ensures zero { connection ≡ 0 → self.new ≡ self.old }
+    {
+        if connection == 0 || connection > self.service.len() {
+            return Progress::Finished;
+        }
+        let place = connection - 1;
+        if self.service.has_finished(place) {
+            return Progress::Finished;
+        }
+        feed_line(&mut self.service, place, &mut self.decoders[place], piece);
+        self.progress_at(place)
+    }
+
+    /// The input of a connection ends. A connection that was never given, or has ended, takes no input.
+    pub fn end(&mut self, connection: usize)
+        ensures happened { (place : ℕ) → connection ≡ place + 1 → Happened self.old (Finish place) self.new }
+        ensures zero { connection ≡ 0 → self.new ≡ self.old }
+    {
+        if connection == 0 || connection > self.service.len() {
+            return;
+        }
+        let place = connection - 1;
+        if self.service.has_finished(place) {
+            return;
+        }
+        close_line(&mut self.service, place, &mut self.decoders[place]);
+    }
+
+    /// The clock is read, in microseconds.
+    pub fn at(&mut self, now: u64)
+        ensures { Happened self.old (Reading now) self.new }
+    {
+        self.service.at(now);
+    }
+
+    /// A block of the least call in transfer is copied.
+    pub fn advance(&mut self)
+        ensures { Happened self.old Copy self.new }
+    {
+        self.service.advance();
+    }
+
+    /// Puts the next bytes of a connection into the slice, and says how many: as many as there are and as have room, but that it stops
+    /// before the frame of an outcome for which there is no memory.
+    pub fn output(&mut self, connection: usize, out: &mut [u8]) -> Put
+        ensures count { (place : ℕ) → connection ≡ place + 1 → result.is_lacking ≡ false
+            → result.count ≡ min (length out.old) (length (line_at (service_of self.old.service).lines place).out) }
+        ensures bytes { (place : ℕ) → connection ≡ place + 1
+            → take result.count out.new ≡ take result.count (line_at (service_of self.old.service).lines place).out }
+        ensures behind { drop result.count out.new ≡ drop result.count out.old }
+        ensures left { (place : ℕ) (parts : ExchangeParts) → connection ≡ place + 1 → Shows self.old parts
+            → Shows self.new (record parts { service = without_bytes place result.count parts.service }) }
+        ensures zero { connection ≡ 0 → self.new ≡ self.old }
+    {
+        if connection == 0 || connection > self.service.len() {
+            return Put {
+                count: 0,
+                is_lacking: false,
+            };
+        }
+        self.service.output(self.alloc, connection - 1, out)
+    }
+
+    /// How many connections there were.
+    pub fn connections(&self) -> usize
+        ensures { result ≡ length self.now.service.slots }
+    {
+        self.service.len()
+    }
+
+    /// Whether a connection goes on. One that was never given does not.
+    pub fn progress(&self, connection: usize) -> Progress
+        ensures progress { (place : ℕ) → connection ≡ place + 1 → result ≡ progress_of (stage_at self.now.service.slots place) }
+        ensures zero { connection ≡ 0 → result ≡ Progress.Finished }
+    {
+        if connection == 0 || connection > self.service.len() {
+            return Progress::Finished;
+        }
+        self.progress_at(connection - 1)
+    }
+
+    fn progress_at(&self, place: usize) -> Progress
+        requires { place < length self.now.service.slots }
+        ensures { result ≡ progress_of (stage_at self.now.service.slots place) }
+    {
+        if self.service.has_finished(place) {
+            Progress::Finished
+        } else {
+            Progress::Running
+        }
+    }
+}

@@ -1,0 +1,21 @@
+ghost use Rattle.ipc_exchange.specs.Laws.{CallsAreAccepted, HappenOnce, LegalStays, PiecesJoin};
+
+/// Where no growth is refused, a piece and then another are the two joined.
+pub fn pieces_join()
+    ensures { PiecesJoin }
+{}
+
+/// The calls of the history are those that the kernel accepted, in order, whatever happens.
+pub fn calls_are_accepted()
+    ensures { CallsAreAccepted }
+{}
+
+/// A legal history stays legal, whatever happens.
+pub fn legal_stays()
+    ensures { LegalStays }
+{}
+
+/// Where no growth is refused, each list of events has one end, and one trace of commands and answers.
+pub fn happen_once()
+    ensures { HappenOnce }
+{}

@@ -1,0 +1,159 @@
+ghost use Rattle.std.specs.Prelude.{◌≡◌, ◌<◌, ◌≤◌, ◌+◌, [], ◌++◌, false, min, take, drop, length, IfOk, OnOk};
+ghost use Rattle.ipc_frame.specs.Frames.{spelling};
+ghost use Rattle.ipc_frame.specs.Replies.{ipcr_of};
+ghost use Rattle.ipc_connection.specs.declared.stage.Stage.TheVariants.{Greeting};
+ghost use Rattle.ipc_exchange.specs.Service.{serves_number, told_line};
+ghost use Rattle.ipc_exchange.specs.Waiting.{waiting_text};
+
+use crate::put::Put;
+use crate::waiting::{Waiting, spell};
+use ipc_connection::{Stage, Told, next_stage, reply};
+use ipc_frame::Encoder;
+use ipc_history::Outcome;
+use std::alloc::{AllocError, Global};
+use std::collections::VecDeque;
+use std::marker::Model;
+
+/// A connection as it is served, seen with its room for answers.
+#[derive(Drop)]
+pub(crate) struct Line {
+    space: u32,
+    stage: Stage,
+    // the answers that wait to be put out
+    queue: VecDeque<Waiting>,
+}
+
+impl Model for Line {
+    ghost use Rattle.std.specs.Prelude.{◌-◌, map};
+    ghost use Rattle.std.specs.VecDeque.{deque_capacity, deque_len};
+    ghost use Rattle.std.specs.List.{flat_map};
+    ghost use Rattle.ipc_exchange.specs.Slots.{LineSlots};
+    ghost use Rattle.ipc_exchange.specs.Waiting.{waiting_text};
+
+    ghost Value = { LineSlots };
+
+    ghost view = { λ l. record { line = record { space = l.space; stage = l.stage; out = flat_map (λ bytes. bytes) (map waiting_text l.queue.items) }; free = deque_capacity l.queue - deque_len l.queue } };
+}
+
+impl Line {
+    /// A connection that comes from a space, with room for a fault.
+    pub(crate) fn new(alloc: Global, space: u32) -> Result<Line, AllocError>
+        ensures line { IfOk result (λ line. line.line ≡ record { space = space; stage = Greeting; out = [] }) }
+        ensures free { IfOk result (λ line. 1 ≤ line.free) }
+    {
+        Ok(Line {
+            space,
+            stage: Stage::Greeting,
+            queue: VecDeque::with_capacity(alloc, 1)?,
+        })
+    }
+
+    /// The space that it comes from.
+    pub(crate) fn space(&self) -> u32
+        ensures { result ≡ self.now.line.space }
+    {
+        self.space
+    }
+
+    /// How far it is.
+    pub(crate) fn stage(&self) -> Stage
+        ensures { result ≡ self.now.line.stage }
+    {
+        self.stage
+    }
+
+    /// Whether its thread has this number.
+    pub(crate) fn serves(&self, number: usize) -> bool
+        ensures { result ≡ serves_number number self.now.line.stage }
+    {
+        match self.stage {
+            Stage::Serving(thread) => thread.number() as usize == number,
+            Stage::Greeting => false,
+            Stage::Finished => false,
+        }
+    }
+
+    /// Makes room for three more answers.
+    pub(crate) fn reserve(&mut self) -> Result<(), AllocError>
+        ensures line { self.new.line ≡ self.old.line }
+        ensures free { self.old.free ≤ self.new.free }
+        ensures ok { OnOk result (3 ≤ self.new.free) }
+    {
+        self.queue.reserve(3)
+    }
+
+    /// One more answer. There is room for it.
+    pub(crate) fn push(&mut self, answer: Waiting)
+        requires { 0 < self.old.free }
+        ensures line { self.new.line ≡ record self.old.line { out = self.old.line.out ++ waiting_text answer } }
+        ensures free { self.old.free ≡ self.new.free + 1 }
+    {
+        // it cannot fail
+        let _ = self.queue.push_back(answer);
+    }
+
+    /// Is told an outcome. There is room for it.
+    pub(crate) fn push_outcome(&mut self, outcome: Outcome)
+        requires { 0 < self.old.free }
+        ensures line { self.new.line ≡ record self.old.line { out = self.old.line.out ++ spelling (ipcr_of outcome) } }
+        ensures free { self.old.free ≡ self.new.free + 1 }
+    {
+        self.push(Waiting::Outcome(outcome));
+    }
+
+    /// Is told what becomes of its request.
+    pub(crate) fn tell(&mut self, told: Told)
+        requires { 0 < self.old.free }
+        ensures line { self.new.line ≡ told_line told self.old.line }
+        ensures free { self.old.free ≤ self.new.free + 1 }
+    {
+        let said = told;
+        if let Some(frame) = reply(said) {
+            self.push(Waiting::Frame(Encoder::new(frame)));
+        }
+        let before = self.stage;
+        self.stage = next_stage(before, told);
+    }
+
+    /// Puts the next bytes into the slice, as many as there are and as have room, and says how many. Memory is wanted for the frame of
+    /// an outcome; where there is none it stops before it.
+    pub(crate) fn output(&mut self, alloc: Global, out: &mut [u8]) -> Put
+        ensures count { result.is_lacking ≡ false → result.count ≡ min (length out.old) (length self.old.line.out) }
+        ensures few { result.count ≤ length self.old.line.out }
+        ensures bytes { take result.count out.new ≡ take result.count self.old.line.out }
+        ensures behind { drop result.count out.new ≡ drop result.count out.old }
+        ensures line { self.new.line ≡ record self.old.line { out = drop result.count self.old.line.out } }
+        ensures free { self.old.free ≤ self.new.free }
+    {
+        let mut filled = 0;
+        while filled < out.len() {
+            let Some(waiting) = self.queue.pop_front() else {
+                return Put {
+                    count: filled,
+                    is_lacking: false,
+                };
+            };
+            match spell(alloc, waiting) {
+                Ok(mut answer) => {
+                    filled += answer.next(&mut out[filled..]);
+                    if filled == out.len() {
+                        // there is room where it was
+                        let _ = self.queue.push_front(Waiting::Frame(answer));
+                    }
+                }
+                Err(back) => {
+                    // there is room where it was
+                    let _ = self.queue.push_front(back);
+                    return Put {
+                        count: filled,
+                        is_lacking: true,
+                    };
+                }
+            }
+        }
+        Put {
+            count: filled,
+            is_lacking: false,
+        }
+    }
+}

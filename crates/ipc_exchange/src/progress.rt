@@ -1,0 +1,17 @@
+/// Whether a connection goes on.
+#[derive(Clone, Copy, PartialEq, Eq, Debug)]
+pub enum Progress {
+    /// It takes more input.
+    Running,
+    /// It has ended, or was never given; it takes no more input.
+    Finished,
+}
+
+/// Why a connection is refused.
+#[derive(Clone, Copy, PartialEq, Eq, Debug)]
+pub enum ConnectRefused {
+    /// S4: there are 65,535 connections.
+    TooMany,
+    /// F14: there is no memory.
+    NoMemory,
+}

@@ -1,0 +1,365 @@
+ghost use Rattle.std.specs.Prelude.{◌≡◌, ◌<◌, ◌≤◌, ◌+◌, ℕ, [], false, List, length, min, take, drop, slice_set, IfOk, IfSome, OnOk, OnErr};
+ghost use Rattle.ipc_words.specs.ThreadId.{number_of};
+ghost use Rattle.ipc_words.specs.Limits.{max_calls, max_entries};
+ghost use Rattle.ipc_core.specs.Laws.{IsSound};
+ghost use Rattle.ipc_core.specs.Obeying.{MayObey, empty_kernel, broke_answer, rested};
+ghost use Rattle.ipc_core.specs.declared.command.Answer.{Answer};
+ghost use Rattle.ipc_core.specs.declared.command.Answer.TheVariants as answer;
+ghost use Rattle.ipc_core.specs.declared.command.Command.TheVariants as command;
+ghost use Rattle.ipc_connection.specs.Replying.{next_stage, thread_left};
+ghost use Rattle.ipc_exchange.specs.Feeding.{has_finished};
+ghost use Rattle.ipc_exchange.specs.Service.{delivered, line_at, place_of, thread_numbers, told_line, told_outcome, with_line, without_bytes};
+ghost use Rattle.ipc_exchange.specs.Serving.{Asked, Does, DoesAlone, Leaves, MayLack, Serves, ServesBy, Tells, told_of};
+ghost use Rattle.ipc_exchange.specs.Slots.{CanAsk, CanDo, CanServe, CanTell, NoneServes, Ready, StaysReady, lines_of, service_of, slot_at, stage_at, table_told};
+
+use crate::line::Line;
+use crate::put::Put;
+use crate::told::told_of;
+use ipc_calls::Heard;
+use ipc_connection::{Request, Stage, Told, asks, next_stage, thread_left};
+use ipc_core::{Advance, Command, Kernel, Limits, NoThread};
+use ipc_frame::FrameFault;
+use ipc_words::ThreadId;
+use std::alloc::{AllocError, Global};
+use std::marker::Model;
+
+/// A kernel, and the lines of the connections.
+#[derive(Drop)]
+pub(crate) struct Service {
+    kernel: Kernel,
+    lines: Vec<Line>,
+    // for each thread number the connection that had it last, 0 where none had it
+    table: Vec<usize>,
+}
+
+impl Model for Service {
+    ghost use Rattle.ipc_exchange.specs.Slots.{ServiceSlots};
+
+    ghost Value = { ServiceSlots };
+
+    ghost view = { λ s. record { kernel = s.kernel; slots = s.lines.items; table = s.table.items } };
+}
+
+impl Service {
+    /// A kernel with these limits, and no connection.
+    pub(crate) fn new(alloc: Global, limits: Limits) -> Result<Service, AllocError>
+        ensures service { IfOk result (λ service. service_of service ≡ record { kernel = empty_kernel (min limits.entries max_entries) (min limits.calls max_calls); lines = [] }) }
+        ensures ready { IfOk result (λ service. Ready service) }
+        ensures none { IfOk result (λ service. service.slots ≡ []) }
+    {
+        let table = vec![in alloc; 0; THREAD_NUMBERS]?;
+        let Ok(kernel) = Kernel::new(alloc, limits) else {
+            return Err(AllocError);
+        };
+        // its contract says that the kernel is sound
+        let _ = kernel.history();
+        Ok(Service {
+            kernel,
+            lines: Vec::new(alloc),
+            table,
+        })
+    }
+
+    /// How many connections there were.
+    pub(crate) fn len(&self) -> usize
+        ensures { result ≡ length self.now.slots }
+    {
+        self.lines.len()
+    }
+
+    /// How far the connection in a place is.
+    pub(crate) fn stage(&self, place: usize) -> Stage
+        requires { place < length self.now.slots }
+        ensures { result ≡ stage_at self.now.slots place }
+    {
+        self.lines[place].stage()
+    }
+
+    /// Whether the connection in a place has ended.
+    pub(crate) fn has_finished(&self, place: usize) -> bool
+        requires { place < length self.now.slots }
+        ensures { result ≡ has_finished (stage_at self.now.slots place) }
+    {
+        match self.stage(place) {
+            Stage::Finished => true,
+            Stage::Greeting => false,
+            Stage::Serving(_) => false,
+        }
+    }
+
+    /// One more connection, from a space.
+    pub(crate) fn connect(&mut self, alloc: Global, space: u32) -> Result<(), AllocError>
+        requires { Ready self.old }
+        ensures ok { OnOk result (service_of self.new ≡ with_line space (service_of self.old)) }
+        ensures count { OnOk result (length self.new.slots ≡ length self.old.slots + 1) }
+        ensures ready { Ready self.new }
+        ensures err { OnErr result (self.new ≡ self.old) }
+    {
+        let line = Line::new(alloc, space)?;
+        self.lines.push(line)?;
+        Ok(())
+    }
+
+    /// Makes room for what serving a frame of the connection in a place may want.
+    pub(crate) fn reserve(&mut self, place: usize) -> Result<(), AllocError>
+        requires within { place < length self.old.slots }
+        requires ready { Ready self.old }
+        ensures same { service_of self.new ≡ service_of self.old }
+        ensures ready { StaysReady self.old self.new }
+        ensures ok { OnOk result (3 ≤ (slot_at self.new.slots place).free) }
+    {
+        self.lines[place].reserve()
+    }
+
+    /// Puts the next bytes of the connection in a place into the slice, and says how many. It stops before the frame of an outcome for
+    /// which there is no memory.
+    pub(crate) fn output(&mut self, alloc: Global, place: usize, out: &mut [u8]) -> Put
+        requires within { place < length self.old.slots }
+        requires ready { Ready self.old }
+        ensures count { result.is_lacking ≡ false → result.count ≡ min (length out.old) (length (line_at (service_of self.old).lines place).out) }
+        ensures few { result.count ≤ length (line_at (service_of self.old).lines place).out }
+        ensures bytes { take result.count out.new ≡ take result.count (line_at (service_of self.old).lines place).out }
+        ensures behind { drop result.count out.new ≡ drop result.count out.old }
+        ensures left { service_of self.new ≡ without_bytes place result.count (service_of self.old) }
+        ensures ready { StaysReady self.old self.new }
+    {
+        self.lines[place].output(alloc, out)
+    }
+
+    /// The clock is read, in microseconds, and outcomes go out.
+    pub(crate) fn at(&mut self, now: u64)
+        requires { Ready self.old }
+        ensures done { DoesAlone MayLack (service_of self.old) (command.At now) (service_of self.new) }
+        ensures ready { StaysReady self.old self.new }
+    {
+        self.read_clock(now);
+        self.deliver();
+    }
+
+    fn read_clock(&mut self, now: u64)
+        requires { Ready self.old }
+        ensures kernel { MayObey self.old.kernel (command.At now) answer.Done self.new.kernel }
+        ensures slots { self.new.slots ≡ self.old.slots }
+        ensures ready { Ready self.new }
+    {
+        self.kernel.at(now);
+        // its contract says that the kernel is sound
+        let _ = self.kernel.history();
+    }
+
+    /// A block of the least call in transfer is copied, and outcomes go out.
+    pub(crate) fn advance(&mut self)
+        requires { Ready self.old }
+        ensures done { DoesAlone MayLack (service_of self.old) command.Advance (service_of self.new) }
+        ensures ready { StaysReady self.old self.new }
+    {
+        let _ = self.copy_block();
+        self.deliver();
+    }
+
+    fn copy_block(&mut self) -> Advance
+        requires { Ready self.old }
+        ensures kernel { MayObey self.old.kernel command.Advance (answer.Advanced result) self.new.kernel }
+        ensures slots { self.new.slots ≡ self.old.slots }
+        ensures ready { Ready self.new }
+    {
+        let advance = self.kernel.advance();
+        // its contract says that the kernel is sound
+        let _ = self.kernel.history();
+        advance
+    }
+
+    /// Serves what was heard on the line in a place.
+    pub(crate) fn serve(&mut self, place: usize, heard: Result<Heard, FrameFault>)
+        requires { CanServe self.old place heard }
+        ensures served { (asked : List Asked) × Serves MayLack (service_of self.old) place heard asked (service_of self.new) }
+        ensures ready { StaysReady self.old self.new }
+    {
+        let stage = self.lines[place].stage();
+        let request = asks(stage, heard);
+        self.serve_request(place, request);
+    }
+
+    fn serve_request(&mut self, place: usize, request: Request)
+        requires { CanAsk self.old place request }
+        ensures served { (asked : List Asked) × ServesBy MayLack (service_of self.old) place request asked (service_of self.new) }
+        ensures ready { StaysReady self.old self.new }
+    {
+        match request {
+            Request::Nothing => {}
+            Request::Open(number) => {
+                let space = u64::from(self.lines[place].space());
+                let number = u64::from(number);
+                self.ask(place, Command::Open { number, space });
+            }
+            Request::Enter(thread, call) => self.ask(place, Command::Enter(thread, call)),
+            Request::Exreg {
+                thread,
+                target,
+                control,
+            } => self.ask(
+                place,
+                Command::Exreg {
+                    thread,
+                    target,
+                    control,
+                },
+            ),
+            Request::Leave => self.tell(place, Told::Left),
+            Request::Refuse(class, number) => self.tell(place, Told::Faulted(class, number)),
+        }
+    }
+
+    /// The kernel obeys a command, and its answer is told.
+    fn ask(&mut self, place: usize, command: Command)
+        requires { CanDo self.old place command }
+        ensures done { (asked : List Asked) × Does MayLack (service_of self.old) place command asked (service_of self.new) }
+        ensures ready { StaysReady self.old self.new }
+    {
+        let told = self.obey(command);
+        self.tell(place, told);
+    }
+
+    fn obey(&mut self, command: Command) -> Told
+        ensures kernel { (answer : Answer) × MayObey self.old.kernel command answer self.new.kernel × (result ≡ told_of answer) }
+        ensures slots { self.new.slots ≡ self.old.slots }
+        ensures table { self.new.table ≡ self.old.table }
+        ensures sound { IsSound self.new.kernel }
+    {
+        let answer = self.kernel.obey(command);
+        // its contract says that the kernel is sound
+        let _ = self.kernel.history();
+        told_of(answer)
+    }
+
+    /// Something is told to the line in a place. Where the connection ends so, its thread ends.
+    fn tell(&mut self, place: usize, told: Told)
+        requires { CanTell self.old place told }
+        ensures told { (asked : List Asked) × Tells MayLack (service_of self.old) place told asked (service_of self.new) }
+        ensures ready { StaysReady self.old self.new }
+    {
+        let left = self.tell_line(place, told);
+        self.leave(left);
+        self.deliver();
+    }
+
+    /// Tells a line, and answers the thread that ends so.
+    fn tell_line(&mut self, place: usize, told: Told) -> Option<ThreadId>
+        requires { CanTell self.old place told }
+        ensures kernel { self.new.kernel ≡ self.old.kernel }
+        ensures lines { lines_of self.new.slots ≡ slice_set (lines_of self.old.slots) place (told_line told (line_at (lines_of self.old.slots) place)) }
+        ensures left { result ≡ thread_left (line_at (lines_of self.old.slots) place).stage (next_stage (line_at (lines_of self.old.slots) place).stage told) }
+        ensures ready { StaysReady self.old self.new }
+        ensures alone { IfSome result (λ thread. NoneServes self.new.slots thread) }
+    {
+        let opened = told;
+        let said = told;
+        self.place_thread(place, opened);
+        let line = &mut self.lines[place];
+        let before = line.stage();
+        line.tell(said);
+        let here = before;
+        let after = next_stage(here, told);
+        thread_left(before, after)
+    }
+
+    /// The table names the line of a thread that was opened.
+    fn place_thread(&mut self, place: usize, told: Told)
+        requires { CanTell self.old place told }
+        ensures { self.new ≡ record self.old { table = table_told told place self.old.table } }
+    {
+        if let Told::Opened(thread) = told {
+            self.table[thread.number() as usize] = place + 1;
+        }
+    }
+
+    /// A thread ends, if there is one.
+    fn leave(&mut self, left: Option<ThreadId>)
+        requires ready { Ready self.old }
+        requires alone { IfSome left (λ thread. NoneServes self.old.slots thread) }
+        ensures kernel { (asked : List Asked) × Leaves MayLack (rested self.old.kernel) left asked (rested self.new.kernel) }
+        ensures slots { self.new.slots ≡ self.old.slots }
+        ensures ready { Ready self.new }
+    {
+        if let Some(thread) = left {
+            let _ = self.break_thread(thread);
+        }
+    }
+
+    fn break_thread(&mut self, thread: ThreadId) -> Result<(), NoThread>
+        requires ready { Ready self.old }
+        requires alone { NoneServes self.old.slots thread }
+        ensures kernel { MayObey self.old.kernel (command.Broke thread) (broke_answer result) self.new.kernel }
+        ensures slots { self.new.slots ≡ self.old.slots }
+        ensures ready { Ready self.new }
+    {
+        let done = self.kernel.broke(thread);
+        // its contract says that the kernel is sound
+        let _ = self.kernel.history();
+        done
+    }
+
+    /// Each thread's line is told the outcome that the thread may take.
+    fn deliver(&mut self)
+        requires { Ready self.old }
+        ensures told { service_of self.new ≡ delivered (rested self.old.kernel) (lines_of self.old.slots) }
+        ensures ready { StaysReady self.old self.new }
+    {
+        for number in 0..THREAD_NUMBERS {
+            self.deliver_number(number);
+        }
+    }
+
+    fn deliver_number(&mut self, number: usize)
+        requires ready { Ready self.old }
+        requires within { number < thread_numbers }
+        ensures told { service_of self.new ≡ told_outcome (place_of number (lines_of self.old.slots)) (service_of self.old) }
+        ensures ready { StaysReady self.old self.new }
+    {
+        let place = self.place_of(number);
+        if place < self.lines.len() {
+            self.deliver_at(place);
+        }
+    }
+
+    /// The place of the line whose thread has a number; past the end where there is none.
+    fn place_of(&self, number: usize) -> usize
+        requires ready { Ready self.now }
+        requires within { number < thread_numbers }
+        ensures { result ≡ place_of number (lines_of self.now.slots) }
+    {
+        let none = self.lines.len();
+        let connection = self.table[number];
+        if connection == 0 {
+            return none;
+        }
+        let place = connection - 1;
+        if place >= none {
+            return none;
+        }
+        if self.lines[place].serves(number) {
+            place
+        } else {
+            none
+        }
+    }
+
+    fn deliver_at(&mut self, place: usize)
+        requires within { place < length self.old.slots }
+        requires ready { Ready self.old }
+        ensures told { service_of self.new ≡ told_outcome place (service_of self.old) }
+        ensures ready { StaysReady self.old self.new }
+    {
+        if let Stage::Serving(thread) = self.lines[place].stage() {
+            let taken = self.kernel.take(thread);
+            // its contract says that the kernel is sound
+            let _ = self.kernel.history();
+            if let Some(outcome) = taken {
+                self.lines[place].push_outcome(outcome);
+            }
+        }
+    }
+}
+
+/// Thread numbers are below this one.
+const THREAD_NUMBERS: usize = 256;

@@ -1,0 +1,60 @@
+//! Copies of entries, so that their lines are made outside the lock.
+ghost use Rattle.std.specs.Prelude.{◌≡◌, IfOk};
+
+use ipc_history::{Call, CallFields, Entry, Input};
+use ipc_items::BufferList;
+use std::alloc::{AllocError, Global};
+
+/// A copy of an entry.
+pub(crate) fn copy_entry(alloc: Global, entry: &Entry) -> Result<Entry, AllocError>
+    ensures { IfOk result (λ copy. copy ≡ entry.now) }
+{
+    match entry {
+        Entry::Given(input) => Ok(Entry::Given(copy_input(alloc, input)?)),
+        Entry::Written(output) => Ok(Entry::Written(*output)),
+    }
+}
+
+fn copy_input(alloc: Global, input: &Input) -> Result<Input, AllocError>
+    ensures { IfOk result (λ copy. copy ≡ input.now) }
+{
+    Ok(match input {
+        Input::At(moment) => Input::At(*moment),
+        Input::Opened(thread, space) => Input::Opened(*thread, *space),
+        Input::Called(number, caller, call) => {
+            Input::Called(*number, *caller, copy_call(alloc, call)?)
+        }
+        Input::Exreg(thread, other, control) => Input::Exreg(*thread, *other, *control),
+        Input::Broke(thread) => Input::Broke(*thread),
+        Input::Moved(number, count) => Input::Moved(*number, *count),
+    })
+}
+
+fn copy_call(alloc: Global, call: &Call) -> Result<Call, AllocError>
+    ensures { IfOk result (λ copy. copy ≡ call.now) }
+{
+    let mut words = Vec::with_capacity(alloc, call.words().len())?;
+    words.extend_from_slice(call.words())?;
+    let copy = Call::new(CallFields {
+        to: call.to(),
+        from: call.from(),
+        send_period: call.send_period(),
+        receive_period: call.receive_period(),
+        tag: call.tag(),
+        originator: call.originator(),
+        words,
+        strings: call.strings().copy(alloc)?,
+        buffers: copy_buffers(alloc, call)?,
+    });
+    // a call is in normal form, and so its copy is
+    copy.ok_or(AllocError)
+}
+
+fn copy_buffers(alloc: Global, call: &Call) -> Result<Option<BufferList>, AllocError>
+    ensures { IfOk result (λ copy. copy ≡ call.now.buffers) }
+{
+    match call.buffers() {
+        Some(buffers) => Ok(Some(buffers.copy(alloc)?)),
+        None => Ok(None),
+    }
+}

@@ -1,0 +1,526 @@
+ghost use Rattle.std.specs.Prelude.{◌≡◌, ◌^◌};
+
+use super::*;
+use ipc_core::{Advance, Limits, Refusal};
+use ipc_history::{Call, CallFields};
+use ipc_items::{BufferList, StringList, Substring};
+use ipc_lines::{entry_line, outcome_line};
+use ipc_words::limits::{MAX_CALLS, MAX_ENTRIES};
+use ipc_words::{Control, MsgTag, Period, ThreadId};
+use std::alloc::Global;
+use std::marker::Brand;
+use std::process::Abort;
+use std::sync::Wait;
+use std::sync::ledger::{Blank, Ledger};
+use std::test::Fail;
+use std::thread;
+use std::thread::Threads;
+
+const ROOM: Limits = Limits {
+    entries: MAX_ENTRIES,
+    calls: MAX_CALLS,
+};
+
+// The first id of a number.
+fn first(number: u32) -> ThreadId {
+    ThreadId::from_word(u64::from(number) * 0x1_0000_0000 + 1)
+}
+
+fn period(word: u16) -> Result<Period, Fail> {
+    Ok(Period::from_word(word).ok_or("a period")?)
+}
+
+// A receive phase alone, with a period, and a buffer string of so many bytes where there are any.
+fn receives(alloc: Global, from: ThreadId, receive_period: u16, length: u64) -> Result<Call, Fail> {
+    let mut buffers = None;
+    if length > 0 {
+        let mut list = BufferList::new(alloc);
+        list.push_buffer(&[Substring {
+            length,
+            pointer: 0x10,
+        }])?;
+        buffers = Some(list);
+    }
+    let call = Call::new(CallFields {
+        to: ThreadId::NILTHREAD,
+        from,
+        send_period: period(0)?,
+        receive_period: period(receive_period)?,
+        tag: MsgTag::EMPTY,
+        originator: ThreadId::NILTHREAD,
+        words: Vec::new(alloc),
+        strings: StringList::new(alloc),
+        buffers,
+    });
+    Ok(call.ok_or("a receive")?)
+}
+
+// A send phase alone, of one word.
+fn sends(alloc: Global, to: ThreadId, send_period: u16, word: u64) -> Result<Call, Fail> {
+    let mut words = Vec::new(alloc);
+    words.push(word)?;
+    let call = Call::new(CallFields {
+        to,
+        from: ThreadId::NILTHREAD,
+        send_period: period(send_period)?,
+        receive_period: period(0)?,
+        tag: MsgTag::from_word(1),
+        originator: ThreadId::NILTHREAD,
+        words,
+        strings: StringList::new(alloc),
+        buffers: None,
+    });
+    Ok(call.ok_or("a send")?)
+}
+
+// A send phase alone, of one string of so many bytes.
+fn sends_string(alloc: Global, to: ThreadId, length: usize) -> Result<Call, Fail> {
+    let mut strings = StringList::new(alloc);
+    let string = vec![in alloc; 0xa5u8; length]?;
+    strings.push(&string)?;
+    let call = Call::new(CallFields {
+        to,
+        from: ThreadId::NILTHREAD,
+        send_period: period(0)?,
+        receive_period: period(0)?,
+        tag: MsgTag::from_word(0x80),
+        originator: ThreadId::NILTHREAD,
+        words: Vec::new(alloc),
+        strings,
+        buffers: None,
+    });
+    Ok(call.ok_or("a send of a string")?)
+}
+
+// One of a test's threads, with its seats.
+#[derive(Drop)]
+struct Party<C: Ledger, T: Ledger> {
+    thread: ThreadId,
+    calls: CallSeat<C>,
+    takes: TakeSeat<T>,
+}
+
+impl<C: Ledger, T: Ledger> Party<C, T> {
+    // Opens the thread of a number.
+    fn open<R: Wait>(rt: &R, kernel: &SharedKernel<C, T>, number: u64) -> Result<Self, Fail> {
+        let hello = Step::Hello { number, space: 1 };
+        match kernel.submit(rt, 0, hello).into_told() {
+            Told::Opened(thread, calls, takes) => Ok(Party {
+                thread,
+                calls,
+                takes,
+            }),
+            _ => Err(Fail::from("an open")),
+        }
+    }
+
+    // Enters a call at a moment, which has this number.
+    fn enter<R: Wait + Abort>(
+        self,
+        rt: &R,
+        kernel: &SharedKernel<C, T>,
+        now: u64,
+        call: Call,
+        number: u64,
+    ) -> Result<Self, Fail> {
+        let Party {
+            thread,
+            calls,
+            takes,
+        } = self;
+        match kernel.submit(rt, now, Step::Enter(calls, call)).into_told() {
+            Told::Entered(calls, entered) => {
+                assert_eq!(rt; entered, number);
+                Ok(Party {
+                    thread,
+                    calls,
+                    takes,
+                })
+            }
+            _ => Err(Fail::from("an entered call")),
+        }
+    }
+
+    // Enters a call that is refused so, and hands the call back; the seat is as it was.
+    fn is_refused<R: Wait + Abort>(
+        self,
+        rt: &R,
+        kernel: &SharedKernel<C, T>,
+        call: Call,
+        refusal: Refusal,
+    ) -> Result<Self, Fail> {
+        let Party {
+            thread,
+            calls,
+            takes,
+        } = self;
+        let made = calls.made();
+        match kernel.submit(rt, 0, Step::Enter(calls, call)).into_told() {
+            Told::NotEntered(calls, why, _) => {
+                assert_eq!(rt; why, refusal);
+                assert_eq!(rt; calls.made(), made);
+                Ok(Party {
+                    thread,
+                    calls,
+                    takes,
+                })
+            }
+            _ => Err(Fail::from("a refused call")),
+        }
+    }
+
+    // Waits for the outcome of its last call, which is told so.
+    fn is_told<R: Wait + Abort>(
+        &mut self,
+        rt: &R,
+        alloc: Global,
+        kernel: &SharedKernel<C, T>,
+        text: &str,
+    ) -> Result<(), Fail> {
+        let taken = kernel
+            .wait_outcome(rt, &mut self.takes)
+            .ok_or("an outcome")?;
+        assert_eq!(rt; taken.thread(), self.thread);
+        assert_eq!(rt; taken.amount(), self.takes.taken());
+        let line = outcome_line(alloc, &taken.into_outcome())?;
+        assert_eq!(rt; line.as_str(), text);
+        Ok(())
+    }
+}
+
+// The history from its first entry on is these lines, and no more.
+fn assert_lines<C: Ledger, T: Ledger, R: Wait + Abort>(
+    rt: &R,
+    kernel: &SharedKernel<C, T>,
+    lines: &[&str],
+) -> Result<(), Fail> {
+    assert_eq!(rt; kernel.entries(rt), lines.len());
+    let mut index = 0usize;
+    for line in lines {
+        let told = kernel.wait_line(rt, index)?.ok_or("a line")?;
+        assert_eq!(rt; told.as_str(), *line);
+        index = index.saturating_add(1);
+    }
+    kernel.close(rt);
+    assert!(rt; kernel.wait_line(rt, index)?.is_none());
+    Ok(())
+}
+
+#[test]
+fn a_meeting_by_the_seated_calls(rt: HostRuntime) -> Result<(), Fail> {
+    seated_meeting::<Brand, Brand, _>(&rt, rt.alloc(), Blank::new(1 << 63), Blank::new(1 << 63))
+}
+
+fn seated_meeting<C: Ledger, T: Ledger, R: Abort>(
+    rt: &R,
+    alloc: Global,
+    calls: Blank,
+    takes: Blank,
+) -> Result<(), Fail>
+    requires calls { (calls.name ≡ C.name) × (calls.parts ≡ C.parts) × (calls.parts ≡ 2 ^ 63) }
+    requires takes { (takes.name ≡ T.name) × (takes.parts ≡ T.parts) × (takes.parts ≡ 2 ^ 63) }
+{
+    let mut locked = Locked::<C, T>::new(alloc, ROOM, calls, takes)
+        .ok()
+        .ok_or("a kernel")?;
+    let (one, mut calls_of_one, mut takes_of_one) = locked.open_seated(1, 1).ok().ok_or("an open")?;
+    let (_, mut calls_of_two, _) = locked.open_seated(2, 1).ok().ok_or("an open")?;
+    let receive = receives(alloc, ThreadId::ANYTHREAD, 0, 0)?;
+    let entered = locked.enter_seated(&mut calls_of_one, receive).ok();
+    assert_eq!(rt; entered, Some(1));
+    let send = sends(alloc, one, 0, 7)?;
+    let entered = locked.enter_seated(&mut calls_of_two, send).ok();
+    assert_eq!(rt; entered, Some(2));
+    let taken = locked.take_seated(&mut takes_of_one).ok_or("an outcome")?;
+    assert_eq!(rt; taken.thread(), one);
+    let line = outcome_line(alloc, &taken.into_outcome())?;
+    assert_eq!(rt; line.as_str(), "1 0x1 2.1 nil 0x0 0x7 -");
+    assert!(rt; locked.take_seated(&mut takes_of_one).is_none());
+    assert_eq!(rt;
+        (
+            calls_of_one.made(),
+            calls_of_two.made(),
+            takes_of_one.taken()
+        ),
+        (1, 1, 1)
+    );
+    let ended = locked.entry(alloc, 5)?.ok_or("an entry")?;
+    assert_eq!(rt; entry_line(alloc, &ended)?.as_str(), "ended 2 1");
+    assert!(rt; locked.entry(alloc, 6)?.is_none());
+    Ok(())
+}
+
+#[test]
+fn a_meeting_by_submit(rt: HostRuntime) -> Result<(), Fail> {
+    submitted_meeting::<Brand, Brand, _>(&rt, rt.alloc(), Blank::new(1 << 63), Blank::new(1 << 63))
+}
+
+fn submitted_meeting<C: Ledger, T: Ledger, R: Wait + Abort>(
+    rt: &R,
+    alloc: Global,
+    calls: Blank,
+    takes: Blank,
+) -> Result<(), Fail>
+    requires calls { (calls.name ≡ C.name) × (calls.parts ≡ C.parts) × (calls.parts ≡ 2 ^ 63) }
+    requires takes { (takes.name ≡ T.name) × (takes.parts ≡ T.parts) × (takes.parts ≡ 2 ^ 63) }
+{
+    let kernel = &SharedKernel::<C, T>::new(alloc, ROOM, calls, takes)
+        .ok()
+        .ok_or("a kernel")?;
+    let one = Party::open(rt, kernel, 1)?;
+    let two = Party::open(rt, kernel, 2)?;
+    let mut one = one.enter(
+        rt,
+        kernel,
+        0,
+        receives(alloc, ThreadId::ANYTHREAD, 0, 0)?,
+        1,
+    )?;
+    let mut two = two.enter(rt, kernel, 0, sends(alloc, first(1), 0, 7)?, 2)?;
+    one.is_told(rt, alloc, kernel, "1 0x1 2.1 nil 0x0 0x7 -")?;
+    two.is_told(rt, alloc, kernel, "2 0x0 nil nil 0x0 - -")?;
+    assert_eq!(rt; (one.calls.made(), two.calls.made()), (1, 1));
+    // nothing is to take twice, and who waits for a thread that has ended is told so
+    kernel.submit(rt, 0, Step::Broke(first(1)));
+    assert!(rt; kernel.wait_outcome(rt, &mut one.takes).is_none());
+    assert_lines(
+        rt,
+        kernel,
+        &[
+            "opened 1.1 1",
+            "opened 2.1 1",
+            "called 1 1.1 nil any 0x0 0x0 nil - - -",
+            "called 2 2.1 1.1 nil 0x0 0x1 nil 0x7 - -",
+            "began 2 1",
+            "ended 2 1",
+            "broke 1.1",
+        ],
+    )
+}
+
+#[test]
+fn the_clock_fails_a_receive_and_then_a_send(rt: HostRuntime) -> Result<(), Fail> {
+    timeouts::<Brand, Brand, _>(&rt, rt.alloc(), Blank::new(1 << 63), Blank::new(1 << 63))
+}
+
+fn timeouts<C: Ledger, T: Ledger, R: Wait + Abort>(
+    rt: &R,
+    alloc: Global,
+    calls: Blank,
+    takes: Blank,
+) -> Result<(), Fail>
+    requires calls { (calls.name ≡ C.name) × (calls.parts ≡ C.parts) × (calls.parts ≡ 2 ^ 63) }
+    requires takes { (takes.name ≡ T.name) × (takes.parts ≡ T.parts) × (takes.parts ≡ 2 ^ 63) }
+{
+    let kernel = &SharedKernel::<C, T>::new(alloc, ROOM, calls, takes)
+        .ok()
+        .ok_or("a kernel")?;
+    let one = Party::open(rt, kernel, 1)?;
+    let two = Party::open(rt, kernel, 2)?;
+    let mut one = one.enter(
+        rt,
+        kernel,
+        100,
+        receives(alloc, ThreadId::ANYTHREAD, 5, 0)?,
+        1,
+    )?;
+    for now in [104, 105] {
+        let told = kernel.submit(rt, now, Step::Tick).into_told();
+        assert!(rt; matches!(told, Told::Ticked));
+    }
+    let mut two = two.enter(rt, kernel, 105, sends(alloc, first(1), 0x400, 7)?, 2)?;
+    one.is_told(rt, alloc, kernel, "1 0x8000 nil nil 0x3 - -")?;
+    two.is_told(rt, alloc, kernel, "2 0x8000 nil nil 0x2 - -")
+}
+
+#[test]
+fn a_transfer_is_stopped_and_its_partner_breaks(rt: HostRuntime) -> Result<(), Fail> {
+    stopped_transfers::<Brand, Brand, _>(
+        &rt,
+        rt.alloc(),
+        Blank::new(1 << 63),
+        Blank::new(1 << 63),
+    )
+}
+
+fn stopped_transfers<C: Ledger, T: Ledger, R: Wait + Abort>(
+    rt: &R,
+    alloc: Global,
+    calls: Blank,
+    takes: Blank,
+) -> Result<(), Fail>
+    requires calls { (calls.name ≡ C.name) × (calls.parts ≡ C.parts) × (calls.parts ≡ 2 ^ 63) }
+    requires takes { (takes.name ≡ T.name) × (takes.parts ≡ T.parts) × (takes.parts ≡ 2 ^ 63) }
+{
+    let kernel = &SharedKernel::<C, T>::new(alloc, ROOM, calls, takes).ok().ok_or("a kernel")?;
+    let one = Party::open(rt, kernel, 1)?;
+    let two = Party::open(rt, kernel, 2)?;
+    let Party { calls: stopper, .. } = Party::open(rt, kernel, 3)?;
+    let (mut one, mut two) = begin_transfer(rt, alloc, kernel, one, two, 1)?;
+    assert!(rt; kernel.wait_work(rt));
+    let stop = Step::Exreg(stopper, first(2), Control::from_word(4));
+    assert_eq!(rt; said(kernel, rt, stop), "exchanged");
+    two.is_told(rt, alloc, kernel, "2 0x8000 nil nil 0x10000e - -")?;
+    one.is_told(rt, alloc, kernel, "1 0x8000 nil nil 0x10000f - -")?;
+    let (one, mut two) = begin_transfer(rt, alloc, kernel, one, two, 3)?;
+    assert_eq!(rt; said(kernel, rt, Step::Broke(one.thread)), "broken");
+    two.is_told(rt, alloc, kernel, "4 0x8000 nil nil 0x10000e - -")?;
+    assert_eq!(rt; said(kernel, rt, Step::Advance), "idle");
+    kernel.close(rt);
+    assert!(rt; !kernel.wait_work(rt));
+    Ok(())
+}
+
+// The first thread receives a string of the second one, by calls from this number on, of which a block is copied.
+fn begin_transfer<C: Ledger, T: Ledger, R: Wait + Abort>(
+    rt: &R,
+    alloc: Global,
+    kernel: &SharedKernel<C, T>,
+    one: Party<C, T>,
+    two: Party<C, T>,
+    number: u64,
+) -> Result<(Party<C, T>, Party<C, T>), Fail> {
+    let receive = receives(alloc, ThreadId::ANYTHREAD, 0, 131_073)?;
+    let one = one.enter(rt, kernel, 0, receive, number)?;
+    let send = sends_string(alloc, first(1), 131_073)?;
+    let two = two.enter(rt, kernel, 0, send, number.saturating_add(1))?;
+    assert_eq!(rt; said(kernel, rt, Step::Advance), "moved");
+    Ok((one, two))
+}
+
+// A step, and what it is told in a word.
+fn said<C: Ledger, T: Ledger, R: Wait>(
+    kernel: &SharedKernel<C, T>,
+    rt: &R,
+    step: Step<C>,
+) -> &'static str {
+    match kernel.submit(rt, 0, step).into_told() {
+        Told::Advanced(Advance::Moved) => "moved",
+        Told::Advanced(Advance::Idle) => "idle",
+        Told::Exchanged(_, _) => "exchanged",
+        Told::Broken(_) => "broken",
+        Told::NotThere(_) => "not there",
+        _ => "another answer",
+    }
+}
+
+#[test]
+fn a_seat_is_stale_once_its_number_was_opened_again(rt: HostRuntime) -> Result<(), Fail> {
+    stale_seats::<Brand, Brand, _>(&rt, rt.alloc(), Blank::new(1 << 63), Blank::new(1 << 63))
+}
+
+fn stale_seats<C: Ledger, T: Ledger, R: Wait + Abort>(
+    rt: &R,
+    alloc: Global,
+    calls: Blank,
+    takes: Blank,
+) -> Result<(), Fail>
+    requires calls { (calls.name ≡ C.name) × (calls.parts ≡ C.parts) × (calls.parts ≡ 2 ^ 63) }
+    requires takes { (takes.name ≡ T.name) × (takes.parts ≡ T.parts) × (takes.parts ≡ 2 ^ 63) }
+{
+    let limits = Limits {
+        entries: MAX_ENTRIES,
+        calls: 1,
+    };
+    let kernel = &SharedKernel::<C, T>::new(alloc, limits, calls, takes)
+        .ok()
+        .ok_or("a kernel")?;
+    let one = Party::open(rt, kernel, 1)?;
+    assert_eq!(rt; said(kernel, rt, Step::Broke(one.thread)), "broken");
+    let again = Party::open(rt, kernel, 1)?;
+    assert!(rt; again.thread != one.thread);
+    let receive = receives(alloc, ThreadId::ANYTHREAD, 0, 0)?;
+    let mut one = one.is_refused(rt, kernel, receive, Refusal::NoThread)?;
+    assert!(rt; kernel.wait_outcome(rt, &mut one.takes).is_none());
+    assert_eq!(rt; said(kernel, rt, Step::Broke(one.thread)), "not there");
+    let again = again.enter(rt, kernel, 0, sends(alloc, first(9), 0, 1)?, 1)?;
+    // busy before the calls are spent, and the seat counts neither
+    let receive = receives(alloc, ThreadId::ANYTHREAD, 0, 0)?;
+    let mut again = again.is_refused(rt, kernel, receive, Refusal::Busy)?;
+    again.is_told(rt, alloc, kernel, "1 0x8000 nil nil 0x4 - -")?;
+    let receive = receives(alloc, ThreadId::ANYTHREAD, 0, 0)?;
+    let again = again.is_refused(rt, kernel, receive, Refusal::CallsSpent)?;
+    assert_eq!(rt; (again.calls.made(), again.takes.taken()), (1, 1));
+    Ok(())
+}
+
+#[test]
+fn two_threads_of_the_machine_meet_ten_thousand_times(rt: HostRuntime) -> Result<(), Fail> {
+    meetings::<Brand, Brand, _>(&rt, rt.alloc(), Blank::new(1 << 63), Blank::new(1 << 63))
+}
+
+fn meetings<C: Ledger + Send + Sync, T: Ledger + Send + Sync, R: Threads + Wait + Abort + Sync>(
+    rt: &R,
+    alloc: Global,
+    calls: Blank,
+    takes: Blank,
+) -> Result<(), Fail>
+    requires calls { (calls.name ≡ C.name) × (calls.parts ≡ C.parts) × (calls.parts ≡ 2 ^ 63) }
+    requires takes { (takes.name ≡ T.name) × (takes.parts ≡ T.parts) × (takes.parts ≡ 2 ^ 63) }
+{
+    let kernel = &SharedKernel::<C, T>::new(alloc, ROOM, calls, takes)
+        .ok()
+        .ok_or("a kernel")?;
+    let one = Party::open(rt, kernel, 1)?;
+    let two = Party::open(rt, kernel, 2)?;
+    let mut receive_calls = Vec::new(alloc);
+    let mut send_calls = Vec::new(alloc);
+    for word in 0..MEETINGS {
+        receive_calls.push(receives(alloc, first(2), 0, 0)?)?;
+        send_calls.push(sends(alloc, first(1), 0, word)?)?;
+    }
+    let (received, sent) = thread::join(
+        rt,
+        move || make_calls(rt, alloc, kernel, one, receive_calls),
+        move || make_calls(rt, alloc, kernel, two, send_calls),
+    );
+    let received = received.ok_or("what was received")?;
+    assert_eq!(rt; received.len(), 10_000);
+    let mut next = 0u64;
+    for word in &received {
+        assert_eq!(rt; *word, Some(next));
+        next = next.saturating_add(1);
+    }
+    let sent = sent.ok_or("what was sent")?;
+    assert_eq!(rt; sent.len(), 10_000);
+    assert!(rt; sent.iter().all(|word| word.is_none()));
+    // two opens, and for each message two calls, began and ended
+    assert_eq!(rt; kernel.entries(rt), 40_002);
+    Ok(())
+}
+
+const MEETINGS: u64 = 10_000;
+
+// Makes calls in turn, each once the one before is over; the first words of their outcomes. None where a call is not entered, where its
+// outcome is not its own, or for want of memory.
+fn make_calls<C: Ledger, T: Ledger, R: Wait>(
+    rt: &R,
+    alloc: Global,
+    kernel: &SharedKernel<C, T>,
+    party: Party<C, T>,
+    calls: Vec<Call>,
+) -> Option<Vec<Option<u64>>> {
+    let Party {
+        thread,
+        calls: mut seat,
+        mut takes,
+    } = party;
+    let mut words = Vec::new(alloc);
+    for call in calls {
+        let Told::Entered(back, number) = kernel.submit(rt, 0, Step::Enter(seat, call)).into_told()
+        else {
+            return None;
+        };
+        seat = back;
+        let taken = kernel.wait_outcome(rt, &mut takes)?;
+        if taken.thread() != thread || taken.amount() != seat.made() {
+            return None;
+        }
+        let outcome = taken.into_outcome();
+        if outcome.call != number {
+            return None;
+        }
+        words.push(outcome.words.first().copied()).ok()?;
+    }
+    Some(words)
+}

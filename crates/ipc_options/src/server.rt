@@ -1,0 +1,27 @@
+//! What `l4d` was asked for.
+ghost use Rattle.std.specs.Prelude.{◌≤◌, ◌<◌};
+
+/// The most spaces that `l4d` listens for.
+pub const MAX_SPACES: u16 = 64;
+
+/// The permissions of a socket's path without `--mode`: its owner alone.
+pub const OWNER_ONLY: u32 = 0o600;
+
+/// What `l4d` was asked for.
+#[derive(Drop)]
+pub struct ServerOptions<'a> {
+    /// The folder of the paths `space1` to `spaceN`.
+    pub dir: &'a str,
+    /// How many spaces, 1 to 64.
+    pub spaces: u16,
+    /// How many connections each path takes, 1 to 65,535.
+    pub connections: u16,
+    /// The permissions of each path, at most 0o777.
+    pub mode: u32,
+    /// Whether a client of the program's own sends one message.
+    pub probe: bool,
+    pub ghost some_spaces: { 1 ≤ spaces },
+    pub ghost few_spaces: { spaces ≤ 64 },
+    pub ghost some_connections: { 1 ≤ connections },
+    pub ghost permissions: { mode < 512 },
+}

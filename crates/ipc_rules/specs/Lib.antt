@@ -1,4 +1,0 @@
-pub mod Scanning
-pub mod Traces
-pub mod OpenCalls
-pub mod ExchangeRegisters

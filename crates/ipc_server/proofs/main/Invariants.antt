@@ -1,0 +1,7 @@
+use Rattle.ipc_server.proofs.main.Given as goal
+
+abbrev pub ghosts-start-C-Ledger : goal.ghosts-start-C-Ledger
+ghosts-start-C-Ledger g a = record { name = a.calls.name; parts = a.calls.parts }
+
+abbrev pub ghosts-start-T-Ledger : goal.ghosts-start-T-Ledger
+ghosts-start-T-Ledger g a = record { name = a.takes.name; parts = a.takes.parts }

@@ -1,0 +1,56 @@
+use std::alloc::AllocError;
+use std::io::ErrorKind;
+use std::{fmt, io};
+
+/// How the server ended.
+#[derive(Drop)]
+pub enum Exit {
+    /// All connections have ended: status 0.
+    Closed,
+    /// A path cannot be bound: status 1.
+    CannotListen(String),
+    /// The program itself got no memory: status 1.
+    NoMemory,
+    /// Standard output, the clock or a worker failed: status 1.
+    DeviceFailed,
+    /// The client of the program's own did not get its message: status 1.
+    ProbeFailed,
+}
+
+impl Exit {
+    /// The exit status of the program.
+    pub fn status(&self) -> u8 {
+        match self {
+            Exit::Closed => 0,
+            _ => 1,
+        }
+    }
+}
+
+impl From<AllocError> for Exit {
+    fn from(_: AllocError) -> Exit {
+        Exit::NoMemory
+    }
+}
+
+impl From<io::Error> for Exit {
+    fn from(error: io::Error) -> Exit {
+        if error.kind() == ErrorKind::OutOfMemory {
+            Exit::NoMemory
+        } else {
+            Exit::DeviceFailed
+        }
+    }
+}
+
+impl fmt::Display for Exit {
+    fn fmt<W: fmt::Write>(&self, f: &mut fmt::Formatter<W>) -> fmt::Result {
+        match self {
+            Exit::Closed => write!(f, "l4d: closed"),
+            Exit::CannotListen(path) => write!(f, "l4d: cannot listen on {path}"),
+            Exit::NoMemory => write!(f, "l4d: no memory"),
+            Exit::DeviceFailed => write!(f, "l4d: device failed"),
+            Exit::ProbeFailed => write!(f, "l4d: probe failed"),
+        }
+    }
+}

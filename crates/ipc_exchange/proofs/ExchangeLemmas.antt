@@ -122,14 +122,18 @@ pub fed : (old : ExchangeSlots) (place : ℕ) (piece : List ℕ) (service : Serv
     → Happened old (Piece place piece) (record { service = service; decoders = slice_set old.decoders place decoder })
 fed old place piece service decoder long within lives feeds parts shows =
     let line = feeds (held_at parts place) (running_holds (stage_at old.service.slots place) _ _ lives (shows.held place)) in
-    let left = left_in (stream_of Server (held_at parts place ++ piece)).end in
-    (line.asked, holding parts (service_of service) place left, record {
-      heard = line.heard;
-      hears = line.hears;
-      service = service_of service;
-      serves = subst (λ s. ServesAll MayLack s place line.heard line.asked (service_of service)) (sym shows.service) line.serves;
-      new_is = refl;
-    }, shows_line old parts shows long place within service decoder left (λ q other. sym (service_stage service q) ∙ (all_others MayLack place q line.heard (service_of old.service) (service_of service) line.asked other line.serves ∙ service_stage old.service q)) line.holds)
+    let left = left_in (stream_of Server (held_at parts place ++ piece)).end in (
+      line.asked,
+      holding parts (service_of service) place left,
+      record {
+        heard = line.heard;
+        hears = line.hears;
+        service = service_of service;
+        serves = subst (λ s. ServesAll MayLack s place line.heard line.asked (service_of service)) (sym shows.service) line.serves;
+        new_is = refl;
+      },
+      shows_line old parts shows long place within service decoder left (λ q other. sym (service_stage service q) ∙ (all_others MayLack place q line.heard (service_of old.service) (service_of service) line.asked other line.serves ∙ service_stage old.service q)) line.holds,
+    )
 
 -- of a connection that has ended nothing is heard, and nothing is held
 ended_holds : (old : ExchangeSlots) (parts : ExchangeParts) (place : ℕ) (left : List ℕ) → Shows old parts → stage_at old.service.slots place ≡ Finished → parts ≡ holding parts parts.service place left
@@ -143,14 +147,18 @@ ended_stage old parts place shows ended = ap (λ (s : ServiceParts). (line_at s.
 
 pub not_fed : (old : ExchangeSlots) (place : ℕ) (piece : List ℕ) → stage_at old.service.slots place ≡ Finished → Happened old (Piece place piece) old
 not_fed old place piece ended parts shows =
-    let said = stream_of Server (held_at parts place ++ piece) in
-    ([], parts, record {
-      heard = heard_in said;
-      hears = inl refl;
-      service = parts.service;
-      serves = all_idle_again MayLack place (heard_in said) parts.service (ended_stage old parts place shows ended);
-      new_is = ended_holds old parts place (left_in said.end) shows ended;
-    }, shows)
+    let said = stream_of Server (held_at parts place ++ piece) in (
+      [],
+      parts,
+      record {
+        heard = heard_in said;
+        hears = inl refl;
+        service = parts.service;
+        serves = all_idle_again MayLack place (heard_in said) parts.service (ended_stage old parts place shows ended);
+        new_is = ended_holds old parts place (left_in said.end) shows ended;
+      },
+      shows,
+    )
 
 -- The end of the input
 
@@ -158,19 +166,28 @@ pub closed : (old : ExchangeSlots) (place : ℕ) (service : ServiceSlots) (decod
     → ((bytes : List ℕ) → Holds (decoder_at old.decoders place) bytes → ClosesLine (service_of old.service) place bytes (service_of service) decoder)
     → Happened old (Finish place) (record { service = service; decoders = slice_set old.decoders place decoder })
 closed old place service decoder long within lives closes parts shows =
-    let line = closes (held_at parts place) (running_holds (stage_at old.service.slots place) _ _ lives (shows.held place)) in
-    (line.asked, holding parts (service_of service) place [], record {
-      service = service_of service;
-      serves = subst (λ s. Serves MayLack s place (heard_at_end (held_at parts place)) line.asked (service_of service)) (sym shows.service) line.serves;
-      new_is = refl;
-    }, shows_line old parts shows long place within service decoder [] (λ q other. sym (service_stage service q) ∙ (serves_others MayLack place q (service_of old.service) (service_of service) (heard_at_end (held_at parts place)) line.asked other line.serves ∙ service_stage old.service q)) line.holds)
+    let line = closes (held_at parts place) (running_holds (stage_at old.service.slots place) _ _ lives (shows.held place)) in (
+      line.asked,
+      holding parts (service_of service) place [],
+      record {
+        service = service_of service;
+        serves = subst (λ s. Serves MayLack s place (heard_at_end (held_at parts place)) line.asked (service_of service)) (sym shows.service) line.serves;
+        new_is = refl;
+      },
+      shows_line old parts shows long place within service decoder [] (λ q other. sym (service_stage service q) ∙ (serves_others MayLack place q (service_of old.service) (service_of service) (heard_at_end (held_at parts place)) line.asked other line.serves ∙ service_stage old.service q)) line.holds,
+    )
 
 pub not_closed : (old : ExchangeSlots) (place : ℕ) → stage_at old.service.slots place ≡ Finished → Happened old (Finish place) old
-not_closed old place ended parts shows = ([], parts, record {
-  service = parts.service;
-  serves = idle_again MayLack place parts.service (heard_at_end (held_at parts place)) (ended_stage old parts place shows ended);
-  new_is = ended_holds old parts place [] shows ended;
-}, shows)
+not_closed old place ended parts shows = (
+  [],
+  parts,
+  record {
+    service = parts.service;
+    serves = idle_again MayLack place parts.service (heard_at_end (held_at parts place)) (ended_stage old parts place shows ended);
+    new_is = ended_holds old parts place [] shows ended;
+  },
+  shows,
+)
 
 -- A command of nobody's
 
@@ -179,13 +196,18 @@ module _ (old : ExchangeSlots) (given : Command) (service : ServiceSlots) (does 
   same_stage q = sym (service_stage service q) ∙ (ap (λ (s : ServiceParts). (line_at s.lines q).stage) does.1.2 ∙ (delivered_stage (service_of old.service).lines does.1.0 q ∙ service_stage old.service q))
 
   pub commanded : (parts : ExchangeParts) → Shows old parts → (asked : List Asked) × (after : ExchangeParts) × Commands MayLack parts given asked after × Shows (record { service = service; decoders = old.decoders }) after
-  commanded parts shows = (record { command = given; answer = does.0 } ∷ [], record { service = service_of service; held = parts.held }, record {
-    answer = does.0;
-    service = service_of service;
-    answers = subst (λ s. Answers MayLack s given does.0 (service_of service)) (sym shows.service) does.1;
-    asked_is = refl;
-    new_is = refl;
-  }, record { service = refl; long = shows.long; held = λ q. subst (λ s. ShowsHeld s (decoder_at old.decoders q) (held_at parts q)) (sym (same_stage q)) (shows.held q) })
+  commanded parts shows = (
+    record { command = given; answer = does.0 } ∷ [],
+    record { service = service_of service; held = parts.held },
+    record {
+      answer = does.0;
+      service = service_of service;
+      answers = subst (λ s. Answers MayLack s given does.0 (service_of service)) (sym shows.service) does.1;
+      asked_is = refl;
+      new_is = refl;
+    },
+    record { service = refl; long = shows.long; held = λ q. subst (λ s. ShowsHeld s (decoder_at old.decoders q) (held_at parts q)) (sym (same_stage q)) (shows.held q) },
+  )
 
 -- One more connection
 
@@ -202,11 +224,16 @@ pushed (l ∷ lines) [] held line decoder a b stage holds before q = absurd (ome
 pushed (l ∷ lines) (d ∷ decoders) [] line decoder a b stage holds before q = absurd (omega (arith, b))
 
 pub connects : (old : ExchangeSlots) (space : ℕ) (service : ServiceSlots) (decoder : Decoding) → length old.decoders ≡ length old.service.slots → service_of service ≡ with_line space (service_of old.service) → Holds decoder [] → Happened old (Connect space) (record { service = service; decoders = old.decoders ++ decoder ∷ [] })
-connects old space service decoder long is holds parts shows = ([], connected space parts, (refl, refl), record {
-  service = ap (with_line space) shows.service ∙ sym is;
-  long = length-append parts.held ([] ∷ []) ∙ (ap (λ n. n + 1) shows.long ∙ sym (length-append old.decoders (decoder ∷ [])));
-  held = λ q. subst (λ s. ShowsHeld s (decoder_at (old.decoders ++ decoder ∷ []) q) (slice_index_or (parts.held ++ [] ∷ []) q [])) (sym (ap (λ (x : ServiceParts). (line_at x.lines q).stage) is) ∙ service_stage service q) (pushed (service_of old.service).lines old.decoders parts.held _ decoder (long ∙ sym lines) (shows.long ∙ (long ∙ sym lines)) refl holds (λ p. subst (λ s. ShowsHeld s (decoder_at old.decoders p) (held_at parts p)) (sym (service_stage old.service p)) (shows.held p)) q);
-})
+connects old space service decoder long is holds parts shows = (
+  [],
+  connected space parts,
+  (refl, refl),
+  record {
+    service = ap (with_line space) shows.service ∙ sym is;
+    long = length-append parts.held ([] ∷ []) ∙ (ap (λ n. n + 1) shows.long ∙ sym (length-append old.decoders (decoder ∷ [])));
+    held = λ q. subst (λ s. ShowsHeld s (decoder_at (old.decoders ++ decoder ∷ []) q) (slice_index_or (parts.held ++ [] ∷ []) q [])) (sym (ap (λ (x : ServiceParts). (line_at x.lines q).stage) is) ∙ service_stage service q) (pushed (service_of old.service).lines old.decoders parts.held _ decoder (long ∙ sym lines) (shows.long ∙ (long ∙ sym lines)) refl holds (λ p. subst (λ s. ShowsHeld s (decoder_at old.decoders p) (held_at parts p)) (sym (service_stage old.service p)) (shows.held p)) q);
+  },
+)
   where
     lines : length (service_of old.service).lines ≡ length old.service.slots
     lines = length-map old.service.slots (λ (s : LineSlots). s.line)

@@ -11,7 +11,7 @@ mod service;
 mod told;
 mod waiting;
 
-pub use laws::{calls_are_accepted, happen_once, legal_stays, pieces_join};
 pub use exchange::Exchange;
+pub use laws::{calls_are_accepted, happen_once, legal_stays, pieces_join};
 pub use progress::{ConnectRefused, Progress};
 pub use put::Put;

@@ -1,4 +1,5 @@
-ghost use Rattle.std.specs.Prelude.{◌≡◌, ◌<◌, ◌≤◌, ◌+◌, ℕ, [], false, length, min, take, drop, nat_le, if◌then◌else◌, IfOk, IfErr, OnErr};
+ghost use Rattle.std.specs.Prelude.{◌≡◌, ◌<◌, ◌≤◌, ◌+◌, ℕ, [], false, length, min, take, drop, nat_le, if◌then◌else◌};
+ghost use Rattle.std.specs.Prelude.{IfOk, IfErr, OnErr};
 ghost use Rattle.ipc_words.specs.Limits.{max_calls, max_entries};
 ghost use Rattle.ipc_exchange.specs.Service.{line_at, without_bytes};
 ghost use Rattle.ipc_exchange.specs.Slots.{service_of, stage_at};
@@ -38,7 +39,8 @@ impl Model for Exchange {
 impl Exchange {
     /// An exchange without connections, whose kernel has these limits. Err, F14: there is no memory.
     pub fn new(alloc: Global, limits: Limits) -> Result<Exchange, AllocError>
-        ensures { IfOk result (λ exchange. Shows exchange (empty_exchange (min limits.entries max_entries) (min limits.calls max_calls))) }
+        ensures { IfOk result (λ exchange. Shows exchange
+            (empty_exchange (min limits.entries max_entries) (min limits.calls max_calls))) }
     {
         let service = Service::new(alloc, limits)?;
         Ok(Exchange {
@@ -53,7 +55,8 @@ impl Exchange {
         ensures ok { IfOk result (λ number. number ≡ length self.old.service.slots + 1) }
         ensures happened { IfOk result (λ number. Happened self.old (Connect space) self.new) }
         ensures cause { IfErr result (λ refused. refused
-            ≡ (if nat_le max_connections (length self.old.service.slots) then ConnectRefused.TooMany else ConnectRefused.NoMemory)) }
+            ≡ (if nat_le max_connections (length self.old.service.slots) then ConnectRefused.TooMany
+            else ConnectRefused.NoMemory)) }
         ensures few { IfOk result (λ number. number ≤ max_connections) }
         ensures err { OnErr result (self.new ≡ self.old) }
     {
@@ -74,7 +77,8 @@ impl Exchange {
     /// A piece of bytes comes on a connection. A connection that was never given, or has ended, takes no input.
     pub fn feed(&mut self, connection: usize, piece: &[u8]) -> Progress
         ensures happened { (place : ℕ) → connection ≡ place + 1 → Happened self.old (Piece place piece.now) self.new }
-        ensures progress { (place : ℕ) → connection ≡ place + 1 → result ≡ progress_of (stage_at self.new.service.slots place) }
+        ensures progress { (place : ℕ) → connection ≡ place + 1
+            → result ≡ progress_of (stage_at self.new.service.slots place) }
         ensures zero { connection ≡ 0 → self.new ≡ self.old }
     {
         if connection == 0 || connection > self.service.len() {
@@ -117,8 +121,8 @@ impl Exchange {
         self.service.advance();
     }
 
-    /// Puts the next bytes of a connection into the slice, and says how many: as many as there are and as have room, but that it stops
-    /// before the frame of an outcome for which there is no memory.
+    /// Puts the next bytes of a connection into the slice, and says how many: as many as there are and as have room, but that it
+    /// stops before the frame of an outcome for which there is no memory.
     pub fn output(&mut self, connection: usize, out: &mut [u8]) -> Put
         ensures count { (place : ℕ) → connection ≡ place + 1 → result.is_lacking ≡ false
             → result.count ≡ min (length out.old) (length (line_at (service_of self.old.service).lines place).out) }
@@ -147,7 +151,8 @@ impl Exchange {
 
     /// Whether a connection goes on. One that was never given does not.
     pub fn progress(&self, connection: usize) -> Progress
-        ensures progress { (place : ℕ) → connection ≡ place + 1 → result ≡ progress_of (stage_at self.now.service.slots place) }
+        ensures progress { (place : ℕ) → connection ≡ place + 1
+            → result ≡ progress_of (stage_at self.now.service.slots place) }
         ensures zero { connection ≡ 0 → result ≡ Progress.Finished }
     {
         if connection == 0 || connection > self.service.len() {

@@ -1,0 +1,75 @@
+#!/usr/bin/env python3
+"""Runs the built l4sh wire over scripts whose pieces of bytes are cut otherwise, and looks at what comes of it.
+
+    checks/wire_cuts.py SCRIPT..
+
+Each `feed C HEXBYTES` is given again as pieces of one byte, of 7 bytes, and in two at each place, on its own and in all lines at once.
+The bytes that go out on each connection, the connections that end, in their order, and the answers of `connect` have to be the same.
+Scripts that end in a bad line are left out. It builds l4sh first by running it."""
+import collections
+import os
+import subprocess
+import sys
+
+ROOT = os.path.dirname(os.path.dirname(os.path.abspath(__file__)))
+PROGRAM = f"{ROOT}/crates/ipc_shell/out/ipc_shell"
+
+
+def run(lines):
+    ran = subprocess.run([PROGRAM, "wire"], input="\n".join(lines).encode() + b"\n", capture_output=True)
+    bytes_out, ended, answers = collections.defaultdict(str), [], []
+    for line in ran.stdout.decode().splitlines():
+        words = line.split(" ")
+        if words[0] == "out":
+            bytes_out[words[1]] += words[2]
+        elif words[0] == "ended":
+            ended.append(words[1])
+        else:
+            answers.append(line)
+    return ran.returncode, dict(bytes_out), ended, answers
+
+
+def pieces(line, size, first=None):
+    """The line as lines of pieces of so many bytes, or of the first bytes and the rest."""
+    word, connection, text = line.split(" ")
+    if first is not None:
+        parts = [text[: 2 * first], text[2 * first :]]
+    else:
+        parts = [text[i : i + 2 * size] for i in range(0, len(text), 2 * size)]
+    return [f"{word} {connection} {part}" for part in parts]
+
+
+def cuts(lines):
+    """The same script, cut otherwise; each with a name."""
+    for size in (1, 7):
+        yield f"pieces of {size}", [part for line in lines for part in (pieces(line, size) if is_feed(line) else [line])]
+    for number, line in enumerate(lines):
+        if is_feed(line):
+            for first in range(1, len(line.split(" ")[2]) // 2):
+                yield f"line {number + 1} in two at {first}", lines[:number] + pieces(line, 0, first) + lines[number + 1 :]
+
+
+def is_feed(line):
+    return line.startswith("feed ")
+
+
+def main(scripts):
+    subprocess.run([f"{ROOT}/l4sh", "wire"], stdin=subprocess.DEVNULL, check=True)
+    runs = failed = 0
+    for script in scripts:
+        lines = [line for line in open(script).read().split("\n") if line]
+        want = run(lines)
+        if want[0] != 0:
+            continue
+        for name, cut in cuts(lines):
+            runs += 1
+            got = run(cut)
+            if got != want:
+                failed += 1
+                print(f"{script}: {name}\n  got  {got}\n  want {want}")
+    print(f"{runs} runs, {failed} failed")
+    return 1 if failed or not runs else 0
+
+
+if __name__ == "__main__":
+    sys.exit(main(sys.argv[1:]))

@@ -23,11 +23,11 @@ const TURN: u64 = 1;
 
 /// Serves all paths until each has had its connections and these have ended. False where the ticker or the mover could not be
 /// started.
-pub fn serve_all<
-    C: Ledger + Send + Sync,
-    T: Ledger + Send + Sync,
-    R: Threads + Wait + Clock + Sync,
->(server: &Server<'_, C, T, R>, listeners: &[Listener], connections: u16) -> bool {
+pub fn serve_all<C: Ledger + Send, T: Ledger + Send, R: Threads + Wait + Clock + Sync>(
+    server: &Server<'_, C, T, R>,
+    listeners: &[Listener],
+    connections: u16,
+) -> bool {
     let over = AtomicBool::new(false);
     let over = &over;
     thread::scope(thread::scope_env(), server.rt, |scope| {
@@ -77,7 +77,7 @@ fn move_until_idle<C: Ledger, T: Ledger, R: Wait + Clock>(server: &Server<'_, C,
 }
 
 /// One worker for each path.
-fn accept_all<C: Ledger + Send + Sync, T: Ledger + Send + Sync, R: Threads + Wait + Clock + Sync>(
+fn accept_all<C: Ledger + Send, T: Ledger + Send, R: Threads + Wait + Clock + Sync>(
     server: &Server<'_, C, T, R>,
     listeners: &[Listener],
     connections: u16,
@@ -90,7 +90,7 @@ fn accept_all<C: Ledger + Send + Sync, T: Ledger + Send + Sync, R: Threads + Wai
 }
 
 /// Takes so many connections, and starts a worker for each. An accept that fails counts as one.
-fn accept<C: Ledger + Send + Sync, T: Ledger + Send + Sync, R: Threads + Wait + Clock + Sync>(
+fn accept<C: Ledger + Send, T: Ledger + Send, R: Threads + Wait + Clock + Sync>(
     server: &Server<'_, C, T, R>,
     listener: &Listener,
     connections: u16,
@@ -110,8 +110,8 @@ fn accept<C: Ledger + Send + Sync, T: Ledger + Send + Sync, R: Threads + Wait + 
 /// Serves a socket, with counts of its failures of its own.
 fn serve_socket<C, T, R>(server: &Server<'_, C, T, R>, space: u64, stream: UnixStream)
 where
-    C: Ledger + Send + Sync,
-    T: Ledger + Send + Sync,
+    C: Ledger + Send,
+    T: Ledger + Send,
     R: Threads + Wait + Clock + Sync,
 {
     serve_stream::<C, T, Brand, Brand, R>(server, space, stream, Blank::new(1), Blank::new(1));
@@ -126,8 +126,8 @@ fn serve_stream<C, T, L, M, R>(
     writes: Blank,
 )
 where
-    C: Ledger + Send + Sync,
-    T: Ledger + Send + Sync,
+    C: Ledger + Send,
+    T: Ledger + Send,
     L: Ledger + Send + Sync,
     M: Ledger + Send + Sync,
     R: Threads + Wait + Clock + Sync,

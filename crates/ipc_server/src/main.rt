@@ -13,6 +13,8 @@ mod server;
 mod serving;
 mod socket;
 mod taker;
+#[cfg(test)]
+mod tests;
 
 use accepting::serve_all;
 use clap::error::ErrorKind;
@@ -66,7 +68,7 @@ fn main(rt: HostRuntime) -> io::Result<ExitCode> {
 }
 
 /// Listens, serves, and removes the paths again.
-fn start<C: Ledger + Send + Sync, T: Ledger + Send + Sync, R>(
+fn start<C: Ledger + Send, T: Ledger + Send, R>(
     rt: &R,
     alloc: Global,
     options: &ServerOptions<'_>,
@@ -117,7 +119,7 @@ where
 }
 
 /// Serves the paths until all connections have ended, with the client of the program's own where it is asked for.
-fn serve<C: Ledger + Send + Sync, T: Ledger + Send + Sync, R>(
+fn serve<C: Ledger + Send, T: Ledger + Send, R>(
     server: &Server<'_, C, T, R>,
     listeners: &[Listener],
     options: &ServerOptions<'_>,
@@ -152,7 +154,7 @@ fn served(started: bool) -> Result<(), Exit> {
 }
 
 /// Serves beside a client that sends one word, and answers whether the workers could be started, and the word that came.
-fn serve_probed<C: Ledger + Send + Sync, T: Ledger + Send + Sync, R>(
+fn serve_probed<C: Ledger + Send, T: Ledger + Send, R>(
     server: &Server<'_, C, T, R>,
     listeners: &[Listener],
     connections: u16,

@@ -46,8 +46,8 @@ pub(crate) fn worker() -> thread::Builder {
 /// is no memory for a post box, the line is shut down.
 pub fn serve_connection<C, T, R, I, O, G>(server: &Server<'_, C, T, R>, ports: Ports<I, O, G>)
 where
-    C: Ledger + Send + Sync,
-    T: Ledger + Send + Sync,
+    C: Ledger + Send,
+    T: Ledger + Send,
     R: Threads + Wait + Clock + Sync,
     I: PortRead + Drop + Send,
     O: PortWrite + Drop + Send,
@@ -55,9 +55,9 @@ where
 {
     let Ports {
         space,
-        mut reader,
+        reader,
         writer,
-        mut reads,
+        reads,
         writes,
     } = ports;
     let Ok(place) = server.shared.connect_box(server.rt) else {
@@ -65,20 +65,73 @@ where
         return;
     };
     thread::scope(thread::scope_env(), server.rt, |scope| {
-        let mut writer = writer;
-        let mut writes = writes;
         let started = worker().spawn_scoped(scope, move || {
-            let mut desk = Taker::new(server, place);
-            let _ = write_loop(&mut writer, &mut desk, &mut writes);
-            writes.shut_down();
+            write_to_the_end(server, place, writer, writes)
         });
         if started.is_err() {
             reads.shut_down();
             return;
         }
-        let mut desk = Caller::new(server, place, space);
-        let _ = read_loop(server.alloc, &mut reader, &mut desk, &mut reads);
-        reads.stop_reading();
+        read_to_the_end(server, place, space, reader, reads);
     });
     server.shared.release_box(server.rt, place);
+}
+
+/// Serves two connections beside each other, each by two workers, and joins them all. Where none can be started for the first, its
+/// ports are dropped.
+pub fn serve_ports<C, T, R, I, O, G>(
+    server: &Server<'_, C, T, R>,
+    first: Ports<I, O, G>,
+    second: Ports<I, O, G>,
+)
+where
+    C: Ledger + Send,
+    T: Ledger + Send,
+    R: Threads + Wait + Clock + Sync,
+    I: PortRead + Drop + Send,
+    O: PortWrite + Drop + Send,
+    G: Gate + Line + Drop + Send,
+{
+    thread::scope(thread::scope_env(), server.rt, |scope| {
+        let _ = worker().spawn_scoped(scope, move || serve_connection(server, first));
+        serve_connection(server, second);
+    });
+}
+
+/// Reads what the client sends, and then stops reading.
+fn read_to_the_end<C, T, R, I, G>(
+    server: &Server<'_, C, T, R>,
+    place: usize,
+    space: u64,
+    reader: I,
+    reads: G,
+)
+where
+    C: Ledger,
+    T: Ledger,
+    R: Wait + Clock,
+    I: PortRead + Drop,
+    G: Gate + Line + Drop,
+{
+    let mut reader = reader;
+    let mut reads = reads;
+    let mut desk = Caller::new(server, place, space);
+    let _ = read_loop(server.alloc, &mut reader, &mut desk, &mut reads);
+    reads.stop_reading();
+}
+
+/// Writes what the client is told, and then shuts the line down.
+fn write_to_the_end<C, T, R, O, G>(server: &Server<'_, C, T, R>, place: usize, writer: O, writes: G)
+where
+    C: Ledger,
+    T: Ledger,
+    R: Wait + Clock,
+    O: PortWrite + Drop,
+    G: Gate + Line + Drop,
+{
+    let mut writer = writer;
+    let mut writes = writes;
+    let mut desk = Taker::new(server, place);
+    let _ = write_loop(&mut writer, &mut desk, &mut writes);
+    writes.shut_down();
 }

@@ -1,0 +1,317 @@
+#!/usr/bin/env python3
+"""Real processes over l4d's sockets.
+
+checks/sockets.py PROGRAM          runs PROGRAM (l4d) in a folder of its own
+checks/sockets.py --at PATH        asks the server that listens on PATH, but for what needs its number of threads and files
+
+Exit 0 where every answer was right: half frames, refusals, a full table, a reconnection, ExchangeRegisters over connections,
+100 processes in pairs and 100 in a star with each answer checked, and processes that are killed at random moments. At the end
+the server has as many threads and files as before, and its memory is told.
+"""
+import os, random, signal, socket, struct, subprocess, sys, tempfile, time
+
+ANY = 0xFFFF_FFFF_FFFF_FFFF
+STOP_RECEIVE, STOP_SEND = 2, 4
+SECONDS = 3
+
+
+def frame(kind, body=b""):
+    return struct.pack(">IB", len(body) + 1, kind) + body
+
+
+def hello(number):
+    return frame(1, struct.pack(">H", number))
+
+
+def ipc(to, source, words, timeouts=0):
+    body = struct.pack(">QQIQQQB", to, source, timeouts, 0, len(words), 0, 0)
+    return frame(2, body + b"".join(struct.pack(">Q", word) for word in words))
+
+
+def exreg(target, control):
+    return frame(3, struct.pack(">QQ", target, control))
+
+
+class Client:
+    def __init__(self, path, number=None):
+        self.line = socket.socket(socket.AF_UNIX, socket.SOCK_STREAM)
+        self.line.settimeout(20)
+        self.line.connect(path)
+        if number is not None:
+            self.thread = self.ask(hello(number), 0x81)[0]
+
+    def exactly(self, count):
+        data = b""
+        while len(data) < count:
+            piece = self.line.recv(count - len(data))
+            if not piece:
+                raise EOFError
+            data += piece
+        return data
+
+    def hear(self):
+        length, kind = struct.unpack(">IB", self.exactly(5))
+        return kind, self.exactly(length - 1)
+
+    def ask(self, bytes_out, kind):
+        self.line.sendall(bytes_out)
+        heard, body = self.hear()
+        assert heard == kind, (hex(heard), body.hex())
+        return struct.unpack(">%dQ" % (len(body) // 8), body[: len(body) // 8 * 8])
+
+    def call(self, to, source, words, timeouts=0):
+        self.line.sendall(ipc(to, source, words, timeouts))
+        return self.outcome()
+
+    def outcome(self):
+        kind, body = self.hear()
+        assert kind == 0x82, (hex(kind), body.hex())
+        tag, sender = struct.unpack(">QQ", body[:16])
+        return tag, sender, body
+
+    def bye(self):
+        self.line.sendall(frame(4))
+        assert self.line.recv(1) == b""
+        self.line.close()
+
+
+def word_of(body):
+    return struct.unpack(">Q", body[32:40])[0]
+
+
+def answers(path, number, ready):
+    """A process that answers each word with one more, until its server ends or it is killed."""
+    child = os.fork()
+    if child == 0:
+        client = Client(path, number)
+        os.write(ready, struct.pack(">Q", client.thread))
+        try:
+            tag, sender, body = client.call(0, ANY, [])
+            while True:
+                tag, sender, body = client.call(sender, ANY, [word_of(body) + 1])
+                if tag & 0x8000:
+                    # the caller is gone: nothing was sent, so nothing was received
+                    tag, sender, body = client.call(0, ANY, [])
+        except (EOFError, ConnectionError, socket.timeout):
+            os._exit(0)
+    return child
+
+
+def calls(path, number, to, seconds, result):
+    """A process that calls for so long, and checks each answer."""
+    child = os.fork()
+    if child == 0:
+        client = Client(path, number)
+        count = 0
+        end = time.time() + seconds
+        while time.time() < end:
+            word = random.getrandbits(62)
+            tag, sender, body = client.call(to, to, [word])
+            assert not tag & 0x8000 and sender == to and word_of(body) == word + 1, body.hex()
+            count += 1
+        client.bye()
+        os.write(result, struct.pack(">Q", count))
+        os._exit(0)
+    return child
+
+
+def joined(children, what):
+    for child in children:
+        assert os.waitpid(child, 0)[1] == 0, what
+
+
+def killed(children):
+    for child in children:
+        os.kill(child, signal.SIGKILL)
+        os.waitpid(child, 0)
+
+
+def load(path, servers, clients, name):
+    """Clients that call servers in turn, each in a process of its own, each answer checked."""
+    ready_in, ready_out = os.pipe()
+    counts_in, counts_out = os.pipe()
+    serving = [answers(path, 1 + k, ready_out) for k in range(servers)]
+    threads = [struct.unpack(">Q", os.read(ready_in, 8))[0] for _ in serving]
+    callers = [calls(path, 1 + servers + k, threads[k % servers], SECONDS, counts_out) for k in range(clients)]
+    joined(callers, "an answer was wrong")
+    counts = [struct.unpack(">Q", os.read(counts_in, 8))[0] for _ in callers]
+    killed(serving)
+    for end in (ready_in, ready_out, counts_in, counts_out):
+        os.close(end)
+    assert min(counts) > 0
+    print("%s: %d calls in %d s, least %d and most %d of one client" % (name, sum(counts), SECONDS, min(counts), max(counts)))
+
+
+def random_kills(path):
+    """Two processes call each other to the end while others, in midst of their calls, are killed."""
+    ready_in, ready_out = os.pipe()
+    counts_in, counts_out = os.pipe()
+    server = answers(path, 1, ready_out)
+    to = struct.unpack(">Q", os.read(ready_in, 8))[0]
+    steady = calls(path, 2, to, 2 * SECONDS, counts_out)
+    end = time.time() + 2 * SECONDS - 1
+    kills = 0
+    while time.time() < end:
+        first = 3 + 4 * random.randrange(60)
+        ready, given = os.pipe()
+        victim = answers(path, first, given)
+        thread = struct.unpack(">Q", os.read(ready, 8))[0]
+        others = [calls_or_dies(path, first + 1 + k, thread) for k in range(3)]
+        time.sleep(random.random() / 50)
+        order = [victim] + others
+        random.shuffle(order)
+        killed(order)
+        os.close(ready)
+        os.close(given)
+        kills += 4
+        time.sleep(0.02)
+    joined([steady], "an answer was wrong beside the kills")
+    count = struct.unpack(">Q", os.read(counts_in, 8))[0]
+    killed([server])
+    for end in (ready_in, ready_out, counts_in, counts_out):
+        os.close(end)
+    print("%d processes killed at random moments beside %d calls that were all answered" % (kills, count))
+
+
+def calls_or_dies(path, number, to):
+    child = os.fork()
+    if child == 0:
+        try:
+            client = Client(path, number)
+            while True:
+                client.call(to, to, [1])
+        except (AssertionError, EOFError, OSError):
+            signal.pause()
+    return child
+
+
+def half_frame(path):
+    whole = ipc(0, ANY, [])
+    for cut in (1, 4, 5, 20, len(whole) - 1):
+        client = Client(path, 1)
+        client.line.sendall(whole[:cut])
+        client.line.shutdown(socket.SHUT_WR)
+        assert client.hear() == (0x85, b"F\x09")
+        client.line.close()
+        wait_free(path, 1)
+    stopped = Client(path, 1)
+    stopped.line.sendall(whole[:20])
+    beside = Client(path, 2)
+    assert beside.call(0, ANY, [], 0x0400)[0] & 0x8000
+    beside.bye()
+    stopped.line.close()
+    wait_free(path, 1)
+    print("half a frame: FAULT F9; one that stops in midst of a frame holds nobody up")
+
+
+def wait_free(path, number):
+    """Until the number is free again."""
+    for _ in range(200):
+        client = Client(path)
+        client.line.sendall(hello(number))
+        kind, body = client.hear()
+        if kind == 0x81:
+            client.bye()
+            return
+        client.line.close()
+        time.sleep(0.01)
+    raise AssertionError("number %d stays taken" % number)
+
+
+def again(path):
+    first = Client(path, 9)
+    taken = Client(path)
+    taken.line.sendall(hello(9))
+    assert taken.hear() == (0x84, b"\x02")
+    old = first.thread
+    first.bye()
+    wait_free(path, 9)
+    second = Client(path, 9)
+    assert second.thread >> 32 == 9 and second.thread > old
+    caller = Client(path, 10)
+    tag, _, body = caller.call(old, 0, [1])
+    assert tag & 0x8000, "a thread that ended was called"
+    for client in (second, caller, taken):
+        client.line.close()
+    print("a live number: REFUSED K2; after BYE: a later version, and the id of before is not live")
+
+
+def full(path):
+    live = [Client(path, number) for number in range(1, 256)]
+    for number, refusal in ((256, b"\x01"), (0, b"\x01"), (255, b"\x02")):
+        one_more = Client(path)
+        one_more.line.sendall(hello(number))
+        assert one_more.hear() == (0x84, refusal)
+        one_more.line.close()
+    for client in live:
+        client.line.close()
+    for number in (1, 255):
+        wait_free(path, number)
+    print("255 live threads; number 256: REFUSED K1, 255: REFUSED K2")
+
+
+def stop(path):
+    """ExchangeRegisters over connections: a waiting receive and a waiting send of another thread are stopped."""
+    waits, other = Client(path, 20), Client(path, 21)
+    for message, control, code in ((ipc(0, other.thread, []), STOP_RECEIVE, 7), (ipc(other.thread, 0, [1]), STOP_SEND, 6)):
+        waits.line.sendall(message)
+        time.sleep(0.1)
+        result = other.ask(exreg(waits.thread, STOP_RECEIVE | STOP_SEND), 0x83)
+        assert result[:2] == (waits.thread, control), [hex(word) for word in result]
+        tag, _, body = waits.outcome()
+        assert tag & 0x8000 and struct.unpack(">Q", body[24:32])[0] & 0xF == code, body.hex()
+    waits.bye()
+    other.bye()
+    print("ExchangeRegisters stops a receive and a send of another connection")
+
+
+def check_all(path):
+    for check in (half_frame, again, stop, full):
+        check(path)
+    load(path, 50, 50, "100 processes in pairs")
+    load(path, 1, 99, "100 processes in a star")
+    random_kills(path)
+
+
+def counted(pid):
+    resident = [line for line in open("/proc/%d/status" % pid) if line.startswith("VmRSS")][0].split()[1]
+    return len(os.listdir("/proc/%d/task" % pid)), len(os.listdir("/proc/%d/fd" % pid)), int(resident)
+
+
+def main():
+    if sys.argv[1] == "--at":
+        return check_all(sys.argv[2])
+    folder = tempfile.mkdtemp()
+    server = subprocess.Popen([sys.argv[1], "--dir", folder, "--spaces", "1"], stdout=subprocess.PIPE)
+    try:
+        assert server.stdout.readline() == b"listening 1\n"
+        path = folder + "/space1"
+        assert os.stat(path).st_mode & 0o777 == 0o600
+        before = counted(server.pid)
+        check_all(path)
+        assert server.poll() is None
+        time.sleep(1)
+        after = counted(server.pid)
+        print("threads %d and %d, files %d and %d, resident KiB %d and %d" % (before[0], after[0], before[1], after[1], before[2], after[2]))
+        assert after[:2] == before[:2], "something of a connection that ended was left"
+    finally:
+        server.kill()
+    refusals(sys.argv[1])
+
+
+def refusals(program):
+    """What a start is told that cannot listen, and bad words."""
+    folder = tempfile.mkdtemp()
+    open(folder + "/space2", "w").close()
+    told = subprocess.run([program, "--dir", folder, "--spaces", "3"], capture_output=True)
+    assert (told.returncode, told.stdout) == (1, b""), told
+    assert told.stderr == b"l4d: cannot listen on %s/space2\n" % folder.encode(), told
+    assert sorted(os.listdir(folder)) == ["space2"]
+    told = subprocess.run([program, "--dir", folder + "/none", "--spaces", "1"], capture_output=True)
+    assert (told.returncode, told.stderr) == (1, b"l4d: cannot listen on %s/none/space1\n" % folder.encode()), told
+    told = subprocess.run([program, "--dir", folder, "--spaces", "65"], capture_output=True)
+    assert told.returncode == 2 and told.stderr and not told.stdout, told
+    print("a path that is taken, a folder that is not there, bad words: status 1, 1, 2")
+
+
+main()

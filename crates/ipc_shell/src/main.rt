@@ -23,6 +23,8 @@ mod tests;
 #[cfg(test)]
 mod transcripts;
 mod wire_commands;
+#[cfg(test)]
+mod wire_tests;
 mod wiring;
 
 use charting::chart_trace;

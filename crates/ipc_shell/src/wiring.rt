@@ -23,8 +23,9 @@ enum Obeyed {
     NoConnection,
 }
 
-/// Runs a wire script from a reader: connections come, pieces of bytes come on them, and after each command the bytes that go out on each
-/// connection are written, and which connection ended. The writer is flushed after each command. Empty lines are skipped, and count.
+/// Runs a wire script from a reader: connections come, pieces of bytes come on them, and after each command the bytes that go out on
+/// each connection are written, and which connection ended. The writer is flushed after each command. Empty lines are skipped, and
+/// count.
 pub fn wire_script<R: PortRead, W: PortWrite>(
     alloc: Global,
     limits: Limits,

@@ -442,6 +442,115 @@ fn stale_seats<C: Ledger, T: Ledger, R: Wait + Abort>(
 }
 
 #[test]
+fn a_box_gives_outcomes_before_answers_and_ends_when_it_is_shut(
+    rt: HostRuntime,
+) -> Result<(), Fail> {
+    boxes::<Brand, Brand, _>(&rt, rt.alloc(), Blank::new(1 << 63), Blank::new(1 << 63))
+}
+
+fn boxes<C: Ledger, T: Ledger, R: Wait + Abort>(
+    rt: &R,
+    alloc: Global,
+    calls: Blank,
+    takes: Blank,
+) -> Result<(), Fail>
+    requires calls { (calls.name ≡ C.name) × (calls.parts ≡ C.parts) × (calls.parts ≡ 2 ^ 63) }
+    requires takes { (takes.name ≡ T.name) × (takes.parts ≡ T.parts) × (takes.parts ≡ 2 ^ 63) }
+{
+    let kernel = &SharedKernel::<C, T>::new(alloc, ROOM, calls, takes)
+        .ok()
+        .ok_or("a kernel")?;
+    let place = kernel.connect_box(rt).ok().ok_or("a box")?;
+    let other = kernel.connect_box(rt).ok().ok_or("a box")?;
+    assert!(rt; place != other);
+    let one = Party::open(rt, kernel, 1)?;
+    let Party { takes, .. } = one.enter(rt, kernel, 0, sends(alloc, first(2), 0, 1)?, 1)?;
+    let mut seat = Some(takes);
+    assert_eq!(rt; back(rt, kernel, place, Posted::Refused(7)), None);
+    assert_eq!(rt;
+        back(rt, kernel, place, Posted::Refused(6)),
+        Some(Got::Refused(6))
+    );
+    assert_eq!(rt; next_of(rt, kernel, place, &mut seat), Got::Outcome(1));
+    assert_eq!(rt; next_of(rt, kernel, place, &mut seat), Got::Refused(7));
+    shut_boxes(rt, kernel, place, &mut seat)?;
+    assert!(rt; kernel.wait_empty(rt, other));
+    kernel.release_box(rt, place);
+    assert_eq!(rt; kernel.connect_box(rt).ok(), Some(place));
+    assert!(rt; kernel.wait_empty(rt, place));
+    Ok(())
+}
+
+// What is in a box that is shut still comes, and nothing more can be posted.
+fn shut_boxes<C: Ledger, T: Ledger, R: Wait + Abort>(
+    rt: &R,
+    kernel: &SharedKernel<C, T>,
+    place: usize,
+    seat: &mut Option<TakeSeat<T>>,
+) -> Result<(), Fail> {
+    assert!(rt; kernel.wait_empty(rt, place));
+    assert_eq!(rt; back(rt, kernel, place, Posted::Fault(0x4b, 5)), None);
+    kernel.shut(rt, place);
+    assert!(rt; !kernel.wait_empty(rt, place));
+    assert_eq!(rt;
+        back(rt, kernel, place, Posted::Refused(6)),
+        Some(Got::Refused(6))
+    );
+    assert_eq!(rt; next_of(rt, kernel, place, seat), Got::Fault(0x4b, 5));
+    assert_eq!(rt; next_of(rt, kernel, place, seat), Got::Gone);
+    assert_eq!(rt; next_of(rt, kernel, place, seat), Got::Gone);
+    Ok(())
+}
+
+// What came out of a box.
+#[derive(Clone, Copy, PartialEq, Eq, Debug)]
+enum Got {
+    // By the number of its call.
+    Outcome(u64),
+    Welcome,
+    Exreg,
+    Refused(u8),
+    Fault(u8, u8),
+    Gone,
+}
+
+fn got_of<T: Ledger>(posted: Posted<T>) -> Got {
+    match posted {
+        Posted::Welcome(_, _) => Got::Welcome,
+        Posted::Exreg(_, _, _) => Got::Exreg,
+        Posted::Refused(number) => Got::Refused(number),
+        Posted::Fault(class, number) => Got::Fault(class, number),
+    }
+}
+
+// What a box's writer writes next.
+fn next_of<C: Ledger, T: Ledger, R: Wait>(
+    rt: &R,
+    kernel: &SharedKernel<C, T>,
+    place: usize,
+    seat: &mut Option<TakeSeat<T>>,
+) -> Got {
+    match kernel.wait_next(rt, place, seat) {
+        Next::Outcome(taken) => Got::Outcome(taken.into_outcome().call),
+        Next::Posted(posted) => got_of(posted),
+        Next::Gone => Got::Gone,
+    }
+}
+
+// What is handed back where an answer is posted.
+fn back<C: Ledger, T: Ledger, R: Wait>(
+    rt: &R,
+    kernel: &SharedKernel<C, T>,
+    place: usize,
+    posted: Posted<T>,
+) -> Option<Got> {
+    match kernel.post(rt, place, posted) {
+        Ok(()) => None,
+        Err(posted) => Some(got_of(posted)),
+    }
+}
+
+#[test]
 fn two_threads_of_the_machine_meet_ten_thousand_times(rt: HostRuntime) -> Result<(), Fail> {
     meetings::<Brand, Brand, _>(&rt, rt.alloc(), Blank::new(1 << 63), Blank::new(1 << 63))
 }

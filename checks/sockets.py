@@ -292,7 +292,8 @@ def main():
         assert server.poll() is None
         time.sleep(1)
         after = counted(server.pid)
-        print("threads %d and %d, files %d and %d, resident KiB %d and %d" % (before[0], after[0], before[1], after[1], before[2], after[2]))
+        told = (before[0], after[0], before[1], after[1], before[2], after[2])
+        print("threads %d and %d, files %d and %d, resident KiB %d and %d" % told)
         assert after[:2] == before[:2], "something of a connection that ended was left"
     finally:
         server.kill()

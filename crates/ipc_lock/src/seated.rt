@@ -377,7 +377,9 @@ impl<C: Ledger, T: Ledger> Locked<C, T> {
     pub(crate) fn has_begun_since(&self, before: usize) -> bool {
         let mut begun = 0u64;
         let mut ended = 0u64;
-        for entry in self.kernel.history().iter().skip(before) {
+        let history = self.kernel.history();
+        let (_, added) = history.split_at(before.min(history.len()));
+        for entry in added {
             match entry {
                 Entry::Written(Output::Began(_, _)) => begun = begun.saturating_add(1),
                 Entry::Written(Output::Ended(_, _)) => ended = ended.saturating_add(1),

@@ -77,8 +77,8 @@ where
     server.shared.release_box(server.rt, place);
 }
 
-/// Serves two connections beside each other, each by two workers, and joins them all. Where none can be started for the first, its
-/// ports are dropped.
+/// Serves two connections beside each other, each by two workers, and joins them all. Where no thread can be made they are served one
+/// after the other.
 pub fn serve_ports<C, T, R, I, O, G>(
     server: &Server<'_, C, T, R>,
     first: Ports<I, O, G>,
@@ -92,10 +92,11 @@ where
     O: PortWrite + Drop + Send,
     G: Gate + Line + Drop + Send,
 {
-    thread::scope(thread::scope_env(), server.rt, |scope| {
-        let _ = worker().spawn_scoped(scope, move || serve_connection(server, first));
-        serve_connection(server, second);
-    });
+    let _ = thread::join(
+        server.rt,
+        move || serve_connection(server, first),
+        move || serve_connection(server, second),
+    );
 }
 
 /// Reads what the client sends, and then stops reading.

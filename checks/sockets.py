@@ -12,7 +12,7 @@ import os, random, signal, socket, struct, subprocess, sys, tempfile, time
 
 ANY = 0xFFFF_FFFF_FFFF_FFFF
 STOP_RECEIVE, STOP_SEND = 2, 4
-SECONDS = 3
+SECONDS = 10
 
 
 def frame(kind, body=b""):

@@ -13,6 +13,10 @@ import os, random, signal, socket, struct, subprocess, sys, tempfile, time
 ANY = 0xFFFF_FFFF_FFFF_FFFF
 STOP_RECEIVE, STOP_SEND = 2, 4
 SECONDS = 10
+# about so many calls in each part: the server's history has room for 131,000 in all
+CALLS = 20_000
+# for so long processes are killed
+KILLING = 6
 
 
 def frame(kind, body=b""):
@@ -97,8 +101,8 @@ def answers(path, number, ready):
     return child
 
 
-def calls(path, number, to, seconds, result):
-    """A process that calls for so long, and checks each answer."""
+def calls(path, number, to, seconds, result, pause):
+    """A process that calls for so long, with pauses of so many seconds on average, and checks each answer."""
     child = os.fork()
     if child == 0:
         client = Client(path, number)
@@ -109,6 +113,7 @@ def calls(path, number, to, seconds, result):
             tag, sender, body = client.call(to, to, [word])
             assert not tag & 0x8000 and sender == to and word_of(body) == word + 1, body.hex()
             count += 1
+            time.sleep(2 * pause * random.random())
         client.bye()
         os.write(result, struct.pack(">Q", count))
         os._exit(0)
@@ -132,7 +137,8 @@ def load(path, servers, clients, name):
     counts_in, counts_out = os.pipe()
     serving = [answers(path, 1 + k, ready_out) for k in range(servers)]
     threads = [struct.unpack(">Q", os.read(ready_in, 8))[0] for _ in serving]
-    callers = [calls(path, 1 + servers + k, threads[k % servers], SECONDS, counts_out) for k in range(clients)]
+    pause = SECONDS * clients / CALLS
+    callers = [calls(path, 1 + servers + k, threads[k % servers], SECONDS, counts_out, pause) for k in range(clients)]
     joined(callers, "an answer was wrong")
     counts = [struct.unpack(">Q", os.read(counts_in, 8))[0] for _ in callers]
     killed(serving)
@@ -148,8 +154,8 @@ def random_kills(path):
     counts_in, counts_out = os.pipe()
     server = answers(path, 1, ready_out)
     to = struct.unpack(">Q", os.read(ready_in, 8))[0]
-    steady = calls(path, 2, to, 2 * SECONDS, counts_out)
-    end = time.time() + 2 * SECONDS - 1
+    steady = calls(path, 2, to, KILLING, counts_out, KILLING / CALLS)
+    end = time.time() + KILLING - 1
     kills = 0
     while time.time() < end:
         first = 3 + 4 * random.randrange(60)
@@ -180,6 +186,7 @@ def calls_or_dies(path, number, to):
             client = Client(path, number)
             while True:
                 client.call(to, to, [1])
+                time.sleep(0.004 * random.random())
         except (AssertionError, EOFError, OSError):
             signal.pause()
     return child

@@ -13,39 +13,17 @@ meet K7, and a fault in it may end the thread before its last outcome was writte
 import os
 import select
 import socket
-import struct
 import subprocess
 import sys
 import tempfile
 import time
 
-ANY = 0xFFFF_FFFF_FFFF_FFFF
+from frames import ANY, BYE, exreg, hello, ipc
+
 ONE, TWO, THREE = (number << 32 | 1 for number in (1, 2, 3))
 ZERO_SEND = 0x400 << 16
 ZERO_RECEIVE = 0x400
 SECONDS = 10
-
-
-def frame(kind, body=b""):
-    return struct.pack(">IB", len(body) + 1, kind) + body
-
-
-def hello(number):
-    return frame(1, struct.pack(">H", number))
-
-
-def ipc(to, source, words=(), timeouts=0, sender=0, tag=None, buffers=(), payload=b"", acceptor=None):
-    tag = len(words) if tag is None else tag
-    acceptor = (1 if buffers else 0) if acceptor is None else acceptor
-    head = struct.pack(">QQIQQQB", to, source, timeouts, sender, tag, acceptor, len(buffers))
-    return frame(2, head + b"".join(struct.pack(">Q", word) for word in (*words, *buffers)) + payload)
-
-
-def exreg(target, control):
-    return frame(3, struct.pack(">QQ", target, control))
-
-
-BYE = frame(4)
 
 # (what it shows, its events: the number of a connection and its bytes, None for its end)
 DIALOGUES = [
@@ -60,10 +38,10 @@ DIALOGUES = [
         (1, hello(1)), (2, hello(2)), (1, ipc(0, ANY)), (2, exreg(ONE, 2)), (1, ipc(TWO, 0, [1])), (2, exreg(ONE, 4)),
         (2, exreg(THREE, 6)), (1, BYE), (2, BYE)]),
     ("strings", [
-        (1, hello(1)), (2, hello(2)), (1, ipc(0, TWO, buffers=[0x1000, 0x1000, 0x2000, 0x2000], acceptor=1)),
+        (1, hello(1)), (2, hello(2)), (1, ipc(0, TWO, buffers=[0x1000, 0x1000, 0x2000, 0x2000])),
         (2, ipc(ONE, 0, [0xC00, 0x0, 0x1400, 0x3], tag=0x100, payload=b"abchello")), (1, BYE), (2, BYE)]),
     ("a string that does not fit", [
-        (1, hello(1)), (2, hello(2)), (1, ipc(0, TWO, buffers=[0x800, 0x1000], acceptor=1)),
+        (1, hello(1)), (2, hello(2)), (1, ipc(0, TWO, buffers=[0x800, 0x1000])),
         (2, ipc(ONE, 0, [0xC00, 0x0], tag=0x80, payload=b"abc")), (1, BYE), (2, BYE)]),
     ("a propagated message", [
         (1, hello(1)), (2, hello(2)), (3, hello(3)), (3, ipc(0, ANY)), (1, ipc(TWO, TWO, [5], ZERO_SEND)), (1, ipc(0, TWO)),

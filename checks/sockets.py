@@ -10,30 +10,14 @@ the server has as many threads and files as before, and its memory is told.
 """
 import os, random, signal, socket, struct, subprocess, sys, tempfile, time
 
-ANY = 0xFFFF_FFFF_FFFF_FFFF
+from frames import ANY, exreg, frame, hello, ipc
+
 STOP_RECEIVE, STOP_SEND = 2, 4
 SECONDS = 10
 # about so many calls in each part: the server's history has room for 131,000 in all
 CALLS = 20_000
 # for so long processes are killed
 KILLING = 6
-
-
-def frame(kind, body=b""):
-    return struct.pack(">IB", len(body) + 1, kind) + body
-
-
-def hello(number):
-    return frame(1, struct.pack(">H", number))
-
-
-def ipc(to, source, words, timeouts=0):
-    body = struct.pack(">QQIQQQB", to, source, timeouts, 0, len(words), 0, 0)
-    return frame(2, body + b"".join(struct.pack(">Q", word) for word in words))
-
-
-def exreg(target, control):
-    return frame(3, struct.pack(">QQ", target, control))
 
 
 class Client:

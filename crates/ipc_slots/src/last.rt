@@ -14,6 +14,7 @@ ghost use Rattle.ipc_slots.specs.Rules.{IsStanding, IsSmall, stop_by, turn_by, t
 use crate::slot::{Phase, Standing};
 use crate::slots::Slots;
 use ipc_history::{Entry, Input, Output};
+use ipc_words::Phase as FailedPhase;
 use ipc_words::{IpcError, MaskedControl, ThreadId};
 
 impl Standing {
@@ -22,12 +23,16 @@ impl Standing {
         ensures { result ≡ stop_by is_partner_live send receive self.now }
     {
         match self.phase {
-            Phase::Sending if send => Some(Output::Failed(self.number, IpcError::from_word(0x6))),
+            Phase::Sending if send => {
+                let error = IpcError::cancelled(FailedPhase::Send);
+                Some(Output::Failed(self.number, error))
+            }
             Phase::Passing(receiver) if send && is_partner_live => {
                 Some(Output::Aborted(self.number, receiver, self.moved))
             }
             Phase::Receiving if receive => {
-                Some(Output::Failed(self.number, IpcError::from_word(0x7)))
+                let error = IpcError::cancelled(FailedPhase::Receive);
+                Some(Output::Failed(self.number, error))
             }
             Phase::Taking(sender, _, bytes) if receive && is_partner_live => {
                 Some(Output::Aborted(sender, self.number, bytes))

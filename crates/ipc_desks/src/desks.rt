@@ -1,5 +1,8 @@
 ghost use Rattle.std.specs.Prelude.{◌≡◌, ◌≤◌, ◌+◌, ◌<◌, ◌^◌, ◌++◌, ◌∷◌, ◌*◌, [], ℕ, length, Some, None, List, IfOk, IfSome, IsTrue, IsFalse, IsNone, false, ◌==◌, ◌&&◌};
 ghost use Rattle.ipc_words.specs.ThreadId.{nilthread, number_of};
+ghost use Rattle.ipc_words.specs.IpcError.{failure_code};
+ghost use Rattle.ipc_words.specs.declared.ipc_error.Phase.TheVariants.{Send};
+ghost use Rattle.ipc_words.specs.declared.ipc_error.ErrorKind.TheVariants as kind;
 ghost use Rattle.ipc_history.specs.Calls.{caller_of};
 ghost use Rattle.ipc_history.specs.Entries.{number_in};
 ghost use Rattle.ipc_history.specs.Legal.{Legal, Follows};
@@ -22,6 +25,7 @@ use crate::message::{Message, Prepared};
 use ipc_history::{Call, Entry, Input, Outcome, Output};
 use ipc_items::BufferList;
 use ipc_slots::{Slots, Standing};
+use ipc_words::Phase as FailedPhase;
 use ipc_words::{IpcError, ThreadId};
 use std::alloc::{AllocError, Global};
 use std::marker::Model;
@@ -245,15 +249,16 @@ impl Desks {
         slots: &Slots,
         sending: u64,
         receiving: u64,
-        code: u64,
+        error: IpcError,
     ) -> Finished
         requires legal { Legal entries.now }
         requires stands { Stands entries.now slots.now }
         requires keeps { Keeps entries.now taken.now self.old }
         requires sends { IsFalse (is_over entries.now sending) }
         requires receives { IsFalse (is_over entries.now receiving) }
-        requires small { code < 2 ^ 32 }
-        ensures desks { Failing (number_of (caller_of entries.now sending)) (number_of (caller_of entries.now receiving)) (failure sending code) (failure receiving (code + 1)) self.old self.new }
+        requires small { error < 2 ^ 32 }
+        ensures desks { Failing (number_of (caller_of entries.now sending)) (number_of (caller_of entries.now receiving)) (failure sending error)
+            (failure receiving (error + 1)) self.old self.new }
         ensures finished { result ≡ record { first = Some (caller_of entries.now sending); second = Some (caller_of entries.now receiving) } }
     {
         let from = self.place_of(entries, taken, sending);
@@ -261,8 +266,8 @@ impl Desks {
         let sender = standing(entries, slots, sending, from);
         let receiver = standing(entries, slots, receiving, to);
         let alloc = self.alloc;
-        self.finish(from, failure(alloc, sending, IpcError::from_word(code)));
-        self.finish(to, failure(alloc, receiving, IpcError::from_word(code + 1)));
+        self.finish(from, failure(alloc, sending, error));
+        self.finish(to, failure(alloc, receiving, in_receive_phase(error)));
         Finished {
             first: Some(sender.caller),
             second: Some(receiver.caller),
@@ -286,7 +291,8 @@ impl Desks {
         ensures keeps { Keeps (entries.now ++ Written (Overflowed sending receiving offset) ∷ []) taken.now self.new }
         ensures finished { (t : ℕ) → is_named result t ≡ finishes entries.now (Written (Overflowed sending receiving offset)) t }
     {
-        self.fail_both(entries, taken, slots, sending, receiving, 0x8 + 16 * offset)
+        let error = overflow_error(offset);
+        self.fail_both(entries, taken, slots, sending, receiving, error)
     }
 
     /// Takes note of an abort.
@@ -306,7 +312,8 @@ impl Desks {
         ensures keeps { Keeps (entries.now ++ Written (Aborted sending receiving count) ∷ []) taken.now self.new }
         ensures finished { (t : ℕ) → is_named result t ≡ finishes entries.now (Written (Aborted sending receiving count)) t }
     {
-        self.fail_both(entries, taken, slots, sending, receiving, 0xe + 16 * count)
+        let error = abort_error(count);
+        self.fail_both(entries, taken, slots, sending, receiving, error)
     }
 }
 
@@ -509,4 +516,28 @@ fn standing(entries: &[Entry], slots: &Slots, number: u64, place: usize) -> Stan
         unreachable!()
     };
     call
+}
+
+/// What the sender is told of an overflow.
+fn overflow_error(offset: u64) -> IpcError
+    requires { offset < 2 ^ 32 }
+    ensures { result ≡ failure_code Send kind.MessageOverflow offset }
+{
+    IpcError::message_overflow(FailedPhase::Send, offset).unwrap()
+}
+
+/// What the sender is told of an abort.
+fn abort_error(count: u64) -> IpcError
+    requires { count < 2 ^ 32 }
+    ensures { result ≡ failure_code Send kind.Aborted count }
+{
+    IpcError::aborted(FailedPhase::Send, count).unwrap()
+}
+
+/// What the receiver is told where its sender is told an error of the send phase: bit 0 is the phase.
+fn in_receive_phase(error: IpcError) -> IpcError
+    requires { error < 2 ^ 32 }
+    ensures { result ≡ error + 1 }
+{
+    IpcError::from_word(error.to_word() + 1)
 }

@@ -1,5 +1,6 @@
 -- The calls of which the next output can be, so that a kernel looks at no other.
-use Rattle.std.specs.Prelude.{ℕ, ◌<◌, List, [], ◌∷◌, Bool, false, ◌&&◌, ◌||◌, Option, Some, IsTrue, find, filter, nat_lt, option_and_then, ◌==◌, if◌then◌else◌}
+use Rattle.std.specs.Prelude.{ℕ, ◌<◌, List, [], ◌∷◌, Bool, false, ◌&&◌, ◌||◌, Option, Some, IsTrue}
+use Rattle.std.specs.Prelude.{find, filter, nat_lt, option_and_then, ◌==◌, if◌then◌else◌}
 use Rattle.std.specs.List.{list_any}
 use Rattle.std.specs.Option.{option_or, option_map_or}
 use Rattle.ipc_history.specs.Entries.{names}
@@ -75,7 +76,10 @@ touched P _ = []
 
 -- the output of one candidate
 abbrev pub next_of : List Entry → ℕ → Option Output
-next_of P n = option_or (end_of P n) (option_or (partner_gone_of P n) (option_or (option_and_then (meeting_of P) (source_of P n)) (timeout_of P n)))
+next_of P n =
+    option_or (end_of P n)
+    (option_or (partner_gone_of P n)
+    (option_or (option_and_then (meeting_of P) (source_of P n)) (timeout_of P n)))
 
 -- the failure of a call whose partner is gone, and of one that is due
 abbrev pub is_loss : Output → Bool

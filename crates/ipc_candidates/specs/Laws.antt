@@ -34,15 +34,27 @@ output_of P n = option_or (end_of P n) (option_or (partner_gone_of P n) (option_
 
 -- so the next output is what the last entry stops or turns, else that of the only candidate
 abbrev pub NextIsNear : Type 0
-NextIsNear = (P : List Entry) (n : ℕ) → Legal P → Covers P (n ∷ []) → next_output P ≡ option_or (option_or (option_and_then (stop_after P) (last P)) (option_and_then (turn_after P) (last P))) (output_of P n)
+NextIsNear =
+    (P : List Entry) (n : ℕ) → Legal P → Covers P (n ∷ [])
+    → next_output P
+    ≡ option_or
+    (option_or (option_and_then (stop_after P) (last P)) (option_and_then (turn_after P) (last P)))
+    (output_of P n)
 
 -- a call that is entered is the only candidate
 abbrev pub CalledIsNear : Type 0
-CalledIsNear = (P : List Entry) (n thread : ℕ) (call : CallParts) → Legal P → Follows P (Given (Called n thread call)) → Covers (P ++ Given (Called n thread call) ∷ []) (n ∷ [])
+CalledIsNear =
+    (P : List Entry) (n thread : ℕ) (call : CallParts) → Legal P
+    → Follows P (Given (Called n thread call))
+    → Covers (P ++ Given (Called n thread call) ∷ []) (n ∷ [])
 
 -- and behind a transfer's begin or end under it, the sending call is
 abbrev pub BeganStaysNear : Type 0
-BeganStaysNear = (P : List Entry) (c n m : ℕ) → Legal P → Covers P (c ∷ []) → next_output P ≡ Some (Began n m) → Covers (P ++ Written (Began n m) ∷ []) (n ∷ [])
+BeganStaysNear =
+    (P : List Entry) (c n m : ℕ) → Legal P → Covers P (c ∷ []) → next_output P ≡ Some (Began n m)
+    → Covers (P ++ Written (Began n m) ∷ []) (n ∷ [])
 
 abbrev pub EndedStaysNear : Type 0
-EndedStaysNear = (P : List Entry) (c n m : ℕ) → Legal P → Covers P (c ∷ []) → next_output P ≡ Some (Ended n m) → Covers (P ++ Written (Ended n m) ∷ []) (n ∷ [])
+EndedStaysNear =
+    (P : List Entry) (c n m : ℕ) → Legal P → Covers P (c ∷ []) → next_output P ≡ Some (Ended n m)
+    → Covers (P ++ Written (Ended n m) ∷ []) (n ∷ [])

@@ -88,10 +88,17 @@ meeting P n m = option_map_or (λ offset. Overflowed n m offset) (overflow_offse
 unfoldable pub meeting_of : List Entry → ℕ → Option Output
 meeting_of P n = option_map (meeting P n) (match_of P n)
 
+-- the code of the phase of n that is due: a timeout (e=1)
+abbrev pub timeout_code : List Entry → ℕ → ℕ
+timeout_code P n =
+    (if is_sending P n
+    then failure_code Send kind.Timeout 0
+    else failure_code Receive kind.Timeout 0)
+
 -- 6. the waiting phase of n is due: it fails, timed out (e=1)
 unfoldable pub timeout_of : List Entry → ℕ → Option Output
 timeout_of P n =
-    (if is_due P n then Some (Failed n (if is_sending P n then failure_code Send kind.Timeout 0 else failure_code Receive kind.Timeout 0)) else None)
+    (if is_due P n then Some (Failed n (timeout_code P n)) else None)
 
 -- what each rule gives, in their order
 abbrev pub rule_outputs : List Entry → List (Option Output)

@@ -2,7 +2,8 @@
 use Rattle.std.specs.Prelude.{◌≡◌, ℕ, ◌+◌, List, [], ◌∷◌, ◌++◌, ◌||◌, ◌&&◌, ◌==◌, unwrap_or, IsTrue, IsFalse}
 use Rattle.std.specs.Option.{option_or}
 use Rattle.ipc_words.specs.ThreadId.{nilthread}
-use Rattle.ipc_history.specs.Entries.{moment_in, opens, breaks, call_in, closes, ends_send, receiver_in, sender_in, turned_in, count_in, names}
+use Rattle.ipc_history.specs.Entries.{moment_in, opens, breaks, call_in, closes, ends_send}
+use Rattle.ipc_history.specs.Entries.{receiver_in, sender_in, turned_in, count_in, names}
 use Rattle.ipc_history.specs.Calls.{call_at, is_called, caller_of, from_of}
 use Rattle.ipc_history.specs.Threads.{now, was_opened, has_broken}
 use Rattle.ipc_history.specs.Phases.{is_sent, receiver_of, sender_of, is_over, is_sending, is_receiving, moved_bytes}
@@ -20,7 +21,10 @@ pub record Changes (P : List Entry) (e : Entry) : Type 0 where
   pub sent : (n : ℕ) → is_sent (P ++ e ∷ []) n ≡ (is_sent P n || ends_send n e)
   pub bytes : (n : ℕ) → moved_bytes (P ++ e ∷ []) n ≡ moved_bytes P n + count_in n e
   pub wanted : (m : ℕ) → IsTrue (is_called P m) → from_specifier (P ++ e ∷ []) m ≡ unwrap_or (turned_in m e) (from_specifier P m)
-  pub over : (n : ℕ) → IsTrue (is_called P n) → is_over (P ++ e ∷ []) n ≡ (is_over P n || closes n e || breaks (caller_of P n) e || ((from_of P n == nilthread) && ends_send n e))
+  pub over : (n : ℕ) → IsTrue (is_called P n)
+        → is_over (P ++ e ∷ []) n
+        ≡ (is_over P n || closes n e || breaks (caller_of P n) e
+        || ((from_of P n == nilthread) && ends_send n e))
 
 abbrev pub EachEntryChanges : Type 0
 EachEntryChanges = (P : List Entry) (e : Entry) → Changes P e
@@ -40,4 +44,6 @@ pub record Unchanged (P : List Entry) (e : Entry) (x : ℕ) : Type 0 where
   pub due : (moment : ℕ) → is_due_at (P ++ e ∷ []) moment x ≡ is_due_at P moment x
 
 abbrev pub OthersUnchanged : Type 0
-OthersUnchanged = (P : List Entry) (e : Entry) (x : ℕ) → IsTrue (is_called P x) → IsFalse (names x e) → IsFalse (breaks (caller_of P x) e) → Unchanged P e x
+OthersUnchanged =
+    (P : List Entry) (e : Entry) (x : ℕ) → IsTrue (is_called P x) → IsFalse (names x e)
+    → IsFalse (breaks (caller_of P x) e) → Unchanged P e x

@@ -1,5 +1,7 @@
 -- How many outputs are still to come, and how much room is owed.
-use Rattle.std.specs.Prelude.{◌≡◌, ℕ, ◌+◌, ◌-◌, ◌*◌, ◌/◌, ◌<◌, ◌≤◌, List, [], ◌∷◌, ◌++◌, Bool, true, false, not, ◌||◌, Some, is_none, if◌then◌else◌, ◌==◌, sum_by, count_by, filter_map, length, map}
+use Rattle.std.specs.Prelude.{◌≡◌, ℕ, ◌+◌, ◌-◌, ◌*◌, ◌/◌, ◌<◌, ◌≤◌, List, [], ◌∷◌, ◌++◌, Bool, true}
+use Rattle.std.specs.Prelude.{false, not, ◌||◌, Some, is_none, if◌then◌else◌, ◌==◌, sum_by}
+use Rattle.std.specs.Prelude.{count_by, filter_map, length, map}
 use Rattle.std.specs.Option.{option_map_or}
 use Rattle.ipc_words.specs.Limits.{max_thread_number, max_outputs, pledge_of_thread, pledge_of_open_call, pledge_of_block}
 use Rattle.ipc_words.specs.ThreadId.{nilthread}
@@ -73,7 +75,9 @@ open_calls P = count_by (λ n. not (is_over P n)) (numbers P)
 
 -- each output takes at least one of the steps that were left
 abbrev pub StepsFall : Type 0
-StepsFall = (P : List Entry) → Legal P → (output : Output) → next_output P ≡ Some output → all_steps_left (P ++ Written output ∷ []) < all_steps_left P
+StepsFall =
+    (P : List Entry) → Legal P → (output : Output) → next_output P ≡ Some output
+    → all_steps_left (P ++ Written output ∷ []) < all_steps_left P
 
 -- so many outputs follow, and no more
 abbrev pub StepsBound : Type 0
@@ -84,14 +88,19 @@ abbrev pub OpenBound : Type 0
 OpenBound = (P : List Entry) → Legal P → open_calls P ≤ live_threads P
 
 abbrev pub OutputsBound : Type 0
-OutputsBound = (P : List Entry) (input : Input) (outputs : List Output) → Legal (P ++ Given input ∷ map Written outputs) → length outputs ≤ 4 * live_threads (P ++ Given input ∷ [])
+OutputsBound =
+    (P : List Entry) (input : Input) (outputs : List Output)
+    → Legal (P ++ Given input ∷ map Written outputs)
+    → length outputs ≤ 4 * live_threads (P ++ Given input ∷ [])
 
 -- each number has at most one live thread, so after an input come at most four outputs for each number
 abbrev pub LiveBound : Type 0
 LiveBound = (P : List Entry) → Legal P → live_threads P ≤ max_thread_number
 
 abbrev pub OutputsMost : Type 0
-OutputsMost = (P : List Entry) (input : Input) (outputs : List Output) → Legal (P ++ Given input ∷ map Written outputs) → length outputs ≤ max_outputs
+OutputsMost =
+    (P : List Entry) (input : Input) (outputs : List Output)
+    → Legal (P ++ Given input ∷ map Written outputs) → length outputs ≤ max_outputs
 
 -- the room that an input needs with its own entry, and the room that it gives back. An At that stands before it needs one more
 abbrev pub room_for : Input → ℕ
@@ -107,15 +116,26 @@ room_back (Moved n count) = 1
 room_back _ = 0
 
 abbrev pub InputRoom : Type 0
-InputRoom = (P : List Entry) (input : Input) → Legal (P ++ Given input ∷ []) → length (P ++ Given input ∷ []) + room_owed (P ++ Given input ∷ []) + room_back input ≤ length P + room_owed P + room_for input
+InputRoom =
+    (P : List Entry) (input : Input) → Legal (P ++ Given input ∷ [])
+    → length (P ++ Given input ∷ []) + room_owed (P ++ Given input ∷ []) + room_back input
+    ≤ length P + room_owed P + room_for input
 
 -- an At that brings an output needs no room that wasn't owed, since a call fails
 abbrev pub AtRoom : Type 0
-AtRoom = (P : List Entry) (moment : ℕ) (output : Output) → Legal (P ++ Given (At moment) ∷ Written output ∷ []) → length (P ++ Given (At moment) ∷ Written output ∷ []) + room_owed (P ++ Given (At moment) ∷ Written output ∷ []) ≤ length P + room_owed P
+AtRoom =
+    (P : List Entry) (moment : ℕ) (output : Output)
+    → Legal (P ++ Given (At moment) ∷ Written output ∷ [])
+    → length (P ++ Given (At moment) ∷ Written output ∷ [])
+    + room_owed (P ++ Given (At moment) ∷ Written output ∷ []) ≤ length P + room_owed P
 
 -- what is pledged covers what is owed: something for each live thread, each open call, and each block of each open call
 unfoldable pub pledge_of : List Entry → ℕ → ℕ
-pledge_of P n = (if is_over P n then 0 else pledge_of_open_call + pledge_of_block * (if to_of P n == nilthread then 0 else blocks (message_size P n)))
+pledge_of P n =
+    (if is_over P n
+    then 0
+    else pledge_of_open_call
+    + pledge_of_block * (if to_of P n == nilthread then 0 else blocks (message_size P n)))
 
 unfoldable pub pledged : List Entry → ℕ
 pledged P = pledge_of_thread * live_threads P + sum_by (pledge_of P) (numbers P)
@@ -125,7 +145,10 @@ PledgeCovers = (P : List Entry) → Legal P → room_owed P ≤ pledged P
 
 -- an output needs no room that wasn't owed
 abbrev pub RoomHolds : Type 0
-RoomHolds = (P : List Entry) → Legal P → (output : Output) → next_output P ≡ Some output → length (P ++ Written output ∷ []) + room_owed (P ++ Written output ∷ []) ≤ length P + room_owed P
+RoomHolds =
+    (P : List Entry) → Legal P → (output : Output) → next_output P ≡ Some output
+    → length (P ++ Written output ∷ []) + room_owed (P ++ Written output ∷ [])
+    ≤ length P + room_owed P
 
 -- the room that entries need: of each input what it needs
 abbrev pub room_need : Entry → ℕ
@@ -134,4 +157,6 @@ room_need (Written output) = 0
 
 -- what a command appends, an At, its input and outputs, fits where the pledge and what its inputs need fitted
 abbrev pub CommandFits : Type 0
-CommandFits = (P Q : List Entry) (limit : ℕ) → Legal (P ++ Q) → length P + pledged P + sum_by room_need Q ≤ limit → length (P ++ Q) ≤ limit
+CommandFits =
+    (P Q : List Entry) (limit : ℕ) → Legal (P ++ Q)
+    → length P + pledged P + sum_by room_need Q ≤ limit → length (P ++ Q) ≤ limit

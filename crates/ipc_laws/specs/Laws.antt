@@ -1,6 +1,9 @@
 -- The laws of histories.
-use Rattle.std.specs.Prelude.{◌≡◌, ℕ, zero, suc, [], ◌∷◌, ◌+◌, ◌*◌, ◌^◌, ◌%◌, length, ◌<◌, ◌≤◌, List, ◌++◌, Option, Some, None, IsTrue, IsFalse, ◌⊎◌, filter_map, count_by, Bool, if◌then◌else◌}
+use Rattle.std.specs.Prelude.{◌≡◌, ℕ, zero, suc, [], ◌∷◌, ◌+◌, ◌*◌, ◌^◌, ◌%◌, length, ◌<◌, ◌≤◌}
+use Rattle.std.specs.Prelude.{List, ◌++◌, Option, Some, None, IsTrue, IsFalse, ◌⊎◌, filter_map}
+use Rattle.std.specs.Prelude.{count_by, Bool, if◌then◌else◌}
 use Rattle.std.specs.List.{list_any}
+use Rattle.ipc_history.specs.NextOutput.{timeout_code}
 use Rattle.ipc_words.specs.Limits.{max_message_words, max_string_bytes}
 use Rattle.ipc_history.specs.CallParts.{CallParts, is_normal}
 use Rattle.ipc_history.specs.Words.{first_some}
@@ -30,7 +33,9 @@ OutputMeans = (P : List Entry) (output : Output) → next_output P ≡ Some outp
 
 -- the calls of a legal history are in normal form
 abbrev pub CallsAreNormal : Type 0
-CallsAreNormal = (H : List Entry) → Legal H → (n thread : ℕ) (call : CallParts) → call_at H n ≡ Some (thread, call) → IsTrue (is_normal call)
+CallsAreNormal =
+    (H : List Entry) → Legal H → (n thread : ℕ) (call : CallParts)
+    → call_at H n ≡ Some (thread, call) → IsTrue (is_normal call)
 
 -- so the tag of n counts its words and strings, and its strings have at most 1,048,576 bytes; without a call there is nothing
 pub record IsNormalMessage (H : List Entry) (n : ℕ) : Type 0 where
@@ -48,15 +53,21 @@ OverStays = (P Q : List Entry) (n : ℕ) → IsTrue (is_called P n) → IsTrue (
 
 -- the outcome of a call that is over stays as it is, until its caller ends
 abbrev pub OutcomesStay : Type 0
-OutcomesStay = (P Q : List Entry) → Legal (P ++ Q) → (n : ℕ) → IsTrue (is_called P n) → IsTrue (is_over P n) → IsFalse (has_broken (P ++ Q) (caller_of (P ++ Q) n)) → outcome_of (P ++ Q) n ≡ outcome_of P n
+OutcomesStay =
+    (P Q : List Entry) → Legal (P ++ Q) → (n : ℕ) → IsTrue (is_called P n) → IsTrue (is_over P n)
+    → IsFalse (has_broken (P ++ Q) (caller_of (P ++ Q) n)) → outcome_of (P ++ Q) n ≡ outcome_of P n
 
 -- but for the Called itself, an entry names only calls that are made and not over
 abbrev pub NamesOpenCalls : Type 0
-NamesOpenCalls = (P : List Entry) (e : Entry) → Follows P e → (n : ℕ) → IsTrue (names n e) → IsFalse (calls n e) → IsTrue (is_called P n) × IsFalse (is_over P n)
+NamesOpenCalls =
+    (P : List Entry) (e : Entry) → Follows P e → (n : ℕ) → IsTrue (names n e) → IsFalse (calls n e)
+    → IsTrue (is_called P n) × IsFalse (is_over P n)
 
 -- two open calls of one caller are one
 abbrev pub OneOpenCall : Type 0
-OneOpenCall = (H : List Entry) → Legal H → (n k : ℕ) → IsFalse (is_over H n) → IsFalse (is_over H k) → caller_of H n ≡ caller_of H k → n ≡ k
+OneOpenCall =
+    (H : List Entry) → Legal H → (n k : ℕ) → IsFalse (is_over H n) → IsFalse (is_over H k)
+    → caller_of H n ≡ caller_of H k → n ≡ k
 
 -- an open call is of a live thread; it is that thread's open call, and the last of its calls
 pub record IsOpenCall (H : List Entry) (n : ℕ) : Type 0 where
@@ -71,7 +82,10 @@ OpenCallIsLast = (H : List Entry) → Legal H → (n : ℕ) → IsFalse (is_over
 -- call order and entry order agree for each caller: where an entry names a later call of it, an earlier one is over, and neither
 -- that entry nor one behind it names the earlier one
 abbrev pub EntriesInOrder : Type 0
-EntriesInOrder = (H : List Entry) → Legal H → (n k : ℕ) → n < k → caller_of H n ≡ caller_of H k → (P rest : List Entry) (e : Entry) → H ≡ P ++ e ∷ rest → IsTrue (names k e) → IsTrue (is_over P n) × IsFalse (list_any (names n) (e ∷ rest))
+EntriesInOrder =
+    (H : List Entry) → Legal H → (n k : ℕ) → n < k → caller_of H n ≡ caller_of H k
+    → (P rest : List Entry) (e : Entry) → H ≡ P ++ e ∷ rest → IsTrue (names k e)
+    → IsTrue (is_over P n) × IsFalse (list_any (names n) (e ∷ rest))
 
 -- a send begins at most once, and so does a receive
 abbrev pub BeginsOnce : Type 0
@@ -86,11 +100,17 @@ ClosedOnce = (H : List Entry) → Legal H → (n : ℕ) → count_by (closes n) 
 
 -- a call is in at most one phase: it waits to send, passes to m, waits to receive, or receives from k
 abbrev pub OnePhase : Type 0
-OnePhase = (H : List Entry) → Legal H → (n m k : ℕ) → one_if (is_sending H n) + one_if (is_transferring H n m) + one_if (is_receiving H n) + one_if (is_transferring H k n) ≤ 1
+OnePhase =
+    (H : List Entry) → Legal H → (n m k : ℕ)
+    → one_if (is_sending H n) + one_if (is_transferring H n m) + one_if (is_receiving H n)
+    + one_if (is_transferring H k n) ≤ 1
 
 -- the two calls of a transfer that has not ended are over together, where neither caller has ended
 abbrev pub OverTogether : Type 0
-OverTogether = (H : List Entry) → Legal H → (n m : ℕ) → receiver_of H n ≡ Some m → IsFalse (list_any (ends n m) H) → IsFalse (has_broken H (caller_of H n)) → IsFalse (has_broken H (caller_of H m)) → is_over H n ≡ is_over H m
+OverTogether =
+    (H : List Entry) → Legal H → (n m : ℕ) → receiver_of H n ≡ Some m
+    → IsFalse (list_any (ends n m) H) → IsFalse (has_broken H (caller_of H n))
+    → IsFalse (has_broken H (caller_of H m)) → is_over H n ≡ is_over H m
 
 -- what ended had begun
 abbrev pub EndedHadBegun : Type 0
@@ -123,21 +143,31 @@ QuietMoves = (H : List Entry) → Legal H → Quiet H → (n m : ℕ) → IsTrue
 
 -- after an At a call is due where it is due at that moment
 abbrev pub AtMakesDue : Type 0
-AtMakesDue = (P : List Entry) (moment n : ℕ) → IsTrue (is_called P n) → is_due (P ++ Given (At moment) ∷ []) n ≡ is_due_at P moment n
+AtMakesDue =
+    (P : List Entry) (moment n : ℕ) → IsTrue (is_called P n)
+    → is_due (P ++ Given (At moment) ∷ []) n ≡ is_due_at P moment n
 
 -- at a moment, the failure of a call whose waiting phase is due then
 unfoldable pub timeout_at : List Entry → ℕ → ℕ → Option Output
-timeout_at P moment n = (if is_due_at P moment n then Some (Failed n (if is_sending P n then 0x2 else 0x3)) else None)
+timeout_at P moment n = (if is_due_at P moment n then Some (Failed n (timeout_code P n)) else None)
 
 -- after a quiet history an At brings the failure of the least call that is due at that moment, so nothing where no call is
 abbrev pub AtBrings : Type 0
-AtBrings = (P : List Entry) (moment : ℕ) → Quiet P → next_output (P ++ Given (At moment) ∷ []) ≡ first_some (timeout_at P moment) (numbers P)
+AtBrings =
+    (P : List Entry) (moment : ℕ) → Quiet P
+    → next_output (P ++ Given (At moment) ∷ []) ≡ first_some (timeout_at P moment) (numbers P)
 
 abbrev pub AtStaysQuiet : Type 0
-AtStaysQuiet = (P : List Entry) (moment : ℕ) → Quiet P → ((n : ℕ) → IsTrue (is_called P n) → IsFalse (is_due_at P moment n)) → Quiet (P ++ Given (At moment) ∷ [])
+AtStaysQuiet =
+    (P : List Entry) (moment : ℕ) → Quiet P
+    → ((n : ℕ) → IsTrue (is_called P n) → IsFalse (is_due_at P moment n))
+    → Quiet (P ++ Given (At moment) ∷ [])
 
 abbrev pub AtFails : Type 0
-AtFails = (P : List Entry) (moment : ℕ) → Quiet P → (output : Output) → next_output (P ++ Given (At moment) ∷ []) ≡ Some output → (n : ℕ) × (code : ℕ) × (output ≡ Failed n code)
+AtFails =
+    (P : List Entry) (moment : ℕ) → Quiet P → (output : Output)
+    → next_output (P ++ Given (At moment) ∷ []) ≡ Some output
+    → (n : ℕ) × (code : ℕ) × (output ≡ Failed n code)
 
 -- the headline
 abbrev pub LegalIsPaired : Type 0
@@ -145,7 +175,9 @@ LegalIsPaired = (H : List Entry) → Legal H → Paired H
 
 -- beside the headline: whose send was received sees an outcome without E, or an ErrorCode with p=1
 abbrev pub SenderSees : Type 0
-SenderSees = (H : List Entry) → Legal H → (n m : ℕ) → IsPair H n m → (told : OutcomeParts) → outcome_of H n ≡ Some told → IsFalse (has_failed told.tag) ⊎ (told.error % 2 ≡ 1)
+SenderSees =
+    (H : List Entry) → Legal H → (n m : ℕ) → IsPair H n m → (told : OutcomeParts)
+    → outcome_of H n ≡ Some told → IsFalse (has_failed told.tag) ⊎ (told.error % 2 ≡ 1)
 
 abbrev pub inputs : List Entry → List Input
 inputs H = filter_map input_in H

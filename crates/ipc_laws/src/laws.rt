@@ -1,8 +1,19 @@
 // The laws of histories. Each function is a theorem: it does nothing, and its contract holds of every history.
-ghost use Rattle.ipc_laws.specs.Laws.{OutputMeans, OverStays, NamesOpenCalls, OneOpenCall, BeginsOnce, ClosedOnce, OnePhase, EndedHadBegun, MeetsOne, MovesWithin, QuietMoves, AtMakesDue, AtBrings, AtStaysQuiet, AtFails, MayFollow, Settles, SettlesOnce, NumberedInOrder, CallsAreNormal, MessagesAreNormal, MovesFitLegal, LegalIsPaired, SenderSees, Determined, QuietDetermined, OutcomesStay, OpenCallIsLast, EntriesInOrder, OverTogether};
+ghost use Rattle.ipc_laws.specs.Laws.{OutputMeans, OverStays, NamesOpenCalls, OneOpenCall};
+ghost use Rattle.ipc_laws.specs.Laws.{BeginsOnce, ClosedOnce, OnePhase, EndedHadBegun, MeetsOne};
+ghost use Rattle.ipc_laws.specs.Laws.{MovesWithin, QuietMoves, AtMakesDue, AtBrings, AtStaysQuiet};
+ghost use Rattle.ipc_laws.specs.Laws.{AtFails, MayFollow, Settles, SettlesOnce, NumberedInOrder};
+ghost use Rattle.ipc_laws.specs.Laws.{CallsAreNormal, MessagesAreNormal, MovesFitLegal};
+ghost use Rattle.ipc_laws.specs.Laws.{LegalIsPaired, SenderSees, Determined, QuietDetermined};
+ghost use Rattle.ipc_laws.specs.Laws.{OutcomesStay, OpenCallIsLast, EntriesInOrder, OverTogether};
 ghost use Rattle.ipc_laws.specs.Changes.{EachEntryChanges, OthersUnchanged};
-ghost use Rattle.ipc_laws.specs.Locality.{NextIsPossible, QuietRests, EntriesTouch, ClosingsOpenNothing, OpenedStaysQuiet, CalledBrings, ExregBrings, ExregStops, ExregOnce, BrokeFails, BrokeOnlyFails, AtOnlyFails, MovedEnds};
-ghost use Rattle.ipc_laws.specs.Counting.{StepsFall, StepsBound, OpenBound, OutputsBound, LiveBound, OutputsMost, RoomHolds, InputRoom, AtRoom, PledgeCovers, CommandFits};
+ghost use Rattle.ipc_laws.specs.Locality.{NextIsPossible, QuietRests, EntriesTouch};
+ghost use Rattle.ipc_laws.specs.Locality.{ClosingsOpenNothing, OpenedStaysQuiet, CalledBrings};
+ghost use Rattle.ipc_laws.specs.Locality.{ExregBrings, ExregStops, ExregOnce, BrokeFails};
+ghost use Rattle.ipc_laws.specs.Locality.{BrokeOnlyFails, AtOnlyFails, MovedEnds};
+ghost use Rattle.ipc_laws.specs.Counting.{StepsFall, StepsBound, OpenBound, OutputsBound};
+ghost use Rattle.ipc_laws.specs.Counting.{LiveBound, OutputsMost, RoomHolds, InputRoom, AtRoom};
+ghost use Rattle.ipc_laws.specs.Counting.{PledgeCovers, CommandFits};
 
 /// What the next output is tells what the history before it is.
 pub fn next_output_means()

@@ -1,7 +1,7 @@
 ghost use Rattle.std.specs.Prelude.{IfOk, IfSome, IfNone, Ok, Err, true, ◌≡◌, ◌≤◌, ◌<◌, ◌^◌, not, nat_lt, length};
 ghost use Rattle.std.specs.List.{AllByRecursion};
 ghost use Rattle.ipc_words.specs.Limits.{max_frame_body, max_pieces};
-ghost use Rattle.ipc_frame.specs.Numbers.{IsBytes};
+ghost use Rattle.ipc_frame.specs.Numbers.{IsBytes, byte_values};
 ghost use Rattle.ipc_frame.specs.Parts.{IsPiece, IsIpcr, pieces_text, ipcr_size};
 ghost use Rattle.ipc_frame.specs.Frames.{IsFrame};
 ghost use Rattle.ipc_frame.specs.Making.{ipcr_fault};
@@ -25,13 +25,13 @@ pub struct Placed {
 impl Model for Placed {
     ghost use Rattle.std.specs.Prelude.{◌<◌, ◌^◌};
     ghost use Rattle.ipc_items.specs.Pieces.{PlacedBytes};
-    ghost use Rattle.ipc_frame.specs.Numbers.{IsBytes};
+    ghost use Rattle.ipc_frame.specs.Numbers.{IsBytes, byte_values};
 
     ghost Value = { PlacedBytes };
 
     ghost view = { λ p. record { pointer = p.pointer; bytes = p.bytes.items } };
 
-    ghost invariant = { λ p. (p.pointer < 256 ^ 8) × IsBytes p.bytes.items };
+    ghost invariant = { λ p. (p.pointer < byte_values ^ 8) × IsBytes p.bytes.items };
 }
 
 impl Placed {
@@ -57,7 +57,7 @@ impl Placed {
     /// The bytes.
     pub fn bytes(&self) -> &[u8]
         ensures bytes { result.now ≡ self.now.bytes }
-        ensures fits { (self.now.pointer < 256 ^ 8) × IsBytes self.now.bytes }
+        ensures fits { (self.now.pointer < byte_values ^ 8) × IsBytes self.now.bytes }
     {
         &self.bytes
     }

@@ -1,5 +1,6 @@
 -- The bytes that a decoder holds of a frame, and what filling them up with a piece does.
 use Rattle.std.specs.Prelude.{◌≡◌, ◌⊎◌, ℕ, ◌+◌, ◌*◌, ◌≤◌, Bool, true, false, min, List, [], ◌++◌, length, take, drop, slice_index, Result, Ok, Err}
+use Rattle.ipc_words.specs.Limits.{max_buffer_words, max_message_words}
 use Rattle.ipc_frame.specs.Numbers.{IsBytes, number_in, words_in}
 use Rattle.ipc_frame.specs.Parts.{IpcParts, words_of}
 use Rattle.ipc_frame.specs.Reading.{Reading, Short, Bad, Whole, reading, Tells}
@@ -34,9 +35,13 @@ pub record HoldsIn (held : Kept) (bytes : List ℕ) : Type 0 where
   pub are_gone : AreGone held gone
   pub bytes_are : bytes ≡ held.bytes ++ gone
 
--- how many bytes of an IPC frame come before its payload, as its first 50 bytes say; 95 words at most
+-- the most bytes of an IPC frame before its payload: the head, the words and the buffer words
+abbrev pub max_start : ℕ
+max_start = 50 + 8 * (max_message_words + max_buffer_words)
+
+-- how many bytes of an IPC frame come before its payload, as its first 50 bytes say
 abbrev pub start_size : List ℕ → ℕ
-start_size head = min (50 + 8 * (words_of (number_in 8 (drop 33 head)) + slice_index head 49)) 810
+start_size head = min (50 + 8 * (words_of (number_in 8 (drop 33 head)) + slice_index head 49)) max_start
 
 -- bytes from the front of some are kept, or counted off
 abbrev pub Keeps : Kept → List ℕ → Kept → Type 0
@@ -88,8 +93,8 @@ pub record IpcAt (start rest : List ℕ) (ipc : IpcParts) : Type 0 where
   pub words : words_in (words_of ipc.tag) (drop 50 start) ≡ ipc.words
   pub buffer_words : words_in (length ipc.buffer_words) (drop (8 * words_of ipc.tag) (drop 50 start)) ≡ ipc.buffer_words
   pub payload : rest ≡ ipc.payload
-  pub few_words : words_of ipc.tag ≤ 63
-  pub few_buffer_words : length ipc.buffer_words ≤ 32
+  pub few_words : words_of ipc.tag ≤ max_message_words
+  pub few_buffer_words : length ipc.buffer_words ≤ max_buffer_words
 
 -- the frame that bytes are, a payload apart
 abbrev pub FrameAt : List ℕ → List ℕ → Frame → Type 0

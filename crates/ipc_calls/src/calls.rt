@@ -1,4 +1,5 @@
 ghost use Rattle.std.specs.Prelude.{◌≡◌, ◌≢◌, ◌≤◌, ◌<◌, ◌+◌, ◌*◌, ◌↔◌, ◌&&◌, nat_lt, true, false, [], length, Ok, Err, is_some, unwrap_or, IfOk, IfErr, IfSome, IsOk, IsNone, IsOkUnless, IsTrue};
+ghost use Rattle.ipc_words.specs.Limits.{max_buffer_words, max_message_words};
 ghost use Rattle.ipc_words.specs.MsgTag.{untyped_of};
 ghost use Rattle.ipc_words.specs.Timeouts.{receive_period, send_period};
 ghost use Rattle.ipc_frame.specs.Parts.{words_of};
@@ -98,7 +99,7 @@ impl IpcHead {
     // The strings that the words behind the untyped ones spell over the payload.
     #[tactic(auto, unfolding(ipc_items::specs::ItemWords::items_of))]
     fn strings(&self, alloc: Global, words: &[u64], payload: &[u8]) -> Result<StringList, ItemFault>
-        requires few { length words.now ≤ 63 }
+        requires few { length words.now ≤ max_message_words }
         requires untyped { untyped_of self.now.tag ≤ length words.now }
         ensures ok { IfOk result (λ list. strings_in (parts_of self.now words.now [] payload.now) ≡ Ok list) }
         ensures fault { IfErr (strings_in (parts_of self.now words.now [] payload.now)) (λ fault. result ≡ Err fault) }
@@ -119,7 +120,7 @@ impl IpcHead {
     // The buffer strings that the buffer words spell, None where no strings are accepted.
     #[tactic(auto, unfolding(ipc_items::specs::ItemWords::items_of))]
     fn buffers(&self, alloc: Global, buffer_words: &[u64]) -> Result<Option<BufferList>, ItemFault>
-        requires { length buffer_words.now ≤ 32 }
+        requires { length buffer_words.now ≤ max_buffer_words }
         ensures ok { IfOk result (λ list.
             buffers_in (parts_of self.now [] buffer_words.now []) ≡ Ok (unwrap_or list [])) }
         ensures accepted { IfOk result (λ list. is_some list ≡ accepts_strings (head_of self.now)) }
@@ -146,9 +147,9 @@ impl IpcHead {
         buffer_words: &[u64],
         payload: &[u8],
     ) -> Result<(StringList, Option<BufferList>), ItemFault>
-        requires few { length words.now ≤ 63 }
+        requires few { length words.now ≤ max_message_words }
         requires untyped { untyped_of self.now.tag ≤ length words.now }
-        requires few_buffer_words { length buffer_words.now ≤ 32 }
+        requires few_buffer_words { length buffer_words.now ≤ max_buffer_words }
         ensures accepted { IfOk result (λ lists. is_some lists.1 ≡ accepts_strings (head_of self.now)) }
         ensures reads { Reads ItemFault.NoMemory (lists_in (parts_of self.now words.now buffer_words.now payload.now))
             (asks_memory (parts_of self.now words.now buffer_words.now [])) (both_lists result) }
@@ -168,7 +169,7 @@ impl IpcHead {
 
     // The tag of the call: u, label and p as they are, t counts the strings.
     fn received(&self, strings: &StringList) -> MsgTag
-        requires { 2 * length strings.now ≤ 63 }
+        requires { 2 * length strings.now ≤ max_message_words }
         ensures { result ≡ normal_tag (head_of self.now) (length strings.now) }
     {
         if !self.sends() {
@@ -239,7 +240,7 @@ impl IpcHead {
         requires send { periods.0 ≡ period_if (sends (head_of self.now)) (send_period self.now.timeouts) }
         requires receive { periods.1 ≡ period_if (receives (head_of self.now)) (receive_period self.now.timeouts) }
         requires untyped { untyped_of self.now.tag ≤ length words.now }
-        requires few { untyped_of self.now.tag + 2 * length strings ≤ 63 }
+        requires few { untyped_of self.now.tag + 2 * length strings ≤ max_message_words }
         requires unsent { sends (head_of self.now) ≡ false → strings ≡ [] }
         requires accepted { is_some buffers ≡ accepts_strings (head_of self.now) }
         ensures ok { IfOk result (λ call.
@@ -272,8 +273,8 @@ impl IpcHead {
         payload: &[u8],
     ) -> Result<Call, FrameFault>
         requires words { length words.now ≡ words_of self.now.tag }
-        requires few_words { words_of self.now.tag ≤ 63 }
-        requires few_buffer_words { length buffer_words.now ≤ 32 }
+        requires few_words { words_of self.now.tag ≤ max_message_words }
+        requires few_buffer_words { length buffer_words.now ≤ max_buffer_words }
         ensures { Reads FrameFault.NoMemory (call_of (parts_of self.now words.now buffer_words.now payload.now))
             (asks_memory (parts_of self.now words.now buffer_words.now [])) result }
     {

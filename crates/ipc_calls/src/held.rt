@@ -3,13 +3,14 @@ ghost use Rattle.ipc_frame.specs.Numbers.{IsBytes, number_in, words_in};
 ghost use Rattle.ipc_frame.specs.Parts.{IpcParts};
 ghost use Rattle.ipc_calls.specs.CallOf.{call_of, asks_memory, has_time_point};
 ghost use Rattle.ipc_calls.specs.Reads.{Reads};
-ghost use Rattle.ipc_calls.specs.Holding.{Keeps, ForGone, AreGone, IsWhole, TellsOf, IpcAt, FrameAt, HearsOf, head_in, start_size};
+ghost use Rattle.ipc_calls.specs.Holding.{Keeps, ForGone, AreGone, IsWhole, TellsOf, IpcAt, FrameAt, HearsOf, head_in, max_start, start_size};
 
 use crate::calls::IpcHead;
 use crate::heard::Heard;
 use byteorder::{BigEndian, ByteOrder};
 use ipc_frame::{Frame, FrameFault, Judgement, Side, judge};
 use ipc_history::Call;
+use ipc_words::limits::{MAX_BUFFER_WORDS, MAX_MESSAGE_WORDS};
 use ipc_words::{Control, MsgTag, ThreadId, Timeouts};
 use std::alloc::{AllocError, Global};
 use std::marker::Model;
@@ -17,13 +18,13 @@ use std::marker::Model;
 /// The bytes of an IPC frame before its words: length, kind and numbers.
 const HEAD: usize = 50;
 
-/// The most bytes before a payload: the head and 95 words.
-const MAX_START: usize = 810;
+/// The most bytes before a payload: the head, the words and the buffer words.
+const MAX_START: usize = HEAD + 8 * (MAX_MESSAGE_WORDS + MAX_BUFFER_WORDS);
 
 /// The bytes of a frame that have come so far, a payload counted off where there was no memory for it.
 #[derive(Drop)]
 pub(crate) struct Held {
-    start: [u8; 810],
+    start: [u8; MAX_START],
     len: usize,
     payload: Vec<u8>,
     lost: usize,
@@ -31,13 +32,13 @@ pub(crate) struct Held {
 
 impl Model for Held {
     ghost use Rattle.std.specs.Prelude.{ℕ, List, ◌++◌, ◌+◌, ◌<◌, ◌≤◌, ◌^◌, take, length};
-    ghost use Rattle.ipc_calls.specs.Holding.{Kept, start_size};
+    ghost use Rattle.ipc_calls.specs.Holding.{Kept, max_start, start_size};
 
     ghost Value = { Kept };
 
     ghost view = { λ h. record { bytes = take h.len h.start ++ h.payload.items; lost = h.lost } };
 
-    ghost invariant = { λ h. (h.len ≤ 810)
+    ghost invariant = { λ h. (h.len ≤ max_start)
         × (50 ≤ h.len → h.len ≤ start_size (take 50 h.start))
         × (0 < length h.payload.items + h.lost → (50 ≤ h.len) × (start_size (take 50 h.start) ≤ h.len))
         × (length h.payload.items + h.lost < 2 ^ 32) };
@@ -85,8 +86,8 @@ fn start_size(head: &[u8]) -> usize
 }
 
 // The bytes of the start that have come.
-fn front(start: &[u8; 810], len: usize) -> &[u8]
-    requires { len ≤ 810 }
+fn front(start: &[u8; MAX_START], len: usize) -> &[u8]
+    requires { len ≤ max_start }
     ensures front { result.now ≡ take len start.now }
     ensures size { length (take len start.now) ≡ len }
 {
@@ -137,10 +138,10 @@ fn hear_call(alloc: Global, start: &[u8], payload: &[u8]) -> Result<Call, FrameF
     let head = read_head(start);
     let count = head.tag.untyped() as usize + head.tag.typed() as usize;
     let few = start[49] as usize;
-    let mut words = [0; 63];
+    let mut words = [0; MAX_MESSAGE_WORDS];
     let words = &mut words[..count];
     read_words(start, HEAD, count, words);
-    let mut buffer_words = [0; 32];
+    let mut buffer_words = [0; MAX_BUFFER_WORDS];
     let buffer_words = &mut buffer_words[..few];
     read_words(start, HEAD + 8 * count, few, buffer_words);
     head.call(alloc, words, buffer_words, payload)
@@ -188,7 +189,7 @@ impl Held {
         ensures { result ≡ record { bytes = []; lost = 0 } }
     {
         Held {
-            start: [0; 810],
+            start: [0; MAX_START],
             len: 0,
             payload: Vec::new(alloc),
             lost: 0,

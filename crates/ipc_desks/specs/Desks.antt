@@ -1,6 +1,7 @@
 -- What is kept for each thread number, so that the outcome of its call can be handed out.
 use Rattle.std.specs.Prelude.{◌≡◌, ℕ, ◌+◌, ◌≤◌, List, length, Bool, not, ◌||◌, ◌==◌, Option, Some, None, option_and_then, if◌then◌else◌, slice_index_or, IsTrue}
 use Rattle.std.specs.Option.{option_map_or}
+use Rattle.ipc_words.specs.Limits.{table_slots}
 use Rattle.ipc_words.specs.ThreadId.{nilthread}
 use Rattle.ipc_history.specs.Calls.{is_called, to_of, buffers_of}
 use Rattle.ipc_history.specs.Phases.{is_over, is_sent}
@@ -49,7 +50,7 @@ one_if b = (if b then 1 else 0)
 -- the desks are those of the history, where the outcomes of these calls were taken; only outcomes of calls that were over were
 -- taken, and of each thread no more than it made calls
 pub record Keeps (H : List Entry) (taken : List ℕ) (desks : List Desk) : Type 0 where
-  pub size : length desks ≡ 256
+  pub size : length desks ≡ table_slots
   pub table : (k : ℕ) → desk_at desks k ≡ desk_of H taken k
   pub called : (n : ℕ) → IsTrue (is_among n taken) → IsTrue (is_called H n)
   pub over : (n : ℕ) → IsTrue (is_among n taken) → IsTrue (is_over H n)

@@ -1,4 +1,5 @@
 ghost use Rattle.std.specs.Prelude.{◌≡◌, ◌≤◌, ◌+◌, ◌<◌, ◌^◌, ◌++◌, ◌∷◌, ◌*◌, [], ℕ, length, Some, None, List, IfOk, IfSome, IsTrue, IsFalse, IsNone, false, ◌==◌, ◌&&◌};
+ghost use Rattle.ipc_words.specs.Limits.{table_slots};
 ghost use Rattle.ipc_words.specs.ThreadId.{nilthread, number_of};
 ghost use Rattle.ipc_words.specs.IpcError.{failure_code};
 ghost use Rattle.ipc_words.specs.declared.ipc_error.Phase.TheVariants.{Send};
@@ -26,6 +27,7 @@ use ipc_history::{Call, Entry, Input, Outcome, Output};
 use ipc_items::BufferList;
 use ipc_slots::{Slots, Standing};
 use ipc_words::Phase as FailedPhase;
+use ipc_words::limits::TABLE_SLOTS;
 use ipc_words::{IpcError, ThreadId};
 use std::alloc::{AllocError, Global};
 use std::marker::Model;
@@ -53,8 +55,8 @@ impl Desks {
     pub fn new(alloc: Global) -> Result<Desks, AllocError>
         ensures { IfOk result (λ desks. Keeps [] [] desks) }
     {
-        let mut desks = Vec::with_capacity(alloc, 256)?;
-        for _ in 0..256_usize {
+        let mut desks = Vec::with_capacity(alloc, TABLE_SLOTS)?;
+        for _ in 0..TABLE_SLOTS {
             desks.push_reserved(Desk::blank());
         }
         Ok(Desks { alloc, desks })
@@ -136,7 +138,7 @@ impl Desks {
         requires legal { Legal entries.now }
         requires live { IsTrue (is_live entries.now thread) }
         ensures place { result ≡ number_of thread }
-        ensures within { result < 256 }
+        ensures within { result < table_slots }
     {
         let _ = entries;
         let _ = &self.desks;
@@ -203,11 +205,11 @@ impl Desks {
         requires legal { Legal entries.now }
         requires keeps { Keeps entries.now taken.now self.now }
         requires open { IsFalse (is_over entries.now number) }
-        ensures within { result < 256 }
+        ensures within { result < table_slots }
         ensures place { result ≡ number_of (caller_of entries.now number) }
     {
         let _ = (entries.len(), taken.len());
-        for place in 0..256 {
+        for place in 0..TABLE_SLOTS {
             if self.desk(place).waits(number) {
                 return place;
             }
@@ -338,8 +340,8 @@ impl Desks {
         requires call { call.now ≡ standing_of entries.now call.now.number }
         requires sender { from ≡ number_of (caller_of entries.now call.now.number) }
         requires receiver { to ≡ number_of (caller_of entries.now receiving) }
-        requires from_within { from < 256 }
-        requires to_within { to < 256 }
+        requires from_within { from < table_slots }
+        requires to_within { to < table_slots }
         ensures outcome { result ≡ received entries.now call.now.number receiving }
         ensures desks { Moved from to self.old self.new }
     {
@@ -507,7 +509,7 @@ fn standing(entries: &[Entry], slots: &Slots, number: u64, place: usize) -> Stan
     requires legal { Legal entries.now }
     requires stands { Stands entries.now slots.now }
     requires open { IsFalse (is_over entries.now number) }
-    requires within { place < 256 }
+    requires within { place < table_slots }
     requires place { place ≡ number_of (caller_of entries.now number) }
     ensures { result ≡ standing_of entries.now number }
 {

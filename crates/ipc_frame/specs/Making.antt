@@ -1,6 +1,6 @@
 -- What is wrong with the parts of a frame: too many words first, then a count that is not that of the words, then the length.
 use Rattle.std.specs.Prelude.{◌==◌, ◌||◌, Bool, not, nat_lt, length, Option, Some, None, if◌then◌else◌}
-use Rattle.ipc_words.specs.Limits.{max_message_words, max_buffer_words, max_frame_body}
+use Rattle.ipc_words.specs.Limits.{max_message_words, max_buffer_words, max_frame_body, max_pieces}
 use Rattle.ipc_frame.specs.declared.fault.FrameFault.{FrameFault}
 use Rattle.ipc_frame.specs.declared.fault.FrameFault.TheVariants.{TooLong, WrongSize, TooManyWords}
 use Rattle.ipc_frame.specs.Parts.{IpcParts, IpcrParts, words_of, ipc_size, ipcr_size}
@@ -19,5 +19,5 @@ ipc_fault ipc =
 abbrev pub ipcr_fault : IpcrParts → Option FrameFault
 ipcr_fault ipcr =
     first_fault (nat_lt max_message_words (words_of ipcr.tag))
-    (not (length ipcr.words == words_of ipcr.tag) || nat_lt 255 (length ipcr.pieces))
+    (not (length ipcr.words == words_of ipcr.tag) || nat_lt max_pieces (length ipcr.pieces))
     (nat_lt max_frame_body (ipcr_size ipcr))

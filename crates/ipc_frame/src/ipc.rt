@@ -1,4 +1,5 @@
 ghost use Rattle.std.specs.Prelude.{IfSome, IfNone, Ok, Err, ◌≡◌, ◌≤◌, ◌^◌, length};
+ghost use Rattle.ipc_words.specs.Limits.{max_buffer_words, max_frame_body};
 ghost use Rattle.ipc_frame.specs.Parts.{IsIpc, ipc_size};
 ghost use Rattle.ipc_frame.specs.Frames.{IsFrame};
 ghost use Rattle.ipc_frame.specs.Making.{ipc_fault};
@@ -140,7 +141,7 @@ impl IpcFrame {
     /// The buffer registers from BR1 on.
     pub fn buffer_words(&self) -> &[u64]
         ensures buffer_words { result.now ≡ self.now.buffer_words }
-        ensures few { length self.now.buffer_words ≤ 32 }
+        ensures few { length self.now.buffer_words ≤ max_buffer_words }
     {
         &self.parts.buffer_words
     }
@@ -148,7 +149,7 @@ impl IpcFrame {
     /// The bytes that the string items name.
     pub fn payload(&self) -> &[u8]
         ensures payload { result.now ≡ self.now.payload }
-        ensures within { ipc_size self.now ≤ 2 ^ 21 }
+        ensures within { ipc_size self.now ≤ max_frame_body }
     {
         &self.parts.payload
     }

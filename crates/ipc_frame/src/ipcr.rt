@@ -1,6 +1,7 @@
 ghost use Rattle.std.specs.Prelude.{IfOk, IfSome, IfNone, Ok, Err, true, ◌≡◌, ◌≤◌, ◌<◌, ◌^◌, not, nat_lt, length};
 ghost use Rattle.std.specs.List.{AllByRecursion};
-ghost use Rattle.ipc_frame.specs.Numbers.{IsBytes};
+ghost use Rattle.ipc_words.specs.Limits.{max_frame_body, max_pieces};
+ghost use Rattle.ipc_frame.specs.Numbers.{IsBytes, byte_values};
 ghost use Rattle.ipc_frame.specs.Parts.{IsPiece, IsIpcr, pieces_text, ipcr_size};
 ghost use Rattle.ipc_frame.specs.Frames.{IsFrame};
 ghost use Rattle.ipc_frame.specs.Making.{ipcr_fault};
@@ -9,13 +10,10 @@ use crate::cutting::copied;
 use crate::fault::FrameFault;
 use crate::fitting::{are_bytes, are_words};
 use crate::frame::Frame;
-use ipc_words::limits::{MAX_FRAME_BODY, MAX_MESSAGE_WORDS};
+use ipc_words::limits::{MAX_FRAME_BODY, MAX_MESSAGE_WORDS, MAX_PIECES};
 use ipc_words::{IpcError, MsgTag, ThreadId};
 use std::alloc::{AllocError, Global};
 use std::marker::Model;
-
-/// The most pieces of an IPCR frame, which counts them in a byte.
-const MAX_PIECES: usize = 255;
 
 /// Bytes that belong at a pointer of the receiver.
 #[derive(Drop)]
@@ -27,13 +25,13 @@ pub struct Placed {
 impl Model for Placed {
     ghost use Rattle.std.specs.Prelude.{◌<◌, ◌^◌};
     ghost use Rattle.ipc_items.specs.Pieces.{PlacedBytes};
-    ghost use Rattle.ipc_frame.specs.Numbers.{IsBytes};
+    ghost use Rattle.ipc_frame.specs.Numbers.{IsBytes, byte_values};
 
     ghost Value = { PlacedBytes };
 
     ghost view = { λ p. record { pointer = p.pointer; bytes = p.bytes.items } };
 
-    ghost invariant = { λ p. (p.pointer < 256 ^ 8) × IsBytes p.bytes.items };
+    ghost invariant = { λ p. (p.pointer < byte_values ^ 8) × IsBytes p.bytes.items };
 }
 
 impl Placed {
@@ -59,7 +57,7 @@ impl Placed {
     /// The bytes.
     pub fn bytes(&self) -> &[u8]
         ensures bytes { result.now ≡ self.now.bytes }
-        ensures fits { (self.now.pointer < 256 ^ 8) × IsBytes self.now.bytes }
+        ensures fits { (self.now.pointer < byte_values ^ 8) × IsBytes self.now.bytes }
     {
         &self.bytes
     }
@@ -78,7 +76,7 @@ pub struct IpcrParts {
     pub error: IpcError,
     /// The message registers from MR1 on, u + t of the tag, at most 63.
     pub words: Vec<u64>,
-    /// The bytes of the received strings, at most 255 pieces.
+    /// The bytes of the received strings, at most [`MAX_PIECES`] pieces.
     pub pieces: Vec<Placed>,
 }
 
@@ -108,7 +106,7 @@ impl Model for IpcrFrame {
 
 // Whether so many bytes hold the pieces.
 fn pieces_within(pieces: &[Placed], most: usize) -> bool
-    requires { most ≤ 2 ^ 21 }
+    requires { most ≤ max_frame_body }
     ensures value { result ≡ not (nat_lt most (length (pieces_text pieces.now))) }
     ensures each { result ≡ true → AllByRecursion IsPiece pieces.now }
 {
@@ -124,8 +122,8 @@ fn pieces_within(pieces: &[Placed], most: usize) -> bool
 }
 
 impl IpcrFrame {
-    /// The frame of these parts. Where it answers F4, F3 or F1, in this order, the parts are dropped. More than 255 pieces
-    /// are F3.
+    /// The frame of these parts. Where it answers F4, F3 or F1, in this order, the parts are
+    /// dropped. More than [`MAX_PIECES`] pieces are F3.
     pub fn new(parts: IpcrParts) -> Result<IpcrFrame, FrameFault>
         ensures frame { IfNone (ipcr_fault parts) (result ≡ Ok parts) }
         ensures fault { IfSome (ipcr_fault parts) (λ fault. result ≡ Err fault) }
@@ -191,8 +189,8 @@ impl IpcrFrame {
     /// The bytes of the received strings.
     pub fn pieces(&self) -> &[Placed]
         ensures pieces { result.now ≡ self.now.pieces }
-        ensures few { length self.now.pieces ≤ 255 }
-        ensures within { ipcr_size self.now ≤ 2 ^ 21 }
+        ensures few { length self.now.pieces ≤ max_pieces }
+        ensures within { ipcr_size self.now ≤ max_frame_body }
     {
         &self.parts.pieces
     }

@@ -1,4 +1,5 @@
 ghost use Rattle.std.specs.Prelude.{◌≡◌, ◌<◌, ◌≤◌, ◌+◌, ◌*◌, ◌^◌, ◌++◌, ◌≢◌, ◌||◌, ◌-◌, nat_lt, sum, slice_index, is_some, if◌then◌else◌, length, Some, None, false, take, drop};
+ghost use Rattle.ipc_words.specs.Limits.{max_buffer_words, max_frame_body, max_message_words};
 ghost use Rattle.ipc_frame.specs.Numbers.{number_in, fields_in};
 ghost use Rattle.ipc_frame.specs.Parts.{words_of};
 ghost use Rattle.ipc_frame.specs.Frames.{widths};
@@ -39,9 +40,9 @@ pub(crate) fn read_u64(bytes: &[u8]) -> u64
 
 // Of an IPC frame: too many words, or a body that is too short for them.
 fn words_fault(size: usize, words: usize, buffer_words: usize) -> Option<FrameFault>
-    requires few { words ≤ 126 }
-    requires fewer { buffer_words ≤ 255 }
-    ensures { result ≡ (if nat_lt 63 words || nat_lt 32 buffer_words then Some FrameFault.TooManyWords
+    requires few { words ≤ 2 * max_message_words }
+    requires fewer { buffer_words ≤ u8.MAX }
+    ensures { result ≡ (if nat_lt max_message_words words || nat_lt max_buffer_words buffer_words then Some FrameFault.TooManyWords
         else if nat_lt size (46 + 8 * words + 8 * buffer_words) then Some FrameFault.WrongSize else None) }
 {
     if words > MAX_MESSAGE_WORDS || buffer_words > MAX_BUFFER_WORDS {
@@ -156,7 +157,7 @@ fn judge_kind(size: usize, kind: FrameKind, rest: &[u8], behind: usize) -> Judge
 
 // What the bytes of a body show, with so many more behind them.
 fn judge_body(side: Side, size: usize, body: &[u8], behind: usize) -> Judgement
-    requires within { size ≤ 2 ^ 21 }
+    requires within { size ≤ max_frame_body }
     requires some { 0 < size }
     requires server { side ≡ Side.Client → behind ≡ 0 }
     requires head { 0 < behind → 46 ≤ length body.now }

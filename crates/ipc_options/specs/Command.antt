@@ -1,10 +1,23 @@
 -- The commands that `l4sh` and `l4d` ask `clap` for.
 use Rattle.std.specs.Prelude.{ℕ, Some, [], ◌∷◌, codes, true}
-use Rattle.ipc_words.specs.Limits.{max_entries, max_calls}
+use Rattle.ipc_words.specs.Limits.{max_entries, max_calls, max_chart_entry, max_connections, max_space}
 use Rattle.clap.specs.Words.{App, Rule, Text, new_app, new_rule, with_rule, with_subcommand}
 use Rattle.clap.specs.Simple.{on_top}
 use Rattle.clap.specs.declared.builder.action.ArgAction.TheVariants.{Set, SetTrue}
 use Rattle.clap.specs.declared.builder.value_parser.ValueParser.TheVariants.{Unsigned}
+
+-- the texts of the limits that stand where an option is left out: each reads as its limit
+abbrev pub entries_text : Text
+entries_text = codes "1048576"
+
+abbrev pub calls_text : Text
+calls_text = codes "4294967295"
+
+abbrev pub chart_entry_text : Text
+chart_entry_text = codes "4294967295"
+
+abbrev pub connections_text : Text
+connections_text = codes "65535"
 
 -- `--ID N`: a number up to most, by default the one that a text reads as
 abbrev pub number_rule : Text → ℕ → Text → Rule
@@ -29,8 +42,8 @@ text_rule = record (new_rule (codes "text")) { long = Some (codes "text"); actio
 
 abbrev pub run_app : App
 run_app = with_rule
-    (with_rule (new_app (codes "run")) (number_rule (codes "entries") max_entries (codes "1048576")))
-    (number_rule (codes "calls") max_calls (codes "4294967295"))
+    (with_rule (new_app (codes "run")) (number_rule (codes "entries") max_entries entries_text))
+    (number_rule (codes "calls") max_calls calls_text)
 
 abbrev pub check_app : App
 check_app = with_rule (new_app (codes "check")) file_rule
@@ -38,8 +51,8 @@ check_app = with_rule (new_app (codes "check")) file_rule
 -- `chart` with its file and the entries that it shows
 abbrev pub chart_places_app : App
 chart_places_app = with_rule (with_rule (with_rule (new_app (codes "chart")) file_rule)
-    (number_rule (codes "from") 4294967295 (codes "1")))
-    (number_rule (codes "to") 4294967295 (codes "4294967295"))
+    (number_rule (codes "from") max_chart_entry (codes "1")))
+    (number_rule (codes "to") max_chart_entry chart_entry_text)
 
 abbrev pub chart_app : App
 chart_app = with_rule (with_rule chart_places_app threads_rule) text_rule
@@ -63,22 +76,22 @@ dir_rule = record (new_rule (codes "dir")) {
   action = Some Set;
 }
 
--- `--spaces N`, which has to be there: 1 to 64
+-- `--spaces N`, which has to be there: 1 to the greatest space
 abbrev pub spaces_rule : Rule
 spaces_rule = record (new_rule (codes "spaces")) {
   long = Some (codes "spaces");
   value_names = 1;
   required = true;
-  parser = Some (Unsigned 1 64);
+  parser = Some (Unsigned 1 max_space);
 }
 
--- `--connections M`: 1 to 65,535
+-- `--connections M`: 1 to the greatest number of a connection
 abbrev pub connections_rule : Rule
 connections_rule = record (new_rule (codes "connections")) {
   long = Some (codes "connections");
   value_names = 1;
-  parser = Some (Unsigned 1 65535);
-  defaults = codes "65535" ∷ [];
+  parser = Some (Unsigned 1 max_connections);
+  defaults = connections_text ∷ [];
 }
 
 -- `--mode OCTAL`

@@ -1,5 +1,5 @@
 -- What the words of `l4d` ask for.
-use Rattle.std.specs.Prelude.{◌≡◌, ◌<◌, List, Option, Some, None, codes, option_map, true, false, IsSomeAnd}
+use Rattle.std.specs.Prelude.{◌≡◌, List, Some, codes, option_map, true, false}
 use Rattle.std.specs.Str.Parse.{digits_value, without_leading_plus}
 use Rattle.clap.specs.Words.{Row, Text, first_of, matches_of, one_of}
 use Rattle.ipc_options.specs.Command.{server_app}

@@ -1,7 +1,7 @@
 -- What the words of `l4sh` ask for.
 use Rattle.std.specs.Prelude.{◌≡◌, ◌≤◌, ◌⊎◌, ℕ, Bool, List, Option, Some, codes, option_map, true, false, ⊤, IsSome, IsSomeAnd}
 use Rattle.std.specs.Str.Parse.{digits_value, without_leading_plus}
-use Rattle.ipc_words.specs.Limits.{max_entries, max_calls}
+use Rattle.ipc_words.specs.Limits.{max_entries, max_calls, max_chart_entry}
 use Rattle.clap.specs.Words.{IsUnsignedIn, Row, Text, first_of, one_of, subcommand_of, takes}
 use Rattle.ipc_options.specs.Command.{shell_app}
 use Rattle.ipc_options.specs.declared.shell.ChartOptions.{ChartOptions}
@@ -51,8 +51,8 @@ ReadsAsCheck rows = IsSome (first_of (codes "file") rows)
 -- the matches of `chart` have a file, and a decimal number of 32 bits for each place
 abbrev pub ReadsAsChart : List Row → Type 0
 ReadsAsChart rows = ReadsAsCheck rows
-    × IsSomeAnd (one_of (codes "from") rows) (IsUnsignedIn 0 4294967295)
-    × IsSomeAnd (one_of (codes "to") rows) (IsUnsignedIn 0 4294967295)
+    × IsSomeAnd (one_of (codes "from") rows) (IsUnsignedIn 0 max_chart_entry)
+    × IsSomeAnd (one_of (codes "to") rows) (IsUnsignedIn 0 max_chart_entry)
 
 -- the matches of the subcommand of this name have what it needs
 abbrev pub Reads : Text → List Row → Type 0

@@ -1,10 +1,12 @@
 //! The command lines of `l4sh` and `l4d`.
 #![tactic(auto)]
 
+mod default_texts;
 mod server;
 mod server_words;
 mod shell;
 
+pub use default_texts::default_texts_are_the_limits;
 pub use server::{MAX_SPACES, OWNER_ONLY, ServerOptions};
 pub use server_words::server_options;
 pub use shell::{ChartOptions, ShellOptions, shell_options};

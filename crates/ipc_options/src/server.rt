@@ -1,8 +1,11 @@
 //! What `l4d` was asked for.
 ghost use Rattle.std.specs.Prelude.{◌≤◌, ◌<◌};
+ghost use Rattle.ipc_words.specs.Limits.{max_space};
+
+use ipc_words::limits::MAX_SPACE;
 
 /// The most spaces that `l4d` listens for.
-pub const MAX_SPACES: u16 = 64;
+pub const MAX_SPACES: u16 = MAX_SPACE as u16;
 
 /// The permissions of a socket's path without `--mode`: its owner alone.
 pub const OWNER_ONLY: u32 = 0o600;
@@ -12,16 +15,16 @@ pub const OWNER_ONLY: u32 = 0o600;
 pub struct ServerOptions<'a> {
     /// The folder of the paths `space1` to `spaceN`.
     pub dir: &'a str,
-    /// How many spaces, 1 to 64.
+    /// How many spaces, 1 to [`MAX_SPACES`].
     pub spaces: u16,
-    /// How many connections each path takes, 1 to 65,535.
+    /// How many connections each path takes, 1 to `MAX_CONNECTIONS`.
     pub connections: u16,
     /// The permissions of each path, at most 0o777.
     pub mode: u32,
     /// Whether a client of the program's own sends one message.
     pub probe: bool,
     pub ghost some_spaces: { 1 ≤ spaces },
-    pub ghost few_spaces: { spaces ≤ 64 },
+    pub ghost few_spaces: { spaces ≤ max_space },
     pub ghost some_connections: { 1 ≤ connections },
     pub ghost permissions: { mode < 512 },
 }

@@ -6,10 +6,12 @@ ghost use Rattle.ipc_options.specs.Command.{connections_rule, dir_rule, mode_rul
 ghost use Rattle.ipc_options.specs.Server.{HasOptionsIn, HasOptionsOf};
 ghost use Rattle.ipc_options.specs.Shell.{number_in};
 
+use crate::default_texts::CONNECTIONS_TEXT;
 use crate::server::{MAX_SPACES, ServerOptions};
 use clap::builder::ValueParser;
 use clap::error::ErrorKind;
 use clap::{Arg, ArgAction, ArgMatches, Command, Error};
+use ipc_words::limits::{MAX_CONNECTIONS, MAX_SPACE};
 use std::alloc::{AllocError, Global};
 
 /// The command line of `l4d`. The first word is the program's name. An `Err` is a mistake in the
@@ -60,7 +62,7 @@ fn spaces_option<'a>(alloc: Global) -> Arg<'a>
         .long("spaces")
         .value_name("N")
         .required(true)
-        .value_parser(ValueParser::unsigned(1, 64))
+        .value_parser(ValueParser::unsigned(1, u64::from(MAX_SPACE)))
         .help("How many spaces, 1 to 64")
 }
 
@@ -71,8 +73,8 @@ fn connections_option<'a>(alloc: Global) -> Arg<'a>
     Arg::new(alloc, "connections")
         .long("connections")
         .value_name("M")
-        .value_parser(ValueParser::unsigned(1, 65_535))
-        .default_value("65535")
+        .value_parser(ValueParser::unsigned(1, u64::from(MAX_CONNECTIONS)))
+        .default_value(CONNECTIONS_TEXT)
         .help("How many connections each path takes, 1 to 65535")
 }
 

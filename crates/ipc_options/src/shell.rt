@@ -8,10 +8,11 @@ ghost use Rattle.ipc_options.specs.Command.{proving_app, run_app, shell_app, tex
 ghost use Rattle.ipc_options.specs.Shell.{HasMatchesIn, IsAskedBy, IsFlagIn, IsTaken, IsWithinLimits};
 ghost use Rattle.ipc_options.specs.Shell.{Reads, ReadsAsChart, ReadsAsCheck, ReadsAsRun, number_in};
 
+use crate::default_texts::{CALLS_TEXT, CHART_ENTRY_TEXT, ENTRIES_TEXT};
 use clap::builder::ValueParser;
 use clap::error::ErrorKind;
 use clap::{Arg, ArgAction, ArgMatches, Command, Error};
-use ipc_words::limits::{MAX_CALLS, MAX_ENTRIES};
+use ipc_words::limits::{MAX_CALLS, MAX_CHART_ENTRY, MAX_ENTRIES};
 use std::alloc::{AllocError, Global};
 
 /// What `l4sh` was asked for.
@@ -92,14 +93,14 @@ fn run_command<'a>(alloc: Global) -> Result<Command<'a>, AllocError>
             alloc,
             "entries",
             MAX_ENTRIES,
-            "1048576",
+            ENTRIES_TEXT,
             "The most entries that the history may hold, 0 to 1048576",
         ))?
         .arg(number_option(
             alloc,
             "calls",
             MAX_CALLS,
-            "4294967295",
+            CALLS_TEXT,
             "The most calls that may be made, 0 to 4294967295",
         ))
 }
@@ -133,15 +134,15 @@ fn chart_places_command<'a>(alloc: Global) -> Result<Command<'a>, AllocError>
         .arg(number_option(
             alloc,
             "from",
-            u64::from(u32::MAX),
+            MAX_CHART_ENTRY,
             "1",
             "The first entry that is shown, counted from 1",
         ))?
         .arg(number_option(
             alloc,
             "to",
-            u64::from(u32::MAX),
-            "4294967295",
+            MAX_CHART_ENTRY,
+            CHART_ENTRY_TEXT,
             "The last entry that is shown",
         ))
 }

@@ -1,14 +1,17 @@
 -- What is counted of an open call, by what is kept of it: itself, and what is pledged for it.
-use Rattle.std.specs.Prelude.{ℕ, ◌+◌, ◌*◌, ◌/◌, ◌==◌, if◌then◌else◌}
+use Rattle.std.specs.Prelude.{ℕ, ◌+◌, ◌*◌, ◌==◌, if◌then◌else◌}
 use Rattle.std.specs.Option.{option_map_or}
+use Rattle.ipc_words.specs.Limits.{pledge_of_open_call, pledge_of_block}
 use Rattle.ipc_words.specs.ThreadId.{nilthread}
+use Rattle.ipc_history.specs.Blocks.{blocks}
 use Rattle.ipc_slots.specs.Steps.{standing_in}
 use Rattle.ipc_slots.specs.declared.slot.Slot.{Slot}
 use Rattle.ipc_slots.specs.declared.slot.Standing.{Standing}
 
--- 5 entries, and 2 for each block of the bytes of its strings
+-- what an open call needs, and what each block of the bytes of its strings needs
 abbrev pub pledge_by : Standing → ℕ
-pledge_by s = 5 + 2 * (if s.to == nilthread then 0 else (s.size + 65535) / 65536)
+pledge_by s =
+    pledge_of_open_call + pledge_of_block * (if s.to == nilthread then 0 else blocks s.size)
 
 abbrev pub pledge_in : Slot → ℕ
 pledge_in slot = option_map_or pledge_by (standing_in slot) 0

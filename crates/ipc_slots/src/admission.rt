@@ -6,6 +6,7 @@ ghost use Rattle.ipc_slots.specs.Slots.{Stands};
 
 use crate::slots::Slots;
 use ipc_history::{Entry, Input};
+use ipc_words::limits::{LAST_MOMENT, MAX_SPACE, MAX_THREAD_NUMBER};
 use ipc_words::{MaskedControl, ThreadId};
 
 /// Every control that may be handed in has no bit but R and S.
@@ -28,8 +29,8 @@ impl Slots {
         self.is_live(entries, thread) && self.open_call_of(entries, thread).is_none()
     }
 
-    /// Whether a thread may be opened in a space: a number of 1 to 255 that is not taken, with its next version, in a space of 1
-    /// to 64.
+    /// Whether a thread may be opened in a space: a number of 1 to [`MAX_THREAD_NUMBER`] that is not
+    /// taken, with its next version, in a space of 1 to [`MAX_SPACE`].
     #[tactic(auto, unfolding(ipc_history::specs::Legal::may_open))]
     pub fn may_open(&self, entries: &[Entry], thread: ThreadId, space: u64) -> bool
         requires legal { Legal entries.now }
@@ -38,14 +39,14 @@ impl Slots {
     {
         let number = thread.number();
         1 <= number
-            && number <= 255
+            && number <= MAX_THREAD_NUMBER
             && !self.is_taken(entries, number)
             && self.next_version_of(entries, number) == Some(thread.version())
             && 1 <= space
-            && space <= 64
+            && space <= u64::from(MAX_SPACE)
     }
 
-    /// Whether so many bytes may be copied for a call: 65,536 or the rest, of the least call in transfer.
+    /// Whether so many bytes may be copied for a call: a block or the rest, of the least call in transfer.
     #[tactic(auto, unfolding(ipc_history::specs::Legal::may_move))]
     pub fn may_move(&self, entries: &[Entry], number: u64, count: u64) -> bool
         requires legal { Legal entries.now }
@@ -63,7 +64,7 @@ impl Slots {
         ensures { result ≡ is_admissible entries.now input.now }
     {
         match input {
-            Input::At(moment) => self.now(entries) < *moment && *moment < 0x8000_0000_0000_0000,
+            Input::At(moment) => self.now(entries) < *moment && *moment <= LAST_MOMENT,
             Input::Opened(thread, space) => self.may_open(entries, *thread, *space),
             Input::Called(number, caller, call) => {
                 self.is_free(entries, *caller)

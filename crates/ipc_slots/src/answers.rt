@@ -1,8 +1,10 @@
 ghost use Rattle.std.specs.Prelude.{◌≡◌, ◌-◌, ◌↔◌, ◌<◌, min, Some, None, IsNone, IfSome, IsTrue};
 ghost use Rattle.std.specs.List.{list_any};
-ghost use Rattle.ipc_history.specs.Calls.{numbers, calls_made, message_size};
+ghost use Rattle.ipc_words.specs.Limits.{block_bytes};
+ghost use Rattle.ipc_history.specs.Blocks.{block_of};
+ghost use Rattle.ipc_history.specs.Calls.{numbers, calls_made};
 ghost use Rattle.ipc_history.specs.Threads.{now, is_taken, next_version};
-ghost use Rattle.ipc_history.specs.Phases.{open_call, moved_bytes};
+ghost use Rattle.ipc_history.specs.Phases.{open_call};
 ghost use Rattle.ipc_history.specs.Timing.{is_due_at};
 ghost use Rattle.ipc_history.specs.NextOutput.{timeout_of, next_output};
 ghost use Rattle.ipc_history.specs.Legal.{Legal, next_moving};
@@ -17,6 +19,7 @@ use crate::slot::{Phase, Standing};
 use crate::slots::Slots;
 use ipc_history::{Entry, Output};
 use ipc_words::ThreadId;
+use ipc_words::limits::BLOCK_BYTES;
 
 /// The call that an output names first.
 fn first_number(output: &Output) -> u64
@@ -32,12 +35,12 @@ fn first_number(output: &Output) -> u64
     }
 }
 
-/// How many bytes are copied next of so many, where so many were copied: 65,536 or the rest.
+/// How many bytes are copied next of so many, where so many were copied: a block or the rest.
 #[tactic(auto)]
 fn block(size: u64, moved: u64) -> u64
-    ensures { result ≡ min 65536 (size - moved) }
+    ensures { result ≡ min block_bytes (size - moved) }
 {
-    size.saturating_sub(moved).min(65_536)
+    size.saturating_sub(moved).min(BLOCK_BYTES)
 }
 
 impl Standing {
@@ -131,7 +134,7 @@ impl Slots {
         requires legal { Legal entries.now }
         requires stands { Stands entries.now self.now }
         requires moving { next_moving entries.now ≡ Some number }
-        ensures { result ≡ min 65536 (message_size entries.now number - moved_bytes entries.now number) }
+        ensures { result ≡ block_of entries.now number }
     {
         let place = self.place_of(entries, number);
         let Some(call) = self.call_at(place) else {
@@ -146,7 +149,7 @@ impl Slots {
         requires stands { Stands entries.now self.now }
         ensures none { IsNone result ↔ (next_moving entries.now ≡ None) }
         ensures some { IfSome result (λ next. (next_moving entries.now ≡ Some next.0)
-            × (next.1 ≡ min 65536 (message_size entries.now next.0 - moved_bytes entries.now next.0))) }
+            × (next.1 ≡ block_of entries.now next.0)) }
     {
         match self.next_moving(entries) {
             Some(number) => Some((number, self.block_of(entries, number))),

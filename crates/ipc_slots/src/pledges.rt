@@ -1,4 +1,5 @@
 ghost use Rattle.std.specs.Prelude.{◌≡◌, ◌<◌, sum_by};
+ghost use Rattle.ipc_words.specs.Limits.{table_slots};
 ghost use Rattle.ipc_history.specs.Calls.{numbers};
 ghost use Rattle.ipc_history.specs.Legal.{Legal};
 ghost use Rattle.ipc_laws.specs.Counting.{open_calls, pledge_of};
@@ -9,24 +10,25 @@ use crate::slot::Standing;
 use crate::slots::Slots;
 use ipc_history::Entry;
 use ipc_words::ThreadId;
+use ipc_words::limits::{BLOCK_BYTES, PLEDGE_OF_BLOCK, PLEDGE_OF_OPEN_CALL};
 
 impl Standing {
-    /// The entries that are pledged for it: 5, and 2 for each block of the bytes of its strings.
+    /// The entries that are pledged for it: those of an open call, and those of each block of the
+    /// bytes of its strings.
     fn pledge(&self) -> u64
         ensures { result ≡ pledge_by self.now }
     {
         if self.to == ThreadId::NILTHREAD {
-            5
-        } else {
-            (5 + 2 * ((u128::from(self.size) + 65_535) / 65_536)) as u64
+            return PLEDGE_OF_OPEN_CALL;
         }
+        PLEDGE_OF_OPEN_CALL + PLEDGE_OF_BLOCK * self.size.div_ceil(BLOCK_BYTES)
     }
 }
 
 impl Slots {
     /// The entries that are pledged for the call that the slot at a place holds.
     fn pledge_at(&self, place: usize) -> u64
-        requires { place < 256 }
+        requires { place < table_slots }
         ensures { result ≡ pledge_in (slot_at self.now.table place) }
     {
         match self.held(place) {
@@ -37,7 +39,7 @@ impl Slots {
 
     /// How many open calls the slot at a place holds: one or none.
     fn open_at(&self, place: usize) -> usize
-        requires { place < 256 }
+        requires { place < table_slots }
         ensures { result ≡ open_in (slot_at self.now.table place) }
     {
         match self.held(place) {

@@ -93,3 +93,11 @@ max_line_bytes = 2105343
 -- our choice: the bytes of the body of a frame, 2,097,152
 abbrev pub max_frame_body : ℕ
 max_frame_body = 2 ^ 21
+
+-- an IPCR frame counts its pieces in one byte
+abbrev pub max_pieces : ℕ
+max_pieces = 255
+
+-- Charts. Our choice: the greatest number of an entry at which a chart may begin or end, a number of 32 bits
+abbrev pub max_chart_entry : ℕ
+max_chart_entry = 4294967295

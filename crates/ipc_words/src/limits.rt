@@ -8,7 +8,8 @@ ghost use Rattle.ipc_words.specs.Limits.{last_moment, max_entries, max_calls, bl
 ghost use Rattle.ipc_words.specs.Limits.{max_outputs, max_command_entries};
 ghost use Rattle.ipc_words.specs.Limits.{need_of_open, need_of_call, need_of_block, need_of_exchange};
 ghost use Rattle.ipc_words.specs.Limits.{pledge_of_thread, pledge_of_open_call, pledge_of_block};
-ghost use Rattle.ipc_words.specs.Limits.{max_line_bytes, max_frame_body};
+ghost use Rattle.ipc_words.specs.Limits.{max_line_bytes, max_frame_body, max_pieces};
+ghost use Rattle.ipc_words.specs.Limits.{max_chart_entry};
 
 /// The greatest thread number; the least is 1.
 pub const MAX_THREAD_NUMBER: u32 = 255;
@@ -85,6 +86,12 @@ pub const MAX_LINE_BYTES: usize = 2_105_343;
 /// The most bytes of the body of a frame.
 pub const MAX_FRAME_BODY: usize = 2_097_152;
 
+/// The most pieces of an IPCR frame.
+pub const MAX_PIECES: usize = 255;
+
+/// The greatest number of an entry at which a chart may begin or end.
+pub const MAX_CHART_ENTRY: u64 = 4_294_967_295;
+
 /// The limits of threads, spaces and connections are those of the definitions.
 pub fn thread_limits_are_defined()
     ensures number { MAX_THREAD_NUMBER ≡ max_thread_number }
@@ -124,10 +131,12 @@ pub fn room_is_defined()
     ensures pledged { PLEDGE_OF_BLOCK ≡ pledge_of_block }
 {}
 
-/// The limits of lines and frames are those of the definitions.
+/// The limits of lines, frames and charts are those of the definitions.
 pub fn format_limits_are_defined()
     ensures line { MAX_LINE_BYTES ≡ max_line_bytes }
     ensures frame { MAX_FRAME_BODY ≡ max_frame_body }
+    ensures pieces { MAX_PIECES ≡ max_pieces }
+    ensures chart { MAX_CHART_ENTRY ≡ max_chart_entry }
 {}
 
 /// The limits hang together: a slot for each number from 0, two words for each string, four outputs for each number and two

@@ -4,6 +4,9 @@ ghost use Rattle.ipc_words.specs.MsgTag.{untyped_of, typed_of, propagates, redir
 use crate::tag_fields::TagFields;
 use std::marker::Model;
 
+/// The label of a tag counts by this: it stands above 16 bits of counts and flags.
+const LABEL_UNIT: u64 = 0x1_0000;
+
 /// A message tag, MR0, seen as its word (L4 X.2 manual, message registers).
 #[derive(Clone, Copy, PartialEq, Eq, Debug)]
 pub struct MsgTag {
@@ -84,7 +87,7 @@ impl MsgTag {
     pub fn label(self) -> u64
         ensures { result ≡ label_of self }
     {
-        self.word / 65536
+        self.word / LABEL_UNIT
     }
 
     /// All the fields.
@@ -99,7 +102,7 @@ impl MsgTag {
             redirected: self.redirects(),
             crossed: self.crosses(),
             failed: self.has_failed(),
-            label: self.word / 65536,
+            label: self.word / LABEL_UNIT,
         }
     }
 
@@ -124,7 +127,10 @@ impl MsgTag {
         let sender_flags = u64::from(fields.propagated) + 2 * u64::from(fields.redirected);
         let kernel_flags = u64::from(fields.crossed) + 2 * u64::from(fields.failed);
         MsgTag {
-            word: counts + 0x1000 * sender_flags + 0x4000 * kernel_flags + 0x1_0000 * fields.label,
+            word: counts
+                + 0x1000 * sender_flags
+                + 0x4000 * kernel_flags
+                + LABEL_UNIT * fields.label,
         }
     }
 

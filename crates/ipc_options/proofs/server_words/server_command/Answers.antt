@@ -1,4 +1,4 @@
-use Rattle.std.proofs.Common.{◌≡◌, ◌∙◌, ap, refl, false}
+use Rattle.std.proofs.Common.{◌≡◌, ◌∙◌, ap, false}
 use Rattle.std.specs.Prelude.{IfOk, Result, Ok, Err}
 use Rattle.clap.specs.Words.{AddsArg, App, Rule, app_of, rule_of, with_rule}
 use Rattle.clap.specs.Simple.{app_of_fields}

@@ -1,5 +1,5 @@
--- Numbers, spaces and ids of threads.
-use Rattle.std.specs.Prelude.{ℕ, Bool, ◌≤◌, ◌+◌, ◌*◌, ◌^◌, ◌&&◌, nat_le}
+-- Numbers and spaces of threads.
+use Rattle.std.specs.Prelude.{ℕ, Bool, ◌≤◌, ◌&&◌, nat_le}
 use Rattle.ipc_words.specs.Limits.{max_thread_number, max_space}
 
 abbrev pub is_thread_number : ℕ → Bool
@@ -7,10 +7,6 @@ is_thread_number number = nat_le 1 number && nat_le number max_thread_number
 
 abbrev pub is_space : ℕ → Bool
 is_space space = nat_le 1 space && nat_le space max_space
-
--- the id of a number and a version
-abbrev pub id_of : ℕ → ℕ → ℕ
-id_of number version = number * 2 ^ 32 + version
 
 -- a thread may have this number and live in this space
 abbrev pub IsPlace : ℕ → ℕ → Type 0

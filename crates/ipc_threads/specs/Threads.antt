@@ -1,9 +1,9 @@
 -- What a table of threads says: a list of slots, one for each number from 0.
 use Rattle.std.specs.Prelude.{ℕ, List, Option, Some, None, Result, Ok, Err, not, ◌&&◌, ◌==◌, is_some}
 use Rattle.std.specs.Prelude.{if◌then◌else◌, count_by, option_map, slice_index_or}
-use Rattle.ipc_words.specs.ThreadId.{number_of, version_of}
+use Rattle.ipc_words.specs.ThreadId.{id_of, number_of, version_of}
 use Rattle.ipc_words.specs.Version.{next_version_of}
-use Rattle.ipc_threads.specs.Ids.{id_of, is_space, is_thread_number}
+use Rattle.ipc_threads.specs.Ids.{is_space, is_thread_number}
 use Rattle.ipc_threads.specs.declared.table.Slot.{Slot}
 use Rattle.ipc_threads.specs.declared.refusal.ThreadRefusal.{ThreadRefusal}
 use Rattle.ipc_threads.specs.declared.refusal.ThreadRefusal.TheVariants.{BadNumber, NumberTaken, NumberWorn}

@@ -3,9 +3,9 @@ ghost use Rattle.std.specs.Prelude.{◌≡◌, ◌==◌, ◌<◌, ◌↔◌, ℕ
 ghost use Rattle.std.specs.Prelude.{IsNone, IsTrue, IsSome, IfErr, IfOk, OnOk, OnErr, None, Some};
 ghost use Rattle.std.specs.Bool.{OnTrue, OnFalse};
 ghost use Rattle.ipc_words.specs.Limits.{table_slots};
-ghost use Rattle.ipc_words.specs.ThreadId.{number_of, version_of};
+ghost use Rattle.ipc_words.specs.ThreadId.{id_of, number_of, version_of};
 ghost use Rattle.ipc_words.specs.Version.{next_version_of};
-ghost use Rattle.ipc_threads.specs.Ids.{IsPlace, id_of, is_space, is_thread_number};
+ghost use Rattle.ipc_threads.specs.Ids.{IsPlace, is_space, is_thread_number};
 
 use crate::ThreadRefusal;
 use ipc_words::limits::{MAX_SPACE, MAX_THREAD_NUMBER, TABLE_SLOTS};

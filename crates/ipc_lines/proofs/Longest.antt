@@ -7,15 +7,12 @@ use Rattle.ipc_history.specs.declared.entry.Input.TheVariants.{At, Opened, Calle
 use Rattle.ipc_history.specs.declared.entry.Output.TheVariants.{Began, Turned, Ended, Overflowed, Aborted, Failed}
 use Rattle.ipc_lines.specs.Lines.{spaced, timeouts_of, call_fields, entry_fields}
 use Rattle.ipc_lines.specs.Reading.{IsWord, IsCall, IsReadable}
-use Rattle.ipc_lines.specs.Commands.{IsCommand, command_fields}
 use Rattle.ipc_lines.specs.Limit.{most_bytes, LinesAreWithinTheLimit}
-use Rattle.ipc_lines.specs.declared.commands.Command.{Command}
-use Rattle.ipc_lines.specs.declared.commands.Command.TheVariants as command
 use Rattle.ipc_lines.proofs.Lengths.{decimal_length, hex_length, id_length, words_length, strings_length, buffers_length}
 use Rattle.ipc_lines.proofs.Limits.{masked_word, normal_words}
 
 -- the bytes of fields, with one more for each
-abbrev room : List (List ℕ) → ℕ
+abbrev pub room : List (List ℕ) → ℕ
 room [] = 0
 room (field ∷ fields) = length field + 1 + room fields
 
@@ -23,11 +20,11 @@ spaced_length : (field : List ℕ) (fields : List (List ℕ)) → length (spaced
 spaced_length field [] = omega arith
 spaced_length field (next ∷ fields) = omega (arith, spaced_length next fields, length-append field (32 ∷ spaced (next ∷ fields)))
 
-spaced_within : (fields : List (List ℕ)) → room fields ≤ most_bytes + 1 → length (spaced fields) ≤ most_bytes
+pub spaced_within : (fields : List (List ℕ)) → room fields ≤ most_bytes + 1 → length (spaced fields) ≤ most_bytes
 spaced_within [] h = omega arith
 spaced_within (field ∷ fields) h = omega (arith, spaced_length field fields)
 
-call_room : (thread : ℕ) (call : CallParts) → IsCall thread call → room (call_fields thread call) ≤ 2105000
+pub call_room : (thread : ℕ) (call : CallParts) → IsCall thread call → room (call_fields thread call) ≤ 2105000
 call_room thread call is =
     let timeouts : IsWord (timeouts_of call) = omega (arith, is.send_period, is.receive_period) in
     omega (
@@ -57,14 +54,5 @@ entry_room (Written (Overflowed sending receiving offset)) h = omega (arith, dec
 entry_room (Written (Aborted sending receiving count)) h = omega (arith, decimal_length sending h.0, decimal_length receiving h.1, decimal_length count h.2)
 entry_room (Written (Failed number code)) h = omega (arith, decimal_length number h.0, hex_length code h.1)
 
-command_room : (command : Command) → IsCommand command → room (command_fields command) ≤ most_bytes + 1
-command_room (command.Open number space) h = omega (arith, decimal_length number h.0, decimal_length space h.1)
-command_room (command.Call thread call) h = omega (arith, call_room thread call h)
-command_room (command.Exreg thread dest control) h = omega (arith, id_length thread h.0, id_length dest h.1, hex_length control h.2)
-command_room (command.Broke thread) h = omega (arith, id_length thread h)
-command_room (command.At moment) h = omega (arith, decimal_length moment h)
-command_room command.Advance h = omega arith
-command_room (command.Take thread) h = omega (arith, id_length thread h)
-
 pub lines_are_within_the_limit : LinesAreWithinTheLimit
-lines_are_within_the_limit = (λ entry h. spaced_within (entry_fields entry) (entry_room entry h), λ command h. spaced_within (command_fields command) (command_room command h))
+lines_are_within_the_limit = λ entry h. spaced_within (entry_fields entry) (entry_room entry h)

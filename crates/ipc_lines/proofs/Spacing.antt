@@ -14,10 +14,7 @@ use Rattle.ipc_history.specs.declared.entry.Input.TheVariants.{At, Opened, Calle
 use Rattle.ipc_history.specs.declared.entry.Output.TheVariants.{Began, Turned, Ended, Overflowed, Aborted, Failed}
 use Rattle.ipc_lines.specs.Lines.{spaced, call_fields, timeouts_of, entry_fields, entry_text}
 use Rattle.ipc_lines.specs.Reading.{parts_at, IsCall, IsBufferList, IsSubstring, IsReadable}
-use Rattle.ipc_lines.specs.Commands.{command_fields, command_text, IsCommand}
 use borrow.Author.Tests.{ltb-true}
-use Rattle.ipc_lines.specs.declared.commands.Command.{Command}
-use Rattle.ipc_lines.specs.declared.commands.Command.TheVariants as command
 use Rattle.ipc_lines.proofs.ListTexts.{Lacks, AllLack, lack_nil, lack_cons, parts_join}
 use Rattle.ipc_lines.proofs.High.{lacks, decimal_high, hex_high, id_high, words_high, strings_high, buffers_high}
 
@@ -55,23 +52,14 @@ module _ (s : ℕ) (low : s < 43) where
       let above : 96 < b = ltb-true 96 b p.0 in
       All-cons (λ x. x ≢ s) b bs (λ e. omega arith) (letters_lack bs p.1)
 
-  lack_one : (name x : List ℕ) → Lacks s name → Lacks s x → AllLack s (name ∷ x ∷ [])
+  pub lack_one : (name x : List ℕ) → Lacks s name → Lacks s x → AllLack s (name ∷ x ∷ [])
   lack_one name x n h = lack_cons name _ n (lack_cons x _ h lack_nil)
 
-  lack_two : (name x y : List ℕ) → Lacks s name → Lacks s x → Lacks s y → AllLack s (name ∷ x ∷ y ∷ [])
+  pub lack_two : (name x y : List ℕ) → Lacks s name → Lacks s x → Lacks s y → AllLack s (name ∷ x ∷ y ∷ [])
   lack_two name x y n h k = lack_cons name _ n (lack_one x y h k)
 
-  lack_three : (name x y z : List ℕ) → Lacks s name → Lacks s x → Lacks s y → Lacks s z → AllLack s (name ∷ x ∷ y ∷ z ∷ [])
+  pub lack_three : (name x y z : List ℕ) → Lacks s name → Lacks s x → Lacks s y → Lacks s z → AllLack s (name ∷ x ∷ y ∷ z ∷ [])
   lack_three name x y z n h k l = lack_cons name _ n (lack_two x y z h k l)
-
-  command_lacks : (command : Command) → IsCommand command → AllLack s (command_fields command)
-  command_lacks (command.Open number space) h = lack_two (codes "open") _ _ (letters_lack (codes "open") refl) (decimal_lacks number) (decimal_lacks space)
-  command_lacks (command.Call thread call) h = lack_cons (codes "call") _ (letters_lack (codes "call") refl) (call_lacks thread call h)
-  command_lacks (command.Exreg thread dest control) h = lack_three (codes "exreg") _ _ _ (letters_lack (codes "exreg") refl) (id_lacks thread) (id_lacks dest) (hex_lacks control)
-  command_lacks (command.Broke thread) h = lack_one (codes "broke") _ (letters_lack (codes "broke") refl) (id_lacks thread)
-  command_lacks (command.At moment) h = lack_one (codes "at") _ (letters_lack (codes "at") refl) (decimal_lacks moment)
-  command_lacks command.Advance h = lack_cons (codes "advance") [] (letters_lack (codes "advance") refl) lack_nil
-  command_lacks (command.Take thread) h = lack_one (codes "take") _ (letters_lack (codes "take") refl) (id_lacks thread)
 
   entry_lacks : (entry : Entry) → IsReadable entry → AllLack s (entry_fields entry)
   entry_lacks (Given (At moment)) h = lack_one (codes "at") _ (letters_lack (codes "at") refl) (decimal_lacks moment)
@@ -91,18 +79,6 @@ module _ (s : ℕ) (low : s < 43) where
 pub spaced_parts : (line : List ℕ) (fields : List (List ℕ)) → 0 < length fields → AllLack 32 fields → line ≡ spaced fields → parts_at 32 line ≡ fields
 spaced_parts line [] some h e = absurd (omega arith)
 spaced_parts line (f ∷ fs) some h e = ap (parts_at 32) e ∙ parts_join 32 f fs h
-
-pub command_count : (command : Command) → (0 < length (command_fields command)) × (length (command_fields command) ≤ 10)
-command_count (command.Open number space) = (omega arith, omega arith)
-command_count (command.Call thread call) = (omega arith, omega arith)
-command_count (command.Exreg thread dest control) = (omega arith, omega arith)
-command_count (command.Broke thread) = (omega arith, omega arith)
-command_count (command.At moment) = (omega arith, omega arith)
-command_count command.Advance = (omega arith, omega arith)
-command_count (command.Take thread) = (omega arith, omega arith)
-
-pub command_parts : (line : List ℕ) (command : Command) → IsCommand command → line ≡ command_text command → parts_at 32 line ≡ command_fields command
-command_parts line command h e = spaced_parts line (command_fields command) (command_count command).0 (command_lacks 32 (omega arith) command h) e
 
 pub entry_count : (entry : Entry) → (0 < length (entry_fields entry)) × (length (entry_fields entry) ≤ 11)
 entry_count (Given (At moment)) = (omega arith, omega arith)

@@ -2,7 +2,6 @@ pub mod Texts
 pub mod Lines
 pub mod Laws
 pub mod Reading
-pub mod Commands
 pub mod Names
 pub mod Spelling
 pub mod Limit

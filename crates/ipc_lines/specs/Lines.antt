@@ -22,11 +22,14 @@ timeouts_of call = call.send_period * 2 ^ 16 + call.receive_period
 
 -- the fields of a call that are one word each: the thread that calls, to, from, the timeouts, the tag and the originator
 abbrev pub scalar_fields : ℕ → CallParts → List (List ℕ)
-scalar_fields thread call = id_text thread ∷ id_text call.to ∷ id_text call.from ∷ hex_text (timeouts_of call) ∷ hex_text call.tag ∷ id_text call.originator ∷ []
+scalar_fields thread call =
+    id_text thread ∷ id_text call.to ∷ id_text call.from
+    ∷ hex_text (timeouts_of call) ∷ hex_text call.tag ∷ id_text call.originator ∷ []
 
 -- the words, the strings and the buffers
 abbrev pub list_fields : CallParts → List (List ℕ)
-list_fields call = words_text call.words ∷ strings_text call.strings ∷ buffers_text call.buffers ∷ []
+list_fields call =
+    words_text call.words ∷ strings_text call.strings ∷ buffers_text call.buffers ∷ []
 
 -- CALL, the nine fields of a call
 abbrev pub call_fields : ℕ → CallParts → List (List ℕ)
@@ -39,15 +42,22 @@ call_text thread call = spaced (call_fields thread call)
 abbrev pub entry_fields : Entry → List (List ℕ)
 entry_fields (Given (At moment)) = codes "at" ∷ decimal moment ∷ []
 entry_fields (Given (Opened thread space)) = codes "opened" ∷ id_text thread ∷ decimal space ∷ []
-entry_fields (Given (Called number thread call)) = codes "called" ∷ decimal number ∷ call_fields thread call
-entry_fields (Given (Exreg thread dest control)) = codes "exreg" ∷ id_text thread ∷ id_text dest ∷ hex_text control ∷ []
+entry_fields (Given (Called number thread call)) =
+    codes "called" ∷ decimal number ∷ call_fields thread call
+entry_fields (Given (Exreg thread dest control)) =
+    codes "exreg" ∷ id_text thread ∷ id_text dest ∷ hex_text control ∷ []
 entry_fields (Given (Broke thread)) = codes "broke" ∷ id_text thread ∷ []
 entry_fields (Given (Moved number count)) = codes "moved" ∷ decimal number ∷ decimal count ∷ []
-entry_fields (Written (Began sending receiving)) = codes "began" ∷ decimal sending ∷ decimal receiving ∷ []
-entry_fields (Written (Turned receiving thread)) = codes "turned" ∷ decimal receiving ∷ id_text thread ∷ []
-entry_fields (Written (Ended sending receiving)) = codes "ended" ∷ decimal sending ∷ decimal receiving ∷ []
-entry_fields (Written (Overflowed sending receiving offset)) = codes "overflowed" ∷ decimal sending ∷ decimal receiving ∷ decimal offset ∷ []
-entry_fields (Written (Aborted sending receiving count)) = codes "aborted" ∷ decimal sending ∷ decimal receiving ∷ decimal count ∷ []
+entry_fields (Written (Began sending receiving)) =
+    codes "began" ∷ decimal sending ∷ decimal receiving ∷ []
+entry_fields (Written (Turned receiving thread)) =
+    codes "turned" ∷ decimal receiving ∷ id_text thread ∷ []
+entry_fields (Written (Ended sending receiving)) =
+    codes "ended" ∷ decimal sending ∷ decimal receiving ∷ []
+entry_fields (Written (Overflowed sending receiving offset)) =
+    codes "overflowed" ∷ decimal sending ∷ decimal receiving ∷ decimal offset ∷ []
+entry_fields (Written (Aborted sending receiving count)) =
+    codes "aborted" ∷ decimal sending ∷ decimal receiving ∷ decimal count ∷ []
 entry_fields (Written (Failed number code)) = codes "failed" ∷ decimal number ∷ hex_text code ∷ []
 
 abbrev pub entry_text : Entry → List ℕ
@@ -60,7 +70,9 @@ placed_in outcome = flat_map (λ placed. placed) (pieces_in outcome)
 -- the fields of an outcome: the number of the call, the tag, the sender that is shown, the ActualSender, the ErrorCode, MR1 on,
 -- and the pieces of the received strings
 abbrev pub outcome_fields : OutcomeParts → List (List ℕ)
-outcome_fields outcome = decimal outcome.call ∷ hex_text outcome.tag ∷ id_text outcome.sender ∷ id_text outcome.actual ∷ hex_text outcome.error ∷ words_text outcome.words ∷ pieces_text (placed_in outcome) ∷ []
+outcome_fields outcome =
+    decimal outcome.call ∷ hex_text outcome.tag ∷ id_text outcome.sender ∷ id_text outcome.actual
+    ∷ hex_text outcome.error ∷ words_text outcome.words ∷ pieces_text (placed_in outcome) ∷ []
 
 abbrev pub outcome_text : OutcomeParts → List ℕ
 outcome_text outcome = spaced (outcome_fields outcome)

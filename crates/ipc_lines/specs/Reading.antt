@@ -1,5 +1,7 @@
 -- What a reader of lines takes apart, and which values it can give back: those of the types.
-use Rattle.std.specs.Prelude.{ℕ, ◌%◌, ◌^◌, ◌<◌, ◌≢◌, IsTrue, Bool, ◌||◌, List, IfSome, ◌==◌}
+use Rattle.std.specs.Prelude.{ℕ, ◌+◌, ◌*◌, ◌%◌, ◌^◌, ◌<◌, ◌≢◌, ◌||◌, [], ◌∷◌, ◌==◌}
+use Rattle.std.specs.Prelude.{IsTrue, Bool, List, map, IfSome}
+use Rattle.std.specs.Borrow.{Bor}
 use Rattle.std.specs.List.{All, slice_split}
 use Rattle.hex.specs.Hex.{IsBytes}
 use Rattle.ipc_words.specs.ThreadId.{nilthread, anythread, anylocalthread}
@@ -8,14 +10,39 @@ use Rattle.ipc_items.specs.declared.buffer_list.Substring.{Substring}
 use Rattle.ipc_items.specs.Strings.{AreStrings}
 use Rattle.ipc_items.specs.Buffers.{AreBuffers}
 use Rattle.ipc_history.specs.CallParts.{CallParts, is_normal}
+use Rattle.ipc_lines.specs.Texts.{hex_text, id_text}
+use Rattle.ipc_lines.specs.declared.call_reading.Numbers.{Numbers}
 use Rattle.ipc_history.specs.declared.entry.Entry.{Entry}
 use Rattle.ipc_history.specs.declared.entry.Entry.TheVariants.{Given, Written}
 use Rattle.ipc_history.specs.declared.entry.Input.TheVariants.{At, Opened, Called, Exreg, Broke, Moved}
 use Rattle.ipc_history.specs.declared.entry.Output.TheVariants.{Began, Turned, Ended, Overflowed, Aborted, Failed}
 
+-- the bytes that fields show
+abbrev pub texts_of : List (Bor (List ℕ)) → List (List ℕ)
+texts_of fields = map (λ field. field.now) fields
+
 -- what stands between the separators
 abbrev pub parts_at : ℕ → List ℕ → List (List ℕ)
 parts_at separator text = slice_split (λ byte. byte == separator) text
+
+-- the numbers of a call, and the thread that calls
+abbrev pub numbers_of : ℕ → CallParts → Numbers
+numbers_of thread call = record {
+  thread = thread;
+  to = call.to;
+  from = call.from;
+  send_period = call.send_period;
+  receive_period = call.receive_period;
+  tag = call.tag;
+  originator = call.originator;
+}
+
+-- the fields that spell them
+abbrev pub number_fields : Numbers → List (List ℕ)
+number_fields read =
+    id_text read.thread ∷ id_text read.to ∷ id_text read.from
+    ∷ hex_text (read.send_period * 2 ^ 16 + read.receive_period) ∷ hex_text read.tag
+    ∷ id_text read.originator ∷ []
 
 -- a thread id that has a name
 abbrev pub is_named : ℕ → Bool
@@ -58,17 +85,21 @@ pub record IsCall (thread : ℕ) (call : CallParts) : Type 0 where
   pub buffers : IfSome call.buffers IsBufferList
   pub normal : IsTrue (is_normal call)
 
--- an entry of words, of a control with no bit but R and S, and of a call in normal form and within the limits
+-- an entry of words, of a control with no bit but R and S, and of a call in normal form and within
+-- the limits
 abbrev pub IsReadable : Entry → Type 0
 IsReadable (Given (At moment)) = IsWord moment
 IsReadable (Given (Opened thread space)) = IsWord thread × IsWord space
 IsReadable (Given (Called number thread call)) = IsWord number × IsCall thread call
-IsReadable (Given (Exreg thread dest control)) = IsWord thread × IsWord dest × IsTrue (is_masked control)
+IsReadable (Given (Exreg thread dest control)) =
+    IsWord thread × IsWord dest × IsTrue (is_masked control)
 IsReadable (Given (Broke thread)) = IsWord thread
 IsReadable (Given (Moved number count)) = IsWord number × IsWord count
 IsReadable (Written (Began sending receiving)) = IsWord sending × IsWord receiving
 IsReadable (Written (Turned receiving thread)) = IsWord receiving × IsWord thread
 IsReadable (Written (Ended sending receiving)) = IsWord sending × IsWord receiving
-IsReadable (Written (Overflowed sending receiving offset)) = IsWord sending × IsWord receiving × IsWord offset
-IsReadable (Written (Aborted sending receiving count)) = IsWord sending × IsWord receiving × IsWord count
+IsReadable (Written (Overflowed sending receiving offset)) =
+    IsWord sending × IsWord receiving × IsWord offset
+IsReadable (Written (Aborted sending receiving count)) =
+    IsWord sending × IsWord receiving × IsWord count
 IsReadable (Written (Failed number code)) = IsWord number × IsWord code

@@ -6,4 +6,5 @@ use Rattle.ipc_lines.specs.Reading.{IsReadable}
 
 -- two entries are not spelled alike
 abbrev pub EachHasOneLine : Type 0
-EachHasOneLine = (entry other : Entry) → IsReadable entry → IsReadable other → entry_text entry ≡ entry_text other → entry ≡ other
+EachHasOneLine = (entry other : Entry) → IsReadable entry → IsReadable other
+    → entry_text entry ≡ entry_text other → entry ≡ other

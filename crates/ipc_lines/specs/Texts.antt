@@ -1,6 +1,7 @@
 -- Our choice (docs/FORMATS.md): the spelling of numbers, thread ids, words, strings and buffers in a line. Decimals are std's
 -- `decimal`, without leading zeros; 0 is `0`.
-use Rattle.std.specs.Prelude.{ℕ, ◌%◌, List, [], ◌∷◌, ◌++◌, false, Option, Some, None, map, codes, if◌then◌else◌, ◌==◌}
+use Rattle.std.specs.Prelude.{ℕ, ◌%◌, [], ◌∷◌, ◌++◌, ◌==◌}
+use Rattle.std.specs.Prelude.{List, false, Option, Some, None, map, codes, if◌then◌else◌}
 use Rattle.std.specs.Fmt.{decimal, digits}
 use Rattle.std.specs.List.{join_with_byte}
 use Rattle.hex.specs.Hex.{encode_lower}

@@ -1,8 +1,8 @@
-ghost use Rattle.std.specs.Prelude.{◌≡◌, ℕ, ◌+◌, ◌*◌, ◌^◌, ◌<◌, [], ◌∷◌, map, Some, IfOk, IfSome};
+ghost use Rattle.std.specs.Prelude.{◌≡◌, ℕ, ◌+◌, ◌*◌, ◌^◌, ◌<◌, [], ◌∷◌, Some, IfOk, IfSome};
 ghost use Rattle.std.specs.Option.{IsSomeAnd};
-ghost use Rattle.ipc_lines.specs.Texts.{id_text, hex_text, words_text, strings_text, buffers_text};
-ghost use Rattle.ipc_lines.specs.Lines.{call_fields, timeouts_of};
-ghost use Rattle.ipc_lines.specs.Reading.{IsCall};
+ghost use Rattle.ipc_lines.specs.Texts.{hex_text, words_text, strings_text, buffers_text};
+ghost use Rattle.ipc_lines.specs.Lines.{call_fields, list_fields, scalar_fields};
+ghost use Rattle.ipc_lines.specs.Reading.{IsCall, number_fields, numbers_of, texts_of};
 ghost use Rattle.ipc_history.specs.CallParts.{CallParts};
 ghost use Rattle.ipc_history.specs.Fields.{parts_of};
 
@@ -35,8 +35,10 @@ struct Lists {
 
 // The send period and the receive period of a word of timeouts; `None` where one is a time point.
 fn read_timeouts(bytes: &[u8]) -> Option<(Period, Period)>
-    ensures found { IfSome result (λ periods. bytes.now ≡ hex_text (periods.0 * 2 ^ 16 + periods.1)) }
-    ensures only { (send receive : ℕ) → send < 2 ^ 15 → receive < 2 ^ 15 → bytes.now ≡ hex_text (send * 2 ^ 16 + receive) → result ≡ Some (send, receive) }
+    ensures found { IfSome result (λ periods.
+        bytes.now ≡ hex_text (periods.0 * 2 ^ 16 + periods.1)) }
+    ensures only { (send receive : ℕ) → send < 2 ^ 15 → receive < 2 ^ 15
+        → bytes.now ≡ hex_text (send * 2 ^ 16 + receive) → result ≡ Some (send, receive) }
 {
     let word = read_hex(bytes)?;
     let send = Period::from_word(u16::try_from(word / 0x1_0000).ok()?)?;
@@ -46,8 +48,9 @@ fn read_timeouts(bytes: &[u8]) -> Option<(Period, Period)>
 
 // The first six fields of a call.
 fn read_numbers(fields: &[&[u8]]) -> Option<Numbers>
-    ensures found { IfSome result (λ read. map (λ field. field.now) fields.now ≡ id_text read.thread ∷ id_text read.to ∷ id_text read.from ∷ hex_text (read.send_period * 2 ^ 16 + read.receive_period) ∷ hex_text read.tag ∷ id_text read.originator ∷ []) }
-    ensures only { (thread : ℕ) (call : CallParts) → IsCall thread call → map (λ field. field.now) fields.now ≡ id_text thread ∷ id_text call.to ∷ id_text call.from ∷ hex_text (timeouts_of call) ∷ hex_text call.tag ∷ id_text call.originator ∷ [] → result ≡ Some (record { thread = thread; to = call.to; from = call.from; send_period = call.send_period; receive_period = call.receive_period; tag = call.tag; originator = call.originator }) }
+    ensures found { IfSome result (λ read. texts_of fields.now ≡ number_fields read) }
+    ensures only { (thread : ℕ) (call : CallParts) → IsCall thread call
+        → texts_of fields.now ≡ scalar_fields thread call → result ≡ Some (numbers_of thread call) }
 {
     let [thread, to, from, timeouts, tag, originator] = fields else {
         return None;
@@ -66,8 +69,14 @@ fn read_numbers(fields: &[&[u8]]) -> Option<Numbers>
 
 // The last three fields of a call.
 fn read_lists(alloc: Global, fields: &[&[u8]]) -> Result<Option<Lists>, AllocError>
-    ensures found { IfOk result (λ lists. IfSome lists (λ read. map (λ field. field.now) fields.now ≡ words_text read.words.items ∷ strings_text read.strings ∷ buffers_text read.buffers ∷ [])) }
-    ensures only { (thread : ℕ) (call : CallParts) → IsCall thread call → map (λ field. field.now) fields.now ≡ words_text call.words ∷ strings_text call.strings ∷ buffers_text call.buffers ∷ [] → IfOk result (λ lists. IsSomeAnd lists (λ read. (read.words.items ≡ call.words) × (read.strings ≡ call.strings) × (read.buffers ≡ call.buffers))) }
+    ensures found { IfOk result (λ lists. IfSome lists (λ read. texts_of fields.now
+        ≡ words_text read.words.items ∷ strings_text read.strings
+        ∷ buffers_text read.buffers ∷ [])) }
+    ensures only { (thread : ℕ) (call : CallParts) → IsCall thread call
+        → texts_of fields.now ≡ list_fields call
+        → IfOk result (λ lists. IsSomeAnd lists
+        (λ read. (read.words.items ≡ call.words) × (read.strings ≡ call.strings)
+        × (read.buffers ≡ call.buffers))) }
 {
     let [words, strings, buffers] = fields else {
         return Ok(None);
@@ -88,10 +97,14 @@ fn read_lists(alloc: Global, fields: &[&[u8]]) -> Result<Option<Lists>, AllocErr
     }))
 }
 
-/// The call that these nine fields spell, and its thread; `None` for any other fields, as for a call that is not in normal form.
+/// The call that these nine fields spell, and its thread; `None` for any other fields, as for a call
+/// that is not in normal form.
 pub fn read_call(alloc: Global, fields: &[&[u8]]) -> Result<Option<(ThreadId, Call)>, AllocError>
-    ensures found { IfOk result (λ call. IfSome call (λ read. map (λ field. field.now) fields.now ≡ call_fields read.0 read.1)) }
-    ensures only { (thread : ℕ) (call : CallParts) → IsCall thread call → map (λ field. field.now) fields.now ≡ call_fields thread call → IfOk result (λ answer. answer ≡ Some (thread, call)) }
+    ensures found { IfOk result (λ call. IfSome call (λ read.
+        texts_of fields.now ≡ call_fields read.0 read.1)) }
+    ensures only { (thread : ℕ) (call : CallParts) → IsCall thread call
+        → texts_of fields.now ≡ call_fields thread call
+        → IfOk result (λ answer. answer ≡ Some (thread, call)) }
 {
     if fields.len() != 9 {
         return Ok(None);

@@ -51,7 +51,8 @@ pub(crate) fn write_call(
     caller: ThreadId,
     call: &Call,
 ) -> Result<(), AllocError>
-    ensures { OnOk result (string_bytes out.new ≡ string_bytes out.old ++ call_text caller call.now) }
+    ensures { OnOk result (string_bytes out.new
+        ≡ string_bytes out.old ++ call_text caller call.now) }
 {
     write_scalars(out, caller, call)?;
     out.push_str(" ")?;
@@ -68,7 +69,10 @@ pub(crate) fn write_call(
 /// | originator | an id |
 /// | words | `-` where there is none, else HEX with commas between |
 /// | strings | `-` where there is none, else `x` and two lower-case hex digits a byte, with commas between |
-/// | buffers | `-` where no strings are accepted, `s` where they are and there is no buffer string, else buffer strings with commas between: substrings with `+` between, each its length in decimal, `@` and its pointer in HEX |
+/// | buffers | `-` where no strings are accepted, `s` where they are and there is none, else buffer strings with commas between |
+///
+/// A buffer string is its substrings with `+` between, each its length in decimal, `@` and its
+/// pointer in HEX.
 ///
 /// The error: memory was refused.
 pub fn call_text(alloc: Global, caller: ThreadId, call: &Call) -> Result<String, AllocError>

@@ -13,7 +13,8 @@ use std::alloc::{AllocError, Global};
 
 // Appends the line of an input.
 fn write_input(alloc: Global, out: &mut String, input: &Input) -> Result<(), AllocError>
-    ensures { OnOk result (string_bytes out.new ≡ string_bytes out.old ++ entry_text (Given input.now)) }
+    ensures { OnOk result (string_bytes out.new
+        ≡ string_bytes out.old ++ entry_text (Given input.now)) }
 {
     match input {
         Input::At(moment) => write!(out, "at {moment}"),
@@ -33,7 +34,8 @@ fn write_input(alloc: Global, out: &mut String, input: &Input) -> Result<(), All
 
 // Appends the line of an output.
 fn write_output(out: &mut String, output: &Output) -> Result<(), AllocError>
-    ensures { OnOk result (string_bytes out.new ≡ string_bytes out.old ++ entry_text (Written output.now)) }
+    ensures { OnOk result (string_bytes out.new
+        ≡ string_bytes out.old ++ entry_text (Written output.now)) }
 {
     match *output {
         Output::Began(sending, receiving) => write!(out, "began {sending} {receiving}"),
@@ -61,7 +63,8 @@ fn line_of(alloc: Global, entry: &Entry) -> Result<String, AllocError>
     Ok(line)
 }
 
-/// The line of an entry, without its newline: at most [`ipc_words::limits::MAX_LINE_BYTES`] bytes, which [`crate::read_entry`] reads as this entry.
+/// The line of an entry, without its newline: at most [`ipc_words::limits::MAX_LINE_BYTES`] bytes,
+/// which [`crate::read_entry`] reads as this entry.
 /// The error: memory was refused.
 pub fn entry_line(alloc: Global, entry: &Entry) -> Result<String, AllocError>
     ensures value { IfOk result (λ line. string_bytes line ≡ entry_text entry.now) }

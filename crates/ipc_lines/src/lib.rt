@@ -23,7 +23,6 @@
 
 mod call_reading;
 mod calls;
-mod commands;
 mod entries;
 mod fields;
 mod items;
@@ -37,8 +36,8 @@ mod scalars;
 
 pub use call_reading::read_call;
 pub use calls::call_text;
-pub use commands::{Command, read_command};
 pub use entries::entry_line;
+pub use fields::line_fields;
 pub use items::{read_buffers, read_strings, read_words};
 pub use laws::{
     entries_have_lines_of_their_own, lines_are_within_the_limit, lines_hold_no_newline,
@@ -46,7 +45,7 @@ pub use laws::{
 };
 pub use numbers::{read_decimal, read_hex, read_id};
 pub use outcomes::outcome_line;
-pub use readable::{command_is_readable, entry_is_readable};
+pub use readable::{call_is_readable, entry_is_readable};
 pub use reading::{LineFault, read_entry};
 pub use scalars::{HexText, IdText};
 

@@ -45,7 +45,8 @@ pub(crate) fn write_strings(
     out: &mut String,
     strings: &StringList,
 ) -> Result<(), AllocError>
-    ensures { OnOk result (string_bytes out.new ≡ string_bytes out.old ++ strings_text strings.now) }
+    ensures { OnOk result (string_bytes out.new
+        ≡ string_bytes out.old ++ strings_text strings.now) }
 {
     if strings.is_empty() {
         return out.push_str("-");

@@ -1,4 +1,5 @@
-ghost use Rattle.std.specs.Prelude.{◌≡◌, ℕ, ◌<◌, ◌^◌, ◌≤◌, ◌+◌, ◌*◌, Some, IfSome, false, ◌++◌, ◌↔◌, IsTrue, codes};
+ghost use Rattle.std.specs.Prelude.{◌≡◌, ℕ, ◌<◌, ◌^◌, ◌≤◌, ◌+◌, ◌*◌, ◌++◌, ◌↔◌};
+ghost use Rattle.std.specs.Prelude.{Some, IfSome, false, IsTrue, codes};
 ghost use Rattle.std.specs.Option.{SomeIff};
 ghost use Rattle.std.specs.Fmt.{decimal, digits, digit_glyph};
 ghost use Rattle.ipc_lines.specs.Texts.{hex_text, id_text};
@@ -16,7 +17,8 @@ fn digit(base: u8, byte: u8) -> Option<u8>
     requires { base ≤ 16 }
     ensures below { IfSome result (λ value. value < base) }
     ensures found { IfSome result (λ value. byte ≡ digit_glyph false value) }
-    ensures only { (value : ℕ) → value < base → byte ≡ digit_glyph false value → result ≡ Some value }
+    ensures only { (value : ℕ) → value < base → byte ≡ digit_glyph false value
+        → result ≡ Some value }
 {
     let value = match byte {
         b'0'..=b'9' => byte - b'0',
@@ -42,7 +44,8 @@ fn number(base: u8, bytes: &[u8]) -> Option<u64>
     requires low { 2 ≤ base }
     requires high { base ≤ 16 }
     ensures found { IfSome result (λ value. bytes.now ≡ digits base false value) }
-    ensures only { (value : ℕ) → value < 2 ^ 64 → bytes.now ≡ digits base false value → result ≡ Some value }
+    ensures only { (value : ℕ) → value < 2 ^ 64 → bytes.now ≡ digits base false value
+        → result ≡ Some value }
 {
     let (last, front) = bytes.split_last()?;
     let low = digit(base, *last)?;
@@ -111,8 +114,11 @@ fn half(bytes: &[u8]) -> Option<u32>
 
 // The id of a number and a version.
 fn numbered(bytes: &[u8]) -> Option<u64>
-    ensures found { IfSome result (λ id. IsNumbered id × (bytes.now ≡ decimal (number_of id) ++ codes "." ++ decimal (version_of id))) }
-    ensures only { (id : ℕ) → id < 2 ^ 64 → IsNumbered id → bytes.now ≡ decimal (number_of id) ++ codes "." ++ decimal (version_of id) → result ≡ Some id }
+    ensures found { IfSome result (λ id. IsNumbered id
+        × (bytes.now ≡ decimal (number_of id) ++ codes "." ++ decimal (version_of id))) }
+    ensures only { (id : ℕ) → id < 2 ^ 64 → IsNumbered id
+        → bytes.now ≡ decimal (number_of id) ++ codes "." ++ decimal (version_of id)
+        → result ≡ Some id }
 {
     let (number, version) = cut(bytes, b'.')?;
     let number = half(number)?;

@@ -33,7 +33,8 @@ fn pieces<'a>(
 
 // Appends a piece: its pointer in HEX, `:` and its bytes.
 fn write_piece(alloc: Global, out: &mut String, piece: Piece<'_>) -> Result<(), AllocError>
-    ensures { OnOk result (string_bytes out.new ≡ string_bytes out.old ++ piece_text (placed piece.entry)) }
+    ensures { OnOk result (string_bytes out.new
+        ≡ string_bytes out.old ++ piece_text (placed piece.entry)) }
 {
     write!(out, "{}:", HexText(piece.pointer))?;
     write_bytes(alloc, out, piece.bytes)

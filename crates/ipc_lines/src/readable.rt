@@ -1,11 +1,9 @@
 ghost use Rattle.std.specs.Prelude.{◌≡◌};
 ghost use Rattle.std.specs.List.{All};
 ghost use Rattle.hex.specs.Hex.{IsBytes};
-ghost use Rattle.ipc_lines.specs.Commands.{IsCommand};
 ghost use Rattle.ipc_lines.specs.Reading.{IsWord, AreWords, IsSubstring, IsStringList, IsBufferList, IsCall, IsReadable};
 ghost use Rattle.ipc_history.specs.declared.entry.Entry.TheVariants.{Written};
 
-use crate::commands::Command;
 use ipc_history::{Call, Entry, Input, Output};
 use ipc_items::{BufferList, StringList, Substring};
 use ipc_words::ThreadId;
@@ -79,8 +77,8 @@ fn are_buffers(buffers: &BufferList)
     }
 }
 
-// A call is in normal form and within the limits.
-fn is_call(thread: ThreadId, call: &Call)
+/// A call is in normal form and within the limits, and its thread is a word.
+pub fn call_is_readable(thread: ThreadId, call: &Call)
     ensures { IsCall thread call.now }
 {
     id_is_word(thread);
@@ -124,8 +122,8 @@ fn is_output(output: &Output)
     }
 }
 
-/// Every entry is of words, of bytes and of calls within the limits. So its line has at most [`ipc_words::limits::MAX_LINE_BYTES`] bytes, and
-/// [`crate::read_entry`] reads it as this entry.
+/// Every entry is of words, of bytes and of calls within the limits. So its line has at most
+/// [`ipc_words::limits::MAX_LINE_BYTES`] bytes, and [`crate::read_entry`] reads it as this entry.
 pub fn entry_is_readable(entry: &Entry)
     ensures { IsReadable entry.now }
 {
@@ -137,7 +135,7 @@ pub fn entry_is_readable(entry: &Entry)
         }
         Entry::Given(Input::Called(number, thread, call)) => {
             is_word(*number);
-            is_call(*thread, call);
+            call_is_readable(*thread, call);
         }
         Entry::Given(Input::Exreg(thread, dest, control)) => {
             id_is_word(*thread);
@@ -150,32 +148,5 @@ pub fn entry_is_readable(entry: &Entry)
             is_word(*count);
         }
         Entry::Written(output) => is_output(output),
-    }
-}
-
-/// Every command is of words, of bytes and of a call within the limits. So its line has at most [`ipc_words::limits::MAX_LINE_BYTES`] bytes, and
-/// [`crate::read_command`] reads it as this command.
-pub fn command_is_readable(command: &Command)
-    ensures { IsCommand command.now }
-{
-    match command {
-        Command::Open { number, space } => {
-            is_word(*number);
-            is_word(*space);
-        }
-        Command::Call(thread, call) => is_call(*thread, call),
-        Command::Exreg {
-            thread,
-            dest,
-            control,
-        } => {
-            id_is_word(*thread);
-            id_is_word(*dest);
-            is_word(control.to_word());
-        }
-        Command::Broke(thread) => id_is_word(*thread),
-        Command::At(moment) => is_word(*moment),
-        Command::Advance => {}
-        Command::Take(thread) => id_is_word(*thread),
     }
 }

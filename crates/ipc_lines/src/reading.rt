@@ -1,4 +1,5 @@
-ghost use Rattle.std.specs.Prelude.{◌≡◌, ◌<◌, ℕ, [], ◌∷◌, codes, length, map, Some, Ok, Err, IfOk, IfSome, IsTrue, ◌⊎◌};
+ghost use Rattle.std.specs.Prelude.{◌≡◌, ◌<◌, ℕ, [], ◌∷◌, ◌⊎◌};
+ghost use Rattle.std.specs.Prelude.{codes, length, Some, Ok, Err, IfOk, IfSome, IsTrue};
 ghost use Rattle.std.specs.Fmt.{decimal};
 ghost use Rattle.ipc_history.specs.CallParts.{CallParts};
 ghost use Rattle.ipc_history.specs.declared.entry.Entry.{Entry};
@@ -9,11 +10,11 @@ ghost use Rattle.ipc_words.specs.Control.{is_masked};
 ghost use Rattle.ipc_lines.specs.Texts.{hex_text, id_text};
 ghost use Rattle.ipc_lines.specs.Limit.{most_bytes};
 ghost use Rattle.ipc_lines.specs.Lines.{call_fields, entry_fields, entry_text};
-ghost use Rattle.ipc_lines.specs.Reading.{IsWord, IsCall, IsReadable};
+ghost use Rattle.ipc_lines.specs.Reading.{IsWord, IsCall, IsReadable, texts_of};
 ghost use Rattle.ipc_lines.specs.Names.{entry_name};
 
 use crate::call_reading::read_call;
-use crate::fields::split;
+use crate::fields::line_fields;
 use crate::numbers::{read_decimal, read_hex, read_id};
 use ipc_history::{Entry, Input, Output};
 use ipc_words::limits::MAX_LINE_BYTES;
@@ -64,8 +65,9 @@ fn name_of(text: &[u8]) -> Option<EntryName>
 
 // One number.
 fn read_number(fields: &[&[u8]]) -> Option<u64>
-    ensures found { IfSome result (λ read. map (λ field. field.now) fields.now ≡ decimal read ∷ []) }
-    ensures only { (number : ℕ) → IsWord number → map (λ field. field.now) fields.now ≡ decimal number ∷ [] → result ≡ Some number }
+    ensures found { IfSome result (λ read. texts_of fields.now ≡ decimal read ∷ []) }
+    ensures only { (number : ℕ) → IsWord number → texts_of fields.now ≡ decimal number ∷ []
+        → result ≡ Some number }
 {
     let [number] = fields else {
         return None;
@@ -75,8 +77,9 @@ fn read_number(fields: &[&[u8]]) -> Option<u64>
 
 // One thread.
 fn read_thread(fields: &[&[u8]]) -> Option<ThreadId>
-    ensures found { IfSome result (λ read. map (λ field. field.now) fields.now ≡ id_text read ∷ []) }
-    ensures only { (thread : ℕ) → IsWord thread → map (λ field. field.now) fields.now ≡ id_text thread ∷ [] → result ≡ Some thread }
+    ensures found { IfSome result (λ read. texts_of fields.now ≡ id_text read ∷ []) }
+    ensures only { (thread : ℕ) → IsWord thread → texts_of fields.now ≡ id_text thread ∷ []
+        → result ≡ Some thread }
 {
     let [thread] = fields else {
         return None;
@@ -86,8 +89,11 @@ fn read_thread(fields: &[&[u8]]) -> Option<ThreadId>
 
 // Two numbers.
 fn read_pair(fields: &[&[u8]]) -> Option<(u64, u64)>
-    ensures found { IfSome result (λ read. map (λ field. field.now) fields.now ≡ decimal read.0 ∷ decimal read.1 ∷ []) }
-    ensures only { (first second : ℕ) → IsWord first → IsWord second → map (λ field. field.now) fields.now ≡ decimal first ∷ decimal second ∷ [] → result ≡ Some (first, second) }
+    ensures found { IfSome result (λ read.
+        texts_of fields.now ≡ decimal read.0 ∷ decimal read.1 ∷ []) }
+    ensures only { (first second : ℕ) → IsWord first → IsWord second
+        → texts_of fields.now ≡ decimal first ∷ decimal second ∷ []
+        → result ≡ Some (first, second) }
 {
     let [first, second] = fields else {
         return None;
@@ -97,8 +103,11 @@ fn read_pair(fields: &[&[u8]]) -> Option<(u64, u64)>
 
 // Three numbers.
 fn read_triple(fields: &[&[u8]]) -> Option<(u64, u64, u64)>
-    ensures found { IfSome result (λ read. map (λ field. field.now) fields.now ≡ decimal read.0 ∷ decimal read.1 ∷ decimal read.2 ∷ []) }
-    ensures only { (first second third : ℕ) → IsWord first → IsWord second → IsWord third → map (λ field. field.now) fields.now ≡ decimal first ∷ decimal second ∷ decimal third ∷ [] → result ≡ Some (first, second, third) }
+    ensures found { IfSome result (λ read.
+        texts_of fields.now ≡ decimal read.0 ∷ decimal read.1 ∷ decimal read.2 ∷ []) }
+    ensures only { (first second third : ℕ) → IsWord first → IsWord second → IsWord third
+        → texts_of fields.now ≡ decimal first ∷ decimal second ∷ decimal third ∷ []
+        → result ≡ Some (first, second, third) }
 {
     let [first, second, third] = fields else {
         return None;
@@ -110,8 +119,11 @@ fn read_triple(fields: &[&[u8]]) -> Option<(u64, u64, u64)>
 
 // A thread and a number.
 fn read_thread_and_number(fields: &[&[u8]]) -> Option<(ThreadId, u64)>
-    ensures found { IfSome result (λ read. map (λ field. field.now) fields.now ≡ id_text read.0 ∷ decimal read.1 ∷ []) }
-    ensures only { (thread space : ℕ) → IsWord thread → IsWord space → map (λ field. field.now) fields.now ≡ id_text thread ∷ decimal space ∷ [] → result ≡ Some (thread, space) }
+    ensures found { IfSome result (λ read.
+        texts_of fields.now ≡ id_text read.0 ∷ decimal read.1 ∷ []) }
+    ensures only { (thread space : ℕ) → IsWord thread → IsWord space
+        → texts_of fields.now ≡ id_text thread ∷ decimal space ∷ []
+        → result ≡ Some (thread, space) }
 {
     let [thread, space] = fields else {
         return None;
@@ -121,8 +133,11 @@ fn read_thread_and_number(fields: &[&[u8]]) -> Option<(ThreadId, u64)>
 
 // A number and a thread.
 fn read_number_and_thread(fields: &[&[u8]]) -> Option<(u64, ThreadId)>
-    ensures found { IfSome result (λ read. map (λ field. field.now) fields.now ≡ decimal read.0 ∷ id_text read.1 ∷ []) }
-    ensures only { (receiving thread : ℕ) → IsWord receiving → IsWord thread → map (λ field. field.now) fields.now ≡ decimal receiving ∷ id_text thread ∷ [] → result ≡ Some (receiving, thread) }
+    ensures found { IfSome result (λ read.
+        texts_of fields.now ≡ decimal read.0 ∷ id_text read.1 ∷ []) }
+    ensures only { (receiving thread : ℕ) → IsWord receiving → IsWord thread
+        → texts_of fields.now ≡ decimal receiving ∷ id_text thread ∷ []
+        → result ≡ Some (receiving, thread) }
 {
     let [receiving, thread] = fields else {
         return None;
@@ -132,8 +147,10 @@ fn read_number_and_thread(fields: &[&[u8]]) -> Option<(u64, ThreadId)>
 
 // A number and an ErrorCode.
 fn read_number_and_code(fields: &[&[u8]]) -> Option<(u64, IpcError)>
-    ensures found { IfSome result (λ read. map (λ field. field.now) fields.now ≡ decimal read.0 ∷ hex_text read.1 ∷ []) }
-    ensures only { (number code : ℕ) → IsWord number → IsWord code → map (λ field. field.now) fields.now ≡ decimal number ∷ hex_text code ∷ [] → result ≡ Some (number, code) }
+    ensures found { IfSome result (λ read.
+        texts_of fields.now ≡ decimal read.0 ∷ hex_text read.1 ∷ []) }
+    ensures only { (number code : ℕ) → IsWord number → IsWord code
+        → texts_of fields.now ≡ decimal number ∷ hex_text code ∷ [] → result ≡ Some (number, code) }
 {
     let [number, code] = fields else {
         return None;
@@ -144,15 +161,20 @@ fn read_number_and_code(fields: &[&[u8]]) -> Option<(u64, IpcError)>
 // A control word with no bit but R and S.
 fn read_control(bytes: &[u8]) -> Option<MaskedControl>
     ensures found { IfSome result (λ control. bytes.now ≡ hex_text control) }
-    ensures only { (control : ℕ) → IsTrue (is_masked control) → bytes.now ≡ hex_text control → result ≡ Some control }
+    ensures only { (control : ℕ) → IsTrue (is_masked control) → bytes.now ≡ hex_text control
+        → result ≡ Some control }
 {
     MaskedControl::from_word(read_hex(bytes)?)
 }
 
 // Two threads and a control word with no bit but R and S.
 fn read_threads_and_control(fields: &[&[u8]]) -> Option<(ThreadId, ThreadId, MaskedControl)>
-    ensures found { IfSome result (λ read. map (λ field. field.now) fields.now ≡ id_text read.0 ∷ id_text read.1 ∷ hex_text read.2 ∷ []) }
-    ensures only { (thread dest control : ℕ) → IsWord thread → IsWord dest → IsTrue (is_masked control) → map (λ field. field.now) fields.now ≡ id_text thread ∷ id_text dest ∷ hex_text control ∷ [] → result ≡ Some (thread, dest, control) }
+    ensures found { IfSome result (λ read.
+        texts_of fields.now ≡ id_text read.0 ∷ id_text read.1 ∷ hex_text read.2 ∷ []) }
+    ensures only { (thread dest control : ℕ) → IsWord thread → IsWord dest
+        → IsTrue (is_masked control)
+        → texts_of fields.now ≡ id_text thread ∷ id_text dest ∷ hex_text control ∷ []
+        → result ≡ Some (thread, dest, control) }
 {
     let [thread, dest, control] = fields else {
         return None;
@@ -163,86 +185,118 @@ fn read_threads_and_control(fields: &[&[u8]]) -> Option<(ThreadId, ThreadId, Mas
 }
 
 fn read_at(fields: &[&[u8]]) -> Option<Entry>
-    ensures found { IfSome result (λ entry. codes "at" ∷ map (λ field. field.now) fields.now ≡ entry_fields entry) }
-    ensures only { (moment : ℕ) → IsWord moment → map (λ field. field.now) fields.now ≡ decimal moment ∷ [] → result ≡ Some (Given (At moment)) }
+    ensures found { IfSome result (λ entry. codes "at" ∷ texts_of fields.now ≡ entry_fields entry) }
+    ensures only { (moment : ℕ) → IsWord moment → texts_of fields.now ≡ decimal moment ∷ []
+        → result ≡ Some (Given (At moment)) }
 {
     Some(Entry::Given(Input::At(read_number(fields)?)))
 }
 
 fn read_opened(fields: &[&[u8]]) -> Option<Entry>
-    ensures found { IfSome result (λ entry. codes "opened" ∷ map (λ field. field.now) fields.now ≡ entry_fields entry) }
-    ensures only { (thread space : ℕ) → IsWord thread → IsWord space → map (λ field. field.now) fields.now ≡ id_text thread ∷ decimal space ∷ [] → result ≡ Some (Given (Opened thread space)) }
+    ensures found { IfSome result (λ entry.
+        codes "opened" ∷ texts_of fields.now ≡ entry_fields entry) }
+    ensures only { (thread space : ℕ) → IsWord thread → IsWord space
+        → texts_of fields.now ≡ id_text thread ∷ decimal space ∷ []
+        → result ≡ Some (Given (Opened thread space)) }
 {
     let (thread, space) = read_thread_and_number(fields)?;
     Some(Entry::Given(Input::Opened(thread, space)))
 }
 
 fn read_exreg(fields: &[&[u8]]) -> Option<Entry>
-    ensures found { IfSome result (λ entry. codes "exreg" ∷ map (λ field. field.now) fields.now ≡ entry_fields entry) }
-    ensures only { (thread dest control : ℕ) → IsWord thread → IsWord dest → IsTrue (is_masked control) → map (λ field. field.now) fields.now ≡ id_text thread ∷ id_text dest ∷ hex_text control ∷ [] → result ≡ Some (Given (Exreg thread dest control)) }
+    ensures found { IfSome result (λ entry.
+        codes "exreg" ∷ texts_of fields.now ≡ entry_fields entry) }
+    ensures only { (thread dest control : ℕ) → IsWord thread → IsWord dest
+        → IsTrue (is_masked control)
+        → texts_of fields.now ≡ id_text thread ∷ id_text dest ∷ hex_text control ∷ []
+        → result ≡ Some (Given (Exreg thread dest control)) }
 {
     let (thread, dest, control) = read_threads_and_control(fields)?;
     Some(Entry::Given(Input::Exreg(thread, dest, control)))
 }
 
 fn read_broke(fields: &[&[u8]]) -> Option<Entry>
-    ensures found { IfSome result (λ entry. codes "broke" ∷ map (λ field. field.now) fields.now ≡ entry_fields entry) }
-    ensures only { (thread : ℕ) → IsWord thread → map (λ field. field.now) fields.now ≡ id_text thread ∷ [] → result ≡ Some (Given (Broke thread)) }
+    ensures found { IfSome result (λ entry.
+        codes "broke" ∷ texts_of fields.now ≡ entry_fields entry) }
+    ensures only { (thread : ℕ) → IsWord thread → texts_of fields.now ≡ id_text thread ∷ []
+        → result ≡ Some (Given (Broke thread)) }
 {
     Some(Entry::Given(Input::Broke(read_thread(fields)?)))
 }
 
 fn read_moved(fields: &[&[u8]]) -> Option<Entry>
-    ensures found { IfSome result (λ entry. codes "moved" ∷ map (λ field. field.now) fields.now ≡ entry_fields entry) }
-    ensures only { (number count : ℕ) → IsWord number → IsWord count → map (λ field. field.now) fields.now ≡ decimal number ∷ decimal count ∷ [] → result ≡ Some (Given (Moved number count)) }
+    ensures found { IfSome result (λ entry.
+        codes "moved" ∷ texts_of fields.now ≡ entry_fields entry) }
+    ensures only { (number count : ℕ) → IsWord number → IsWord count
+        → texts_of fields.now ≡ decimal number ∷ decimal count ∷ []
+        → result ≡ Some (Given (Moved number count)) }
 {
     let (number, count) = read_pair(fields)?;
     Some(Entry::Given(Input::Moved(number, count)))
 }
 
 fn read_began(fields: &[&[u8]]) -> Option<Entry>
-    ensures found { IfSome result (λ entry. codes "began" ∷ map (λ field. field.now) fields.now ≡ entry_fields entry) }
-    ensures only { (sending receiving : ℕ) → IsWord sending → IsWord receiving → map (λ field. field.now) fields.now ≡ decimal sending ∷ decimal receiving ∷ [] → result ≡ Some (Written (Began sending receiving)) }
+    ensures found { IfSome result (λ entry.
+        codes "began" ∷ texts_of fields.now ≡ entry_fields entry) }
+    ensures only { (sending receiving : ℕ) → IsWord sending → IsWord receiving
+        → texts_of fields.now ≡ decimal sending ∷ decimal receiving ∷ []
+        → result ≡ Some (Written (Began sending receiving)) }
 {
     let (sending, receiving) = read_pair(fields)?;
     Some(Entry::Written(Output::Began(sending, receiving)))
 }
 
 fn read_turned(fields: &[&[u8]]) -> Option<Entry>
-    ensures found { IfSome result (λ entry. codes "turned" ∷ map (λ field. field.now) fields.now ≡ entry_fields entry) }
-    ensures only { (receiving thread : ℕ) → IsWord receiving → IsWord thread → map (λ field. field.now) fields.now ≡ decimal receiving ∷ id_text thread ∷ [] → result ≡ Some (Written (Turned receiving thread)) }
+    ensures found { IfSome result (λ entry.
+        codes "turned" ∷ texts_of fields.now ≡ entry_fields entry) }
+    ensures only { (receiving thread : ℕ) → IsWord receiving → IsWord thread
+        → texts_of fields.now ≡ decimal receiving ∷ id_text thread ∷ []
+        → result ≡ Some (Written (Turned receiving thread)) }
 {
     let (receiving, thread) = read_number_and_thread(fields)?;
     Some(Entry::Written(Output::Turned(receiving, thread)))
 }
 
 fn read_ended(fields: &[&[u8]]) -> Option<Entry>
-    ensures found { IfSome result (λ entry. codes "ended" ∷ map (λ field. field.now) fields.now ≡ entry_fields entry) }
-    ensures only { (sending receiving : ℕ) → IsWord sending → IsWord receiving → map (λ field. field.now) fields.now ≡ decimal sending ∷ decimal receiving ∷ [] → result ≡ Some (Written (Ended sending receiving)) }
+    ensures found { IfSome result (λ entry.
+        codes "ended" ∷ texts_of fields.now ≡ entry_fields entry) }
+    ensures only { (sending receiving : ℕ) → IsWord sending → IsWord receiving
+        → texts_of fields.now ≡ decimal sending ∷ decimal receiving ∷ []
+        → result ≡ Some (Written (Ended sending receiving)) }
 {
     let (sending, receiving) = read_pair(fields)?;
     Some(Entry::Written(Output::Ended(sending, receiving)))
 }
 
 fn read_overflowed(fields: &[&[u8]]) -> Option<Entry>
-    ensures found { IfSome result (λ entry. codes "overflowed" ∷ map (λ field. field.now) fields.now ≡ entry_fields entry) }
-    ensures only { (sending receiving offset : ℕ) → IsWord sending → IsWord receiving → IsWord offset → map (λ field. field.now) fields.now ≡ decimal sending ∷ decimal receiving ∷ decimal offset ∷ [] → result ≡ Some (Written (Overflowed sending receiving offset)) }
+    ensures found { IfSome result (λ entry.
+        codes "overflowed" ∷ texts_of fields.now ≡ entry_fields entry) }
+    ensures only { (sending receiving offset : ℕ) → IsWord sending → IsWord receiving
+        → IsWord offset
+        → texts_of fields.now ≡ decimal sending ∷ decimal receiving ∷ decimal offset ∷ []
+        → result ≡ Some (Written (Overflowed sending receiving offset)) }
 {
     let (sending, receiving, offset) = read_triple(fields)?;
     Some(Entry::Written(Output::Overflowed(sending, receiving, offset)))
 }
 
 fn read_aborted(fields: &[&[u8]]) -> Option<Entry>
-    ensures found { IfSome result (λ entry. codes "aborted" ∷ map (λ field. field.now) fields.now ≡ entry_fields entry) }
-    ensures only { (sending receiving count : ℕ) → IsWord sending → IsWord receiving → IsWord count → map (λ field. field.now) fields.now ≡ decimal sending ∷ decimal receiving ∷ decimal count ∷ [] → result ≡ Some (Written (Aborted sending receiving count)) }
+    ensures found { IfSome result (λ entry.
+        codes "aborted" ∷ texts_of fields.now ≡ entry_fields entry) }
+    ensures only { (sending receiving count : ℕ) → IsWord sending → IsWord receiving → IsWord count
+        → texts_of fields.now ≡ decimal sending ∷ decimal receiving ∷ decimal count ∷ []
+        → result ≡ Some (Written (Aborted sending receiving count)) }
 {
     let (sending, receiving, count) = read_triple(fields)?;
     Some(Entry::Written(Output::Aborted(sending, receiving, count)))
 }
 
 fn read_failed(fields: &[&[u8]]) -> Option<Entry>
-    ensures found { IfSome result (λ entry. codes "failed" ∷ map (λ field. field.now) fields.now ≡ entry_fields entry) }
-    ensures only { (number code : ℕ) → IsWord number → IsWord code → map (λ field. field.now) fields.now ≡ decimal number ∷ hex_text code ∷ [] → result ≡ Some (Written (Failed number code)) }
+    ensures found { IfSome result (λ entry.
+        codes "failed" ∷ texts_of fields.now ≡ entry_fields entry) }
+    ensures only { (number code : ℕ) → IsWord number → IsWord code
+        → texts_of fields.now ≡ decimal number ∷ hex_text code ∷ []
+        → result ≡ Some (Written (Failed number code)) }
 {
     let (number, code) = read_number_and_code(fields)?;
     Some(Entry::Written(Output::Failed(number, code)))
@@ -254,8 +308,11 @@ fn read_numbered_call(
     number: u64,
     fields: &[&[u8]],
 ) -> Result<Option<Entry>, AllocError>
-    ensures found { IfOk result (λ answer. IfSome answer (λ entry. codes "called" ∷ decimal number ∷ map (λ field. field.now) fields.now ≡ entry_fields entry)) }
-    ensures only { (thread : ℕ) (call : CallParts) → IsCall thread call → map (λ field. field.now) fields.now ≡ call_fields thread call → IfOk result (λ answer. answer ≡ Some (Given (Called number thread call))) }
+    ensures found { IfOk result (λ answer. IfSome answer (λ entry.
+        codes "called" ∷ decimal number ∷ texts_of fields.now ≡ entry_fields entry)) }
+    ensures only { (thread : ℕ) (call : CallParts) → IsCall thread call
+        → texts_of fields.now ≡ call_fields thread call
+        → IfOk result (λ answer. answer ≡ Some (Given (Called number thread call))) }
 {
     match read_call(alloc, fields)? {
         Some((thread, call)) => Ok(Some(Entry::Given(Input::Called(number, thread, call)))),
@@ -264,8 +321,11 @@ fn read_numbered_call(
 }
 
 fn read_called(alloc: Global, fields: &[&[u8]]) -> Result<Option<Entry>, AllocError>
-    ensures found { IfOk result (λ answer. IfSome answer (λ entry. codes "called" ∷ map (λ field. field.now) fields.now ≡ entry_fields entry)) }
-    ensures only { (number thread : ℕ) (call : CallParts) → IsWord number → IsCall thread call → map (λ field. field.now) fields.now ≡ decimal number ∷ call_fields thread call → IfOk result (λ answer. answer ≡ Some (Given (Called number thread call))) }
+    ensures found { IfOk result (λ answer. IfSome answer (λ entry.
+        codes "called" ∷ texts_of fields.now ≡ entry_fields entry)) }
+    ensures only { (number thread : ℕ) (call : CallParts) → IsWord number → IsCall thread call
+        → texts_of fields.now ≡ decimal number ∷ call_fields thread call
+        → IfOk result (λ answer. answer ≡ Some (Given (Called number thread call))) }
 {
     let Some((number, call)) = fields.split_first() else {
         return Ok(None);
@@ -278,8 +338,11 @@ fn read_called(alloc: Global, fields: &[&[u8]]) -> Result<Option<Entry>, AllocEr
 
 // The entry of a name and its other fields.
 fn entry_of(alloc: Global, name: EntryName, fields: &[&[u8]]) -> Result<Option<Entry>, AllocError>
-    ensures found { IfOk result (λ answer. IfSome answer (λ entry. entry_name name ∷ map (λ field. field.now) fields.now ≡ entry_fields entry)) }
-    ensures only { (entry : Entry) → IsReadable entry → entry_name name ∷ map (λ field. field.now) fields.now ≡ entry_fields entry → IfOk result (λ answer. answer ≡ Some entry) }
+    ensures found { IfOk result (λ answer. IfSome answer (λ entry.
+        entry_name name ∷ texts_of fields.now ≡ entry_fields entry)) }
+    ensures only { (entry : Entry) → IsReadable entry
+        → entry_name name ∷ texts_of fields.now ≡ entry_fields entry
+        → IfOk result (λ answer. answer ≡ Some entry) }
 {
     match name {
         EntryName::At => Ok(read_at(fields)),
@@ -300,9 +363,10 @@ fn entry_of(alloc: Global, name: EntryName, fields: &[&[u8]]) -> Result<Option<E
 // The entry that a line spells, or `None`.
 fn entry_in(alloc: Global, line: &[u8]) -> Result<Option<Entry>, AllocError>
     ensures found { IfOk result (λ answer. IfSome answer (λ entry. line.now ≡ entry_text entry)) }
-    ensures only { (entry : Entry) → IsReadable entry → line.now ≡ entry_text entry → IfOk result (λ answer. answer ≡ Some entry) }
+    ensures only { (entry : Entry) → IsReadable entry → line.now ≡ entry_text entry
+        → IfOk result (λ answer. answer ≡ Some entry) }
 {
-    let Some(fields) = split(alloc, line, b' ', MAX_FIELDS)? else {
+    let Some(fields) = line_fields(alloc, line, MAX_FIELDS)? else {
         return Ok(None);
     };
     let Some((name, rest)) = fields.split_first() else {
@@ -323,11 +387,12 @@ pub enum LineFault {
     NoMemory,
 }
 
-/// The entry that a line spells, without its newline. `Bad` where no entry has this spelling, as for a second spelling of one and
-/// for a line of more than [`MAX_LINE_BYTES`] bytes.
+/// The entry that a line spells, without its newline. `Bad` where no entry has this spelling, as for
+/// a second spelling of one and for a line of more than [`MAX_LINE_BYTES`] bytes.
 pub fn read_entry(alloc: Global, line: &[u8]) -> Result<Entry, LineFault>
     ensures found { IfOk result (λ entry. line.now ≡ entry_text entry) }
-    ensures only { (entry : Entry) → IsReadable entry → line.now ≡ entry_text entry → (result ≡ Ok entry) ⊎ (result ≡ Err LineFault.NoMemory) }
+    ensures only { (entry : Entry) → IsReadable entry → line.now ≡ entry_text entry
+        → (result ≡ Ok entry) ⊎ (result ≡ Err LineFault.NoMemory) }
     ensures long { most_bytes < length line.now → result ≡ Err LineFault.Bad }
 {
     if line.len() > MAX_LINE_BYTES {

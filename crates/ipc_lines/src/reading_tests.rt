@@ -1,6 +1,6 @@
 use crate::{
-    LineFault, entry_line, read_buffers, read_call, read_command, read_decimal, read_entry,
-    read_hex, read_id, read_strings, read_words,
+    LineFault, entry_line, read_buffers, read_call, read_decimal, read_entry, read_hex, read_id,
+    read_strings, read_words,
 };
 use std::test::Fail;
 
@@ -69,40 +69,6 @@ fn refuses_other_lines(rt: HostRuntime) -> Result<(), Fail> {
     for line in &BAD {
         let read = read_entry(rt.alloc(), line.as_bytes());
         assert!(rt; matches!(&read, Err(LineFault::Bad)), "{line}");
-    }
-    Ok(())
-}
-
-#[test]
-fn reads_commands(rt: HostRuntime) -> Result<(), Fail> {
-    let good = [
-        "open 70000 0",
-        "call 2.1 3.1 any 0x0 0x1 nil 0x7 - s",
-        "exreg 2.1 3.1 0xff",
-        "broke any",
-        "at 9",
-        "advance",
-        "take 2.1",
-    ];
-    for line in &good {
-        assert!(rt;
-            read_command(rt.alloc(), line.as_bytes())?.is_some(),
-            "{line}"
-        );
-    }
-    let bad = [
-        "",
-        "open 2",
-        "advance 1",
-        "take",
-        "call 2.1",
-        "exreg 2.1 3.1 0xFF",
-    ];
-    for line in &bad {
-        assert!(rt;
-            read_command(rt.alloc(), line.as_bytes())?.is_none(),
-            "{line}"
-        );
     }
     Ok(())
 }

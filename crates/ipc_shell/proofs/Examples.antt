@@ -2,10 +2,9 @@
 use Rattle.std.proofs.Common.{◌≡◌, [], ◌∷◌, codes, refl, None}
 use Rattle.ipc_core.specs.declared.answers.Advance.TheVariants.{Moved}
 use Rattle.ipc_core.specs.declared.command.Answer.TheVariants.{Done, Advanced, Taken}
-use Rattle.ipc_core.specs.declared.command.Command.TheVariants as kernel
-use Rattle.ipc_lines.specs.declared.commands.Command.TheVariants as script
+use Rattle.ipc_core.specs.declared.command.Command.TheVariants.{Advance, Take}
 use Rattle.ipc_shell.specs.Answers.{answer_text}
-use Rattle.ipc_shell.specs.KernelCommands.{kernel_command}
+use Rattle.ipc_shell.specs.Commands.{command_text}
 use Rattle.ipc_shell.specs.ScriptLines.{lines_of}
 
 no_line : lines_of [] ≡ []
@@ -30,5 +29,8 @@ a_moved_block = refl
 nothing_to_take : answer_text (Taken None) ≡ codes "= none"
 nothing_to_take = refl
 
-a_great_number : kernel_command (script.Open 65536 1) ≡ kernel.Open 65536 1
-a_great_number = refl
+an_advance : command_text Advance ≡ codes "advance"
+an_advance = refl
+
+a_taking : command_text (Take 0) ≡ codes "take nil"
+a_taking = refl

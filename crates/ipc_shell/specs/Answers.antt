@@ -12,7 +12,8 @@ use Rattle.ipc_lines.specs.Texts.{hex_text, id_text}
 abbrev pub answer_fields : Answer → List (List ℕ)
 answer_fields (Opened thread) = codes "=" ∷ id_text thread ∷ []
 answer_fields (Entered number) = codes "=" ∷ decimal number ∷ []
-answer_fields (Exchanged answer) = codes "=" ∷ id_text answer.result ∷ hex_text answer.control ∷ hex_text answer.code ∷ []
+answer_fields (Exchanged answer) =
+    codes "=" ∷ id_text answer.result ∷ hex_text answer.control ∷ hex_text answer.code ∷ []
 answer_fields Done = codes "=" ∷ codes "ok" ∷ []
 answer_fields (Advanced Moved) = codes "=" ∷ codes "moved" ∷ []
 answer_fields (Advanced Idle) = codes "=" ∷ codes "idle" ∷ []

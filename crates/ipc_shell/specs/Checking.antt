@@ -1,5 +1,6 @@
 -- Our choice (docs/FORMATS.md): what is printed of a trace that is checked.
-use Rattle.std.specs.Prelude.{◌≡◌, ℕ, ◌+◌, List, [], ◌∷◌, ◌++◌, Bool, true, false, Option, Some, None, IfSome, length, ◌<◌, codes, ◌⊎◌}
+use Rattle.std.specs.Prelude.{◌≡◌, ℕ, ◌+◌, ◌<◌, ◌⊎◌, List, [], ◌∷◌, ◌++◌, length, codes}
+use Rattle.std.specs.Prelude.{Bool, true, false, Option, Some, None, IfSome}
 use Rattle.std.specs.Fmt.{decimal}
 use Rattle.std.specs.Io.KnownBytes.{Appends}
 use Rattle.ipc_history.specs.Legal.{Legal}
@@ -24,7 +25,8 @@ expected_text None = codes "input"
 -- a verdict; lines are counted from 1
 abbrev pub judged_text : Verdict → List ℕ
 judged_text Yes = codes "yes"
-judged_text (No index expected) = codes "no " ++ decimal (index + 1) ++ codes " " ++ expected_text expected
+judged_text (No index expected) =
+    codes "no " ++ decimal (index + 1) ++ codes " " ++ expected_text expected
 
 abbrev pub torn_text : Bool → List ℕ
 torn_text true = ended (codes "torn")
@@ -46,12 +48,18 @@ exit_of (No index expected) = Illegal
 
 -- the verdict is printed, or nothing for want of memory, or a front of it where a write failed
 abbrev pub PrintsVerdict : List Entry → Bool → Option (List ℕ) → Option (List ℕ) → Exit → Type 0
-PrintsVerdict entries is_torn before after Done = IsVerdict entries Yes × Appends before after (verdict_text Yes is_torn)
-PrintsVerdict entries is_torn before after Illegal = (index : ℕ) × ((expected : Option Output) × IsVerdict entries (No index expected) × Appends before after (verdict_text (No index expected) is_torn))
+PrintsVerdict entries is_torn before after Done =
+    IsVerdict entries Yes × Appends before after (verdict_text Yes is_torn)
+PrintsVerdict entries is_torn before after Illegal =
+    (index : ℕ) × ((expected : Option Output) × IsVerdict entries (No index expected)
+    × Appends before after (verdict_text (No index expected) is_torn))
 PrintsVerdict entries is_torn before after (BadLine number) = ⊥
 PrintsVerdict entries is_torn before after BadThreads = ⊥
 PrintsVerdict entries is_torn before after NoMemory = Appends before after []
-PrintsVerdict entries is_torn before after DeviceFailed = (verdict : Verdict) × IsVerdict entries verdict × ((front : List ℕ) × ((back : List ℕ) × (verdict_text verdict is_torn ≡ front ++ back) × Appends before after front))
+PrintsVerdict entries is_torn before after DeviceFailed =
+    (verdict : Verdict) × IsVerdict entries verdict
+    × ((front : List ℕ) × ((back : List ℕ) × (verdict_text verdict is_torn ≡ front ++ back)
+    × Appends before after front))
 
 -- a trace has these whole lines, and a torn line behind them or none
 pub record HasLines (bytes : List ℕ) (entries : List Entry) (is_torn : Bool) : Type 0 where
@@ -63,7 +71,9 @@ pub record HasLines (bytes : List ℕ) (entries : List Entry) (is_torn : Bool) :
 
 -- the verdict is that on the whole lines
 abbrev pub PrintsTrace : List ℕ → Option (List ℕ) → Option (List ℕ) → Exit → Type 0
-PrintsTrace bytes before after exit = (entries : List Entry) × ((is_torn : Bool) × HasLines bytes entries is_torn × PrintsVerdict entries is_torn before after exit)
+PrintsTrace bytes before after exit =
+    (entries : List Entry) × ((is_torn : Bool) × HasLines bytes entries is_torn
+    × PrintsVerdict entries is_torn before after exit)
 
 -- a line behind whole lines spells no entry
 pub record HasBadLine (bytes : List ℕ) (number : ℕ) : Type 0 where
@@ -82,7 +92,8 @@ ChecksBytes bytes before after Illegal = PrintsTrace bytes before after Illegal
 ChecksBytes bytes before after (BadLine number) = HasBadLine bytes number × Appends before after []
 ChecksBytes bytes before after BadThreads = ⊥
 ChecksBytes bytes before after NoMemory = Appends before after []
-ChecksBytes bytes before after DeviceFailed = Appends before after [] ⊎ PrintsTrace bytes before after DeviceFailed
+ChecksBytes bytes before after DeviceFailed =
+    Appends before after [] ⊎ PrintsTrace bytes before after DeviceFailed
 
 -- where the reader tells its bytes
 abbrev pub ChecksTrace : Option (List ℕ) → Option (List ℕ) → Option (List ℕ) → Exit → Type 0

@@ -8,4 +8,5 @@ most_lines = 2 ^ 64 - 2
 
 -- the count of the failures rose, or the script has more lines than are counted
 abbrev pub HasFailed : ℕ → ℕ → Option (List ℕ) → Type 0
-HasFailed before after bytes = (before < after) ⊎ IfSome bytes (λ bytes. most_lines ≤ length (lines_of bytes))
+HasFailed before after bytes =
+    (before < after) ⊎ IfSome bytes (λ bytes. most_lines ≤ length (lines_of bytes))

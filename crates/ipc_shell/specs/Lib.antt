@@ -1,6 +1,6 @@
 pub mod ScriptLines
 pub mod Reading
-pub mod KernelCommands
+pub mod Commands
 pub mod Answers
 pub mod Printing
 pub mod Running

@@ -5,11 +5,10 @@ use Rattle.ipc_history.specs.declared.entry.Entry.{Entry}
 use Rattle.ipc_core.specs.KernelParts.{KernelParts}
 use Rattle.ipc_core.specs.Obeying.{MayObey}
 use Rattle.ipc_core.specs.declared.command.Answer.{Answer}
-use Rattle.ipc_lines.specs.Commands.{IsCommand}
+use Rattle.ipc_core.specs.declared.command.Command.{Command}
 use Rattle.ipc_lines.specs.Lines.{entry_text}
-use Rattle.ipc_lines.specs.declared.commands.Command.{Command}
 use Rattle.ipc_shell.specs.Answers.{answer_text}
-use Rattle.ipc_shell.specs.KernelCommands.{kernel_command}
+use Rattle.ipc_shell.specs.Commands.{IsCommand}
 
 -- a line and its newline
 abbrev pub ended : List ℕ → List ℕ
@@ -31,5 +30,5 @@ printed old answer new = entries_text (written old new) ++ ended (answer_text an
 pub record Answers (old : KernelParts) (command : Command) (text : List ℕ) (new : KernelParts) : Type 0 where
   pub in_words : IsCommand command
   pub answer : Answer
-  pub obeys : MayObey old (kernel_command command) answer new
+  pub obeys : MayObey old command answer new
   pub text_is : text ≡ printed old answer new

@@ -4,4 +4,5 @@ use Rattle.std.specs.Io.KnownBytes.{Appends}
 
 -- a front of the text, or all of it
 abbrev pub AppendsFront : Option (List ℕ) → Option (List ℕ) → List ℕ → Type 0
-AppendsFront before after text = (front : List ℕ) × ((back : List ℕ) × (text ≡ front ++ back) × Appends before after front)
+AppendsFront before after text =
+    (front : List ℕ) × ((back : List ℕ) × (text ≡ front ++ back) × Appends before after front)

@@ -1,12 +1,13 @@
 -- The run of a script: its lines, and what is printed.
-use Rattle.std.specs.Prelude.{◌≡◌, ◌≢◌, ℕ, ◌+◌, ◌<◌, ◌≤◌, min, List, [], ◌∷◌, ◌++◌, Option, Some, None, IfSome, length, ◌⊎◌}
+use Rattle.std.specs.Prelude.{◌≡◌, ◌≢◌, ℕ, ◌+◌, ◌<◌, ◌≤◌, [], ◌∷◌, ◌++◌, ◌⊎◌}
+use Rattle.std.specs.Prelude.{min, List, Option, Some, None, IfSome, length}
 use Rattle.std.specs.Io.KnownBytes.{Appends}
 use Rattle.ipc_words.specs.Limits.{max_entries, max_calls}
 use Rattle.ipc_core.specs.KernelParts.{KernelParts}
 use Rattle.ipc_core.specs.Obeying.{empty_kernel}
 use Rattle.ipc_core.specs.declared.kernel.Limits.{Limits}
-use Rattle.ipc_lines.specs.Commands.{IsCommand, command_text}
-use Rattle.ipc_lines.specs.declared.commands.Command.{Command}
+use Rattle.ipc_core.specs.declared.command.Command.{Command}
+use Rattle.ipc_shell.specs.Commands.{IsCommand, command_text}
 use Rattle.ipc_shell.specs.Printing.{Answers}
 use Rattle.ipc_shell.specs.ScriptLines.{lines_of, longest_line}
 use Rattle.ipc_shell.specs.declared.exit.Exit.{Exit}
@@ -33,12 +34,16 @@ IsBadLine line = (longest_line < length line) ⊎ ((0 < length line) × IsNoComm
 -- an empty line is skipped; any other spells a command
 abbrev pub TakesLine : KernelParts → List ℕ → List ℕ → KernelParts → Type 0
 TakesLine old [] text new = (text ≡ []) × (new ≡ old)
-TakesLine old (byte ∷ bytes) text new = (length (byte ∷ bytes) ≤ longest_line) × RunsLine old (byte ∷ bytes) text new
+TakesLine old (byte ∷ bytes) text new =
+    (length (byte ∷ bytes) ≤ longest_line) × RunsLine old (byte ∷ bytes) text new
 
 -- lines, one after the other, and what is printed for them
 abbrev pub TakesLines : KernelParts → List (List ℕ) → List ℕ → KernelParts → Type 0
 TakesLines old [] text new = (text ≡ []) × (new ≡ old)
-TakesLines old (line ∷ lines) text new = (between : KernelParts) × ((first : List ℕ) × ((rest : List ℕ) × (text ≡ first ++ rest) × TakesLine old line first between × TakesLines between lines rest new))
+TakesLines old (line ∷ lines) text new =
+    (between : KernelParts) × ((first : List ℕ)
+    × ((rest : List ℕ) × (text ≡ first ++ rest) × TakesLine old line first between
+    × TakesLines between lines rest new))
 
 -- a bad line ends the run: what is printed is that of the lines before it, whose number is counted from 1, empty lines too
 pub record EndsAtBadLine (start : KernelParts) (lines : List (List ℕ)) (text : List ℕ) (number : ℕ) : Type 0 where
@@ -67,18 +72,27 @@ Prints start lines text (BadLine number) = EndsAtBadLine start lines text number
 Prints start lines text Illegal = ⊥
 Prints start lines text BadThreads = ⊥
 Prints start lines text NoMemory = StopsAfterLines start lines text
-Prints start lines text DeviceFailed = (missing : List ℕ) × StopsAfterLines start lines (text ++ missing)
+Prints start lines text DeviceFailed =
+    (missing : List ℕ) × StopsAfterLines start lines (text ++ missing)
 
 -- where a reader and a writer tell their bytes: what a run appends to the writer's is what is printed of the reader's lines
-abbrev pub RunsScript : KernelParts → Option (List ℕ) → Option (List ℕ) → Option (List ℕ) → Exit → Type 0
-RunsScript start bytes before after exit = IfSome bytes (λ bytes. (text : List ℕ) × Appends before after text × Prints start (lines_of bytes) text exit)
+abbrev pub RunsScript : KernelParts → Option (List ℕ) → Option (List ℕ) → Option (List ℕ) → Exit
+    → Type 0
+RunsScript start bytes before after exit =
+    IfSome bytes (λ bytes. (text : List ℕ) × Appends before after text
+    × Prints start (lines_of bytes) text exit)
 
 -- how a line that is not empty ends: not at all where the run goes on; what it appends to the writer's bytes
-abbrev pub EndsLine : KernelParts → KernelParts → Option (List ℕ) → Option (List ℕ) → List ℕ → ℕ → Option Exit → Type 0
-EndsLine old new before after line number None = (text : List ℕ) × RunsLine old line text new × Appends before after text
+abbrev pub EndsLine : KernelParts → KernelParts → Option (List ℕ) → Option (List ℕ) → List ℕ → ℕ
+    → Option Exit → Type 0
+EndsLine old new before after line number None =
+    (text : List ℕ) × RunsLine old line text new × Appends before after text
 EndsLine old new before after line number (Some Done) = ⊥
-EndsLine old new before after line number (Some (BadLine n)) = (n ≡ number) × IsNoCommand line × Appends before after []
+EndsLine old new before after line number (Some (BadLine n)) =
+    (n ≡ number) × IsNoCommand line × Appends before after []
 EndsLine old new before after line number (Some Illegal) = ⊥
 EndsLine old new before after line number (Some BadThreads) = ⊥
 EndsLine old new before after line number (Some NoMemory) = Appends before after []
-EndsLine old new before after line number (Some DeviceFailed) = (front : List ℕ) × ((back : List ℕ) × RunsLine old line (front ++ back) new × Appends before after front)
+EndsLine old new before after line number (Some DeviceFailed) =
+    (front : List ℕ) × ((back : List ℕ) × RunsLine old line (front ++ back) new
+    × Appends before after front)

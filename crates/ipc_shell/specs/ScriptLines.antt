@@ -10,7 +10,8 @@ before_first byte (line ∷ lines) = (byte ∷ line) ∷ lines
 -- the lines of a text, cut at its newlines; the last one may lack its newline
 abbrev pub lines_of : List ℕ → List (List ℕ)
 lines_of [] = []
-lines_of (byte ∷ bytes) = (if byte == 10 then [] ∷ lines_of bytes else before_first byte (lines_of bytes))
+lines_of (byte ∷ bytes) =
+    (if byte == 10 then [] ∷ lines_of bytes else before_first byte (lines_of bytes))
 
 -- the most bytes of a line, without its newline
 abbrev pub longest_line : ℕ

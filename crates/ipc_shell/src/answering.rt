@@ -4,10 +4,10 @@ ghost use Rattle.ipc_lines.specs.Lines.{entry_text};
 ghost use Rattle.ipc_shell.specs.Answers.{answer_text};
 ghost use Rattle.ipc_shell.specs.Printing.{entries_text, ended, Answers};
 
-use crate::commands::kernel_command;
-use ipc_core::{Advance, Answer, ExregAnswer, Kernel};
+use crate::commands::command_is_readable;
+use ipc_core::{Advance, Answer, Command, ExregAnswer, Kernel};
 use ipc_history::{Entry, Outcome};
-use ipc_lines::{Command, HexText, IdText, entry_line, outcome_line};
+use ipc_lines::{HexText, IdText, entry_line, outcome_line};
 use std::alloc::{AllocError, Global};
 
 /// Obeys a command: the lines of the entries that it writes, and then its answer line.
@@ -15,7 +15,8 @@ pub fn answer(alloc: Global, kernel: &mut Kernel, command: Command) -> Result<St
     ensures { IfOk result (λ text. Answers kernel.old command (string_bytes text) kernel.new) }
 {
     let before = kernel.history().len();
-    let answer = kernel.obey(kernel_command(command));
+    command_is_readable(&command);
+    let answer = kernel.obey(command);
     let mut text = String::new(alloc);
     write_entries_from(alloc, &mut text, kernel.history(), before)?;
     write_answer(alloc, &mut text, &answer)?;
@@ -30,14 +31,16 @@ fn write_entries_from(
     entries: &[Entry],
     place: usize,
 ) -> Result<(), AllocError>
-    ensures { OnOk result (string_bytes out.new ≡ string_bytes out.old ++ entries_text (drop place entries.now)) }
+    ensures { OnOk result (string_bytes out.new
+        ≡ string_bytes out.old ++ entries_text (drop place entries.now)) }
 {
     write_entries(alloc, out, &entries[place.min(entries.len())..])
 }
 
 // Appends the lines of entries.
 fn write_entries(alloc: Global, out: &mut String, entries: &[Entry]) -> Result<(), AllocError>
-    ensures { OnOk result (string_bytes out.new ≡ string_bytes out.old ++ entries_text entries.now) }
+    ensures { OnOk result (string_bytes out.new
+        ≡ string_bytes out.old ++ entries_text entries.now) }
 {
     for entry in entries {
         write_entry(alloc, out, entry)?;
@@ -47,7 +50,8 @@ fn write_entries(alloc: Global, out: &mut String, entries: &[Entry]) -> Result<(
 
 // Appends the line of an entry.
 fn write_entry(alloc: Global, out: &mut String, entry: &Entry) -> Result<(), AllocError>
-    ensures { OnOk result (string_bytes out.new ≡ string_bytes out.old ++ ended (entry_text entry.now)) }
+    ensures { OnOk result (string_bytes out.new
+        ≡ string_bytes out.old ++ ended (entry_text entry.now)) }
 {
     let line = entry_line(alloc, entry)?;
     out.push_str(line.as_str())?;
@@ -73,7 +77,8 @@ fn write_answer(alloc: Global, out: &mut String, answer: &Answer) -> Result<(), 
 
 // Appends the answer of an ExchangeRegisters.
 fn write_exchanged(out: &mut String, answer: &ExregAnswer) -> Result<(), AllocError>
-    ensures { OnOk result (string_bytes out.new ≡ string_bytes out.old ++ answer_text (Answer.Exchanged answer.now)) }
+    ensures { OnOk result (string_bytes out.new
+        ≡ string_bytes out.old ++ answer_text (Answer.Exchanged answer.now)) }
 {
     let control = HexText(answer.control.to_word());
     let code = HexText(answer.code);
@@ -82,7 +87,8 @@ fn write_exchanged(out: &mut String, answer: &ExregAnswer) -> Result<(), AllocEr
 
 // Appends the answer of a taking that has an outcome.
 fn write_outcome(alloc: Global, out: &mut String, outcome: &Outcome) -> Result<(), AllocError>
-    ensures { OnOk result (string_bytes out.new ≡ string_bytes out.old ++ answer_text (Answer.Taken (Some outcome.now))) }
+    ensures { OnOk result (string_bytes out.new
+        ≡ string_bytes out.old ++ answer_text (Answer.Taken (Some outcome.now))) }
 {
     let line = outcome_line(alloc, outcome)?;
     out.push_str("= ")?;

@@ -9,8 +9,9 @@ use ipc_ports::{PortRead, PortWrite};
 use ipc_trace::{TraceEnd, read_trace};
 use std::alloc::{AllocError, Global};
 
-/// Draws the trace of a reader as a sequence chart and prints it, over the whole lines where the last one is torn. Nothing is printed of a
-/// trace with a bad line, nor where the list of threads has a word that is no id.
+/// Draws the trace of a reader as a sequence chart and prints it, over the whole lines where the last
+/// one is torn. Nothing is printed of a trace with a bad line, nor where the list of threads has a word
+/// that is no id.
 ///
 /// It ends as `DeviceFailed` only where a call of the reader or of the writer failed in this run.
 pub fn chart_trace<R: PortRead, W: PortWrite>(

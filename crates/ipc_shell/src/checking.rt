@@ -12,9 +12,10 @@ use ipc_ports::{PortRead, PortWrite};
 use ipc_trace::{TraceEnd, read_trace};
 use std::alloc::{AllocError, Global};
 
-/// Checks the trace of a reader, and prints to the writer whether it is a legal history: `yes`, or `no N EXPECTED`, N the first line
-/// that does not follow those before it, and EXPECTED the line that the rules ask for there or `input`. Behind the verdict over the
-/// whole lines `torn` tells of a last line without newline. Nothing is printed of a trace with a bad line.
+/// Checks the trace of a reader, and prints to the writer whether it is a legal history: `yes`, or
+/// `no N EXPECTED`, N the first line that does not follow those before it, and EXPECTED the line that
+/// the rules ask for there or `input`. Behind the verdict over the whole lines `torn` tells of a last
+/// line without newline. Nothing is printed of a trace with a bad line.
 ///
 /// It ends as `DeviceFailed` only where a call of the reader or of the writer failed in this run.
 pub fn check_trace<R: PortRead, W: PortWrite>(alloc: Global, reader: &mut R, writer: &mut W) -> Exit
@@ -83,7 +84,8 @@ fn write_expected(
     text: &mut String,
     expected: &Option<Output>,
 ) -> Result<(), AllocError>
-    ensures { OnOk result (string_bytes text.new ≡ string_bytes text.old ++ expected_text expected.now) }
+    ensures { OnOk result (string_bytes text.new
+        ≡ string_bytes text.old ++ expected_text expected.now) }
 {
     match expected {
         Some(output) => {

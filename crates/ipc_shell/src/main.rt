@@ -1,5 +1,6 @@
-//! The program `l4sh`: runs scripts of opens, calls, clock readings, cancels and breaks, and prints what happens; serves connections
-//! whose bytes a script gives; checks the trace of a history; draws it as a chart.
+//! The program `l4sh`: runs scripts of opens, calls, clock readings, cancels and breaks, and prints
+//! what happens; serves connections whose bytes a script gives; checks the trace of a history; draws it
+//! as a chart.
 #![tactic(auto)]
 
 ghost use Rattle.std.specs.Prelude.{◌≡◌, ◌<◌};
@@ -11,6 +12,8 @@ mod charting;
 #[cfg(test)]
 mod check_tests;
 mod checking;
+#[cfg(test)]
+mod command_tests;
 mod commands;
 mod exit;
 mod lines;

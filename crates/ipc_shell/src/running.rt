@@ -3,21 +3,23 @@ ghost use Rattle.ipc_shell.specs.Failing.{HasFailed};
 ghost use Rattle.ipc_shell.specs.Running.{first_kernel, RunsScript, EndsLine};
 
 use crate::answering::answer;
+use crate::commands::read_command;
 use crate::exit::Exit;
 use crate::lines::{NextLine, next_line};
 use crate::output::put;
 use ipc_core::{Kernel, Limits};
-use ipc_lines::read_command;
 use ipc_ports::{PieceBuffer, PortRead, PortWrite};
 use std::alloc::Global;
 
-/// Runs a script from a reader: after each command the lines of the entries that it wrote and one answer line go to the writer,
-/// which is flushed. Empty lines are skipped, and count.
+/// Runs a script from a reader: after each command the lines of the entries that it wrote and one
+/// answer line go to the writer, which is flushed. Empty lines are skipped, and count.
 ///
-/// Where reader and writer tell their bytes, what the writer gets is exactly what is printed of the lines read: of all at `Done`, of those
-/// before the bad one at `BadLine`, and of the first ones at `NoMemory` and `DeviceFailed`, where the last may be cut off.
+/// Where reader and writer tell their bytes, what the writer gets is exactly what is printed of the
+/// lines read: of all at `Done`, of those before the bad one at `BadLine`, and of the first ones at
+/// `NoMemory` and `DeviceFailed`, where the last may be cut off.
 ///
-/// It ends as `DeviceFailed` only where a call of the reader or of the writer failed in this run, or behind 2^64 - 2 lines.
+/// It ends as `DeviceFailed` only where a call of the reader or of the writer failed in this run, or
+/// behind 2^64 - 2 lines.
 pub fn run_script<R: PortRead, W: PortWrite>(
     alloc: Global,
     limits: Limits,

@@ -33,7 +33,7 @@ begins (Some x) (Some z) front h = (z, h)
 -- a line that spells no entry, though it is not kept whole
 pub keeps_no_entry : (line : List ℕ) → LinesAreWithinTheLimit → ((entry : Entry) → IsReadable entry → line ≢ entry_text entry) → KeepsNoEntry line
 keeps_no_entry line within no_entry text is entry readable spelled =
-    let short : length text ≤ max_line_bytes + 1 = omega (arith, ap length spelled, within.0 entry readable) in
+    let short : length text ≤ max_line_bytes + 1 = omega (arith, ap length spelled, within entry readable) in
     no_entry entry readable (is ∙ take_all (max_line_bytes + 1) text short ∙ spelled)
 
 -- one more entry

@@ -7,5 +7,5 @@ use Rattle.ipc_lines.proofs.entries.entry_line.Goals as goal
 
 pub returns-clause-within : goal.returns-clause-within
 returns-clause-within c =
-    let short = lines_are_within_the_limit.0 c.args.entry.now c.entry_is_readable.ensures in
+    let short = lines_are_within_the_limit c.args.entry.now c.entry_is_readable.ensures in
     IfOk-weaker c.line_of.result _ (λ line. length (string_bytes line) ≤ most_bytes) (λ line e. omega (arith, ap length e, short)) c.line_of.ensures

@@ -1,6 +1,6 @@
-use Rattle.std.proofs.Common.{◌≡◌, ◌∷◌, length, arith, map, ap, sym, ◌∙◌}
+use Rattle.std.proofs.Common.{◌≡◌, ◌∷◌, length, arith, ap, sym, ◌∙◌}
 use Rattle.std.proofs.lemmas.Result.{IfOk-weaker}
-use Rattle.ipc_lines.specs.Reading.{parts_at}
+use Rattle.ipc_lines.specs.Reading.{parts_at, texts_of}
 use Rattle.ipc_lines.specs.Lines.{entry_fields}
 use Rattle.ipc_lines.specs.Names.{entry_name}
 use Rattle.ipc_lines.proofs.Spacing.{entry_parts, entry_count}
@@ -12,10 +12,10 @@ use Rattle.ipc_lines.proofs.reading.entry_in.Goals as goal
 pub returns-in-Some-name_of-clause-found : goal.returns-in-Some-name_of-clause-found
 returns-in-Some-name_of-clause-found c =
     let parts = rw c.in-Some.is at c.in_ok-fields.ensures in
-    let texts : map (λ field. field.now) c.deref.result.now ≡ parts_at 32 c.args.line.now = ap (map (λ field. field.now)) c.deref.ensures.value ∙ parts.0 in
-    let first = ap (map (λ field. field.now)) c.in-Some-split_first.ensures.cases.0 in
+    let texts : texts_of c.deref.result.now ≡ parts_at 32 c.args.line.now = ap texts_of c.deref.ensures.value ∙ parts.0 in
+    let first = ap texts_of c.in-Some-split_first.ensures.cases.0 in
     let name = c.in-Some-name_of.ensures.found in
-    let all : parts_at 32 c.args.line.now ≡ entry_name c.in-Some-name_of.name ∷ map (λ field. field.now) c.in-Some-split_first.rest.now = sym texts ∙ first ∙ ap (λ n. n ∷ map (λ field. field.now) c.in-Some-split_first.rest.now) name in
+    let all : parts_at 32 c.args.line.now ≡ entry_name c.in-Some-name_of.name ∷ texts_of c.in-Some-split_first.rest.now = sym texts ∙ first ∙ ap (λ n. n ∷ texts_of c.in-Some-split_first.rest.now) name in
     IfOk-weaker c.entry_of.result _ _ (λ o. IfSome-weaker o _ _ (λ entry e. spaced_found c.args.line.now (entry_fields entry) (all ∙ e))) c.entry_of.ensures.found
 
 pub returns-in_default-clause-only : goal.returns-in_default-clause-only
@@ -27,17 +27,17 @@ returns-in_default-clause-only c entry is e =
 pub returns-in-Some-name_of-clause-only : goal.returns-in-Some-name_of-clause-only
 returns-in-Some-name_of-clause-only c entry is e =
     let parts = rw c.in-Some.is at c.in_ok-fields.ensures in
-    let texts : map (λ field. field.now) c.deref.result.now ≡ parts_at 32 c.args.line.now = ap (map (λ field. field.now)) c.deref.ensures.value ∙ parts.0 in
-    let first = ap (map (λ field. field.now)) c.in-Some-split_first.ensures.cases.0 in
+    let texts : texts_of c.deref.result.now ≡ parts_at 32 c.args.line.now = ap texts_of c.deref.ensures.value ∙ parts.0 in
+    let first = ap texts_of c.in-Some-split_first.ensures.cases.0 in
     let name = c.in-Some-name_of.ensures.found in
-    let all : parts_at 32 c.args.line.now ≡ entry_name c.in-Some-name_of.name ∷ map (λ field. field.now) c.in-Some-split_first.rest.now = sym texts ∙ first ∙ ap (λ n. n ∷ map (λ field. field.now) c.in-Some-split_first.rest.now) name in
+    let all : parts_at 32 c.args.line.now ≡ entry_name c.in-Some-name_of.name ∷ texts_of c.in-Some-split_first.rest.now = sym texts ∙ first ∙ ap (λ n. n ∷ texts_of c.in-Some-split_first.rest.now) name in
     c.entry_of.ensures.only entry is (sym all ∙ entry_parts c.args.line.now entry is e)
 
 pub returns-clause-only : goal.returns-clause-only
 returns-clause-only c entry is e =
     let parts = rw c.in-Some.is at c.in_ok-fields.ensures in
-    let texts : map (λ field. field.now) c.deref.result.now ≡ parts_at 32 c.args.line.now = ap (map (λ field. field.now)) c.deref.ensures.value ∙ parts.0 in
-    let first = ap (map (λ field. field.now)) c.in-Some-split_first.ensures.cases.0 in
-    let named = entry_named entry (c.in-Some-split_first.name.now.now) (map (λ field. field.now) c.in-Some-split_first.rest.now) (sym first ∙ texts ∙ entry_parts c.args.line.now entry is e) in
+    let texts : texts_of c.deref.result.now ≡ parts_at 32 c.args.line.now = ap texts_of c.deref.ensures.value ∙ parts.0 in
+    let first = ap texts_of c.in-Some-split_first.ensures.cases.0 in
+    let named = entry_named entry (c.in-Some-split_first.name.now.now) (texts_of c.in-Some-split_first.rest.now) (sym first ∙ texts ∙ entry_parts c.args.line.now entry is e) in
     let some = c.in-None.ensures.only named.0 named.1 in
     absurd (cc (some))

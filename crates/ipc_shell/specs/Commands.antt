@@ -1,13 +1,15 @@
--- Our choice (docs/FORMATS.md): the commands of a script, each the fields of a line with one space between each two.
-use Rattle.std.specs.Prelude.{ℕ, List, [], ◌∷◌, codes}
+-- Our choice (docs/FORMATS.md): the commands of a script, each the fields of a line with one space
+-- between each two.
+use Rattle.std.specs.Prelude.{ℕ, ◌≤◌, List, [], ◌∷◌, codes, length}
 use Rattle.std.specs.Fmt.{decimal}
+use Rattle.ipc_core.specs.declared.command.Command.{Command}
+use Rattle.ipc_core.specs.declared.command.Command.TheVariants.{Open, Enter, Exreg, Broke, At, Advance, Take}
 use Rattle.ipc_lines.specs.Texts.{hex_text, id_text}
 use Rattle.ipc_lines.specs.Lines.{spaced, call_fields}
 use Rattle.ipc_lines.specs.Reading.{IsWord, IsCall}
-use Rattle.ipc_lines.specs.declared.commands.Command.{Command}
-use Rattle.ipc_lines.specs.declared.commands.Command.TheVariants.{Open, Call, Exreg, Broke, At, Advance, Take}
-use Rattle.ipc_lines.specs.declared.commands.CommandName.{CommandName}
-use Rattle.ipc_lines.specs.declared.commands.CommandName.TheVariants as name
+use Rattle.ipc_shell.specs.ScriptLines.{longest_line}
+use Rattle.ipc_shell.specs.declared.commands.CommandName.{CommandName}
+use Rattle.ipc_shell.specs.declared.commands.CommandName.TheVariants as name
 
 -- the name of a command
 abbrev pub command_name : CommandName → List ℕ
@@ -22,8 +24,9 @@ command_name name.Take = codes "take"
 -- the fields of a command: its name, and what it holds, in order
 abbrev pub command_fields : Command → List (List ℕ)
 command_fields (Open number space) = codes "open" ∷ decimal number ∷ decimal space ∷ []
-command_fields (Call thread call) = codes "call" ∷ call_fields thread call
-command_fields (Exreg thread dest control) = codes "exreg" ∷ id_text thread ∷ id_text dest ∷ hex_text control ∷ []
+command_fields (Enter thread call) = codes "call" ∷ call_fields thread call
+command_fields (Exreg thread target control) =
+    codes "exreg" ∷ id_text thread ∷ id_text target ∷ hex_text control ∷ []
 command_fields (Broke thread) = codes "broke" ∷ id_text thread ∷ []
 command_fields (At moment) = codes "at" ∷ decimal moment ∷ []
 command_fields Advance = codes "advance" ∷ []
@@ -32,8 +35,8 @@ command_fields (Take thread) = codes "take" ∷ id_text thread ∷ []
 -- a command of words, and of a call in normal form and within the limits
 abbrev pub IsCommand : Command → Type 0
 IsCommand (Open number space) = IsWord number × IsWord space
-IsCommand (Call thread call) = IsCall thread call
-IsCommand (Exreg thread dest control) = IsWord thread × IsWord dest × IsWord control
+IsCommand (Enter thread call) = IsCall thread call
+IsCommand (Exreg thread target control) = IsWord thread × IsWord target × IsWord control
 IsCommand (Broke thread) = IsWord thread
 IsCommand (At moment) = IsWord moment
 IsCommand Advance = Unit {0}
@@ -42,3 +45,8 @@ IsCommand (Take thread) = IsWord thread
 -- the line of a command
 abbrev pub command_text : Command → List ℕ
 command_text command = spaced (command_fields command)
+
+-- no command has a line of more bytes than a line may have
+abbrev pub CommandsAreWithinTheLimit : Type 0
+CommandsAreWithinTheLimit =
+    (command : Command) → IsCommand command → length (command_text command) ≤ longest_line

@@ -1,7 +1,8 @@
 -- The pieces of the strings of a message, string by string.
-use Rattle.std.proofs.Common.{◌≡◌, ℕ, zero, suc, ◌+◌, ◌*◌, ◌^◌, ◌<◌, ◌≤◌, ◌==◌, nat_lt, true, false, List, [], ◌∷◌, ◌++◌, Some, None, IfNone, Ok, Result, length, take, drop, map, get_or, sum_by, refl, sym, ap, ap₂, ◌∙◌, arith, length-append, length-drop, length-take}
+use Rattle.std.proofs.Common.{◌≡◌, ℕ, zero, suc, ◌+◌, ◌*◌, ◌^◌, ◌<◌, ◌≤◌, ◌==◌, nat_lt, true, false, List, [], ◌∷◌, ◌++◌, Some, None, IfNone, Ok, Result, length, take, drop, map, get_or, sum_by, Option, refl, sym, ap, ap₂, ◌∙◌, arith, length-append, length-drop, length-take}
 use Rattle.std.specs.List.{flat_map, slice_get}
-use Rattle.std.proofs.lemmas.List.{take_more, append-nil, map-append}
+use Rattle.std.specs.Iterator.{YieldsFirstBy}
+use Rattle.std.proofs.lemmas.List.{take_more, drop_more, drop_all, append-nil, map-append}
 use Rattle.std.proofs.lemmas.List.Concat.{flat_map-append}
 use Rattle.std.proofs.lemmas.Option.{get_or_from_slice_get, slice_get_within}
 use Rattle.ipc_items.specs.declared.buffer_list.Substring.{Substring}
@@ -12,7 +13,7 @@ use Rattle.ipc_items.specs.Buffers.{AreBuffers}
 use Rattle.ipc_items.specs.Pieces.{PlacedBytes, put_piece, pieces, pieces_of_all}
 use Rattle.ipc_history.specs.Outcomes.{OutcomeParts, HasItsWords, pieces_in}
 use Rattle.ipc_frame.specs.declared.fault.FrameFault.{FrameFault}
-use Rattle.ipc_frame.specs.Parts.{IpcrParts, words_of, pieces_text}
+use Rattle.ipc_frame.specs.Parts.{IpcrParts, IsIpcr, words_of, pieces_text}
 use Rattle.ipc_frame.specs.Making.{ipcr_fault}
 use Rattle.ipc_frame.specs.Replies.{reply_of}
 use Rattle.ipc_frame.proofs.WindowLemmas.{piece_size}
@@ -60,6 +61,19 @@ pieces_end_string buffers strings k h = pieces_end_strings buffers strings k (no
 pub pieces_end_buffer : (buffers : List (List Substring)) (strings : List (List ℕ)) (k : ℕ) → slice_get buffers k ≡ None → length (pieces_of_all buffers strings) ≤ k
 pieces_end_buffer buffers strings k h = let e = length_pieces buffers strings in let f = none_past buffers k h in omega arith
 
+-- what is left from a place on: the pieces there and the others, nothing behind the last
+pub left_more : (buffers : List (List Substring)) (strings : List (List ℕ)) (k : ℕ) (parts : List Substring) (bytes : List ℕ)
+    → slice_get buffers k ≡ Some parts → slice_get strings k ≡ Some bytes
+    → flat_map (λ ps. ps) (drop k (pieces_of_all buffers strings)) ≡ pieces parts bytes ++ flat_map (λ ps. ps) (drop (k + 1) (pieces_of_all buffers strings))
+left_more buffers strings k parts bytes h g =
+    let all : List (List PlacedBytes) = pieces_of_all buffers strings in
+    let here = pieces_at buffers strings k parts bytes h g in
+    let e = get_or_from_slice_get all k (pieces parts bytes) (pieces parts bytes) here in
+    ap (λ ps. flat_map (λ p. p) ps) (drop_more all k (pieces parts bytes) (slice_get_within all k (pieces parts bytes) here) ∙ ap (λ p. p ∷ drop (k + 1) all) e)
+
+pub left_nothing : (buffers : List (List Substring)) (strings : List (List ℕ)) (k : ℕ) → length (pieces_of_all buffers strings) ≤ k → flat_map (λ ps. ps) (drop k (pieces_of_all buffers strings)) ≡ []
+left_nothing buffers strings k h = ap (λ ps. flat_map (λ p. p) ps) (drop_all k (pieces_of_all buffers strings) h)
+
 -- how many pieces there are, and how many bytes spell them
 put_count : (pointer : ℕ) (bytes : List ℕ) (others : List PlacedBytes) → length (put_piece pointer bytes others) ≤ 1 + length others
 put_count pointer [] others = omega arith
@@ -100,15 +114,24 @@ all_size (buffer ∷ buffers) (string ∷ strings) =
     omega (arith, pieces_text_joined (pieces buffer string) (flat_map (λ ps. ps) (pieces_of_all buffers strings)), string_size buffer string, all_size buffers strings, sum_by-cons (λ (parts : List Substring). length parts) buffer buffers, sum_by-cons (λ (s : List ℕ). length s) string strings)
 
 -- an outcome within its limits makes a frame
-pub reply_fits : (o : OutcomeParts) → AreStrings o.strings → AreBuffers o.buffers → HasItsWords o.tag o.words → ipcr_fault (reply_of o) ≡ None
-reply_fits o strings buffers words =
-    let few : nat_lt 63 (words_of o.tag) ≡ false = le-ltb 63 (words_of o.tag) (omega (arith, words.counted, words.few)) in
-    let counted : (length o.words == words_of o.tag) ≡ true = eq-eqb (length o.words) (words_of o.tag) words.counted in
-    let all = flat_map (λ ps. ps) (pieces_in o) in
+pub reply_is : (o : OutcomeParts) → AreStrings o.strings → AreBuffers o.buffers → HasItsWords o.tag o.words → IsIpcr (reply_of o)
+reply_is o strings buffers words =
     let count = all_count o.buffers o.strings in
     let size = all_size o.buffers o.strings in
-    let few_pieces : nat_lt 255 (length all) ≡ false = le-ltb 255 (length all) (omega (arith, count, buffers.1)) in
-    let short : nat_lt (2 ^ 21) (34 + 8 * length o.words + length (pieces_text all)) ≡ false = le-ltb (2 ^ 21) (34 + 8 * length o.words + length (pieces_text all)) (omega (arith, size, buffers.1, strings.1, words.few)) in
+    record {
+      words = words.counted;
+      few_words = omega (arith, words.counted, words.few);
+      few_pieces = omega (arith, count, buffers.1);
+      within = omega (arith, size, buffers.1, strings.1, words.few);
+    }
+
+pub reply_fits : (o : OutcomeParts) → IsIpcr (reply_of o) → ipcr_fault (reply_of o) ≡ None
+reply_fits o is =
+    let few : nat_lt 63 (words_of o.tag) ≡ false = le-ltb 63 (words_of o.tag) is.few_words in
+    let counted : (length o.words == words_of o.tag) ≡ true = eq-eqb (length o.words) (words_of o.tag) is.words in
+    let all = flat_map (λ ps. ps) (pieces_in o) in
+    let few_pieces : nat_lt 255 (length all) ≡ false = le-ltb 255 (length all) is.few_pieces in
+    let short : nat_lt (2 ^ 21) (34 + 8 * length o.words + length (pieces_text all)) ≡ false = le-ltb (2 ^ 21) (34 + 8 * length o.words + length (pieces_text all)) is.within in
     rw (few, counted, few_pieces, short) refl
 
 -- one more copy
@@ -121,3 +144,17 @@ made_of o parts result none same made =
     let no_fault : ipcr_fault parts ≡ None = ap ipcr_fault same ∙ none in
     let made2 = rw no_fault at made in
     made2 ∙ ap Ok same
+
+-- a step over what is left: the string that was begun is over, and the next one begins
+pub next_string : (old new parts rest whole self : List PlacedBytes) → (old ≡ []) × (new ≡ []) → whole ≡ parts ++ rest → old ++ whole ≡ self → parts ++ rest ≡ self
+next_string old new parts rest whole self over more left = sym more ∙ (sym (ap (λ ps. ps ++ whole) over.0) ∙ left)
+
+-- nothing is left
+pub next_nothing : (old new rest self : List PlacedBytes) → (old ≡ []) × (new ≡ []) → rest ≡ [] → old ++ rest ≡ self → (self ≡ []) × (new ++ rest ≡ [])
+next_nothing old new rest self over none left = (sym left ∙ ap₂ (λ a b. a ++ b) over.0 none, ap₂ (λ a b. a ++ b) over.1 none)
+
+-- behind the last string comes what is left of it
+pub next_last : (old new rest self : List PlacedBytes) (result : Option Piece) → YieldsFirstBy placed (λ left. left) old result new → rest ≡ [] → old ++ rest ≡ self → YieldsFirstBy placed (λ left. left) self result (new ++ rest)
+next_last old new rest self None steps none left = next_nothing old new rest self steps none left
+next_last old new rest self (Some piece) steps none left =
+    sym left ∙ (ap (λ ps. ps ++ rest) steps)

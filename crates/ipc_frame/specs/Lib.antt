@@ -10,3 +10,4 @@ pub mod Laws
 pub mod Window
 pub mod FirstPiece
 pub mod Replies
+pub mod Sources

@@ -15,6 +15,8 @@ mod kind;
 mod laws;
 mod pieces;
 mod replies;
+mod scattering;
+mod telling;
 mod window;
 
 pub use decoder::Decoder;

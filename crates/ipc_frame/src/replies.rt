@@ -2,6 +2,7 @@ ghost use Rattle.std.specs.Prelude.{IfOk, IfErr, None, map, ◌≡◌};
 ghost use Rattle.std.specs.List.{flat_map};
 ghost use Rattle.ipc_items.specs.Pieces.{pieces_of_all};
 ghost use Rattle.ipc_items.specs.Placed.{placed};
+ghost use Rattle.ipc_frame.specs.Parts.{IsIpcr};
 ghost use Rattle.ipc_frame.specs.Making.{ipcr_fault};
 ghost use Rattle.ipc_frame.specs.Replies.{reply_of};
 
@@ -58,9 +59,10 @@ fn reply_parts(alloc: Global, outcome: &Outcome) -> Result<IpcrParts, AllocError
     })
 }
 
-// An outcome within its limits makes a frame. The limits are read from its fields.
-fn fits(outcome: &Outcome)
-    ensures { ipcr_fault (reply_of outcome.now) ≡ None }
+/// An outcome within its limits makes a frame. The limits are read from its fields.
+pub(crate) fn fits(outcome: &Outcome)
+    ensures is { IsIpcr (reply_of outcome.now) }
+    ensures fault { ipcr_fault (reply_of outcome.now) ≡ None }
 {
     let _words = &outcome.words;
     let strings = outcome.strings.len();

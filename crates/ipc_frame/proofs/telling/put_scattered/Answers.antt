@@ -1,0 +1,21 @@
+use Rattle.std.proofs.Common.{length, sym, ap, ◌∙◌, arith}
+use Rattle.ipc_items.specs.Placed.{placed}
+use Rattle.ipc_frame.specs.Parts.{pieces_text}
+use Rattle.ipc_frame.specs.Window.{page, passed}
+use Rattle.ipc_frame.proofs.WindowLemmas.{piece_size, first_passed, passed_nothing}
+use Rattle.ipc_frame.proofs.telling.put_scattered.Goals as goal
+
+pub loop-piece-preserved : goal.loop-piece-preserved
+loop-piece-preserved c =
+    let piece = placed c.in-Some.piece in
+    let first = c.in-Some.ensures.steps in
+    record {
+      left = first_passed c.loop-piece.piece-iterator c.next.new.self piece (page c.loop-piece.window c.loop-piece.out) (page c.put_u64.new.self c.put_u64.new.out) (page c.put_u32.new.self c.put_u32.new.out) (page c.put.new.self c.put.new.out) first (cc) (cc) (cc) ∙ c.loop-piece.invariant.left;
+      small = omega (arith, c.loop-piece.invariant.small, ap (λ ps. length (pieces_text ps)) first, piece_size piece c.next.new.self);
+      within = c.put.ensures.within;
+    }
+
+pub returns-clause-shown : goal.returns-clause-shown
+returns-clause-shown c =
+    let window = page c.loop-piece.window c.loop-piece.out in
+    sym (ap (λ ps. passed (pieces_text ps) window) c.in-None.ensures.steps.0 ∙ passed_nothing window) ∙ c.loop-piece.invariant.left

@@ -1,0 +1,102 @@
+ghost use Rattle.std.specs.Prelude.{◌≡◌, ◌≤◌, ◌^◌, length};
+ghost use Rattle.ipc_frame.specs.Parts.{pieces_text, ipcr_size};
+ghost use Rattle.ipc_frame.specs.Frames.{kind_of, widths, fields_of, tail_of, spelling};
+ghost use Rattle.ipc_frame.specs.Replies.{reply_of, ipcr_of};
+ghost use Rattle.ipc_frame.specs.Window.{page, passed, passed_numbers};
+
+use crate::encoding::put_words;
+use crate::kind::FrameKind;
+use crate::replies::fits;
+use crate::scattering::Scattered;
+use crate::window::Window;
+use ipc_history::Outcome;
+
+/// How many pieces an outcome has, and how many bytes spell them.
+#[derive(Clone, Copy)]
+pub(crate) struct Measure {
+    pieces: usize,
+    bytes: usize,
+}
+
+/// The measure of the pieces of an outcome.
+fn measure_of(outcome: &Outcome) -> Measure
+    ensures pieces { result.pieces ≡ length (reply_of outcome.now).pieces }
+    ensures bytes { result.bytes ≡ length (pieces_text (reply_of outcome.now).pieces) }
+{
+    fits(outcome);
+    let mut measure = Measure {
+        pieces: 0,
+        bytes: 0,
+    };
+    for piece in Scattered::of(outcome) {
+        measure.pieces += 1;
+        measure.bytes += 12 + piece.bytes.len();
+    }
+    measure
+}
+
+/// The body length of the frame that tells an outcome.
+pub(crate) fn reply_size(outcome: &Outcome) -> usize
+    ensures value { result ≡ ipcr_size (reply_of outcome.now) }
+    ensures within { result ≤ 2 ^ 21 }
+{
+    fits(outcome);
+    let measure = measure_of(outcome);
+    34 + 8 * outcome.words.len() + measure.bytes
+}
+
+// The pieces of the strings.
+fn put_scattered(window: &mut Window, out: &mut [u8], outcome: &Outcome)
+    requires { window.old.filled ≤ length out.old }
+    ensures shown { page window.new out.new
+        ≡ passed (pieces_text (reply_of outcome.now).pieces) (page window.old out.old) }
+    ensures within { window.new.filled ≤ length out.new }
+{
+    fits(outcome);
+    for piece in Scattered::of(outcome) {
+        window.put_u64(out, piece.pointer);
+        window.put_u32(out, piece.bytes.len() as u32);
+        window.put(out, piece.bytes);
+    }
+}
+
+// The words, how many pieces there are, and the pieces.
+fn put_reply_tail(window: &mut Window, out: &mut [u8], outcome: &Outcome)
+    requires { window.old.filled ≤ length out.old }
+    ensures shown { page window.new out.new
+        ≡ passed (tail_of (ipcr_of outcome.now)) (page window.old out.old) }
+    ensures within { window.new.filled ≤ length out.new }
+{
+    fits(outcome);
+    let measure = measure_of(outcome);
+    put_words(window, out, &outcome.words);
+    window.put_u8(out, measure.pieces as u8);
+    put_scattered(window, out, outcome);
+}
+
+// The numbers after the kind, and the rest.
+fn put_reply_parts(window: &mut Window, out: &mut [u8], outcome: &Outcome)
+    requires { window.old.filled ≤ length out.old }
+    ensures shown { page window.new out.new ≡ passed (tail_of (ipcr_of outcome.now))
+        (passed_numbers (widths (kind_of (ipcr_of outcome.now))) (fields_of (ipcr_of outcome.now))
+        (page window.old out.old)) }
+    ensures within { window.new.filled ≤ length out.new }
+{
+    window.put_u64(out, outcome.tag.to_word());
+    window.put_u64(out, outcome.sender.to_word());
+    window.put_u64(out, outcome.actual.to_word());
+    window.put_u64(out, outcome.error.to_word());
+    put_reply_tail(window, out, outcome);
+}
+
+/// The spelling of the frame that tells an outcome.
+pub(crate) fn put_reply(window: &mut Window, out: &mut [u8], outcome: &Outcome)
+    requires { window.old.filled ≤ length out.old }
+    ensures shown { page window.new out.new
+        ≡ passed (spelling (ipcr_of outcome.now)) (page window.old out.old) }
+    ensures within { window.new.filled ≤ length out.new }
+{
+    window.put_u32(out, reply_size(outcome) as u32);
+    window.put_u8(out, FrameKind::Ipcr.byte());
+    put_reply_parts(window, out, outcome);
+}

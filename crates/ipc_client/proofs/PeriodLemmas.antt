@@ -1,5 +1,6 @@
 -- The least period that is not shorter than so many microseconds.
-use Rattle.std.proofs.Common.{◌≡◌, ℕ, ◌+◌, ◌-◌, ◌*◌, ◌/◌, ◌%◌, ◌^◌, ◌==◌, ◌≤◌, ◌<◌, Some, false, nat_lt, inl, inr, refl, ap, ◌∙◌, arith}
+use Rattle.std.proofs.Common.{◌≡◌, ℕ, ◌+◌, ◌-◌, ◌*◌, ◌/◌, ◌%◌, ◌^◌, ◌==◌, ◌≤◌, ◌<◌, Some, false}
+use Rattle.std.proofs.Common.{nat_lt, inl, inr, refl, ap, ◌∙◌, arith}
 use Rattle.std.proofs.Math.Nat.{mul-le-mul_left}
 use Rattle.std.proofs.lemmas.Nat.{pow-add}
 use Rattle.std.proofs.lemmas.Bool.{cases_Bool, cases_lt, ne_eqb}
@@ -15,7 +16,14 @@ pub record IsHalved (micros e m : ℕ) : Type 0 where
   pub within : e ≤ 31
 
 pub halved_none : (micros : ℕ) → 0 < micros → IsHalved micros 0 micros
-halved_none micros h = record { upper = omega arith; lower = omega arith; before = λ d less. absurd (omega (arith, less)); some = h; within = omega arith }
+halved_none micros h = record {
+  upper = omega arith;
+  lower = omega arith;
+  before = λ d less. absurd
+      (omega (arith, less));
+  some = h;
+  within = omega arith;
+}
 
 -- one power of two less holds no more than 1,023 of it
 past : (micros e m : ℕ) → IsHalved micros e m → 1023 < m → 2 ^ e * 1023 < micros
@@ -38,7 +46,11 @@ halved_more micros e m n h many few is =
     record {
       upper = rw twice (omega (arith, shape, a, h.upper));
       lower = rw twice (omega (arith, shape, b, plus, h.lower));
-      before = λ d less. elim (cases_lt d e) [ inl earlier ↦ h.before d earlier | inr later ↦ let same : d ≡ e = omega (arith, less, later) in rw same (past micros e m h many) ];
+      before = λ d less. elim (cases_lt d e) [
+        | inl earlier ↦ h.before d earlier
+        | inr later ↦ let
+            same : d ≡ e = omega (arith, less, later) in rw same (past micros e m h many)
+      ];
       some = omega (arith, up, many);
       within = omega (arith, few);
     }
@@ -72,7 +84,8 @@ no_shorter micros e m k q long h is enough =
     let plus : p * (r + 1) ≡ p * r + p = one_more p r in
     elim (cases_lt r m) [
       | inr least ↦ let a : p * m ≤ p * r = mul-le-mul_left p least in omega (arith, a, shape)
-      | inl more ↦ let a : p * (r + 1) ≤ p * m = mul-le-mul_left p (omega (arith, more)) in absurd (omega (arith, a, plus, h.lower, shape, enough))
+      | inl more ↦ let a : p * (r + 1) ≤ p * m = mul-le-mul_left p (omega (arith, more)) in absurd
+          (omega (arith, a, plus, h.lower, shape, enough))
     ]
   where
     product : (a b c : ℕ) → (a * b) * c ≡ a * (b * c)
@@ -100,10 +113,12 @@ halved_is_least micros e m word h few is =
             2 ^ e * m,
             own,
             elim (cases_lt (other / 1024) e) [
-              | inl earlier ↦ absurd (too_short micros (other / 1024) (other % 1024) long (h.before (other / 1024) earlier) small parts enough)
+              | inl earlier ↦ absurd (too_short micros (other / 1024) (other % 1024) long
+                  (h.before (other / 1024) earlier) small parts enough)
               | inr later ↦
                   let sum : other / 1024 ≡ e + (other / 1024 - e) = omega (arith, later) in
-                  no_shorter micros e m (other / 1024 - e) (other % 1024) long h (parts ∙ ap (λ x. 2 ^ x * (other % 1024)) sum) enough
+                  no_shorter micros e m (other / 1024 - e) (other % 1024) long h (parts
+                  ∙ ap (λ x. 2 ^ x * (other % 1024)) sum) enough
             ],
           );
     }
@@ -118,10 +133,12 @@ never_is_least micros e m h many last =
           let small : other % 1024 ≤ 1023 = omega arith in
           let exponent : other / 1024 ≤ 31 = omega (arith, below) in
           elim (cases_lt (other / 1024) e) [
-            | inl earlier ↦ absurd (too_short micros (other / 1024) (other % 1024) long (h.before (other / 1024) earlier) small parts enough)
+            | inl earlier ↦ absurd (too_short micros (other / 1024) (other % 1024) long
+                (h.before (other / 1024) earlier) small parts enough)
             | inr later ↦
                 let same : other / 1024 ≡ e = omega (arith, exponent, later, last, h.within) in
-                absurd (too_short micros e (other % 1024) long (past micros e m h many) small (parts ∙ ap (λ x. 2 ^ x * (other % 1024)) same) enough)
+                absurd (too_short micros e (other % 1024) long (past micros e m h many) small
+                (parts ∙ ap (λ x. 2 ^ x * (other % 1024)) same) enough)
           ];
     }
 

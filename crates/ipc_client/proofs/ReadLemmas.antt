@@ -1,5 +1,6 @@
 -- What was taken of a port, part by part, is a frame or the front of one.
-use Rattle.std.proofs.Common.{◌≡◌, ℕ, ◌≤◌, List, [], ◌++◌, Option, Result, Ok, Err, IfOk, IfErr, OnOk, length, take, drop, sym, ap, subst, ◌∙◌, arith}
+use Rattle.std.proofs.Common.{◌≡◌, ℕ, ◌≤◌, List, [], ◌++◌, Option, Result, Ok, Err, IfOk, IfErr}
+use Rattle.std.proofs.Common.{OnOk, length, take, drop, sym, ap, subst, ◌∙◌, arith}
 use Rattle.std.proofs.lemmas.List.{append-nil, drop_all}
 use Rattle.std.proofs.Math.Seq.{take-append_seam, drop-append_seam}
 use Rattle.std.proofs.KnownBytes.{Consumes-trans}
@@ -27,22 +28,29 @@ tight_start side bytes none are f n whole =
     let within = whole_within side bytes f n whole in
     absurd (omega (arith, within.0, within.1, none))
 
-pub tight_more : (side : Side) (before after part : List ℕ) (wanted : ℕ) → after ≡ before ++ part → length part ≤ wanted → reading side before ≡ Short wanted → IsTight side after
+pub tight_more : (side : Side) (before after part : List ℕ) (wanted : ℕ) → after ≡ before ++ part
+    → length part ≤ wanted → reading side before ≡ Short wanted → IsTight side after
 tight_more side before after part wanted joined few short are f n whole =
     let front : take (length before) after ≡ before = ap (take (length before)) joined ∙ take-append_seam before part in
     let back : drop (length before) after ≡ part = ap (drop (length before)) joined ∙ drop-append_seam before part in
     let whole2 : reading side (before ++ part) ≡ Whole f n = ap (reading side) (sym joined) ∙ whole in
-    ends_exactly side before part wanted f n (subst IsBytes front (bytes_take (length before) after are)) (subst IsBytes back (bytes_drop (length before) after are)) short few whole2 ∙ ap length (sym joined)
+    ends_exactly side before part wanted f n
+    (subst IsBytes front (bytes_take (length before) after are))
+    (subst IsBytes back (bytes_drop (length before) after are)) short few whole2
+    ∙ ap length (sym joined)
 
 -- a whole frame
-pub whole_taken : (side : Side) (a b : Option (List ℕ)) (bytes : List ℕ) (f : Frame) (n : ℕ) → IsBytes bytes → Consumes a b bytes → IsTight side bytes → reading side bytes ≡ Whole f n → TakesFrame side a b f
+pub whole_taken : (side : Side) (a b : Option (List ℕ)) (bytes : List ℕ) (f : Frame) (n : ℕ)
+    → IsBytes bytes → Consumes a b bytes → IsTight side bytes → reading side bytes ≡ Whole f n
+    → TakesFrame side a b f
 whole_taken side a b bytes f n are taken tight whole =
     let begins = reading_begins side bytes f n are whole in
     let none : drop n bytes ≡ [] = drop_all n bytes (omega (arith, tight are f n whole)) in
     let same : spelling f ≡ bytes = sym (append-nil (spelling f)) ∙ (ap (λ xs. spelling f ++ xs) (sym none) ∙ begins.text) in
     record { is = begins.is; side_is = begins.side_is; taken = subst (Consumes a b) (sym same) taken }
 
-format_shows : (shown : FrameFault) (r : Reading) (new : Option (List ℕ)) → IsFormatFault shown → r ≡ Bad shown → ShowsFault shown r new
+format_shows : (shown : FrameFault) (r : Reading) (new : Option (List ℕ)) → IsFormatFault shown
+    → r ≡ Bad shown → ShowsFault shown r new
 format_shows fault.TooLong r new h bad = bad
 format_shows fault.UnknownKind r new h bad = bad
 format_shows fault.WrongSize r new h bad = bad
@@ -64,26 +72,32 @@ no_device fault.Interrupted h k = h
 no_device _ h k = k
 
 -- bytes that show a fault
-pub bad_taken : (side : Side) (a b : Option (List ℕ)) (bytes : List ℕ) (shown : FrameFault) → Consumes a b bytes → reading side bytes ≡ Bad shown → TakesNoFrame side a b shown
+pub bad_taken : (side : Side) (a b : Option (List ℕ)) (bytes : List ℕ) (shown : FrameFault)
+    → Consumes a b bytes → reading side bytes ≡ Bad shown → TakesNoFrame side a b shown
 bad_taken side a b bytes shown taken bad = (bytes, taken, format_shows shown _ b (bad_formats side bytes shown bad) bad)
 
 -- which is none of the device
-pub bad_is_no_device : (side : Side) (bytes : List ℕ) (shown : FrameFault) → reading side bytes ≡ Bad shown → IsDeviceFault shown → ⊥
+pub bad_is_no_device : (side : Side) (bytes : List ℕ) (shown : FrameFault)
+    → reading side bytes ≡ Bad shown → IsDeviceFault shown → ⊥
 bad_is_no_device side bytes shown bad = no_device shown (bad_formats side bytes shown bad)
 
 -- bytes of which the next part does not come
 nothing_more : (a b c : Option (List ℕ)) (bytes : List ℕ) → Consumes a b bytes → Consumes b c [] → Consumes a c bytes
 nothing_more a b c bytes taken none = subst (Consumes a c) (append-nil bytes) (Consumes-trans a b c bytes [] taken none)
 
-pub part_missing : (side : Side) (a b c : Option (List ℕ)) (bytes : List ℕ) (wanted : ℕ) (shown : FrameFault) → Consumes a b bytes → reading side bytes ≡ Short wanted → TakesNoPart b c shown → TakesNoFrame side a c shown
-part_missing side a b c bytes wanted fault.Unfinished taken short h = (bytes, nothing_more a b c bytes taken h.0, ((wanted, short), h.1))
+pub part_missing : (side : Side) (a b c : Option (List ℕ)) (bytes : List ℕ) (wanted : ℕ)
+    (shown : FrameFault) → Consumes a b bytes → reading side bytes ≡ Short wanted
+    → TakesNoPart b c shown → TakesNoFrame side a c shown
+part_missing side a b c bytes wanted fault.Unfinished taken short h =
+    (bytes, nothing_more a b c bytes taken h.0, ((wanted, short), h.1))
 part_missing side a b c bytes wanted fault.Device taken short h = (bytes, nothing_more a b c bytes taken h, (wanted, short))
 part_missing side a b c bytes wanted fault.Interrupted taken short h = (bytes, nothing_more a b c bytes taken h, (wanted, short))
 part_missing side a b c bytes wanted fault.NoMemory taken short h = (bytes ++ h.0, Consumes-trans a b c bytes h.0 taken h.1, tt)
 part_missing side a b c bytes wanted _ taken short h = absurd h
 
 -- no memory
-pub memory_missing : (side : Side) (a b : Option (List ℕ)) (bytes : List ℕ) (shown : FrameFault) → Consumes a b bytes → shown ≡ fault.NoMemory → TakesNoFrame side a b shown
+pub memory_missing : (side : Side) (a b : Option (List ℕ)) (bytes : List ℕ) (shown : FrameFault)
+    → Consumes a b bytes → shown ≡ fault.NoMemory → TakesNoFrame side a b shown
 memory_missing side a b bytes shown taken none = rw none (bytes, taken, tt)
 
 pub memory_is_no_device : (shown : FrameFault) → shown ≡ fault.NoMemory → IsDeviceFault shown → ⊥

@@ -115,7 +115,8 @@ FailsCall old new parts error = Fails answers_call old new (frame.Ipc parts) err
 -- a call that is past the limits fails so, and nothing is written or read
 abbrev pub IsWithheld : ClientParts → ClientParts → IpcParts → Result Answer ClientError → Type 0
 IsWithheld old new parts result =
-    IfSome (ipc_fault parts) (λ fault. old.is_closed ≡ false → (result ≡ Err (error.Frame fault)) × (new ≡ record old { is_closed = true }))
+    IfSome (ipc_fault parts) (λ fault. old.is_closed ≡ false
+    → (result ≡ Err (error.Frame fault)) × (new ≡ record old { is_closed = true }))
 
 -- BYE went out, nothing was read, and the client is closed
 pub record SaysBye (old new : ClientParts) : Type 0 where

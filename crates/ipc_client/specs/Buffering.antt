@@ -26,4 +26,5 @@ is_long part = nat_le substring_length_limit part.length
 -- more words than BR1 to BR32 hold; else a length past its limit
 abbrev pub buffer_fault : List Substring → Option BufferFault
 buffer_fault parts =
-    (if nat_lt max_buffer_words (2 * length parts) then Some TooManyWords else if list_any is_long parts then Some TooLong else None)
+    (if nat_lt max_buffer_words (2 * length parts) then Some TooManyWords
+    else if list_any is_long parts then Some TooLong else None)

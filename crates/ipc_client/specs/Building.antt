@@ -28,4 +28,5 @@ message_of label words strings = record {
 -- more words than MR1 to MR63 hold, each string taking two; else a label of more than 48 bits
 abbrev pub message_fault : ℕ → List ℕ → List (List ℕ) → Option MessageFault
 message_fault label words strings =
-    (if nat_lt max_message_words (length words + 2 * length strings) then Some TooManyWords else if nat_le (2 ^ 48) label then Some WideLabel else None)
+    (if nat_lt max_message_words (length words + 2 * length strings) then Some TooManyWords
+    else if nat_le (2 ^ 48) label then Some WideLabel else None)

@@ -11,7 +11,8 @@ use Rattle.ipc_client.specs.Building.{message_of, message_fault}
 abbrev pub LaidOutStringsAreRead : Type 0
 LaidOutStringsAreRead =
     (label : ℕ) (words : List ℕ) (strings : List (List ℕ)) → AreStrings strings
-    → string_reading (drop (length words) (message_of label words strings).words) (message_of label words strings).payload ≡ Ok strings
+    → string_reading (drop (length words) (message_of label words strings).words)
+    (message_of label words strings).payload ≡ Ok strings
 
 -- a message that was made is within the limits of a frame, whatever buffers stand beside it
 abbrev pub MessagesFitFrames : Type 0

@@ -17,7 +17,8 @@ message_in (answer.Refused number) = Err (failure.Refused number)
 abbrev pub item_strings : List ℕ → List ℕ → List (List ℕ)
 item_strings [] bytes = []
 item_strings (descriptor ∷ []) bytes = []
-item_strings (descriptor ∷ pointer ∷ items) bytes = take (descriptor / 1024) bytes ∷ item_strings items (drop (descriptor / 1024) bytes)
+item_strings (descriptor ∷ pointer ∷ items) bytes =
+    take (descriptor / 1024) bytes ∷ item_strings items (drop (descriptor / 1024) bytes)
 
 -- the strings of a message: its typed words are their items, and its pieces have their bytes
 abbrev pub received_strings : IpcrParts → List (List ℕ)

@@ -5,8 +5,10 @@ ghost use Rattle.ipc_words.specs.Timeouts.{timeouts_of};
 ghost use Rattle.ipc_frame.specs.declared.frame.Frame.{Frame as AnyFrame};
 ghost use Rattle.std.specs.Io.KnownBytes.{Appends};
 ghost use Rattle.ipc_frame.specs.Frames.{spelling};
-ghost use Rattle.ipc_client.specs.Asking.{Answers, Exchanges, Fails, FailsBy, FailsCall, FailsToRead, FailsToSend, FailsBye, IsWithheld, SaysBye};
-ghost use Rattle.ipc_client.specs.Asking.{answer_frame, answers_call, answers_exchange, error_at, greeting_frame, greets, registers_frame};
+ghost use Rattle.ipc_client.specs.Asking.{Answers, Exchanges, Fails, FailsBy, FailsCall, FailsToRead};
+ghost use Rattle.ipc_client.specs.Asking.{FailsToSend, FailsBye, IsWithheld, SaysBye};
+ghost use Rattle.ipc_client.specs.Asking.{answer_frame, answers_call, answers_exchange, error_at};
+ghost use Rattle.ipc_client.specs.Asking.{greeting_frame, greets, registers_frame};
 ghost use Rattle.ipc_client.specs.Messages.{ipc_of, no_buffers, no_message};
 ghost use Rattle.ipc_words.specs.Time.{no_time};
 
@@ -71,7 +73,8 @@ impl<R: PortRead, W: PortWrite> Client<R, W> {
     fn exchange(&mut self, frame: Frame) -> Result<Frame, FrameFault>
         requires { self.old.is_closed ≡ false }
         ensures ok { IfOk result (λ answered. Exchanges self.old self.new frame answered) }
-        ensures err { IfErr result (λ fault. FailsToSend self.old self.new frame fault ⊎ FailsToRead self.old self.new frame fault) }
+        ensures err { IfErr result (λ fault. FailsToSend self.old self.new frame fault
+            ⊎ FailsToRead self.old self.new frame fault) }
         ensures open { self.new.is_closed ≡ false }
     {
         match write_frame(&mut self.writer, frame) {

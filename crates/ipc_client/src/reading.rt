@@ -13,7 +13,7 @@ use std::alloc::Global;
 /// The most bytes of one read.
 const PIECE: usize = 8192;
 
-/// Room for a frame that brings few words and no strings.
+/// Room for each head, and for a frame that brings few words and no strings.
 const LEAN_FRAME: usize = 128;
 
 // Reads at most so many bytes behind those that are held.
@@ -43,6 +43,8 @@ fn read_part<P: PortRead>(
 
 /// Reads the next frame that a side is sent. Nothing behind it is taken from the port.
 ///
+/// Its bytes take one room of 128, and where the head names more than that, and shows no fault, one room for all of them.
+///
 /// # Errors
 ///
 /// F1 to F4: the fault that the bytes show, at the byte that shows it. F9: the input ends inside the frame, or before it. F10, F11:
@@ -59,10 +61,16 @@ pub fn read_frame<P: PortRead>(alloc: Global, side: Side, port: &mut P) -> Resul
     let mut piece = [0u8; PIECE];
     'parts: loop {
         match judge(side, &held, 0) {
-            Judgement::Short(wanted) => match read_part(port, wanted, &mut piece, &mut held) {
-                Ok(()) => {}
-                Err(fault) => return Err(fault),
-            },
+            Judgement::Short(wanted) => {
+                // at first a part of the head, within the room; then all that the head says
+                if held.reserve_exact(wanted).is_err() {
+                    return Err(FrameFault::NoMemory);
+                }
+                match read_part(port, wanted, &mut piece, &mut held) {
+                    Ok(()) => {}
+                    Err(fault) => return Err(fault),
+                }
+            }
             Judgement::Bad(fault) => return Err(fault),
             Judgement::Whole => return whole_frame(alloc, side, &held),
         }

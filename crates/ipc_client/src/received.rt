@@ -1,5 +1,5 @@
 //! A message that was received.
-ghost use Rattle.std.specs.Prelude.{◌≡◌, ◌≤◌, IfOk, length, drop, take};
+ghost use Rattle.std.specs.Prelude.{◌≡◌, ◌≤◌, IfOk, length, drop, slice_get, take};
 ghost use Rattle.ipc_words.specs.MsgTag.{label_of, untyped_of};
 ghost use Rattle.ipc_items.specs.Pieces.{joined};
 ghost use Rattle.ipc_items.specs.Strings.{strings_of};
@@ -68,7 +68,9 @@ impl Received {
     }
 
     /// The word at a place among the untyped words, counted from 0.
-    pub fn word(&self, place: usize) -> Option<u64> {
+    pub fn word(&self, place: usize) -> Option<u64>
+        ensures { result ≡ slice_get (take (untyped_of self.now.tag) self.now.words) place }
+    {
         self.words().get(place).copied()
     }
 

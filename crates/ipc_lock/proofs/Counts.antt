@@ -1,5 +1,8 @@
 -- What each command does to the counts of the books: calls, outcomes taken, threads opened.
-use Rattle.std.proofs.Common.{◌≡◌, ℕ, ◌+◌, ◌≤◌, List, [], ◌∷◌, ◌++◌, Bool, true, false, Option, Some, None, Result, Ok, Err, IfOk, OnOk, OnErr, map, length, filter, count_by, filter_map, refl, sym, ap, ◌∙◌, ◌==◌, eq-eqb, nat_lt, subst, MatchBool, arith}
+use Rattle.std.proofs.Common.{◌≡◌, ℕ, ◌+◌, ◌≤◌, List, [], ◌∷◌, ◌++◌, Bool, true, false, Option}
+use Rattle.std.proofs.Common.{Some, None, Result, Ok, Err, IfOk, OnOk, OnErr, map, length, filter}
+use Rattle.std.proofs.Common.{count_by, filter_map, refl, sym, ap, ◌∙◌, ◌==◌, eq-eqb, nat_lt, subst}
+use Rattle.std.proofs.Common.{MatchBool, arith}
 use Rattle.std.specs.Prelude.{if◌then◌else◌}
 use Rattle.std.proofs.lemmas.List.{length-append}
 use Rattle.std.proofs.lemmas.List.Elements.{filter-append, filter_map-append}
@@ -87,20 +90,24 @@ calls_at H moment = go (nat_lt (now H) moment)
     go false = no_call
 
 -- an input after the At of its moment
-pub opens_input : (H : List Entry) (moment : ℕ) (input : Input) → opens (with_input H moment input) ≡ opens H + opens (Given input ∷ [])
+pub opens_input : (H : List Entry) (moment : ℕ) (input : Input) → opens (with_input H moment input)
+    ≡ opens H + opens (Given input ∷ [])
 opens_input H moment input =
     opens_append (H ++ at_if_later H moment) (Given input ∷ [])
     ∙ omega (arith, opens_append H (at_if_later H moment), opens_at H moment)
 
-pub calls_input : (H : List Entry) (moment : ℕ) (input : Input) → calls_made (with_input H moment input) ≡ calls_made H + calls_made (Given input ∷ [])
+pub calls_input : (H : List Entry) (moment : ℕ) (input : Input)
+    → calls_made (with_input H moment input) ≡ calls_made H + calls_made (Given input ∷ [])
 calls_input H moment input =
     calls_append (H ++ at_if_later H moment) (Given input ∷ [])
     ∙ omega (arith, calls_append H (at_if_later H moment), calls_at H moment)
 
-pub opens_taken_in : (old new : KernelParts) (input : Input) → Takes old new input → opens new.history ≡ opens old.history + opens (Given input ∷ [])
+pub opens_taken_in : (old new : KernelParts) (input : Input) → Takes old new input
+    → opens new.history ≡ opens old.history + opens (Given input ∷ [])
 opens_taken_in old new input takes = opens_settled _ _ takes.history ∙ opens_input old.history old.moment input
 
-pub calls_taken_in : (old new : KernelParts) (input : Input) → Takes old new input → calls_made new.history ≡ calls_made old.history + calls_made (Given input ∷ [])
+pub calls_taken_in : (old new : KernelParts) (input : Input) → Takes old new input
+    → calls_made new.history ≡ calls_made old.history + calls_made (Given input ∷ [])
 calls_taken_in old new input takes = calls_settled _ _ takes.history ∙ calls_input old.history old.moment input
 
 pub few_opens : (H : List Entry) → opens H ≤ length H
@@ -115,11 +122,15 @@ one_opened : (thread space : ℕ) → opens (Given (Opened thread space) ∷ [])
 unfolding opens
 one_opened thread space = refl
 
-pub calls_opened : (old new : KernelParts) (number space thread : ℕ) → Opens old new number space thread → calls_made new.history ≡ calls_made old.history
-calls_opened old new number space thread opened = calls_taken_in old new (Opened thread space) opened.takes ∙ omega (arith, opened_is_no_call thread space)
+pub calls_opened : (old new : KernelParts) (number space thread : ℕ) → Opens old new number space
+    thread → calls_made new.history ≡ calls_made old.history
+calls_opened old new number space thread opened = calls_taken_in old new (Opened thread space)
+    opened.takes ∙ omega (arith, opened_is_no_call thread space)
 
-pub opens_opened : (old new : KernelParts) (number space thread : ℕ) → Opens old new number space thread → opens new.history ≡ opens old.history + 1
-opens_opened old new number space thread opened = opens_taken_in old new (Opened thread space) opened.takes ∙ ap (λ k. opens old.history + k) (one_opened thread space)
+pub opens_opened : (old new : KernelParts) (number space thread : ℕ) → Opens old new number space
+    thread → opens new.history ≡ opens old.history + 1
+opens_opened old new number space thread opened = opens_taken_in old new (Opened thread space)
+    opened.takes ∙ ap (λ k. opens old.history + k) (one_opened thread space)
 
 called_is_one : (n thread : ℕ) (call : CallParts) → calls_made (Given (Called n thread call) ∷ []) ≡ 1
 unfolding calls_made numbers
@@ -129,11 +140,16 @@ called_opens_none : (n thread : ℕ) (call : CallParts) → opens (Given (Called
 unfolding opens
 called_opens_none n thread call = refl
 
-pub calls_entered : (old new : KernelParts) (number thread : ℕ) (call : CallParts) → Enters old new number thread call → calls_made new.history ≡ calls_made old.history + 1
-calls_entered old new number thread call entered = calls_taken_in old new (Called number thread call) entered.takes ∙ ap (λ k. calls_made old.history + k) (called_is_one number thread call)
+pub calls_entered : (old new : KernelParts) (number thread : ℕ) (call : CallParts)
+    → Enters old new number thread call → calls_made new.history ≡ calls_made old.history + 1
+calls_entered old new number thread call entered = calls_taken_in old new
+    (Called number thread call) entered.takes ∙ ap (λ k. calls_made old.history + k)
+    (called_is_one number thread call)
 
-pub opens_entered : (old new : KernelParts) (number thread : ℕ) (call : CallParts) → Enters old new number thread call → opens new.history ≡ opens old.history
-opens_entered old new number thread call entered = opens_taken_in old new (Called number thread call) entered.takes ∙ omega (arith, called_opens_none number thread call)
+pub opens_entered : (old new : KernelParts) (number thread : ℕ) (call : CallParts)
+    → Enters old new number thread call → opens new.history ≡ opens old.history
+opens_entered old new number thread call entered = opens_taken_in old new
+    (Called number thread call) entered.takes ∙ omega (arith, called_opens_none number thread call)
 
 -- calls, outcomes taken and threads opened are as many as before
 pub record SameCounts (old new : KernelParts) : Type 0 where
@@ -172,14 +188,19 @@ breaks_same old new thread b = record {
   taken = ap (λ (l : List ℕ). length l) b.taken;
 }
 
-pub exchanges_same : (old new : KernelParts) (thread target control : ℕ) (answer : ExregAnswer) → Exchanges old new thread target control answer → SameCounts old new
+pub exchanges_same : (old new : KernelParts) (thread target control : ℕ) (answer : ExregAnswer)
+    → Exchanges old new thread target control answer → SameCounts old new
 exchanges_same old new thread target control answer e = record {
-  calls = calls_taken_in old new (Exreg thread target (masked_of control)) e.takes ∙ omega (arith, exreg_calls thread target (masked_of control));
-  opens = opens_taken_in old new (Exreg thread target (masked_of control)) e.takes ∙ omega (arith, exreg_opens thread target (masked_of control));
+  calls = calls_taken_in old new (Exreg thread target (masked_of control)) e.takes
+      ∙ omega (arith, exreg_calls thread target (masked_of control));
+  opens = opens_taken_in old new (Exreg thread target (masked_of control)) e.takes
+      ∙ omega (arith, exreg_opens thread target (masked_of control));
   taken = ap (λ (l : List ℕ). length l) e.taken;
 }
 
-takes_same : (old new : KernelParts) (input : Input) → Takes old new input → calls_made (Given input ∷ []) ≡ 0 → opens (Given input ∷ []) ≡ 0 → new.taken ≡ old.taken → SameCounts old new
+takes_same : (old new : KernelParts) (input : Input) → Takes old new input
+    → calls_made (Given input ∷ []) ≡ 0 → opens (Given input ∷ []) ≡ 0 → new.taken ≡ old.taken
+    → SameCounts old new
 takes_same old new input takes no_calls no_opens same = record {
   calls = calls_taken_in old new input takes ∙ omega (arith, no_calls);
   opens = opens_taken_in old new input takes ∙ omega (arith, no_opens);
@@ -205,7 +226,8 @@ at_opens H moment = opens_append H (Given (At moment) ∷ []) ∙ omega (arith, 
 pub ticks_same : (old new : KernelParts) (reading : ℕ) → Ticks old new reading → SameCounts old new
 ticks_same old new reading t = go _ t.history
   where
-    go : (due : Bool) → MatchBool due (Settled (old.history ++ Given (At (at_moment old reading)) ∷ []) new.history) (new.history ≡ old.history) → SameCounts old new
+    go : (due : Bool) → MatchBool due (Settled (old.history ++ Given (At (at_moment old reading)) ∷
+        []) new.history) (new.history ≡ old.history) → SameCounts old new
     go true s = record {
       calls = calls_settled _ _ s ∙ at_calls old.history (at_moment old reading);
       opens = opens_settled _ _ s ∙ at_opens old.history (at_moment old reading);
@@ -230,13 +252,17 @@ pub taken_few : (kernel : KernelParts) (thread : ℕ) → taken_by kernel thread
 unfolding taken_by calls.taken_by
 taken_few kernel thread = go (is_live kernel.history thread)
   where
-    go : (live : Bool) → (if live then count_by (λ n. caller_of kernel.history n == thread) kernel.taken else 0) ≤ length kernel.taken
+    go : (live : Bool) → (if live then count_by (λ n. caller_of kernel.history n == thread)
+        kernel.taken else 0) ≤ length kernel.taken
     go true = count_by-le-length (λ n. caller_of kernel.history n == thread) kernel.taken
     go false = omega arith
 
 -- an amount that is the kernel's count
-pub seat_refuses : (amount count : ℕ) (cause : Option Refusal) (refusal : Refusal) → amount ≡ count → MayRefuse cause refusal → SeatRefuses amount count cause refusal
-seat_refuses amount count cause refusal same refused = subst (λ n. MatchBool (amount == n) (MayRefuse cause refusal) (refusal ≡ NoThread)) same (rw (eq-eqb amount amount refl) refused)
+pub seat_refuses : (amount count : ℕ) (cause : Option Refusal) (refusal : Refusal) → amount ≡ count
+    → MayRefuse cause refusal → SeatRefuses amount count cause refusal
+seat_refuses amount count cause refusal same refused = subst
+    (λ n. MatchBool (amount == n) (MayRefuse cause refusal) (refusal ≡ NoThread)) same
+    (rw (eq-eqb amount amount refl) refused)
 
 same_as_before : (old new : KernelParts) → new ≡ old → SameCounts old new
 same_as_before old new is = record {
@@ -246,14 +272,21 @@ same_as_before old new is = record {
 }
 
 -- whether a command was accepted or refused
-pub exreg_same : (old new : KernelParts) (thread target control : ℕ) (X : Type 0) (result : Result ExregAnswer Refusal) → IfOk result (λ answer. X × Exchanges old new thread target control answer) → OnErr result (new ≡ old) → SameCounts old new
+pub exreg_same : (old new : KernelParts) (thread target control : ℕ) (X : Type 0)
+    (result : Result ExregAnswer Refusal)
+    → IfOk result (λ answer. X × Exchanges old new thread target control answer)
+    → OnErr result (new ≡ old) → SameCounts old new
 exreg_same old new thread target control X (Ok answer) ok err = exchanges_same old new thread target control answer ok.1
 exreg_same old new thread target control X (Err refusal) ok err = same_as_before old new err
 
-pub broke_same : {A E : Type 0} (old new : KernelParts) (thread : ℕ) (X : Type 0) (result : Result A E) → OnOk result (X × Breaks old new thread) → OnErr result (new ≡ old) → SameCounts old new
+pub broke_same : {A E : Type 0} (old new : KernelParts) (thread : ℕ) (X : Type 0)
+    (result : Result A E) → OnOk result (X × Breaks old new thread) → OnErr result (new ≡ old)
+    → SameCounts old new
 broke_same old new thread X (Ok done) ok err = breaks_same old new thread ok.1
 broke_same old new thread X (Err gone) ok err = same_as_before old new err
 
-pub advance_same : (old new : KernelParts) (X : Type 0) (result : Advance) → (result ≡ advance.Moved → Advances old new) → (result ≡ advance.Idle → X × (new ≡ rested old)) → SameCounts old new
+pub advance_same : (old new : KernelParts) (X : Type 0) (result : Advance)
+    → (result ≡ advance.Moved → Advances old new)
+    → (result ≡ advance.Idle → X × (new ≡ rested old)) → SameCounts old new
 advance_same old new X advance.Moved moved idle = advances_same old new (moved refl)
 advance_same old new X advance.Idle moved idle = rests_same old new (idle refl).1

@@ -21,7 +21,8 @@ use Rattle.ipc_lock.specs.declared.told.Told.{Told}
 use Rattle.ipc_lock.specs.declared.told.Told.TheVariants as told
 
 -- a thread was opened: its seats name it, and made and took nothing
-pub record OpensSeated {C T : Type 0} (old new : KernelParts) (number space thread : ℕ) (calls : CallSeat C) (takes : TakeSeat T) : Type 0 where
+pub record OpensSeated {C T : Type 0} (old new : KernelParts) (number space thread : ℕ)
+    (calls : CallSeat C) (takes : TakeSeat T) : Type 0 where
   pub cause : open_refusal old number space ≡ None
   pub opens : Opens old new number space thread
   pub call_thread : calls.thread ≡ thread
@@ -30,7 +31,8 @@ pub record OpensSeated {C T : Type 0} (old new : KernelParts) (number space thre
   pub none_taken : takes.taken ≡ 0
 
 -- a call of the seat's thread was entered, and the seat rose by 1
-pub record EntersSeated {C : Type 0} (old new : KernelParts) (seat after : CallSeat C) (number : ℕ) (call : CallParts) : Type 0 where
+pub record EntersSeated {C : Type 0} (old new : KernelParts) (seat after : CallSeat C) (number : ℕ)
+    (call : CallParts) : Type 0 where
   pub counted : seat.made ≡ made_by old.history seat.thread
   pub cause : enter_refusal old seat.thread call ≡ None
   pub enters : Enters old new number seat.thread call
@@ -43,13 +45,15 @@ pub record SameSeat {C : Type 0} (seat after : CallSeat C) : Type 0 where
   pub made : after.made ≡ seat.made
 
 -- the call was refused and is handed back, and nothing changed
-pub record KeepsCall {C : Type 0} (old new : KernelParts) (seat after : CallSeat C) (call back : CallParts) (refusal : Refusal) : Type 0 where
+pub record KeepsCall {C : Type 0} (old new : KernelParts) (seat after : CallSeat C)
+    (call back : CallParts) (refusal : Refusal) : Type 0 where
   pub cause : SeatRefuses seat.made (made_by old.history seat.thread) (enter_refusal old seat.thread call) refusal
   pub same : SameSeat seat after
   pub handed_back : back ≡ call
   pub stays : new ≡ old
 
-pub record ExchangesSeated {C : Type 0} (old new : KernelParts) (seat after : CallSeat C) (target control : ℕ) (answer : ExregAnswer) : Type 0 where
+pub record ExchangesSeated {C : Type 0} (old new : KernelParts) (seat after : CallSeat C)
+    (target control : ℕ) (answer : ExregAnswer) : Type 0 where
   pub counted : seat.made ≡ made_by old.history seat.thread
   pub cause : exreg_refusal old seat.thread ≡ None
   pub exchanges : Exchanges old new seat.thread target control answer
@@ -63,10 +67,12 @@ pub record KeepsRegisters {C : Type 0} (old new : KernelParts) (seat after : Cal
 -- what a step does after its clock reading; an answer of another kind than the step's never comes
 unfoldable pub StepDoes : {C T : Type 0} → KernelParts → Step C → Told C T → KernelParts → Type 0
 StepDoes old (step.Hello number space) (told.Opened thread calls takes) new = OpensSeated old new number space thread calls takes
-StepDoes old (step.Hello number space) (told.NotOpened refusal) new = MayRefuse (open_refusal old number space) refusal × (new ≡ old)
+StepDoes old (step.Hello number space) (told.NotOpened refusal) new =
+    MayRefuse (open_refusal old number space) refusal × (new ≡ old)
 StepDoes old (step.Enter seat call) (told.Entered after number) new = EntersSeated old new seat after number call
 StepDoes old (step.Enter seat call) (told.NotEntered after refusal back) new = KeepsCall old new seat after call back refusal
-StepDoes old (step.Exreg seat target control) (told.Exchanged after answer) new = ExchangesSeated old new seat after target control answer
+StepDoes old (step.Exreg seat target control) (told.Exchanged after answer) new =
+    ExchangesSeated old new seat after target control answer
 StepDoes old (step.Exreg seat target control) (told.NotExchanged after refusal) new = KeepsRegisters old new seat after refusal
 StepDoes old (step.Broke thread) (told.Broken broken) new = Breaks old new thread × (broken ≡ thread)
 StepDoes old (step.Broke thread) (told.NotThere gone) new = (is_live old.history thread ≡ false) × (gone ≡ thread) × (new ≡ old)

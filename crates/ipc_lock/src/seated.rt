@@ -1,5 +1,6 @@
 //! What the lock keeps, and the calls that change it. Nobody else makes an [`Answer`] or a [`Taken`].
-ghost use Rattle.std.specs.Prelude.{◌≡◌, ◌+◌, ◌^◌, [], ◌∷◌, false, None, Some, IfOk, IfErr, IfSome, OnOk, OnErr, IfNone, length, min, slice_get};
+ghost use Rattle.std.specs.Prelude.{◌≡◌, ◌+◌, ◌^◌, [], ◌∷◌, false, None, Some, length, min, slice_get};
+ghost use Rattle.std.specs.Prelude.{IfOk, IfErr, IfSome, OnOk, OnErr, IfNone};
 ghost use Rattle.ipc_history.specs.Calls.{calls_made};
 ghost use Rattle.ipc_history.specs.Threads.{is_live};
 ghost use Rattle.ipc_core.specs.Effects.{Breaks, Exchanges, Gives, Ticks};

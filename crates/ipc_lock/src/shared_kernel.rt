@@ -192,8 +192,9 @@ impl<C: Ledger, T: Ledger> SharedKernel<C, T> {
         self.trace.notify_all();
     }
 
-    /// Waits for the entry of this place of the history, counted from 0, and answers its line, without a newline. None once the kernel
-    /// was closed and has no such entry. The entry is copied under the lock, and its line is made outside it.
+    /// Waits for the entry of this place of the history, counted from 0, and answers its line,
+    /// without a newline. None once the kernel was closed and has no such entry. The entry is
+    /// copied under the lock, and its line is made outside it.
     ///
     /// # Errors
     ///

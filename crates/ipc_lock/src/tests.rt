@@ -597,8 +597,8 @@ fn meetings<C: Ledger + Send + Sync, T: Ledger + Send + Sync, R: Threads + Wait 
 
 const MEETINGS: u64 = 10_000;
 
-// Makes calls in turn, each once the one before is over; the first words of their outcomes. None where a call is not entered, where its
-// outcome is not its own, or for want of memory.
+// Makes calls in turn, each once the one before is over; the first words of their outcomes. None
+// where a call is not entered, where its outcome is not its own, or for want of memory.
 fn make_calls<C: Ledger, T: Ledger, R: Wait>(
     rt: &R,
     alloc: Global,

@@ -1,4 +1,4 @@
-use Rattle.std.proofs.Common.{◌≡◌, ◌<◌, ap, refl, sym, subst, ◌∙◌, length}
+use Rattle.std.proofs.Common.{◌≡◌, ◌<◌, ap, refl, sym, subst, ◌∙◌, ◌++◌, length}
 use Rattle.std.specs.Io.KnownBytes.{Consumes}
 use Rattle.std.proofs.KnownBytes.{Consumes-nil, Consumes-trans}
 use Rattle.ipc_frame.specs.Reading.{Short, Bad, reading}
@@ -8,14 +8,18 @@ use Rattle.ipc_frame.proofs.DecodeLemmas.{told_alone}
 use Rattle.ipc_frame.proofs.StreamLemmas.{short_is_exact}
 use Rattle.ipc_client.specs.Devices.{IsDeviceFault}
 use Rattle.ipc_client.specs.Reading.{TakesFrame, TakesNoFrame}
-use Rattle.ipc_client.proofs.ReadLemmas.{IsTight, tight_start, tight_more, whole_taken, bad_taken, bad_is_no_device, part_missing, memory_missing, memory_is_no_device, if_ok, if_err, on_ok}
+use Rattle.ipc_client.proofs.ReadLemmas.{IsTight, tight_start, tight_more, whole_taken, bad_taken}
+use Rattle.ipc_client.proofs.ReadLemmas.{bad_is_no_device, part_missing, memory_missing}
+use Rattle.ipc_client.proofs.ReadLemmas.{memory_is_no_device, if_ok, if_err, on_ok}
 use Rattle.ipc_client.proofs.reading.read_frame.Goals as goal
 
 pub parts-init : goal.parts-init
 parts-init g c =
     let none = c.in-Ok.ensures.items in
     record {
-      taken = subst (Consumes (g.P.PortRead.remaining c.args.port.now) (g.P.PortRead.remaining c.args.port.now)) (sym none) (Consumes-nil (g.P.PortRead.remaining c.args.port.now));
+      taken = subst (Consumes (g.P.PortRead.remaining c.args.port.now)
+          (g.P.PortRead.remaining c.args.port.now)) (sym none)
+          (Consumes-nil (g.P.PortRead.remaining c.args.port.now));
       tight = tight_start c.args.side c.in-Ok.held.items (ap length none);
       kept = refl;
     }
@@ -28,25 +32,33 @@ read_part-requires g c =
 pub parts-preserved : goal.parts-preserved
 parts-preserved g c =
     let short = told_alone (judged.Short c.in-Short.wanted) c.args.side c.deref.result.now c.in-Short.ensures in
-    let short_here : reading c.args.side c.parts.held.items ≡ Short c.in-Short.wanted = ap (reading c.args.side) (sym c.deref.ensures.value) ∙ short in
+    let short_here : reading c.args.side c.parts.held.items ≡ Short c.in-Short.wanted = ap
+    (reading c.args.side) (sym c.deref.ensures.value) ∙ short in
     let takes = c.in-Ok-read_part.ensures.ok in
+    let roomy = c.reserve_exact.ensures.items in
+    let held = takes.held ∙ ap (λ xs. xs ++ takes.part) roomy in
     let all = Consumes-trans _ _ _ c.parts.held.items takes.part c.parts.invariant.taken takes.taken in
     record {
-      taken = subst (Consumes (g.P.PortRead.remaining c.args.port.now) (g.P.PortRead.remaining c.read_part.new.port)) (sym takes.held) all;
-      tight = tight_more c.args.side c.parts.held.items c.read_part.new.held.items takes.part c.in-Short.wanted takes.held takes.few short_here;
+      taken = subst (Consumes (g.P.PortRead.remaining c.args.port.now)
+          (g.P.PortRead.remaining c.read_part.new.port)) (sym held) all;
+      tight = tight_more c.args.side c.parts.held.items c.read_part.new.held.items takes.part
+          c.in-Short.wanted held takes.few short_here;
       kept = c.in-Ok-read_part.ensures.kept ∙ c.parts.invariant.kept;
     }
 
 pub returns-in-Err-clause-err : goal.returns-in-Err-clause-err
 returns-in-Err-clause-err g c =
     let short = told_alone (judged.Short c.in-Short.wanted) c.args.side c.deref.result.now c.in-Short.ensures in
-    let short_here : reading c.args.side c.parts.held.items ≡ Short c.in-Short.wanted = ap (reading c.args.side) (sym c.deref.ensures.value) ∙ short in
-    part_missing c.args.side _ _ _ c.parts.held.items c.in-Short.wanted c.in-Err.fault c.parts.invariant.taken short_here c.in-Err.ensures.err
+    let short_here : reading c.args.side c.parts.held.items ≡ Short c.in-Short.wanted = ap
+    (reading c.args.side) (sym c.deref.ensures.value) ∙ short in
+    part_missing c.args.side _ _ _ c.parts.held.items c.in-Short.wanted c.in-Err.fault
+    c.parts.invariant.taken short_here c.in-Err.ensures.err
 
 pub returns-in-Bad : goal.returns-in-Bad
 returns-in-Bad g c =
     let bad = told_alone (judged.Bad c.in-Bad.fault) c.args.side c.deref.result.now c.in-Bad.ensures in
-    let here : reading c.args.side c.parts.held.items ≡ Bad c.in-Bad.fault = ap (reading c.args.side) (sym c.deref.ensures.value) ∙ bad in
+    let here : reading c.args.side c.parts.held.items ≡ Bad c.in-Bad.fault = ap
+    (reading c.args.side) (sym c.deref.ensures.value) ∙ bad in
     record {
       ok = tt;
       err = bad_taken c.args.side _ _ c.parts.held.items c.in-Bad.fault c.parts.invariant.taken here;
@@ -65,8 +77,12 @@ returns-in-Whole g c =
     let tight : IsTight side bytes = subst (IsTight side) same c.parts.invariant.tight in
     let result = c.whole_frame.result in
     record {
-      ok = if_ok _ (λ f. TakesFrame side old new f) result (λ f h. whole_taken side old new bytes f h.0 c.whole_frame.ensures.bytes taken tight h.1) c.whole_frame.ensures.ok;
-      err = if_err (λ e. e ≡ fault.NoMemory) (λ e. TakesNoFrame side old new e) result (λ e h. memory_missing side old new bytes e taken h) c.whole_frame.ensures.memory;
-      failed = if_err (λ e. e ≡ fault.NoMemory) (λ e. IsDeviceFault e → g.P.PortRead.failures c.args.port.now < g.P.PortRead.failures c.parts.port) result (λ e h device. absurd (memory_is_no_device e h device)) c.whole_frame.ensures.memory;
+      ok = if_ok _ (λ f. TakesFrame side old new f) result (λ f h. whole_taken side old new bytes f
+          h.0 c.whole_frame.ensures.bytes taken tight h.1) c.whole_frame.ensures.ok;
+      err = if_err (λ e. e ≡ fault.NoMemory) (λ e. TakesNoFrame side old new e) result
+          (λ e h. memory_missing side old new bytes e taken h) c.whole_frame.ensures.memory;
+      failed = if_err (λ e. e ≡ fault.NoMemory) (λ e. IsDeviceFault e
+          → g.P.PortRead.failures c.args.port.now < g.P.PortRead.failures c.parts.port) result
+          (λ e h device. absurd (memory_is_no_device e h device)) c.whole_frame.ensures.memory;
       kept = on_ok result c.parts.invariant.kept;
     }

@@ -14,4 +14,6 @@ pieces-preserved g c = record {
 }
 
 pub returns-clause-whole : goal.returns-clause-whole
-returns-clause-whole g c = writes_all _ _ _ _ (writes_more _ _ _ _ _ _ c.pieces.invariant.wrote c.in_ok-write_piece.ensures.wrote) (nothing_left _ _ _ _ c.in_ok-write_piece.ensures.wrote (c.in_ok-write_piece.ensures.done c.if-branch.false))
+returns-clause-whole g c = writes_all _ _ _ _ (writes_more _ _ _ _ _ _ c.pieces.invariant.wrote
+    c.in_ok-write_piece.ensures.wrote) (nothing_left _ _ _ _ c.in_ok-write_piece.ensures.wrote
+    (c.in_ok-write_piece.ensures.done c.if-branch.false))

@@ -6,8 +6,12 @@ use Rattle.ipc_client.proofs.writing.write_frame.Goals as goal
 
 pub returns-in-Err-clause-front : goal.returns-in-Err-clause-front
 returns-in-Err-clause-front g c =
-    part_is_front _ _ _ (subst (AppendsPart (g.P.PortWrite.written c.args.port.now) (g.P.PortWrite.written c.write_encoder.new.port)) c.new.ensures c.in-Err.ensures.part)
+    part_is_front _ _ _ (subst (AppendsPart (g.P.PortWrite.written c.args.port.now)
+    (g.P.PortWrite.written c.write_encoder.new.port)) c.new.ensures c.in-Err.ensures.part)
 
 pub returns-in-Err-flush-clause-front : goal.returns-in-Err-flush-clause-front
 returns-in-Err-flush-clause-front g c =
-    whole_is_front _ _ _ _ (subst (Appends (g.P.PortWrite.written c.args.port.now) (g.P.PortWrite.written c.write_encoder.new.port)) c.new.ensures c.in_default.ensures.whole) c.flush.ensures.bytes
+    whole_is_front _ _ _ _
+    (subst (Appends (g.P.PortWrite.written c.args.port.now)
+    (g.P.PortWrite.written c.write_encoder.new.port)) c.new.ensures c.in_default.ensures.whole)
+    c.flush.ensures.bytes

@@ -9,7 +9,9 @@ split_off-made-requires-clause-has_parts g c =
 
 pub invariant_of-self-2 : goal.invariant_of-self-2
 invariant_of-self-2 g c =
-    let made = calls_opened c.args.self.now.kernel c.open.new.self c.args.number c.args.space c.in_ok-thread.thread c.in_ok-thread.ensures.ok.1 in
-    let opened = opens_opened c.args.self.now.kernel c.open.new.self c.args.number c.args.space c.in_ok-thread.thread c.in_ok-thread.ensures.ok.1 in
+    let made = calls_opened c.args.self.now.kernel c.open.new.self c.args.number c.args.space
+    c.in_ok-thread.thread c.in_ok-thread.ensures.ok.1 in
+    let opened = opens_opened c.args.self.now.kernel c.open.new.self c.args.number c.args.space
+    c.in_ok-thread.thread c.in_ok-thread.ensures.ok.1 in
     let taken = c.in_ok-thread.ensures.ok.1.taken in
     search (rules, arith)

@@ -1,3 +1,4 @@
+pub mod Groups
 pub mod Opens
 pub mod Seats
 pub mod Acting

@@ -1,9 +1,58 @@
 //! Copies of entries, so that their lines are made outside the lock.
-ghost use Rattle.std.specs.Prelude.{◌≡◌, IfOk};
+ghost use Rattle.std.specs.Prelude.{◌≡◌, ◌≤◌, ◌<◌, IfOk, length};
+ghost use Rattle.ipc_lock.specs.Groups.{IsGroupAt};
 
 use ipc_history::{Call, CallFields, Entry, Input};
 use ipc_items::BufferList;
 use std::alloc::{AllocError, Global};
+
+/// The most entries of a group.
+const MOST_OF_A_GROUP: usize = 64;
+
+/// Copies of the entries from this place on, as many as one group has: at most 64, and none behind a call with strings. So whoever
+/// waits for the lock meanwhile waits for one long message at most.
+pub(crate) fn copy_group(
+    alloc: Global,
+    entries: &[Entry],
+    index: usize,
+) -> Result<Vec<Entry>, AllocError>
+    ensures { IfOk result (λ group. IsGroupAt entries.now index group.items) }
+{
+    let (_, rest) = entries.split_at(index.min(entries.len()));
+    let (group, _) = rest.split_at(group_len(rest));
+    copy_entries(alloc, group)
+}
+
+/// How many of the entries make up a group.
+fn group_len(entries: &[Entry]) -> usize
+    ensures within { result ≤ length entries.now }
+    ensures few { result ≤ 64 }
+    ensures some { 0 < length entries.now → 0 < result }
+{
+    let (few, _) = entries.split_at(entries.len().min(MOST_OF_A_GROUP));
+    match few.iter().position(has_strings) {
+        Some(place) => place + 1,
+        None => few.len(),
+    }
+}
+
+/// Whether the entry is a call with strings, which may have a megabyte.
+fn has_strings(entry: &Entry) -> bool {
+    match entry {
+        Entry::Given(Input::Called(_, _, call)) => !call.strings().is_empty(),
+        _ => false,
+    }
+}
+
+fn copy_entries(alloc: Global, entries: &[Entry]) -> Result<Vec<Entry>, AllocError>
+    ensures { IfOk result (λ copies. copies.items ≡ entries.now) }
+{
+    let mut copies = Vec::with_capacity(alloc, entries.len())?;
+    for entry in entries {
+        copies.push(copy_entry(alloc, entry)?)?;
+    }
+    Ok(copies)
+}
 
 /// A copy of an entry.
 pub(crate) fn copy_entry(alloc: Global, entry: &Entry) -> Result<Entry, AllocError>

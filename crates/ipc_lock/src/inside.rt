@@ -41,6 +41,7 @@ pub(crate) struct Inside<C: Ledger, T: Ledger> {
     owners: Vec<Option<usize>>,
     finished: Vec<ThreadId>,
     begun: bool,
+    is_work_over: bool,
     closed: bool,
     // whether the last step added entries, and whether the trace waits for one
     has_grown: bool,
@@ -79,6 +80,7 @@ impl<C: Ledger, T: Ledger> Inside<C, T> {
             owners: vec![in alloc; None; TABLE_SLOTS]?,
             finished: Vec::with_capacity(alloc, 2 * TABLE_SLOTS)?,
             begun: false,
+            is_work_over: false,
             closed: false,
             has_grown: false,
             is_awaited: false,
@@ -228,6 +230,15 @@ impl<C: Ledger, T: Ledger> Inside<C, T> {
         self.begun
     }
 
+    /// Whether no transfer can begin any more.
+    pub(crate) fn is_work_over(&self) -> bool {
+        self.is_work_over || self.closed
+    }
+
+    pub(crate) fn end_work(&mut self) {
+        self.is_work_over = true;
+    }
+
     pub(crate) fn is_closed(&self) -> bool {
         self.closed
     }
@@ -243,6 +254,11 @@ impl<C: Ledger, T: Ledger> Inside<C, T> {
     /// A copy of the entry of this place.
     pub(crate) fn entry(&self, index: usize) -> Result<Option<Entry>, AllocError> {
         self.locked.entry(self.alloc, index)
+    }
+
+    /// Copies of the entries from this place on, as many as one group has.
+    pub(crate) fn group(&self, index: usize) -> Result<Vec<Entry>, AllocError> {
+        self.locked.group(self.alloc, index)
     }
 
     /// The trace waits for the next entry.

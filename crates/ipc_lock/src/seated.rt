@@ -12,11 +12,12 @@ ghost use Rattle.ipc_core.specs.Outcomes.{made_by, outcome_to_take, taken_by};
 ghost use Rattle.ipc_core.specs.Refusals.{enter_refusal, exreg_refusal, open_refusal};
 ghost use Rattle.ipc_core.specs.Steps.{Enters, MayRefuse, Opens};
 ghost use Rattle.ipc_lock.specs.Acting.{Acts, StepDoes};
+ghost use Rattle.ipc_lock.specs.Groups.{IsGroupAt};
 ghost use Rattle.ipc_lock.specs.Opens.{opens};
 ghost use Rattle.ipc_lock.specs.declared.step.Step.TheVariants as step;
 ghost use Rattle.ipc_lock.specs.Seats.{SeatRefuses, TakesNothing};
 
-use crate::copying::copy_entry;
+use crate::copying::{copy_entry, copy_group};
 use crate::seats::{CallSeat, TakeSeat};
 use crate::step::Step;
 use crate::told::Told;
@@ -410,5 +411,13 @@ impl<C: Ledger, T: Ledger> Locked<C, T> {
             Some(entry) => Ok(Some(copy_entry(alloc, entry)?)),
             None => Ok(None),
         }
+    }
+
+    /// Copies of the entries from this place of the history on, counted from 0, as many as one group has: at most 64, and none
+    /// behind a call with strings. No entry where the history has none there.
+    pub fn group(&self, alloc: Global, index: usize) -> Result<Vec<Entry>, AllocError>
+        ensures { IfOk result (λ group. IsGroupAt self.now.kernel.history index group.items) }
+    {
+        copy_group(alloc, self.kernel.history(), index)
     }
 }

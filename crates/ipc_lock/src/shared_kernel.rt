@@ -168,11 +168,11 @@ impl<C: Ledger, T: Ledger> SharedKernel<C, T> {
         }
     }
 
-    /// Waits until a transfer has begun; false once the kernel was closed.
+    /// Waits until a transfer has begun; false once the work is over or the kernel was closed.
     pub fn wait_work<R: Wait>(&self, rt: &R) -> bool {
         let mut inside = self.inside.lock(rt);
         for _ in rt.forever() {
-            if inside.is_closed() {
+            if inside.is_work_over() {
                 return false;
             }
             if inside.has_begun() {
@@ -183,7 +183,16 @@ impl<C: Ledger, T: Ledger> SharedKernel<C, T> {
         false
     }
 
-    /// Ends the waiting of the mover and of the trace. Called once, after all sessions were joined.
+    /// Ends the waiting of the mover. Called once, after all sessions were joined.
+    pub fn end_work<R: Wait>(&self, rt: &R) {
+        let mut inside = self.inside.lock(rt);
+        inside.end_work();
+        drop(inside);
+        self.work.notify_all();
+    }
+
+    /// Ends the waiting of the trace, and of the mover if it still waits. Called once, after sessions, ticker and mover were joined, so
+    /// that no entry comes behind it.
     pub fn close<R: Wait>(&self, rt: &R) {
         let mut inside = self.inside.lock(rt);
         inside.close();
@@ -217,6 +226,25 @@ impl<C: Ledger, T: Ledger> SharedKernel<C, T> {
             inside = self.trace.wait(rt, inside);
         }
         Ok(None)
+    }
+
+    /// Waits for the entry of this place of the history, counted from 0, and answers copies of it and of those that follow it: at most
+    /// 64, and none behind a call with strings. No entry once the kernel was closed and has none there.
+    ///
+    /// # Errors
+    ///
+    /// TR5: no memory for the copies.
+    pub fn wait_entries<R: Wait>(&self, rt: &R, index: usize) -> Result<Vec<Entry>, AllocError> {
+        let mut inside = self.inside.lock(rt);
+        for _ in rt.forever() {
+            let group = inside.group(index)?;
+            if !group.is_empty() || inside.is_closed() {
+                return Ok(group);
+            }
+            inside.await_entry();
+            inside = self.trace.wait(rt, inside);
+        }
+        Ok(Vec::new(self.alloc))
     }
 
     /// How many entries the history has, to say when it is near its limit.

@@ -110,7 +110,14 @@ probe_rule = record (new_rule (codes "probe")) {
   action = Some SetTrue;
 }
 
+-- `--trace FILE`
+abbrev pub trace_rule : Rule
+trace_rule = record (new_rule (codes "trace")) { long = Some (codes "trace"); value_names = 1 }
+
+-- `l4d` with where it listens
+abbrev pub listening_app : App
+listening_app = with_rule (with_rule (with_rule (with_rule (new_app (codes "l4d"))
+    dir_rule) spaces_rule) connections_rule) mode_rule
+
 abbrev pub server_app : App
-server_app = with_rule
-    (with_rule (with_rule (with_rule (with_rule (new_app (codes "l4d")) dir_rule) spaces_rule) connections_rule) mode_rule)
-    probe_rule
+server_app = with_rule (with_rule listening_app probe_rule) trace_rule

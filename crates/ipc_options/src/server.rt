@@ -23,6 +23,8 @@ pub struct ServerOptions<'a> {
     pub mode: u32,
     /// Whether a client of the program's own sends one message.
     pub probe: bool,
+    /// The file that the entries of the history are written to, as a trace; None without `--trace`.
+    pub trace: Option<&'a str>,
     pub ghost some_spaces: { 1 ≤ spaces },
     pub ghost few_spaces: { spaces ≤ max_space },
     pub ghost some_connections: { 1 ≤ connections },

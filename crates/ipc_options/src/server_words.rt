@@ -1,8 +1,10 @@
 //! The words of `l4d`.
-ghost use Rattle.std.specs.Prelude.{◌≡◌, ◌<◌, IfErr, IfOk, IfSome, Some, [], codes, false, map, option_map, string_bytes, true};
+ghost use Rattle.std.specs.Prelude.{◌≡◌, ◌<◌, IfErr, IfOk, IfSome, Some, [], codes, false, map};
+ghost use Rattle.std.specs.Prelude.{option_map, string_bytes, true};
 ghost use Rattle.std.specs.Str.Parse.{digits_value, without_leading_plus};
 ghost use Rattle.clap.specs.Words.{app_of, fault_of, first_of, found_of, one_of, rows_of, rule_of};
-ghost use Rattle.ipc_options.specs.Command.{connections_rule, dir_rule, mode_rule, probe_rule, server_app, spaces_rule};
+ghost use Rattle.ipc_options.specs.Command.{connections_rule, dir_rule, mode_rule, probe_rule};
+ghost use Rattle.ipc_options.specs.Command.{server_app, spaces_rule, trace_rule};
 ghost use Rattle.ipc_options.specs.Server.{HasOptionsIn, HasOptionsOf};
 ghost use Rattle.ipc_options.specs.Shell.{number_in};
 
@@ -39,7 +41,8 @@ fn server_command<'a>(alloc: Global) -> Result<Command<'a>, AllocError>
         .arg(spaces_option(alloc))?
         .arg(connections_option(alloc))?
         .arg(mode_option(alloc))?
-        .arg(probe_option(alloc))
+        .arg(probe_option(alloc))?
+        .arg(trace_option(alloc))
 }
 
 fn dir_option<'a>(alloc: Global) -> Arg<'a>
@@ -99,6 +102,16 @@ fn probe_option<'a>(alloc: Global) -> Arg<'a>
         .help("Sends one message by two connections of its own")
 }
 
+fn trace_option<'a>(alloc: Global) -> Arg<'a>
+    ensures local { result.global ≡ false }
+    ensures rule { rule_of result ≡ trace_rule }
+{
+    Arg::new(alloc, "trace")
+        .long("trace")
+        .value_name("FILE")
+        .help("Writes each entry of the history to this file, which is made anew")
+}
+
 /// The options, None where one is missing or past its limit.
 fn options_in<'a>(matches: &ArgMatches<'a>) -> Option<ServerOptions<'a>>
     ensures { IfSome result (HasOptionsIn (rows_of (found_of matches.now))) }
@@ -116,11 +129,13 @@ fn options_in<'a>(matches: &ArgMatches<'a>) -> Option<ServerOptions<'a>>
         connections,
         mode,
         probe: flag(matches, "probe"),
+        trace: text(matches, "trace"),
     })
 }
 
 fn text<'a>(matches: &ArgMatches<'a>, id: &str) -> Option<&'a str>
-    ensures { IfSome result (λ text. first_of id.now (rows_of (found_of matches.now)) ≡ Some text.now) }
+    ensures { option_map (λ text. text.now) result
+        ≡ first_of id.now (rows_of (found_of matches.now)) }
 {
     matches.get_str(id)
 }
@@ -171,6 +186,7 @@ mod tests {
         assert_eq!(rt; (options.spaces, options.connections), (64, 65_535));
         assert_eq!(rt; options.mode, OWNER_ONLY);
         assert!(rt; !options.probe);
+        assert_eq!(rt; options.trace, None);
         let words = words_of(
             rt.alloc(),
             &[
@@ -180,18 +196,25 @@ mod tests {
                 "--connections=2",
                 "--mode=660",
                 "--probe",
+                "--trace",
+                "meetings",
             ],
         )?;
         let options = server_options(rt.alloc(), words.as_slice())?;
         assert_eq!(rt; (options.spaces, options.connections), (1, 2));
         assert_eq!(rt; options.mode, 0o660);
         assert!(rt; options.probe);
+        assert_eq!(rt; options.trace, Some("meetings"));
         Ok(())
     }
 
     #[test]
     fn refuses(rt: HostRuntime) -> Result<(), Fail> {
-        let cases: [(&[&str], ErrorKind); 9] = [
+        let cases: [(&[&str], ErrorKind); 10] = [
+            (
+                &["l4d", "--dir", ".", "--spaces", "1", "--trace"],
+                ErrorKind::InvalidValue,
+            ),
             (
                 &["l4d", "--spaces", "1"],
                 ErrorKind::MissingRequiredArgument,

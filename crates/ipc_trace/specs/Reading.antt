@@ -13,8 +13,10 @@ kept text = take (max_line_bytes + 1) text
 
 -- what a read adds to a line
 abbrev pub TakesPiece : Option (List ℕ) → Option (List ℕ) → List ℕ → List ℕ → Option LineEnd → Type 0
-TakesPiece old new before line None = (part : List ℕ) × (line ≡ kept (before ++ part)) × IsOneLine part × Consumes old new part
-TakesPiece old new before line (Some Newline) = (part : List ℕ) × (line ≡ kept (before ++ part)) × IsOneLine part × Consumes old new (ended part)
+TakesPiece old new before line None = (part : List ℕ) × (line ≡ kept (before ++ part)) × IsOneLine part
+    × Consumes old new part
+TakesPiece old new before line (Some Newline) = (part : List ℕ) × (line ≡ kept (before ++ part)) × IsOneLine part
+    × Consumes old new (ended part)
 TakesPiece old new before line (Some Input) = (line ≡ before) × Consumes old new [] × IsAtEnd new
 TakesPiece old new before line (Some Failed) = (line ≡ before) × Consumes old new []
 TakesPiece old new before line (Some NoMemory) = Unit {0}
@@ -22,7 +24,8 @@ TakesPiece old new before line (Some NoMemory) = Unit {0}
 -- what a chunk, of which so many bytes are taken, adds to a line
 abbrev pub Adds : List ℕ → List ℕ → List ℕ → ℕ → Option LineEnd → Type 0
 Adds before line chunk taken None = (line ≡ kept (before ++ take taken chunk)) × IsOneLine (take taken chunk)
-Adds before line chunk taken (Some Newline) = (part : List ℕ) × (take taken chunk ≡ ended part) × (line ≡ kept (before ++ part)) × IsOneLine part
+Adds before line chunk taken (Some Newline) = (part : List ℕ) × (take taken chunk ≡ ended part)
+    × (line ≡ kept (before ++ part)) × IsOneLine part
 Adds before line chunk taken (Some Input) = (line ≡ before) × (taken ≡ 0) × (length chunk ≡ 0)
 Adds before line chunk taken (Some Failed) = ⊥
 Adds before line chunk taken (Some NoMemory) = Unit {0}

@@ -14,7 +14,8 @@ KeepsNoEntry line = (text : List ℕ) → line ≡ kept text → IsNoEntry text
 
 -- the entry of the line is appended, or the reading ends so
 abbrev pub TakesEntry : List Entry → List Entry → List ℕ → Option TraceEnd → Type 0
-TakesEntry old new line None = (entry : Entry) × (new ≡ old ++ entry ∷ []) × (line ≡ entry_text entry) × (length line ≤ max_line_bytes)
+TakesEntry old new line None = (entry : Entry) × (new ≡ old ++ entry ∷ []) × (line ≡ entry_text entry)
+    × (length line ≤ max_line_bytes)
 TakesEntry old new line (Some Whole) = ⊥
 TakesEntry old new line (Some DeviceFailed) = ⊥
 TakesEntry old new line (Some Torn) = ⊥

@@ -29,6 +29,8 @@ Begins known front = IfSome known (λ bytes. (rest : List ℕ) × (bytes ≡ fro
 abbrev pub IsRead : Option (List ℕ) → Option (List ℕ) → List Entry → TraceEnd → Type 0
 IsRead old new entries Whole = Consumes old new (trace_text entries) × IsAtEnd new
 IsRead old new entries DeviceFailed = (torn : List ℕ) × IsOneLine torn × Consumes old new (trace_text entries ++ torn)
-IsRead old new entries Torn = (torn : List ℕ) × IsOneLine torn × (0 < length torn) × Consumes old new (trace_text entries ++ torn) × IsAtEnd new
-IsRead old new entries (BadLine number) = (number ≡ length entries + 1) × ((bad : List ℕ) × IsOneLine bad × IsNoEntry bad × Begins old (trace_text entries ++ ended bad))
+IsRead old new entries Torn = (torn : List ℕ) × IsOneLine torn × (0 < length torn)
+    × Consumes old new (trace_text entries ++ torn) × IsAtEnd new
+IsRead old new entries (BadLine number) = (number ≡ length entries + 1)
+    × ((bad : List ℕ) × IsOneLine bad × IsNoEntry bad × Begins old (trace_text entries ++ ended bad))
 IsRead old new entries NoMemory = Begins old (trace_text entries)

@@ -1,5 +1,6 @@
 //! The lines of a trace, piece by piece.
-ghost use Rattle.std.specs.Prelude.{◌≡◌, ◌≢◌, ◌≤◌, ◌<◌, ◌+◌, ◌++◌, [], Some, None, IsNone, OnOk, length};
+ghost use Rattle.std.specs.Prelude.{◌≡◌, ◌≢◌, ◌≤◌, ◌<◌, ◌+◌, ◌++◌, [], length};
+ghost use Rattle.std.specs.Prelude.{Some, None, IsNone, OnOk};
 ghost use Rattle.std.specs.Io.KnownBytes.{prepend_known};
 ghost use Rattle.ipc_words.specs.Limits.{max_line_bytes};
 ghost use Rattle.ipc_ports.specs.Ports.{most_left};

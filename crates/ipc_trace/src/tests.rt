@@ -72,8 +72,23 @@ fn what_is_put_is_read(rt: HostRuntime) {
     let mut trace = TraceWriter::new(alloc, &mut port);
     assert_eq!(&rt; trace.put(&opened()), Ok(()));
     assert_eq!(&rt; trace.put_text("began 1 2"), Ok(()));
+    assert_eq!(&rt; trace.flush(), Ok(()));
     let text = "opened 1.1 1\nbegan 1 2\n";
     assert_eq!(&rt; port.output(), Some(text.as_bytes()));
+    assert!(&rt; port.is_flushed());
+}
+
+#[test]
+fn a_writer_stops_at_a_flush_that_fails(rt: HostRuntime) {
+    let alloc = rt.alloc();
+    let mut port = MemoryPort::new(alloc, &[]);
+    port = port.with_trouble(1, Trouble::Fails);
+    let mut trace = TraceWriter::new(alloc, &mut port);
+    assert_eq!(&rt; trace.put(&opened()), Ok(()));
+    assert_eq!(&rt; trace.flush(), Err(PutFault::DeviceFailed));
+    assert_eq!(&rt; trace.flush(), Err(PutFault::Stopped));
+    assert_eq!(&rt; trace.put(&opened()), Err(PutFault::Stopped));
+    assert_eq!(&rt; port.output(), Some(b"opened 1.1 1\n".as_slice()));
 }
 
 #[test]

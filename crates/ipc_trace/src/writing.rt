@@ -2,7 +2,7 @@
 ghost use Rattle.std.specs.Prelude.{◌≡◌, ◌↔◌, true, false, Err, OnOk, OnErr, IfOk, IfErr};
 ghost use Rattle.std.specs.String.{string_bytes};
 ghost use Rattle.ipc_lines.specs.Lines.{entry_text};
-ghost use Rattle.ipc_trace.specs.Putting.{FailsInLine, IsNoDevice, PutsLine};
+ghost use Rattle.ipc_trace.specs.Putting.{FailsInLine, FailsToHandOn, HandsOn, IsNoDevice, PutsLine};
 ghost use Rattle.ipc_trace.specs.Traces.{ended};
 
 use crate::fault::PutFault;
@@ -28,6 +28,7 @@ impl<P: PortWrite> Model for TraceWriter<P> {
     ghost view = { λ trace. record {
       written = P.written trace.port;
       failures = P.failures trace.port;
+      is_flushed = P.flushed trace.port;
       is_stopped = trace.is_stopped;
     } };
 }
@@ -35,7 +36,12 @@ impl<P: PortWrite> Model for TraceWriter<P> {
 impl<P: PortWrite> TraceWriter<P> {
     /// A trace behind what the port has.
     pub fn new(alloc: Global, port: P) -> TraceWriter<P>
-        ensures { result ≡ record { written = P.written port; failures = P.failures port; is_stopped = false } }
+        ensures { result ≡ record {
+          written = P.written port;
+          failures = P.failures port;
+          is_flushed = P.flushed port;
+          is_stopped = false;
+        } }
     {
         TraceWriter {
             alloc,
@@ -83,6 +89,29 @@ impl<P: PortWrite> TraceWriter<P> {
         match ended_text(self.alloc, line) {
             Ok(line) => self.put_bytes(line.as_bytes()),
             Err(_) => Err(PutFault::NoMemory),
+        }
+    }
+
+    /// Makes the device hand on what it holds back of the lines.
+    ///
+    /// # Errors
+    ///
+    /// TR1, only where the count of failures rose in this call, and the trace has stopped; TR2.
+    pub fn flush(&mut self) -> Result<(), PutFault>
+        ensures ok { OnOk result (HandsOn self.old self.new) }
+        ensures device { result ≡ Err PutFault.DeviceFailed → FailsToHandOn self.old self.new }
+        ensures stopped { (result ≡ Err PutFault.Stopped) ↔ (self.old.is_stopped ≡ true) }
+        ensures same { IsNoDevice result → self.new ≡ self.old }
+    {
+        if self.is_stopped {
+            return Err(PutFault::Stopped);
+        }
+        let is_handed_on = self.port.flush().is_ok();
+        self.is_stopped = !is_handed_on;
+        if is_handed_on {
+            Ok(())
+        } else {
+            Err(PutFault::DeviceFailed)
         }
     }
 

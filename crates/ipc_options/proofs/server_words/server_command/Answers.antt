@@ -22,4 +22,5 @@ returns c =
     let two = more _ _ _ _ _ c.in_ok-arg-2.ensures c.spaces_option.ensures.local c.spaces_option.ensures.rule one in
     let three = more _ _ _ _ _ c.in_ok-arg-3.ensures c.connections_option.ensures.local c.connections_option.ensures.rule two in
     let four = more _ _ _ _ _ c.in_ok-arg-4.ensures c.mode_option.ensures.local c.mode_option.ensures.rule three in
-    if_ok c.arg-5.result (λ command adds. more _ _ _ _ _ adds c.probe_option.ensures.local c.probe_option.ensures.rule four) c.arg-5.ensures
+    let five = more _ _ _ _ _ c.in_ok-arg-5.ensures c.probe_option.ensures.local c.probe_option.ensures.rule four in
+    if_ok c.arg-6.result (λ command adds. more _ _ _ _ _ adds c.trace_option.ensures.local c.trace_option.ensures.rule five) c.arg-6.ensures

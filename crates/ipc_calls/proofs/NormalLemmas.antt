@@ -9,36 +9,36 @@ use Rattle.ipc_items.specs.Strings.{size_of, AreStrings}
 use Rattle.ipc_items.specs.Buffers.{AreBuffers}
 use Rattle.ipc_items.specs.declared.buffer_list.Substring.{Substring}
 use Rattle.ipc_history.specs.CallParts.{CallParts, is_normal, is_tag_normal, are_buffers}
-use Rattle.ipc_history.specs.Outcomes.{received_tag}
+use Rattle.ipc_words.specs.TagFields.{received_tag}
 use Rattle.ipc_history.proofs.CallLemmas.{are_buffers_passes}
 use Rattle.ipc_frame.specs.Parts.{IpcParts}
 use Rattle.ipc_calls.specs.CallOf.{sends, receives, accepts_strings, period_if, normal_tag, normal_originator, normal_words, normal_call}
 
 -- the fields of the tag
-module _ (label n u : ℕ) (few : u < 64) (fits : 2 * n < 64) where
-  tag_untyped : (p : Bool) → untyped_of (received_tag label p n u) ≡ u
+module _ (tag n : ℕ) (fits : 2 * n < 64) where
+  tag_untyped : (p : Bool) → untyped_of (received_tag tag (2 * n) p) ≡ untyped_of tag
   tag_untyped true = omega arith
   tag_untyped false = omega arith
 
-  tag_typed : (p : Bool) → typed_of (received_tag label p n u) ≡ 2 * n
+  tag_typed : (p : Bool) → typed_of (received_tag tag (2 * n) p) ≡ 2 * n
   tag_typed true = omega arith
   tag_typed false = omega arith
 
-  tag_propagates : (p : Bool) → propagates (received_tag label p n u) ≡ p
-  tag_propagates true = let e : received_tag label true n u / 2 ^ 12 % 2 ≡ 1 = omega arith in rw e refl
-  tag_propagates false = let e : received_tag label false n u / 2 ^ 12 % 2 ≡ 0 = omega arith in rw e refl
+  tag_propagates : (p : Bool) → propagates (received_tag tag (2 * n) p) ≡ p
+  tag_propagates true = let e : received_tag tag (2 * n) true / 2 ^ 12 % 2 ≡ 1 = omega arith in rw e refl
+  tag_propagates false = let e : received_tag tag (2 * n) false / 2 ^ 12 % 2 ≡ 0 = omega arith in rw e refl
 
-  tag_redirects : (p : Bool) → redirects (received_tag label p n u) ≡ false
-  tag_redirects true = let e : received_tag label true n u / 2 ^ 13 % 2 ≡ 0 = omega arith in rw e refl
-  tag_redirects false = let e : received_tag label false n u / 2 ^ 13 % 2 ≡ 0 = omega arith in rw e refl
+  tag_redirects : (p : Bool) → redirects (received_tag tag (2 * n) p) ≡ false
+  tag_redirects true = let e : received_tag tag (2 * n) true / 2 ^ 13 % 2 ≡ 0 = omega arith in rw e refl
+  tag_redirects false = let e : received_tag tag (2 * n) false / 2 ^ 13 % 2 ≡ 0 = omega arith in rw e refl
 
-  tag_crosses : (p : Bool) → crosses (received_tag label p n u) ≡ false
-  tag_crosses true = let e : received_tag label true n u / 2 ^ 14 % 2 ≡ 0 = omega arith in rw e refl
-  tag_crosses false = let e : received_tag label false n u / 2 ^ 14 % 2 ≡ 0 = omega arith in rw e refl
+  tag_crosses : (p : Bool) → crosses (received_tag tag (2 * n) p) ≡ false
+  tag_crosses true = let e : received_tag tag (2 * n) true / 2 ^ 14 % 2 ≡ 0 = omega arith in rw e refl
+  tag_crosses false = let e : received_tag tag (2 * n) false / 2 ^ 14 % 2 ≡ 0 = omega arith in rw e refl
 
-  tag_failed : (p : Bool) → has_failed (received_tag label p n u) ≡ false
-  tag_failed true = let e : received_tag label true n u / 2 ^ 15 % 2 ≡ 0 = omega arith in rw e refl
-  tag_failed false = let e : received_tag label false n u / 2 ^ 15 % 2 ≡ 0 = omega arith in rw e refl
+  tag_failed : (p : Bool) → has_failed (received_tag tag (2 * n) p) ≡ false
+  tag_failed true = let e : received_tag tag (2 * n) true / 2 ^ 15 % 2 ≡ 0 = omega arith in rw e refl
+  tag_failed false = let e : received_tag tag (2 * n) false / 2 ^ 15 % 2 ≡ 0 = omega arith in rw e refl
 
 six : (a b c d e f : Bool) → a ≡ true → b ≡ true → c ≡ true → d ≡ false → e ≡ false → f ≡ false → (a && b && c && not d && not e && not f) ≡ true
 six a b c d e f h1 h2 h3 h4 h5 h6 = rw (h1, h2, h3, h4, h5, h6) refl
@@ -48,23 +48,23 @@ or_true true = refl
 or_true false = refl
 
 -- the tag counts what is there
-tag_normal : (s p : Bool) (label u : ℕ) (words : List ℕ) (strings : List (List ℕ)) → u < 64 → u ≤ length words → u + 2 * length strings ≤ 63 → (s ≡ false → strings ≡ []) →
-    ((untyped_of (if s then received_tag label p (length strings) u else 0) == length (if s then take u words else [])) && (typed_of (if s then received_tag label p (length strings) u else 0) == 2 * length strings) && nat_le (length (if s then take u words else []) + 2 * length strings) 63 && not (redirects (if s then received_tag label p (length strings) u else 0)) && not (crosses (if s then received_tag label p (length strings) u else 0)) && not (has_failed (if s then received_tag label p (length strings) u else 0))) ≡ true
-tag_normal true p label u words strings low there few unsent =
+tag_normal : (s p : Bool) (tag : ℕ) (words : List ℕ) (strings : List (List ℕ)) → untyped_of tag ≤ length words → untyped_of tag + 2 * length strings ≤ 63 → (s ≡ false → strings ≡ []) →
+    ((untyped_of (if s then received_tag tag (2 * length strings) p else 0) == length (if s then take (untyped_of tag) words else [])) && (typed_of (if s then received_tag tag (2 * length strings) p else 0) == 2 * length strings) && nat_le (length (if s then take (untyped_of tag) words else []) + 2 * length strings) 63 && not (redirects (if s then received_tag tag (2 * length strings) p else 0)) && not (crosses (if s then received_tag tag (2 * length strings) p else 0)) && not (has_failed (if s then received_tag tag (2 * length strings) p else 0))) ≡ true
+tag_normal true p tag words strings there few unsent =
     let n = length strings in
-    let taken = length-take-le u words there in
+    let taken = length-take-le (untyped_of tag) words there in
     let fits : 2 * n < 64 = omega arith in
     six _ _ _ _ _ _
-    (eq-eqb _ _ (omega (arith, tag_untyped label n u low fits p, taken)))
-    (eq-eqb _ _ (tag_typed label n u low fits p))
+    (eq-eqb _ _ (omega (arith, tag_untyped tag n fits p, taken)))
+    (eq-eqb _ _ (tag_typed tag n fits p))
     (le-leb _ _ (omega (arith, taken)))
-    (tag_redirects label n u low fits p) (tag_crosses label n u low fits p) (tag_failed label n u low fits p)
-tag_normal false p label u words strings low there few unsent = rw (unsent refl) refl
+    (tag_redirects tag n fits p) (tag_crosses tag n fits p) (tag_failed tag n fits p)
+tag_normal false p tag words strings there few unsent = rw (unsent refl) refl
 
-originator_normal : (s p : Bool) (label n u originator : ℕ) → u < 64 → 2 * n < 64 → (propagates (if s then received_tag label p n u else 0) || ((if s && p then originator else nilthread) == nilthread)) ≡ true
-originator_normal true true label n u originator low fits = rw (tag_propagates label n u low fits true) refl
-originator_normal true false label n u originator low fits = or_true _
-originator_normal false p label n u originator low fits = refl
+originator_normal : (s p : Bool) (tag n originator : ℕ) → 2 * n < 64 → (propagates (if s then received_tag tag (2 * n) p else 0) || ((if s && p then originator else nilthread) == nilthread)) ≡ true
+originator_normal true true tag n originator fits = rw (tag_propagates tag n fits true) refl
+originator_normal true false tag n originator fits = or_true _
+originator_normal false p tag n originator fits = refl
 
 send_normal : (z : Bool) (tag period : ℕ) → (not z || (((if not z then tag else 0) == 0) && ((if not z then period else 0) == 0))) ≡ true
 send_normal true tag period = refl
@@ -84,11 +84,10 @@ all_six a b c d e f h1 h2 h3 h4 h5 h6 = rw (h1, h2, h3, h4, h5, h6) refl
 pub is_normal_call : (ipc : IpcParts) (strings : List (List ℕ)) (buffers : List (List Substring)) → untyped_of ipc.tag ≤ length ipc.words → untyped_of ipc.tag + 2 * length strings ≤ 63 → (sends ipc ≡ false → strings ≡ []) → AreStrings strings → AreBuffers buffers → is_normal (normal_call ipc strings buffers) ≡ true
 unfolding is_normal normal_call
 is_normal_call ipc strings buffers there few unsent are_strings are =
-    let low : untyped_of ipc.tag < 64 = omega arith in
     let fits : 2 * length strings < 64 = omega arith in
     all_six _ _ _ _ _ _
-    (tag_normal (sends ipc) (propagates ipc.tag) (label_of ipc.tag) (untyped_of ipc.tag) ipc.words strings low there few unsent)
-    (originator_normal (sends ipc) (propagates ipc.tag) (label_of ipc.tag) (length strings) (untyped_of ipc.tag) ipc.originator low fits)
+    (tag_normal (sends ipc) (propagates ipc.tag) ipc.tag ipc.words strings there few unsent)
+    (originator_normal (sends ipc) (propagates ipc.tag) ipc.tag (length strings) ipc.originator fits)
     (send_normal (ipc.to == nilthread) _ _)
     (receive_normal (ipc.from == nilthread) (ipc.acceptor % 2 == 1) _ buffers)
     (buffers_normal (accepts_strings ipc) buffers are refl)

@@ -1,7 +1,9 @@
--- The call that an IPC frame spells, in normal form, or its first fault: a time point of a phase that is there, then the string items,
--- then the buffer items. Our choice (docs/FORMATS.md).
-use Rattle.std.specs.Prelude.{ℕ, ◌%◌, ◌==◌, ◌&&◌, ◌||◌, Bool, false, not, nat_lt, List, [], length, take, drop, Option, Some, None, is_none, unwrap_or, Result, Ok, Err, if◌then◌else◌}
-use Rattle.ipc_words.specs.MsgTag.{label_of, untyped_of, propagates}
+-- The call that an IPC frame spells, in normal form, or its first fault: a time point of a phase
+-- that is there, then the string items, then the buffer items. Our choice (docs/FORMATS.md).
+use Rattle.std.specs.Prelude.{ℕ, ◌*◌, ◌%◌, ◌==◌, ◌&&◌, ◌||◌, Bool, false, not, nat_lt, List, []}
+use Rattle.std.specs.Prelude.{length, take, drop, Option, Some, None, is_none, unwrap_or, Result}
+use Rattle.std.specs.Prelude.{Ok, Err, if◌then◌else◌}
+use Rattle.ipc_words.specs.MsgTag.{untyped_of, propagates}
 use Rattle.ipc_words.specs.ThreadId.{nilthread}
 use Rattle.ipc_words.specs.Timeouts.{receive_period, send_period}
 use Rattle.ipc_items.specs.StringItem.{string_reading, buffer_reading}
@@ -9,10 +11,12 @@ use Rattle.ipc_items.specs.declared.buffer_list.Substring.{Substring}
 use Rattle.ipc_items.specs.declared.item_fault.ItemFault.{ItemFault}
 use Rattle.ipc_items.specs.declared.item_fault.ItemFault.TheVariants as item
 use Rattle.ipc_history.specs.CallParts.{CallParts}
-use Rattle.ipc_history.specs.Outcomes.{received_tag}
+use Rattle.ipc_words.specs.TagFields.{received_tag}
 use Rattle.ipc_frame.specs.Parts.{IpcParts}
 use Rattle.ipc_frame.specs.declared.fault.FrameFault.{FrameFault}
-use Rattle.ipc_frame.specs.declared.fault.FrameFault.TheVariants.{PastWords, ReservedBit, OutsidePayload, TooManyBytes, TimePoint, NoMemory}
+use Rattle.ipc_frame.specs.declared.fault.FrameFault.TheVariants.{PastWords, ReservedBit}
+use Rattle.ipc_frame.specs.declared.fault.FrameFault.TheVariants.{OutsidePayload, TooManyBytes}
+use Rattle.ipc_frame.specs.declared.fault.FrameFault.TheVariants.{TimePoint, NoMemory}
 
 -- a fault of items, as a fault of their frame
 abbrev pub of_items : ItemFault → FrameFault
@@ -52,7 +56,7 @@ buffers_in ipc = if accepts_strings ipc then buffer_reading ipc.buffer_words els
 -- in normal form what an absent phase says is left out, r, X and E too, and t counts the strings
 abbrev pub normal_tag : IpcParts → ℕ → ℕ
 normal_tag ipc strings =
-    if sends ipc then received_tag (label_of ipc.tag) (propagates ipc.tag) strings (untyped_of ipc.tag) else 0
+    if sends ipc then received_tag ipc.tag (2 * strings) (propagates ipc.tag) else 0
 
 abbrev pub normal_originator : IpcParts → ℕ
 normal_originator ipc = if sends ipc && propagates ipc.tag then ipc.originator else nilthread

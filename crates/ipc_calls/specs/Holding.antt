@@ -1,5 +1,6 @@
 -- The bytes that a decoder holds of a frame, and what filling them up with a piece does.
-use Rattle.std.specs.Prelude.{◌≡◌, ◌⊎◌, ℕ, ◌+◌, ◌*◌, ◌≤◌, Bool, true, false, min, List, [], ◌++◌, length, take, drop, slice_index, Result, Ok, Err}
+use Rattle.std.specs.Prelude.{◌≡◌, ◌⊎◌, ℕ, ◌+◌, ◌*◌, ◌≤◌, Bool, true, false, min, List, [], ◌++◌}
+use Rattle.std.specs.Prelude.{length, take, drop, slice_index, Result, Ok, Err}
 use Rattle.ipc_words.specs.Limits.{max_buffer_words, max_message_words}
 use Rattle.ipc_frame.specs.Numbers.{IsBytes, number_in, words_in}
 use Rattle.ipc_frame.specs.Parts.{IpcParts, words_of}

@@ -11,11 +11,13 @@ use Rattle.ipc_calls.specs.Hearing.{heard_in, heard_of}
 use Rattle.ipc_calls.specs.Taking.{Decoding, Holds, TakesUp}
 use Rattle.ipc_calls.specs.declared.heard.Heard.{Heard}
 
--- where bytes end inside a frame, what is heard of them and a piece is what was heard, and then what is heard of the rest with the piece
+-- where bytes end inside a frame, what is heard of them and a piece is what was heard, and then
+-- what is heard of the rest with the piece
 abbrev pub FramesAddUp : Type 0
 FramesAddUp = (bytes rest piece : List ℕ)
     → (stream_of Server bytes).end ≡ Rest rest
-    → (heard_in (stream_of Server (bytes ++ piece)) ≡ heard_in (stream_of Server bytes) ++ heard_in (stream_of Server (rest ++ piece)))
+    → (heard_in (stream_of Server (bytes ++ piece))
+    ≡ heard_in (stream_of Server bytes) ++ heard_in (stream_of Server (rest ++ piece)))
     × ((stream_of Server (bytes ++ piece)).end ≡ (stream_of Server (rest ++ piece)).end)
 
 -- a frame that is spelled is heard

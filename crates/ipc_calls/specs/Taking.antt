@@ -1,5 +1,6 @@
 -- A decoder of what the server is sent: what it holds between two pieces, and what it hears of a piece.
-use Rattle.std.specs.Prelude.{◌≡◌, ◌⊎◌, ℕ, ◌-◌, ◌<◌, ◌≤◌, Bool, true, false, List, [], ◌∷◌, ◌++◌, length, drop, Option, Some, None, Result, Ok, Err, IsOk, IsTrue, ⊤}
+use Rattle.std.specs.Prelude.{◌≡◌, ◌⊎◌, ℕ, ◌-◌, ◌<◌, ◌≤◌, Bool, true, false, List, [], ◌∷◌, ◌++◌}
+use Rattle.std.specs.Prelude.{length, drop, Option, Some, None, Result, Ok, Err, IsOk, IsTrue, ⊤}
 use Rattle.ipc_frame.specs.Numbers.{IsBytes}
 use Rattle.ipc_frame.specs.Reading.{Reading, Short, Bad, Whole, reading}
 use Rattle.ipc_frame.specs.declared.fault.FrameFault.{FrameFault}
@@ -35,8 +36,8 @@ abbrev pub answer_of : ℕ → Result Heard FrameFault → Result (ℕ × Option
 answer_of used (Ok heard) = Ok (used, Some heard)
 answer_of used (Err fault) = Err fault
 
--- want of memory may be answered in place of what a frame says: for a call without a time point, where there is a payload (its items
--- aren't looked at then), or where its items have no fault
+-- want of memory may be answered in place of what a frame says: for a call without a time point,
+-- where there is a payload (its items aren't looked at then), or where its items have no fault
 abbrev pub MayLack : Frame → Type 0
 MayLack (Ipc ipc) =
     (has_time_point ipc ≡ false) × ((0 < length ipc.payload) ⊎ (IsOk (call_of ipc) × IsTrue (asks_memory ipc)))
@@ -68,8 +69,8 @@ abbrev pub Finishes : List ℕ → Decoding → Decoding → Result ⊤ FrameFau
 Finishes [] old new result = (result ≡ Ok tt) × (new ≡ old)
 Finishes (byte ∷ bytes) old new result = (result ≡ Err Unfinished) × (new.spent ≡ true)
 
--- what the calls of `take` hear of a piece behind the bytes held, each given what the one before left of it: until all of it is used,
--- or a fault comes
+-- what the calls of `take` hear of a piece behind the bytes held, each given what the one before
+-- left of it: until all of it is used, or a fault comes
 pub data TakesUp : List ℕ → List ℕ → List (Result Heard FrameFault) → Decoding → Type 0 where
   uses_up : (new : Decoding) (bytes piece : List ℕ)
       → Takes bytes piece new (Ok (length piece, None))

@@ -1,9 +1,14 @@
-ghost use Rattle.std.specs.Prelude.{◌≡◌, ◌≢◌, ◌≤◌, ◌<◌, ◌+◌, ◌*◌, ◌↔◌, ◌&&◌, nat_lt, true, false, [], length, Ok, Err, is_some, unwrap_or, IfOk, IfErr, IfSome, IsOk, IsNone, IsOkUnless, IsTrue};
+ghost use Rattle.std.specs.Prelude.{◌≡◌, ◌≢◌, ◌≤◌, ◌<◌, ◌+◌, ◌*◌, ◌↔◌, ◌&&◌, nat_lt, true, false};
+ghost use Rattle.std.specs.Prelude.{[], length, Ok, Err, is_some, unwrap_or, IfOk, IfErr, IfSome};
+ghost use Rattle.std.specs.Prelude.{IsOk, IsNone, IsOkUnless, IsTrue};
 ghost use Rattle.ipc_words.specs.Limits.{max_buffer_words, max_message_words};
 ghost use Rattle.ipc_words.specs.MsgTag.{untyped_of};
 ghost use Rattle.ipc_words.specs.Timeouts.{receive_period, send_period};
 ghost use Rattle.ipc_frame.specs.Parts.{words_of};
-ghost use Rattle.ipc_calls.specs.CallOf.{of_items, sends, receives, accepts_strings, has_time_point, period_if, strings_in, buffers_in, normal_call, normal_tag, normal_words, normal_originator, lists_in, both_lists, call_of, asks_memory};
+ghost use Rattle.ipc_calls.specs.CallOf.{of_items, sends, receives, accepts_strings};
+ghost use Rattle.ipc_calls.specs.CallOf.{has_time_point, period_if, strings_in, buffers_in};
+ghost use Rattle.ipc_calls.specs.CallOf.{normal_call, normal_tag, normal_words, normal_originator};
+ghost use Rattle.ipc_calls.specs.CallOf.{lists_in, both_lists, call_of, asks_memory};
 ghost use Rattle.ipc_calls.specs.Reads.{Reads};
 ghost use Rattle.ipc_items.specs.Buffers.{AreBuffers};
 
@@ -295,9 +300,10 @@ impl IpcHead {
 
 /// The call that an IPC frame spells, in normal form (L4 X.2 manual, Ipc).
 ///
-/// Err in this order: F12, a time point of a phase that is there; F5 to F8, the first fault of the string items, where there is a send
-/// phase; F5 or F6, the first fault of the buffer items, where there is a receive phase that accepts strings; F14, where there is no
-/// memory for copies of words and strings or for the buffer strings.
+/// Err in this order: F12, a time point of a phase that is there; F5 to F8, the first fault of the
+/// string items, where there is a send phase; F5 or F6, the first fault of the buffer items, where
+/// there is a receive phase that accepts strings; F14, where there is no memory for copies of words
+/// and strings or for the buffer strings.
 pub fn call_of(alloc: Global, ipc: &IpcFrame) -> Result<Call, FrameFault>
     ensures ok { IfOk result (λ call. call_of ipc.now ≡ Ok call) }
     ensures fault { IfErr (call_of ipc.now) (λ fault. result ≡ Err fault) }

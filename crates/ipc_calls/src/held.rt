@@ -1,9 +1,11 @@
-ghost use Rattle.std.specs.Prelude.{◌≡◌, ◌<◌, ◌≤◌, ◌+◌, ◌*◌, ◌^◌, ◌++◌, ◌==◌, ℕ, List, [], length, take, drop, OnErr, OnOk, if◌then◌else◌};
+ghost use Rattle.std.specs.Prelude.{◌≡◌, ◌<◌, ◌≤◌, ◌+◌, ◌*◌, ◌^◌, ◌++◌, ◌==◌, ℕ, List, [], length};
+ghost use Rattle.std.specs.Prelude.{take, drop, OnErr, OnOk, if◌then◌else◌};
 ghost use Rattle.ipc_frame.specs.Numbers.{IsBytes, number_in, words_in};
 ghost use Rattle.ipc_frame.specs.Parts.{IpcParts};
 ghost use Rattle.ipc_calls.specs.CallOf.{call_of, asks_memory, has_time_point};
 ghost use Rattle.ipc_calls.specs.Reads.{Reads};
-ghost use Rattle.ipc_calls.specs.Holding.{Keeps, ForGone, AreGone, IsWhole, TellsOf, IpcAt, FrameAt, HearsOf, head_in, max_start, start_size};
+ghost use Rattle.ipc_calls.specs.Holding.{Keeps, ForGone, AreGone, IsWhole, TellsOf, IpcAt};
+ghost use Rattle.ipc_calls.specs.Holding.{FrameAt, HearsOf, head_in, max_start, start_size};
 
 use crate::calls::IpcHead;
 use crate::heard::Heard;

@@ -10,8 +10,9 @@ pub fn a_frame_is_heard()
     ensures { FrameIsHeard }
 {}
 
-/// What the calls of [`take`](crate::CallDecoder::take) hear of a piece, each given what the one before left of it, is what the piece says
-/// behind the bytes held, up to the first fault, however the stream is cut; want of memory may cut it short.
+/// What the calls of [`take`](crate::CallDecoder::take) hear of a piece, each given what the one
+/// before left of it, is what the piece says behind the bytes held, up to the first fault, however
+/// the stream is cut; want of memory may cut it short.
 pub fn a_piece_is_heard()
     ensures { PieceIsHeard }
 {}

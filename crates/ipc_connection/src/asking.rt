@@ -1,7 +1,7 @@
 ghost use Rattle.std.specs.Prelude.{◌≡◌, Ok};
 ghost use Rattle.ipc_connection.specs.Asking.{asks};
 
-use crate::fault::{FRAME, OUT_OF_PLACE, SESSION, fault_number};
+use crate::fault::{FRAME, OUT_OF_PLACE, SESSION};
 use crate::stage::Stage;
 use ipc_calls::Heard;
 use ipc_frame::FrameFault;
@@ -44,7 +44,7 @@ pub fn asks(stage: Stage, heard: Result<Heard, FrameFault>) -> Request
             Stage::Serving(thread) => served(thread, said),
             Stage::Finished => Request::Nothing,
         },
-        Err(fault) => Request::Refuse(FRAME, fault_number(fault)),
+        Err(fault) => Request::Refuse(FRAME, fault.number()),
     }
 }
 

@@ -7,7 +7,7 @@ mod replying;
 mod stage;
 
 pub use asking::{Request, asks};
-pub use fault::{BUSY, FRAME, GONE, KERNEL, OUT_OF_PLACE, SESSION, fault_number};
+pub use fault::{BUSY, FRAME, GONE, KERNEL, OUT_OF_PLACE, SESSION};
 pub use replying::{Told, next_stage, posted, reply, thread_left};
 pub use stage::Stage;
 

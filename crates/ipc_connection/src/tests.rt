@@ -26,7 +26,7 @@ fn a_connection_greets_is_served_and_ends(rt: HostRuntime) -> Result<(), Fail> {
 
 #[test]
 fn a_fault_is_told_by_its_number(rt: HostRuntime) -> Result<(), Fail> {
-    assert_eq!(rt; fault_number(FrameFault::NoMemory), 14);
+    assert_eq!(rt; FrameFault::NoMemory.number(), 14);
     let asked = asks(Stage::Greeting, Err(FrameFault::Unfinished));
     assert_eq!(rt; matches!(asked, Request::Refuse(FRAME, 9)), true);
     Ok(())

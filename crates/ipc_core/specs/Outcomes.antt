@@ -1,6 +1,5 @@
 -- Which outcomes are to be taken, how many were, and whose calls the last command finished.
 use Rattle.std.specs.Prelude.{ℕ, List, Bool, false, not, ◌&&◌, ◌||◌, ◌==◌, Option, None, is_some, if◌then◌else◌, take, IsTrue}
-use Rattle.std.specs.List.{list_any}
 use Rattle.std.specs.Option.{option_map_or}
 use Rattle.ipc_history.specs.Calls.{caller_of, is_called}
 use Rattle.ipc_history.specs.Threads.{is_live}
@@ -9,11 +8,8 @@ use Rattle.ipc_history.specs.Outcomes.{OutcomeParts}
 use Rattle.ipc_history.specs.declared.entry.Entry.{Entry}
 use Rattle.ipc_desks.specs.CallsOf as calls
 use Rattle.ipc_desks.specs.CallsOf.{last_call}
+pub use Rattle.ipc_desks.specs.CallsOf.{is_among}
 use Rattle.ipc_core.specs.KernelParts.{KernelParts}
-
--- a number is one of these
-abbrev pub is_among : ℕ → List ℕ → Bool
-is_among n numbers = list_any (λ k. k == n) numbers
 
 -- the outcome of a call is still to be taken, once it is over: its caller lives, and it was not taken
 unfoldable pub is_untaken : KernelParts → ℕ → Bool

@@ -2,25 +2,18 @@
 use Rattle.std.specs.Prelude.{ℕ, List, Bool, false, not, ◌==◌, Option, Some, None, if◌then◌else◌, count_by, option_and_then}
 use Rattle.std.specs.List.{list_any}
 use Rattle.std.specs.Option.{option_map_or}
-use Rattle.ipc_history.specs.Words.{last_some}
+pub use Rattle.ipc_history.specs.Entries.{number_by}
+unfoldable pub use Rattle.ipc_history.specs.Calls.{last_call}
 use Rattle.ipc_history.specs.Calls.{caller_of}
 use Rattle.ipc_history.specs.Outcomes.{OutcomeParts, outcome_of}
 use Rattle.ipc_history.specs.declared.entry.Entry.{Entry}
 use Rattle.ipc_history.specs.declared.entry.Entry.TheVariants.{Given}
 use Rattle.ipc_history.specs.declared.entry.Input.TheVariants.{Called}
 
--- an entry by which a thread makes a call, and the number of that call
+-- an entry by which a thread makes a call
 abbrev pub calls_by : ℕ → Entry → Bool
 calls_by thread (Given (Called n caller call)) = caller == thread
 calls_by thread _ = false
-
-abbrev pub number_by : ℕ → Entry → Option ℕ
-number_by thread (Given (Called n caller call)) = (if caller == thread then Some n else None)
-number_by thread _ = None
-
--- the last call that a thread made
-unfoldable pub last_call : List Entry → ℕ → Option ℕ
-last_call H thread = last_some (number_by thread) H
 
 -- how many calls a thread made
 unfoldable pub made_by : List Entry → ℕ → ℕ

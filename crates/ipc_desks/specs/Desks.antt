@@ -7,6 +7,7 @@ use Rattle.ipc_history.specs.Calls.{is_called, to_of, buffers_of}
 use Rattle.ipc_history.specs.Phases.{is_over, is_sent}
 use Rattle.ipc_history.specs.Outcomes.{outcome_of}
 use Rattle.ipc_history.specs.declared.entry.Entry.{Entry}
+pub use Rattle.ipc_laws.specs.Laws.{one_if}
 use Rattle.ipc_slots.specs.Slots.{live_of}
 use Rattle.ipc_desks.specs.CallsOf.{last_call, made_by, taken_by, is_among, is_busy}
 use Rattle.ipc_desks.specs.Messages.{MessageParts, message_of}
@@ -43,9 +44,6 @@ desk_of H taken k = option_map_or (thread_desk H taken) (live_of H k) blank_desk
 -- the desk at a place; a blank one past the end
 abbrev pub desk_at : List Desk → ℕ → Desk
 desk_at desks k = slice_index_or desks k blank_desk
-
-abbrev pub one_if : Bool → ℕ
-one_if b = (if b then 1 else 0)
 
 -- the desks are those of the history, where the outcomes of these calls were taken; only outcomes of calls that were over were
 -- taken, and of each thread no more than it made calls

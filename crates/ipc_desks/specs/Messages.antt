@@ -1,12 +1,13 @@
 -- The copy of a message that is handed to its receiver.
 use Rattle.std.specs.Prelude.{ℕ, ◌+◌, ◌*◌, ◌≤◌, List, [], ◌++◌, Bool, ◌&&◌, ◌==◌, length, unwrap_or, if◌then◌else◌}
-use Rattle.ipc_words.specs.MsgTag.{label_of, untyped_of, propagates}
+use Rattle.ipc_words.specs.MsgTag.{propagates}
+use Rattle.ipc_words.specs.TagFields.{received_tag}
 use Rattle.ipc_words.specs.ThreadId.{nilthread}
 use Rattle.ipc_items.specs.Pieces.{simple_items}
 use Rattle.ipc_items.specs.declared.buffer_list.Substring.{Substring}
 use Rattle.ipc_history.specs.CallParts.{CallParts}
 use Rattle.ipc_history.specs.Calls.{tag_of, originator_of, words_of, strings_of}
-use Rattle.ipc_history.specs.Outcomes.{OutcomeParts, received_tag}
+use Rattle.ipc_history.specs.Outcomes.{OutcomeParts}
 use Rattle.ipc_history.specs.declared.entry.Entry.{Entry}
 
 -- a message: its tag, its VirtualSender, its untyped words, and its strings
@@ -43,7 +44,7 @@ is_shown message shown = propagates message.tag && (message.originator == shown)
 abbrev pub delivered : ℕ → MessageParts → ℕ → ℕ → List (List Substring) → OutcomeParts
 delivered m message caller shown buffers = record {
   call = m;
-  tag = received_tag (label_of message.tag) (is_shown message shown) (length message.strings) (untyped_of message.tag);
+  tag = received_tag message.tag (2 * length message.strings) (is_shown message shown);
   sender = shown;
   actual = if is_shown message shown then caller else nilthread;
   error = 0;

@@ -1,4 +1,5 @@
 ghost use Rattle.std.specs.Prelude.{◌≡◌, ◌≤◌, [], ◌++◌, length, unwrap_or, IfOk};
+ghost use Rattle.ipc_words.specs.Limits.{max_strings};
 ghost use Rattle.ipc_items.specs.Pieces.{simple_items};
 ghost use Rattle.ipc_desks.specs.Messages.{MessageParts, PreparedParts, message_in, prepared};
 
@@ -63,7 +64,7 @@ impl Message {
     /// How many strings there are.
     pub(crate) fn string_count(&self) -> usize
         ensures count { result ≡ length self.now.strings }
-        ensures within { length self.now.strings ≤ 31 }
+        ensures within { length self.now.strings ≤ max_strings }
     {
         self.strings.len()
     }

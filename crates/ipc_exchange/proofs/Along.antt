@@ -14,7 +14,8 @@ use Rattle.ipc_connection.specs.declared.replying.Told.{Told}
 use Rattle.ipc_core.specs.Outcomes.{outcome_to_take}
 use Rattle.ipc_connection.specs.declared.stage.Stage.{Stage}
 use Rattle.ipc_connection.specs.declared.stage.Stage.TheVariants.{Greeting, Serving, Finished}
-use Rattle.ipc_exchange.specs.Service.{Line, ServiceParts, delivered, delivered_to, line_at, outcome_at, place_of, thread_numbers, told_outcome, without_outcome}
+use Rattle.ipc_words.specs.Limits.{table_slots}
+use Rattle.ipc_exchange.specs.Service.{Line, ServiceParts, delivered, delivered_to, line_at, outcome_at, place_of, told_outcome, without_outcome}
 use Rattle.ipc_exchange.specs.Serving.{Asked, Does, Leaves, Memory, ObeysIn, Serves, ServesAll, ServesBy, Tells, told_of}
 use Rattle.ipc_exchange.specs.Events.{Commands, Event, ExchangeParts, Happens, HappenAll}
 use Rattle.ipc_exchange.specs.Events.{Connect, Piece, Finish, Reading, Copy}
@@ -42,7 +43,7 @@ module _
 
     delivered_along : (lines : List Line) (kernel : KernelParts) → R kernel [] (delivered kernel lines).kernel
     unfolding delivered
-    delivered_along lines kernel = delivered_to_along thread_numbers (record { kernel = kernel; lines = lines })
+    delivered_along lines kernel = delivered_to_along table_slots (record { kernel = kernel; lines = lines })
 
     stays : (H K : KernelParts) (asked : List Asked) → asked ≡ [] → K ≡ H → R H asked K
     stays H K asked nothing same = subst (λ a. R H a K) (sym nothing) (subst (λ k. R H [] k) (sym same) (none H))

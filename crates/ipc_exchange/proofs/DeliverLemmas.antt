@@ -18,7 +18,8 @@ use Rattle.ipc_core.specs.declared.command.Answer.{Answer}
 use Rattle.ipc_core.specs.declared.command.Command.TheVariants.{Take}
 use Rattle.ipc_connection.specs.declared.stage.Stage.{Stage}
 use Rattle.ipc_connection.specs.declared.stage.Stage.TheVariants.{Greeting, Serving, Finished}
-use Rattle.ipc_exchange.specs.Service.{Line, ServiceParts, delivered, delivered_to, line_at, nobody, outcome_at, place_of, serves_number, thread_numbers, told_outcome, with_outcome, without_outcome}
+use Rattle.ipc_words.specs.Limits.{table_slots}
+use Rattle.ipc_exchange.specs.Service.{Line, ServiceParts, delivered, delivered_to, line_at, nobody, outcome_at, place_of, serves_number, told_outcome, with_outcome, without_outcome}
 use Rattle.ipc_exchange.specs.Slots.{HasRoom, IsPlaced, LineSlots, Ready, ServiceSlots, StaysReady, lines_of, service_of, slot_at, stage_at}
 use Rattle.ipc_core.proofs.IdleLaws.{idle_has_nothing}
 use Rattle.ipc_exchange.proofs.KernelLaws.{taken_is_idle}
@@ -175,7 +176,7 @@ pub deliver_more : (s now next : ServiceSlots) (number : ℕ) → service_of now
 unfolding delivered_to
 deliver_more s now next number before told = rw add-one (told ∙ ap (λ (p : ServiceParts). told_outcome (place_of number p.lines) p) before)
 
-pub deliver_end : (s now : ServiceSlots) (number : ℕ) → service_of now ≡ delivered_to number (service_of s) → number ≡ thread_numbers → service_of now ≡ delivered (rested s.kernel) (lines_of s.slots)
+pub deliver_end : (s now : ServiceSlots) (number : ℕ) → service_of now ≡ delivered_to number (service_of s) → number ≡ table_slots → service_of now ≡ delivered (rested s.kernel) (lines_of s.slots)
 unfolding delivered
 deliver_end s now number before all = before ∙ ap (λ n. delivered_to n (service_of s)) all
 
@@ -208,5 +209,5 @@ any_default [] i x within e = absurd (omega (arith, within))
 any_default (y ∷ xs) zero x within e = e
 any_default (y ∷ xs) (suc i) x within e = any_default xs i x (omega (arith, within)) e
 
-pub table_read : (s : ServiceSlots) (number x : ℕ) → Ready s → number < thread_numbers → x ≡ slice_index_or s.table number x → x ≡ slice_index_or s.table number 0
+pub table_read : (s : ServiceSlots) (number x : ℕ) → Ready s → number < table_slots → x ≡ slice_index_or s.table number x → x ≡ slice_index_or s.table number 0
 table_read s number x ready within e = any_default s.table number x (rw ready.table within) e

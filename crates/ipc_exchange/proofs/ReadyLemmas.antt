@@ -19,7 +19,7 @@ use Rattle.ipc_connection.specs.declared.stage.Stage.{Stage}
 use Rattle.ipc_connection.specs.declared.stage.Stage.TheVariants.{Greeting, Serving, Finished}
 use Rattle.ipc_connection.specs.declared.replying.Told.{Told}
 use Rattle.ipc_connection.specs.declared.replying.Told.TheVariants as tells
-use Rattle.ipc_exchange.specs.Service.{thread_numbers}
+use Rattle.ipc_words.specs.Limits.{table_slots}
 use Rattle.ipc_exchange.specs.Slots.{is_call_of, ArePlaced, HasRoom, MayGet, IsFresh, IsPlaced, LineSlots, NoneServes, Ready, ReadyBut, ServiceSlots, SuitsStage, no_slots, slot_at, stage_at, table_told}
 use Rattle.ipc_exchange.proofs.KernelLaws.{idle_stays}
 use Rattle.ipc_exchange.proofs.LiveLemmas.{has_opened, is_break_of, live_stays}
@@ -185,7 +185,7 @@ module _ (s : ServiceSlots) (place : ℕ) (slot : LineSlots) (within : place < l
     here_placed (tells.Faulted class number) fresh t e = absurd cc
     here_placed tells.Left fresh t e = absurd cc
 
-    table_length : (told : Told) → length (table_told told place s.table) ≡ thread_numbers
+    table_length : (told : Told) → length (table_told told place s.table) ≡ table_slots
     table_length (tells.Opened thread) = length-set s.table (number_of thread) (suc place) ∙ ready.table
     table_length tells.Entered = ready.table
     table_length (tells.Exchanged result control code) = ready.table

@@ -10,7 +10,8 @@ use Rattle.ipc_connection.specs.Replying.{next_stage}
 use Rattle.ipc_connection.specs.declared.stage.Stage.{Stage}
 use Rattle.ipc_connection.specs.declared.stage.Stage.TheVariants.{Greeting, Serving, Finished}
 use Rattle.ipc_calls.specs.declared.heard.Heard.{Heard}
-use Rattle.ipc_exchange.specs.Service.{Line, ServiceParts, delivered, delivered_to, line_at, place_of, thread_numbers, told_line}
+use Rattle.ipc_words.specs.Limits.{table_slots}
+use Rattle.ipc_exchange.specs.Service.{Line, ServiceParts, delivered, delivered_to, line_at, place_of, told_line}
 use Rattle.ipc_exchange.specs.Serving.{Asked, Memory, Serves, ServesAll, ServesBy, Tells}
 
 -- a line with the stage of the one that it replaces
@@ -29,7 +30,7 @@ delivered_to_stage (suc number) service place = set_stage (delivered_to number s
 -- outcomes change no stage
 pub delivered_stage : (lines : List Line) (kernel : KernelParts) (place : ℕ) → (line_at (delivered kernel lines).lines place).stage ≡ (line_at lines place).stage
 unfolding delivered
-delivered_stage lines kernel place = delivered_to_stage thread_numbers (record { kernel = kernel; lines = lines }) place
+delivered_stage lines kernel place = delivered_to_stage table_slots (record { kernel = kernel; lines = lines }) place
 
 -- a finished line in a place
 set_finished : (lines : List Line) (place : ℕ) (line : Line) → line.stage ≡ Finished → (line_at (slice_set lines place line) place).stage ≡ Finished

@@ -56,7 +56,3 @@ pub record ClosesLine (old : ServiceParts) (place : ℕ) (bytes : List ℕ) (new
 
 abbrev pub progress_of : Stage → Progress
 progress_of stage = (if has_finished stage then progress.Finished else progress.Running)
-
--- how many connections there may be
-abbrev pub max_connections : ℕ
-max_connections = 65535  -- limit

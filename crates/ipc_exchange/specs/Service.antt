@@ -1,6 +1,7 @@
 -- A service: one kernel, and the lines of the connections, each with its space, its stage and the bytes that it has to put out.
 use Rattle.std.specs.Prelude.{ℕ, zero, suc, Bool, false, ◌==◌, List, [], ◌∷◌, ◌++◌, drop, Option, Some, None, slice_index_or, slice_set, option_map}
 use Rattle.std.specs.List.{position_or_len}
+use Rattle.ipc_words.specs.Limits.{table_slots}
 use Rattle.ipc_words.specs.ThreadId.{number_of}
 use Rattle.ipc_history.specs.Outcomes.{OutcomeParts}
 use Rattle.ipc_frame.specs.Frames.{spelling}
@@ -91,10 +92,6 @@ delivered_to zero service = service
 delivered_to (suc number) service =
     told_outcome (place_of number (delivered_to number service).lines) (delivered_to number service)
 
--- thread numbers are below this one
-abbrev pub thread_numbers : ℕ
-thread_numbers = 256  -- limit
-
 -- each thread's line is told the outcome that the thread may take
 unfoldable pub delivered : KernelParts → List Line → ServiceParts
-delivered kernel lines = delivered_to thread_numbers (record { kernel = kernel; lines = lines })
+delivered kernel lines = delivered_to table_slots (record { kernel = kernel; lines = lines })

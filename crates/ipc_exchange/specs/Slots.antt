@@ -1,5 +1,6 @@
 -- The lines of a service with their room: how many more answers each can hold without memory.
 use Rattle.std.specs.Prelude.{◌≡◌, ◌≢◌, ℕ, suc, ◌<◌, ◌≤◌, Bool, false, ◌==◌, List, length, map, slice_index_or, slice_set, IsTrue, ⊤, Result, Ok, Err}
+use Rattle.ipc_words.specs.Limits.{table_slots}
 use Rattle.ipc_words.specs.ThreadId.{number_of}
 use Rattle.ipc_frame.specs.declared.fault.FrameFault.{FrameFault}
 use Rattle.ipc_calls.specs.declared.heard.Heard.{Heard}
@@ -7,6 +8,7 @@ use Rattle.ipc_calls.specs.declared.heard.Heard.TheVariants as heard
 use Rattle.ipc_history.specs.Threads.{is_live}
 use Rattle.ipc_core.specs.KernelParts.{KernelParts}
 use Rattle.ipc_core.specs.Laws.{IsSound}
+pub use Rattle.ipc_core.specs.Laws.{is_call_of}
 use Rattle.ipc_core.specs.Obeying.{rested}
 use Rattle.ipc_core.specs.Outcomes.{is_busy}
 use Rattle.ipc_core.specs.declared.command.Command.{Command}
@@ -17,7 +19,7 @@ use Rattle.ipc_connection.specs.declared.replying.Told.{Told}
 use Rattle.ipc_connection.specs.declared.replying.Told.TheVariants.{Opened, Entered, Exchanged, Refused, Faulted, Left}
 use Rattle.ipc_connection.specs.declared.stage.Stage.{Stage}
 use Rattle.ipc_connection.specs.declared.stage.Stage.TheVariants.{Greeting, Serving}
-use Rattle.ipc_exchange.specs.Service.{Line, ServiceParts, nobody, thread_numbers}
+use Rattle.ipc_exchange.specs.Service.{Line, ServiceParts, nobody}
 
 -- a line, and how many more answers it can hold without memory
 pub record LineSlots : Type 0 where
@@ -54,7 +56,7 @@ pub record HasRoom (kernel : KernelParts) (slot : LineSlots) : Type 0 where
 -- the thread of the line in a place is live, and the table names the line
 pub record IsPlaced (kernel : KernelParts) (table : List ℕ) (place thread : ℕ) : Type 0 where
   pub live : IsTrue (is_live kernel.history thread)
-  pub within : number_of thread < thread_numbers
+  pub within : number_of thread < table_slots
   pub found : slice_index_or table (number_of thread) 0 ≡ suc place
 
 -- and so the thread of each line
@@ -66,20 +68,20 @@ ArePlaced kernel table slots =
 pub record ReadyBut (but : ℕ) (service : ServiceSlots) : Type 0 where
   pub sound : IsSound service.kernel
   pub placed : ArePlaced service.kernel service.table service.slots
-  pub table : length service.table ≡ thread_numbers
+  pub table : length service.table ≡ table_slots
   pub room : (place : ℕ) → place ≢ but → HasRoom service.kernel (slot_at service.slots place)
 
 -- what is true of a service between commands
 pub record Ready (service : ServiceSlots) : Type 0 where
   pub sound : IsSound service.kernel
   pub placed : ArePlaced service.kernel service.table service.slots
-  pub table : length service.table ≡ thread_numbers
+  pub table : length service.table ≡ table_slots
   pub room : (place : ℕ) → HasRoom service.kernel (slot_at service.slots place)
 
 -- a thread that the line in a place may get: it is live, and no other line has its number
 pub record IsFresh (kernel : KernelParts) (slots : List LineSlots) (place thread : ℕ) : Type 0 where
   pub live : IsTrue (is_live kernel.history thread)
-  pub within : number_of thread < thread_numbers
+  pub within : number_of thread < table_slots
   pub alone : (other rival : ℕ) → other ≢ place → stage_at slots other ≡ Serving rival
       → number_of rival ≢ number_of thread
 
@@ -104,11 +106,6 @@ table_told Left place table = table
 -- no line serves the thread
 abbrev pub NoneServes : List LineSlots → ℕ → Type 0
 NoneServes slots thread = (place : ℕ) → stage_at slots place ≢ Serving thread
-
--- the command is a call of the thread
-abbrev pub is_call_of : ℕ → Command → Bool
-is_call_of thread (Enter caller call) = caller == thread
-is_call_of thread _ = false
 
 -- a command that a line at a stage may ask for: a call is of its own thread
 abbrev pub SuitsStage : Stage → Command → Type 0

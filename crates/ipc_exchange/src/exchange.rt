@@ -1,10 +1,10 @@
 ghost use Rattle.std.specs.Prelude.{◌≡◌, ◌<◌, ◌≤◌, ◌+◌, ℕ, [], false, length, min, take, drop, nat_le, if◌then◌else◌};
 ghost use Rattle.std.specs.Prelude.{IfOk, IfErr, OnErr};
-ghost use Rattle.ipc_words.specs.Limits.{max_calls, max_entries};
+ghost use Rattle.ipc_words.specs.Limits.{max_calls, max_connections, max_entries};
 ghost use Rattle.ipc_exchange.specs.Service.{line_at, without_bytes};
 ghost use Rattle.ipc_exchange.specs.Slots.{service_of, stage_at};
 ghost use Rattle.ipc_exchange.specs.Events.{Connect, Copy, ExchangeParts, Finish, Piece, Reading, empty_exchange};
-ghost use Rattle.ipc_exchange.specs.Exchange.{Happened, Shows, max_connections, progress_of};
+ghost use Rattle.ipc_exchange.specs.Exchange.{Happened, Shows, progress_of};
 
 use crate::feeding::{close_line, feed_line};
 use crate::progress::{ConnectRefused, Progress};
@@ -12,11 +12,9 @@ use crate::put::Put;
 use crate::service::Service;
 use ipc_calls::CallDecoder;
 use ipc_core::Limits;
+use ipc_words::limits::MAX_CONNECTIONS;
 use std::alloc::{AllocError, Global};
 use std::marker::Model;
-
-/// The most connections of one exchange.
-const MAX_CONNECTIONS: usize = 65_535;
 
 /// Many connections over pieces of bytes, and one kernel. Connections are numbered from 1 on.
 #[derive(Drop)]
@@ -61,7 +59,7 @@ impl Exchange {
         ensures err { OnErr result (self.new ≡ self.old) }
     {
         let count = self.service.len();
-        if count >= MAX_CONNECTIONS {
+        if count >= MAX_CONNECTIONS as usize {
             return Err(ConnectRefused::TooMany);
         }
         let Ok(()) = self.decoders.reserve(1) else {

@@ -1,6 +1,6 @@
 ghost use Rattle.std.specs.Prelude.{◌≡◌, ◌<◌, ◌≤◌, ◌+◌, ℕ, [], false, List, length, min, take, drop, slice_set, IfOk, IfSome, OnOk, OnErr};
 ghost use Rattle.ipc_words.specs.ThreadId.{number_of};
-ghost use Rattle.ipc_words.specs.Limits.{max_calls, max_entries};
+ghost use Rattle.ipc_words.specs.Limits.{max_calls, max_entries, table_slots};
 ghost use Rattle.ipc_core.specs.Laws.{IsSound};
 ghost use Rattle.ipc_core.specs.Obeying.{MayObey, empty_kernel, broke_answer, rested};
 ghost use Rattle.ipc_core.specs.declared.command.Answer.{Answer};
@@ -8,7 +8,7 @@ ghost use Rattle.ipc_core.specs.declared.command.Answer.TheVariants as answer;
 ghost use Rattle.ipc_core.specs.declared.command.Command.TheVariants as command;
 ghost use Rattle.ipc_connection.specs.Replying.{next_stage, thread_left};
 ghost use Rattle.ipc_exchange.specs.Feeding.{has_finished};
-ghost use Rattle.ipc_exchange.specs.Service.{delivered, line_at, place_of, thread_numbers, told_line, told_outcome, with_line, without_bytes};
+ghost use Rattle.ipc_exchange.specs.Service.{delivered, line_at, place_of, told_line, told_outcome, with_line, without_bytes};
 ghost use Rattle.ipc_exchange.specs.Serving.{Asked, Does, DoesAlone, Leaves, MayLack, Serves, ServesBy, Tells, told_of};
 ghost use Rattle.ipc_exchange.specs.Slots.{CanAsk, CanDo, CanServe, CanTell, NoneServes, Ready, StaysReady, lines_of, service_of, slot_at, stage_at, table_told};
 
@@ -20,6 +20,7 @@ use ipc_connection::{Request, Stage, Told, asks, next_stage, thread_left};
 use ipc_core::{Advance, Command, Kernel, Limits, NoThread};
 use ipc_frame::FrameFault;
 use ipc_words::ThreadId;
+use ipc_words::limits::TABLE_SLOTS;
 use std::alloc::{AllocError, Global};
 use std::marker::Model;
 
@@ -47,7 +48,7 @@ impl Service {
         ensures ready { IfOk result (λ service. Ready service) }
         ensures none { IfOk result (λ service. service.slots ≡ []) }
     {
-        let table = vec![in alloc; 0; THREAD_NUMBERS]?;
+        let table = vec![in alloc; 0; TABLE_SLOTS]?;
         let Ok(kernel) = Kernel::new(alloc, limits) else {
             return Err(AllocError);
         };
@@ -305,14 +306,14 @@ impl Service {
         ensures told { service_of self.new ≡ delivered (rested self.old.kernel) (lines_of self.old.slots) }
         ensures ready { StaysReady self.old self.new }
     {
-        for number in 0..THREAD_NUMBERS {
+        for number in 0..TABLE_SLOTS {
             self.deliver_number(number);
         }
     }
 
     fn deliver_number(&mut self, number: usize)
         requires ready { Ready self.old }
-        requires within { number < thread_numbers }
+        requires within { number < table_slots }
         ensures told { service_of self.new ≡ told_outcome (place_of number (lines_of self.old.slots)) (service_of self.old) }
         ensures ready { StaysReady self.old self.new }
     {
@@ -325,7 +326,7 @@ impl Service {
     /// The place of the line whose thread has a number; past the end where there is none.
     fn place_of(&self, number: usize) -> usize
         requires ready { Ready self.now }
-        requires within { number < thread_numbers }
+        requires within { number < table_slots }
         ensures { result ≡ place_of number (lines_of self.now.slots) }
     {
         let none = self.lines.len();
@@ -360,6 +361,3 @@ impl Service {
         }
     }
 }
-
-/// Thread numbers are below this one.
-const THREAD_NUMBERS: usize = 256;

@@ -1,5 +1,6 @@
 -- What decoding answers.
-use Rattle.std.specs.Prelude.{◌≡◌, ℕ, ◌+◌, Bool, true, false, ◌≤◌, ◌<◌, List, ◌++◌, length, drop, sum, Option, Some, None, Result, Ok, Err, ◌⊎◌}
+use Rattle.std.specs.Prelude.{◌≡◌, ℕ, ◌+◌, Bool, true, false, ◌≤◌, ◌<◌, List, ◌++◌, length, drop}
+use Rattle.std.specs.Prelude.{sum, Option, Some, None, Result, Ok, Err, ◌⊎◌}
 use Rattle.ipc_frame.specs.declared.fault.FrameFault.{FrameFault}
 use Rattle.ipc_frame.specs.declared.fault.FrameFault.TheVariants.{Unfinished, NoMemory}
 use Rattle.ipc_frame.specs.declared.kind.FrameKind.{FrameKind}
@@ -46,7 +47,8 @@ Feeds stream frames decoder (Err fault) = StopsAt stream frames fault × (decode
 -- one step over bytes: their first frame is taken behind the others, or there is no whole one
 abbrev pub TakesFrame : Side → List ℕ → Stream → List Frame → Result (Option ℕ) FrameFault → Type 0
 TakesFrame side bytes stream frames (Ok None) = stream ≡ stream_at frames bytes
-TakesFrame side bytes stream frames (Ok (Some n)) = (stream ≡ put_front frames (stream_of side (drop n bytes))) × (0 < n) × (n ≤ length bytes)
+TakesFrame side bytes stream frames (Ok (Some n)) =
+    (stream ≡ put_front frames (stream_of side (drop n bytes))) × (0 < n) × (n ≤ length bytes)
 TakesFrame side bytes stream frames (Err fault) = StopsAt stream frames fault
 
 -- all steps: the frames, and where the next one would begin

@@ -1,7 +1,12 @@
 -- The numbers of the faults, as FAULT frames carry them.
 use Rattle.std.specs.Prelude.{ℕ}
 use Rattle.ipc_frame.specs.declared.fault.FrameFault.{FrameFault}
-use Rattle.ipc_frame.specs.declared.fault.FrameFault.TheVariants.{TooLong, UnknownKind, WrongSize, TooManyWords, PastWords, ReservedBit, OutsidePayload, TooManyBytes, Unfinished, Device, Interrupted, TimePoint, Spent, NoMemory}
+use Rattle.ipc_frame.specs.declared.fault.FrameFault.TheVariants.{TooLong, UnknownKind, WrongSize}
+use Rattle.ipc_frame.specs.declared.fault.FrameFault.TheVariants.{TooManyWords, PastWords}
+use Rattle.ipc_frame.specs.declared.fault.FrameFault.TheVariants.{ReservedBit, OutsidePayload}
+use Rattle.ipc_frame.specs.declared.fault.FrameFault.TheVariants.{TooManyBytes, Unfinished, Device}
+use Rattle.ipc_frame.specs.declared.fault.FrameFault.TheVariants.{Interrupted, TimePoint, Spent}
+use Rattle.ipc_frame.specs.declared.fault.FrameFault.TheVariants.{NoMemory}
 
 abbrev pub fault_number : FrameFault → ℕ
 fault_number TooLong = 1

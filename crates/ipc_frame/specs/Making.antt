@@ -7,7 +7,11 @@ use Rattle.ipc_frame.specs.Parts.{IpcParts, IpcrParts, words_of, ipc_size, ipcr_
 
 -- the first fault of three tests
 abbrev pub first_fault : Bool → Bool → Bool → Option FrameFault
-first_fault many other long = (if many then Some TooManyWords else if other then Some WrongSize else if long then Some TooLong else None)
+first_fault many other long =
+    (if many then Some TooManyWords
+    else if other then Some WrongSize
+    else if long then Some TooLong
+    else None)
 
 abbrev pub ipc_fault : IpcParts → Option FrameFault
 ipc_fault ipc =

@@ -1,5 +1,7 @@
 -- What the bytes of a stream show of its first frame, and when: each test is made as soon as the bytes that it looks at are there.
-use Rattle.std.specs.Prelude.{◌≡◌, ℕ, zero, suc, ◌+◌, ◌-◌, ◌*◌, ◌==◌, ◌||◌, ◌&&◌, Bool, true, false, not, nat_lt, List, [], ◌∷◌, length, take, drop, slice_index, sum, Option, Some, None, option_map, if◌then◌else◌}
+use Rattle.std.specs.Prelude.{◌≡◌, ℕ, zero, suc, ◌+◌, ◌-◌, ◌*◌, ◌==◌, ◌||◌, ◌&&◌, Bool, true, false}
+use Rattle.std.specs.Prelude.{not, nat_lt, List, [], ◌∷◌, length, take, drop, slice_index, sum}
+use Rattle.std.specs.Prelude.{Option, Some, None, option_map, if◌then◌else◌}
 use Rattle.ipc_words.specs.Limits.{max_message_words, max_buffer_words, max_frame_body}
 use Rattle.ipc_items.specs.Pieces.{PlacedBytes}
 use Rattle.ipc_frame.specs.declared.fault.FrameFault.{FrameFault}
@@ -23,7 +25,9 @@ pub data Reading : Type 0 where
 
 -- as soon as so many bytes are there: these bytes, and those behind them
 abbrev pub once : ℕ → List ℕ → (List ℕ → List ℕ → Reading) → Reading
-once count bytes next = if nat_lt (length bytes) count then Short (count - length bytes) else next (take count bytes) (drop count bytes)
+once count bytes next =
+    if nat_lt (length bytes) count then Short (count - length bytes)
+    else next (take count bytes) (drop count bytes)
 
 -- a fault where a test says so
 abbrev pub bad_if : Bool → FrameFault → Reading → Reading
@@ -58,7 +62,9 @@ is_wrong_size kind size = nat_lt size (least_size kind) || (not (is_longer kind)
 
 -- the numbers after the kind: IPC has the tag in place 4 and b in place 6, IPCR the tag in place 0
 abbrev pub has_too_many_words : FrameKind → List ℕ → Bool
-has_too_many_words Ipc fields = nat_lt max_message_words (words_of (slice_index fields 4)) || nat_lt max_buffer_words (slice_index fields 6)
+has_too_many_words Ipc fields =
+    nat_lt max_message_words (words_of (slice_index fields 4))
+    || nat_lt max_buffer_words (slice_index fields 6)
 has_too_many_words Ipcr fields = nat_lt max_message_words (words_of (slice_index fields 0))
 has_too_many_words _ fields = false
 
@@ -74,7 +80,9 @@ pieces_in zero bytes = (if length bytes == 0 then Some [] else None)
 pieces_in (suc count) bytes =
     let size = number_in 4 (drop 8 bytes) in
     if nat_lt (length bytes) (12 + size) then None
-    else option_map (λ pieces. record { pointer = number_in 8 bytes; bytes = take size (drop 12 bytes) } ∷ pieces) (pieces_in count (drop (12 + size) bytes))
+    else option_map
+    (λ pieces. record { pointer = number_in 8 bytes; bytes = take size (drop 12 bytes) } ∷ pieces)
+    (pieces_in count (drop (12 + size) bytes))
 
 abbrev pub ipc_parts : List ℕ → List ℕ → IpcParts
 ipc_parts fields tail =
@@ -150,7 +158,10 @@ reading side bytes = once 4 bytes (λ size behind. size_known side (number_in 4 
 
 -- the fault of the numbers after the kind
 abbrev pub words_fault : FrameKind → ℕ → List ℕ → Option FrameFault
-words_fault kind size fields = (if has_too_many_words kind fields then Some TooManyWords else if nat_lt size (least_size_with kind fields) then Some WrongSize else None)
+words_fault kind size fields =
+    (if has_too_many_words kind fields then Some TooManyWords
+    else if nat_lt size (least_size_with kind fields) then Some WrongSize
+    else None)
 
 -- what is told of bytes, without the frame
 abbrev pub Tells : Judgement → Reading → Type 0

@@ -1,5 +1,6 @@
 -- A call of Ipc (L4 X.2 manual, Ipc), and which calls are in normal form.
-use Rattle.std.specs.Prelude.{ℕ, ◌+◌, ◌*◌, ◌^◌, List, [], Bool, ◌&&◌, ◌||◌, not, Option, is_none, unwrap_or, length, sum_by, nat_lt, nat_le, ◌==◌}
+use Rattle.std.specs.Prelude.{ℕ, ◌+◌, ◌*◌, ◌^◌, List, [], Bool, ◌&&◌, ◌||◌, not, Option, is_none}
+use Rattle.std.specs.Prelude.{unwrap_or, length, sum_by, nat_lt, nat_le, ◌==◌}
 use Rattle.ipc_words.specs.ThreadId.{nilthread}
 use Rattle.ipc_words.specs.MsgTag.{untyped_of, typed_of, propagates, redirects, crosses, has_failed}
 use Rattle.std.specs.List.{list_all}
@@ -20,10 +21,16 @@ pub record CallParts : Type 0 where
   pub strings : List (List ℕ)
   pub buffers : Option (List (List Substring))
 
--- the tag says how many untyped words there are, and two typed words for each string, within the words of a message; it says nothing else but its
--- label and p
+-- the tag says how many untyped words there are, and two typed words for each string, within the
+-- words of a message; it says nothing else but its label and p
 abbrev pub is_tag_normal : CallParts → Bool
-is_tag_normal call = (untyped_of call.tag == length call.words) && (typed_of call.tag == 2 * length call.strings) && nat_le (length call.words + 2 * length call.strings) max_message_words && not (redirects call.tag) && not (crosses call.tag) && not (has_failed call.tag)
+is_tag_normal call =
+    (untyped_of call.tag == length call.words)
+    && (typed_of call.tag == 2 * length call.strings)
+    && nat_le (length call.words + 2 * length call.strings) max_message_words
+    && not (redirects call.tag)
+    && not (crosses call.tag)
+    && not (has_failed call.tag)
 
 -- without a send phase there is nothing to send; without a receive phase nowhere to receive to
 abbrev pub is_empty_send : CallParts → Bool
@@ -41,4 +48,10 @@ are_buffers buffers = list_all is_buffer buffers && nat_le (sum_by (λ parts. le
 
 -- Our choice (docs/PROFILE.md): the normal form, within the limits of a call. A message has at most 1,048,576 bytes of strings
 unfoldable pub is_normal : CallParts → Bool
-is_normal call = is_tag_normal call && (propagates call.tag || (call.originator == nilthread)) && (not (call.to == nilthread) || is_empty_send call) && ((not (call.from == nilthread) || is_empty_receive call) && are_buffers (unwrap_or call.buffers [])) && nat_le (size_of call.strings) max_string_bytes
+is_normal call =
+    is_tag_normal call
+    && (propagates call.tag || (call.originator == nilthread))
+    && (not (call.to == nilthread) || is_empty_send call)
+    && ((not (call.from == nilthread) || is_empty_receive call)
+    && are_buffers (unwrap_or call.buffers []))
+    && nat_le (size_of call.strings) max_string_bytes

@@ -6,11 +6,16 @@ use Rattle.ipc_history.specs.declared.entry.Entry.{Entry}
 
 -- the thread waits to send, or is the sender of a transfer
 unfoldable pub in_send_phase : List Entry → ℕ → Bool
-in_send_phase P thread = option_map_or (λ c. is_sending P c || option_map_or (is_transferring P c) (receiver_of P c) false) (open_call P thread) false
+in_send_phase P thread =
+    option_map_or (λ c. is_sending P c || option_map_or (is_transferring P c) (receiver_of P c) false)
+    (open_call P thread) false
 
 -- the thread waits to receive, or is the receiver of a transfer
 unfoldable pub in_receive_phase : List Entry → ℕ → Bool
-in_receive_phase P thread = option_map_or (λ c. is_receiving P c || option_map_or (λ n. is_transferring P n c) (sender_of P c) false) (open_call P thread) false
+in_receive_phase P thread =
+    option_map_or
+    (λ c. is_receiving P c || option_map_or (λ n. is_transferring P n c) (sender_of P c) false)
+    (open_call P thread) false
 
 -- R (2) where the thread is in a receive phase, S (4) where it is in a send phase
 unfoldable pub phases_of : List Entry → ℕ → ℕ

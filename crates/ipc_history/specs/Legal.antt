@@ -1,5 +1,6 @@
 -- What may follow, and what a history is.
-use Rattle.std.specs.Prelude.{◌≡◌, ℕ, ◌+◌, ◌-◌, ◌^◌, List, ◌∷◌, ◌++◌, Bool, false, ◌&&◌, not, Option, Some, None, find, min, is_none, IsTrue, nat_lt, nat_le, ◌==◌}
+use Rattle.std.specs.Prelude.{◌≡◌, ℕ, ◌+◌, ◌-◌, ◌^◌, List, ◌∷◌, ◌++◌, Bool, false, ◌&&◌, not}
+use Rattle.std.specs.Prelude.{Option, Some, None, find, min, is_none, IsTrue, nat_lt, nat_le, ◌==◌}
 use Rattle.std.specs.Option.{option_map_or}
 use Rattle.ipc_words.specs.Limits.{max_thread_number, max_space, last_moment}
 use Rattle.ipc_words.specs.ThreadId.{number_of, version_of}
@@ -29,7 +30,13 @@ next_moving P = find (λ n. option_map_or (is_transferring P n) (receiver_of P n
 
 -- a number within its limit that is not taken opens with its next version, in a space within its limit
 unfoldable pub may_open : List Entry → ℕ → ℕ → Bool
-may_open P thread space = nat_le 1 (number_of thread) && nat_le (number_of thread) max_thread_number && not (is_taken P (number_of thread)) && option_map_or (λ version. version == version_of thread) (next_version P (number_of thread)) false && nat_le 1 space && nat_le space max_space
+may_open P thread space =
+    nat_le 1 (number_of thread)
+    && nat_le (number_of thread) max_thread_number
+    && not (is_taken P (number_of thread))
+    && option_map_or (λ version. version == version_of thread) (next_version P (number_of thread)) false
+    && nat_le 1 space
+    && nat_le space max_space
 
 -- a copy is of the least call in transfer: its next block
 unfoldable pub may_move : List Entry → ℕ → ℕ → Bool

@@ -13,10 +13,13 @@ use Rattle.ipc_history.specs.declared.entry.Entry.{Entry}
 unfoldable pub before_call : List Entry → ℕ → List Entry
 before_call P n = before (calls n) P
 
--- Our choice (docs/PROFILE.md): the propagation of n is permitted where p is set and, when n was called, its originator was live and
--- of the caller's space; else p is dropped
+-- Our choice (docs/PROFILE.md): the propagation of n is permitted where p is set and, when n was
+-- called, its originator was live and of the caller's space; else p is dropped
 unfoldable pub is_propagated : List Entry → ℕ → Bool
-is_propagated P n = propagates (tag_of P n) && is_live (before_call P n) (originator_of P n) && (space_of (before_call P n) (originator_of P n) == space_of (before_call P n) (caller_of P n))
+is_propagated P n =
+    propagates (tag_of P n)
+    && is_live (before_call P n) (originator_of P n)
+    && (space_of (before_call P n) (originator_of P n) == space_of (before_call P n) (caller_of P n))
 
 -- the sender that the receiver sees: the VirtualSender where the propagation is permitted, else the caller
 unfoldable pub shown_sender : List Entry → ℕ → ℕ
@@ -28,11 +31,19 @@ from_specifier P m = unwrap_or (last_some (turned_in m) P) (from_of P m)
 
 -- m accepts a sender: anythread every one, anylocalthread those of its own space, another id that thread alone
 unfoldable pub accepts : List Entry → ℕ → ℕ → Bool
-accepts P m sender = (if from_specifier P m == anythread then true else (if from_specifier P m == anylocalthread then space_of P sender == space_of P (caller_of P m) else from_specifier P m == sender))
+accepts P m sender =
+    (if from_specifier P m == anythread then true
+    else (if from_specifier P m == anylocalthread then space_of P sender == space_of P (caller_of P m)
+    else from_specifier P m == sender))
 
 -- the waiting send phase of n meets the waiting receive phase of m; a send to oneself meets nothing
 unfoldable pub matches : List Entry → ℕ → ℕ → Bool
-matches P n m = is_sending P n && is_receiving P m && (to_of P n == caller_of P m) && not (to_of P n == caller_of P n) && accepts P m (shown_sender P n)
+matches P n m =
+    is_sending P n
+    && is_receiving P m
+    && (to_of P n == caller_of P m)
+    && not (to_of P n == caller_of P n)
+    && accepts P m (shown_sender P n)
 
 -- the receiving call that n meets, if any
 unfoldable pub match_of : List Entry → ℕ → Option ℕ

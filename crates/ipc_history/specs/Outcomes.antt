@@ -1,11 +1,13 @@
 -- What the caller of a call is told (L4 X.2 manual, Ipc: output parameters).
-use Rattle.std.specs.Prelude.{◌≡◌, ◌≤◌, ℕ, ◌+◌, ◌*◌, ◌^◌, List, [], ◌++◌, Bool, ◌||◌, not, Option, Some, None, unwrap_or, length, ◌==◌, if◌then◌else◌}
+use Rattle.std.specs.Prelude.{◌≡◌, ◌≤◌, ℕ, ◌+◌, ◌*◌, List, [], ◌++◌, Bool, ◌||◌, not, Option, Some}
+use Rattle.std.specs.Prelude.{None, unwrap_or, length, ◌==◌, if◌then◌else◌}
 use Rattle.ipc_words.specs.Limits.{max_message_words}
 use Rattle.ipc_words.specs.ThreadId.{nilthread}
 use Rattle.ipc_words.specs.IpcError.{failure_code}
 use Rattle.ipc_words.specs.declared.ipc_error.Phase.TheVariants.{Send, Receive}
 use Rattle.ipc_words.specs.declared.ipc_error.ErrorKind.TheVariants as kind
-use Rattle.ipc_words.specs.MsgTag.{label_of, untyped_of, typed_of}
+use Rattle.ipc_words.specs.MsgTag.{untyped_of, typed_of}
+use Rattle.ipc_words.specs.TagFields.{received_tag}
 use Rattle.ipc_items.specs.Pieces.{PlacedBytes, pieces_of_all, simple_items}
 use Rattle.ipc_items.specs.declared.buffer_list.Substring.{Substring}
 use Rattle.ipc_history.specs.Words.{first_some}
@@ -38,23 +40,29 @@ pub record HasItsWords (tag : ℕ) (words : List ℕ) : Type 0 where
 abbrev pub pieces_in : OutcomeParts → List (List PlacedBytes)
 pieces_in outcome = pieces_of_all outcome.buffers outcome.strings
 
--- the tag of a received message: label and u of the one that was sent, p, two typed words for each string
-abbrev pub received_tag : ℕ → Bool → ℕ → ℕ → ℕ
-received_tag label propagated strings untyped = label * 2 ^ 16 + (if propagated then 2 ^ 12 else 0) + 2 * strings * 64 + untyped
-
 -- a failure: the flag E and an ErrorCode
 abbrev pub failure : ℕ → ℕ → OutcomeParts
-failure n error = record { call = n; tag = 0x8000; sender = nilthread; actual = nilthread; error = error; words = []; strings = []; buffers = [] }
+failure n error = record {
+  call = n;
+  tag = 0x8000;
+  sender = nilthread;
+  actual = nilthread;
+  error = error;
+  words = [];
+  strings = [];
+  buffers = [];
+}
 
 -- over without a receive phase: all 0
 abbrev pub nothing : ℕ → OutcomeParts
 nothing n = record { call = n; tag = 0; sender = nilthread; actual = nilthread; error = 0; words = []; strings = []; buffers = [] }
 
--- what m is told of the message of n: its untyped words, then for each string a simple item
+-- what m is told of the message of n: its tag, with two typed words for each string; its untyped words, then for each string a
+-- simple item
 abbrev pub received : List Entry → ℕ → ℕ → OutcomeParts
 received H n m = record {
   call = m;
-  tag = received_tag (label_of (tag_of H n)) (is_propagated H n) (length (strings_of H n)) (untyped_of (tag_of H n));
+  tag = received_tag (tag_of H n) (2 * length (strings_of H n)) (is_propagated H n);
   sender = shown_sender H n;
   actual = if is_propagated H n then caller_of H n else nilthread;
   error = 0;
@@ -66,11 +74,17 @@ received H n m = record {
 -- what an entry tells of n, as the sender or as the receiver
 abbrev pub outcome_in : List Entry → ℕ → Entry → Option OutcomeParts
 outcome_in H n (Written (Failed k code)) = (if k == n then Some (failure n code) else None)
-outcome_in H n (Written (Overflowed k m offset)) = (if k == n then Some (failure n (failure_code Send kind.MessageOverflow offset)) else (if m == n then Some (failure n (failure_code Receive kind.MessageOverflow offset)) else None))
-outcome_in H n (Written (Aborted k m count)) = (if k == n then Some (failure n (failure_code Send kind.Aborted count)) else (if m == n then Some (failure n (failure_code Receive kind.Aborted count)) else None))
+outcome_in H n (Written (Overflowed k m offset)) =
+    (if k == n then Some (failure n (failure_code Send kind.MessageOverflow offset))
+    else (if m == n then Some (failure n (failure_code Receive kind.MessageOverflow offset)) else None))
+outcome_in H n (Written (Aborted k m count)) =
+    (if k == n then Some (failure n (failure_code Send kind.Aborted count))
+    else (if m == n then Some (failure n (failure_code Receive kind.Aborted count)) else None))
 outcome_in H n (Written (Ended k m)) = (if m == n then Some (received H k n) else None)
 outcome_in H n _ = None
 
 -- the outcome of n: none while it is open or where its caller has ended
 unfoldable pub outcome_of : List Entry → ℕ → Option OutcomeParts
-outcome_of H n = (if not (is_over H n) || has_broken H (caller_of H n) then None else Some (unwrap_or (first_some (outcome_in H n) H) (nothing n)))
+outcome_of H n =
+    (if not (is_over H n) || has_broken H (caller_of H n) then None
+    else Some (unwrap_or (first_some (outcome_in H n) H) (nothing n)))

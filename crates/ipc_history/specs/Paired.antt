@@ -1,7 +1,8 @@
 -- The promise of the product, over a history H, in six clauses: successful send phases and received messages pair one to one; each
 -- received message is, whole, that of one send to that thread, showing its caller or a permitted originator; one caller's messages
 -- to one receiver come in sending order; a send that ended otherwise is received by nobody; no ended thread takes part.
-use Rattle.std.specs.Prelude.{◌≡◌, ℕ, ◌<◌, ◌≤◌, List, ◌∷◌, ◌++◌, Some, None, IsTrue, IsFalse, ◌≢◌, ◌⊎◌, count_by, take, map, length}
+use Rattle.std.specs.Prelude.{◌≡◌, ℕ, ◌*◌, ◌<◌, ◌≤◌, List, ◌∷◌, ◌++◌, Some, None, IsTrue, IsFalse}
+use Rattle.std.specs.Prelude.{◌≢◌, ◌⊎◌, count_by, take, map, length}
 use Rattle.std.specs.List.{list_any}
 use Rattle.ipc_items.specs.Fit.{overflow_offset}
 use Rattle.ipc_history.specs.Words.{before}
@@ -11,8 +12,9 @@ use Rattle.ipc_history.specs.Threads.{has_broken, is_live, space_of}
 use Rattle.ipc_history.specs.Phases.{is_sent, moved_bytes}
 use Rattle.ipc_history.specs.Matching.{before_call, is_propagated, shown_sender, accepts}
 use Rattle.ipc_words.specs.MsgTag.{label_of, untyped_of}
+use Rattle.ipc_words.specs.TagFields.{received_tag}
 use Rattle.ipc_items.specs.Pieces.{joined}
-use Rattle.ipc_history.specs.Outcomes.{OutcomeParts, outcome_of, pieces_in, received_tag}
+use Rattle.ipc_history.specs.Outcomes.{OutcomeParts, outcome_of, pieces_in}
 use Rattle.ipc_history.specs.declared.entry.Entry.{Entry}
 use Rattle.ipc_history.specs.declared.entry.Entry.TheVariants.{Given, Written}
 use Rattle.ipc_history.specs.declared.entry.Input.TheVariants.{Broke}
@@ -26,7 +28,7 @@ IsPair H n m = IsTrue (list_any (ends n m) H)
 pub record Delivers (H : List Entry) (n m : ℕ) : Type 0 where
   pub told : OutcomeParts
   pub is_told : outcome_of H m ≡ Some told
-  pub tag : told.tag ≡ received_tag (label_of (tag_of H n)) (is_propagated H n) (length (strings_of H n)) (untyped_of (tag_of H n))
+  pub tag : told.tag ≡ received_tag (tag_of H n) (2 * length (strings_of H n)) (is_propagated H n)
   pub label : label_of told.tag ≡ label_of (tag_of H n)
   pub untyped : untyped_of told.tag ≡ untyped_of (tag_of H n)
   pub words : take (length (words_of H n)) told.words ≡ words_of H n
@@ -63,9 +65,15 @@ pub record Paired (H : List Entry) : Type 0 where
   -- 3. it shows its caller or a permitted originator
   pub showing : (n m : ℕ) → IsPair H n m → IsShown H n m
   -- 4. one caller's messages to one receiver come in sending order
-  pub in_order : (n m k j : ℕ) → IsPair H n m → IsPair H k j → caller_of H n ≡ caller_of H k → caller_of H m ≡ caller_of H j → n < k → (m < j) × IsTrue (list_any (ends n m) (before (ends k j) H))
+  pub in_order : (n m k j : ℕ) → IsPair H n m → IsPair H k j
+      → caller_of H n ≡ caller_of H k → caller_of H m ≡ caller_of H j → n < k
+      → (m < j) × IsTrue (list_any (ends n m) (before (ends k j) H))
   -- 5. a send that ended otherwise is received by nobody
   pub ended_otherwise : (n : ℕ) → IsTrue (list_any (fails_send n) H) → IsFalse (is_sent H n)
-  pub broke_before : (n : ℕ) (P rest : List Entry) → H ≡ P ++ Given (Broke (caller_of H n)) ∷ rest → IsFalse (is_sent P n) → IsFalse (is_sent H n)
+  pub broke_before : (n : ℕ) (P rest : List Entry)
+      → H ≡ P ++ Given (Broke (caller_of H n)) ∷ rest → IsFalse (is_sent P n)
+      → IsFalse (is_sent H n)
   -- 6. no ended thread takes part
-  pub no_ended_thread : (thread : ℕ) (P rest : List Entry) → H ≡ P ++ Given (Broke thread) ∷ rest → (n : ℕ) → IsTrue (list_any (names n) rest) → caller_of H n ≢ thread
+  pub no_ended_thread : (thread : ℕ) (P rest : List Entry)
+      → H ≡ P ++ Given (Broke thread) ∷ rest
+      → (n : ℕ) → IsTrue (list_any (names n) rest) → caller_of H n ≢ thread

@@ -22,7 +22,10 @@ sender_of P m = first_some (sender_in m) P
 
 -- n is over: an entry closed it; its caller ended; its send phase ended and it has no receive phase; it has neither phase
 unfoldable pub is_over : List Entry → ℕ → Bool
-is_over P n = list_any (closes n) P || has_broken P (caller_of P n) || ((from_of P n == nilthread) && (is_sent P n || (to_of P n == nilthread)))
+is_over P n =
+    list_any (closes n) P
+    || has_broken P (caller_of P n)
+    || ((from_of P n == nilthread) && (is_sent P n || (to_of P n == nilthread)))
 
 -- the numbers of the open calls, the least first
 unfoldable pub open_numbers : List Entry → List ℕ
@@ -38,7 +41,11 @@ is_sending P n = not (to_of P n == nilthread) && is_none (receiver_of P n) && no
 
 -- the transfer from n to m has begun and goes on
 unfoldable pub is_transferring : List Entry → ℕ → ℕ → Bool
-is_transferring P n m = option_map_or (λ k. k == m) (receiver_of P n) false && not (list_any (ends n m) P) && not (is_over P n) && not (is_over P m)
+is_transferring P n m =
+    option_map_or (λ k. k == m) (receiver_of P n) false
+    && not (list_any (ends n m) P)
+    && not (is_over P n)
+    && not (is_over P m)
 
 -- how many bytes of the message of n were copied
 unfoldable pub moved_bytes : List Entry → ℕ → ℕ
@@ -46,4 +53,8 @@ moved_bytes P n = sum_by (count_in n) P
 
 -- the receive phase of m waits: it has one, and its send phase, if it has one, was successful
 unfoldable pub is_receiving : List Entry → ℕ → Bool
-is_receiving P m = not (from_of P m == nilthread) && ((to_of P m == nilthread) || is_sent P m) && is_none (sender_of P m) && not (is_over P m)
+is_receiving P m =
+    not (from_of P m == nilthread)
+    && ((to_of P m == nilthread) || is_sent P m)
+    && is_none (sender_of P m)
+    && not (is_over P m)

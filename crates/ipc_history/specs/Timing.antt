@@ -1,4 +1,5 @@
--- Which waiting phase is due (L4 X.2 manual, Ipc: timeouts). Our choice (docs/PROFILE.md): the clock is handed in, and no timeout ends a transfer that has begun.
+-- Which waiting phase is due (L4 X.2 manual, Ipc: timeouts). Our choice (docs/PROFILE.md): the
+-- clock is handed in, and no timeout ends a transfer that has begun.
 use Rattle.std.specs.Prelude.{ℕ, List, Bool, false, ◌+◌, ◌&&◌, ◌||◌, nat_le, ◌==◌, if◌then◌else◌}
 use Rattle.std.specs.Option.{option_map_or}
 use Rattle.ipc_words.specs.ThreadId.{nilthread}
@@ -23,9 +24,12 @@ receive_start P n = now (if to_of P n == nilthread then before_call P n else bef
 unfoldable pub is_past : ℕ → ℕ → ℕ → Bool
 is_past moment start period = option_map_or (λ micros. nat_le (start + micros) moment) (span period) false
 
--- at a moment, the waiting phase of n is due: a send phase began with the call, a receive phase with the call or where the send phase ended
+-- at a moment, the waiting phase of n is due: a send phase began with the call, a receive phase
+-- with the call or where the send phase ended
 unfoldable pub is_due_at : List Entry → ℕ → ℕ → Bool
-is_due_at P moment n = (is_sending P n && is_past moment (now (before_call P n)) (send_period_of P n)) || (is_receiving P n && is_past moment (receive_start P n) (receive_period_of P n))
+is_due_at P moment n =
+    (is_sending P n && is_past moment (now (before_call P n)) (send_period_of P n))
+    || (is_receiving P n && is_past moment (receive_start P n) (receive_period_of P n))
 
 -- and so at the moment of the history
 unfoldable pub is_due : List Entry → ℕ → Bool

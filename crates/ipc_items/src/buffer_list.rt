@@ -1,4 +1,6 @@
-ghost use Rattle.std.specs.Prelude.{◌≡◌, ◌==◌, ◌↔◌, IsTrue, ℕ, ◌<◌, ◌^◌, ◌≤◌, List, [], ◌∷◌, ◌++◌, length, sum_by, if◌then◌else◌, IfOk, IfErr, IsOk, IsOkUnless, OnErr, slice_get, option_copied};
+ghost use Rattle.std.specs.Prelude.{◌≡◌, ◌==◌, ◌↔◌, IsTrue, ℕ, ◌<◌, ◌^◌, ◌≤◌, List, [], ◌∷◌, ◌++◌};
+ghost use Rattle.std.specs.Prelude.{length, sum_by, if◌then◌else◌, IfOk, IfErr, IsOk, IsOkUnless};
+ghost use Rattle.std.specs.Prelude.{OnErr, slice_get, option_copied};
 ghost use Rattle.std.specs.Option.{SomeIff, option_map_or};
 ghost use Rattle.ipc_words.specs.Limits.{max_buffer_words};
 ghost use Rattle.ipc_items.specs.Buffers.{buffers_of, capacity, IsBuffer, AreBuffers};

@@ -1,4 +1,6 @@
-ghost use Rattle.std.specs.Prelude.{◌≡◌, ◌==◌, ◌↔◌, IsTrue, ℕ, ◌*◌, ◌≤◌, List, [], ◌∷◌, ◌++◌, length, if◌then◌else◌, IfOk, IfErr, IsOk, IsOkUnless, IfSome, OnErr, slice_get, option_copied};
+ghost use Rattle.std.specs.Prelude.{◌≡◌, ◌==◌, ◌↔◌, IsTrue, ℕ, ◌*◌, ◌≤◌, List, [], ◌∷◌, ◌++◌};
+ghost use Rattle.std.specs.Prelude.{length, if◌then◌else◌, IfOk, IfErr, IsOk, IsOkUnless, IfSome};
+ghost use Rattle.std.specs.Prelude.{OnErr, slice_get, option_copied};
 ghost use Rattle.std.specs.Option.{SomeIff, option_map_or};
 ghost use Rattle.ipc_words.specs.Limits.{max_message_words, max_string_bytes};
 ghost use Rattle.ipc_items.specs.Strings.{strings_of, size_of, AreStrings};

@@ -99,8 +99,8 @@ module _ (H : List Entry) (h : Legal H) (n m : ℕ) (ended : IsPair H n m) where
     told = received H n m;
     is_told = outcome_is H m (received H n m) (ended_over H n m ended) b told;
     tag = refl;
-    label = label_back (label_of (tag_of H n)) (is_propagated H n) (length (strings_of H n)) (tag_of H n) (few_strings H h n);
-    untyped = untyped_back (label_of (tag_of H n)) (is_propagated H n) (length (strings_of H n)) (tag_of H n) (few_strings H h n);
+    label = label_back (is_propagated H n) (length (strings_of H n)) (tag_of H n) (few_strings H h n);
+    untyped = untyped_back (is_propagated H n) (length (strings_of H n)) (tag_of H n) (few_strings H h n);
     words = take_at (words_of H n) (simple_items (buffers_of H m) (strings_of H n)) (length (words_of H n)) refl;
     strings = joined_all (buffers_of H m) (strings_of H n) fitted;
     sender = refl;

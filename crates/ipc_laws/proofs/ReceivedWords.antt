@@ -1,12 +1,13 @@
 -- The words of a received message are as many as its tag says.
 use Rattle.std.proofs.Common.{◌≡◌, ap, ◌∙◌, ℕ, ◌+◌, ◌*◌, ◌/◌, ◌%◌, ◌^◌, ◌<◌, ◌≤◌, Bool, true, false, if◌then◌else◌, List, [], ◌∷◌, length, arith}
 use Rattle.std.proofs.lemmas.List.{length-append}
-use Rattle.ipc_words.specs.MsgTag.{untyped_of, typed_of, label_of}
+use Rattle.ipc_words.specs.MsgTag.{untyped_of, typed_of}
+use Rattle.ipc_words.specs.TagFields.{received_tag}
 use Rattle.ipc_items.specs.declared.buffer_list.Substring.{Substring}
 use Rattle.ipc_items.specs.Pieces.{simple_items}
 use Rattle.ipc_history.specs.Calls.{tag_of, words_of, strings_of, buffers_of}
 use Rattle.ipc_history.specs.Matching.{is_propagated}
-use Rattle.ipc_history.specs.Outcomes.{HasItsWords, received, received_tag}
+use Rattle.ipc_history.specs.Outcomes.{HasItsWords, received}
 use Rattle.ipc_history.specs.Legal.{Legal}
 use Rattle.ipc_history.specs.declared.entry.Entry.{Entry}
 use Rattle.ipc_laws.proofs.Normal.{normal_message, few_strings}
@@ -20,16 +21,16 @@ simple_length (b ∷ buffers) (s ∷ strings) h =
     omega arith
 
 -- the counts of a tag that a receiver gets
-tag_counts : (label strings untyped : ℕ) (p : Bool) → strings ≤ 31 → untyped < 2 ^ 6 → untyped_of (received_tag label p strings untyped) + typed_of (received_tag label p strings untyped) ≡ untyped + 2 * strings
-tag_counts label strings untyped true few small = omega arith
-tag_counts label strings untyped false few small = omega arith
+tag_counts : (tag strings : ℕ) (p : Bool) → strings ≤ 31 →
+    untyped_of (received_tag tag (2 * strings) p) + typed_of (received_tag tag (2 * strings) p) ≡ untyped_of tag + 2 * strings
+tag_counts tag strings true few = omega arith
+tag_counts tag strings false few = omega arith
 
 -- a message that fits the buffer strings of its receiver
 pub received_counted : (H : List Entry) → Legal H → (n m : ℕ) → length (strings_of H n) ≤ length (buffers_of H m) → HasItsWords (received H n m).tag (received H n m).words
 received_counted H h n m fits =
     let normal = normal_message H h n in
-    let small : untyped_of (tag_of H n) < 2 ^ 6 = omega arith in
-    let counts = tag_counts (label_of (tag_of H n)) (length (strings_of H n)) (untyped_of (tag_of H n)) (is_propagated H n) (few_strings H h n) small in
+    let counts = tag_counts (tag_of H n) (length (strings_of H n)) (is_propagated H n) (few_strings H h n) in
     let words = length-append (words_of H n) (simple_items (buffers_of H m) (strings_of H n)) in
     let items = simple_length (buffers_of H m) (strings_of H n) fits in
     record {

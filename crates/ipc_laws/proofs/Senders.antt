@@ -1,7 +1,7 @@
 -- Whose send was received sees an outcome without E, or an ErrorCode with p=1.
 use Rattle.std.proofs.lemmas.Bool.{eqb-false, ne_eqb, false_from_ne_true}
 use Rattle.std.proofs.lemmas.Option.{none-some, cond_some, same_Some}
-use Rattle.std.proofs.Common.{◌≡◌, refl, sym, ap, ◌∙◌, ℕ, ◌%◌, ◌≤◌, Bool, true, false, not, ◌||◌, ◌&&◌, ◌==◌, if◌then◌else◌, List, length, Option, Some, None, unwrap_or, ◌⊎◌, inl, inr, arith}
+use Rattle.std.proofs.Common.{◌≡◌, refl, sym, ap, ◌∙◌, ℕ, ◌*◌, ◌%◌, ◌≤◌, Bool, true, false, not, ◌||◌, ◌&&◌, ◌==◌, if◌then◌else◌, List, length, Option, Some, None, unwrap_or, ◌⊎◌, inl, inr, arith}
 use Rattle.ipc_history.specs.Words.{first_some}
 use Rattle.ipc_history.specs.Entries.{fails_send}
 use Rattle.ipc_history.specs.Calls.{caller_of, tag_of, strings_of}
@@ -9,8 +9,9 @@ use Rattle.ipc_history.specs.Threads.{has_broken}
 use Rattle.ipc_history.specs.Phases.{is_over}
 use Rattle.ipc_history.specs.Matching.{is_propagated}
 use Rattle.ipc_history.specs.Legal.{Legal}
-use Rattle.ipc_words.specs.MsgTag.{label_of, untyped_of, has_failed}
-use Rattle.ipc_history.specs.Outcomes.{OutcomeParts, outcome_in, outcome_of, failure, received, received_tag, nothing}
+use Rattle.ipc_words.specs.MsgTag.{has_failed}
+use Rattle.ipc_words.specs.TagFields.{received_tag}
+use Rattle.ipc_history.specs.Outcomes.{OutcomeParts, outcome_in, outcome_of, failure, received, nothing}
 use Rattle.ipc_history.specs.Paired.{IsPair}
 use Rattle.ipc_history.specs.declared.entry.Entry.{Entry}
 use Rattle.ipc_history.specs.declared.entry.Entry.TheVariants.{Written}
@@ -24,9 +25,9 @@ use Rattle.ipc_laws.proofs.Tests.{not_both}
 abbrev Sees : OutcomeParts → Type 0
 Sees told = (has_failed told.tag ≡ false) ⊎ (told.error % 2 ≡ 1)
 
-not_failed : (label : ℕ) (p : Bool) (strings tag : ℕ) → strings ≤ 31 → has_failed (received_tag label p strings (untyped_of tag)) ≡ false
-not_failed label true strings tag h = ne_eqb _ _ (omega arith)
-not_failed label false strings tag h = ne_eqb _ _ (omega arith)
+not_failed : (p : Bool) (strings tag : ℕ) → strings ≤ 31 → has_failed (received_tag tag (2 * strings) p) ≡ false
+not_failed true strings tag h = ne_eqb _ _ (omega arith)
+not_failed false strings tag h = ne_eqb _ _ (omega arith)
 
 -- the outcome is what the first entry tells that tells something, else nothing
 told_is : (over broken : Bool) (o : Option OutcomeParts) (d told : OutcomeParts) → (if not over || broken then None else Some (unwrap_or o d)) ≡ Some told → unwrap_or o d ≡ told
@@ -58,7 +59,7 @@ module _ (H : List Entry) (h : Legal H) (n m : ℕ) (pair : IsPair H n m) where
       odd code p = omega arith
   sees t (Written (Overflowed k j offset)) at g = rw (← second_told (k == n) (j == n) _ _ t (unspoiled (Written (Overflowed k j offset)) at) g) (inr (omega arith))
   sees t (Written (Aborted k j count)) at g = rw (← second_told (k == n) (j == n) _ _ t (unspoiled (Written (Aborted k j count)) at) g) (inr (omega arith))
-  sees t (Written (Ended k j)) at g = rw (← (cond_some (j == n) (received H k n) t g).1) (inl (not_failed (label_of (tag_of H k)) (is_propagated H k) (length (strings_of H k)) (tag_of H k) (few_strings H h k)))
+  sees t (Written (Ended k j)) at g = rw (← (cond_some (j == n) (received H k n) t g).1) (inl (not_failed (is_propagated H k) (length (strings_of H k)) (tag_of H k) (few_strings H h k)))
   sees t _ at g = absurd (none-some t g)
 
   pub sender_sees : (told : OutcomeParts) → outcome_of H n ≡ Some told → Sees told

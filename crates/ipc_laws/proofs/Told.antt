@@ -1,6 +1,6 @@
 -- What the entries of a history tell of a call, and what a received tag says.
 use Rattle.std.proofs.lemmas.Option.{none-some, cond_some}
-use Rattle.std.proofs.Common.{◌≡◌, refl, ℕ, ◌≤◌, Bool, true, false, ◌||◌, ◌==◌, if◌then◌else◌, List, Option, Some, None, arith}
+use Rattle.std.proofs.Common.{◌≡◌, refl, ℕ, ◌*◌, ◌≤◌, Bool, true, false, ◌||◌, ◌==◌, if◌then◌else◌, List, Option, Some, None, arith}
 use Rattle.std.specs.List.{list_any}
 use Rattle.ipc_history.specs.Words.{first_some}
 use Rattle.ipc_history.specs.Entries.{closes}
@@ -8,7 +8,8 @@ use Rattle.ipc_history.specs.Calls.{caller_of}
 use Rattle.ipc_history.specs.Threads.{has_broken}
 use Rattle.ipc_history.specs.Phases.{is_over}
 use Rattle.ipc_words.specs.MsgTag.{label_of, untyped_of}
-use Rattle.ipc_history.specs.Outcomes.{OutcomeParts, outcome_in, received, failure, outcome_of, received_tag}
+use Rattle.ipc_words.specs.TagFields.{received_tag}
+use Rattle.ipc_history.specs.Outcomes.{OutcomeParts, outcome_in, received, failure, outcome_of}
 use Rattle.ipc_history.specs.declared.entry.Entry.{Entry}
 use Rattle.ipc_history.specs.declared.entry.Entry.TheVariants.{Written}
 use Rattle.ipc_history.specs.declared.entry.Output.TheVariants.{Ended, Overflowed, Aborted, Failed}
@@ -37,8 +38,10 @@ unfolding outcome_of
 outcome_is H m t o b e = rw (o, b, e) refl
 
 -- the label and u of a received tag, where the message has at most 31 strings
-pub label_back : (label : ℕ) (p : Bool) (strings tag : ℕ) → strings ≤ 31 → label_of (received_tag label p strings (untyped_of tag)) ≡ label
-label_back label p strings tag h = grind arith
+pub label_back : (p : Bool) (strings tag : ℕ) → strings ≤ 31 → label_of (received_tag tag (2 * strings) p) ≡ label_of tag
+label_back true strings tag h = omega arith
+label_back false strings tag h = omega arith
 
-pub untyped_back : (label : ℕ) (p : Bool) (strings tag : ℕ) → strings ≤ 31 → untyped_of (received_tag label p strings (untyped_of tag)) ≡ untyped_of tag
-untyped_back label p strings tag h = grind arith
+pub untyped_back : (p : Bool) (strings tag : ℕ) → strings ≤ 31 → untyped_of (received_tag tag (2 * strings) p) ≡ untyped_of tag
+untyped_back true strings tag h = omega arith
+untyped_back false strings tag h = omega arith

@@ -1,8 +1,9 @@
 -- Our choice (docs/FORMATS.md): the lines of a history and of an outcome. A line is its fields with one space between each two;
 -- its newline is not part of it.
-use Rattle.std.specs.Prelude.{ℕ, ◌+◌, ◌*◌, ◌^◌, List, [], ◌∷◌, ◌++◌, codes}
+use Rattle.std.specs.Prelude.{ℕ, List, [], ◌∷◌, ◌++◌, codes}
 use Rattle.std.specs.Fmt.{decimal}
 use Rattle.std.specs.List.{join_with_byte, flat_map}
+use Rattle.ipc_words.specs.Timeouts as words
 use Rattle.ipc_items.specs.Pieces.{PlacedBytes}
 use Rattle.ipc_history.specs.CallParts.{CallParts}
 use Rattle.ipc_history.specs.Outcomes.{OutcomeParts, pieces_in}
@@ -16,9 +17,9 @@ use Rattle.ipc_lines.specs.Texts.{hex_text, id_text, words_text, strings_text, b
 abbrev pub spaced : List (List ℕ) → List ℕ
 spaced fields = join_with_byte 32 fields
 
--- the word of the two periods: the receive period in bits 0 to 15, the send period in bits 16 to 31
+-- the word of the two periods of a call
 abbrev pub timeouts_of : CallParts → ℕ
-timeouts_of call = call.send_period * 2 ^ 16 + call.receive_period
+timeouts_of call = words.timeouts_of call.receive_period call.send_period
 
 -- the fields of a call that are one word each: the thread that calls, to, from, the timeouts, the tag and the originator
 abbrev pub scalar_fields : ℕ → CallParts → List (List ℕ)

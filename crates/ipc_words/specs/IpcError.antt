@@ -4,7 +4,9 @@ use Rattle.ipc_words.specs.ErrorCode.{error_code, phase_bit}
 use Rattle.ipc_words.specs.declared.ipc_error.Phase.{Phase}
 use Rattle.ipc_words.specs.declared.ipc_error.Phase.TheVariants.{Send, Receive}
 use Rattle.ipc_words.specs.declared.ipc_error.ErrorKind.{ErrorKind}
-use Rattle.ipc_words.specs.declared.ipc_error.ErrorKind.TheVariants.{Timeout, NonExistingPartner, Cancelled, MessageOverflow, Aborted}
+use Rattle.ipc_words.specs.declared.ipc_error.ErrorKind.TheVariants.{Timeout, NonExistingPartner}
+use Rattle.ipc_words.specs.declared.ipc_error.ErrorKind.TheVariants.{Cancelled, MessageOverflow}
+use Rattle.ipc_words.specs.declared.ipc_error.ErrorKind.TheVariants.{Aborted}
 
 -- p of a phase
 abbrev pub bit_of_phase : Phase → ℕ
@@ -30,4 +32,8 @@ phase_of error = (if phase_bit error == 0 then Send else Receive)
 -- what an e stands for; none for 0, 5 and 6
 abbrev pub kind_of_code : ℕ → Option ErrorKind
 kind_of_code e =
-    (if e == 1 then Some Timeout else (if e == 2 then Some NonExistingPartner else (if e == 3 then Some Cancelled else (if e == 4 then Some MessageOverflow else (if e == 7 then Some Aborted else None)))))
+    (if e == 1 then Some Timeout
+    else (if e == 2 then Some NonExistingPartner
+    else (if e == 3 then Some Cancelled
+    else (if e == 4 then Some MessageOverflow
+    else (if e == 7 then Some Aborted else None)))))

@@ -43,7 +43,8 @@ IdIsSumOfFields = (id : ℕ) → id_of (number_of id) (version_of id) ≡ id
 
 abbrev pub FieldsOfIdReadBack : Type 0
 FieldsOfIdReadBack =
-    (number version : ℕ) → version < 2 ^ 32 → (number_of (id_of number version) ≡ number) × (version_of (id_of number version) ≡ version)
+    (number version : ℕ) → version < 2 ^ 32
+    → (number_of (id_of number version) ≡ number) × (version_of (id_of number version) ≡ version)
 
 -- the ids of kind global are those that a number and a version make
 abbrev pub GlobalIdIsGlobal : Type 0
@@ -79,12 +80,16 @@ TimeoutsAreSumOfTimes = (timeouts : ℕ) → timeouts_of (receive_time timeouts)
 
 abbrev pub TimesOfTimeoutsReadBack : Type 0
 TimesOfTimeoutsReadBack =
-    (receive send : ℕ) → receive < 2 ^ 16 → (receive_time (timeouts_of receive send) ≡ receive) × (send_time (timeouts_of receive send) ≡ send)
+    (receive send : ℕ) → receive < 2 ^ 16
+    → (receive_time (timeouts_of receive send) ≡ receive)
+    × (send_time (timeouts_of receive send) ≡ send)
 
 -- two periods are read back as they were put in
 abbrev pub PeriodsOfTimeoutsReadBack : Type 0
 PeriodsOfTimeoutsReadBack =
-    (receive send : ℕ) → receive < 2 ^ 15 → send < 2 ^ 15 → (receive_period (timeouts_of receive send) ≡ Some receive) × (send_period (timeouts_of receive send) ≡ Some send)
+    (receive send : ℕ) → receive < 2 ^ 15 → send < 2 ^ 15
+    → (receive_period (timeouts_of receive send) ≡ Some receive)
+    × (send_period (timeouts_of receive send) ≡ Some send)
 
 -- an error code is the sum of p, e and the offset, each at its place
 abbrev pub ErrorIsSumOfFields : Type 0
@@ -92,18 +97,25 @@ ErrorIsSumOfFields = (error : ℕ) → error_code (phase_bit error) (code_of err
 
 abbrev pub FieldsOfErrorReadBack : Type 0
 FieldsOfErrorReadBack =
-    (p e offset : ℕ) → p < 2 → e < 2 ^ 3 → (phase_bit (error_code p e offset) ≡ p) × (code_of (error_code p e offset) ≡ e) × (offset_of (error_code p e offset) ≡ offset)
+    (p e offset : ℕ) → p < 2 → e < 2 ^ 3
+    → (phase_bit (error_code p e offset) ≡ p)
+    × (code_of (error_code p e offset) ≡ e)
+    × (offset_of (error_code p e offset) ≡ offset)
 
 -- the phase and what went wrong in it are read back
 abbrev pub PhaseAndKindReadBack : Type 0
 PhaseAndKindReadBack =
     (phase : Phase) (kind : ErrorKind) (offset : ℕ) →
-    (phase_of (error_code (bit_of_phase phase) (code_of_kind kind) offset) ≡ phase) × (kind_of_code (code_of (error_code (bit_of_phase phase) (code_of_kind kind) offset)) ≡ Some kind)
+    (phase_of (error_code (bit_of_phase phase) (code_of_kind kind) offset) ≡ phase)
+    × (kind_of_code (code_of (error_code (bit_of_phase phase) (code_of_kind kind) offset))
+    ≡ Some kind)
 
 -- a masked control has the bits R and S of the control, and no other
 abbrev pub MaskedControlKeepsBits : Type 0
 MaskedControlKeepsBits =
-    (control : ℕ) → (stops_receive (masked_of control) ≡ stops_receive control) × (stops_send (masked_of control) ≡ stops_send control)
+    (control : ℕ)
+    → (stops_receive (masked_of control) ≡ stops_receive control)
+    × (stops_send (masked_of control) ≡ stops_send control)
 
 abbrev pub MaskedControlHasNoOtherBit : Type 0
 MaskedControlHasNoOtherBit = (control : ℕ) → IsTrue (is_masked (masked_of control))

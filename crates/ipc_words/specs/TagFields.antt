@@ -7,7 +7,13 @@ use Rattle.ipc_words.specs.declared.tag_fields.TagFields.{TagFields}
 -- the word of a tag: each field at its place
 abbrev pub tag_of : TagFields → ℕ
 tag_of fields =
-    fields.untyped + 2 ^ 6 * fields.typed + 2 ^ 12 * bit_of fields.propagated + 2 ^ 13 * bit_of fields.redirected + 2 ^ 14 * bit_of fields.crossed + 2 ^ 15 * bit_of fields.failed + 2 ^ 16 * fields.label
+    fields.untyped
+    + 2 ^ 6 * fields.typed
+    + 2 ^ 12 * bit_of fields.propagated
+    + 2 ^ 13 * bit_of fields.redirected
+    + 2 ^ 14 * bit_of fields.crossed
+    + 2 ^ 15 * bit_of fields.failed
+    + 2 ^ 16 * fields.label
 
 -- the fields of a tag's word
 abbrev pub fields_of : ℕ → TagFields

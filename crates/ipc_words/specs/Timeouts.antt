@@ -4,7 +4,7 @@ use Rattle.ipc_words.specs.Time.{period_in}
 
 -- the word of a receive time and a send time
 abbrev pub timeouts_of : ℕ → ℕ → ℕ
-timeouts_of receive send = receive + 2 ^ 16 * send
+timeouts_of receive send = send * 2 ^ 16 + receive
 
 -- the time of each phase
 abbrev pub receive_time : ℕ → ℕ

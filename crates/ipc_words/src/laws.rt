@@ -1,6 +1,16 @@
 //! Laws of the words, each a function that computes nothing and whose contract is the law: a word and its fields determine
 //! each other, and what follows for the values made of them.
-ghost use Rattle.ipc_words.specs.Laws.{TagIsSumOfFields, FieldsOfTagReadBack, ReceivedTagReadsBack, IdIsSumOfFields, FieldsOfIdReadBack, GlobalIdIsGlobal, GlobalKindIsOfGlobalId, PeriodIsSumOfFields, FieldsOfPeriodReadBack, SpanOfPeriod, OnlyNeverHasNoSpan, SpanIsBounded, TimeoutsAreSumOfTimes, TimesOfTimeoutsReadBack, PeriodsOfTimeoutsReadBack, ErrorIsSumOfFields, FieldsOfErrorReadBack, PhaseAndKindReadBack, MaskedControlKeepsBits, MaskedControlHasNoOtherBit, MaskedControlIsItsBits, BitsOfControlReadBack, NextVersionIsLeast, OnlyLastVersionHasNoNext};
+ghost use Rattle.ipc_words.specs.Laws.{TagIsSumOfFields, FieldsOfTagReadBack, ReceivedTagReadsBack};
+ghost use Rattle.ipc_words.specs.Laws.{IdIsSumOfFields, FieldsOfIdReadBack, GlobalIdIsGlobal};
+ghost use Rattle.ipc_words.specs.Laws.{GlobalKindIsOfGlobalId, PeriodIsSumOfFields};
+ghost use Rattle.ipc_words.specs.Laws.{FieldsOfPeriodReadBack, SpanOfPeriod, OnlyNeverHasNoSpan};
+ghost use Rattle.ipc_words.specs.Laws.{SpanIsBounded, TimeoutsAreSumOfTimes};
+ghost use Rattle.ipc_words.specs.Laws.{TimesOfTimeoutsReadBack, PeriodsOfTimeoutsReadBack};
+ghost use Rattle.ipc_words.specs.Laws.{ErrorIsSumOfFields, FieldsOfErrorReadBack};
+ghost use Rattle.ipc_words.specs.Laws.{PhaseAndKindReadBack, MaskedControlKeepsBits};
+ghost use Rattle.ipc_words.specs.Laws.{MaskedControlHasNoOtherBit, MaskedControlIsItsBits};
+ghost use Rattle.ipc_words.specs.Laws.{BitsOfControlReadBack, NextVersionIsLeast};
+ghost use Rattle.ipc_words.specs.Laws.{OnlyLastVersionHasNoNext};
 ghost use Rattle.std.specs.Prelude.{◌≡◌, Some};
 ghost use Rattle.ipc_words.specs.Time.{span, no_time};
 

@@ -12,8 +12,8 @@ use Rattle.ipc_lines.proofs.Naming.{first_same, rest_same}
 use Rattle.ipc_lines.proofs.Spacing.{decimal_lacks, hex_lacks, id_lacks, call_lacks, letters_lack, lack_one, lack_two, lack_three, spaced_parts}
 use Rattle.ipc_shell.specs.Commands.{command_name, command_fields, command_text, IsCommand, CommandsAreWithinTheLimit}
 use Rattle.ipc_shell.specs.ScriptLines.{longest_line}
-use Rattle.ipc_shell.specs.declared.commands.CommandName.{CommandName}
-use Rattle.ipc_shell.specs.declared.commands.CommandName.TheVariants as name
+use Rattle.ipc_shell.specs.declared.run.commands.CommandName.{CommandName}
+use Rattle.ipc_shell.specs.declared.run.commands.CommandName.TheVariants as name
 
 -- ---- names
 first_byte : (xs ys : List ℕ) (fs gs : List (List ℕ)) → xs ∷ fs ≡ ys ∷ gs → get_or xs 0 0 ≡ get_or ys 0 0

@@ -8,8 +8,8 @@ use Rattle.ipc_lines.specs.Texts.{hex_text, id_text}
 use Rattle.ipc_lines.specs.Lines.{spaced, call_fields}
 use Rattle.ipc_lines.specs.Reading.{IsWord, IsCall}
 use Rattle.ipc_shell.specs.ScriptLines.{longest_line}
-use Rattle.ipc_shell.specs.declared.commands.CommandName.{CommandName}
-use Rattle.ipc_shell.specs.declared.commands.CommandName.TheVariants as name
+use Rattle.ipc_shell.specs.declared.run.commands.CommandName.{CommandName}
+use Rattle.ipc_shell.specs.declared.run.commands.CommandName.TheVariants as name
 
 -- the name of a command
 abbrev pub command_name : CommandName → List ℕ

@@ -5,39 +5,25 @@
 
 ghost use Rattle.std.specs.Prelude.{◌≡◌, ◌<◌};
 
-mod answering;
-#[cfg(test)]
-mod chart_tests;
-mod charting;
-#[cfg(test)]
-mod check_tests;
-mod checking;
-#[cfg(test)]
-mod command_tests;
-mod commands;
+mod chart;
+mod check;
 mod exit;
 mod lines;
 mod output;
-#[cfg(test)]
-mod row_tests;
-mod running;
-#[cfg(test)]
-mod tests;
-#[cfg(test)]
-mod transcripts;
+mod run;
 mod wire_commands;
 #[cfg(test)]
 mod wire_tests;
 mod wiring;
 
-use charting::chart_trace;
-use checking::check_trace;
+use chart::chart_trace;
+use check::check_trace;
 use clap::error::ErrorKind;
 use exit::Exit;
 use ipc_core::Limits;
 use ipc_options::{ScriptLimits, ShellOptions, shell_options};
 use ipc_ports::{Failures, ReadPort, WritePort};
-use running::run_script;
+use run::run_script;
 use std::alloc::Global;
 use std::fs::File;
 use std::io;

@@ -2,7 +2,7 @@ use Rattle.std.proofs.Common.{true, subst}
 use Rattle.ipc_trace.specs.Traces.{IsRead}
 use Rattle.ipc_shell.specs.Checking.{PrintsVerdict}
 use Rattle.ipc_shell.proofs.CheckLemmas.{judged, torn_lines}
-use Rattle.ipc_shell.proofs.checking.check_trace.Goals as goal
+use Rattle.ipc_shell.proofs.check.check_trace.Goals as goal
 
 pub returns-in-Torn-clause-checks : goal.returns-in-Torn-clause-checks
 returns-in-Torn-clause-checks g c =

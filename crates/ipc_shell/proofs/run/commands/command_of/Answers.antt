@@ -3,7 +3,7 @@ use Rattle.std.proofs.lemmas.Result.{IfOk-weaker}
 use Rattle.ipc_lines.specs.Reading.{texts_of}
 use Rattle.ipc_shell.specs.Commands.{command_name}
 use Rattle.ipc_shell.proofs.CommandLemmas.{call_command}
-use Rattle.ipc_shell.proofs.commands.command_of.Goals as goal
+use Rattle.ipc_shell.proofs.run.commands.command_of.Goals as goal
 
 pub returns-in-Call-clause-only : goal.returns-in-Call-clause-only
 returns-in-Call-clause-only c command is e =

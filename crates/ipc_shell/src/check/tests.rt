@@ -1,5 +1,5 @@
-use super::checking::check_trace;
-use super::exit::Exit;
+use super::check_trace;
+use crate::exit::Exit;
 use ipc_ports::{MemoryPort, Trouble};
 use std::alloc::{AllocError, Global};
 use std::process::Abort;

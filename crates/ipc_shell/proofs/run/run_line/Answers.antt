@@ -1,7 +1,7 @@
 use Rattle.std.proofs.Common.{sym, subst, ◌∙◌}
 use Rattle.std.specs.String.{string_bytes}
 use Rattle.ipc_shell.specs.Running.{RunsLine}
-use Rattle.ipc_shell.proofs.running.run_line.Goals as goal
+use Rattle.ipc_shell.proofs.run.run_line.Goals as goal
 
 pub returns-clause-ends : goal.returns-clause-ends
 returns-clause-ends g c =

@@ -3,6 +3,9 @@ ghost use Rattle.std.specs.String.{string_bytes};
 ghost use Rattle.ipc_check.specs.Faults.{IfNo};
 ghost use Rattle.ipc_shell.specs.Checking.{ChecksTrace, PrintsVerdict, expected_text, verdict_text};
 
+#[cfg(test)]
+mod tests;
+
 use crate::exit::Exit;
 use crate::output::put;
 use ipc_check::{Verdict, check};

@@ -2,7 +2,7 @@ use Rattle.std.proofs.Common.{◌≡◌, Some, ◌∙◌}
 use Rattle.ipc_core.specs.declared.command.Command.TheVariants.{Exreg}
 use Rattle.ipc_lines.proofs.ListTexts.{field_at}
 use Rattle.ipc_lines.proofs.Options.{some_same}
-use Rattle.ipc_shell.proofs.commands.read_exreg.Goals as goal
+use Rattle.ipc_shell.proofs.run.commands.read_exreg.Goals as goal
 
 pub returns-clause-only : goal.returns-clause-only
 returns-clause-only c thread target control is_thread is_target is_control e =

@@ -1,5 +1,5 @@
-use super::exit::Exit;
-use super::running::run_script;
+use super::run_script;
+use crate::exit::Exit;
 use ipc_core::Limits;
 use ipc_ports::{MemoryPort, PortRead, Trouble};
 use ipc_words::limits::MAX_LINE_BYTES;

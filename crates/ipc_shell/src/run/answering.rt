@@ -4,7 +4,7 @@ ghost use Rattle.ipc_lines.specs.Lines.{entry_text};
 ghost use Rattle.ipc_shell.specs.Answers.{answer_text};
 ghost use Rattle.ipc_shell.specs.Printing.{entries_text, ended, Answers};
 
-use crate::commands::command_is_readable;
+use super::commands::command_is_readable;
 use ipc_core::{Advance, Answer, Command, ExregAnswer, Kernel};
 use ipc_history::{Entry, Outcome};
 use ipc_lines::{HexText, IdText, entry_line, outcome_line};

@@ -2,11 +2,22 @@ ghost use Rattle.std.specs.Prelude.{◌≡◌, ◌≢◌, ◌+◌, ◌<◌, IsNo
 ghost use Rattle.ipc_shell.specs.Failing.{HasFailed};
 ghost use Rattle.ipc_shell.specs.Running.{first_kernel, RunsScript, EndsLine};
 
-use crate::answering::answer;
-use crate::commands::read_command;
+mod answering;
+#[cfg(test)]
+mod command_tests;
+mod commands;
+#[cfg(test)]
+mod row_tests;
+#[cfg(test)]
+mod tests;
+#[cfg(test)]
+mod transcripts;
+
 use crate::exit::Exit;
 use crate::lines::{NextLine, next_line};
 use crate::output::put;
+use answering::answer;
+use commands::read_command;
 use ipc_core::{Kernel, Limits};
 use ipc_ports::{PieceBuffer, PortRead, PortWrite};
 use std::alloc::Global;

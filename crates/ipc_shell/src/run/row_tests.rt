@@ -1,6 +1,6 @@
-use super::exit::Exit;
-use super::running::run_script;
+use super::run_script;
 use super::transcripts::*;
+use crate::exit::Exit;
 use ipc_core::{Limits, MAX_CALLS, MAX_ENTRIES};
 use ipc_ports::MemoryPort;
 use std::alloc::Global;

@@ -1,5 +1,5 @@
-use super::charting::chart_trace;
-use super::exit::Exit;
+use super::chart_trace;
+use crate::exit::Exit;
 use ipc_options::ChartOptions;
 use ipc_ports::{MemoryPort, Trouble};
 use std::alloc::Global;

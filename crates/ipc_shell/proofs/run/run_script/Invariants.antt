@@ -3,7 +3,7 @@ use Rattle.std.proofs.Common.{◌≡◌, true}
 use Rattle.std.specs.Io.KnownBytes.{prepend_known}
 use Rattle.ipc_shell.specs.Running.{first_kernel}
 use Rattle.ipc_shell.proofs.RunLemmas.{SoFar}
-use Rattle.ipc_shell.proofs.running.run_script.Given as goal
+use Rattle.ipc_shell.proofs.run.run_script.Given as goal
 
 abbrev pub invariant-lines : goal.invariant-lines
 invariant-lines g l = record {

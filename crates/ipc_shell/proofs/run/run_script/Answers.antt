@@ -7,8 +7,8 @@ use Rattle.ipc_shell.specs.Running.{first_kernel, EndsLine}
 use Rattle.ipc_shell.proofs.RunLemmas.{none_is_not_some, some_injective}
 use Rattle.ipc_shell.proofs.RunLemmas.{SoFar, none_taken, many_taken, one_empty, one_command, line_is_no_failure}
 use Rattle.ipc_shell.proofs.EndLemmas.{ends_without_memory, ends_with_device, ends_done, ends_too_long, ends_at_line}
-use Rattle.ipc_shell.proofs.running.run_script.Goals.{then-is_empty, in-Line-2+in_default-run_line}
-use Rattle.ipc_shell.proofs.running.run_script.Goals as goal
+use Rattle.ipc_shell.proofs.run.run_script.Goals.{then-is_empty, in-Line-2+in_default-run_line}
+use Rattle.ipc_shell.proofs.run.run_script.Goals as goal
 
 pub returns-in-Some-clause-runs : goal.returns-in-Some-clause-runs
 returns-in-Some-clause-runs g c =

@@ -5,7 +5,7 @@ use Rattle.ipc_lines.proofs.ListTexts.{spaced_found}
 use Rattle.ipc_lines.proofs.Options.{IfSome-weaker}
 use Rattle.ipc_shell.specs.Commands.{command_name, command_fields}
 use Rattle.ipc_shell.proofs.CommandLemmas.{command_parts, command_count, command_named}
-use Rattle.ipc_shell.proofs.commands.read_command.Goals as goal
+use Rattle.ipc_shell.proofs.run.commands.read_command.Goals as goal
 
 -- a line past the limit is no command's
 pub returns-then-line-gt-MAX_LINE_BYTES-clause-only : goal.returns-then-line-gt-MAX_LINE_BYTES-clause-only

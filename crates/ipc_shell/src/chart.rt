@@ -1,5 +1,8 @@
 ghost use Rattle.std.specs.Prelude.{◌≡◌, ◌≢◌, ◌+◌, ◌<◌};
 
+#[cfg(test)]
+mod tests;
+
 use crate::exit::Exit;
 use crate::output::put;
 use ipc_chart::{Scene, Selection, draw_svg, draw_text, read_threads, scene_of};

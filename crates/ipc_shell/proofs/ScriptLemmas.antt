@@ -1,12 +1,12 @@
 -- The lines of a script that were obeyed so far, one more at a time, and how a run ends after them.
-use Rattle.std.proofs.Common.{◌≡◌, ◌≢◌, rules, ℕ, ◌+◌, ◌<◌, ◌≤◌, Option, Some, None, IfSome, List, [], ◌∷◌, ◌++◌, length, refl, sym, ap, subst, ◌∙◌, arith, append_assoc, append-nil, length-append, inl, inr}
+use Rattle.std.proofs.Common.{◌≡◌, ℕ, ◌+◌, ◌<◌, ◌≤◌, Option, Some, None, IfSome, List, [], ◌∷◌, ◌++◌, length, refl, sym, ap, subst, ◌∙◌, arith, append_assoc, append-nil, length-append, inl, inr}
 use Rattle.std.specs.Option.{IsSomeAnd}
 use Rattle.std.specs.Io.KnownBytes.{Appends, prepend_known}
 use Rattle.std.proofs.KnownBytes.{Appends-nil, Appends-trans}
 use Rattle.ipc_shell.specs.ScriptLines.{lines_of, longest_line}
 use Rattle.ipc_shell.specs.Failing.{most_lines}
 use Rattle.ipc_shell.specs.Reading.{ReadsLine}
-use Rattle.ipc_shell.specs.Scripts.{ObeysLine, ObeysLines, StopsAfter, EndsAtBad, RunsLinesOf, EndsAtLine}
+use Rattle.ipc_shell.specs.Scripts.{ObeysLine, ObeysLines, StopsAfter, RunsLinesOf, EndsAtLine}
 use Rattle.ipc_shell.specs.declared.lines.NextLine.TheVariants as next
 use Rattle.ipc_shell.specs.declared.exit.Exit.{Exit}
 use Rattle.ipc_shell.specs.declared.exit.Exit.TheVariants.{Done, BadLine, NoMemory, DeviceFailed, Illegal, BadThreads}

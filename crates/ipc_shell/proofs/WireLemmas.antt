@@ -1,6 +1,6 @@
 -- What the lines of a wire script spell, and what is put out and printed for them.
-use Rattle.std.proofs.Common.{◌≡◌, ℕ, zero, suc, ◌+◌, ◌<◌, ◌≤◌, ◌^◌, Bool, true, false, Option, Some, None, IfSome, List, [], ◌∷◌, ◌++◌, length, take, drop, map, codes, refl, sym, ap, subst, ◌∙◌, arith, append_assoc, append-nil, add-one}
-use Rattle.std.specs.Prelude.{min, slice_index_or, slice_set, IsNone, if◌then◌else◌, nat_le}
+use Rattle.std.proofs.Common.{◌≡◌, ◌≢◌, ℕ, zero, suc, ◌+◌, ◌<◌, ◌≤◌, ◌^◌, Bool, true, false, Option, Some, None, IfSome, List, [], ◌∷◌, ◌++◌, length, take, drop, map, codes, refl, sym, ap, subst, ◌∙◌, arith, append_assoc, append-nil}
+use Rattle.std.specs.Prelude.{slice_index_or, slice_set, IsNone, if◌then◌else◌, nat_le}
 use Rattle.std.specs.Fmt.{decimal}
 use Rattle.std.specs.Io.KnownBytes.{Appends}
 use Rattle.std.proofs.KnownBytes.{Appends-nil}
@@ -9,13 +9,15 @@ use Rattle.std.proofs.Math.Seq.{take-add, take-length, drop-nil}
 use Rattle.std.proofs.Math.ListN.{drop_of_length-le}
 use Rattle.ipc_words.specs.Limits.{max_space, max_connections}
 use Rattle.ipc_exchange.specs.Service.{Line, line_at, nobody, without_bytes}
-use Rattle.ipc_exchange.specs.Slots.{LineSlots, service_of, stage_at}
+use Rattle.ipc_exchange.specs.Slots.{LineSlots, stage_at}
 use Rattle.ipc_exchange.specs.Feeding.{has_finished}
 use Rattle.ipc_exchange.specs.Events.{Event, Connect, Piece, Finish, Reading, Copy, ExchangeParts}
 use Rattle.ipc_exchange.specs.Exchange.{ExchangeSlots, Happened, Shows}
 use Rattle.ipc_exchange.specs.declared.progress.ConnectRefused.{ConnectRefused}
 use Rattle.ipc_exchange.specs.declared.progress.ConnectRefused.TheVariants.{TooMany, NoMemory}
+use Rattle.ipc_exchange.proofs.EndingLemmas.{others_stay}
 use Rattle.ipc_exchange.proofs.FeedLemmas.{service_stage}
+use Rattle.ipc_exchange.specs.Serving.{MayLack}
 use Rattle.std.specs.Io.KnownBytes.{prepend_known}
 use Rattle.ipc_shell.specs.Failing.{most_lines}
 use Rattle.ipc_shell.specs.Reading.{ReadsLine}
@@ -23,8 +25,8 @@ use Rattle.ipc_shell.specs.ScriptLines.{lines_of}
 use Rattle.ipc_shell.specs.declared.lines.NextLine.TheVariants as next
 use Rattle.ipc_shell.proofs.ScriptLemmas.{ObeyedSoFar, none_obeyed, many_obeyed, one_empty_line, one_command_line, stops_without_memory, stops_with_device, stops_done, stops_too_long, stops_at_line}
 use Rattle.ipc_shell.specs.WireCommands.{IsSpelled, SpellsPiece}
-use Rattle.ipc_shell.specs.Wiring.{IsGiven, Obeys, ObeysIn, WasNeverGiven, ends_here, ends_at, has_ended, PutsSome, PutsAll, WritesOutput, WritesOutputs}
-use Rattle.ipc_shell.specs.Wiring.{output_text, outputs_text, wire_text, emptied, emptied_at, all_emptied, with_lines, WiresLine, IsNoWire, EndsWireLine, WiresScript}
+use Rattle.ipc_shell.specs.Wiring.{IsGiven, Obeys, ObeysIn, ends_here, ends_at, has_ended, PutsSome, PutsAll, WritesOutput, WritesOutputs}
+use Rattle.ipc_shell.specs.Wiring.{connect_text, ended_text, ended_texts, said_text, output_text, outputs_text, emptied, all_emptied, with_lines, WiresLine, IsNoWire, EndsWireLine, WiresScript}
 use Rattle.ipc_shell.specs.declared.exit.Exit.{Exit}
 use Rattle.ipc_shell.specs.declared.exit.Exit.TheVariants as exit
 use Rattle.ipc_shell.specs.declared.wiring.Obeyed.{Obeyed}
@@ -291,10 +293,77 @@ all_written parts n before now exchange all written =
 pub partly_within : (parts : ExchangeParts) (n : ℕ) → n < length parts.service.lines → n < length (partly n parts.service.lines)
 partly_within parts n within = omega (arith, partly_long n parts.service.lines, within)
 
+-- where each connection is at the stage at which it was, none ended
+next_at : (lines : List Line) (q : ℕ) → line_at (drop 1 lines) q ≡ line_at lines (suc q)
+next_at [] q = refl
+next_at (l ∷ ls) q = refl
+
+not_here : (ended : Bool) (number : ℕ) → ended_text (ends_here ended ended number) ≡ []
+not_here true number = refl
+not_here false number = refl
+
+first_stays : (number : ℕ) (old : Line) (news : List Line) → (line_at news 0).stage ≡ old.stage
+    → ended_text (ends_here (has_finished old.stage) (has_finished (line_at news 0).stage) number) ≡ []
+first_stays number old news same =
+    ap (λ s. ended_text (ends_here (has_finished old.stage) (has_finished s) number)) same ∙ not_here (has_finished old.stage) number
+
+none_ended : (number : ℕ) (olds news : List Line) → ((q : ℕ) → q < length olds → (line_at news q).stage ≡ (line_at olds q).stage)
+    → ended_texts number olds news ≡ []
+none_ended number [] news same = refl
+none_ended number (l ∷ ls) news same =
+    ap (λ t. t ++ ended_texts (number + 1) ls (drop 1 news)) (first_stays number l news (same 0 (omega arith)))
+    ∙ none_ended (number + 1) ls (drop 1 news) (λ q within. ap (λ (n : Line). n.stage) (next_at news q) ∙ same (suc q) (omega (arith, within)))
+
+-- where each other one is, no other ended
+one_ended : (place number : ℕ) (olds news : List Line) → place < length olds
+    → ((q : ℕ) → q ≢ place → q < length olds → (line_at news q).stage ≡ (line_at olds q).stage)
+    → ended_texts number olds news ≡ ended_text (ends_here (has_finished (line_at olds place).stage) (has_finished (line_at news place).stage) (number + place))
+one_ended place number [] news within same = absurd (omega arith)
+one_ended zero number (l ∷ ls) news within same =
+    let here : number ≡ number + 0 = omega arith in
+    ap (λ t. ended_text (ends_here (has_finished l.stage) (has_finished (line_at news 0).stage) number) ++ t)
+    (none_ended (number + 1) ls (drop 1 news) (λ q w. ap (λ (n : Line). n.stage) (next_at news q) ∙ same (suc q) (λ e. omega (arith, e)) (omega (arith, w))))
+    ∙ append-nil (ended_text (ends_here (has_finished l.stage) (has_finished (line_at news 0).stage) number))
+    ∙ ap (λ k. ended_text (ends_here (has_finished l.stage) (has_finished (line_at news 0).stage) k)) here
+one_ended (suc place) number (l ∷ ls) news within same =
+    let here : (number + 1) + place ≡ number + suc place = omega arith in
+    ap (λ t. t ++ ended_texts (number + 1) ls (drop 1 news)) (first_stays number l news (same 0 (λ e. omega (arith, e)) (omega arith)))
+    ∙ one_ended place (number + 1) ls (drop 1 news) (omega arith) (λ q other w. ap (λ (n : Line). n.stage) (next_at news q) ∙ same (suc q) (λ e. other (omega (arith, e))) (omega (arith, w)))
+    ∙ ap (λ (n : Line). ended_text (ends_here (has_finished (line_at ls place).stage) (has_finished n.stage) ((number + 1) + place))) (next_at news place)
+    ∙ ap (λ k. ended_text (ends_here (has_finished (line_at ls place).stage) (has_finished (line_at news (suc place)).stage) k)) here
+
+-- the connection that is told is all that ended
+place_ended : (place : ℕ) (old new : ExchangeParts) (event : Event) (said : Obeyed) → place < length old.service.lines
+    → ((q : ℕ) → q ≢ place → q < length old.service.lines → (line_at new.service.lines q).stage ≡ (line_at old.service.lines q).stage)
+    → said ≡ ends_at old new place → ended_text said ≡ ended_texts 1 old.service.lines new.service.lines
+place_ended place old new event said within same e =
+    let number : place + 1 ≡ 1 + place = omega arith in
+    ap ended_text e ∙ ap (λ k. ended_text (ends_here (has_ended old place) (has_ended new place) k)) number
+    ∙ sym (one_ended place 1 old.service.lines new.service.lines within same)
+
+said_ended : (old new : ExchangeParts) (event : Event) (said : Obeyed) → Obeys old event said new → IsGiven old event
+    → ended_text said ≡ ended_texts 1 old.service.lines new.service.lines
+said_ended old new (Connect space) (Connected number) (is, few, occurs) given =
+    sym (none_ended 1 old.service.lines new.service.lines (λ q w. others_stay MayLack (Connect space) old new occurs.0 q occurs.1 tt w))
+said_ended old new (Connect space) (Refused TooMany) (full, same) given =
+    sym (none_ended 1 old.service.lines new.service.lines (λ q w. ap (λ (e : ExchangeParts). (line_at e.service.lines q).stage) same))
+said_ended old new (Connect space) (Refused NoMemory) (full, same) given =
+    sym (none_ended 1 old.service.lines new.service.lines (λ q w. ap (λ (e : ExchangeParts). (line_at e.service.lines q).stage) same))
+said_ended old new (Connect space) Done obeys given = absurd obeys
+said_ended old new (Connect space) (Ended number) obeys given = absurd obeys
+said_ended old new (Piece place bytes) said (occurs, e) given =
+    place_ended place old new (Piece place bytes) said given (λ q other w. others_stay MayLack (Piece place bytes) old new occurs.0 q occurs.1 other w) e
+said_ended old new (Finish place) said (occurs, e) given =
+    place_ended place old new (Finish place) said given (λ q other w. others_stay MayLack (Finish place) old new occurs.0 q occurs.1 other w) e
+said_ended old new (Reading moment) said (occurs, e) given =
+    ap ended_text e ∙ sym (none_ended 1 old.service.lines new.service.lines (λ q w. others_stay MayLack (Reading moment) old new occurs.0 q occurs.1 tt w))
+said_ended old new Copy said (occurs, e) given =
+    ap ended_text e ∙ sym (none_ended 1 old.service.lines new.service.lines (λ q w. others_stay MayLack Copy old new occurs.0 q occurs.1 tt w))
+
 -- a command was obeyed, and what is printed for it is this text
 wired : (old between new : ExchangeSlots) (event : Event) (said : Obeyed) (line text : List ℕ) (parts : ExchangeParts) → Shows old parts
     → IsSpelled event line → ObeysIn old event said between
-    → ((after : ExchangeParts) → Shows between after → (text ≡ wire_text said after) × Shows new (all_emptied after))
+    → ((after : ExchangeParts) → Shows between after → (text ≡ said_text said after) × Shows new (all_emptied after))
     → (last : ExchangeParts) × WiresLine parts line text last × Shows new last
 wired old between new event said line text parts shows spells obeyed answered =
     let (given, (after, obeys, now)) = obeyed parts shows in
@@ -307,7 +376,7 @@ wired old between new event said line text parts shows spells obeyed answered =
         said = said;
         between = after;
         obeys = obeys;
-        text_is = text_is;
+        text_is = text_is ∙ ap (λ t. connect_text said ++ outputs_text 1 after.service.lines ++ t) (said_ended parts after event said obeys given);
         new_is = refl;
       },
       shown,
@@ -318,7 +387,7 @@ not_none x none = absurd (cc (none))
 
 module _ (old between new : ExchangeSlots) (event : Event) (said : Obeyed) (line text : List ℕ) (number : ℕ) (before after : Option (List ℕ))
     (spells : IsSpelled event line) (obeyed : ObeysIn old event said between)
-    (answered : (parts : ExchangeParts) → Shows between parts → (text ≡ wire_text said parts) × Shows new (all_emptied parts)) where
+    (answered : (parts : ExchangeParts) → Shows between parts → (text ≡ said_text said parts) × Shows new (all_emptied parts)) where
   pub line_goes_on : Appends before after text → EndsWireLine old new before after line number None
   line_goes_on appended = λ parts shows.
       let (last, wires, shown) = wired old between new event said line text parts shows spells obeyed answered in

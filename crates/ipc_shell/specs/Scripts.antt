@@ -1,10 +1,12 @@
 -- The run of a script over a state of any kind: its lines, and what is printed. A relation says what
 -- a line that is not empty makes of a state, and what is printed for it.
-use Rattle.std.specs.Prelude.{◌≡◌, ℕ, ◌+◌, ◌<◌, ◌≤◌, List, [], ◌∷◌, ◌++◌, Option, Some, None, IfSome, length, ◌⊎◌}
+use Rattle.std.specs.Prelude.{◌≡◌, ℕ, ◌+◌, ◌<◌, ◌≤◌, List, [], ◌∷◌, ◌++◌, Option, Some, None}
+use Rattle.std.specs.Prelude.{IfSome, length, ◌⊎◌}
 use Rattle.std.specs.Io.KnownBytes.{Appends}
 use Rattle.ipc_shell.specs.ScriptLines.{lines_of, longest_line}
 use Rattle.ipc_shell.specs.declared.exit.Exit.{Exit}
-use Rattle.ipc_shell.specs.declared.exit.Exit.TheVariants.{Done, BadLine, NoMemory, DeviceFailed, Illegal, BadThreads}
+use Rattle.ipc_shell.specs.declared.exit.Exit.TheVariants.{Done, BadLine, NoMemory, DeviceFailed}
+use Rattle.ipc_shell.specs.declared.exit.Exit.TheVariants.{Illegal, BadThreads}
 
 -- an empty line is skipped; any other is short enough and is obeyed
 abbrev pub ObeysLine : {S : Type 0} → (S → List ℕ → List ℕ → S → Type 0)

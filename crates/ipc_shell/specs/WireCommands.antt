@@ -1,4 +1,5 @@
--- Our choice (docs/FORMATS.md): the commands of a wire script, as the events of an exchange that they spell.
+-- Our choice (docs/FORMATS.md): the commands of a wire script, as the events of an exchange that
+-- they spell.
 use Rattle.std.specs.Prelude.{◌≡◌, ℕ, ◌+◌, ◌<◌, ◌≤◌, ◌^◌, List, ◌∷◌, ◌++◌, codes, length, Ok}
 use Rattle.std.specs.Fmt.{decimal}
 use Rattle.hex.specs.Hex.{decode_of}

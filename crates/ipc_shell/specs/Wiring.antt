@@ -1,5 +1,6 @@
 -- Our choice (docs/FORMATS.md): the script of `l4sh wire`, and what is printed for it.
-use Rattle.std.specs.Prelude.{◌≡◌, ℕ, ◌+◌, ◌<◌, ◌≤◌, min, List, [], ◌∷◌, ◌++◌, Bool, codes, length, map, if◌then◌else◌, slice_set, take, ⊤, Option, IsNone}
+use Rattle.std.specs.Prelude.{◌≡◌, ℕ, ◌+◌, ◌<◌, ◌≤◌, min, List, [], ◌∷◌, ◌++◌, Bool, codes, length}
+use Rattle.std.specs.Prelude.{map, if◌then◌else◌, slice_set, take, drop, ⊤, Option, IsNone}
 use Rattle.std.specs.Fmt.{decimal}
 use Rattle.hex.specs.Hex.{encode_lower}
 use Rattle.ipc_words.specs.Limits.{max_entries, max_calls, max_connections}
@@ -7,7 +8,8 @@ use Rattle.ipc_core.specs.declared.kernel.Limits.{Limits}
 use Rattle.ipc_exchange.specs.Service.{Line, line_at, without_bytes}
 use Rattle.ipc_exchange.specs.Serving.{Asked, MayLack}
 use Rattle.ipc_exchange.specs.Feeding.{has_finished}
-use Rattle.ipc_exchange.specs.Events.{Event, Connect, Piece, Finish, Reading, Copy, ExchangeParts, Happens, empty_exchange}
+use Rattle.ipc_exchange.specs.Events.{Event, Connect, Piece, Finish, Reading, Copy, ExchangeParts}
+use Rattle.ipc_exchange.specs.Events.{Happens, empty_exchange}
 use Rattle.ipc_exchange.specs.Exchange.{ExchangeSlots, Shows}
 use Rattle.ipc_exchange.specs.declared.progress.ConnectRefused.TheVariants.{TooMany, NoMemory}
 use Rattle.ipc_exchange.specs.declared.progress.Progress.{Progress}
@@ -107,10 +109,23 @@ ended_text (Connected number) = []
 ended_text (Refused refused) = []
 ended_text Done = []
 
--- what is printed for a command
-abbrev pub wire_text : Obeyed → ExchangeParts → List ℕ
-wire_text said exchange =
-    connect_text said ++ outputs_text 1 exchange.service.lines ++ ended_text said
+-- the lines of the connections that went on before and have ended now, in order, of which the first
+-- has this number
+abbrev pub ended_texts : ℕ → List Line → List Line → List ℕ
+ended_texts number [] news = []
+ended_texts number (old ∷ olds) news =
+    ended_text (ends_here (has_finished old.stage) (has_finished (line_at news 0).stage) number)
+    ++ ended_texts (number + 1) olds (drop 1 news)
+
+-- what is printed for a command, by which the one exchange became the other
+abbrev pub wire_text : Obeyed → ExchangeParts → ExchangeParts → List ℕ
+wire_text said old new = connect_text said ++ outputs_text 1 new.service.lines
+    ++ ended_texts 1 old.service.lines new.service.lines
+
+-- the same where no connection ended but the one that is told
+abbrev pub said_text : Obeyed → ExchangeParts → List ℕ
+said_text said new =
+    connect_text said ++ outputs_text 1 new.service.lines ++ ended_text said
 
 -- all bytes of a connection went out
 abbrev pub emptied : Line → Line
@@ -161,7 +176,7 @@ pub record WiresLine (old : ExchangeParts) (line text : List ℕ) (new : Exchang
   pub said : Obeyed
   pub between : ExchangeParts
   pub obeys : Obeys old event said between
-  pub text_is : text ≡ wire_text said between
+  pub text_is : text ≡ wire_text said old between
   pub new_is : new ≡ all_emptied between
 
 -- a line that spells no such command

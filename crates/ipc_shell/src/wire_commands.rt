@@ -11,7 +11,8 @@ use ipc_lines::read_decimal;
 use ipc_words::limits::MAX_SPACE;
 use std::alloc::{AllocError, Global};
 
-/// A command of a wire script. Places of connections are counted from 0 on: connection 1 is in place 0.
+/// A command of a wire script. Places of connections are counted from 0 on: connection 1 is in
+/// place 0.
 #[derive(Drop)]
 pub enum WireCommand {
     /// A connection comes from a space, 1 to 64.

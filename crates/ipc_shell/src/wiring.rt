@@ -1,13 +1,14 @@
-ghost use Rattle.std.specs.Prelude.{◌≡◌, ◌≢◌, ◌+◌, ◌++◌, ◌<◌, ◌≤◌, ℕ, IfOk, IfSome, IsNone, MatchOption};
-ghost use Rattle.std.specs.Prelude.{Bool, OnOk, Some, length, true};
+ghost use Rattle.std.specs.Prelude.{◌≡◌, ◌≢◌, ◌+◌, ◌++◌, ◌<◌, ◌≤◌, ℕ, Bool, IfOk, IfSome, IsNone};
+ghost use Rattle.std.specs.Prelude.{MatchOption, OnOk, Some, length, true};
 ghost use Rattle.std.specs.String.{string_bytes};
 ghost use Rattle.ipc_exchange.specs.Events.{Connect, ExchangeParts, Finish, Piece};
 ghost use Rattle.ipc_exchange.specs.Exchange.{Shows};
 ghost use Rattle.ipc_shell.specs.Failing.{HasFailed};
 ghost use Rattle.ipc_shell.specs.WireCommands.{event_of};
 ghost use Rattle.ipc_shell.specs.Wiring.{EndsWireLine, ObeysIn, PutsAll, PutsSome, WasNeverGiven};
-ghost use Rattle.ipc_shell.specs.Wiring.{WiresScript, WritesOutput, WritesOutputs, all_emptied, connect_text};
-ghost use Rattle.ipc_shell.specs.Wiring.{ended_text, ends_here, first_exchange, progress_if, wire_text};
+ghost use Rattle.ipc_shell.specs.Wiring.{WiresScript, WritesOutput, WritesOutputs, all_emptied};
+ghost use Rattle.ipc_shell.specs.Wiring.{connect_text, ended_text, ends_here, first_exchange};
+ghost use Rattle.ipc_shell.specs.Wiring.{progress_if, said_text};
 
 use crate::exit::Exit;
 use crate::lines::{NextLine, next_line};
@@ -34,14 +35,16 @@ enum Obeyed {
     Ended(usize),
 }
 
-/// Runs a wire script from a reader: connections come, pieces of bytes come on them, and after each command the bytes that go out on
-/// each connection are written, and which connection ended. The writer is flushed after each command. Empty lines are skipped, and
-/// count.
+/// Runs a wire script from a reader: connections come, pieces of bytes come on them, and after each
+/// command the bytes that go out on each connection are written, and which connection ended. The
+/// writer is flushed after each command. Empty lines are skipped, and count.
 ///
-/// Where reader and writer tell their bytes, what the writer gets is exactly what is printed of the lines read: of all at `Done`, of those
-/// before the bad one at `BadLine`, and of the first ones at `NoMemory` and `DeviceFailed`, where the last may be cut off.
+/// Where reader and writer tell their bytes, what the writer gets is exactly what is printed of the
+/// lines read: of all at `Done`, of those before the bad one at `BadLine`, and of the first ones at
+/// `NoMemory` and `DeviceFailed`, where the last may be cut off.
 ///
-/// It ends as `DeviceFailed` only where a call of the reader or of the writer failed in this run, or behind 2^64 - 2 lines.
+/// It ends as `DeviceFailed` only where a call of the reader or of the writer failed in this run, or
+/// behind 2^64 - 2 lines.
 pub fn wire_script<R: PortRead, W: PortWrite>(
     alloc: Global,
     limits: Limits,
@@ -201,7 +204,7 @@ fn answer(
 ) -> Result<String, AllocError>
     requires { 0 < length piece.old }
     ensures { IfOk result (λ text. (parts : ExchangeParts) → Shows exchange.old parts
-        → (string_bytes text ≡ wire_text obeyed parts) × Shows exchange.new (all_emptied parts)) }
+        → (string_bytes text ≡ said_text obeyed parts) × Shows exchange.new (all_emptied parts)) }
 {
     let mut text = String::new(alloc);
     write_connected(obeyed, &mut text)?;

@@ -1,5 +1,5 @@
 -- The lines that were obeyed so far, and what was printed for them; no call failed.
-use Rattle.std.proofs.Common.{◌≡◌, ◌<◌, true, length}
+use Rattle.std.proofs.Common.{◌≡◌, true}
 use Rattle.std.specs.Io.KnownBytes.{prepend_known}
 use Rattle.ipc_shell.specs.Wiring.{first_exchange}
 use Rattle.ipc_shell.proofs.WireLemmas.{WiredSoFar}

@@ -4,6 +4,6 @@ use Rattle.ipc_frame.specs.declared.encoding.Source.{Source}
 use Rattle.ipc_frame.specs.declared.encoding.Source.TheVariants as source
 use Rattle.ipc_frame.specs.Replies.{ipcr_of}
 
-abbrev pub frame_of : Source → Frame
-frame_of (source.Frame frame) = frame
-frame_of (source.Outcome outcome) = ipcr_of outcome
+abbrev pub frame_of_source : Source → Frame
+frame_of_source (source.Frame frame) = frame
+frame_of_source (source.Outcome outcome) = ipcr_of outcome

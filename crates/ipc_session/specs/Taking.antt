@@ -2,6 +2,7 @@
 use Rattle.std.specs.Prelude.{◌≡◌, ℕ, ◌≤◌, List, [], ◌∷◌, ◌++◌, Option, Some, None, ⊤, Bool, true, false, IsTrue, length, map, take, drop}
 use Rattle.std.specs.Io.KnownBytes.{Appends}
 use Rattle.ipc_frame.specs.Frames.{spelling}
+use Rattle.ipc_frame.specs.Replies.{ipcr_of}
 use Rattle.ipc_frame.specs.declared.frame.Frame.{Frame}
 use Rattle.ipc_session.specs.declared.ending.WriteEnding.{WriteEnding}
 use Rattle.ipc_session.specs.declared.ending.WriteEnding.TheVariants as ending
@@ -22,6 +23,7 @@ TellsTaken (Some xs) (Some ys) calls = ys ≡ xs ++ calls
 -- the frame of what is given
 abbrev pub frames_of : Next → List Frame
 frames_of (next.Frame frame) = frame ∷ []
+frames_of (next.Outcome outcome) = ipcr_of outcome ∷ []
 frames_of next.Gone = []
 
 abbrev pub given_by : Next → List TakeCall

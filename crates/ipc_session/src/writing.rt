@@ -50,12 +50,13 @@ fn write_encoder<P: PortWrite>(
     Ok(())
 }
 
-/// The encoder of what is given; None where nothing more comes.
+/// The encoder of what is given; None where nothing more comes. Takes no memory.
 fn encoder_of(next: Next) -> Option<Encoder>
     ensures { Encodes next result }
 {
     match next {
         Next::Frame(frame) => Some(Encoder::new(frame)),
+        Next::Outcome(outcome) => Some(Encoder::reply(outcome)),
         Next::Gone => None,
     }
 }

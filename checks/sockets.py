@@ -6,7 +6,8 @@ checks/sockets.py --at PATH        asks the server that listens on PATH, but for
 
 Exit 0 where every answer was right: half frames, refusals, a full table, a reconnection, ExchangeRegisters over connections,
 100 processes in pairs and 100 in a star with each answer checked, and processes that are killed at random moments. At the end
-the server has as many threads and files as before, and its memory is told.
+the server has as many threads and files as before, and its memory is told. The server writes a trace meanwhile, of which
+l4sh, which is built first where it is missing, says that it is a legal history.
 """
 import os, random, signal, socket, struct, subprocess, sys, tempfile, time
 
@@ -14,6 +15,7 @@ from frames import ANY, exreg, frame, hello, ipc
 
 STOP_RECEIVE, STOP_SEND = 2, 4
 SECONDS = 10
+ROOT = os.path.dirname(os.path.dirname(os.path.abspath(__file__)))
 # about so many calls in each part: the server's history has room for 131,000 in all
 CALLS = 20_000
 # for so long processes are killed
@@ -272,11 +274,14 @@ def counted(pid):
 def main():
     if sys.argv[1] == "--at":
         return check_all(sys.argv[2])
+    traces(sys.argv[1])
     folder = tempfile.mkdtemp()
-    server = subprocess.Popen([sys.argv[1], "--dir", folder, "--spaces", "1"], stdout=subprocess.PIPE)
+    trace = folder + "/trace"
+    server = subprocess.Popen([sys.argv[1], "--dir", folder, "--spaces", "1", "--trace", trace], stdout=subprocess.PIPE)
     try:
         assert server.stdout.readline() == b"listening 1\n"
         path = folder + "/space1"
+        seen_soon(path, trace)
         assert os.stat(path).st_mode & 0o777 == 0o600
         before = counted(server.pid)
         check_all(path)
@@ -288,7 +293,58 @@ def main():
         assert after[:2] == before[:2], "something of a connection that ended was left"
     finally:
         server.kill()
+    judged(trace)
     refusals(sys.argv[1])
+
+
+def judged(trace):
+    """How many entries of each kind are in a trace, which has to be a legal history."""
+    begin = time.time()
+    told = subprocess.run([ROOT + "/l4sh", "check", trace], capture_output=True)
+    assert (told.returncode, told.stdout) == (0, b"yes\n"), told
+    counts = {}
+    for line in open(trace):
+        kind = line.split(" ")[0]
+        counts[kind] = counts.get(kind, 0) + 1
+    print("a trace of %d entries: yes, in %.1f s" % (sum(counts.values()), time.time() - begin))
+    return counts
+
+
+def traced(program, trace):
+    """What a server says that writes a trace of its own client's message."""
+    folder = tempfile.mkdtemp()
+    words = [program, "--dir", folder, "--spaces", "1", "--connections", "2", "--probe", "--trace", trace]
+    told = subprocess.run(words, capture_output=True)
+    assert told.stdout == b"listening 1\nprobe 0x7\nclosed\n", told
+    os.rmdir(folder)
+    return told.returncode, told.stderr
+
+
+def traces(program):
+    """A trace to its end; and a trace that fails, which the server goes on without."""
+    folder = tempfile.mkdtemp()
+    trace = folder + "/trace"
+    with open(trace, "w") as old:
+        old.write("what was there before\n" * 100)
+    assert traced(program, trace) == (0, b"")
+    counts = judged(trace)
+    assert (counts["ended"], counts["broke"]) == (1, 2), counts
+    for bad in ("/dev/full", folder, folder + "/none/trace"):
+        assert traced(program, bad) == (1, b"l4d: trace TR1\n"), bad
+    print("a trace that fails: l4d: trace TR1 once, the server serves on, and its status is 1")
+
+
+def seen_soon(path, trace):
+    """What a client does is in the trace while it is connected, in whole lines."""
+    client = Client(path, 200)
+    for _ in range(100):
+        text = open(trace).read()
+        if "opened 200.1 1\n" in text:
+            break
+        time.sleep(0.01)
+    assert text.endswith("opened 200.1 1\n"), text
+    client.bye()
+    wait_free(path, 200)
 
 
 def refusals(program):

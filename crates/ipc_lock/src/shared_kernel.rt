@@ -191,8 +191,8 @@ impl<C: Ledger, T: Ledger> SharedKernel<C, T> {
         self.work.notify_all();
     }
 
-    /// Ends the waiting of the trace, and of the mover if it still waits. Called once, after sessions, ticker and mover were joined, so
-    /// that no entry comes behind it.
+    /// Ends the waiting of the trace, and of the mover if it still waits. Called once, after sessions, ticker and
+    /// mover were joined, so that no entry comes behind it.
     pub fn close<R: Wait>(&self, rt: &R) {
         let mut inside = self.inside.lock(rt);
         inside.close();
@@ -228,8 +228,9 @@ impl<C: Ledger, T: Ledger> SharedKernel<C, T> {
         Ok(None)
     }
 
-    /// Waits for the entry of this place of the history, counted from 0, and answers copies of it and of those that follow it: at most
-    /// 64, and none behind a call with strings. No entry once the kernel was closed and has none there.
+    /// Waits for the entry of this place of the history, counted from 0, and answers copies of it and of those that
+    /// follow it: at most 64, and none behind a call with strings. No entry once the kernel was closed and has none
+    /// there.
     ///
     /// # Errors
     ///

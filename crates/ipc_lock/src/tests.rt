@@ -201,8 +201,10 @@ fn assert_lines<C: Ledger, T: Ledger, R: Wait + Abort>(
         assert_eq!(rt; told.as_str(), *line);
         index = index.saturating_add(1);
     }
+    assert_eq!(rt; kernel.wait_entries(rt, 0)?.len(), lines.len());
     kernel.close(rt);
     assert!(rt; kernel.wait_line(rt, index)?.is_none());
+    assert!(rt; kernel.wait_entries(rt, index)?.is_empty());
     Ok(())
 }
 
@@ -363,6 +365,11 @@ fn stopped_transfers<C: Ledger, T: Ledger, R: Wait + Abort>(
     assert_eq!(rt; said(kernel, rt, Step::Broke(one.thread)), "broken");
     two.is_told(rt, alloc, kernel, "4 0x8000 nil nil 0x10000e - -")?;
     assert_eq!(rt; said(kernel, rt, Step::Advance), "idle");
+    // the first call with a string is the last of its group
+    let group = kernel.wait_entries(rt, 0)?;
+    assert_eq!(rt; group.len(), 5);
+    kernel.end_work(rt);
+    assert!(rt; !kernel.wait_work(rt));
     kernel.close(rt);
     assert!(rt; !kernel.wait_work(rt));
     Ok(())

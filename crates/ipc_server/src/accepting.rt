@@ -1,4 +1,4 @@
-//! The workers of a server beside those of its connections: one for each path, the ticker and the mover.
+//! The workers of a server beside those of its connections and of its trace: one for each path, the ticker and the mover.
 ghost use Rattle.std.specs.Prelude.{◌≡◌, ◌<◌};
 
 use crate::paths::Listener;
@@ -41,7 +41,7 @@ pub fn serve_all<C: Ledger + Send, T: Ledger + Send, R: Threads + Wait + Clock +
             accept_all(server, listeners, connections);
         }
         over.store(true, Ordering::SeqCst);
-        server.shared.close(server.rt);
+        server.shared.end_work(server.rt);
         ticker && mover
     })
 }

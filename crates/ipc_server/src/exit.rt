@@ -7,6 +7,8 @@ use std::{fmt, io};
 pub enum Exit {
     /// All connections have ended: status 0.
     Closed,
+    /// All connections have ended, and the trace had stopped before, which was told then: status 1.
+    Untraced,
     /// A path cannot be bound: status 1.
     CannotListen(String),
     /// The program itself got no memory: status 1.
@@ -47,6 +49,7 @@ impl fmt::Display for Exit {
     fn fmt<W: fmt::Write>(&self, f: &mut fmt::Formatter<W>) -> fmt::Result {
         match self {
             Exit::Closed => write!(f, "l4d: closed"),
+            Exit::Untraced => write!(f, "l4d: closed, and the trace had stopped"),
             Exit::CannotListen(path) => write!(f, "l4d: cannot listen on {path}"),
             Exit::NoMemory => write!(f, "l4d: no memory"),
             Exit::DeviceFailed => write!(f, "l4d: device failed"),

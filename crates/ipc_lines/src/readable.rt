@@ -137,7 +137,7 @@ pub fn entry_is_readable(entry: &Entry)
         }
         Entry::Given(Input::Called(number, thread, call)) => {
             is_word(*number);
-            is_call(*thread, call);
+            is_call(*thread, call.call());
         }
         Entry::Given(Input::Exreg(thread, dest, control)) => {
             id_is_word(*thread);

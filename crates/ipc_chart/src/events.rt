@@ -77,7 +77,7 @@ fn event_of_input(
         Input::Called(number, caller, call) => at(
             Mark::Called,
             *caller,
-            call_label(alloc, *number, *caller, call)?,
+            call_label(alloc, *number, *caller, call.call())?,
         ),
         Input::Exreg(thread, other, control) => Event {
             mark: Mark::Stopped,

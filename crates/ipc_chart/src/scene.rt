@@ -76,7 +76,8 @@ impl Maker {
     // Adds what an entry shows.
     fn add(&mut self, number: u64, entry: &Entry, selection: &Selection) -> Result<(), AllocError> {
         if let Entry::Given(Input::Called(number, caller, call)) = entry {
-            self.calls.add(*number, CallNote::new(*caller, call))?;
+            self.calls
+                .add(*number, CallNote::new(*caller, call.call()))?;
         }
         if !selection.has_entry(number) {
             return Ok(());

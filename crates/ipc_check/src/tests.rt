@@ -1,5 +1,5 @@
 use super::*;
-use ipc_history::{Call, CallFields, Entry, Input, Output};
+use ipc_history::{Call, CallFields, EnteredCall, Entry, Input, Output};
 use ipc_items::{BufferList, StringList, Substring};
 use ipc_words::{IpcError, MsgTag, Period, ThreadId};
 use std::alloc::Global;
@@ -52,8 +52,9 @@ fn receives(alloc: Global, from: ThreadId) -> Result<Call, Fail> {
     )
 }
 
-fn called(number: u64, caller: u32, call: Call) -> Entry {
-    Entry::Given(Input::Called(number, first(caller), call))
+fn called(alloc: Global, number: u64, caller: u32, call: Call) -> Result<Entry, Fail> {
+    let call = EnteredCall::new(alloc, call).ok().ok_or("memory")?;
+    Ok(Entry::Given(Input::Called(number, first(caller), call)))
 }
 
 fn written(output: Output) -> Entry {
@@ -90,16 +91,16 @@ fn propagation(alloc: Global, left_out: usize) -> Result<Vec<Entry>, Fail> {
         opened(1),
         opened(2),
         opened(3),
-        called(1, 2, receives(alloc, ThreadId::ANYTHREAD)?),
-        called(2, 3, receives(alloc, ThreadId::ANYTHREAD)?),
-        called(3, 1, asks),
+        called(alloc, 1, 2, receives(alloc, ThreadId::ANYTHREAD)?)?,
+        called(alloc, 2, 3, receives(alloc, ThreadId::ANYTHREAD)?)?,
+        called(alloc, 3, 1, asks)?,
         written(Output::Began(3, 1)),
         written(Output::Ended(3, 1)),
-        called(4, 2, passes_on),
+        called(alloc, 4, 2, passes_on)?,
         written(Output::Began(4, 2)),
         written(Output::Turned(3, first(3))),
         written(Output::Ended(4, 2)),
-        called(5, 3, answers),
+        called(alloc, 5, 3, answers)?,
         written(Output::Began(5, 3)),
         written(Output::Ended(5, 3)),
     ]?;
@@ -143,8 +144,8 @@ fn string_to(alloc: Global, room: u64) -> Result<Vec<Entry>, Fail> {
     Ok(vec![in alloc;
         opened(1),
         opened(2),
-        called(1, 2, takes.ok_or("a receive")?),
-        called(2, 1, sends.ok_or("a send")?),
+        called(alloc, 1, 2, takes.ok_or("a receive")?)?,
+        called(alloc, 2, 1, sends.ok_or("a send")?)?,
     ]?)
 }
 
@@ -250,7 +251,7 @@ fn a_wait_of_no_time_fails_at_once(rt: HostRuntime) -> Result<(), Fail> {
         0,
         ThreadId::NILTHREAD,
     )?;
-    let entries = vec![in rt.alloc(); opened(1), called(1, 1, polls), opened(2)]?;
+    let entries = vec![in rt.alloc(); opened(1), called(rt.alloc(), 1, 1, polls)?, opened(2)]?;
     let expected = Some(Output::Failed(1, IpcError::from_word(0x3)));
     assert_eq!(rt; check(&entries), Verdict::No { index: 2, expected });
     Ok(())

@@ -486,7 +486,7 @@ fn focus_on(entries: &[Entry], input: &Input) -> Option<Focus>
 {
     match input {
         Input::Called(number, caller, call) => {
-            Some(Focus::entered(entries, *number, *caller, call))
+            Some(Focus::entered(entries, *number, *caller, call.call()))
         }
         _ => None,
     }
@@ -511,7 +511,9 @@ fn note(
 {
     match entry {
         Entry::Given(Input::Called(number, caller, call)) => match copies {
-            Some(copies) => desks.note_called(entries, taken, *number, *caller, call, copies),
+            Some(copies) => {
+                desks.note_called(entries, taken, *number, *caller, call.call(), copies)
+            }
             None => unreachable!(),
         },
         _ => desks.note(entries, taken, slots, entry),

@@ -28,7 +28,7 @@ use crate::answers::{Advance, EnterRefused, ExregAnswer, NoThread};
 use crate::course::Course;
 use crate::refusal::Refusal;
 use crate::room::call_need;
-use ipc_history::{Call, Entry, Input, Outcome};
+use ipc_history::{Call, EnteredCall, Entry, Input, Outcome};
 use ipc_words::limits::{
     BLOCK_BYTES, LAST_MOMENT, MAX_CALLS, MAX_ENTRIES, MAX_SPACE, MAX_STRING_BYTES,
     MAX_THREAD_NUMBER, NEED_OF_EXCHANGE, NEED_OF_OPEN, PLEDGE_OF_BLOCK, PLEDGE_OF_OPEN_CALL,
@@ -355,12 +355,20 @@ impl Kernel {
         };
         let is_normal = call.is_normal();
         prove!(is_normal);
-        self.course.take_input(
-            self.moment,
-            Input::Called(number, thread, call),
-            Some(copies),
-        );
-        Ok(number)
+        match EnteredCall::new(self.alloc, call) {
+            Ok(call) => {
+                self.course.take_input(
+                    self.moment,
+                    Input::Called(number, thread, call),
+                    Some(copies),
+                );
+                Ok(number)
+            }
+            Err(call) => Err(EnterRefused {
+                refusal: Refusal::NoMemory,
+                call,
+            }),
+        }
     }
 
     /// Stops phases of a live thread of the caller's space, R a receive phase and S a send phase (L4 X.2 manual, ExchangeRegisters).

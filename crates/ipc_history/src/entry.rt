@@ -2,7 +2,9 @@ ghost use Rattle.std.specs.Prelude.{◌≡◌, option_map};
 ghost use Rattle.ipc_history.specs.Entries.{moment_in, opens, space_in, thread_in, breaks, number_in, calls, call_in, count_in, receiver_in, sender_in, ends_send, ends, turned_in, closes};
 
 use crate::call::Call;
+use crate::entered::EnteredCall;
 use ipc_words::{IpcError, MaskedControl, ThreadId};
+use std::mem::size_of;
 
 /// What comes from outside.
 #[derive(Drop)]
@@ -12,7 +14,7 @@ pub enum Input {
     /// A thread and its space.
     Opened(ThreadId, u64),
     /// A call's number, its caller and the call.
-    Called(u64, ThreadId, Call),
+    Called(u64, ThreadId, EnteredCall),
     /// A thread stops phases of another one: itself, the other one, and which.
     Exreg(ThreadId, ThreadId, MaskedControl),
     /// A thread ends.
@@ -38,7 +40,7 @@ pub enum Output {
     Failed(u64, IpcError),
 }
 
-/// One line of a history.
+/// One line of a history, 64 bytes at most in the list.
 #[derive(Drop)]
 pub enum Entry {
     /// From outside.
@@ -46,6 +48,8 @@ pub enum Entry {
     /// By the rules.
     Written(Output),
 }
+
+const _: () = prove!(size_of::<Entry>() <= 64);
 
 impl Entry {
     /// The moment of an At.
@@ -124,7 +128,7 @@ impl Entry {
     {
         match self {
             Entry::Given(Input::Called(entered, caller, call)) if *entered == number => {
-                Some((*caller, call))
+                Some((*caller, call.call()))
             }
             _ => None,
         }

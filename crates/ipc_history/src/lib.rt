@@ -2,11 +2,13 @@
 #![tactic(auto)]
 
 mod call;
+mod entered;
 mod entry;
 mod history;
 mod outcome;
 
 pub use call::{Call, CallFields};
+pub use entered::EnteredCall;
 pub use entry::{Entry, Input, Output};
 pub use history::History;
 pub use outcome::Outcome;

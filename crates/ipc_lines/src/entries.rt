@@ -21,7 +21,7 @@ fn write_input(alloc: Global, out: &mut String, input: &Input) -> Result<(), All
         Input::Opened(thread, space) => write!(out, "opened {} {space}", IdText(*thread)),
         Input::Called(number, caller, call) => {
             write!(out, "called {number} ")?;
-            write_call(alloc, out, *caller, call)
+            write_call(alloc, out, *caller, call.call())
         }
         Input::Exreg(thread, dest, control) => {
             let control = HexText(control.to_word());

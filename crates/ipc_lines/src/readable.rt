@@ -135,7 +135,7 @@ pub fn entry_is_readable(entry: &Entry)
         }
         Entry::Given(Input::Called(number, thread, call)) => {
             is_word(*number);
-            call_is_readable(*thread, call);
+            call_is_readable(*thread, call.call());
         }
         Entry::Given(Input::Exreg(thread, dest, control)) => {
             id_is_word(*thread);

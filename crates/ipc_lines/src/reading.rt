@@ -16,7 +16,7 @@ ghost use Rattle.ipc_lines.specs.Names.{entry_name};
 use crate::call_reading::read_call;
 use crate::fields::line_fields;
 use crate::numbers::{read_decimal, read_hex, read_id};
-use ipc_history::{Entry, Input, Output};
+use ipc_history::{EnteredCall, Entry, Input, Output};
 use ipc_words::limits::MAX_LINE_BYTES;
 use ipc_words::{IpcError, MaskedControl, ThreadId};
 use std::alloc::{AllocError, Global};
@@ -315,7 +315,10 @@ fn read_numbered_call(
         → IfOk result (λ answer. answer ≡ Some (Given (Called number thread call))) }
 {
     match read_call(alloc, fields)? {
-        Some((thread, call)) => Ok(Some(Entry::Given(Input::Called(number, thread, call)))),
+        Some((thread, call)) => match EnteredCall::new(alloc, call) {
+            Ok(call) => Ok(Some(Entry::Given(Input::Called(number, thread, call)))),
+            Err(_) => Err(AllocError),
+        },
         None => Ok(None),
     }
 }

@@ -1,5 +1,5 @@
 use super::*;
-use ipc_history::{Call, CallFields, Entry, Input, Outcome, Output};
+use ipc_history::{Call, CallFields, EnteredCall, Entry, Input, Outcome, Output};
 use ipc_items::{BufferList, StringList, Substring};
 use ipc_words::{IpcError, MaskedControl, MsgTag, Period, ThreadId};
 use std::alloc::{AllocError, Global};
@@ -24,6 +24,12 @@ fn nothing(alloc: Global) -> CallFields {
         strings: StringList::new(alloc),
         buffers: None,
     }
+}
+
+// A call of these parts, as it stands in an entry.
+fn entered(alloc: Global, fields: CallFields) -> Result<EnteredCall, Fail> {
+    let call = Call::new(fields).ok_or("not in normal form")?;
+    Ok(EnteredCall::new(alloc, call).ok().ok_or("memory")?)
 }
 
 fn two_buffers(alloc: Global) -> Result<BufferList, AllocError> {
@@ -86,7 +92,7 @@ fn scalars(rt: HostRuntime) -> Result<(), Fail> {
 #[test]
 fn inputs(rt: HostRuntime) -> Result<(), Fail> {
     let stop_send = MaskedControl::from_word(4).ok_or("S")?;
-    let call = Call::new(nothing(rt.alloc())).ok_or("call")?;
+    let call = entered(rt.alloc(), nothing(rt.alloc()))?;
     let inputs = [
         (
             Input::At(18_446_744_073_709_551_615),
@@ -218,7 +224,7 @@ fn a_large_call(rt: HostRuntime) -> Result<(), Fail> {
         strings,
         ..nothing(alloc)
     };
-    let call = Call::new(sends).ok_or("not in normal form")?;
+    let call = entered(alloc, sends)?;
     let line = entry_line(alloc, &Entry::Given(Input::Called(1, thread(1), call)))?;
     assert_eq!(rt;
         line.len(),

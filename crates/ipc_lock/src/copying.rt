@@ -2,7 +2,7 @@
 ghost use Rattle.std.specs.Prelude.{◌≡◌, ◌≤◌, ◌<◌, IfOk, length};
 ghost use Rattle.ipc_lock.specs.Groups.{IsGroupAt};
 
-use ipc_history::{Call, CallFields, Entry, Input};
+use ipc_history::{Call, CallFields, EnteredCall, Entry, Input};
 use ipc_items::BufferList;
 use std::alloc::{AllocError, Global};
 
@@ -71,12 +71,21 @@ fn copy_input(alloc: Global, input: &Input) -> Result<Input, AllocError>
         Input::At(moment) => Input::At(*moment),
         Input::Opened(thread, space) => Input::Opened(*thread, *space),
         Input::Called(number, caller, call) => {
-            Input::Called(*number, *caller, copy_call(alloc, call)?)
+            Input::Called(*number, *caller, copy_entered(alloc, call.call())?)
         }
         Input::Exreg(thread, other, control) => Input::Exreg(*thread, *other, *control),
         Input::Broke(thread) => Input::Broke(*thread),
         Input::Moved(number, count) => Input::Moved(*number, *count),
     })
+}
+
+fn copy_entered(alloc: Global, call: &Call) -> Result<EnteredCall, AllocError>
+    ensures { IfOk result (λ copy. copy ≡ call.now) }
+{
+    match EnteredCall::new(alloc, copy_call(alloc, call)?) {
+        Ok(entered) => Ok(entered),
+        Err(_) => Err(AllocError),
+    }
 }
 
 fn copy_call(alloc: Global, call: &Call) -> Result<Call, AllocError>

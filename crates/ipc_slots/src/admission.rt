@@ -69,7 +69,7 @@ impl Slots {
             Input::Called(number, caller, call) => {
                 self.is_free(entries, *caller)
                     && u128::from(*number) == u128::from(self.calls_made(entries)) + 1
-                    && call.is_normal()
+                    && call.call().is_normal()
             }
             Input::Exreg(thread, _, control) => {
                 self.is_free(entries, *thread) && is_masked(*control)

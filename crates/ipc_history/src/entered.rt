@@ -1,0 +1,39 @@
+ghost use Rattle.std.specs.Prelude.{◌≡◌, IfErr, IfOk};
+
+use crate::call::Call;
+use std::alloc::Global;
+use std::marker::Model;
+
+/// A call that was entered, behind one pointer: an entry that has one is moved without it. Seen as the call's parts.
+#[derive(Drop)]
+pub struct EnteredCall {
+    call: Box<Call>,
+}
+
+impl Model for EnteredCall {
+    ghost use Rattle.ipc_history.specs.CallParts.{CallParts};
+
+    ghost Value = { CallParts };
+
+    ghost view = { λ e. e.call.value };
+}
+
+impl EnteredCall {
+    /// Moves a call there; its lists are not copied. Where memory is refused the call is handed back.
+    pub fn new(alloc: Global, call: Call) -> Result<EnteredCall, Call>
+        ensures ok { IfOk result (λ entered. entered ≡ call) }
+        ensures back { IfErr result (λ refused. refused ≡ call) }
+    {
+        match Box::new(alloc, call) {
+            Ok(call) => Ok(EnteredCall { call }),
+            Err(refused) => Err(refused.value),
+        }
+    }
+
+    /// The call.
+    pub fn call(&self) -> &Call
+        ensures { result.now ≡ self.now }
+    {
+        &self.call
+    }
+}

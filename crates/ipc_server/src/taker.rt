@@ -1,7 +1,7 @@
 ghost use Rattle.std.specs.Prelude.{None};
 
 use crate::server::Server;
-use ipc_frame::{Frame, ipcr_of};
+use ipc_frame::Frame;
 use ipc_lock::{Next as Left, Posted, TakeSeat};
 use ipc_session::{Next, TakeDesk};
 use std::rt::Clock;
@@ -25,21 +25,6 @@ impl<'a, C: Ledger, T: Ledger, R: Wait + Clock> Taker<'a, C, T, R> {
             place,
             seat: None,
             gone: false,
-        }
-    }
-
-    /// The frame of what was left; None where nothing more comes, or there is no memory for an outcome.
-    fn frame_of(&mut self, left: Left<T>) -> Option<Frame> {
-        match left {
-            Left::Outcome(taken) => {
-                let outcome = taken.into_outcome();
-                match ipcr_of(self.server.alloc, &outcome) {
-                    Ok(ipcr) => Some(Frame::Ipcr(ipcr)),
-                    Err(_) => None,
-                }
-            }
-            Left::Posted(posted) => Some(self.posted_frame(posted)),
-            Left::Gone => None,
         }
     }
 
@@ -69,12 +54,13 @@ impl<C: Ledger, T: Ledger, R: Wait + Clock> TakeDesk for Taker<'_, C, T, R> {
 
     fn next(&mut self) -> Next {
         let server = self.server;
-        let left = server
+        match server
             .shared
-            .wait_next(server.rt, self.place, &mut self.seat);
-        match self.frame_of(left) {
-            Some(frame) => Next::Frame(frame),
-            None => {
+            .wait_next(server.rt, self.place, &mut self.seat)
+        {
+            Left::Outcome(taken) => Next::Outcome(taken.into_outcome()),
+            Left::Posted(posted) => Next::Frame(self.posted_frame(posted)),
+            Left::Gone => {
                 self.gone = true;
                 self.end_thread();
                 Next::Gone

@@ -1,7 +1,7 @@
 -- What each command does to the counts of the books: calls, outcomes taken, threads opened.
 use Rattle.std.proofs.Common.{◌≡◌, ℕ, ◌+◌, ◌≤◌, List, [], ◌∷◌, ◌++◌, Bool, true, false, Option}
-use Rattle.std.proofs.Common.{Some, None, Result, Ok, Err, IfOk, OnOk, OnErr, map, length, filter}
-use Rattle.std.proofs.Common.{count_by, filter_map, refl, sym, ap, ◌∙◌, ◌==◌, eq-eqb, nat_lt, subst}
+use Rattle.std.proofs.Common.{Result, Ok, Err, IfOk, OnOk, OnErr, map, length, filter}
+use Rattle.std.proofs.Common.{count_by, filter_map, refl, ap, ◌∙◌, ◌==◌, eq-eqb, nat_lt, subst}
 use Rattle.std.proofs.Common.{MatchBool, arith}
 use Rattle.std.specs.Prelude.{if◌then◌else◌}
 use Rattle.std.proofs.lemmas.List.{length-append}
@@ -31,7 +31,7 @@ use Rattle.ipc_history.specs.Threads.{is_live}
 use Rattle.ipc_history.specs.Calls.{caller_of}
 use Rattle.ipc_lock.specs.Seats.{SeatRefuses}
 use Rattle.ipc_core.specs.Effects.{Breaks, Exchanges, Ticks}
-use Rattle.ipc_core.specs.Obeying.{MayObey, rested}
+use Rattle.ipc_core.specs.Obeying.{rested}
 use Rattle.ipc_lock.specs.Opens.{opens, opens_a_thread}
 
 opens_append : (P Q : List Entry) → opens (P ++ Q) ≡ opens P + opens Q

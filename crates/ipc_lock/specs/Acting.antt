@@ -1,5 +1,5 @@
 -- What a step does to the kernel, and how it is answered.
-use Rattle.std.specs.Prelude.{◌≡◌, ℕ, ◌+◌, ◌==◌, None, false, length}
+use Rattle.std.specs.Prelude.{◌≡◌, ℕ, ◌+◌, None, false}
 use Rattle.ipc_history.specs.Threads.{is_live}
 use Rattle.ipc_core.specs.Effects.{Breaks, Exchanges, Ticks}
 use Rattle.ipc_core.specs.KernelParts.{KernelParts}

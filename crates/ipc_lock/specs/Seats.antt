@@ -1,7 +1,7 @@
 -- When a seat is refused.
-use Rattle.std.specs.Prelude.{◌≡◌, ℕ, ◌==◌, Option, None, MatchBool, length, false, ◌⊎◌}
+use Rattle.std.specs.Prelude.{◌≡◌, ℕ, ◌==◌, Option, None, MatchBool}
 use Rattle.ipc_core.specs.KernelParts.{KernelParts}
-use Rattle.ipc_core.specs.Outcomes.{outcome_to_take, taken_by}
+use Rattle.ipc_core.specs.Outcomes.{taken_by}
 use Rattle.ipc_core.specs.Effects.{Gives}
 use Rattle.ipc_core.specs.Steps.{MayRefuse}
 use Rattle.ipc_core.specs.declared.refusal.Refusal.{Refusal}

@@ -1,4 +1,4 @@
-use Rattle.std.proofs.Common.{rules, arith, ◌≡◌, ◌∙◌, length}
+use Rattle.std.proofs.Common.{rules, arith, ◌≡◌}
 use Rattle.ipc_core.specs.Outcomes.{made_by}
 use Rattle.ipc_lock.proofs.Counts.{calls_entered, made_few, opens_entered, seat_refuses}
 use Rattle.ipc_lock.proofs.seated.Locked.enter_seated.Goals as goal

@@ -1,4 +1,4 @@
-use Rattle.std.proofs.Common.{rules, arith, ◌≡◌, length}
+use Rattle.std.proofs.Common.{rules, arith}
 use Rattle.ipc_lock.proofs.Counts.{exreg_same}
 use Rattle.ipc_lock.proofs.seated.Locked.exreg_seated.Goals as goal
 

@@ -1,4 +1,4 @@
-use Rattle.std.proofs.Common.{rules, arith, ◌≡◌, length}
+use Rattle.std.proofs.Common.{rules, arith}
 use Rattle.ipc_lock.proofs.Counts.{no_call, no_entry}
 use Rattle.ipc_lock.proofs.seated.Locked.new.Goals as goal
 

@@ -1,4 +1,4 @@
-use Rattle.std.proofs.Common.{rules, arith, ◌≡◌, ◌∙◌, length}
+use Rattle.std.proofs.Common.{rules, arith}
 use Rattle.ipc_lock.proofs.Counts.{calls_opened, few_opens, opens_opened}
 use Rattle.ipc_lock.proofs.seated.Locked.open_seated.Goals as goal
 

@@ -1,4 +1,4 @@
-use Rattle.std.proofs.Common.{rules, arith, ◌≡◌, length}
+use Rattle.std.proofs.Common.{rules, arith}
 use Rattle.ipc_lock.proofs.Counts.{ticks_same}
 use Rattle.ipc_lock.proofs.seated.Locked.tick.Goals as goal
 

@@ -282,6 +282,8 @@ def main():
         assert server.stdout.readline() == b"listening 1\n"
         path = folder + "/space1"
         assert os.stat(path).st_mode & 0o777 == 0o600
+        # until all workers were started
+        time.sleep(0.5)
         before = counted(server.pid)
         seen_soon(path, trace)
         check_all(path)

@@ -21,11 +21,12 @@ PROGRAM = f"{ROOT}/crates/ipc_shell/out/ipc_shell"
 SCRIPTS, COMMANDS = 120, 40
 # so many traces are made of each, of each kind
 MADE = 14
-NUMBERS, SPACES = 5, 2
-THREADS = [f"{number}.{version}" for number in range(1, NUMBERS + 1) for version in (1, 1, 1, 2)]
-PERIODS = [0, 0, 0x400, 0x5, 0x14, 0x7FFF]
+NUMBERS, SPACES = 4, 2
+# so many kinds of entries there are, each of which some trace has
+KINDS = 12
+PERIODS = [0, 0, 0, 0, 0, 0x400, 0x5, 0x14, 0x7FFF]
 SIZES = [0, 1, 5, 5, 300, 65536, 65537, 131073]
-ROOMS = ["0@0x0", "1@0x10", "5@0x20", "3@0x0+2@0x40", "400@0x0", "65536@0x0", "131073@0x7", "70000@0x0+70000@0x100000"]
+ROOMS = ["1@0x10", "5@0x20", "3@0x0+2@0x40", "65537@0x0", "131073@0x7", "70000@0x0+70000@0x100000", "200000@0x0"]
 
 
 def run(words, given=b""):
@@ -33,54 +34,113 @@ def run(words, given=b""):
     return ran.returncode, ran.stdout.decode()
 
 
-def made_call(some):
-    """The fields of a call that a thread might make."""
-    to = some.choice(THREADS * 3 + ["nil"] * 20 + ["any", "local", "7.1", "0x40"])
-    source = some.choice(THREADS * 2 + ["any"] * 20 + ["local"] * 6 + ["nil"] * 12)
-    send = some.choice(PERIODS) if to != "nil" else 0
-    receive = some.choice(PERIODS) if source != "nil" else 0
-    words = [f"{some.randrange(1 << 16):#x}" for _ in range(some.choice([0, 1, 1, 3]))] if to != "nil" else []
-    strings = [some.choice(SIZES) for _ in range(some.choice([0, 0, 0, 1, 2]))] if to != "nil" else []
-    is_propagated = to != "nil" and some.random() < 0.25
-    tag = len(words) | 2 * len(strings) << 6 | is_propagated << 12 | (some.randrange(9) << 16 if to != "nil" else 0)
-    rooms = [some.choice(ROOMS) for _ in range(some.choice([1, 2]))]
-    buffers = some.choice(["-", "s", ",".join(rooms), ",".join(rooms), ",".join(rooms)]) if source != "nil" else "-"
+class Threads:
+    """The threads of a script that is made: the last version of each number, and which are live."""
+
+    def __init__(self, some):
+        self.some, self.versions, self.live = some, {}, set()
+
+    def any(self):
+        """Mostly the thread that a number has now, sometimes another version."""
+        number = self.some.randint(1, NUMBERS)
+        version = self.versions.get(number, 1)
+        return f"{number}.{version if self.some.random() < 0.96 else version + 1}"
+
+    def open(self):
+        number = self.some.randint(1, NUMBERS)
+        if number not in self.live:
+            self.live.add(number)
+            self.versions[number] = self.versions.get(number, 0) + 1
+        return f"open {number} {self.some.randint(1, SPACES)}"
+
+    def end(self):
+        number = self.some.randint(1, NUMBERS)
+        self.live.discard(number)
+        return f"broke {number}.{self.versions.get(number, 1)}"
+
+
+def made_call(some, threads):
+    """The fields of a call that a thread might make: a receive, a send, or both."""
+    sends, receives = some.choice([(False, True), (False, True), (True, False), (True, True), (True, True)])
+    if some.random() < 0.02:
+        sends = receives = False
+    thread, partner = threads.any(), threads.any()
+    if partner == thread:
+        partner = threads.any()
+    to = some.choice([partner] * 40 + ["any", "local", "7.1", "0x40"]) if sends else "nil"
+    source = some.choice([threads.any()] * 2 + ["any"] * 3 + ["local"]) if receives else "nil"
+    send = some.choice(PERIODS) if sends else 0
+    receive = some.choice(PERIODS) if receives else 0
+    words = [f"{some.randrange(1 << 16):#x}" for _ in range(some.choice([0, 1, 1, 3]))] if sends else []
+    strings = [some.choice(SIZES) for _ in range(some.choice([0, 0, 1, 2]))] if sends else []
+    is_propagated = sends and some.random() < 0.3
+    tag = len(words) | 2 * len(strings) << 6 | is_propagated << 12 | (some.randrange(9) << 16 if sends else 0)
+    rooms = ",".join(some.choice(ROOMS) for _ in range(some.choice([1, 2, 3])))
     texts = ["x" + f"{some.randrange(256):02x}" * size for size in strings]
     return " ".join(
         [
-            some.choice(THREADS),
+            thread,
             to,
             source,
             f"{send << 16 | receive:#x}",
             f"{tag:#x}",
-            some.choice(THREADS) if is_propagated else "nil",
+            threads.any() if is_propagated else "nil",
             ",".join(words) or "-",
             ",".join(texts) or "-",
-            buffers,
+            some.choice(["-", "s", rooms, rooms, rooms, rooms]) if receives else "-",
         ]
     )
 
 
+def forwarded(some, threads):
+    """A call that its server hands on to another one in the caller's name."""
+    client, server, other = some.sample([f"{number}.{version}" for number, version in threads.versions.items()], 3)
+    return [
+        f"call {server} nil any 0x0 0x0 nil - - -",
+        f"call {client} {server} {server} 0x0 0x1 nil 0x7 - -",
+        f"take {server}",
+        f"call {other} nil any 0x0 0x0 nil - - -",
+        f"call {server} {other} nil 0x0 0x1001 {client} 0x8 - -",
+        f"call {other} {client} nil 0x0 0x1 nil 0x9 - -",
+    ]
+
+
+def stopped(some, threads):
+    """A transfer that another thread stops, or one of the two breaks."""
+    sender, receiver, other = some.sample([f"{number}.{version}" for number, version in threads.versions.items()], 3)
+    end = some.choice([f"exreg {other} {sender} 0x4", f"exreg {other} {receiver} 0x2", f"broke {sender}", f"broke {receiver}"])
+    if end.startswith("broke"):
+        threads.live.discard(int(end[6:].split(".")[0]))
+    return [
+        f"call {receiver} nil any 0x0 0x0 nil - - 131073@0x0",
+        f"call {sender} {receiver} nil 0x0 0x80 nil - x{'07' * 131073} -",
+        *["advance"] * some.choice([0, 1, 2]),
+        end,
+    ]
+
+
 def made_script(some):
-    lines = [f"open {number} {some.randint(1, SPACES)}" for number in range(1, NUMBERS + 1)]
+    threads = Threads(some)
+    lines = [threads.open() for _ in range(2 * NUMBERS)]
     moment = 0
-    while len(lines) < COMMANDS:
+    for _ in range(COMMANDS):
         chance = some.random()
-        if chance < 0.62:
-            lines.append("call " + made_call(some))
+        if chance < 0.04 and len(threads.versions) > 2:
+            lines.extend(some.choice([forwarded, stopped])(some, threads))
         elif chance < 0.70:
-            lines.append(f"exreg {some.choice(THREADS)} {some.choice(THREADS)} {some.choice([2, 4, 6, 0]):#x}")
-        elif chance < 0.80:
+            lines.append("call " + made_call(some, threads))
+        elif chance < 0.76:
+            lines.append(f"exreg {threads.any()} {threads.any()} {some.choice([2, 4, 6, 0]):#x}")
+        elif chance < 0.81:
             moment += some.choice([1, 5, 20])
             lines.append(f"at {moment}")
-        elif chance < 0.88:
-            lines.append("advance")
-        elif chance < 0.94:
-            lines.append(f"broke {some.choice(THREADS)}")
+        elif chance < 0.92:
+            lines.extend(["advance"] * some.choice([1, 1, 4]))
+        elif chance < 0.95:
+            lines.append(threads.end())
         else:
-            lines.append(f"open {some.randint(1, NUMBERS)} {some.randint(1, SPACES)}")
-        if some.random() < 0.6:
-            lines.extend(f"take {thread}" for thread in THREADS[::4])
+            lines.append(threads.open())
+        lines.extend(f"take {number}.{version}" for number, version in threads.versions.items())
     return "\n".join(lines).encode()
 
 
@@ -93,7 +153,7 @@ def trace_of(script):
 def changed(some, line, lines):
     """The line with another value in one field, still well formed; None where there is none."""
     fields = line.split(" ")
-    places = range(1, 5) if fields[0] == "called" else range(1, len(fields))
+    places = range(1, 6) if fields[0] == "called" else range(1, len(fields))
     place = some.choice(places)
     others = {other.split(" ")[place] for other in lines if other.split(" ")[0] == fields[0]} | nearby(some, fields, place)
     others = sorted(other for other in others if other != fields[place] and is_kept(fields, place, other))
@@ -112,9 +172,9 @@ def nearby(some, fields, place):
         return {f"{code:#x}" for code in (2, 3, 4, 5, 6, 7, 0xE, 0xF, 0x10000E, int(old, 16) ^ 1)}
     if kind == "exreg" and place == 3:
         return {"0x0", "0x2", "0x4", "0x6"}
-    if kind == "called" and place == 4:
+    if kind == "called" and place == 5:
         return {f"{some.choice(PERIODS) << 16 | some.choice(PERIODS):#x}"}
-    return {some.choice(THREADS), "7.1", "255.1", "256.1"} | ({"any", "local"} if kind == "called" else set())
+    return {f"{some.randint(1, NUMBERS)}.{some.randint(1, 3)}", "7.1", "256.1"} | ({"any", "local"} if kind == "called" else set())
 
 
 def is_kept(fields, place, other):
@@ -124,11 +184,11 @@ def is_kept(fields, place, other):
         return "." in other and int(other.split(".")[0]) <= 255
     if fields[0] != "called":
         return True
-    if place in (2, 3):
+    if place in (3, 4):
         return fields[place] != "nil" and other != "nil"
-    if place == 4:
+    if place == 5:
         timeouts = int(other, 16)
-        return (fields[2] != "nil" or timeouts >> 16 == 0) and (fields[3] != "nil" or timeouts & 0xFFFF == 0)
+        return (fields[3] != "nil" or timeouts >> 16 == 0) and (fields[4] != "nil" or timeouts & 0xFFFF == 0)
     return True
 
 
@@ -184,8 +244,8 @@ def main(words):
                     failed += 1
                     print(f"{kind} at line {good + 1}: said {said}, and the rules {right}")
     print(", ".join(f"{count} {kind}" for kind, count in kinds.items()) + f"; {yes} of them legal, {failed} wrong; seed {seed}")
-    print("entries of the traces: " + ", ".join(f"{count} {kind}" for kind, count in sorted(outputs.items())))
-    return 1 if failed else 0
+    print("entries of the good traces: " + ", ".join(f"{count} {kind}" for kind, count in sorted(outputs.items())))
+    return 1 if failed or len(outputs) < KINDS else 0
 
 
 sys.exit(main(sys.argv[1:]))

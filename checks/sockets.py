@@ -281,9 +281,11 @@ def main():
     try:
         assert server.stdout.readline() == b"listening 1\n"
         path = folder + "/space1"
-        seen_soon(path, trace)
         assert os.stat(path).st_mode & 0o777 == 0o600
+        # until all workers were started
+        time.sleep(0.5)
         before = counted(server.pid)
+        seen_soon(path, trace)
         check_all(path)
         assert server.poll() is None
         time.sleep(1)

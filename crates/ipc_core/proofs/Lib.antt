@@ -19,3 +19,4 @@ pub mod IdleLaws
 pub mod OutcomeCall
 pub mod BusyLaws
 pub mod UnfinishedLaws
+pub mod SoundLaws

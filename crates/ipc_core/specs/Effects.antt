@@ -29,7 +29,9 @@ pub record Breaks (old new : KernelParts) (thread : ℕ) : Type 0 where
 -- a clock reading: the moment never goes back, and an At is written only where a phase is due then
 pub record Ticks (old new : KernelParts) (reading : ℕ) : Type 0 where
   pub moment : new.moment ≡ at_moment old reading
-  pub history : MatchBool (list_any (is_due_at old.history (at_moment old reading)) (numbers old.history)) (Settled (old.history ++ Given (At (at_moment old reading)) ∷ []) new.history) (new.history ≡ old.history)
+  pub history : MatchBool (list_any (is_due_at old.history (at_moment old reading)) (numbers old.history))
+      (Settled (old.history ++ Given (At (at_moment old reading)) ∷ []) new.history)
+      (new.history ≡ old.history)
   pub legal : Legal old.history → Legal new.history
   pub since : new.since ≡ length old.history
   pub taken : new.taken ≡ old.taken

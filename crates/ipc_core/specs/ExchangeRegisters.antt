@@ -8,4 +8,7 @@ use Rattle.ipc_core.specs.declared.answers.ExregAnswer.{ExregAnswer}
 
 -- nilthread and code 2 where the target is not a live thread of the caller's space; else its id, and its phases before the command
 unfoldable pub exreg_answer : List Entry → ℕ → ℕ → ExregAnswer
-exreg_answer H thread target = (if is_live H target && (space_of H target == space_of H thread) then record { result = target; control = phases_of H target; code = 0 } else record { result = nilthread; control = 0; code = 2 })
+exreg_answer H thread target =
+    (if is_live H target && (space_of H target == space_of H thread)
+    then record { result = target; control = phases_of H target; code = 0 }
+    else record { result = nilthread; control = 0; code = 2 })

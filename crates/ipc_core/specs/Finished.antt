@@ -17,4 +17,6 @@ is_of thread e = opens thread e || calls_by thread e || breaks thread e
 
 -- the command has not finished a call of the thread that opens, calls or ends by the entry
 abbrev pub IsFresh : CourseParts → Entry → Type 0
-IsFresh course e = (thread : ℕ) → IsTrue (is_of thread e) → finished_from (take course.since course.entries) course.entries thread ≡ false
+IsFresh course e =
+    (thread : ℕ) → IsTrue (is_of thread e)
+    → finished_from (take course.since course.entries) course.entries thread ≡ false

@@ -17,7 +17,8 @@ use Rattle.ipc_core.specs.CourseParts.{CourseParts}
 use Rattle.ipc_core.specs.Outcomes.{finished_from, is_among}
 
 -- a course: a legal history, slots and desks that are its, and the threads whose calls the last command finished, each once
-pub record IsCourse (H : List Entry) (slots : Slots) (desks : List Desk) (taken : List ℕ) (since : ℕ) (finished : List ℕ) (width : ℕ) : Type 0 where
+pub record IsCourse (H : List Entry) (slots : Slots) (desks : List Desk) (taken : List ℕ) (since : ℕ)
+    (finished : List ℕ) (width : ℕ) : Type 0 where
   pub legal : Legal H
   pub slots_are : SlotsStand H slots
   pub desks_are : DesksKeep H taken desks
@@ -30,8 +31,8 @@ pub record IsCourse (H : List Entry) (slots : Slots) (desks : List Desk) (taken 
 abbrev pub IsCalm : List Entry → ℕ → Type 0
 IsCalm H calm = (moment : ℕ) → moment < calm → IsFalse (list_any (is_due_at H moment) (numbers H))
 
--- a kernel's history is legal and quiet, within its limit with all that is owed; its moment is not before the history's, and no phase
--- is due then
+-- a kernel's history is legal and quiet, within its limit with all that is owed; its moment is not before
+-- the history's, and no phase is due then
 pub record Stands (H : List Entry) (limit moment : ℕ) : Type 0 where
   pub legal : Legal H
   pub quiet : Quiet H

@@ -1,5 +1,6 @@
 -- What a kernel answers to a command, and what it is then.
-use Rattle.std.specs.Prelude.{◌≡◌, ℕ, List, [], ◌∷◌, Option, Some, None, if◌then◌else◌, ◌⊎◌, Bool, true, false, IsTrue, length, Result, Ok, Err}
+use Rattle.std.specs.Prelude.{◌≡◌, ℕ, List, [], ◌∷◌, Option, Some, None, if◌then◌else◌, ◌⊎◌}
+use Rattle.std.specs.Prelude.{Bool, true, false, IsTrue, length, Result, Ok, Err}
 use Rattle.ipc_history.specs.Legal.{next_moving}
 use Rattle.ipc_history.specs.Threads.{is_live}
 use Rattle.ipc_core.specs.Effects.{Breaks, Exchanges, Gives, Ticks}
@@ -92,9 +93,11 @@ is_no_memory _ = false
 -- one command after the other, each obeyed and answered
 unfoldable pub Runs : KernelParts → List Command → List Answer → KernelParts → Type 0
 Runs old [] [] new = new ≡ old
-Runs old (command ∷ commands) (answer ∷ answers) new = (between : KernelParts) × Obeys old command answer between × Runs between commands answers new
+Runs old (command ∷ commands) (answer ∷ answers) new =
+    (between : KernelParts) × Obeys old command answer between × Runs between commands answers new
 Runs old _ _ new = ⊥
 
 -- a kernel with an empty history at the moment 0
 abbrev pub empty_kernel : ℕ → ℕ → KernelParts
-empty_kernel entries_limit calls_limit = record { entries_limit = entries_limit; calls_limit = calls_limit; moment = 0; history = []; taken = []; since = 0 }
+empty_kernel entries_limit calls_limit =
+    record { entries_limit = entries_limit; calls_limit = calls_limit; moment = 0; history = []; taken = []; since = 0 }

@@ -1,7 +1,8 @@
 -- The numbers of the refusals.
 use Rattle.std.specs.Prelude.{ℕ}
 use Rattle.ipc_core.specs.declared.refusal.Refusal.{Refusal}
-use Rattle.ipc_core.specs.declared.refusal.Refusal.TheVariants.{BadNumber, NumberTaken, NumberWorn, NoMemory, HistoryFull, NoThread, Busy, CallsSpent}
+use Rattle.ipc_core.specs.declared.refusal.Refusal.TheVariants.{BadNumber, NumberTaken, NumberWorn, NoMemory}
+use Rattle.ipc_core.specs.declared.refusal.Refusal.TheVariants.{HistoryFull, NoThread, Busy, CallsSpent}
 
 -- the number of a refusal, printed after K
 abbrev pub refusal_number : Refusal → ℕ

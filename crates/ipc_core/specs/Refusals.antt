@@ -8,7 +8,8 @@ use Rattle.ipc_core.specs.KernelParts.{KernelParts}
 use Rattle.ipc_core.specs.Outcomes.{is_busy}
 use Rattle.ipc_core.specs.Room.{is_full, open_need, call_need, exreg_need}
 use Rattle.ipc_core.specs.declared.refusal.Refusal.{Refusal}
-use Rattle.ipc_core.specs.declared.refusal.Refusal.TheVariants.{BadNumber, NumberTaken, NumberWorn, HistoryFull, NoThread, Busy, CallsSpent}
+use Rattle.ipc_core.specs.declared.refusal.Refusal.TheVariants.{BadNumber, NumberTaken, NumberWorn, HistoryFull}
+use Rattle.ipc_core.specs.declared.refusal.Refusal.TheVariants.{NoThread, Busy, CallsSpent}
 
 -- an open: number or space out of range, number taken, number worn out, history full
 unfoldable pub open_refusal : KernelParts → ℕ → ℕ → Option Refusal

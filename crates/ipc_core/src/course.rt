@@ -1,4 +1,5 @@
-ghost use Rattle.std.specs.Prelude.{◌≡◌, ◌+◌, ◌^◌, ◌≤◌, ◌<◌, [], ◌∷◌, ◌++◌, ◌==◌, ℕ, length, take, vec_len, vec_capacity, ◌↔◌, Some, None, IsNone, IfSome, IsTrue, IsFalse, true, false, IfOk, OnOk, nat_lt, sum_by};
+ghost use Rattle.std.specs.Prelude.{◌≡◌, ◌+◌, ◌^◌, ◌≤◌, ◌<◌, [], ◌∷◌, ◌++◌, ◌==◌, ℕ, length, take, vec_len, vec_capacity};
+ghost use Rattle.std.specs.Prelude.{◌↔◌, Some, None, IsNone, IfSome, IsTrue, IsFalse, true, false, IfOk, OnOk, nat_lt, sum_by};
 ghost use Rattle.std.specs.List.{IsDistinct, list_any};
 ghost use Rattle.ipc_words.specs.Limits.{last_moment};
 ghost use Rattle.ipc_history.specs.declared.entry.Entry.TheVariants.{Given, Written};
@@ -54,9 +55,17 @@ impl Model for Course {
 
     ghost Value = { CourseParts };
 
-    ghost view = { λ c. record { entries = c.history.entries; room = c.history.room; taken = c.taken.items; since = c.since; finished = c.finished.items; places = vec_capacity c.taken } };
+    ghost view = { λ c. record {
+      entries = c.history.entries;
+      room = c.history.room;
+      taken = c.taken.items;
+      since = c.since;
+      finished = c.finished.items;
+      places = vec_capacity c.taken;
+    } };
 
-    ghost invariant = { λ c. IsCourse c.history.entries c.slots c.desks c.taken.items c.since c.finished.items (vec_capacity c.finished) × IsCalm c.history.entries c.calm };
+    ghost invariant = { λ c. IsCourse c.history.entries c.slots c.desks c.taken.items c.since c.finished.items
+        (vec_capacity c.finished) × IsCalm c.history.entries c.calm };
 }
 
 impl Course {
@@ -93,7 +102,8 @@ impl Course {
 
     /// The live threads whose last call the last command finished.
     pub(crate) fn finished(&self) -> &[ThreadId]
-        ensures names { (thread : ℕ) → is_among thread result.now ≡ finished_from (take self.now.since self.now.entries) self.now.entries thread }
+        ensures names { (thread : ℕ) → is_among thread result.now
+            ≡ finished_from (take self.now.since self.now.entries) self.now.entries thread }
         ensures once { IsDistinct (λ a b. a == b) result.now }
     {
         &self.finished
@@ -214,7 +224,8 @@ impl Course {
     /// The least call in transfer, and how many of its bytes are copied next.
     pub(crate) fn next_block(&self) -> Option<(u64, u64)>
         ensures none { IsNone result ↔ (next_moving self.now.entries ≡ None) }
-        ensures some { IfSome result (λ next. (next_moving self.now.entries ≡ Some next.0) × (next.1 ≡ block_of self.now.entries next.0)) }
+        ensures some { IfSome result (λ next. (next_moving self.now.entries ≡ Some next.0)
+            × (next.1 ≡ block_of self.now.entries next.0)) }
     {
         self.slots.next_block(self.history.entries())
     }
@@ -319,8 +330,8 @@ impl Course {
         self.finished.clear();
     }
 
-    /// Begins a clock reading. Looks at the threads, for the moment before which none of them is due, only where the moment has come
-    /// that was found before.
+    /// Begins a clock reading. Looks at the threads, for the moment before which none of them is due, only where the
+    /// moment has come that was found before.
     pub(crate) fn begin_at(&mut self, moment: u64)
         ensures entries { self.new.entries ≡ self.old.entries }
         ensures room { self.new.room ≡ self.old.room }
@@ -337,7 +348,8 @@ impl Course {
     /// Moves the outcome out that a live thread may take. Takes no memory.
     pub(crate) fn take(&mut self, thread: ThreadId) -> Option<Outcome>
         requires live { IsTrue (is_live self.old.entries thread) }
-        requires room { (n : ℕ) → IsTrue (is_called self.old.entries n) → IsFalse (is_among n self.old.taken) → length self.old.taken < self.old.places }
+        requires room { (n : ℕ) → IsTrue (is_called self.old.entries n) → IsFalse (is_among n self.old.taken)
+            → length self.old.taken < self.old.places }
         ensures given { result ≡ outcome_to_take self.old.entries self.old.taken thread }
         ensures call { IfSome result (λ outcome. last_call self.old.entries thread ≡ Some outcome.call) }
         ensures done { IfSome result (λ outcome. IsTaken self.old.entries outcome.call) }
@@ -381,14 +393,16 @@ impl Course {
         self.calm = 0;
     }
 
-    /// Writes the outputs that apply, until none does; the first of them is found under one call where that is known. Takes no memory.
+    /// Writes the outputs that apply, until none does; the first of them is found under one call where that is known.
+    /// Takes no memory.
     pub(crate) fn settle(&mut self, focus: Option<Focus>)
         requires legal { Legal self.old.entries }
         requires near { IfSome focus (λ f. IsNear self.old.entries f) }
         requires room { length self.old.entries + room_owed self.old.entries ≤ self.old.room }
         ensures settled { Settled self.old.entries self.new.entries }
         ensures room { self.new.room ≡ self.old.room }
-        ensures spent { length self.new.entries + room_owed self.new.entries ≤ length self.old.entries + room_owed self.old.entries }
+        ensures spent { length self.new.entries + room_owed self.new.entries
+            ≤ length self.old.entries + room_owed self.old.entries }
         ensures books { SameBooks self.old self.new }
     {
         let mut focus = focus;
@@ -426,7 +440,8 @@ impl Course {
         ensures books { SameBooks self.old self.new }
         ensures entries { self.new.entries ≡ with_input self.old.entries moment input }
         ensures room { self.new.room ≡ self.old.room }
-        ensures spent { length self.new.entries + room_owed self.new.entries ≤ length self.old.entries + room_owed self.old.entries + command_need input }
+        ensures spent { length self.new.entries + room_owed self.new.entries
+            ≤ length self.old.entries + room_owed self.old.entries + command_need input }
         ensures near { IfSome result (λ f. IsNear self.new.entries f) }
     {
         self.clock(moment);
@@ -451,7 +466,8 @@ impl Course {
         ensures places { self.new.places ≡ self.old.places }
         ensures settled { Settled (with_input self.old.entries moment input) self.new.entries }
         ensures room { self.new.room ≡ self.old.room }
-        ensures spent { length self.new.entries + room_owed self.new.entries ≤ length self.old.entries + room_owed self.old.entries + command_need input }
+        ensures spent { length self.new.entries + room_owed self.new.entries
+            ≤ length self.old.entries + room_owed self.old.entries + command_need input }
     {
         self.begin();
         let focus = self.give(moment, input, copies);
@@ -469,7 +485,8 @@ impl Course {
         ensures books { SameBooks self.old self.new }
         ensures entries { Continued (self.old.entries ++ Given (At moment) ∷ []) self.new.entries }
         ensures room { self.new.room ≡ self.old.room }
-        ensures spent { length self.new.entries + room_owed self.new.entries ≤ length self.old.entries + room_owed self.old.entries }
+        ensures spent { length self.new.entries + room_owed self.new.entries
+            ≤ length self.old.entries + room_owed self.old.entries }
     {
         self.append(Entry::Given(Input::At(moment)), None);
         if let Some(output) = self.next_output(None) {

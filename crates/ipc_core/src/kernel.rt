@@ -1,4 +1,5 @@
-ghost use Rattle.std.specs.Prelude.{◌≡◌, ◌==◌, ◌<◌, ◌+◌, ◌*◌, ◌-◌, ◌^◌, ◌≤◌, [], ◌∷◌, ◌++◌, ℕ, length, max, min, false, ◌↔◌, Some, None, IsNone, IsTrue, IfOk, IfErr, IfSome, OnOk, OnErr, MatchBool};
+ghost use Rattle.std.specs.Prelude.{◌≡◌, ◌==◌, ◌<◌, ◌+◌, ◌*◌, ◌-◌, ◌^◌, ◌≤◌, [], ◌∷◌, ◌++◌, ℕ, length, max, min, false};
+ghost use Rattle.std.specs.Prelude.{◌↔◌, Some, None, IsNone, IsTrue, IfOk, IfErr, IfSome, OnOk, OnErr, MatchBool};
 ghost use Rattle.std.specs.List.{IsDistinct, list_any};
 ghost use Rattle.ipc_history.specs.declared.entry.Entry.TheVariants.{Given};
 ghost use Rattle.ipc_history.specs.declared.entry.Input.TheVariants.{At, Broke, Exreg};
@@ -63,7 +64,14 @@ impl Model for Kernel {
 
     ghost Value = { KernelParts };
 
-    ghost view = { λ k. record { entries_limit = k.entries_limit; calls_limit = k.calls_limit; moment = k.moment; history = k.course.entries; taken = k.course.taken; since = k.course.since } };
+    ghost view = { λ k. record {
+      entries_limit = k.entries_limit;
+      calls_limit = k.calls_limit;
+      moment = k.moment;
+      history = k.course.entries;
+      taken = k.course.taken;
+      since = k.course.since;
+    } };
 
     ghost invariant = { λ k. IsWhole k.entries_limit k.calls_limit k.moment k.course };
 }
@@ -185,10 +193,11 @@ impl Kernel {
         room_within(left, live, self.course.pledged_for_calls(), need)
     }
 
-    /// Opens the thread of a number, 1 to 255, in a space, 1 to 64, and answers its id, with the next version of the number. The refusals
-    /// are K1, K2, K3, K5 and K4, the first that applies.
+    /// Opens the thread of a number, 1 to 255, in a space, 1 to 64, and answers its id, with the next version of the
+    /// number. The refusals are K1, K2, K3, K5 and K4, the first that applies.
     pub fn open(&mut self, number: u64, space: u64) -> Result<ThreadId, Refusal>
-        ensures ok { IfOk result (λ thread. (open_refusal self.old number space ≡ None) × Opens self.old self.new number space thread) }
+        ensures ok { IfOk result (λ thread. (open_refusal self.old number space ≡ None)
+            × Opens self.old self.new number space thread) }
         ensures cause { IfErr result (λ refusal. MayRefuse (open_refusal self.old number space) refusal) }
         ensures err { OnErr result (self.new ≡ self.old) }
         ensures obeys { MayObey self.old (command.Open number space) (open_answer result) self.new }
@@ -197,7 +206,8 @@ impl Kernel {
     }
 
     fn open_thread(&mut self, number: u64, space: u64) -> Result<ThreadId, Refusal>
-        ensures ok { IfOk result (λ thread. (open_refusal self.old number space ≡ None) × Opens self.old self.new number space thread) }
+        ensures ok { IfOk result (λ thread. (open_refusal self.old number space ≡ None)
+            × Opens self.old self.new number space thread) }
         ensures cause { IfErr result (λ refusal. MayRefuse (open_refusal self.old number space) refusal) }
         ensures err { OnErr result (self.new ≡ self.old) }
     {
@@ -259,7 +269,9 @@ impl Kernel {
 
     fn set_clock(&mut self, now: u64)
         ensures moment { self.new.moment ≡ at_moment self.old now }
-        ensures history { MatchBool (list_any (is_due_at self.old.history (at_moment self.old now)) (numbers self.old.history)) (Settled (self.old.history ++ Given (At (at_moment self.old now)) ∷ []) self.new.history) (self.new.history ≡ self.old.history) }
+        ensures history { MatchBool (list_any (is_due_at self.old.history (at_moment self.old now)) (numbers self.old.history))
+            (Settled (self.old.history ++ Given (At (at_moment self.old now)) ∷ []) self.new.history)
+            (self.new.history ≡ self.old.history) }
         ensures taken { self.new.taken ≡ self.old.taken }
         ensures since { self.new.since ≡ length self.old.history }
         ensures entries_limit { self.new.entries_limit ≡ self.old.entries_limit }
@@ -303,10 +315,11 @@ fn thread_id(number: u32, version: u32) -> ThreadId
 }
 
 impl Kernel {
-    /// Enters a call of a live thread that has neither an open call nor an outcome that was not yet taken. Answers the call's number.
-    /// A call that is refused is handed back.
+    /// Enters a call of a live thread that has neither an open call nor an outcome that was not yet taken. Answers the
+    /// call's number. A call that is refused is handed back.
     pub fn enter(&mut self, thread: ThreadId, call: Call) -> Result<u64, EnterRefused>
-        ensures ok { IfOk result (λ number. (enter_refusal self.old thread call ≡ None) × Enters self.old self.new number thread call) }
+        ensures ok { IfOk result (λ number. (enter_refusal self.old thread call ≡ None)
+            × Enters self.old self.new number thread call) }
         ensures cause { IfErr result (λ refused. MayRefuse (enter_refusal self.old thread call) refused.refusal) }
         ensures back { IfErr result (λ refused. refused.call ≡ call) }
         ensures err { OnErr result (self.new ≡ self.old) }
@@ -316,7 +329,8 @@ impl Kernel {
     }
 
     fn enter_call(&mut self, thread: ThreadId, call: Call) -> Result<u64, EnterRefused>
-        ensures ok { IfOk result (λ number. (enter_refusal self.old thread call ≡ None) × Enters self.old self.new number thread call) }
+        ensures ok { IfOk result (λ number. (enter_refusal self.old thread call ≡ None)
+            × Enters self.old self.new number thread call) }
         ensures cause { IfErr result (λ refused. MayRefuse (enter_refusal self.old thread call) refused.refusal) }
         ensures back { IfErr result (λ refused. refused.call ≡ call) }
         ensures err { OnErr result (self.new ≡ self.old) }
@@ -371,14 +385,16 @@ impl Kernel {
         }
     }
 
-    /// Stops phases of a live thread of the caller's space, R a receive phase and S a send phase (L4 X.2 manual, ExchangeRegisters).
+    /// Stops phases of a live thread of the caller's space, R a receive phase and S a send phase (L4 X.2 manual,
+    /// ExchangeRegisters).
     pub fn exreg(
         &mut self,
         thread: ThreadId,
         target: ThreadId,
         control: Control,
     ) -> Result<ExregAnswer, Refusal>
-        ensures ok { IfOk result (λ answer. (exreg_refusal self.old thread ≡ None) × Exchanges self.old self.new thread target control answer) }
+        ensures ok { IfOk result (λ answer. (exreg_refusal self.old thread ≡ None)
+            × Exchanges self.old self.new thread target control answer) }
         ensures cause { IfErr result (λ refusal. MayRefuse (exreg_refusal self.old thread) refusal) }
         ensures err { OnErr result (self.new ≡ self.old) }
         ensures obeys { MayObey self.old (command.Exreg thread target control) (exreg_result result) self.new }
@@ -392,7 +408,8 @@ impl Kernel {
         target: ThreadId,
         control: Control,
     ) -> Result<ExregAnswer, Refusal>
-        ensures ok { IfOk result (λ answer. (exreg_refusal self.old thread ≡ None) × Exchanges self.old self.new thread target control answer) }
+        ensures ok { IfOk result (λ answer. (exreg_refusal self.old thread ≡ None)
+            × Exchanges self.old self.new thread target control answer) }
         ensures cause { IfErr result (λ refusal. MayRefuse (exreg_refusal self.old thread) refusal) }
         ensures err { OnErr result (self.new ≡ self.old) }
     {

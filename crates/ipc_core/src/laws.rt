@@ -1,5 +1,10 @@
 // The laws of a kernel. Each function is a theorem: it does nothing, and its contract holds of every kernel.
-ghost use Rattle.ipc_core.specs.Laws.{EnteredIsBusy, IdleHasNothing, RunsOnce, StaysIdle, TakenIsIdle, UnfinishedKeeps};
+ghost use Rattle.ipc_core.specs.Laws.{EnteredIsBusy, IdleHasNothing, RunsOnce, StaysIdle, StaysSound, TakenIsIdle, UnfinishedKeeps};
+
+/// What is true of a kernel between commands stays true over every command, whatever it answers.
+pub fn stays_sound()
+    ensures { StaysSound }
+{}
 
 /// The same commands, each obeyed, have one list of answers and one end.
 pub fn runs_once()
@@ -11,7 +16,8 @@ pub fn idle_has_nothing()
     ensures { IdleHasNothing }
 {}
 
-/// Which threads are busy after a command: one whose call was entered, and none that was not busy before or whose outcome was taken.
+/// Which threads are busy after a command: one whose call was entered, and none that was not busy before or whose
+/// outcome was taken.
 pub fn busy_by_its_calls()
     ensures idle { StaysIdle }
     ensures entered { EnteredIsBusy }

@@ -10,6 +10,8 @@ mod obeying;
 mod refusal;
 mod room;
 #[cfg(test)]
+mod row_tests;
+#[cfg(test)]
 mod tests;
 
 pub use answers::{Advance, EnterRefused, ExregAnswer, NoThread};

@@ -1,4 +1,5 @@
 use super::*;
+use crate::row_tests::{failed, outputs};
 use ipc_history::{Call, CallFields};
 use ipc_items::StringList;
 use ipc_words::{Control, MsgTag, Period, ThreadId};
@@ -6,11 +7,11 @@ use std::alloc::Global;
 use std::test::Fail;
 
 // The first id of a number.
-fn first(number: u32) -> ThreadId {
+pub(crate) fn first(number: u32) -> ThreadId {
     ThreadId::from_word(u64::from(number) * 0x1_0000_0000 + 1)
 }
 
-fn period(word: u16) -> Result<Period, Fail> {
+pub(crate) fn period(word: u16) -> Result<Period, Fail> {
     Ok(Period::from_word(word).ok_or("a period")?)
 }
 
@@ -48,7 +49,7 @@ fn sends(alloc: Global, to: ThreadId, word: u64, send_period: u16) -> Result<Cal
     Ok(call.ok_or("a send")?)
 }
 
-fn kernel(alloc: Global, entries: u64, calls: u64) -> Result<Kernel, Fail> {
+pub(crate) fn kernel(alloc: Global, entries: u64, calls: u64) -> Result<Kernel, Fail> {
     Ok(
         Kernel::new(alloc, Limits { entries, calls })
             .ok()
@@ -294,6 +295,11 @@ fn deadlines_come_together(rt: HostRuntime) -> Result<(), Fail> {
     assert_eq!(rt; kernel.history().len(), 509);
     kernel.at(5);
     assert_eq!(rt; kernel.history().len(), 764);
+    let outputs = outputs(rt.alloc(), &kernel)?;
+    assert_eq!(rt; outputs.len(), 254);
+    for (output, number) in outputs.iter().zip(1..=254_u64) {
+        assert_eq!(rt; *output, failed(number, 0x2));
+    }
     assert_eq!(rt; kernel.finished().len(), 254);
     assert_eq!(rt; kernel.open_calls(), 0);
     Ok(())

@@ -1,5 +1,6 @@
 -- What is kept for each thread number, so that the outcome of its call can be handed out.
-use Rattle.std.specs.Prelude.{◌≡◌, ℕ, ◌+◌, ◌≤◌, List, length, Bool, not, ◌||◌, ◌==◌, Option, Some, None, option_and_then, if◌then◌else◌, slice_index_or, IsTrue}
+use Rattle.std.specs.Prelude.{◌≡◌, ℕ, ◌+◌, ◌≤◌, List, length, Bool, not, ◌||◌, ◌==◌, Option, Some, None}
+use Rattle.std.specs.Prelude.{option_and_then, if◌then◌else◌, slice_index_or, IsTrue}
 use Rattle.std.specs.Option.{option_map_or}
 use Rattle.ipc_words.specs.Limits.{table_slots}
 use Rattle.ipc_words.specs.ThreadId.{nilthread}
@@ -24,7 +25,9 @@ message_at H n = (if is_unsent H n then Some (message_of H n) else None)
 
 -- what is to be told of n: nothing where it was taken; its outcome; or its buffer strings, while it is open
 abbrev pub told_at : List Entry → List ℕ → ℕ → Told
-told_at H taken n = (if is_among n taken then Nothing else (if is_over H n then option_map_or (λ o. Ready o) (outcome_of H n) Nothing else Waiting n (buffers_of H n)))
+told_at H taken n =
+    (if is_among n taken then Nothing
+    else (if is_over H n then option_map_or (λ o. Ready o) (outcome_of H n) Nothing else Waiting n (buffers_of H n)))
 
 -- the desk of a number that has no live thread, of a live thread, and of a number
 abbrev pub blank_desk : Desk

@@ -18,4 +18,5 @@ finishes H e thread = is_live (H ++ e ∷ []) thread && option_map_or (ends_call
 
 -- a thread is one of those that are named
 abbrev pub is_named : Finished → ℕ → Bool
-is_named finished thread = option_map_or (λ t. t == thread) finished.first false || option_map_or (λ t. t == thread) finished.second false
+is_named finished thread =
+    option_map_or (λ t. t == thread) finished.first false || option_map_or (λ t. t == thread) finished.second false

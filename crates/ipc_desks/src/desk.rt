@@ -2,7 +2,8 @@ ghost use Rattle.std.specs.Prelude.{◌≡◌, ◌≤◌, ◌+◌, ◌<◌, ◌^
 ghost use Rattle.ipc_history.specs.Outcomes.{HasItsWords, failure, nothing};
 ghost use Rattle.ipc_desks.specs.Desks.{blank_desk};
 ghost use Rattle.ipc_desks.specs.Messages.{MessageParts, delivered};
-ghost use Rattle.ipc_desks.specs.Steps.{finished, emptied, cleared, entered, entered_told, waits_in, buffers_in, outcome_in_told, is_ready, is_nothing, unbuffered, taken_from};
+ghost use Rattle.ipc_desks.specs.Steps.{finished, emptied, cleared, entered, entered_told, waits_in, buffers_in};
+ghost use Rattle.ipc_desks.specs.Steps.{outcome_in_told, is_ready, is_nothing, unbuffered, taken_from};
 ghost use Rattle.ipc_desks.specs.declared.desk.Told.TheVariants.{Nothing};
 
 use crate::message::{Message, Prepared};
@@ -196,7 +197,8 @@ pub(crate) fn delivered(
     buffers: BufferList,
 ) -> Outcome
     requires fits { length message.strings ≤ length buffers }
-    requires words { HasItsWords (delivered number message caller shown buffers).tag (delivered number message caller shown buffers).words }
+    requires words { HasItsWords (delivered number message caller shown buffers).tag
+        (delivered number message caller shown buffers).words }
     ensures { result ≡ delivered number message caller shown buffers }
 {
     let is_propagated = message.tag().propagates() && message.originator() == shown;

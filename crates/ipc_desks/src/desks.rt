@@ -1,4 +1,5 @@
-ghost use Rattle.std.specs.Prelude.{◌≡◌, ◌≤◌, ◌+◌, ◌<◌, ◌^◌, ◌++◌, ◌∷◌, ◌*◌, [], ℕ, length, Some, None, List, IfOk, IfSome, IsTrue, IsFalse, IsNone, false, ◌==◌, ◌&&◌};
+ghost use Rattle.std.specs.Prelude.{◌≡◌, ◌≤◌, ◌+◌, ◌<◌, ◌^◌, ◌++◌, ◌∷◌, ◌*◌, [], ℕ, length, Some, None, List};
+ghost use Rattle.std.specs.Prelude.{IfOk, IfSome, IsTrue, IsFalse, IsNone, false, ◌==◌, ◌&&◌};
 ghost use Rattle.ipc_words.specs.Limits.{table_slots};
 ghost use Rattle.ipc_words.specs.ThreadId.{nilthread, number_of};
 ghost use Rattle.ipc_words.specs.IpcError.{failure_code};
@@ -65,7 +66,8 @@ impl Desks {
 
 // One desk.
 impl Desks {
-    ghost use Rattle.ipc_desks.specs.Steps.{Changed, finished, emptied, entered, left, buffers_in, outcome_in_told, unbuffered, taken_from, is_ready};
+    ghost use Rattle.ipc_desks.specs.Steps.{Changed, finished, emptied, entered, left, buffers_in, outcome_in_told};
+    ghost use Rattle.ipc_desks.specs.Steps.{unbuffered, taken_from, is_ready};
 
     fn desk(&self, place: usize) -> &Desk
         requires { place < length self.now }
@@ -259,9 +261,12 @@ impl Desks {
         requires sends { IsFalse (is_over entries.now sending) }
         requires receives { IsFalse (is_over entries.now receiving) }
         requires small { error < 2 ^ 32 }
-        ensures desks { Failing (number_of (caller_of entries.now sending)) (number_of (caller_of entries.now receiving)) (failure sending error)
-            (failure receiving (error + 1)) self.old self.new }
-        ensures finished { result ≡ record { first = Some (caller_of entries.now sending); second = Some (caller_of entries.now receiving) } }
+        ensures desks { Failing (number_of (caller_of entries.now sending)) (number_of (caller_of entries.now receiving))
+            (failure sending error) (failure receiving (error + 1)) self.old self.new }
+        ensures finished { result ≡ record {
+          first = Some (caller_of entries.now sending);
+          second = Some (caller_of entries.now receiving);
+        } }
     {
         let from = self.place_of(entries, taken, sending);
         let to = self.place_of(entries, taken, receiving);

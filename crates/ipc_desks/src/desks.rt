@@ -27,9 +27,8 @@ use crate::message::{Message, Prepared};
 use ipc_history::{Call, Entry, Input, Outcome, Output};
 use ipc_items::BufferList;
 use ipc_slots::{Slots, Standing};
-use ipc_words::Phase as FailedPhase;
 use ipc_words::limits::TABLE_SLOTS;
-use ipc_words::{IpcError, ThreadId};
+use ipc_words::{IpcError, Phase as FailedPhase, ThreadId};
 use std::alloc::{AllocError, Global};
 use std::marker::Model;
 

@@ -22,9 +22,9 @@ pub record Changes (P : List Entry) (e : Entry) : Type 0 where
   pub bytes : (n : ℕ) → moved_bytes (P ++ e ∷ []) n ≡ moved_bytes P n + count_in n e
   pub wanted : (m : ℕ) → IsTrue (is_called P m) → from_specifier (P ++ e ∷ []) m ≡ unwrap_or (turned_in m e) (from_specifier P m)
   pub over : (n : ℕ) → IsTrue (is_called P n)
-        → is_over (P ++ e ∷ []) n
-        ≡ (is_over P n || closes n e || breaks (caller_of P n) e
-        || ((from_of P n == nilthread) && ends_send n e))
+      → is_over (P ++ e ∷ []) n
+      ≡ (is_over P n || closes n e || breaks (caller_of P n) e
+      || ((from_of P n == nilthread) && ends_send n e))
 
 abbrev pub EachEntryChanges : Type 0
 EachEntryChanges = (P : List Entry) (e : Entry) → Changes P e

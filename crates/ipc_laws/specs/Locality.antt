@@ -26,13 +26,13 @@ use Rattle.ipc_history.specs.declared.entry.Output.TheVariants.{Ended, Failed}
 pub data Possible (P : List Entry) (output : Output) : Type 0 where
   Ends : (n m : ℕ) → IsTrue (is_transferring P n m) → moved_bytes P n ≡ message_size P n → output ≡ Ended n m → Possible P output
   LosesReceiver : (n : ℕ) → IsTrue (is_send_partner_gone P n)
-        → output ≡ Failed n (failure_code Send kind.NonExistingPartner 0) → Possible P output
+      → output ≡ Failed n (failure_code Send kind.NonExistingPartner 0) → Possible P output
   LosesSender : (n : ℕ) → IsTrue (is_receive_partner_gone P n)
-        → output ≡ Failed n (failure_code Receive kind.NonExistingPartner 0) → Possible P output
+      → output ≡ Failed n (failure_code Receive kind.NonExistingPartner 0) → Possible P output
   LeftSending : (n m : ℕ) → receiver_of P n ≡ Some m → IsTrue (is_left P n n m m)
-        → output ≡ Failed n (failure_code Send kind.Aborted (moved_bytes P n)) → Possible P output
+      → output ≡ Failed n (failure_code Send kind.Aborted (moved_bytes P n)) → Possible P output
   LeftReceiving : (n k : ℕ) → sender_of P n ≡ Some k → IsTrue (is_left P n k n k)
-        → output ≡ Failed n (failure_code Receive kind.Aborted (moved_bytes P k)) → Possible P output
+      → output ≡ Failed n (failure_code Receive kind.Aborted (moved_bytes P k)) → Possible P output
   Meets : (n m : ℕ) → IsTrue (matches P n m) → output ≡ meeting P n m → Possible P output
   Expires : (n : ℕ) → IsTrue (is_due P n) → output ≡ Failed n (timeout_code P n) → Possible P output
 
@@ -49,20 +49,20 @@ QuietRests = (P : List Entry) → Quiet P → (output : Output) → Possible P o
 -- why the call n fails when a thread ends, and with which code: it sends to it, waits for it, or is in transfer with a call of it
 pub data LosesPartner (P : List Entry) (thread n code : ℕ) : Type 0 where
   Sending : IsTrue (is_sending P n) → to_of P n ≡ thread
-        → code ≡ failure_code Send kind.NonExistingPartner 0 → LosesPartner P thread n code
+      → code ≡ failure_code Send kind.NonExistingPartner 0 → LosesPartner P thread n code
   Waiting : IsTrue (is_receiving P n) → from_specifier P n ≡ thread
-        → code ≡ failure_code Receive kind.NonExistingPartner 0 → LosesPartner P thread n code
+      → code ≡ failure_code Receive kind.NonExistingPartner 0 → LosesPartner P thread n code
   Passing : (m : ℕ) → IsTrue (is_transferring P n m) → caller_of P m ≡ thread
-        → code ≡ failure_code Send kind.Aborted (moved_bytes P n) → LosesPartner P thread n code
+      → code ≡ failure_code Send kind.Aborted (moved_bytes P n) → LosesPartner P thread n code
   Taking : (k : ℕ) → IsTrue (is_transferring P k n) → caller_of P k ≡ thread
-        → code ≡ failure_code Receive kind.Aborted (moved_bytes P k) → LosesPartner P thread n code
+      → code ≡ failure_code Receive kind.Aborted (moved_bytes P k) → LosesPartner P thread n code
 
 -- an entry touches an output: both name one call; or the output fails a call that loses its partner, or that is due then
 pub data Touched (P : List Entry) (e : Entry) (output : Output) : Type 0 where
   Named : (n : ℕ) → IsTrue (names n e) → IsTrue (names n (Written output)) → Touched P e output
   Lost : (thread n code : ℕ) → IsTrue (breaks thread e) → LosesPartner P thread n code → output ≡ Failed n code → Touched P e output
   Due : (moment n : ℕ) → moment_in e ≡ Some moment → IsTrue (is_due_at P moment n)
-        → output ≡ Failed n (timeout_code P n) → Touched P e output
+      → output ≡ Failed n (timeout_code P n) → Touched P e output
 
 -- an entry makes possible only what it touches: all else was possible before
 abbrev pub EntriesTouch : Type 0

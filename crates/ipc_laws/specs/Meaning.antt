@@ -21,11 +21,11 @@ pub data WhyFailed (P : List Entry) (n code : ℕ) : Type 0 where
   StoppedReceive : IsTrue (is_receiving P n) → code ≡ failure_code Receive kind.Cancelled 0 → WhyFailed P n code
   SendPartnerGone : IsTrue (is_send_partner_gone P n) → code ≡ failure_code Send kind.NonExistingPartner 0 → WhyFailed P n code
   ReceivePartnerGone : IsTrue (is_receive_partner_gone P n)
-        → code ≡ failure_code Receive kind.NonExistingPartner 0 → WhyFailed P n code
+      → code ≡ failure_code Receive kind.NonExistingPartner 0 → WhyFailed P n code
   LeftSender : (m : ℕ) → receiver_of P n ≡ Some m → IsTrue (is_left P n n m m)
-        → code ≡ failure_code Send kind.Aborted (moved_bytes P n) → WhyFailed P n code
+      → code ≡ failure_code Send kind.Aborted (moved_bytes P n) → WhyFailed P n code
   LeftReceiver : (k : ℕ) → sender_of P n ≡ Some k → IsTrue (is_left P n k n k)
-        → code ≡ failure_code Receive kind.Aborted (moved_bytes P k) → WhyFailed P n code
+      → code ≡ failure_code Receive kind.Aborted (moved_bytes P k) → WhyFailed P n code
   DueSend : IsTrue (is_due P n) → IsTrue (is_sending P n) → code ≡ failure_code Send kind.Timeout 0 → WhyFailed P n code
   DueReceive : IsTrue (is_due P n) → IsFalse (is_sending P n) → code ≡ failure_code Receive kind.Timeout 0 → WhyFailed P n code
 

@@ -12,7 +12,7 @@ pub record HasOptionsIn (rows : List Row) (options : ServerOptions) : Type 0 whe
   pub spaces : number_in rows (codes "spaces") ≡ Some options.spaces
   pub connections : number_in rows (codes "connections") ≡ Some options.connections
   pub mode : option_map (λ text. digits_value 8 (without_leading_plus text)) (first_of (codes "mode") rows)
-    ≡ Some options.mode
+      ≡ Some options.mode
   pub probe : one_of (codes "probe") rows ≡ Some (codes "true") → options.probe ≡ true
   pub no_probe : one_of (codes "probe") rows ≡ Some (codes "false") → options.probe ≡ false
   pub trace : first_of (codes "trace") rows ≡ option_map (λ file. file.now) options.trace

@@ -232,12 +232,7 @@ fn serve_and_close<C: Ledger + Send, T: Ledger + Send, R>(
     options: &ServerOptions<'_>,
 ) -> Result<(), Exit>
 where
-    R: Threads
-        + Wait
-        + Clock
-        + Net<Listener = TcpListener, Stream = TcpStream>
-        + Print
-        + Sync,
+    R: Threads + Wait + Clock + Net<Listener = TcpListener, Stream = TcpStream> + Print + Sync,
 {
     let served = serve(server, listeners, options);
     server.shared.close(server.rt);
@@ -251,12 +246,7 @@ fn serve<C: Ledger + Send, T: Ledger + Send, R>(
     options: &ServerOptions<'_>,
 ) -> Result<(), Exit>
 where
-    R: Threads
-        + Wait
-        + Clock
-        + Net<Listener = TcpListener, Stream = TcpStream>
-        + Print
-        + Sync,
+    R: Threads + Wait + Clock + Net<Listener = TcpListener, Stream = TcpStream> + Print + Sync,
 {
     let rt = server.rt;
     println!(rt; "listening {}", options.spaces)?;

@@ -14,8 +14,7 @@ ghost use Rattle.ipc_slots.specs.Rules.{IsStanding, IsSmall, stop_by, turn_by, t
 use crate::slot::{Phase, Standing};
 use crate::slots::Slots;
 use ipc_history::{Entry, Input, Output};
-use ipc_words::Phase as FailedPhase;
-use ipc_words::{IpcError, MaskedControl, ThreadId};
+use ipc_words::{IpcError, MaskedControl, Phase as FailedPhase, ThreadId};
 
 impl Standing {
     /// What ExchangeRegisters stops of it: by S its send phase, by R its receive phase.

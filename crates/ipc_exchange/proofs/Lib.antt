@@ -14,3 +14,4 @@ pub mod ExchangeLemmas
 pub mod Along
 pub mod CallLemmas
 pub mod OnceLemmas
+pub mod RunningLemmas

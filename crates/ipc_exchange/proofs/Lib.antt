@@ -15,3 +15,4 @@ pub mod Along
 pub mod CallLemmas
 pub mod OnceLemmas
 pub mod RunningLemmas
+pub mod OutLemmas

@@ -15,6 +15,6 @@ mod waiting;
 
 pub use event::{Event, Reply};
 pub use exchange::Exchange;
-pub use laws::{calls_are_accepted, happen_once, legal_stays, pieces_join};
+pub use laws::{calls_are_accepted, happen_once, legal_stays, out_grows, pieces_join};
 pub use progress::{ConnectRefused, Progress};
 pub use put::Put;

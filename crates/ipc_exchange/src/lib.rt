@@ -10,6 +10,8 @@ mod progress;
 mod put;
 mod running;
 mod service;
+#[cfg(test)]
+mod tests;
 mod told;
 mod waiting;
 

@@ -35,7 +35,7 @@ serving_within [] q u e = absurd cc
 serving_within (slot ∷ slots) zero u e = omega arith
 serving_within (slot ∷ slots) (suc q) u e = let h = serving_within slots q u e in omega (arith, h)
 
-lines_long : (slots : List LineSlots) → length (lines_of slots) ≡ length slots
+pub lines_long : (slots : List LineSlots) → length (lines_of slots) ≡ length slots
 lines_long [] = refl
 lines_long (slot ∷ slots) = ap suc (lines_long slots)
 

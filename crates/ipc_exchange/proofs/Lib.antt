@@ -15,3 +15,5 @@ pub mod EndingLemmas
 pub mod Along
 pub mod CallLemmas
 pub mod OnceLemmas
+pub mod RunningLemmas
+pub mod OutLemmas

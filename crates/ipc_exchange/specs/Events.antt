@@ -38,10 +38,14 @@ kept Greeting bytes = bytes
 kept (Serving thread) bytes = bytes
 
 abbrev pub holding : ExchangeParts → ServiceParts → ℕ → List ℕ → ExchangeParts
-holding old service place bytes = record { service = service; held = slice_set old.held place (kept (line_at service.lines place).stage bytes) }
+holding old service place bytes = record {
+  service = service;
+  held = slice_set old.held place (kept (line_at service.lines place).stage bytes);
+}
 
 -- a piece: what the bytes held and the piece say is served, one after the other, and what is left is held
-pub record Feeds (memory : Memory) (old : ExchangeParts) (place : ℕ) (piece : List ℕ) (asked : List Asked) (new : ExchangeParts) : Type 0 where
+pub record Feeds (memory : Memory) (old : ExchangeParts) (place : ℕ) (piece : List ℕ)
+    (asked : List Asked) (new : ExchangeParts) : Type 0 where
   pub heard : List (Result Heard FrameFault)
   pub hears : Hears memory (heard_in (stream_of Server (held_at old place ++ piece))) heard
   pub service : ServiceParts
@@ -55,7 +59,8 @@ pub record Closes (memory : Memory) (old : ExchangeParts) (place : ℕ) (asked :
   pub new_is : new ≡ holding old service place []
 
 -- a command of nobody's
-pub record Commands (memory : Memory) (old : ExchangeParts) (command : Command) (asked : List Asked) (new : ExchangeParts) : Type 0 where
+pub record Commands (memory : Memory) (old : ExchangeParts) (command : Command)
+    (asked : List Asked) (new : ExchangeParts) : Type 0 where
   pub answer : Answer
   pub service : ServiceParts
   pub answers : Answers memory old.service command answer service

@@ -29,12 +29,13 @@ ShowsHeld Finished decoder bytes = bytes ≡ []
 ShowsHeld Greeting decoder bytes = Holds decoder bytes
 ShowsHeld (Serving thread) decoder bytes = Holds decoder bytes
 
--- an exchange stands for these parts. Where there was no memory for a payload, its bytes are counted and not kept, so that there may be
--- more than one
+-- an exchange stands for these parts. Where there was no memory for a payload, its bytes are counted
+-- and not kept, so that there may be more than one
 pub record Shows (exchange : ExchangeSlots) (parts : ExchangeParts) : Type 0 where
   pub service : parts.service ≡ service_of exchange.service
   pub long : length parts.held ≡ length exchange.decoders
-  pub held : (place : ℕ) → ShowsHeld (stage_at exchange.service.slots place) (decoder_at exchange.decoders place) (held_at parts place)
+  pub held : (place : ℕ) → ShowsHeld (stage_at exchange.service.slots place)
+      (decoder_at exchange.decoders place) (held_at parts place)
 
 -- what is true of every exchange
 pub record IsExchange (exchange : ExchangeSlots) : Type 0 where

@@ -35,7 +35,8 @@ HoldsFor Greeting decoder bytes = Holds decoder bytes
 HoldsFor (Serving thread) decoder bytes = Holds decoder bytes
 
 -- what the bytes held and a piece say is served, one after the other, and the decoder holds what is left
-pub record FeedsLine (old : ServiceParts) (place : ℕ) (bytes piece : List ℕ) (new : ServiceParts) (decoder : Decoding) : Type 0 where
+pub record FeedsLine (old : ServiceParts) (place : ℕ) (bytes piece : List ℕ)
+    (new : ServiceParts) (decoder : Decoding) : Type 0 where
   pub heard : List (Result Heard FrameFault)
   pub hears : Hears MayLack (heard_in (stream_of Server (bytes ++ piece))) heard
   pub asked : List Asked

@@ -9,6 +9,7 @@ use Rattle.ipc_core.specs.declared.command.Answer.{Answer}
 use Rattle.ipc_core.specs.declared.command.Answer.TheVariants.{Entered}
 use Rattle.ipc_core.specs.declared.command.Command.{Command}
 use Rattle.ipc_core.specs.declared.command.Command.TheVariants.{Enter}
+use Rattle.ipc_exchange.specs.Service.{line_at}
 use Rattle.ipc_exchange.specs.Serving.{Ample, Asked, Memory}
 use Rattle.ipc_exchange.specs.Events.{Event, ExchangeParts, Feeds, HappenAll}
 
@@ -61,3 +62,15 @@ HappenOnce = (old one other : ExchangeParts) (events : List Event) (asked others
     → Legal old.service.kernel.history
     → HappenAll Ample old events asked one → HappenAll Ample old events others other
     → (asked ≡ others) × (one ≡ other)
+
+-- bytes, and more behind them
+pub record Begins (front whole : List ℕ) : Type 0 where
+  pub rest : List ℕ
+  pub whole_is : whole ≡ front ++ rest
+
+-- what waits on a connection gets more at its end alone. So what went out on it, followed by what waits,
+-- is all that was told it, in order
+abbrev pub OutGrows : Type 0
+OutGrows = (memory : Memory) (old new : ExchangeParts) (events : List Event) (asked : List Asked)
+    → HappenAll memory old events asked new
+    → (place : ℕ) → Begins (line_at old.service.lines place).out (line_at new.service.lines place).out

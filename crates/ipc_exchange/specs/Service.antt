@@ -1,5 +1,6 @@
 -- A service: one kernel, and the lines of the connections, each with its space, its stage and the bytes that it has to put out.
-use Rattle.std.specs.Prelude.{ℕ, zero, suc, Bool, false, ◌==◌, List, [], ◌∷◌, ◌++◌, drop, Option, Some, None, slice_index_or, slice_set, option_map}
+use Rattle.std.specs.Prelude.{ℕ, zero, suc, Bool, false, ◌==◌, List, [], ◌∷◌, ◌++◌, drop, Option}
+use Rattle.std.specs.Prelude.{Some, None, slice_index_or, slice_set, option_map}
 use Rattle.std.specs.List.{position_or_len}
 use Rattle.ipc_words.specs.Limits.{table_slots}
 use Rattle.ipc_words.specs.ThreadId.{number_of}

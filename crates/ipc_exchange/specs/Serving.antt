@@ -51,17 +51,22 @@ told_of (answer.Taken outcome) = Entered
 -- a thread, if there is one, ends
 abbrev pub Leaves : Memory → KernelParts → Option ℕ → List Asked → KernelParts → Type 0
 Leaves memory old None asked new = (asked ≡ []) × (new ≡ old)
-Leaves memory old (Some thread) asked new = (answer : Answer) × (asked ≡ record { command = command.Broke thread; answer = answer } ∷ []) × ObeysIn memory old (command.Broke thread) answer new
+Leaves memory old (Some thread) asked new = (answer : Answer)
+    × (asked ≡ record { command = command.Broke thread; answer = answer } ∷ [])
+    × ObeysIn memory old (command.Broke thread) answer new
 
 -- something is told to the line in a place: its frame goes out; where the connection ends so, its
 -- thread ends; then each thread is told its outcome
-pub record Tells (memory : Memory) (old : ServiceParts) (place : ℕ) (told : Told) (asked : List Asked) (new : ServiceParts) : Type 0 where
+pub record Tells (memory : Memory) (old : ServiceParts) (place : ℕ) (told : Told)
+    (asked : List Asked) (new : ServiceParts) : Type 0 where
   pub kernel : KernelParts
-  pub leaves : Leaves memory old.kernel (thread_left (line_at old.lines place).stage (next_stage (line_at old.lines place).stage told)) asked kernel
+  pub leaves : Leaves memory old.kernel (thread_left (line_at old.lines place).stage
+      (next_stage (line_at old.lines place).stage told)) asked kernel
   pub new_is : new ≡ delivered kernel (slice_set old.lines place (told_line told (line_at old.lines place)))
 
 -- the kernel obeys a command for the line in a place, and its answer is told
-pub record Does (memory : Memory) (old : ServiceParts) (place : ℕ) (command : Command) (asked : List Asked) (new : ServiceParts) : Type 0 where
+pub record Does (memory : Memory) (old : ServiceParts) (place : ℕ) (command : Command)
+    (asked : List Asked) (new : ServiceParts) : Type 0 where
   pub answer : Answer
   pub between : KernelParts
   pub obeys : ObeysIn memory old.kernel command answer between
@@ -80,9 +85,11 @@ DoesAlone memory old command new = (answer : Answer) × Answers memory old comma
 -- a request of the line in a place
 abbrev pub ServesBy : Memory → ServiceParts → ℕ → Request → List Asked → ServiceParts → Type 0
 ServesBy memory old place Nothing asked new = (asked ≡ []) × (new ≡ old)
-ServesBy memory old place (Open number) asked new = Does memory old place (command.Open number (line_at old.lines place).space) asked new
+ServesBy memory old place (Open number) asked new =
+    Does memory old place (command.Open number (line_at old.lines place).space) asked new
 ServesBy memory old place (Enter thread call) asked new = Does memory old place (command.Enter thread call) asked new
-ServesBy memory old place (Exreg thread target control) asked new = Does memory old place (command.Exreg thread target control) asked new
+ServesBy memory old place (Exreg thread target control) asked new =
+    Does memory old place (command.Exreg thread target control) asked new
 ServesBy memory old place Leave asked new = Tells memory old place Left asked new
 ServesBy memory old place (Refuse class number) asked new = Tells memory old place (Faulted class number) asked new
 
@@ -92,9 +99,12 @@ Serves memory old place heard asked new = ServesBy memory old place (asks (line_
 
 -- one after the other
 abbrev pub ServesAll : Memory → ServiceParts → ℕ → List (Result Heard FrameFault) → List Asked → ServiceParts → Type 0
-ServesAll memory old place heard asked new = Chain (λ before one told after. Serves memory before place one told after) old heard asked new
+ServesAll memory old place heard asked new =
+    Chain (λ before one told after. Serves memory before place one told after) old heard asked new
 
 -- what is heard of what a stream says: all; where a growth was refused the first of it, and then that there is no memory
 abbrev pub Hears : Memory → List (Result Heard FrameFault) → List (Result Heard FrameFault) → Type 0
 Hears Ample said heard = heard ≡ said
-Hears MayLack said heard = (heard ≡ said) ⊎ ((front : List (Result Heard FrameFault)) × (rest : List (Result Heard FrameFault)) × (said ≡ front ++ rest) × (heard ≡ front ++ Err fault.NoMemory ∷ []))
+Hears MayLack said heard = (heard ≡ said)
+    ⊎ ((front : List (Result Heard FrameFault)) × (rest : List (Result Heard FrameFault))
+    × (said ≡ front ++ rest) × (heard ≡ front ++ Err fault.NoMemory ∷ []))

@@ -1,6 +1,8 @@
 ghost use Rattle.std.specs.Prelude.{◌≡◌, ◌<◌, ◌≤◌, ◌+◌, ℕ, [], false, length, min, take, drop, nat_le, if◌then◌else◌};
 ghost use Rattle.std.specs.Prelude.{IfOk, IfErr, OnErr};
 ghost use Rattle.ipc_words.specs.Limits.{max_calls, max_connections, max_entries};
+ghost use Rattle.ipc_history.specs.Legal.{Legal, Quiet};
+ghost use Rattle.ipc_history.specs.Paired.{Paired};
 ghost use Rattle.ipc_exchange.specs.Service.{line_at, without_bytes};
 ghost use Rattle.ipc_exchange.specs.Slots.{service_of, stage_at};
 ghost use Rattle.ipc_exchange.specs.Events.{Connect, Copy, ExchangeParts, Finish, Piece, Reading, empty_exchange};
@@ -12,6 +14,7 @@ use crate::put::Put;
 use crate::service::Service;
 use ipc_calls::CallDecoder;
 use ipc_core::Limits;
+use ipc_history::Entry;
 use ipc_words::limits::MAX_CONNECTIONS;
 use std::alloc::{AllocError, Global};
 use std::marker::Model;
@@ -78,6 +81,7 @@ impl Exchange {
         ensures progress { (place : ℕ) → connection ≡ place + 1
             → result ≡ progress_of (stage_at self.new.service.slots place) }
         ensures zero { connection ≡ 0 → self.new ≡ self.old }
+        ensures none { connection ≡ 0 → result ≡ Progress.Finished }
     {
         if connection == 0 || connection > self.service.len() {
             return Progress::Finished;
@@ -138,6 +142,16 @@ impl Exchange {
             };
         }
         self.service.output(self.alloc, connection - 1, out)
+    }
+
+    /// The history, oldest entry first.
+    pub fn history(&self) -> &[Entry]
+        ensures entries { result.now ≡ self.now.service.kernel.history }
+        ensures legal { Legal self.now.service.kernel.history }
+        ensures quiet { Quiet self.now.service.kernel.history }
+        ensures paired { Paired self.now.service.kernel.history }
+    {
+        self.service.history()
     }
 
     /// How many connections there were.

@@ -47,8 +47,8 @@ fn hear(service: &mut Service, place: usize, said: Result<Heard, FrameFault>)
     service.serve(place, heard);
 }
 
-/// Serves the first frame that ends in a piece, and answers how many bytes of the piece it used; None where the piece is used up, or the
-/// connection has ended.
+/// Serves the first frame that ends in a piece, and answers how many bytes of the piece it used; None
+/// where the piece is used up, or the connection has ended.
 fn feed_first(
     service: &mut Service,
     place: usize,

@@ -1,4 +1,4 @@
-ghost use Rattle.ipc_exchange.specs.Laws.{CallsAreAccepted, HappenOnce, LegalStays, PiecesJoin};
+ghost use Rattle.ipc_exchange.specs.Laws.{CallsAreAccepted, HappenOnce, LegalStays, OutGrows, PiecesJoin};
 
 /// Where no growth is refused, a piece and then another are the two joined.
 pub fn pieces_join()
@@ -18,4 +18,9 @@ pub fn legal_stays()
 /// Where no growth is refused, each list of events has one end, and one trace of commands and answers.
 pub fn happen_once()
     ensures { HappenOnce }
+{}
+
+/// What waits on a connection gets more at its end alone, whatever happens.
+pub fn out_grows()
+    ensures { OutGrows }
 {}

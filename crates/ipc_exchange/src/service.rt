@@ -1,6 +1,9 @@
-ghost use Rattle.std.specs.Prelude.{◌≡◌, ◌<◌, ◌≤◌, ◌+◌, ℕ, [], false, List, length, min, take, drop, slice_set, IfOk, IfSome, OnOk, OnErr};
+ghost use Rattle.std.specs.Prelude.{◌≡◌, ◌<◌, ◌≤◌, ◌+◌, ℕ, [], false, List, length, min, take};
+ghost use Rattle.std.specs.Prelude.{drop, slice_set, IfOk, IfSome, OnOk, OnErr};
 ghost use Rattle.ipc_words.specs.ThreadId.{number_of};
 ghost use Rattle.ipc_words.specs.Limits.{max_calls, max_entries, table_slots};
+ghost use Rattle.ipc_history.specs.Legal.{Legal, Quiet};
+ghost use Rattle.ipc_history.specs.Paired.{Paired};
 ghost use Rattle.ipc_core.specs.Laws.{IsSound};
 ghost use Rattle.ipc_core.specs.Obeying.{MayObey, empty_kernel, broke_answer, rested};
 ghost use Rattle.ipc_core.specs.declared.command.Answer.{Answer};
@@ -8,9 +11,12 @@ ghost use Rattle.ipc_core.specs.declared.command.Answer.TheVariants as answer;
 ghost use Rattle.ipc_core.specs.declared.command.Command.TheVariants as command;
 ghost use Rattle.ipc_connection.specs.Replying.{next_stage, thread_left};
 ghost use Rattle.ipc_exchange.specs.Feeding.{has_finished};
-ghost use Rattle.ipc_exchange.specs.Service.{delivered, line_at, place_of, told_line, told_outcome, with_line, without_bytes};
+ghost use Rattle.ipc_exchange.specs.Service.{delivered, line_at, place_of};
+ghost use Rattle.ipc_exchange.specs.Service.{told_line, told_outcome, with_line, without_bytes};
 ghost use Rattle.ipc_exchange.specs.Serving.{Asked, Does, DoesAlone, Leaves, MayLack, Serves, ServesBy, Tells, told_of};
-ghost use Rattle.ipc_exchange.specs.Slots.{CanAsk, CanDo, CanServe, CanTell, NoneServes, Ready, StaysReady, lines_of, service_of, slot_at, stage_at, table_told};
+ghost use Rattle.ipc_exchange.specs.Slots.{CanAsk, CanDo, CanServe, CanTell, NoneServes, Ready};
+ghost use Rattle.ipc_exchange.specs.Slots.{StaysReady, lines_of, service_of, slot_at, stage_at};
+ghost use Rattle.ipc_exchange.specs.Slots.{table_told};
 
 use crate::line::Line;
 use crate::put::Put;
@@ -19,6 +25,7 @@ use ipc_calls::Heard;
 use ipc_connection::{Request, Stage, Told, asks, next_stage, thread_left};
 use ipc_core::{Advance, Command, Kernel, Limits, NoThread};
 use ipc_frame::FrameFault;
+use ipc_history::Entry;
 use ipc_words::ThreadId;
 use ipc_words::limits::TABLE_SLOTS;
 use std::alloc::{AllocError, Global};
@@ -44,7 +51,10 @@ impl Model for Service {
 impl Service {
     /// A kernel with these limits, and no connection.
     pub(crate) fn new(alloc: Global, limits: Limits) -> Result<Service, AllocError>
-        ensures service { IfOk result (λ service. service_of service ≡ record { kernel = empty_kernel (min limits.entries max_entries) (min limits.calls max_calls); lines = [] }) }
+        ensures service { IfOk result (λ service. service_of service ≡ record {
+          kernel = empty_kernel (min limits.entries max_entries) (min limits.calls max_calls);
+          lines = [];
+        }) }
         ensures ready { IfOk result (λ service. Ready service) }
         ensures none { IfOk result (λ service. service.slots ≡ []) }
     {
@@ -59,6 +69,16 @@ impl Service {
             lines: Vec::new(alloc),
             table,
         })
+    }
+
+    /// The history, oldest entry first.
+    pub(crate) fn history(&self) -> &[Entry]
+        ensures entries { result.now ≡ self.now.kernel.history }
+        ensures legal { Legal self.now.kernel.history }
+        ensures quiet { Quiet self.now.kernel.history }
+        ensures paired { Paired self.now.kernel.history }
+    {
+        self.kernel.history()
     }
 
     /// How many connections there were.
@@ -248,8 +268,10 @@ impl Service {
     fn tell_line(&mut self, place: usize, told: Told) -> Option<ThreadId>
         requires { CanTell self.old place told }
         ensures kernel { self.new.kernel ≡ self.old.kernel }
-        ensures lines { lines_of self.new.slots ≡ slice_set (lines_of self.old.slots) place (told_line told (line_at (lines_of self.old.slots) place)) }
-        ensures left { result ≡ thread_left (line_at (lines_of self.old.slots) place).stage (next_stage (line_at (lines_of self.old.slots) place).stage told) }
+        ensures lines { lines_of self.new.slots ≡ slice_set (lines_of self.old.slots) place
+            (told_line told (line_at (lines_of self.old.slots) place)) }
+        ensures left { result ≡ thread_left (line_at (lines_of self.old.slots) place).stage
+            (next_stage (line_at (lines_of self.old.slots) place).stage told) }
         ensures ready { StaysReady self.old self.new }
         ensures alone { IfSome result (λ thread. NoneServes self.new.slots thread) }
     {

@@ -1,0 +1,79 @@
+-- A list of events, one after the other, and how each is answered.
+use Rattle.std.specs.Prelude.{◌≡◌, ℕ, zero, suc, ◌+◌, List, [], ◌∷◌, ◌++◌, map, filter_map, length, nat_le, if◌then◌else◌, ⊤}
+use Rattle.std.specs.List.{flat_map}
+use Rattle.ipc_connection.specs.Chain.{Chain}
+use Rattle.ipc_exchange.specs.Service.{line_at}
+use Rattle.ipc_exchange.specs.Serving.{Asked, MayLack}
+use Rattle.ipc_exchange.specs.Events.{ExchangeParts, HappenAll}
+use Rattle.ipc_exchange.specs.Events as events
+use Rattle.ipc_exchange.specs.Exchange.{ExchangeSlots, Shows, max_connections, progress_of}
+use Rattle.ipc_exchange.specs.Laws.{accepted, calls_in}
+use Rattle.ipc_exchange.specs.declared.event.Event.{Event}
+use Rattle.ipc_exchange.specs.declared.event.Event.TheVariants.{Connect, Piece, Finish, Reading, Copy}
+use Rattle.ipc_exchange.specs.declared.event.Reply.{Reply}
+use Rattle.ipc_exchange.specs.declared.event.Reply.TheVariants.{Connected, Refused, Fed, Done}
+use Rattle.ipc_exchange.specs.declared.progress.ConnectRefused.TheVariants.{TooMany, NoMemory}
+use Rattle.ipc_exchange.specs.declared.progress.Progress.TheVariants as progress
+
+-- an event, and how it was answered
+pub record Turn : Type 0 where
+  pub event : Event
+  pub reply : Reply
+
+-- what happens by an event with this answer: nothing where a connection is refused, or for the number
+-- 0, which no connection has
+abbrev pub happening : Event → Reply → List events.Event
+happening (Connect space) (Connected number) = events.Connect space ∷ []
+happening (Connect space) (Refused why) = []
+happening (Connect space) (Fed done) = []
+happening (Connect space) Done = []
+happening (Piece zero bytes) reply = []
+happening (Piece (suc place) bytes) reply = events.Piece place bytes.items ∷ []
+happening (Finish zero) reply = []
+happening (Finish (suc place)) reply = events.Finish place ∷ []
+happening (Reading reading) reply = events.Reading reading ∷ []
+happening Copy reply = events.Copy ∷ []
+
+-- the answer: a new connection's number, or why it was refused; whether the connection of a piece goes on
+abbrev pub RepliesTo : ExchangeParts → Event → Reply → ExchangeParts → Type 0
+RepliesTo old (Connect space) (Connected number) new = number ≡ length old.service.lines + 1
+RepliesTo old (Connect space) (Refused why) new =
+    why ≡ (if nat_le max_connections (length old.service.lines) then TooMany else NoMemory)
+RepliesTo old (Piece zero bytes) (Fed done) new = done ≡ progress.Finished
+RepliesTo old (Piece (suc place) bytes) (Fed done) new =
+    done ≡ progress_of (line_at new.service.lines place).stage
+RepliesTo old (Finish connection) Done new = ⊤
+RepliesTo old (Reading reading) Done new = ⊤
+RepliesTo old Copy Done new = ⊤
+RepliesTo old _ _ new = ⊥
+
+-- an event happens, and is answered, with the commands that the kernel was given for it
+abbrev pub Turns : ExchangeParts → Turn → List Asked → ExchangeParts → Type 0
+Turns old turn asked new =
+    HappenAll MayLack old (happening turn.event turn.reply) asked new
+    × RepliesTo old turn.event turn.reply new
+
+-- so of an exchange, whatever parts it stood for
+abbrev pub Replied : ExchangeSlots → Event → Reply → ExchangeSlots → Type 0
+Replied old event reply new = (parts : ExchangeParts) → Shows old parts
+    → (asked : List Asked) × (after : ExchangeParts)
+    × Turns parts (record { event = event; reply = reply }) asked after × Shows new after
+
+-- what happened in all
+abbrev pub happened : List Turn → List events.Event
+happened turns = flat_map (λ (turn : Turn). happening turn.event turn.reply) turns
+
+-- events happened from these parts on, one after the other, each with its answer, and the exchange stands
+-- for what came of it. What was asked of the kernel, and answered, gave the calls of the history
+pub record Ran (first : ExchangeParts) (events : List Event) (replies : List Reply)
+    (exchange : ExchangeSlots) : Type 0 where
+  pub turns : List Turn
+  pub events_are : map (λ (turn : Turn). turn.event) turns ≡ events
+  pub replies_are : map (λ (turn : Turn). turn.reply) turns ≡ replies
+  pub asked : List Asked
+  pub parts : ExchangeParts
+  pub chain : Chain Turns first turns asked parts
+  pub shows : Shows exchange parts
+  pub happens : HappenAll MayLack first (happened turns) asked parts
+  pub calls : calls_in parts.service.kernel.history
+      ≡ calls_in first.service.kernel.history ++ filter_map accepted asked

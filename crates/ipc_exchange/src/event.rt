@@ -1,0 +1,29 @@
+use crate::progress::{ConnectRefused, Progress};
+
+/// What may happen to an exchange. Connections are numbered from 1 on.
+#[derive(Drop)]
+pub enum Event {
+    /// A connection comes from a space, 1 to 64.
+    Connect(u32),
+    /// A piece of bytes comes on a connection.
+    Piece(usize, Vec<u8>),
+    /// The input of a connection ends.
+    Finish(usize),
+    /// The clock is read, in microseconds.
+    Reading(u64),
+    /// A block of the least call in transfer is copied.
+    Copy,
+}
+
+/// How an event is answered.
+#[derive(Clone, Copy, PartialEq, Eq, Debug)]
+pub enum Reply {
+    /// The connection came, and has this number.
+    Connected(usize),
+    /// The connection was refused; nothing happened.
+    Refused(ConnectRefused),
+    /// The piece came; whether its connection goes on.
+    Fed(Progress),
+    /// It happened.
+    Done,
+}

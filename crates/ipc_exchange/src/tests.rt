@@ -1,0 +1,329 @@
+use super::*;
+use ipc_core::{Limits, MAX_CALLS, MAX_ENTRIES};
+use std::alloc::Global;
+use std::process::Abort;
+use std::test::Fail;
+
+const LIMITS: Limits = Limits {
+    entries: MAX_ENTRIES,
+    calls: MAX_CALLS,
+};
+
+// HELLO 0, 1, 2
+const HELLO_0: &[u8] = b"\x00\x00\x00\x03\x01\x00\x00";
+
+const HELLO_1: &[u8] = b"\x00\x00\x00\x03\x01\x00\x01";
+
+const HELLO_2: &[u8] = b"\x00\x00\x00\x03\x01\x00\x02";
+
+// from anythread
+const RECEIVE: &[u8] = &[
+    0, 0, 0, 0x2e, 0x02, 0, 0, 0, 0, 0, 0, 0, 0, 0xff, 0xff, 0xff, 0xff, 0xff, 0xff, 0xff, 0xff, 0,
+    0, 0, 0, 0, 0, 0, 0, 0, 0, 0, 0, 0, 0, 0, 0, 0, 0, 0, 0, 0, 0, 0, 0, 0, 0, 0, 0, 0,
+];
+
+// to 1.1, word 7
+const SEND: &[u8] = &[
+    0, 0, 0, 0x36, 0x02, 0, 0, 0, 0x01, 0, 0, 0, 0x01, 0, 0, 0, 0, 0, 0, 0, 0, 0, 0, 0, 0, 0, 0, 0,
+    0, 0, 0, 0, 0, 0, 0, 0, 0, 0, 0, 0, 0x01, 0, 0, 0, 0, 0, 0, 0, 0, 0, 0, 0, 0, 0, 0, 0, 0, 0x07,
+];
+
+// from anythread, a buffer of 3 bytes at 0x1000
+const RECEIVE_STRING: &[u8] = &[
+    0, 0, 0, 0x3e, 0x02, 0, 0, 0, 0, 0, 0, 0, 0, 0xff, 0xff, 0xff, 0xff, 0xff, 0xff, 0xff, 0xff, 0,
+    0, 0, 0, 0, 0, 0, 0, 0, 0, 0, 0, 0, 0, 0, 0, 0, 0, 0, 0, 0, 0, 0, 0, 0, 0, 0, 0x01, 0x02, 0, 0,
+    0, 0, 0, 0, 0x0c, 0, 0, 0, 0, 0, 0, 0, 0x10, 0,
+];
+
+// to 1.1, the string abc
+const SEND_STRING: &[u8] = &[
+    0, 0, 0, 0x41, 0x02, 0, 0, 0, 0x01, 0, 0, 0, 0x01, 0, 0, 0, 0, 0, 0, 0, 0, 0, 0, 0, 0, 0, 0, 0,
+    0, 0, 0, 0, 0, 0, 0, 0, 0, 0, 0, 0, 0x80, 0, 0, 0, 0, 0, 0, 0, 0, 0, 0, 0, 0, 0, 0, 0, 0x0c, 0,
+    0, 0, 0, 0, 0, 0, 0, 0, 0x61, 0x62, 0x63,
+];
+
+// dest 2.1, S
+const EXREG: &[u8] = &[
+    0, 0, 0, 0x11, 0x03, 0, 0, 0, 0x02, 0, 0, 0, 0x01, 0, 0, 0, 0, 0, 0, 0, 0x04,
+];
+
+// BYE
+const BYE: &[u8] = b"\x00\x00\x00\x01\x04";
+
+// 1.1, 2.1
+const WELCOME_1: &[u8] = b"\x00\x00\x00\x09\x81\x00\x00\x00\x01\x00\x00\x00\x01";
+
+const WELCOME_2: &[u8] = b"\x00\x00\x00\x09\x81\x00\x00\x00\x02\x00\x00\x00\x01";
+
+// the refusals K1 and K2
+const K1: &[u8] = b"\x00\x00\x00\x02\x84\x01";
+
+const K2: &[u8] = b"\x00\x00\x00\x02\x84\x02";
+
+// the faults F3, F9, K7, S1
+const F3: &[u8] = b"\x00\x00\x00\x03\x85\x46\x03";
+
+const F9: &[u8] = b"\x00\x00\x00\x03\x85\x46\x09";
+
+const K7: &[u8] = b"\x00\x00\x00\x03\x85\x4b\x07";
+
+const S1: &[u8] = b"\x00\x00\x00\x03\x85\x53\x01";
+
+// word 7 from 2.1
+const RECEIVED: &[u8] = &[
+    0, 0, 0, 0x2a, 0x82, 0, 0, 0, 0, 0, 0, 0, 0x01, 0, 0, 0, 0x02, 0, 0, 0, 0x01, 0, 0, 0, 0, 0, 0,
+    0, 0, 0, 0, 0, 0, 0, 0, 0, 0, 0, 0, 0, 0, 0, 0, 0, 0x07, 0,
+];
+
+// a send that was successful
+const SENT: &[u8] = &[
+    0, 0, 0, 0x22, 0x82, 0, 0, 0, 0, 0, 0, 0, 0, 0, 0, 0, 0, 0, 0, 0, 0, 0, 0, 0, 0, 0, 0, 0, 0, 0,
+    0, 0, 0, 0, 0, 0, 0, 0,
+];
+
+// a receive that was aborted before a byte came
+const ABORTED: &[u8] = &[
+    0, 0, 0, 0x22, 0x82, 0, 0, 0, 0, 0, 0, 0x80, 0, 0, 0, 0, 0, 0, 0, 0, 0, 0, 0, 0, 0, 0, 0, 0, 0,
+    0, 0, 0, 0, 0, 0, 0, 0x0f, 0,
+];
+
+// a send whose partner is gone
+const GONE: &[u8] = &[
+    0, 0, 0, 0x22, 0x82, 0, 0, 0, 0, 0, 0, 0x80, 0, 0, 0, 0, 0, 0, 0, 0, 0, 0, 0, 0, 0, 0, 0, 0, 0,
+    0, 0, 0, 0, 0, 0, 0, 0x04, 0,
+];
+
+// HELLO 1, a frame without a body, and HELLO 1 again
+const GOOD_AND_BAD: &[u8] =
+    b"\x00\x00\x00\x03\x01\x00\x01\x00\x00\x00\x00\x00\x00\x00\x03\x01\x00\x01";
+
+// a HELLO breaks off
+const PART: &[u8] = b"\x00\x00\x00";
+
+const NOTHING: &[u8] = b"";
+
+// A step of a dialogue; connections are numbered from 1 on.
+#[derive(Drop)]
+enum Step<'a> {
+    Connect,
+    Piece(usize, &'a [u8]),
+    Finish(usize),
+    Copy,
+}
+
+// How each piece is cut again.
+#[derive(Clone, Copy, PartialEq, Eq, Debug)]
+enum Cut {
+    Not,
+    InTwo(usize),
+    Pieces(usize),
+}
+
+fn push_piece(
+    alloc: Global,
+    events: &mut Vec<Event>,
+    connection: usize,
+    bytes: &[u8],
+) -> Result<(), Fail> {
+    let mut piece = Vec::new(alloc);
+    piece.extend_from_slice(bytes)?;
+    events.push(Event::Piece(connection, piece))?;
+    Ok(())
+}
+
+fn push_pieces(
+    alloc: Global,
+    events: &mut Vec<Event>,
+    connection: usize,
+    bytes: &[u8],
+    cut: Cut,
+) -> Result<(), Fail> {
+    match cut {
+        Cut::Not => push_piece(alloc, events, connection, bytes),
+        Cut::InTwo(place) => {
+            let (front, back) = bytes.split_at(place.min(bytes.len()));
+            push_piece(alloc, events, connection, front)?;
+            push_piece(alloc, events, connection, back)
+        }
+        Cut::Pieces(size) => {
+            for piece in bytes.chunks(size.max(1)) {
+                push_piece(alloc, events, connection, piece)?;
+            }
+            Ok(())
+        }
+    }
+}
+
+fn events_of(alloc: Global, steps: &[Step<'_>], cut: Cut) -> Result<Vec<Event>, Fail> {
+    let mut events = Vec::new(alloc);
+    for step in steps {
+        match step {
+            Step::Connect => events.push(Event::Connect(1))?,
+            Step::Piece(connection, bytes) => {
+                push_pieces(alloc, &mut events, *connection, bytes, cut)?;
+            }
+            Step::Finish(connection) => events.push(Event::Finish(*connection))?,
+            Step::Copy => events.push(Event::Copy)?,
+        }
+    }
+    Ok(events)
+}
+
+// These frames, and no more, wait on a connection.
+fn assert_out(
+    rt: &impl Abort,
+    exchange: &mut Exchange,
+    connection: usize,
+    frames: &[&[u8]],
+    cut: Cut,
+) {
+    let mut out = [0u8; 256];
+    let count = exchange.output(connection, &mut out).count;
+    let mut rest = &out[..count.min(256)];
+    for frame in frames {
+        let (front, back) = rest.split_at(frame.len().min(rest.len()));
+        assert_eq!(rt; front, *frame, "connection {connection}, {cut:?}");
+        rest = back;
+    }
+    assert_eq!(rt; rest.len(), 0, "connection {connection}, {cut:?}");
+}
+
+fn assert_cut(
+    rt: &impl Abort,
+    alloc: Global,
+    steps: &[Step<'_>],
+    cut: Cut,
+    first: &[&[u8]],
+    second: &[&[u8]],
+) -> Result<(), Fail> {
+    let events = events_of(alloc, steps, cut)?;
+    let (mut exchange, _replies) = Exchange::run(alloc, LIMITS, events)?;
+    assert_out(rt, &mut exchange, 1, first, cut);
+    assert_out(rt, &mut exchange, 2, second, cut);
+    Ok(())
+}
+
+// However its pieces are cut, a dialogue is answered by these frames on the connections 1 and 2.
+fn assert_dialogue(
+    rt: &impl Abort,
+    alloc: Global,
+    steps: &[Step<'_>],
+    first: &[&[u8]],
+    second: &[&[u8]],
+) -> Result<(), Fail> {
+    assert_cut(rt, alloc, steps, Cut::Not, first, second)?;
+    assert_cut(rt, alloc, steps, Cut::Pieces(1), first, second)?;
+    assert_cut(rt, alloc, steps, Cut::Pieces(7), first, second)?;
+    for place in 1..70 {
+        assert_cut(rt, alloc, steps, Cut::InTwo(place), first, second)?;
+    }
+    Ok(())
+}
+
+#[test]
+fn a_word_goes_from_thread_to_thread(rt: HostRuntime) -> Result<(), Fail> {
+    let steps = [
+        Step::Connect,
+        Step::Connect,
+        Step::Piece(1, HELLO_1),
+        Step::Piece(2, HELLO_2),
+        Step::Piece(1, RECEIVE),
+        Step::Piece(2, SEND),
+        Step::Finish(2),
+    ];
+    let first = [WELCOME_1, RECEIVED];
+    let second = [WELCOME_2, SENT];
+    assert_dialogue(&rt, rt.alloc(), &steps, &first, &second)
+}
+
+#[test]
+fn a_refused_hello_may_be_said_again(rt: HostRuntime) -> Result<(), Fail> {
+    let steps = [
+        Step::Connect,
+        Step::Connect,
+        Step::Piece(1, HELLO_1),
+        Step::Piece(2, HELLO_1),
+        Step::Piece(2, HELLO_0),
+        Step::Piece(2, HELLO_2),
+    ];
+    let second = [K2, K1, WELCOME_2];
+    assert_dialogue(&rt, rt.alloc(), &steps, &[WELCOME_1], &second)
+}
+
+#[test]
+fn a_fault_comes_behind_what_was_good(rt: HostRuntime) -> Result<(), Fail> {
+    let steps = [
+        Step::Connect,
+        Step::Connect,
+        Step::Piece(1, GOOD_AND_BAD),
+        Step::Piece(1, RECEIVE),
+        Step::Piece(2, PART),
+        Step::Finish(2),
+    ];
+    assert_dialogue(&rt, rt.alloc(), &steps, &[WELCOME_1, F3], &[F9])
+}
+
+#[test]
+fn what_is_out_of_place_ends_a_connection(rt: HostRuntime) -> Result<(), Fail> {
+    for (frames, want) in [
+        ([RECEIVE, HELLO_1, RECEIVE], [S1, NOTHING]),
+        ([EXREG, HELLO_1, RECEIVE], [S1, NOTHING]),
+        ([HELLO_1, HELLO_2, RECEIVE], [WELCOME_1, S1]),
+        ([HELLO_1, RECEIVE, RECEIVE], [WELCOME_1, K7]),
+        ([HELLO_1, RECEIVE, EXREG], [WELCOME_1, K7]),
+    ] {
+        let steps = [
+            Step::Connect,
+            Step::Piece(1, frames[0]),
+            Step::Piece(1, frames[1]),
+            Step::Piece(1, frames[2]),
+            Step::Piece(1, RECEIVE),
+        ];
+        assert_dialogue(&rt, rt.alloc(), &steps, &want, &[])?;
+    }
+    Ok(())
+}
+
+#[test]
+fn a_partner_that_ends_is_told(rt: HostRuntime) -> Result<(), Fail> {
+    let waiting = [
+        Step::Connect,
+        Step::Connect,
+        Step::Piece(1, HELLO_1),
+        Step::Piece(2, HELLO_2),
+        Step::Piece(2, SEND),
+        Step::Piece(1, BYE),
+        Step::Piece(1, BYE),
+    ];
+    assert_dialogue(&rt, rt.alloc(), &waiting, &[WELCOME_1], &[WELCOME_2, GONE])?;
+    let moving = [
+        Step::Connect,
+        Step::Connect,
+        Step::Piece(1, HELLO_1),
+        Step::Piece(2, HELLO_2),
+        Step::Piece(1, RECEIVE_STRING),
+        Step::Piece(2, SEND_STRING),
+        Step::Piece(2, BYE),
+        Step::Copy,
+    ];
+    assert_dialogue(
+        &rt,
+        rt.alloc(),
+        &moving,
+        &[WELCOME_1, ABORTED],
+        &[WELCOME_2],
+    )
+}
+
+#[test]
+fn the_last_connection_is_the_65535th(rt: HostRuntime) -> Result<(), Fail> {
+    let mut exchange = Exchange::new(rt.alloc(), LIMITS)?;
+    for place in 0..65_535_usize {
+        assert_eq!(rt; exchange.connect(1), Ok(place + 1));
+    }
+    assert_eq!(rt; exchange.connect(1), Err(ConnectRefused::TooMany));
+    assert_eq!(rt; exchange.connections(), 65_535);
+    assert_eq!(rt; exchange.progress(65_535), Progress::Running);
+    assert_eq!(rt; exchange.progress(65_536), Progress::Finished);
+    Ok(())
+}

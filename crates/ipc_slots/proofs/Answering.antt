@@ -22,7 +22,8 @@ use Rattle.ipc_laws.proofs.Endings.{live_opened}
 use Rattle.ipc_laws.proofs.LiveThreads.{taken}
 use Rattle.ipc_laws.proofs.PhaseParts.{passes_parts}
 use Rattle.ipc_slots.specs.ExchangeRegisters.{in_receive_phase, in_send_phase}
-use Rattle.ipc_slots.specs.Rules.{IsStanding, due_of, first_number, in_receive_by, in_send_by, partner_by, rule_of}
+use Rattle.ipc_laws.specs.Laws.{timeout_at}
+use Rattle.ipc_slots.specs.Rules.{IsStanding, first_number, in_receive_by, in_send_by, partner_by, rule_of}
 use Rattle.ipc_slots.specs.Slots.{live_at, live_of, slot_of}
 use Rattle.ipc_slots.specs.Standings.{standing_of}
 use Rattle.ipc_slots.specs.declared.rules.Rule.TheVariants.{Expires, Copies}
@@ -33,8 +34,8 @@ use Rattle.ipc_slots.proofs.Stops.{in_receive_is, in_send_is}
 
 -- Timeouts
 
-pub due_now : (P : List Entry) (n : ℕ) → due_of P (now P) n ≡ timeout_of P n
-unfolding due_of timeout_of is_due
+pub due_now : (P : List Entry) (n : ℕ) → timeout_at P (now P) n ≡ timeout_of P n
+unfolding timeout_at timeout_of is_due
 due_now P n = refl
 
 timeouts : (P : List Entry) (xs : List ℕ) → first_some (rule_of (Expires (now P)) P) xs ≡ first_some (timeout_of P) xs
@@ -44,8 +45,8 @@ timeouts P (x ∷ xs) = rw (due_now P x, timeouts P xs) refl
 pub first_due : (P : List Entry) (moment : ℕ) → moment ≡ now P → first_some (rule_of (Expires moment) P) (numbers P) ≡ first_some (timeout_of P) (numbers P)
 first_due P moment e = rw e (timeouts P (numbers P))
 
-due_some : (P : List Entry) (moment n : ℕ) → is_some (due_of P moment n) ≡ is_due_at P moment n
-unfolding due_of
+due_some : (P : List Entry) (moment n : ℕ) → is_some (timeout_at P moment n) ≡ is_due_at P moment n
+unfolding timeout_at
 due_some P moment n = go _ (is_due_at P moment n)
   where
     go : (y : Output) (b : Bool) → is_some (if b then Some y else None) ≡ b
@@ -58,7 +59,7 @@ some_or (Some x) b = refl
 
 pub any_due : (P : List Entry) (moment : ℕ) (xs : List ℕ) → is_some (first_some (rule_of (Expires moment) P) xs) ≡ list_any (is_due_at P moment) xs
 any_due P moment [] = refl
-any_due P moment (x ∷ xs) = some_or (due_of P moment x) (first_some (rule_of (Expires moment) P) xs) ∙ rw (due_some P moment x, any_due P moment xs) refl
+any_due P moment (x ∷ xs) = some_or (timeout_at P moment x) (first_some (rule_of (Expires moment) P) xs) ∙ rw (due_some P moment x, any_due P moment xs) refl
 
 -- The least call in transfer
 

@@ -22,7 +22,8 @@ use Rattle.ipc_candidates.specs.Laws.{meeting_near, output_of}
 use Rattle.ipc_candidates.proofs.OneCandidate.{began_stays_near, called_is_near, ended_stays_near, next_is_near}
 use Rattle.ipc_slots.specs.Near.{IsNear}
 use Rattle.ipc_slots.specs.Outputs.{last_output}
-use Rattle.ipc_slots.specs.Rules.{IsStanding, due_of, waits_to_receive}
+use Rattle.ipc_laws.specs.Laws.{timeout_at}
+use Rattle.ipc_slots.specs.Rules.{IsStanding, waits_to_receive}
 use Rattle.ipc_slots.specs.Slots.{Stands, slot_at}
 use Rattle.ipc_slots.specs.Standings.{standing_of}
 use Rattle.ipc_slots.specs.Steps.{holds, standing_in}
@@ -57,8 +58,8 @@ meets_other P legal s call other = rw (sym (receiving_by P legal s call) ∙ not
 
 -- The last rule, where the others give nothing
 
-pub last_rule : (P : List Entry) (moment n : ℕ) (o : Option Output) → moment ≡ now P → end_of P n ≡ None → partner_gone_of P n ≡ None → meeting_near P n ≡ None → o ≡ due_of P moment n → o ≡ output_of P n
-last_rule P moment n o is none_ends none_fails none_meets e = e ∙ (ap (λ m. due_of P m n) is ∙ (due_now P n ∙ sym nothing))
+pub last_rule : (P : List Entry) (moment n : ℕ) (o : Option Output) → moment ≡ now P → end_of P n ≡ None → partner_gone_of P n ≡ None → meeting_near P n ≡ None → o ≡ timeout_at P moment n → o ≡ output_of P n
+last_rule P moment n o is none_ends none_fails none_meets e = e ∙ (ap (λ m. timeout_at P m n) is ∙ (due_now P n ∙ sym nothing))
   where
     through : (a b c d : Option Output) → a ≡ None → b ≡ None → c ≡ None → option_or a (option_or b (option_or c d)) ≡ d
     through a b c d x y z = rw (x, y, z) refl

@@ -11,7 +11,7 @@ use Rattle.ipc_history.specs.Timing.{is_due_at}
 use Rattle.ipc_history.specs.NextOutput.{abort_send, end_of, is_send_partner_gone, is_receive_partner_gone, is_left, left_sender_code, left_receiver_code, partner_gone_code, partner_gone_of, meeting_of}
 use Rattle.ipc_history.specs.declared.entry.Entry.{Entry}
 use Rattle.ipc_history.specs.declared.entry.Output.TheVariants.{Ended, Aborted}
-use Rattle.ipc_slots.specs.Rules.{due_of}
+use Rattle.ipc_laws.specs.Laws.{timeout_at}
 use Rattle.ipc_slots.proofs.Finds.{find_nothing}
 
 -- each rule
@@ -66,8 +66,8 @@ pub over_not_due : (P : List Entry) (moment n : ℕ) → is_over P n ≡ true �
 unfolding is_due_at
 over_not_due P moment n h = rw (over_not_sending P n h, over_not_receiving P n h) refl
 
-pub over_no_due : (P : List Entry) (moment n : ℕ) → is_over P n ≡ true → due_of P moment n ≡ None
-unfolding due_of
+pub over_no_due : (P : List Entry) (moment n : ℕ) → is_over P n ≡ true → timeout_at P moment n ≡ None
+unfolding timeout_at
 over_no_due P moment n h = rw (over_not_due P moment n h) refl
 
 pub over_no_abort : (P : List Entry) (n : ℕ) → is_over P n ≡ true → abort_send P n ≡ None

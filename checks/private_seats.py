@@ -1,0 +1,113 @@
+#!/usr/bin/env python3
+"""Looks whether a crate beside ipc_lock can make, copy, take apart or change what only the lock may make.
+
+Each row below is one line of a program that would do so to an Answer, a Taken, a CallSeat or a TakeSeat. The compiler has to
+refuse each row for its reason, and no other line; and it has to accept the same program without the rows. It compiles only, and
+proves nothing. RT names another command than rt. Exit 0 where all is so."""
+import os
+import re
+import shutil
+import subprocess
+import sys
+import tempfile
+
+ROOT = os.path.dirname(os.path.dirname(os.path.abspath(__file__)))
+CRATES = "words items history laws candidates slots desks core lines lock".split()
+
+HEAD = """//! Would make what only the lock may make.
+#![tactic(auto)]
+use ipc_history::Outcome;
+use ipc_lock::{Answer, CallSeat, TakeSeat, Taken, Told};
+use ipc_words::ThreadId;
+use std::marker::PhantomData;
+use std::sync::ledger::{Ledger, Share};
+fn is_copy<X: Copy>(_: X) {}
+fn is_clone<X: Clone>(_: X) {}
+pub fn told<C: Ledger, T: Ledger>(answer: Answer<C, T>) -> Told<C, T> { answer.into_told() }
+pub fn threads<C: Ledger, T: Ledger>(a: &CallSeat<C>, b: &TakeSeat<T>, c: &Taken<T>) -> [ThreadId; 3] {
+    [a.thread(), b.thread(), c.thread()]
+}
+pub fn outcome<T: Ledger>(taken: Taken<T>) -> Outcome { taken.into_outcome() }
+pub fn counts<C: Ledger, T: Ledger>(a: Share<C>, b: Share<T>, mark: PhantomData<T>) { drop((a, b, mark)) }
+fn main(rt: HostRuntime) { is_copy(1u8); is_clone(rt.alloc()) }
+"""
+
+TYPES = {"Answer": "<C, T>", "Taken": "<T>", "CallSeat": "<C>", "TakeSeat": "<T>"}
+MAKING = {
+    "Answer": "(told: Told<C, T>) -> Answer<C, T> { Answer { told } }",
+    "Taken": "(thread: ThreadId, outcome: Outcome) -> Taken<T>"
+    " { Taken { thread, amount: 1, outcome, marker: PhantomData } }",
+    "CallSeat": "(thread: ThreadId, share: Share<C>) -> CallSeat<C> { CallSeat { thread, made: 0, share } }",
+    "TakeSeat": "(thread: ThreadId, share: Share<T>) -> TakeSeat<T> { TakeSeat { thread, taken: 0, share } }",
+}
+FIELDS = {"Answer": "told", "Taken": "outcome", "CallSeat": "share", "TakeSeat": "share"}
+WRITES = {"Taken": "amount = 0", "CallSeat": "made = 0", "TakeSeat": "taken = 0"}
+
+
+def rows(name):
+    """What each line of a program would do to a type, its text after the type parameters, and why it is refused."""
+    it = f"it: {name}{TYPES[name]}"
+    yield f"makes {name}", MAKING[name], "private-field"
+    yield f"copies {name}", f"({it}) {{ is_copy(it) }}", "unsatisfied-bound"
+    yield f"clones {name}", f"({it}) {{ is_clone(it) }}", "unsatisfied-bound"
+    yield f"takes {name} apart", f"({it}) {{ drop(it.{FIELDS[name]}) }}", "private-field"
+    if name in WRITES:
+        yield f"writes {name}", f"({it}) {{ let mut it = it; it.{WRITES[name]}; }}", "private-field"
+
+
+def compiled(room, text):
+    """The exit status of a program, and the reasons for which the compiler refuses it, by line."""
+    folder = f"{room}/crates/ipc_forger"
+    with open(f"{folder}/src/main.rt", "w", encoding="utf-8") as file:
+        file.write(text)
+    command = os.environ.get("RT", "rt").split() + ["try"]
+    ran = subprocess.run(command, cwd=folder, capture_output=True, text=True)
+    said = ran.stdout + ran.stderr
+    refused = {}
+    for line, reason in re.findall(r"src/main\.rt:(\d+):\d+: error\[([\w-]+)\]", said):
+        refused.setdefault(int(line), set()).add(reason)
+    return ran.returncode, refused, said
+
+
+def faults_of(room, name):
+    """How many rows of a type there are, and how many of them are not refused as they have to be."""
+    wanted = list(rows(name))
+    lines = [f"pub fn f{place}<C: Ledger, T: Ledger>{text}\n" for place, (_, text, _) in enumerate(wanted)]
+    first = HEAD.count("\n") + 1
+    status, refused, _ = compiled(room, HEAD + "".join(lines))
+    faults = 0 if status else 1
+    for place, (what, _, reason) in enumerate(wanted):
+        found = refused.pop(first + place, set())
+        if found != {reason}:
+            faults += 1
+            print(f"{what}: refused for {sorted(found) or 'nothing'}, and {reason} is wanted")
+    for line, found in refused.items():
+        faults += 1
+        print(f"{name}: line {line} is refused for {sorted(found)}")
+    return len(wanted), faults
+
+
+def main():
+    with tempfile.TemporaryDirectory() as room:
+        os.makedirs(f"{room}/crates/ipc_forger/src")
+        shutil.copy(f"{ROOT}/HANDLES", room)
+        with open(f"{ROOT}/crates.txt", encoding="utf-8") as file:
+            listed = [line for line in file if line.split(":")[0] in {f"ipc_{name}" for name in CRATES}]
+        with open(f"{room}/crates.txt", "w", encoding="utf-8") as file:
+            file.writelines(listed + ["ipc_forger: ipc_words ipc_history ipc_lock\n"])
+        for name in CRATES:
+            for part in ("src", "specs"):
+                shutil.copytree(f"{ROOT}/crates/ipc_{name}/{part}", f"{room}/crates/ipc_{name}/{part}")
+        status, _, said = compiled(room, HEAD)
+        if status != 0:
+            print(f"the program without the rows is not accepted:\n{said}")
+            return 1
+        # the compiler tells some twenty reasons of a program, so each type has a program of its own
+        counts = [faults_of(room, name) for name in TYPES]
+    all_rows, faults = (sum(column) for column in zip(*counts))
+    print(f"{all_rows} rows, {faults} faults")
+    return 1 if faults else 0
+
+
+if __name__ == "__main__":
+    sys.exit(main())

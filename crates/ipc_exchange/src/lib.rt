@@ -6,12 +6,9 @@ mod feeding;
 mod laws;
 mod line;
 mod progress;
-mod put;
 mod service;
 mod told;
-mod waiting;
 
 pub use exchange::Exchange;
 pub use laws::{calls_are_accepted, happen_once, legal_stays, pieces_join};
 pub use progress::{ConnectRefused, Progress};
-pub use put::Put;

@@ -214,9 +214,5 @@ fn put_out(
     connection: usize,
     piece: &mut [u8],
 ) -> Result<usize, AllocError> {
-    let put = exchange.output(connection, piece);
-    if put.is_lacking && put.count == 0 {
-        return Err(AllocError);
-    }
-    Ok(put.count)
+    Ok(exchange.output(connection, piece))
 }

@@ -1,13 +1,10 @@
 -- Putting out what waits, answer by answer.
-use Rattle.std.proofs.Common.{◌≡◌, ℕ, ◌+◌, ◌-◌, ◌≤◌, List, [], ◌∷◌, ◌++◌, length, map, min, take, drop, refl, sym, ap, ◌∙◌, subst, arith, length-append, length-drop}
+use Rattle.std.proofs.Common.{◌≡◌, ℕ, ◌+◌, ◌-◌, ◌≤◌, List, [], ◌∷◌, ◌++◌, length, min, take, drop, refl, sym, ap, ◌∙◌, subst, arith, length-append, length-drop}
 use Rattle.std.proofs.lemmas.Bool.{false≢true}
 use Rattle.std.proofs.Math.Seq.{drop-length, take-add, take-length}
 use Rattle.std.proofs.lemmas.List.{append-nil, drop-append-le, drop-drop, drop_at, length-take, length-take-le, take-append-le, take_at}
 use Rattle.std.specs.Prelude.{◌≢◌, Result, Ok, Err, IsOk, is_ok, ⊤, if◌then◌else◌}
 use Rattle.std.specs.List.{flat_map}
-use Rattle.ipc_exchange.specs.declared.waiting.Waiting.{Waiting}
-use Rattle.ipc_exchange.specs.declared.waiting.Waiting.TheVariants.{Frame}
-use Rattle.ipc_exchange.specs.Waiting.{waiting_text}
 
 -- so many bytes of all were put into the slice, and the answers that are left are the rest
 pub record HasPut (all : List ℕ) (before : List ℕ) (answers : List (List ℕ)) (out : List ℕ) (filled : ℕ) : Type 0 where
@@ -88,16 +85,12 @@ put_all all before out [] filled none has = let e = ap length has.left in omega 
 put_all all before out (answer ∷ answers) filled none has = absurd (omega (arith, none))
 
 -- the answer that waits first
-pub first_waits : (all before out : List ℕ) (items rest : List Waiting) (waiting : Waiting) (answer : List ℕ) (filled : ℕ) → items ≡ waiting ∷ rest → answer ≡ waiting_text waiting → HasPut all before (map waiting_text items) out filled → HasPut all before (answer ∷ map waiting_text rest) out filled
-first_waits all before out items rest waiting answer filled is told has = subst (λ a. HasPut all before (a ∷ map waiting_text rest) out filled) (sym told) (subst (λ l. HasPut all before (map waiting_text l) out filled) is has)
-
-pub none_waits : (items : List Waiting) (len : ℕ) → length items ≡ len → len ≡ 0 → length (map waiting_text items) ≡ 0
-none_waits [] len is none = refl
-none_waits (waiting ∷ items) len is none = absurd (omega (arith, is, none))
+pub first_waits : (all before out : List ℕ) (items rest : List (List ℕ)) (answer : List ℕ) (filled : ℕ) → items ≡ answer ∷ rest → HasPut all before items out filled → HasPut all before (answer ∷ rest) out filled
+first_waits all before out items rest answer filled is has = subst (λ l. HasPut all before l out filled) is has
 
 -- an answer that was put back first
-pub put_back : {E : Type 0} (result : Result ⊤ E) (old new : List Waiting) (answer left : List ℕ) (count : ℕ) → new ≡ (if is_ok result then Frame left ∷ old else old) → IsOk result → left ≡ drop count answer → flat_map (λ bytes. bytes) (map waiting_text new) ≡ drop count answer ++ flat_map (λ bytes. bytes) (map waiting_text old)
-put_back (Ok done) old new answer left count is ok e = ap (λ l. flat_map (λ bytes. bytes) (map waiting_text l)) is ∙ ap (λ l. l ++ flat_map (λ bytes. bytes) (map waiting_text old)) e
+pub put_back : {E : Type 0} (result : Result ⊤ E) (old new : List (List ℕ)) (answer left : List ℕ) (count : ℕ) → new ≡ (if is_ok result then left ∷ old else old) → IsOk result → left ≡ drop count answer → flat_map (λ bytes. bytes) new ≡ drop count answer ++ flat_map (λ bytes. bytes) old
+put_back (Ok done) old new answer left count is ok e = ap (λ l. flat_map (λ bytes. bytes) l) is ∙ ap (λ l. l ++ flat_map (λ bytes. bytes) old) e
 put_back (Err failed) old new answer left count is ok e = absurd (false≢true ok)
 
 pub put_back_room : {E : Type 0} (result : Result ⊤ E) (free cap new_cap len popped pushed : ℕ) → free ≤ cap - len → popped + 1 ≡ len → pushed ≡ (if is_ok result then popped + 1 else popped) → cap ≤ new_cap → free ≤ new_cap - pushed

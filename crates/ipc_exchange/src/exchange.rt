@@ -10,7 +10,6 @@ ghost use Rattle.ipc_exchange.specs.Exchange.{Happened, Shows, progress_of};
 
 use crate::feeding::{close_line, feed_line};
 use crate::progress::{ConnectRefused, Progress};
-use crate::put::Put;
 use crate::service::Service;
 use ipc_calls::CallDecoder;
 use ipc_core::Limits;
@@ -123,25 +122,25 @@ impl Exchange {
         self.service.advance();
     }
 
-    /// Puts the next bytes of a connection into the slice, and says how many: as many as there are and as have room, but that it
-    /// stops before the frame of an outcome for which there is no memory.
-    pub fn output(&mut self, connection: usize, out: &mut [u8]) -> Put
-        ensures count { (place : ℕ) → connection ≡ place + 1 → result.is_lacking ≡ false
-            → result.count ≡ min (length out.old) (length (line_at (service_of self.old.service).lines place).out) }
+    /// Puts the next bytes of a connection into the slice, as many as there are and as have room,
+    /// and says how many. A connection that was never given has none. Takes no memory.
+    pub fn output(&mut self, connection: usize, out: &mut [u8]) -> usize
+        ensures count { (place : ℕ) → connection ≡ place + 1
+            → result ≡ min (length out.old)
+            (length (line_at (service_of self.old.service).lines place).out) }
         ensures bytes { (place : ℕ) → connection ≡ place + 1
-            → take result.count out.new ≡ take result.count (line_at (service_of self.old.service).lines place).out }
-        ensures behind { drop result.count out.new ≡ drop result.count out.old }
-        ensures left { (place : ℕ) (parts : ExchangeParts) → connection ≡ place + 1 → Shows self.old parts
-            → Shows self.new (record parts { service = without_bytes place result.count parts.service }) }
+            → take result out.new
+            ≡ take result (line_at (service_of self.old.service).lines place).out }
+        ensures behind { drop result out.new ≡ drop result out.old }
+        ensures left { (place : ℕ) (parts : ExchangeParts) → connection ≡ place + 1
+            → Shows self.old parts
+            → Shows self.new (record parts { service = without_bytes place result parts.service }) }
         ensures zero { connection ≡ 0 → self.new ≡ self.old }
     {
         if connection == 0 || connection > self.service.len() {
-            return Put {
-                count: 0,
-                is_lacking: false,
-            };
+            return 0;
         }
-        self.service.output(self.alloc, connection - 1, out)
+        self.service.output(connection - 1, out)
     }
 
     /// The history, oldest entry first.

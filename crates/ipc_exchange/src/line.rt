@@ -1,12 +1,10 @@
-ghost use Rattle.std.specs.Prelude.{◌≡◌, ◌<◌, ◌≤◌, ◌+◌, [], ◌++◌, false, min, take, drop, length, IfOk, OnOk};
+ghost use Rattle.std.specs.Prelude.{◌≡◌, ◌<◌, ◌≤◌, ◌+◌, [], ◌++◌, min, take, drop, length};
+ghost use Rattle.std.specs.Prelude.{IfOk, OnOk};
 ghost use Rattle.ipc_frame.specs.Frames.{spelling};
 ghost use Rattle.ipc_frame.specs.Replies.{ipcr_of};
 ghost use Rattle.ipc_connection.specs.declared.stage.Stage.TheVariants.{Greeting};
 ghost use Rattle.ipc_exchange.specs.Service.{serves_number, told_line};
-ghost use Rattle.ipc_exchange.specs.Waiting.{waiting_text};
 
-use crate::put::Put;
-use crate::waiting::{Waiting, spell};
 use ipc_connection::{Stage, Told, next_stage, reply};
 use ipc_frame::Encoder;
 use ipc_history::Outcome;
@@ -19,20 +17,26 @@ use std::marker::Model;
 pub(crate) struct Line {
     space: u32,
     stage: Stage,
-    // the answers that wait to be put out
-    queue: VecDeque<Waiting>,
+    // the bytes of the answers that wait to be put out
+    queue: VecDeque<Encoder>,
 }
 
 impl Model for Line {
-    ghost use Rattle.std.specs.Prelude.{◌-◌, map};
+    ghost use Rattle.std.specs.Prelude.{◌-◌};
     ghost use Rattle.std.specs.VecDeque.{deque_capacity, deque_len};
     ghost use Rattle.std.specs.List.{flat_map};
     ghost use Rattle.ipc_exchange.specs.Slots.{LineSlots};
-    ghost use Rattle.ipc_exchange.specs.Waiting.{waiting_text};
 
     ghost Value = { LineSlots };
 
-    ghost view = { λ l. record { line = record { space = l.space; stage = l.stage; out = flat_map (λ bytes. bytes) (map waiting_text l.queue.items) }; free = deque_capacity l.queue - deque_len l.queue } };
+    ghost view = { λ l. record {
+      line = record {
+        space = l.space;
+        stage = l.stage;
+        out = flat_map (λ bytes. bytes) l.queue.items;
+      };
+      free = deque_capacity l.queue - deque_len l.queue;
+    } };
 }
 
 impl Line {
@@ -83,9 +87,9 @@ impl Line {
     }
 
     /// One more answer. There is room for it.
-    pub(crate) fn push(&mut self, answer: Waiting)
+    pub(crate) fn push(&mut self, answer: Encoder)
         requires { 0 < self.old.free }
-        ensures line { self.new.line ≡ record self.old.line { out = self.old.line.out ++ waiting_text answer } }
+        ensures line { self.new.line ≡ record self.old.line { out = self.old.line.out ++ answer } }
         ensures free { self.old.free ≡ self.new.free + 1 }
     {
         // it cannot fail
@@ -98,7 +102,7 @@ impl Line {
         ensures line { self.new.line ≡ record self.old.line { out = self.old.line.out ++ spelling (ipcr_of outcome) } }
         ensures free { self.old.free ≡ self.new.free + 1 }
     {
-        self.push(Waiting::Outcome(outcome));
+        self.push(Encoder::reply(outcome));
     }
 
     /// Is told what becomes of its request.
@@ -109,51 +113,33 @@ impl Line {
     {
         let said = told;
         if let Some(frame) = reply(said) {
-            self.push(Waiting::Frame(Encoder::new(frame)));
+            self.push(Encoder::new(frame));
         }
         let before = self.stage;
         self.stage = next_stage(before, told);
     }
 
-    /// Puts the next bytes into the slice, as many as there are and as have room, and says how many. Memory is wanted for the frame of
-    /// an outcome; where there is none it stops before it.
-    pub(crate) fn output(&mut self, alloc: Global, out: &mut [u8]) -> Put
-        ensures count { result.is_lacking ≡ false → result.count ≡ min (length out.old) (length self.old.line.out) }
-        ensures few { result.count ≤ length self.old.line.out }
-        ensures bytes { take result.count out.new ≡ take result.count self.old.line.out }
-        ensures behind { drop result.count out.new ≡ drop result.count out.old }
-        ensures line { self.new.line ≡ record self.old.line { out = drop result.count self.old.line.out } }
+    /// Puts the next bytes into the slice, as many as there are and as have room, and says how
+    /// many. Takes no memory.
+    pub(crate) fn output(&mut self, out: &mut [u8]) -> usize
+        ensures count { result ≡ min (length out.old) (length self.old.line.out) }
+        ensures bytes { take result out.new ≡ take result self.old.line.out }
+        ensures behind { drop result out.new ≡ drop result out.old }
+        ensures line { self.new.line
+            ≡ record self.old.line { out = drop result self.old.line.out } }
         ensures free { self.old.free ≤ self.new.free }
     {
         let mut filled = 0;
         while filled < out.len() {
-            let Some(waiting) = self.queue.pop_front() else {
-                return Put {
-                    count: filled,
-                    is_lacking: false,
-                };
+            let Some(mut answer) = self.queue.pop_front() else {
+                return filled;
             };
-            match spell(alloc, waiting) {
-                Ok(mut answer) => {
-                    filled += answer.next(&mut out[filled..]);
-                    if filled == out.len() {
-                        // there is room where it was
-                        let _ = self.queue.push_front(Waiting::Frame(answer));
-                    }
-                }
-                Err(back) => {
-                    // there is room where it was
-                    let _ = self.queue.push_front(back);
-                    return Put {
-                        count: filled,
-                        is_lacking: true,
-                    };
-                }
+            filled += answer.next(&mut out[filled..]);
+            if filled == out.len() {
+                // there is room where it was
+                let _ = self.queue.push_front(answer);
             }
         }
-        Put {
-            count: filled,
-            is_lacking: false,
-        }
+        filled
     }
 }

@@ -19,7 +19,6 @@ ghost use Rattle.ipc_exchange.specs.Slots.{StaysReady, lines_of, service_of, slo
 ghost use Rattle.ipc_exchange.specs.Slots.{table_told};
 
 use crate::line::Line;
-use crate::put::Put;
 use crate::told::told_of;
 use ipc_calls::Heard;
 use ipc_connection::{Request, Stage, Told, asks, next_stage, thread_left};
@@ -132,19 +131,20 @@ impl Service {
         self.lines[place].reserve()
     }
 
-    /// Puts the next bytes of the connection in a place into the slice, and says how many. It stops before the frame of an outcome for
-    /// which there is no memory.
-    pub(crate) fn output(&mut self, alloc: Global, place: usize, out: &mut [u8]) -> Put
+    /// Puts the next bytes of the connection in a place into the slice, as many as there are and as
+    /// have room, and says how many.
+    pub(crate) fn output(&mut self, place: usize, out: &mut [u8]) -> usize
         requires within { place < length self.old.slots }
         requires ready { Ready self.old }
-        ensures count { result.is_lacking ≡ false → result.count ≡ min (length out.old) (length (line_at (service_of self.old).lines place).out) }
-        ensures few { result.count ≤ length (line_at (service_of self.old).lines place).out }
-        ensures bytes { take result.count out.new ≡ take result.count (line_at (service_of self.old).lines place).out }
-        ensures behind { drop result.count out.new ≡ drop result.count out.old }
-        ensures left { service_of self.new ≡ without_bytes place result.count (service_of self.old) }
+        ensures count { result
+            ≡ min (length out.old) (length (line_at (service_of self.old).lines place).out) }
+        ensures bytes { take result out.new
+            ≡ take result (line_at (service_of self.old).lines place).out }
+        ensures behind { drop result out.new ≡ drop result out.old }
+        ensures left { service_of self.new ≡ without_bytes place result (service_of self.old) }
         ensures ready { StaysReady self.old self.new }
     {
-        self.lines[place].output(alloc, out)
+        self.lines[place].output(out)
     }
 
     /// The clock is read, in microseconds, and outcomes go out.

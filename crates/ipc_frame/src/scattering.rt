@@ -5,7 +5,8 @@ use ipc_history::Outcome;
 use ipc_items::{BufferList, Piece, Pieces, StringList, scatter};
 use std::marker::Model;
 
-/// The pieces of all strings that are left to give, seen as the list of them; those without bytes are left out.
+/// The pieces of all strings that are left to give, seen as the list of them. Those without bytes
+/// are left out.
 #[derive(Drop)]
 pub(crate) struct Scattered<'a> {
     buffers: &'a BufferList,

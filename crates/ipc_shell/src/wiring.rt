@@ -314,9 +314,5 @@ fn put_out(
         → connection ≡ place + 1 → Shows exchange.old parts
         → PutsSome parts place (length piece.old) count piece.new exchange.new) }
 {
-    let put = exchange.output(connection, piece);
-    if put.is_lacking {
-        return Err(AllocError);
-    }
-    Ok(put.count)
+    Ok(exchange.output(connection, piece))
 }

@@ -1,11 +1,10 @@
-use Rattle.std.proofs.Common.{map, length, ◌-◌, ◌≡◌, ◌≤◌, ◌+◌}
-use Rattle.ipc_exchange.specs.Waiting.{waiting_text}
+use Rattle.std.proofs.Common.{length, ◌-◌, ◌≡◌, ◌≤◌, ◌+◌}
 use Rattle.ipc_exchange.proofs.OutputLemmas.{HasPut}
 use Rattle.ipc_exchange.proofs.line.Line.output.Given as goal
 
 abbrev pub invariant-loop-filled : goal.invariant-loop-filled
 invariant-loop-filled l = record {
-  put : HasPut l.fn.self.line.out l.initial.out (map waiting_text l.self-inside.queue.items) l.out l.filled;
+  put : HasPut l.fn.self.line.out l.initial.out l.self-inside.queue.items l.out l.filled;
   space : l.self-inside.space ≡ l.fn.self.line.space;
   stage : l.self-inside.stage ≡ l.fn.self.line.stage;
   free : l.fn.self.free ≤ l.self-inside.queue.cap - l.self-inside.queue.len;

@@ -294,10 +294,10 @@ struct Traced {
     told: Result<(), TraceFault>,
 }
 
-fn serve_both<C: Ledger + Send, T: Ledger + Send, R: Threads + Wait + Clock + Sync>(
-    rt: &R,
+fn serve_both<'a, C: Ledger + Send, T: Ledger + Send, R: Threads + Wait + Clock + Sync>(
+    rt: &'a R,
     alloc: Global,
-    story: &Mutex<Story>,
+    story: &'a Mutex<Story>,
     port: MemoryPort<'_>,
     calls: Blank,
     takes: Blank,

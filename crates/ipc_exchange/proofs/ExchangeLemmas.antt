@@ -34,7 +34,7 @@ tells_others memory place q old new asked told other tells =
     ap (λ (s : ServiceParts). (line_at s.lines q).stage) tells.new_is
     ∙ (delivered_stage (slice_set old.lines place (told_line told (line_at old.lines place))) tells.kernel q ∙ ap (λ (l : Line). l.stage) (get_or-set_other old.lines place q (told_line told (line_at old.lines place)) nobody other))
 
-serves_others : (memory : Memory) (place q : ℕ) (old new : ServiceParts) (heard : Result Heard FrameFault) (asked : List Asked) → q ≢ place → Serves memory old place heard asked new → (line_at new.lines q).stage ≡ (line_at old.lines q).stage
+pub serves_others : (memory : Memory) (place q : ℕ) (old new : ServiceParts) (heard : Result Heard FrameFault) (asked : List Asked) → q ≢ place → Serves memory old place heard asked new → (line_at new.lines q).stage ≡ (line_at old.lines q).stage
 unfolding Serves
 serves_others memory place q old new heard asked other serves = go (asks (line_at old.lines place).stage heard) serves
   where
@@ -46,7 +46,7 @@ serves_others memory place q old new heard asked other serves = go (asks (line_a
     go Leave s = tells_others memory place q old new asked _ other s
     go (Refuse class number) s = tells_others memory place q old new asked _ other s
 
-all_others : (memory : Memory) (place q : ℕ) (heard : List (Result Heard FrameFault)) (old new : ServiceParts) (asked : List Asked) → q ≢ place → ServesAll memory old place heard asked new → (line_at new.lines q).stage ≡ (line_at old.lines q).stage
+pub all_others : (memory : Memory) (place q : ℕ) (heard : List (Result Heard FrameFault)) (old new : ServiceParts) (asked : List Asked) → q ≢ place → ServesAll memory old place heard asked new → (line_at new.lines q).stage ≡ (line_at old.lines q).stage
 unfolding Chain
 all_others memory place q [] old new asked other serves = ap (λ (s : ServiceParts). (line_at s.lines q).stage) serves.1
 all_others memory place q (h ∷ heard) old new asked other (first, rest, between, both, one, more) = all_others memory place q heard between new rest other more ∙ serves_others memory place q old between h first other one

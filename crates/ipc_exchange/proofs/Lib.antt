@@ -11,6 +11,7 @@ pub mod ServingLemmas
 pub mod PiecesLemmas
 pub mod FeedLemmas
 pub mod ExchangeLemmas
+pub mod EndingLemmas
 pub mod Along
 pub mod CallLemmas
 pub mod OnceLemmas

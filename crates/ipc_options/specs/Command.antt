@@ -27,9 +27,10 @@ threads_rule = record (new_rule (codes "threads")) { long = Some (codes "threads
 abbrev pub text_rule : Rule
 text_rule = record (new_rule (codes "text")) { long = Some (codes "text"); action = Some SetTrue }
 
-abbrev pub run_app : App
-run_app = with_rule
-    (with_rule (new_app (codes "run")) (number_rule (codes "entries") max_entries (codes "1048576")))
+-- a command that reads a script, with the limits of its kernel
+abbrev pub script_app : Text → App
+script_app name = with_rule
+    (with_rule (new_app name) (number_rule (codes "entries") max_entries (codes "1048576")))
     (number_rule (codes "calls") max_calls (codes "4294967295"))
 
 abbrev pub check_app : App
@@ -48,11 +49,11 @@ chart_app = with_rule (with_rule chart_places_app threads_rule) text_rule
 abbrev pub proving_app : App
 proving_app = with_subcommand (with_subcommand
     (on_top (λ shape. record shape { subcommand_required = true }) (new_app (codes "l4sh")))
-    run_app.top) check_app.top
+    (script_app (codes "run")).top) check_app.top
 
 -- `l4sh` with its subcommands, of which one has to be there
 abbrev pub shell_app : App
-shell_app = with_subcommand proving_app chart_app.top
+shell_app = with_subcommand (with_subcommand proving_app chart_app.top) (script_app (codes "wire")).top
 
 -- `--dir DIR`, which has to be there
 abbrev pub dir_rule : Rule

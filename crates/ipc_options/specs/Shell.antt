@@ -5,13 +5,20 @@ use Rattle.ipc_words.specs.Limits.{max_entries, max_calls}
 use Rattle.clap.specs.Words.{IsUnsignedIn, Row, Text, first_of, one_of, subcommand_of, takes}
 use Rattle.ipc_options.specs.Command.{shell_app}
 use Rattle.ipc_options.specs.declared.shell.ChartOptions.{ChartOptions}
+use Rattle.ipc_options.specs.declared.shell.ScriptLimits.{ScriptLimits}
 use Rattle.ipc_options.specs.declared.shell.ShellOptions.{ShellOptions}
-use Rattle.ipc_options.specs.declared.shell.ShellOptions.TheVariants.{Run, Check, Chart}
+use Rattle.ipc_options.specs.declared.shell.ShellOptions.TheVariants.{Run, Wire, Check, Chart}
 
--- each number of `run` is within its limit
+-- each number is within its limit
+abbrev pub AreWithinLimits : ScriptLimits → Type 0
+AreWithinLimits limits = (limits.entries ≤ max_entries) × (limits.calls ≤ max_calls)
+
+-- the limits of a script are
 abbrev pub IsWithinLimits : ShellOptions → Type 0
-IsWithinLimits (Run entries calls) = (entries ≤ max_entries) × (calls ≤ max_calls)
-IsWithinLimits _ = ⊤
+IsWithinLimits (Run limits) = AreWithinLimits limits
+IsWithinLimits (Wire limits) = AreWithinLimits limits
+IsWithinLimits (Check file) = ⊤
+IsWithinLimits (Chart chart) = ⊤
 
 -- the number that an option has among the matches of a subcommand
 abbrev pub number_in : List Row → Text → Option ℕ
@@ -30,18 +37,22 @@ HasChartIn rows chart = (first_of (codes "file") rows ≡ Some chart.file.now)
     × (first_of (codes "threads") rows ≡ option_map (λ list. list.now) chart.threads)
     × IsFlagIn rows (codes "text") chart.is_text
 
+-- the limits are those of the matches
+abbrev pub HasLimitsIn : List Row → ScriptLimits → Type 0
+HasLimitsIn rows limits = (number_in rows (codes "entries") ≡ Some limits.entries)
+    × (number_in rows (codes "calls") ≡ Some limits.calls)
+
 -- the options are those of the matches of the subcommand of this name
-abbrev pub HasMatchesIn : Text → List Row → ShellOptions → Type 0
-HasMatchesIn name rows (Run entries calls) = (name ≡ codes "run")
-    × (number_in rows (codes "entries") ≡ Some entries)
-    × (number_in rows (codes "calls") ≡ Some calls)
+unfoldable pub HasMatchesIn : Text → List Row → ShellOptions → Type 0
+HasMatchesIn name rows (Run limits) = (name ≡ codes "run") × HasLimitsIn rows limits
+HasMatchesIn name rows (Wire limits) = (name ≡ codes "wire") × HasLimitsIn rows limits
 HasMatchesIn name rows (Check file) = (name ≡ codes "check")
     × (first_of (codes "file") rows ≡ Some file.now)
 HasMatchesIn name rows (Chart chart) = (name ≡ codes "chart") × HasChartIn rows chart
 
--- the matches of `run` have a decimal number within its limit for each option
-abbrev pub ReadsAsRun : List Row → Type 0
-ReadsAsRun rows = IsSomeAnd (one_of (codes "entries") rows) (IsUnsignedIn 0 max_entries)
+-- the matches have a decimal number within its limit for each limit of a script
+abbrev pub ReadsAsScript : List Row → Type 0
+ReadsAsScript rows = IsSomeAnd (one_of (codes "entries") rows) (IsUnsignedIn 0 max_entries)
     × IsSomeAnd (one_of (codes "calls") rows) (IsUnsignedIn 0 max_calls)
 
 -- the matches have a file
@@ -55,8 +66,9 @@ ReadsAsChart rows = ReadsAsCheck rows
     × IsSomeAnd (one_of (codes "to") rows) (IsUnsignedIn 0 4294967295)
 
 -- the matches of the subcommand of this name have what it needs
-abbrev pub Reads : Text → List Row → Type 0
-Reads name rows = ((name ≡ codes "run") × ReadsAsRun rows)
+unfoldable pub Reads : Text → List Row → Type 0
+Reads name rows = ((name ≡ codes "run") × ReadsAsScript rows)
+    ⊎ ((name ≡ codes "wire") × ReadsAsScript rows)
     ⊎ ((name ≡ codes "check") × ReadsAsCheck rows)
     ⊎ ((name ≡ codes "chart") × ReadsAsChart rows)
 

@@ -7,4 +7,4 @@ mod shell;
 
 pub use server::{MAX_SPACES, OWNER_ONLY, ServerOptions};
 pub use server_words::server_options;
-pub use shell::{ChartOptions, ShellOptions, shell_options};
+pub use shell::{ChartOptions, ScriptLimits, ShellOptions, shell_options};

@@ -4,9 +4,10 @@ ghost use Rattle.std.specs.Prelude.{map, string_bytes};
 ghost use Rattle.clap.specs.Words.{IsUnsignedIn, app_of, fault_of, first_of, found_of, kind_of, one_of, rows_of, rule_of};
 ghost use Rattle.clap.specs.declared.builder.command.Command.TheViews.{out-Command as fields_of};
 ghost use Rattle.ipc_options.specs.Command.{chart_app, chart_places_app, check_app, file_rule, number_rule};
-ghost use Rattle.ipc_options.specs.Command.{proving_app, run_app, shell_app, text_rule, threads_rule};
-ghost use Rattle.ipc_options.specs.Shell.{HasMatchesIn, IsAskedBy, IsFlagIn, IsTaken, IsWithinLimits};
-ghost use Rattle.ipc_options.specs.Shell.{Reads, ReadsAsChart, ReadsAsCheck, ReadsAsRun, number_in};
+ghost use Rattle.ipc_options.specs.Command.{proving_app, script_app, shell_app, text_rule, threads_rule};
+ghost use Rattle.ipc_options.specs.Shell.{AreWithinLimits, HasLimitsIn, HasMatchesIn, IsAskedBy, IsFlagIn};
+ghost use Rattle.ipc_options.specs.Shell.{IsTaken, IsWithinLimits, Reads, ReadsAsChart, ReadsAsCheck};
+ghost use Rattle.ipc_options.specs.Shell.{ReadsAsScript, number_in};
 
 use clap::builder::ValueParser;
 use clap::error::ErrorKind;
@@ -17,13 +18,23 @@ use std::alloc::{AllocError, Global};
 /// What `l4sh` was asked for.
 #[derive(Clone, Copy, PartialEq, Eq, Debug)]
 pub enum ShellOptions<'a> {
-    /// `l4sh run`, with the most entries that the history may hold, 0 to `MAX_ENTRIES`, and the
-    /// most calls that may be made, 0 to `MAX_CALLS`.
-    Run { entries: u32, calls: u32 },
+    /// `l4sh run`.
+    Run(ScriptLimits),
+    /// `l4sh wire`.
+    Wire(ScriptLimits),
     /// `l4sh check`, with the path of a trace.
     Check { file: &'a str },
     /// `l4sh chart`.
     Chart(ChartOptions<'a>),
+}
+
+/// The limits of the kernel under a script.
+#[derive(Clone, Copy, PartialEq, Eq, Debug)]
+pub struct ScriptLimits {
+    /// The most entries that the history may hold, 0 to `MAX_ENTRIES`.
+    pub entries: u32,
+    /// The most calls that may be made, 0 to `MAX_CALLS`.
+    pub calls: u32,
 }
 
 /// What `l4sh chart` was asked for.
@@ -68,7 +79,9 @@ pub fn shell_options<'a>(alloc: Global, words: &'a [String]) -> Result<ShellOpti
 fn shell_command<'a>(alloc: Global) -> Result<Command<'a>, AllocError>
     ensures { IfOk result (λ command. app_of command ≡ shell_app) }
 {
-    proving_command(alloc)?.subcommand(chart_command(alloc)?)
+    proving_command(alloc)?
+        .subcommand(chart_command(alloc)?)?
+        .subcommand(wire_command(alloc)?)
 }
 
 /// `l4sh` with what it proves: runs and checks.
@@ -84,10 +97,31 @@ fn proving_command<'a>(alloc: Global) -> Result<Command<'a>, AllocError>
 
 fn run_command<'a>(alloc: Global) -> Result<Command<'a>, AllocError>
     ensures local { IfOk result (λ command. (fields_of command).has_globals ≡ false) }
-    ensures app { IfOk result (λ command. app_of command ≡ run_app) }
+    ensures app { IfOk result (λ command. app_of command ≡ script_app (codes "run")) }
 {
-    Command::new(alloc, "run")
-        .about("Runs the script that it reads from standard input")
+    let about = "Runs the script that it reads from standard input";
+    script_command(alloc, "run", about)
+}
+
+fn wire_command<'a>(alloc: Global) -> Result<Command<'a>, AllocError>
+    ensures local { IfOk result (λ command. (fields_of command).has_globals ≡ false) }
+    ensures app { IfOk result (λ command. app_of command ≡ script_app (codes "wire")) }
+{
+    let about = "Serves connections whose bytes a script on standard input gives";
+    script_command(alloc, "wire", about)
+}
+
+/// A command that reads a script, with the limits of its kernel.
+fn script_command<'a>(
+    alloc: Global,
+    name: &'a str,
+    about: &'a str,
+) -> Result<Command<'a>, AllocError>
+    ensures local { IfOk result (λ command. (fields_of command).has_globals ≡ false) }
+    ensures app { IfOk result (λ command. app_of command ≡ script_app name.entry.now) }
+{
+    Command::new(alloc, name)
+        .about(about)
         .arg(number_option(
             alloc,
             "entries",
@@ -199,6 +233,7 @@ fn number_option<'a>(
 }
 
 /// The options of the subcommand of this name.
+#[tactic(auto, unfolding(crate::specs::Shell::Reads))]
 fn options_in<'a>(name: &str, found: &ArgMatches<'a>) -> Option<ShellOptions<'a>>
     ensures limits { IfSome result IsWithinLimits }
     ensures matches { IfSome result (HasMatchesIn name.now (rows_of (found_of found.now))) }
@@ -208,24 +243,44 @@ fn options_in<'a>(name: &str, found: &ArgMatches<'a>) -> Option<ShellOptions<'a>
         "run" => run_options(found),
         "check" => check_options(found),
         "chart" => chart_options(found),
+        "wire" => wire_options(found),
         _ => None,
     }
 }
 
+#[tactic(auto, unfolding(crate::specs::Shell::HasMatchesIn))]
 fn run_options<'a>(run: &ArgMatches<'a>) -> Option<ShellOptions<'a>>
     ensures limits { IfSome result IsWithinLimits }
     ensures matches { IfSome result (HasMatchesIn (codes "run") (rows_of (found_of run.now))) }
-    ensures found { ReadsAsRun (rows_of (found_of run.now)) → IsSome result }
+    ensures found { ReadsAsScript (rows_of (found_of run.now)) → IsSome result }
 {
-    let entries = number(run, "entries")?;
-    let calls = number(run, "calls")?;
+    Some(ShellOptions::Run(script_limits(run)?))
+}
+
+#[tactic(auto, unfolding(crate::specs::Shell::HasMatchesIn))]
+fn wire_options<'a>(wire: &ArgMatches<'a>) -> Option<ShellOptions<'a>>
+    ensures limits { IfSome result IsWithinLimits }
+    ensures matches { IfSome result (HasMatchesIn (codes "wire") (rows_of (found_of wire.now))) }
+    ensures found { ReadsAsScript (rows_of (found_of wire.now)) → IsSome result }
+{
+    Some(ShellOptions::Wire(script_limits(wire)?))
+}
+
+fn script_limits(script: &ArgMatches<'_>) -> Option<ScriptLimits>
+    ensures limits { IfSome result AreWithinLimits }
+    ensures matches { IfSome result (HasLimitsIn (rows_of (found_of script.now))) }
+    ensures found { ReadsAsScript (rows_of (found_of script.now)) → IsSome result }
+{
+    let entries = number(script, "entries")?;
+    let calls = number(script, "calls")?;
     if u64::from(entries) <= MAX_ENTRIES {
-        Some(ShellOptions::Run { entries, calls })
+        Some(ScriptLimits { entries, calls })
     } else {
         None
     }
 }
 
+#[tactic(auto, unfolding(crate::specs::Shell::HasMatchesIn))]
 fn check_options<'a>(check: &ArgMatches<'a>) -> Option<ShellOptions<'a>>
     ensures limits { IfSome result IsWithinLimits }
     ensures matches { IfSome result (HasMatchesIn (codes "check") (rows_of (found_of check.now))) }
@@ -235,6 +290,7 @@ fn check_options<'a>(check: &ArgMatches<'a>) -> Option<ShellOptions<'a>>
     Some(ShellOptions::Check { file })
 }
 
+#[tactic(auto, unfolding(crate::specs::Shell::HasMatchesIn))]
 fn chart_options<'a>(chart: &ArgMatches<'a>) -> Option<ShellOptions<'a>>
     ensures limits { IfSome result IsWithinLimits }
     ensures matches { IfSome result (HasMatchesIn (codes "chart") (rows_of (found_of chart.now))) }
@@ -312,7 +368,25 @@ mod tests {
             let options = shell_options(rt.alloc(), &strings)?;
             assert_eq!(rt;
                 options,
-                ShellOptions::Run { entries, calls },
+                ShellOptions::Run(ScriptLimits { entries, calls }),
+                "at {words:?}"
+            );
+        }
+        Ok(())
+    }
+
+    #[test]
+    fn serves_connections_with_the_limits_that_are_given(rt: HostRuntime) -> Result<(), Fail> {
+        let cases: [(&[&str], u32, u32); 2] = [
+            (&["l4sh", "wire"], 1_048_576, 4_294_967_295),
+            (&["l4sh", "wire", "--calls", "2", "--entries", "5"], 5, 2),
+        ];
+        for (words, entries, calls) in cases {
+            let strings = words_of(rt.alloc(), words)?;
+            let options = shell_options(rt.alloc(), &strings)?;
+            assert_eq!(rt;
+                options,
+                ShellOptions::Wire(ScriptLimits { entries, calls }),
                 "at {words:?}"
             );
         }
@@ -365,7 +439,7 @@ mod tests {
 
     #[test]
     fn refuses(rt: HostRuntime) -> Result<(), Fail> {
-        let cases: [(&[&str], ErrorKind); 13] = [
+        let cases: [(&[&str], ErrorKind); 15] = [
             (
                 &["l4sh", "run", "--entries", "1048577"],
                 ErrorKind::ValueValidation,
@@ -386,6 +460,8 @@ mod tests {
                 &["l4sh", "chart", "--text"],
                 ErrorKind::MissingRequiredArgument,
             ),
+            (&["l4sh", "wire", "here"], ErrorKind::UnknownArgument),
+            (&["l4sh", "wire", "--help"], ErrorKind::DisplayHelp),
             (&["l4sh", "walk"], ErrorKind::InvalidSubcommand),
             (&["l4sh", "--entries", "10"], ErrorKind::UnknownArgument),
             (&["l4sh"], ErrorKind::MissingSubcommand),

@@ -5,4 +5,6 @@ pub mod PutLemmas
 pub mod RunLemmas
 pub mod CheckLemmas
 pub mod EndLemmas
+pub mod ScriptLemmas
+pub mod WireLemmas
 pub mod Examples

@@ -4,6 +4,9 @@ pub mod Commands
 pub mod Answers
 pub mod Printing
 pub mod Running
+pub mod Scripts
+pub mod WireCommands
+pub mod Wiring
 pub mod Putting
 pub mod Failing
 pub mod Exits

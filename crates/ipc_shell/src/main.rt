@@ -20,8 +20,8 @@ use chart::chart_trace;
 use check::check_trace;
 use clap::error::ErrorKind;
 use exit::Exit;
-use ipc_core::{Limits, MAX_CALLS, MAX_ENTRIES};
-use ipc_options::{ShellOptions, shell_options};
+use ipc_core::Limits;
+use ipc_options::{ScriptLimits, ShellOptions, shell_options};
 use ipc_ports::{Failures, ReadPort, WritePort};
 use run::run_script;
 use std::alloc::Global;
@@ -41,10 +41,6 @@ fn main(rt: HostRuntime) -> io::Result<ExitCode> {
     let Ok(words) = words.collect::<Vec<String>>(alloc) else {
         return ended(&rt, &Exit::NoMemory);
     };
-    if is_wire(&words) {
-        let exit = wire::<Brand, Brand, _>(&rt, alloc, Blank::new(1), Blank::new(1));
-        return ended(&rt, &exit);
-    }
     match shell_options(alloc, &words) {
         Ok(options) => {
             let exit = obey::<Brand, Brand, _>(&rt, alloc, &options, Blank::new(1), Blank::new(1));
@@ -56,35 +52,6 @@ fn main(rt: HostRuntime) -> io::Result<ExitCode> {
             Ok(ExitCode::from(2))
         }
     }
-}
-
-/// Whether the words are those of `l4sh wire`, which takes no option.
-fn is_wire(words: &[String]) -> bool {
-    match words {
-        [_, word] => word.as_str() == "wire",
-        _ => false,
-    }
-}
-
-/// Serves the connections of the script of standard input. Each count of failures begins as a blank.
-fn wire<L: Ledger, M: Ledger, R: Input + Print>(
-    rt: &R,
-    alloc: Global,
-    reads: Blank,
-    writes: Blank,
-) -> Exit
-    requires reads_name { reads.name ≡ L.name }
-    requires reads_parts { (reads.parts ≡ L.parts) × (0 < reads.parts) }
-    requires writes_name { writes.name ≡ M.name }
-    requires writes_parts { (writes.parts ≡ M.parts) × (0 < writes.parts) }
-{
-    let limits = Limits {
-        entries: MAX_ENTRIES,
-        calls: MAX_CALLS,
-    };
-    let mut reader = ReadPort::new(rt.reader(), Failures::<L>::new(reads));
-    let mut writer = WritePort::new(io::writer(rt), Failures::<M>::new(writes));
-    wire_script(alloc, limits, &mut reader, &mut writer)
 }
 
 /// Does what was asked for. The counts of failures, of the reader and of the writer, begin as blanks.
@@ -103,13 +70,13 @@ fn obey<L: Ledger, M: Ledger, R: Files + Input + Print>(
     let reads = Failures::<L>::new(reads);
     let mut writer = WritePort::new(io::writer(rt), Failures::<M>::new(writes));
     match options {
-        ShellOptions::Run { entries, calls } => {
-            let limits = Limits {
-                entries: u64::from(*entries),
-                calls: u64::from(*calls),
-            };
+        ShellOptions::Run(limits) => {
             let mut reader = ReadPort::new(rt.reader(), reads);
-            run_script(alloc, limits, &mut reader, &mut writer)
+            run_script(alloc, kernel_limits(limits), &mut reader, &mut writer)
+        }
+        ShellOptions::Wire(limits) => {
+            let mut reader = ReadPort::new(rt.reader(), reads);
+            wire_script(alloc, kernel_limits(limits), &mut reader, &mut writer)
         }
         ShellOptions::Check { file } => match File::open(rt, *file) {
             Ok(trace) => check_trace(alloc, &mut ReadPort::new(trace, reads), &mut writer),
@@ -121,6 +88,15 @@ fn obey<L: Ledger, M: Ledger, R: Files + Input + Print>(
             }
             Err(_) => Exit::DeviceFailed,
         },
+    }
+}
+
+fn kernel_limits(limits: &ScriptLimits) -> Limits
+    ensures { result ≡ record { entries = limits.now.entries; calls = limits.now.calls } }
+{
+    Limits {
+        entries: u64::from(limits.entries),
+        calls: u64::from(limits.calls),
     }
 }
 

@@ -1,4 +1,14 @@
-ghost use Rattle.std.specs.Prelude.{◌≡◌, ◌<◌, Some};
+ghost use Rattle.std.specs.Prelude.{◌≡◌, ◌≢◌, ◌+◌, ◌++◌, ◌<◌, ◌≤◌, ℕ, Bool, IfOk, IfSome, IsNone};
+ghost use Rattle.std.specs.Prelude.{MatchOption, OnOk, Some, length, true};
+ghost use Rattle.std.specs.String.{string_bytes};
+ghost use Rattle.ipc_exchange.specs.Events.{Connect, ExchangeParts, Finish, Piece};
+ghost use Rattle.ipc_exchange.specs.Exchange.{Shows};
+ghost use Rattle.ipc_shell.specs.Failing.{HasFailed};
+ghost use Rattle.ipc_shell.specs.WireCommands.{event_of};
+ghost use Rattle.ipc_shell.specs.Wiring.{EndsWireLine, ObeysIn, PutsAll, PutsSome, WasNeverGiven};
+ghost use Rattle.ipc_shell.specs.Wiring.{WiresScript, WritesOutput, WritesOutputs, all_emptied};
+ghost use Rattle.ipc_shell.specs.Wiring.{connect_text, ended_text, ends_here, first_exchange};
+ghost use Rattle.ipc_shell.specs.Wiring.{progress_if, said_text};
 
 use crate::exit::Exit;
 use crate::lines::{NextLine, next_line};
@@ -15,23 +25,40 @@ const PIECE: usize = 8192;
 /// What became of a command.
 #[derive(Clone, Copy, PartialEq, Eq, Debug)]
 enum Obeyed {
+    /// A connection came, and has this number.
+    Connected(usize),
+    /// A connection was refused.
+    Refused(ConnectRefused),
     /// It was done, and no connection ended.
     Done,
-    /// It was done, and this connection ended.
+    /// It was done, and the connection of this number ended.
     Ended(usize),
-    /// It names a connection that was never given.
-    NoConnection,
 }
 
-/// Runs a wire script from a reader: connections come, pieces of bytes come on them, and after each command the bytes that go out on
-/// each connection are written, and which connection ended. The writer is flushed after each command. Empty lines are skipped, and
-/// count.
+/// Runs a wire script from a reader: connections come, pieces of bytes come on them, and after each
+/// command the bytes that go out on each connection are written, and which connection ended. The
+/// writer is flushed after each command. Empty lines are skipped, and count.
+///
+/// Where reader and writer tell their bytes, what the writer gets is exactly what is printed of the
+/// lines read: of all at `Done`, of those before the bad one at `BadLine`, and of the first ones at
+/// `NoMemory` and `DeviceFailed`, where the last may be cut off.
+///
+/// It ends as `DeviceFailed` only where a call of the reader or of the writer failed in this run, or
+/// behind 2^64 - 2 lines.
 pub fn wire_script<R: PortRead, W: PortWrite>(
     alloc: Global,
     limits: Limits,
     reader: &mut R,
     writer: &mut W,
-) -> Exit {
+) -> Exit
+    ensures wires { WiresScript (first_exchange limits) (R.remaining reader.old)
+        (W.written writer.old) (W.written writer.new) result }
+    ensures device { result ≡ Exit.DeviceFailed
+        → HasFailed (R.failures reader.old + W.failures writer.old)
+        (R.failures reader.new + W.failures writer.new) (R.remaining reader.old) }
+    ensures flushed { result ≢ Exit.DeviceFailed
+        → W.flushed writer.old ≡ true → W.flushed writer.new ≡ true }
+{
     let Ok(mut exchange) = Exchange::new(alloc, limits) else {
         return Exit::NoMemory;
     };
@@ -65,8 +92,14 @@ fn wire_line<W: PortWrite>(
     number: u64,
     writer: &mut W,
 ) -> Option<Exit>
+    requires { 0 < length piece.old }
+    ensures ends { EndsWireLine exchange.old exchange.new (W.written writer.old)
+        (W.written writer.new) line.now number result }
     ensures failed { result ≡ Some Exit.DeviceFailed
         → W.failures writer.old < W.failures writer.new }
+    ensures kept { IsNone result → W.failures writer.new ≡ W.failures writer.old }
+    ensures flushed { result ≢ Some Exit.DeviceFailed
+        → W.flushed writer.old ≡ true → W.flushed writer.new ≡ true }
 {
     let Ok(command) = read_wire_command(alloc, line) else {
         return Some(Exit::NoMemory);
@@ -74,17 +107,10 @@ fn wire_line<W: PortWrite>(
     let Some(command) = command else {
         return Some(Exit::BadLine(number));
     };
-    let mut text = String::new(alloc);
-    let Ok(obeyed) = obey(exchange, &command, &mut text) else {
-        return Some(Exit::NoMemory);
-    };
-    if obeyed == Obeyed::NoConnection {
+    let Some(obeyed) = obey(exchange, &command) else {
         return Some(Exit::BadLine(number));
-    }
-    let Ok(()) = write_outputs(alloc, exchange, piece, &mut text) else {
-        return Some(Exit::NoMemory);
     };
-    let Ok(()) = write_ended(obeyed, &mut text) else {
+    let Ok(text) = answer(alloc, exchange, piece, obeyed) else {
         return Some(Exit::NoMemory);
     };
     match put(writer, text.as_bytes()) {
@@ -93,82 +119,122 @@ fn wire_line<W: PortWrite>(
     }
 }
 
-/// Does what a command says, and appends its answer line, where it has one.
-fn obey(
-    exchange: &mut Exchange,
-    command: &WireCommand,
-    text: &mut String,
-) -> Result<Obeyed, AllocError> {
+/// Does what a command says. None where it names a connection that was never given.
+fn obey(exchange: &mut Exchange, command: &WireCommand) -> Option<Obeyed>
+    ensures obeys { IfSome result (λ obeyed.
+        ObeysIn exchange.old (event_of command.now) obeyed exchange.new) }
+    ensures never { IsNone result → WasNeverGiven exchange.old (event_of command.now) }
+{
     match command {
-        WireCommand::Connect(space) => {
-            write_connected(exchange.connect(*space), text)?;
-            Ok(Obeyed::Done)
-        }
-        WireCommand::Feed(connection, bytes) => Ok(match given(exchange, *connection) {
-            Some(connection) => feed(exchange, connection, bytes),
-            None => Obeyed::NoConnection,
-        }),
-        WireCommand::End(connection) => Ok(match given(exchange, *connection) {
-            Some(connection) => end(exchange, connection),
-            None => Obeyed::NoConnection,
-        }),
+        WireCommand::Connect(space) => Some(connect(exchange, *space)),
+        WireCommand::Feed(place, bytes) => feed(exchange, *place, bytes),
+        WireCommand::End(place) => end(exchange, *place),
         WireCommand::At(now) => {
             exchange.at(*now);
-            Ok(Obeyed::Done)
+            Some(Obeyed::Done)
         }
         WireCommand::Advance => {
             exchange.advance();
-            Ok(Obeyed::Done)
+            Some(Obeyed::Done)
         }
     }
 }
 
-/// A connection that was given.
-fn given(exchange: &Exchange, connection: u64) -> Option<usize> {
-    let connection = usize::try_from(connection).ok()?;
-    if connection >= 1 && connection <= exchange.connections() {
-        Some(connection)
+fn connect(exchange: &mut Exchange, space: u32) -> Obeyed
+    ensures { ObeysIn exchange.old (Connect space) result exchange.new }
+{
+    match exchange.connect(space) {
+        Ok(number) => Obeyed::Connected(number),
+        Err(refused) => Obeyed::Refused(refused),
+    }
+}
+
+fn feed(exchange: &mut Exchange, place: usize, bytes: &[u8]) -> Option<Obeyed>
+    ensures obeys { IfSome result (λ obeyed.
+        ObeysIn exchange.old (Piece place bytes.now) obeyed exchange.new) }
+    ensures never { IsNone result → WasNeverGiven exchange.old (Piece place bytes.now) }
+{
+    let connection = connection_in(exchange, place)?;
+    let before = exchange.progress(connection);
+    let after = exchange.feed(connection, bytes);
+    Some(ends_here(before, after, connection))
+}
+
+fn end(exchange: &mut Exchange, place: usize) -> Option<Obeyed>
+    ensures obeys { IfSome result (λ obeyed.
+        ObeysIn exchange.old (Finish place) obeyed exchange.new) }
+    ensures never { IsNone result → WasNeverGiven exchange.old (Finish place) }
+{
+    let connection = connection_in(exchange, place)?;
+    let before = exchange.progress(connection);
+    exchange.end(connection);
+    let after = exchange.progress(connection);
+    Some(ends_here(before, after, connection))
+}
+
+/// The number of the connection in a place, if it was given.
+fn connection_in(exchange: &Exchange, place: usize) -> Option<usize>
+    ensures { MatchOption result (length exchange.now.service.slots ≤ place) (λ connection.
+        (connection ≡ place + 1) × (place < length exchange.now.service.slots)) }
+{
+    if place < exchange.connections() {
+        Some(place + 1)
     } else {
         None
     }
 }
 
-fn feed(exchange: &mut Exchange, connection: usize, bytes: &[u8]) -> Obeyed {
-    if exchange.progress(connection) == Progress::Finished {
-        return Obeyed::Done;
-    }
-    match exchange.feed(connection, bytes) {
-        Progress::Running => Obeyed::Done,
-        Progress::Finished => Obeyed::Ended(connection),
+/// What became of a connection by a command.
+fn ends_here(before: Progress, after: Progress, connection: usize) -> Obeyed
+    ensures { (old new : Bool) → before ≡ progress_if old → after ≡ progress_if new
+        → result ≡ ends_here old new connection }
+{
+    match (before, after) {
+        (Progress::Running, Progress::Finished) => Obeyed::Ended(connection),
+        _ => Obeyed::Done,
     }
 }
 
-fn end(exchange: &mut Exchange, connection: usize) -> Obeyed {
-    if exchange.progress(connection) == Progress::Finished {
-        return Obeyed::Done;
-    }
-    exchange.end(connection);
-    Obeyed::Ended(connection)
+/// What is printed for a command: its answer, the bytes that go out, and which connection ended.
+fn answer(
+    alloc: Global,
+    exchange: &mut Exchange,
+    piece: &mut [u8],
+    obeyed: Obeyed,
+) -> Result<String, AllocError>
+    requires { 0 < length piece.old }
+    ensures { IfOk result (λ text. (parts : ExchangeParts) → Shows exchange.old parts
+        → (string_bytes text ≡ said_text obeyed parts) × Shows exchange.new (all_emptied parts)) }
+{
+    let mut text = String::new(alloc);
+    write_connected(obeyed, &mut text)?;
+    write_outputs(alloc, exchange, piece, &mut text)?;
+    write_ended(obeyed, &mut text)?;
+    Ok(text)
 }
 
 /// Appends the line that answers `connect`.
-fn write_connected(
-    connected: Result<usize, ConnectRefused>,
-    text: &mut String,
-) -> Result<(), AllocError> {
-    match connected {
-        Ok(number) => write!(text, "= {number}\n"),
-        Err(ConnectRefused::TooMany) => text.push_str("! S4\n"),
-        Err(ConnectRefused::NoMemory) => text.push_str("! F14\n"),
+fn write_connected(obeyed: Obeyed, text: &mut String) -> Result<(), AllocError>
+    ensures { OnOk result (string_bytes text.new ≡ string_bytes text.old ++ connect_text obeyed) }
+{
+    match obeyed {
+        Obeyed::Connected(number) => write!(text, "= {number}\n"),
+        Obeyed::Refused(ConnectRefused::TooMany) => text.push_str("! S4\n"),
+        Obeyed::Refused(ConnectRefused::NoMemory) => text.push_str("! F14\n"),
+        Obeyed::Done => Ok(()),
+        Obeyed::Ended(_) => Ok(()),
     }
 }
 
 /// Appends the line of a connection that ended.
-fn write_ended(obeyed: Obeyed, text: &mut String) -> Result<(), AllocError> {
+fn write_ended(obeyed: Obeyed, text: &mut String) -> Result<(), AllocError>
+    ensures { OnOk result (string_bytes text.new ≡ string_bytes text.old ++ ended_text obeyed) }
+{
     match obeyed {
         Obeyed::Ended(connection) => write!(text, "ended {connection}\n"),
+        Obeyed::Connected(_) => Ok(()),
+        Obeyed::Refused(_) => Ok(()),
         Obeyed::Done => Ok(()),
-        Obeyed::NoConnection => Ok(()),
     }
 }
 
@@ -178,34 +244,62 @@ fn write_outputs(
     exchange: &mut Exchange,
     piece: &mut [u8],
     text: &mut String,
-) -> Result<(), AllocError> {
+) -> Result<(), AllocError>
+    requires { 0 < length piece.old }
+    ensures { OnOk result ((parts : ExchangeParts) → Shows exchange.old parts
+        → WritesOutputs parts (string_bytes text.old) (string_bytes text.new) exchange.new) }
+{
     for place in 0..exchange.connections() {
         write_output(alloc, exchange, place + 1, piece, text)?;
     }
     Ok(())
 }
 
+/// Appends the line of a connection, if it has bytes to put out.
 fn write_output(
     alloc: Global,
     exchange: &mut Exchange,
     connection: usize,
     piece: &mut [u8],
     text: &mut String,
-) -> Result<(), AllocError> {
-    let mut count = put_out(exchange, connection, piece)?;
-    if count == 0 {
+) -> Result<(), AllocError>
+    requires room { 0 < length piece.old }
+    requires number { 0 < connection }
+    ensures { OnOk result ((place : ℕ) (parts : ExchangeParts) → connection ≡ place + 1
+        → place < length parts.service.lines → Shows exchange.old parts
+        → WritesOutput parts place (string_bytes text.old) (string_bytes text.new) exchange.new) }
+{
+    let bytes = take_output(alloc, exchange, connection, piece)?;
+    if bytes.is_empty() {
         return Ok(());
     }
-    write!(text, "out {connection} ")?;
-    'pieces: for _turn in 0..u64::MAX {
+    let digits = hex::encode(alloc, bytes.as_slice())?;
+    write!(text, "out {connection} {digits}\n")
+}
+
+/// All the bytes that a connection has to put out.
+fn take_output(
+    alloc: Global,
+    exchange: &mut Exchange,
+    connection: usize,
+    piece: &mut [u8],
+) -> Result<Vec<u8>, AllocError>
+    requires room { 0 < length piece.old }
+    requires number { 0 < connection }
+    ensures { IfOk result (λ bytes. (place : ℕ) (parts : ExchangeParts) → connection ≡ place + 1
+        → place < length parts.service.lines → Shows exchange.old parts
+        → PutsAll parts place bytes.items exchange.new) }
+{
+    let mut bytes = Vec::new(alloc);
+    for _turn in 0..u64::MAX {
+        let count = put_out(exchange, connection, piece)?;
         if count == 0 {
-            break 'pieces;
+            return Ok(bytes);
         }
-        let bytes = piece.get(..count).unwrap_or(&[]);
-        text.push_str(&hex::encode(alloc, bytes)?)?;
-        count = put_out(exchange, connection, piece)?;
+        bytes.extend_from_slice(&piece[..count])?;
     }
-    text.push_str("\n")
+    // no memory holds so many bytes
+    Err(AllocError)
 }
 
 /// Puts out the next bytes of a connection, and says how many.
@@ -213,9 +307,15 @@ fn put_out(
     exchange: &mut Exchange,
     connection: usize,
     piece: &mut [u8],
-) -> Result<usize, AllocError> {
+) -> Result<usize, AllocError>
+    requires { 0 < connection }
+    ensures within { IfOk result (λ count. count ≤ length piece.new) }
+    ensures puts { IfOk result (λ count. (place : ℕ) (parts : ExchangeParts)
+        → connection ≡ place + 1 → Shows exchange.old parts
+        → PutsSome parts place (length piece.old) count piece.new exchange.new) }
+{
     let put = exchange.output(connection, piece);
-    if put.is_lacking && put.count == 0 {
+    if put.is_lacking {
         return Err(AllocError);
     }
     Ok(put.count)

@@ -1,0 +1,6 @@
+use Rattle.std.proofs.Common.{◌-◌, arith}
+use Rattle.ipc_shell.proofs.wiring.put_out.Goals as goal
+
+pub returns-clause-within : goal.returns-clause-within
+returns-clause-within c =
+    omega (arith, c.output-put.ensures.count (c.args.connection - 1) (omega arith) c.if-put.false, c.output-put.auto.out)

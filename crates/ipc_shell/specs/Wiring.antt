@@ -18,8 +18,8 @@ use Rattle.ipc_shell.specs.Printing.{ended}
 use Rattle.ipc_shell.specs.Scripts.{EndsAtLine, RunsLinesOf}
 use Rattle.ipc_shell.specs.WireCommands.{IsSpelled}
 use Rattle.ipc_shell.specs.declared.exit.Exit.{Exit}
-use Rattle.ipc_shell.specs.declared.wiring.Obeyed.{Obeyed}
-use Rattle.ipc_shell.specs.declared.wiring.Obeyed.TheVariants.{Connected, Refused, Done, Ended}
+use Rattle.ipc_shell.specs.declared.wire.Obeyed.{Obeyed}
+use Rattle.ipc_shell.specs.declared.wire.Obeyed.TheVariants.{Connected, Refused, Done, Ended}
 
 -- the exchange that a script begins with: more than the greatest limits counts as those
 abbrev pub first_exchange : Limits → ExchangeParts

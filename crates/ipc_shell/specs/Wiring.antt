@@ -15,7 +15,7 @@ use Rattle.ipc_exchange.specs.declared.progress.ConnectRefused.TheVariants.{TooM
 use Rattle.ipc_exchange.specs.declared.progress.Progress.{Progress}
 use Rattle.ipc_exchange.specs.declared.progress.Progress.TheVariants as progress
 use Rattle.ipc_shell.specs.Printing.{ended}
-use Rattle.ipc_shell.specs.Scripts.{EndsAtLine, RunsLinesOf}
+use Rattle.ipc_shell.specs.Scripts.{EndsAtLine, RunsLines}
 use Rattle.ipc_shell.specs.WireCommands.{IsSpelled}
 use Rattle.ipc_shell.specs.declared.exit.Exit.{Exit}
 use Rattle.ipc_shell.specs.declared.wire.Obeyed.{Obeyed}
@@ -187,7 +187,7 @@ IsNoWire old line = (event : Event) → IsSpelled event line → IsGiven old eve
 abbrev pub WiresScript : ExchangeParts → Option (List ℕ) → Option (List ℕ) → Option (List ℕ)
     → Exit → Type 0
 WiresScript start bytes before after exit =
-    RunsLinesOf WiresLine IsNoWire start bytes before after exit
+    RunsLines WiresLine IsNoWire start bytes before after exit
 
 -- how a line ends, whatever parts the exchange stands for
 abbrev pub EndsWireLine : ExchangeSlots → ExchangeSlots → Option (List ℕ) → Option (List ℕ)

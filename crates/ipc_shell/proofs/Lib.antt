@@ -4,7 +4,6 @@ pub mod PieceLemmas
 pub mod PutLemmas
 pub mod RunLemmas
 pub mod CheckLemmas
-pub mod EndLemmas
 pub mod ScriptLemmas
 pub mod WireLemmas
 pub mod Examples

@@ -6,7 +6,7 @@ use Rattle.std.proofs.KnownBytes.{Appends-nil, Appends-trans}
 use Rattle.ipc_shell.specs.ScriptLines.{lines_of, longest_line}
 use Rattle.ipc_shell.specs.Failing.{most_lines}
 use Rattle.ipc_shell.specs.Reading.{ReadsLine}
-use Rattle.ipc_shell.specs.Scripts.{ObeysLine, ObeysLines, StopsAfter, RunsLinesOf, EndsAtLine}
+use Rattle.ipc_shell.specs.Scripts.{ObeysLine, ObeysLines, StopsAfterLines, RunsLines, EndsAtLine}
 use Rattle.ipc_shell.specs.declared.lines.NextLine.TheVariants as next
 use Rattle.ipc_shell.specs.declared.exit.Exit.{Exit}
 use Rattle.ipc_shell.specs.declared.exit.Exit.TheVariants.{Done, BadLine, NoMemory, DeviceFailed, Illegal, BadThreads}
@@ -91,7 +91,7 @@ module _ (S : Type 0) (Obeys : S → List ℕ → List ℕ → S → Type 0) (Is
 
   -- what stands written after some lines, and no more
   stops_here : (start state : S) (bytes rest : List ℕ) (number : ℕ) (before now after : Option (List ℕ)) → ObeyedOf Obeys start bytes rest before now state number → Appends now after []
-      → (text : List ℕ) × Appends before after text × StopsAfter Obeys start (lines_of bytes) text
+      → (text : List ℕ) × Appends before after text × StopsAfterLines Obeys start (lines_of bytes) text
   stops_here start state bytes rest number before now after so_far none =
       let text = so_far.text in (
         text,
@@ -106,27 +106,27 @@ module _ (S : Type 0) (Obeys : S → List ℕ → List ℕ → S → Type 0) (Is
       )
 
   module _ (start state : S) (number : ℕ) (before now after : Option (List ℕ)) where
-    pub stops_without_memory : (bytes rest : Option (List ℕ)) → ObeyedSoFar Obeys start bytes rest before now state number → Appends now after [] → RunsLinesOf Obeys IsNone start bytes before after NoMemory
+    pub stops_without_memory : (bytes rest : Option (List ℕ)) → ObeyedSoFar Obeys start bytes rest before now state number → Appends now after [] → RunsLines Obeys IsNone start bytes before after NoMemory
     stops_without_memory None rest so_far none = tt
     stops_without_memory (Some bytes) None so_far none = absurd so_far
     stops_without_memory (Some bytes) (Some rest) so_far none = stops_here start state bytes rest number before now after so_far none
 
-    pub stops_with_device : (bytes rest : Option (List ℕ)) → ObeyedSoFar Obeys start bytes rest before now state number → Appends now after [] → RunsLinesOf Obeys IsNone start bytes before after DeviceFailed
+    pub stops_with_device : (bytes rest : Option (List ℕ)) → ObeyedSoFar Obeys start bytes rest before now state number → Appends now after [] → RunsLines Obeys IsNone start bytes before after DeviceFailed
     stops_with_device None rest so_far none = tt
     stops_with_device (Some bytes) None so_far none = absurd so_far
     stops_with_device (Some bytes) (Some rest) so_far none =
         let (text, appended, stops) = stops_here start state bytes rest number before now after so_far none in
-        (text, appended, ([], subst (StopsAfter Obeys start (lines_of bytes)) (sym (append-nil text)) stops))
+        (text, appended, ([], subst (StopsAfterLines Obeys start (lines_of bytes)) (sym (append-nil text)) stops))
 
   module _ (start state : S) (line : List ℕ) (number : ℕ) (before now : Option (List ℕ)) where
-    pub stops_done : (bytes rest left : Option (List ℕ)) → ObeyedSoFar Obeys start bytes rest before now state number → ReadsLine rest left line next.End → RunsLinesOf Obeys IsNone start bytes before now Done
+    pub stops_done : (bytes rest left : Option (List ℕ)) → ObeyedSoFar Obeys start bytes rest before now state number → ReadsLine rest left line next.End → RunsLines Obeys IsNone start bytes before now Done
     stops_done None rest left so_far read = tt
     stops_done (Some bytes) None left so_far read = absurd so_far
     stops_done (Some bytes) (Some rest) left so_far read =
         let all : lines_of bytes ≡ so_far.before = so_far.lines_are ∙ ap (λ ls. so_far.before ++ ls) read ∙ append-nil so_far.before in
         (so_far.text, so_far.appended, (state, subst (λ ls. ObeysLines Obeys start ls so_far.text state) (sym all) so_far.taken))
 
-    pub stops_too_long : (bytes rest left : Option (List ℕ)) → ObeyedSoFar Obeys start bytes rest before now state number → ReadsLine rest left line next.TooLong → RunsLinesOf Obeys IsNone start bytes before now (BadLine number)
+    pub stops_too_long : (bytes rest left : Option (List ℕ)) → ObeyedSoFar Obeys start bytes rest before now state number → ReadsLine rest left line next.TooLong → RunsLines Obeys IsNone start bytes before now (BadLine number)
     stops_too_long None rest left so_far read = tt
     stops_too_long (Some bytes) None left so_far read = absurd so_far
     stops_too_long (Some bytes) (Some rest) left so_far (first, (others, is, long)) = (
@@ -146,7 +146,7 @@ module _ (S : Type 0) (Obeys : S → List ℕ → List ℕ → S → Type 0) (Is
 
   -- a line ends the run
   pub stops_at_line : (start state new : S) (line : List ℕ) (number : ℕ) (before now after bytes rest left : Option (List ℕ)) (exit : Exit) → 0 < length line
-      → ObeyedSoFar Obeys start bytes rest before now state number → ReadsLine rest left line next.Line → EndsAtLine Obeys IsNone state new now after line number (Some exit) → RunsLinesOf Obeys IsNone start bytes before after exit
+      → ObeyedSoFar Obeys start bytes rest before now state number → ReadsLine rest left line next.Line → EndsAtLine Obeys IsNone state new now after line number (Some exit) → RunsLines Obeys IsNone start bytes before after exit
   stops_at_line start state new line number before now after None rest left exit some so_far read ends = tt
   stops_at_line start state new line number before now after (Some bytes) None left exit some so_far read ends = absurd so_far
   stops_at_line start state new line number before now after (Some bytes) (Some rest) None exit some so_far read ends = absurd read

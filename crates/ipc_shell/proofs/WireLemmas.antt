@@ -29,8 +29,8 @@ use Rattle.ipc_shell.specs.Wiring.{IsGiven, Obeys, ObeysIn, ends_here, ends_at, 
 use Rattle.ipc_shell.specs.Wiring.{connect_text, ended_text, ended_texts, said_text, output_text, outputs_text, emptied, all_emptied, with_lines, WiresLine, IsNoWire, EndsWireLine, WiresScript}
 use Rattle.ipc_shell.specs.declared.exit.Exit.{Exit}
 use Rattle.ipc_shell.specs.declared.exit.Exit.TheVariants as exit
-use Rattle.ipc_shell.specs.declared.wiring.Obeyed.{Obeyed}
-use Rattle.ipc_shell.specs.declared.wiring.Obeyed.TheVariants.{Connected, Refused, Done, Ended}
+use Rattle.ipc_shell.specs.declared.wire.Obeyed.{Obeyed}
+use Rattle.ipc_shell.specs.declared.wire.Obeyed.TheVariants.{Connected, Refused, Done, Ended}
 
 -- the byte in a place of a line
 abbrev byte : ℕ → List ℕ → ℕ

@@ -3,8 +3,8 @@ pub mod Reading
 pub mod Commands
 pub mod Answers
 pub mod Printing
-pub mod Running
 pub mod Scripts
+pub mod Running
 pub mod WireCommands
 pub mod Wiring
 pub mod Putting

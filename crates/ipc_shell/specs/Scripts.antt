@@ -1,5 +1,5 @@
--- The run of a script over a state of any kind: its lines, and what is printed. A relation says what
--- a line that is not empty makes of a state, and what is printed for it.
+-- The run of a script over a state of any kind: its lines, and what is printed. A relation says
+-- what a line that is not empty makes of a state, and what is printed for it.
 use Rattle.std.specs.Prelude.{◌≡◌, ℕ, ◌+◌, ◌<◌, ◌≤◌, List, [], ◌∷◌, ◌++◌, Option, Some, None}
 use Rattle.std.specs.Prelude.{IfSome, length, ◌⊎◌}
 use Rattle.std.specs.Io.KnownBytes.{Appends}
@@ -23,9 +23,13 @@ ObeysLines {S} Obeys old (line ∷ lines) text new = (between : S)
     × ((first : List ℕ) × ((rest : List ℕ) × (text ≡ first ++ rest)
     × ObeysLine Obeys old line first between × ObeysLines Obeys between lines rest new))
 
--- a bad line ends the run: it is too long, or is not empty and no command in the state before it.
--- What is printed is that of the lines before it, whose number is counted from 1, empty lines too
-pub record EndsAtBad {S : Type 0} (Obeys : S → List ℕ → List ℕ → S → Type 0)
+-- a line is bad in a state where it is too long, or is not empty and no command there
+abbrev pub IsBadLine : {S : Type 0} → (S → List ℕ → Type 0) → S → List ℕ → Type 0
+IsBadLine IsNone state line = (longest_line < length line) ⊎ ((0 < length line) × IsNone state line)
+
+-- a bad line ends the run: what is printed is that of the lines before it, whose number is counted
+-- from 1, empty lines too
+pub record EndsAtBadLine {S : Type 0} (Obeys : S → List ℕ → List ℕ → S → Type 0)
     (IsNone : S → List ℕ → Type 0) (start : S) (lines : List (List ℕ)) (text : List ℕ)
     (number : ℕ) : Type 0 where
   pub before : List (List ℕ)
@@ -33,12 +37,12 @@ pub record EndsAtBad {S : Type 0} (Obeys : S → List ℕ → List ℕ → S →
   pub after : List (List ℕ)
   pub last : S
   pub lines_are : lines ≡ before ++ bad ∷ after
-  pub is_bad : (longest_line < length bad) ⊎ ((0 < length bad) × IsNone last bad)
+  pub is_bad : IsBadLine IsNone last bad
   pub number_is : number ≡ length before + 1
   pub printed : ObeysLines Obeys start before text last
 
 -- the run stops after some lines, and this is printed for them
-pub record StopsAfter {S : Type 0} (Obeys : S → List ℕ → List ℕ → S → Type 0)
+pub record StopsAfterLines {S : Type 0} (Obeys : S → List ℕ → List ℕ → S → Type 0)
     (start : S) (lines : List (List ℕ)) (text : List ℕ) : Type 0 where
   pub before : List (List ℕ)
   pub after : List (List ℕ)
@@ -48,24 +52,25 @@ pub record StopsAfter {S : Type 0} (Obeys : S → List ℕ → List ℕ → S �
 
 -- what is printed of these lines where the run ends so; where a read or a write failed, the end of
 -- what was to be printed may be missing
-abbrev pub PrintsOf : {S : Type 0} → (S → List ℕ → List ℕ → S → Type 0)
+abbrev pub Prints : {S : Type 0} → (S → List ℕ → List ℕ → S → Type 0)
     → (S → List ℕ → Type 0) → S → List (List ℕ) → List ℕ → Exit → Type 0
-PrintsOf {S} Obeys IsNone start lines text Done = (last : S) × ObeysLines Obeys start lines text last
-PrintsOf Obeys IsNone start lines text (BadLine number) =
-    EndsAtBad Obeys IsNone start lines text number
-PrintsOf Obeys IsNone start lines text Illegal = ⊥
-PrintsOf Obeys IsNone start lines text BadThreads = ⊥
-PrintsOf Obeys IsNone start lines text NoMemory = StopsAfter Obeys start lines text
-PrintsOf Obeys IsNone start lines text DeviceFailed =
-    (missing : List ℕ) × StopsAfter Obeys start lines (text ++ missing)
+Prints {S} Obeys IsNone start lines text Done =
+    (last : S) × ObeysLines Obeys start lines text last
+Prints Obeys IsNone start lines text (BadLine number) =
+    EndsAtBadLine Obeys IsNone start lines text number
+Prints Obeys IsNone start lines text Illegal = ⊥
+Prints Obeys IsNone start lines text BadThreads = ⊥
+Prints Obeys IsNone start lines text NoMemory = StopsAfterLines Obeys start lines text
+Prints Obeys IsNone start lines text DeviceFailed =
+    (missing : List ℕ) × StopsAfterLines Obeys start lines (text ++ missing)
 
 -- where a reader and a writer tell their bytes: what a run appends to the writer's is what is
 -- printed of the reader's lines
-abbrev pub RunsLinesOf : {S : Type 0} → (S → List ℕ → List ℕ → S → Type 0)
+abbrev pub RunsLines : {S : Type 0} → (S → List ℕ → List ℕ → S → Type 0)
     → (S → List ℕ → Type 0) → S → Option (List ℕ) → Option (List ℕ) → Option (List ℕ)
     → Exit → Type 0
-RunsLinesOf Obeys IsNone start bytes before after exit = IfSome bytes (λ bytes. (text : List ℕ)
-    × Appends before after text × PrintsOf Obeys IsNone start (lines_of bytes) text exit)
+RunsLines Obeys IsNone start bytes before after exit = IfSome bytes (λ bytes. (text : List ℕ)
+    × Appends before after text × Prints Obeys IsNone start (lines_of bytes) text exit)
 
 -- how a line that is not empty ends: not at all where the run goes on; what it appends to the
 -- writer's bytes

@@ -5,8 +5,8 @@ use Rattle.std.specs.Fmt.{decimal}
 use Rattle.hex.specs.Hex.{decode_of}
 use Rattle.ipc_words.specs.Limits.{max_space}
 use Rattle.ipc_exchange.specs.Events.{Event, Connect, Piece, Finish, Reading, Copy}
-use Rattle.ipc_shell.specs.declared.wire_commands.WireCommand.{WireCommand}
-use Rattle.ipc_shell.specs.declared.wire_commands.WireCommand.TheVariants as command
+use Rattle.ipc_shell.specs.declared.wire.commands.WireCommand.{WireCommand}
+use Rattle.ipc_shell.specs.declared.wire.commands.WireCommand.TheVariants as command
 
 -- a piece of bytes comes on the connection in a place: one byte at least, each as two hexadecimal
 -- digits of either case

@@ -15,11 +15,11 @@ use Rattle.ipc_exchange.specs.declared.progress.ConnectRefused.TheVariants.{TooM
 use Rattle.ipc_exchange.specs.declared.progress.Progress.{Progress}
 use Rattle.ipc_exchange.specs.declared.progress.Progress.TheVariants as progress
 use Rattle.ipc_shell.specs.Printing.{ended}
-use Rattle.ipc_shell.specs.Scripts.{EndsAtLine, RunsLinesOf}
+use Rattle.ipc_shell.specs.Scripts.{EndsAtLine, RunsLines}
 use Rattle.ipc_shell.specs.WireCommands.{IsSpelled}
 use Rattle.ipc_shell.specs.declared.exit.Exit.{Exit}
-use Rattle.ipc_shell.specs.declared.wiring.Obeyed.{Obeyed}
-use Rattle.ipc_shell.specs.declared.wiring.Obeyed.TheVariants.{Connected, Refused, Done, Ended}
+use Rattle.ipc_shell.specs.declared.wire.Obeyed.{Obeyed}
+use Rattle.ipc_shell.specs.declared.wire.Obeyed.TheVariants.{Connected, Refused, Done, Ended}
 
 -- the exchange that a script begins with: more than the greatest limits counts as those
 abbrev pub first_exchange : Limits → ExchangeParts
@@ -187,7 +187,7 @@ IsNoWire old line = (event : Event) → IsSpelled event line → IsGiven old eve
 abbrev pub WiresScript : ExchangeParts → Option (List ℕ) → Option (List ℕ) → Option (List ℕ)
     → Exit → Type 0
 WiresScript start bytes before after exit =
-    RunsLinesOf WiresLine IsNoWire start bytes before after exit
+    RunsLines WiresLine IsNoWire start bytes before after exit
 
 -- how a line ends, whatever parts the exchange stands for
 abbrev pub EndsWireLine : ExchangeSlots → ExchangeSlots → Option (List ℕ) → Option (List ℕ)

@@ -11,10 +11,7 @@ mod exit;
 mod lines;
 mod output;
 mod run;
-mod wire_commands;
-#[cfg(test)]
-mod wire_tests;
-mod wiring;
+mod wire;
 
 use chart::chart_trace;
 use check::check_trace;
@@ -31,7 +28,7 @@ use std::marker::Brand;
 use std::process::ExitCode;
 use std::rt::Files;
 use std::sync::ledger::{Blank, Ledger};
-use wiring::wire_script;
+use wire::wire_script;
 
 fn main(rt: HostRuntime) -> io::Result<ExitCode> {
     let alloc = rt.alloc();

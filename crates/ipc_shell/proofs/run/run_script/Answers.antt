@@ -3,10 +3,10 @@ use Rattle.std.proofs.lemmas.Grind.{common_steps}
 use Rattle.std.specs.Io.KnownBytes.{prepend_known}
 use Rattle.std.proofs.KnownBytes.{Appends-nil}
 use Rattle.ipc_shell.specs.Reading.{ReadsLine}
-use Rattle.ipc_shell.specs.Running.{first_kernel, EndsLine}
-use Rattle.ipc_shell.proofs.RunLemmas.{none_is_not_some, some_injective}
-use Rattle.ipc_shell.proofs.RunLemmas.{SoFar, none_taken, many_taken, one_empty, one_command, line_is_no_failure}
-use Rattle.ipc_shell.proofs.EndLemmas.{ends_without_memory, ends_with_device, ends_done, ends_too_long, ends_at_line}
+use Rattle.ipc_core.specs.KernelParts.{KernelParts}
+use Rattle.ipc_shell.specs.Running.{first_kernel, EndsLine, IsNoCommand, RunsLine}
+use Rattle.ipc_shell.proofs.RunLemmas.{none_is_not_some, some_injective, line_is_no_failure}
+use Rattle.ipc_shell.proofs.ScriptLemmas.{ObeyedSoFar, none_obeyed, many_obeyed, one_empty_line, one_command_line, stops_without_memory, stops_with_device, stops_done, stops_too_long, stops_at_line}
 use Rattle.ipc_shell.proofs.run.run_script.Goals.{then-is_empty, in-Line-2+in_default-run_line}
 use Rattle.ipc_shell.proofs.run.run_script.Goals as goal
 
@@ -17,29 +17,29 @@ returns-in-Some-clause-runs g c =
     let after = g.W.PortWrite.written c.run_line.new.writer in
     let some : 0 < length line = grind (arith, common_steps) in
     let ended = subst (λ l. EndsLine c.lines.kernel c.run_line.new.kernel now after l c.lines.number (Some c.in-Some.exit)) c.deref.ensures.value c.in-Some.ensures.ends in
-    ends_at_line (first_kernel c.args.limits) c.lines.kernel c.run_line.new.kernel line c.lines.number (g.W.PortWrite.written c.args.writer.now) now after
+    stops_at_line KernelParts RunsLine IsNoCommand (first_kernel c.args.limits) c.lines.kernel c.run_line.new.kernel line c.lines.number (g.W.PortWrite.written c.args.writer.now) now after
     (g.R.PortRead.remaining c.args.reader.now) (prepend_known c.lines.buffer (g.R.PortRead.remaining c.lines.reader)) (prepend_known c.next_line.new.buffer (g.R.PortRead.remaining c.next_line.new.port)) c.in-Some.exit some c.lines.invariant.so_far c.in-Line-2.ensures.line ended
 
 pub returns-in-TooLong-clause-runs : goal.returns-in-TooLong-clause-runs
 returns-in-TooLong-clause-runs g c =
-    ends_too_long (first_kernel c.args.limits) c.lines.kernel c.next_line.new.line.items c.lines.number (g.W.PortWrite.written c.args.writer.now) (g.W.PortWrite.written c.lines.writer)
+    stops_too_long KernelParts RunsLine IsNoCommand (first_kernel c.args.limits) c.lines.kernel c.next_line.new.line.items c.lines.number (g.W.PortWrite.written c.args.writer.now) (g.W.PortWrite.written c.lines.writer)
     (g.R.PortRead.remaining c.args.reader.now) (prepend_known c.lines.buffer (g.R.PortRead.remaining c.lines.reader)) (prepend_known c.next_line.new.buffer (g.R.PortRead.remaining c.next_line.new.port)) c.lines.invariant.so_far c.in-TooLong.ensures.line
 
 pub returns-in-End-clause-runs : goal.returns-in-End-clause-runs
 returns-in-End-clause-runs g c =
-    ends_done (first_kernel c.args.limits) c.lines.kernel c.next_line.new.line.items c.lines.number (g.W.PortWrite.written c.args.writer.now) (g.W.PortWrite.written c.lines.writer)
+    stops_done KernelParts RunsLine IsNoCommand (first_kernel c.args.limits) c.lines.kernel c.next_line.new.line.items c.lines.number (g.W.PortWrite.written c.args.writer.now) (g.W.PortWrite.written c.lines.writer)
     (g.R.PortRead.remaining c.args.reader.now) (prepend_known c.lines.buffer (g.R.PortRead.remaining c.lines.reader)) (prepend_known c.next_line.new.buffer (g.R.PortRead.remaining c.next_line.new.port)) c.lines.invariant.so_far c.in-End.ensures.line
 
 pub returns-in-Failed-clause-runs : goal.returns-in-Failed-clause-runs
 returns-in-Failed-clause-runs g c =
     let now = g.W.PortWrite.written c.lines.writer in
-    ends_with_device (first_kernel c.args.limits) c.lines.kernel c.lines.number (g.W.PortWrite.written c.args.writer.now) now now
+    stops_with_device KernelParts RunsLine IsNoCommand (first_kernel c.args.limits) c.lines.kernel c.lines.number (g.W.PortWrite.written c.args.writer.now) now now
     (g.R.PortRead.remaining c.args.reader.now) (prepend_known c.lines.buffer (g.R.PortRead.remaining c.lines.reader)) c.lines.invariant.so_far (Appends-nil now)
 
 pub returns-in-NoMemory-clause-runs : goal.returns-in-NoMemory-clause-runs
 returns-in-NoMemory-clause-runs g c =
     let now = g.W.PortWrite.written c.lines.writer in
-    ends_without_memory (first_kernel c.args.limits) c.lines.kernel c.lines.number (g.W.PortWrite.written c.args.writer.now) now now
+    stops_without_memory KernelParts RunsLine IsNoCommand (first_kernel c.args.limits) c.lines.kernel c.lines.number (g.W.PortWrite.written c.args.writer.now) now now
     (g.R.PortRead.remaining c.args.reader.now) (prepend_known c.lines.buffer (g.R.PortRead.remaining c.lines.reader)) c.lines.invariant.so_far (Appends-nil now)
 
 pub lines-preserved : goal.lines-preserved
@@ -52,21 +52,21 @@ lines-preserved g c =
     let rest = prepend_known c.lines.buffer (g.R.PortRead.remaining c.lines.reader) in
     let left = prepend_known c.next_line.new.buffer (g.R.PortRead.remaining c.next_line.new.port) in
     let read = subst (ReadsLine rest left line) c.in-Line.is c.next_line.ensures.line in
-    let so_far : SoFar start bytes left before (g.W.PortWrite.written c.if-is_empty.writer) c.if-is_empty.kernel (c.lines.number + 1) =
+    let so_far : ObeyedSoFar RunsLine start bytes left before (g.W.PortWrite.written c.if-is_empty.writer) c.if-is_empty.kernel (c.lines.number + 1) =
     elim c.if-is_empty.branch [
       | then-is_empty w ↦
           let empty : length line ≡ 0 = grind (arith, common_steps) in
-          subst (λ k. SoFar start bytes left before (g.W.PortWrite.written c.if-is_empty.writer) k (c.lines.number + 1)) (sym w.kernel-is)
-          (subst (λ writer. SoFar start bytes left before (g.W.PortWrite.written writer) c.lines.kernel (c.lines.number + 1)) (sym w.writer-is)
-          (one_empty start c.lines.kernel line c.lines.number before now bytes rest left empty c.lines.invariant.so_far read))
+          subst (λ k. ObeyedSoFar RunsLine start bytes left before (g.W.PortWrite.written c.if-is_empty.writer) k (c.lines.number + 1)) (sym w.kernel-is)
+          (subst (λ writer. ObeyedSoFar RunsLine start bytes left before (g.W.PortWrite.written writer) c.lines.kernel (c.lines.number + 1)) (sym w.writer-is)
+          (one_empty_line KernelParts RunsLine IsNoCommand start c.lines.kernel line c.lines.number before now bytes rest left empty c.lines.invariant.so_far read))
       | in-Line-2+in_default-run_line w ↦
           let after = g.W.PortWrite.written w.run_line.new.writer in
           let some : 0 < length line = grind (arith, common_steps) in
           let ended = subst (EndsLine c.lines.kernel w.run_line.new.kernel now after line c.lines.number) w.in_default-run_line.is
           (subst (λ l. EndsLine c.lines.kernel w.run_line.new.kernel now after l c.lines.number w.run_line.result) w.deref.ensures.value w.run_line.ensures.ends) in
-          subst (λ k. SoFar start bytes left before (g.W.PortWrite.written c.if-is_empty.writer) k (c.lines.number + 1)) (sym w.kernel-is)
-          (subst (λ writer. SoFar start bytes left before (g.W.PortWrite.written writer) w.run_line.new.kernel (c.lines.number + 1)) (sym w.writer-is)
-          (one_command start c.lines.kernel w.run_line.new.kernel line c.lines.number before now after bytes rest left some c.lines.invariant.so_far read ended))
+          subst (λ k. ObeyedSoFar RunsLine start bytes left before (g.W.PortWrite.written c.if-is_empty.writer) k (c.lines.number + 1)) (sym w.kernel-is)
+          (subst (λ writer. ObeyedSoFar RunsLine start bytes left before (g.W.PortWrite.written writer) w.run_line.new.kernel (c.lines.number + 1)) (sym w.writer-is)
+          (one_command_line KernelParts RunsLine IsNoCommand start c.lines.kernel w.run_line.new.kernel line c.lines.number before now after bytes rest left some c.lines.invariant.so_far read ended))
     ]
     in
     let written : g.W.PortWrite.failures c.if-is_empty.writer ≡ g.W.PortWrite.failures c.args.writer.now =
@@ -88,7 +88,7 @@ lines-preserved g c =
 pub returns-clause-runs : goal.returns-clause-runs
 returns-clause-runs g c =
     let now = g.W.PortWrite.written c.lines.writer in
-    ends_with_device (first_kernel c.args.limits) c.lines.kernel c.lines.number (g.W.PortWrite.written c.args.writer.now) now now
+    stops_with_device KernelParts RunsLine IsNoCommand (first_kernel c.args.limits) c.lines.kernel c.lines.number (g.W.PortWrite.written c.args.writer.now) now now
     (g.R.PortRead.remaining c.args.reader.now) (prepend_known c.lines.buffer (g.R.PortRead.remaining c.lines.reader)) c.lines.invariant.so_far (Appends-nil now)
 
 pub returns-in-Failed-clause-device : goal.returns-in-Failed-clause-device
@@ -107,7 +107,7 @@ pub returns-in-Some-clause-flushed : goal.returns-in-Some-clause-flushed
 returns-in-Some-clause-flushed g c = λ is_not before. c.in-Some.ensures.flushed (λ is. is_not (some_injective is)) (c.lines.invariant.flushed before)
 
 pub returns-clause-device : goal.returns-clause-device
-returns-clause-device g c = λ _. inr (many_taken (first_kernel c.args.limits) (g.R.PortRead.remaining c.args.reader.now)
+returns-clause-device g c = λ _. inr (many_obeyed KernelParts RunsLine IsNoCommand (first_kernel c.args.limits) (g.R.PortRead.remaining c.args.reader.now)
     (prepend_known c.lines.buffer (g.R.PortRead.remaining c.lines.reader)) (g.W.PortWrite.written c.args.writer.now)
     (g.W.PortWrite.written c.lines.writer) c.lines.kernel c.lines.number c.lines.invariant.so_far (omega (arith, c.lines-test.false)))
 
@@ -117,8 +117,8 @@ lines-init g c =
     let bytes = g.R.PortRead.remaining c.args.reader.now in
     let start = first_kernel c.args.limits in
     record {
-      so_far = subst (λ kernel. SoFar start bytes (prepend_known c.new-buffer.result bytes) before before kernel 1) (sym c.in-Ok.ensures.ok)
-          (none_taken start bytes before c.new-buffer.result c.new-buffer.ensures);
+      so_far = subst (λ kernel. ObeyedSoFar RunsLine start bytes (prepend_known c.new-buffer.result bytes) before before kernel 1) (sym c.in-Ok.ensures.ok)
+          (none_obeyed KernelParts RunsLine IsNoCommand start bytes before c.new-buffer.result c.new-buffer.ensures);
       read = refl;
       written = refl;
       flushed = λ is. is;

@@ -1,5 +1,5 @@
-use super::exit::Exit;
-use super::wiring::wire_script;
+use super::wire_script;
+use crate::exit::Exit;
 use ipc_core::Limits;
 use ipc_ports::MemoryPort;
 use std::alloc::{AllocError, Global};

@@ -5,8 +5,8 @@ use Rattle.ipc_shell.specs.Reading.{ReadsLine}
 use Rattle.ipc_shell.specs.Wiring.{first_exchange, EndsWireLine}
 use Rattle.ipc_shell.proofs.RunLemmas.{none_is_not_some, some_injective, line_is_no_failure}
 use Rattle.ipc_shell.proofs.WireLemmas.{WiredSoFar, none_wired, empty_wired, line_wired, wired_at_line, wired_too_long, wired_done, wired_without_memory, wired_with_device, many_wired}
-use Rattle.ipc_shell.proofs.wiring.wire_script.Goals.{then-is_empty, in-Line-2+in_default-done}
-use Rattle.ipc_shell.proofs.wiring.wire_script.Goals as goal
+use Rattle.ipc_shell.proofs.wire.wire_script.Goals.{then-is_empty, in-Line-2+in_default-done}
+use Rattle.ipc_shell.proofs.wire.wire_script.Goals as goal
 
 pub returns-in-Some-clause-wires : goal.returns-in-Some-clause-wires
 returns-in-Some-clause-wires g c =

@@ -3,7 +3,7 @@ use Rattle.std.specs.String.{string_bytes}
 use Rattle.std.specs.Io.KnownBytes.{Appends}
 use Rattle.ipc_shell.specs.WireCommands.{event_of}
 use Rattle.ipc_shell.proofs.WireLemmas.{line_goes_on, line_cut_off}
-use Rattle.ipc_shell.proofs.wiring.wire_line.Goals as goal
+use Rattle.ipc_shell.proofs.wire.wire_line.Goals as goal
 
 pub returns-in-Ok-put-clause-ends : goal.returns-in-Ok-put-clause-ends
 returns-in-Ok-put-clause-ends g c =

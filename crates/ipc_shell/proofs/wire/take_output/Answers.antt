@@ -2,7 +2,7 @@ use Rattle.std.proofs.Common.{◌≡◌, ◌<◌, ◌++◌, length, take, subst,
 use Rattle.std.proofs.lemmas.Grind.{common_steps}
 use Rattle.ipc_exchange.specs.Service.{without_bytes}
 use Rattle.ipc_shell.proofs.WireLemmas.{TakenOut, taken_all, taken_more}
-use Rattle.ipc_shell.proofs.wiring.take_output.Goals as goal
+use Rattle.ipc_shell.proofs.wire.take_output.Goals as goal
 
 pub returns-then-count-eq0 : goal.returns-then-count-eq0
 returns-then-count-eq0 c = λ place parts is within shows.

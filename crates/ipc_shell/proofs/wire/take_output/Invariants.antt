@@ -3,7 +3,7 @@ use Rattle.std.proofs.Common.{◌≡◌, ℕ, ◌+◌, ◌<◌, length}
 use Rattle.ipc_exchange.specs.Events.{ExchangeParts}
 use Rattle.ipc_exchange.specs.Exchange.{Shows}
 use Rattle.ipc_shell.proofs.WireLemmas.{TakenOut}
-use Rattle.ipc_shell.proofs.wiring.take_output.Given as goal
+use Rattle.ipc_shell.proofs.wire.take_output.Given as goal
 
 abbrev pub invariant-loop-turn : goal.invariant-loop-turn
 invariant-loop-turn l = (place : ℕ) (parts : ExchangeParts) → l.fn.connection ≡ place + 1

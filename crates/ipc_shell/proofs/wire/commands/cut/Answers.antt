@@ -3,7 +3,7 @@ use Rattle.std.specs.Prelude.{◌==◌}
 use Rattle.std.proofs.lemmas.Iterator.{YieldsList-from_slice}
 use Rattle.std.proofs.lemmas.Iterator.Search.{position_from_yields_List}
 use Rattle.ipc_lines.proofs.Cuts.{place_of, cut_at}
-use Rattle.ipc_shell.proofs.wire_commands.cut.Goals as goal
+use Rattle.ipc_shell.proofs.wire.commands.cut.Goals as goal
 
 pub returns-in_err-place-clause-only : goal.returns-in_err-place-clause-only
 returns-in_err-place-clause-only c front back none e =

@@ -4,7 +4,7 @@ use Rattle.ipc_lines.proofs.Spacing.{decimal_lacks}
 use Rattle.hex.specs.Hex.{decode_of}
 use Rattle.ipc_shell.proofs.RunLemmas.{some_injective}
 use Rattle.ipc_shell.proofs.WireLemmas.{spelled_feed}
-use Rattle.ipc_shell.proofs.wire_commands.feed.Goals as goal
+use Rattle.ipc_shell.proofs.wire.commands.feed.Goals as goal
 
 pub returns-in_default-clause-only : goal.returns-in_default-clause-only
 returns-in_default-clause-only c event spelled =

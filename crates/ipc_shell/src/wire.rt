@@ -10,10 +10,14 @@ ghost use Rattle.ipc_shell.specs.Wiring.{WiresScript, WritesOutput, WritesOutput
 ghost use Rattle.ipc_shell.specs.Wiring.{connect_text, ended_text, ends_here, first_exchange};
 ghost use Rattle.ipc_shell.specs.Wiring.{progress_if, said_text};
 
+mod commands;
+#[cfg(test)]
+mod tests;
+
 use crate::exit::Exit;
 use crate::lines::{NextLine, next_line};
 use crate::output::put;
-use crate::wire_commands::{WireCommand, read_wire_command};
+use commands::{WireCommand, read_wire_command};
 use ipc_core::Limits;
 use ipc_exchange::{ConnectRefused, Exchange, Progress};
 use ipc_ports::{PieceBuffer, PortRead, PortWrite};

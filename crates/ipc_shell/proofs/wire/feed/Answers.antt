@@ -1,7 +1,7 @@
 use Rattle.ipc_exchange.specs.Feeding.{has_finished}
 use Rattle.ipc_exchange.specs.Slots.{stage_at}
 use Rattle.ipc_shell.proofs.WireLemmas.{fed_in}
-use Rattle.ipc_shell.proofs.wiring.feed.Goals as goal
+use Rattle.ipc_shell.proofs.wire.feed.Goals as goal
 
 pub returns-clause-obeys : goal.returns-clause-obeys
 returns-clause-obeys c =

@@ -1,7 +1,7 @@
 use Rattle.ipc_exchange.specs.Feeding.{has_finished}
 use Rattle.ipc_exchange.specs.Slots.{stage_at}
 use Rattle.ipc_shell.proofs.WireLemmas.{finished_in}
-use Rattle.ipc_shell.proofs.wiring.end.Goals as goal
+use Rattle.ipc_shell.proofs.wire.end.Goals as goal
 
 pub returns-clause-obeys : goal.returns-clause-obeys
 returns-clause-obeys c =

@@ -2,7 +2,7 @@ use Rattle.std.proofs.Common.{◌<◌, length, refl, arith}
 use Rattle.std.specs.String.{string_bytes}
 use Rattle.ipc_shell.specs.Wiring.{with_lines}
 use Rattle.ipc_shell.proofs.WireLemmas.{one_written, partly, partly_within, shows_long}
-use Rattle.ipc_shell.proofs.wiring.write_outputs.Goals as goal
+use Rattle.ipc_shell.proofs.wire.write_outputs.Goals as goal
 
 pub loop-place-preserved : goal.loop-place-preserved
 loop-place-preserved c = λ parts shows.

@@ -3,7 +3,7 @@ use Rattle.std.proofs.Common.{◌≡◌, true}
 use Rattle.std.specs.Io.KnownBytes.{prepend_known}
 use Rattle.ipc_shell.specs.Wiring.{first_exchange}
 use Rattle.ipc_shell.proofs.WireLemmas.{WiredSoFar}
-use Rattle.ipc_shell.proofs.wiring.wire_script.Given as goal
+use Rattle.ipc_shell.proofs.wire.wire_script.Given as goal
 
 abbrev pub invariant-lines : goal.invariant-lines
 invariant-lines g l = record {

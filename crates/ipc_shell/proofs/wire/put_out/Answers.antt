@@ -1,5 +1,5 @@
 use Rattle.std.proofs.Common.{◌-◌, arith}
-use Rattle.ipc_shell.proofs.wiring.put_out.Goals as goal
+use Rattle.ipc_shell.proofs.wire.put_out.Goals as goal
 
 pub returns-clause-within : goal.returns-clause-within
 returns-clause-within c =

@@ -1,10 +1,8 @@
 -- Events, one after the other, and their answers.
-use Rattle.std.proofs.Common.{◌≡◌, ℕ, zero, suc, ◌+◌, List, [], ◌∷◌, ◌++◌, map, filter_map, length, refl, sym, ap, ap₂, subst, ◌∙◌, arith}
+use Rattle.std.proofs.Common.{◌≡◌, ℕ, zero, suc, ◌+◌, List, [], ◌∷◌, ◌++◌, map, filter_map, length, refl, sym, ap, subst, ◌∙◌, arith}
 use Rattle.std.specs.Prelude.{nat_le, if◌then◌else◌}
 use Rattle.std.proofs.lemmas.List.{append-nil, map-append}
 use Rattle.std.proofs.lemmas.Grind.{flat_map-append}
-use Rattle.ipc_history.specs.declared.entry.Entry.{Entry}
-use Rattle.ipc_connection.specs.Chain.{Chain}
 use Rattle.ipc_connection.proofs.ChainLemmas.{chain_both, chain_none, chain_one, chain_push}
 use Rattle.ipc_exchange.specs.Service.{ServiceParts, line_at}
 use Rattle.ipc_exchange.specs.Serving.{Asked, MayLack}

@@ -1,4 +1,5 @@
 ghost use Rattle.std.specs.Prelude.{◌≡◌, ◌≤◌, ◌^◌, length};
+ghost use Rattle.ipc_words.specs.Limits.{max_frame_body};
 ghost use Rattle.ipc_frame.specs.Parts.{pieces_text, ipcr_size};
 ghost use Rattle.ipc_frame.specs.Frames.{kind_of, widths, fields_of, tail_of, spelling};
 ghost use Rattle.ipc_frame.specs.Replies.{reply_of, ipcr_of};
@@ -38,7 +39,7 @@ fn measure_of(outcome: &Outcome) -> Measure
 /// The body length of the frame that tells an outcome.
 pub(crate) fn reply_size(outcome: &Outcome) -> usize
     ensures value { result ≡ ipcr_size (reply_of outcome.now) }
-    ensures within { result ≤ 2 ^ 21 }
+    ensures within { result ≤ max_frame_body }
 {
     fits(outcome);
     let measure = measure_of(outcome);

@@ -7,17 +7,17 @@ use Rattle.clap.specs.declared.builder.action.ArgAction.TheVariants.{Set, SetTru
 use Rattle.clap.specs.declared.builder.value_parser.ValueParser.TheVariants.{Unsigned}
 
 -- the texts of the limits that stand where an option is left out: each reads as its limit
-abbrev pub entries_text : Text
-entries_text = codes "1048576"
+abbrev pub max_entries_text : Text
+max_entries_text = codes "1048576"
 
-abbrev pub calls_text : Text
-calls_text = codes "4294967295"
+abbrev pub max_calls_text : Text
+max_calls_text = codes "4294967295"
 
-abbrev pub chart_entry_text : Text
-chart_entry_text = codes "4294967295"
+abbrev pub max_chart_entry_text : Text
+max_chart_entry_text = codes "4294967295"
 
-abbrev pub connections_text : Text
-connections_text = codes "65535"
+abbrev pub max_connections_text : Text
+max_connections_text = codes "65535"
 
 -- `--ID N`: a number up to most, by default the one that a text reads as
 abbrev pub number_rule : Text → ℕ → Text → Rule
@@ -43,8 +43,8 @@ text_rule = record (new_rule (codes "text")) { long = Some (codes "text"); actio
 -- a command that reads a script, with the limits of its kernel
 abbrev pub script_app : Text → App
 script_app name = with_rule
-    (with_rule (new_app name) (number_rule (codes "entries") max_entries entries_text))
-    (number_rule (codes "calls") max_calls calls_text)
+    (with_rule (new_app name) (number_rule (codes "entries") max_entries max_entries_text))
+    (number_rule (codes "calls") max_calls max_calls_text)
 
 abbrev pub check_app : App
 check_app = with_rule (new_app (codes "check")) file_rule
@@ -53,7 +53,7 @@ check_app = with_rule (new_app (codes "check")) file_rule
 abbrev pub chart_places_app : App
 chart_places_app = with_rule (with_rule (with_rule (new_app (codes "chart")) file_rule)
     (number_rule (codes "from") max_chart_entry (codes "1")))
-    (number_rule (codes "to") max_chart_entry chart_entry_text)
+    (number_rule (codes "to") max_chart_entry max_chart_entry_text)
 
 abbrev pub chart_app : App
 chart_app = with_rule (with_rule chart_places_app threads_rule) text_rule
@@ -92,7 +92,7 @@ connections_rule = record (new_rule (codes "connections")) {
   long = Some (codes "connections");
   value_names = 1;
   parser = Some (Unsigned 1 max_connections);
-  defaults = connections_text ∷ [];
+  defaults = max_connections_text ∷ [];
 }
 
 -- `--mode OCTAL`

@@ -8,7 +8,7 @@ ghost use Rattle.ipc_options.specs.Command.{server_app, spaces_rule, trace_rule}
 ghost use Rattle.ipc_options.specs.Server.{HasOptionsIn, HasOptionsOf};
 ghost use Rattle.ipc_options.specs.Shell.{number_in};
 
-use crate::default_texts::CONNECTIONS_TEXT;
+use crate::default_texts::MAX_CONNECTIONS_TEXT;
 use crate::server::{MAX_SPACES, ServerOptions};
 use clap::builder::ValueParser;
 use clap::error::ErrorKind;
@@ -77,7 +77,7 @@ fn connections_option<'a>(alloc: Global) -> Arg<'a>
         .long("connections")
         .value_name("M")
         .value_parser(ValueParser::unsigned(1, u64::from(MAX_CONNECTIONS)))
-        .default_value(CONNECTIONS_TEXT)
+        .default_value(MAX_CONNECTIONS_TEXT)
         .help("How many connections each path takes, 1 to 65535")
 }
 

@@ -9,7 +9,7 @@ ghost use Rattle.ipc_options.specs.Shell.{AreWithinLimits, HasLimitsIn, HasMatch
 ghost use Rattle.ipc_options.specs.Shell.{IsTaken, IsWithinLimits, Reads, ReadsAsChart, ReadsAsCheck};
 ghost use Rattle.ipc_options.specs.Shell.{ReadsAsScript, number_in};
 
-use crate::default_texts::{CALLS_TEXT, CHART_ENTRY_TEXT, ENTRIES_TEXT};
+use crate::default_texts::{MAX_CALLS_TEXT, MAX_CHART_ENTRY_TEXT, MAX_ENTRIES_TEXT};
 use clap::builder::ValueParser;
 use clap::error::ErrorKind;
 use clap::{Arg, ArgAction, ArgMatches, Command, Error};
@@ -127,14 +127,14 @@ fn script_command<'a>(
             alloc,
             "entries",
             MAX_ENTRIES,
-            ENTRIES_TEXT,
+            MAX_ENTRIES_TEXT,
             "The most entries that the history may hold, 0 to 1048576",
         ))?
         .arg(number_option(
             alloc,
             "calls",
             MAX_CALLS,
-            CALLS_TEXT,
+            MAX_CALLS_TEXT,
             "The most calls that may be made, 0 to 4294967295",
         ))
 }
@@ -176,7 +176,7 @@ fn chart_places_command<'a>(alloc: Global) -> Result<Command<'a>, AllocError>
             alloc,
             "to",
             MAX_CHART_ENTRY,
-            CHART_ENTRY_TEXT,
+            MAX_CHART_ENTRY_TEXT,
             "The last entry that is shown",
         ))
 }

@@ -178,7 +178,7 @@ fn assert_out(
     cut: Cut,
 ) {
     let mut out = [0u8; 256];
-    let count = exchange.output(connection, &mut out).count;
+    let count = exchange.output(connection, &mut out);
     let mut rest = &out[..count.min(256)];
     for frame in frames {
         let (front, back) = rest.split_at(frame.len().min(rest.len()));

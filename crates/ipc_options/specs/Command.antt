@@ -40,11 +40,13 @@ threads_rule = record (new_rule (codes "threads")) { long = Some (codes "threads
 abbrev pub text_rule : Rule
 text_rule = record (new_rule (codes "text")) { long = Some (codes "text"); action = Some SetTrue }
 
--- a command that reads a script, with the limits of its kernel
-abbrev pub script_app : Text → App
-script_app name = with_rule
-    (with_rule (new_app name) (number_rule (codes "entries") max_entries max_entries_text))
-    (number_rule (codes "calls") max_calls max_calls_text)
+abbrev pub run_app : App
+run_app = with_rule
+    (with_rule (new_app (codes "run")) (number_rule (codes "entries") max_entries entries_text))
+    (number_rule (codes "calls") max_calls calls_text)
+
+abbrev pub wire_app : App
+wire_app = new_app (codes "wire")
 
 abbrev pub check_app : App
 check_app = with_rule (new_app (codes "check")) file_rule
@@ -62,11 +64,11 @@ chart_app = with_rule (with_rule chart_places_app threads_rule) text_rule
 abbrev pub proving_app : App
 proving_app = with_subcommand (with_subcommand
     (on_top (λ shape. record shape { subcommand_required = true }) (new_app (codes "l4sh")))
-    (script_app (codes "run")).top) check_app.top
+    run_app.top) check_app.top
 
 -- `l4sh` with its subcommands, of which one has to be there
 abbrev pub shell_app : App
-shell_app = with_subcommand (with_subcommand proving_app chart_app.top) (script_app (codes "wire")).top
+shell_app = with_subcommand (with_subcommand proving_app chart_app.top) wire_app.top
 
 -- `--dir DIR`, which has to be there
 abbrev pub dir_rule : Rule

@@ -16,7 +16,7 @@ AreWithinLimits limits = (limits.entries ≤ max_entries) × (limits.calls ≤ m
 -- the limits of a script are
 abbrev pub IsWithinLimits : ShellOptions → Type 0
 IsWithinLimits (Run limits) = AreWithinLimits limits
-IsWithinLimits (Wire limits) = AreWithinLimits limits
+IsWithinLimits Wire = ⊤
 IsWithinLimits (Check file) = ⊤
 IsWithinLimits (Chart chart) = ⊤
 
@@ -45,14 +45,14 @@ HasLimitsIn rows limits = (number_in rows (codes "entries") ≡ Some limits.entr
 -- the options are those of the matches of the subcommand of this name
 unfoldable pub HasMatchesIn : Text → List Row → ShellOptions → Type 0
 HasMatchesIn name rows (Run limits) = (name ≡ codes "run") × HasLimitsIn rows limits
-HasMatchesIn name rows (Wire limits) = (name ≡ codes "wire") × HasLimitsIn rows limits
+HasMatchesIn name rows Wire = name ≡ codes "wire"
 HasMatchesIn name rows (Check file) = (name ≡ codes "check")
     × (first_of (codes "file") rows ≡ Some file.now)
 HasMatchesIn name rows (Chart chart) = (name ≡ codes "chart") × HasChartIn rows chart
 
 -- the matches have a decimal number within its limit for each limit of a script
-abbrev pub ReadsAsScript : List Row → Type 0
-ReadsAsScript rows = IsSomeAnd (one_of (codes "entries") rows) (IsUnsignedIn 0 max_entries)
+abbrev pub ReadsAsRun : List Row → Type 0
+ReadsAsRun rows = IsSomeAnd (one_of (codes "entries") rows) (IsUnsignedIn 0 max_entries)
     × IsSomeAnd (one_of (codes "calls") rows) (IsUnsignedIn 0 max_calls)
 
 -- the matches have a file
@@ -67,8 +67,8 @@ ReadsAsChart rows = ReadsAsCheck rows
 
 -- the matches of the subcommand of this name have what it needs
 unfoldable pub Reads : Text → List Row → Type 0
-Reads name rows = ((name ≡ codes "run") × ReadsAsScript rows)
-    ⊎ ((name ≡ codes "wire") × ReadsAsScript rows)
+Reads name rows = ((name ≡ codes "run") × ReadsAsRun rows)
+    ⊎ (name ≡ codes "wire")
     ⊎ ((name ≡ codes "check") × ReadsAsCheck rows)
     ⊎ ((name ≡ codes "chart") × ReadsAsChart rows)
 

@@ -4,10 +4,10 @@ ghost use Rattle.std.specs.Prelude.{map, string_bytes};
 ghost use Rattle.clap.specs.Words.{IsUnsignedIn, app_of, fault_of, first_of, found_of, kind_of, one_of, rows_of, rule_of};
 ghost use Rattle.clap.specs.declared.builder.command.Command.TheViews.{out-Command as fields_of};
 ghost use Rattle.ipc_options.specs.Command.{chart_app, chart_places_app, check_app, file_rule, number_rule};
-ghost use Rattle.ipc_options.specs.Command.{proving_app, script_app, shell_app, text_rule, threads_rule};
+ghost use Rattle.ipc_options.specs.Command.{proving_app, run_app, shell_app, text_rule, threads_rule, wire_app};
 ghost use Rattle.ipc_options.specs.Shell.{AreWithinLimits, HasLimitsIn, HasMatchesIn, IsAskedBy, IsFlagIn};
 ghost use Rattle.ipc_options.specs.Shell.{IsTaken, IsWithinLimits, Reads, ReadsAsChart, ReadsAsCheck};
-ghost use Rattle.ipc_options.specs.Shell.{ReadsAsScript, number_in};
+ghost use Rattle.ipc_options.specs.Shell.{ReadsAsRun, number_in};
 
 use crate::default_texts::{MAX_CALLS_TEXT, MAX_CHART_ENTRY_TEXT, MAX_ENTRIES_TEXT};
 use clap::builder::ValueParser;
@@ -22,7 +22,7 @@ pub enum ShellOptions<'a> {
     /// `l4sh run`.
     Run(ScriptLimits),
     /// `l4sh wire`.
-    Wire(ScriptLimits),
+    Wire,
     /// `l4sh check`, with the path of a trace.
     Check { file: &'a str },
     /// `l4sh chart`.
@@ -98,31 +98,10 @@ fn proving_command<'a>(alloc: Global) -> Result<Command<'a>, AllocError>
 
 fn run_command<'a>(alloc: Global) -> Result<Command<'a>, AllocError>
     ensures local { IfOk result (λ command. (fields_of command).has_globals ≡ false) }
-    ensures app { IfOk result (λ command. app_of command ≡ script_app (codes "run")) }
+    ensures app { IfOk result (λ command. app_of command ≡ run_app) }
 {
-    let about = "Runs the script that it reads from standard input";
-    script_command(alloc, "run", about)
-}
-
-fn wire_command<'a>(alloc: Global) -> Result<Command<'a>, AllocError>
-    ensures local { IfOk result (λ command. (fields_of command).has_globals ≡ false) }
-    ensures app { IfOk result (λ command. app_of command ≡ script_app (codes "wire")) }
-{
-    let about = "Serves connections whose bytes a script on standard input gives";
-    script_command(alloc, "wire", about)
-}
-
-/// A command that reads a script, with the limits of its kernel.
-fn script_command<'a>(
-    alloc: Global,
-    name: &'a str,
-    about: &'a str,
-) -> Result<Command<'a>, AllocError>
-    ensures local { IfOk result (λ command. (fields_of command).has_globals ≡ false) }
-    ensures app { IfOk result (λ command. app_of command ≡ script_app name.entry.now) }
-{
-    Command::new(alloc, name)
-        .about(about)
+    Command::new(alloc, "run")
+        .about("Runs the script that it reads from standard input")
         .arg(number_option(
             alloc,
             "entries",
@@ -181,6 +160,14 @@ fn chart_places_command<'a>(alloc: Global) -> Result<Command<'a>, AllocError>
         ))
 }
 
+fn wire_command<'a>(alloc: Global) -> Result<Command<'a>, AllocError>
+    ensures local { IfOk result (λ command. (fields_of command).has_globals ≡ false) }
+    ensures app { IfOk result (λ command. app_of command ≡ wire_app) }
+{
+    Command::new(alloc, "wire")
+        .about("Serves connections whose bytes a script on standard input gives")
+}
+
 /// FILE.
 fn trace_file<'a>(alloc: Global) -> Arg<'a>
     ensures local { result.global ≡ false }
@@ -234,7 +221,7 @@ fn number_option<'a>(
 }
 
 /// The options of the subcommand of this name.
-#[tactic(auto, unfolding(crate::specs::Shell::Reads))]
+#[tactic(auto, unfolding(crate::specs::Shell::Reads, crate::specs::Shell::HasMatchesIn))]
 fn options_in<'a>(name: &str, found: &ArgMatches<'a>) -> Option<ShellOptions<'a>>
     ensures limits { IfSome result IsWithinLimits }
     ensures matches { IfSome result (HasMatchesIn name.now (rows_of (found_of found.now))) }
@@ -244,7 +231,7 @@ fn options_in<'a>(name: &str, found: &ArgMatches<'a>) -> Option<ShellOptions<'a>
         "run" => run_options(found),
         "check" => check_options(found),
         "chart" => chart_options(found),
-        "wire" => wire_options(found),
+        "wire" => Some(ShellOptions::Wire),
         _ => None,
     }
 }
@@ -253,24 +240,15 @@ fn options_in<'a>(name: &str, found: &ArgMatches<'a>) -> Option<ShellOptions<'a>
 fn run_options<'a>(run: &ArgMatches<'a>) -> Option<ShellOptions<'a>>
     ensures limits { IfSome result IsWithinLimits }
     ensures matches { IfSome result (HasMatchesIn (codes "run") (rows_of (found_of run.now))) }
-    ensures found { ReadsAsScript (rows_of (found_of run.now)) → IsSome result }
+    ensures found { ReadsAsRun (rows_of (found_of run.now)) → IsSome result }
 {
     Some(ShellOptions::Run(script_limits(run)?))
-}
-
-#[tactic(auto, unfolding(crate::specs::Shell::HasMatchesIn))]
-fn wire_options<'a>(wire: &ArgMatches<'a>) -> Option<ShellOptions<'a>>
-    ensures limits { IfSome result IsWithinLimits }
-    ensures matches { IfSome result (HasMatchesIn (codes "wire") (rows_of (found_of wire.now))) }
-    ensures found { ReadsAsScript (rows_of (found_of wire.now)) → IsSome result }
-{
-    Some(ShellOptions::Wire(script_limits(wire)?))
 }
 
 fn script_limits(script: &ArgMatches<'_>) -> Option<ScriptLimits>
     ensures limits { IfSome result AreWithinLimits }
     ensures matches { IfSome result (HasLimitsIn (rows_of (found_of script.now))) }
-    ensures found { ReadsAsScript (rows_of (found_of script.now)) → IsSome result }
+    ensures found { ReadsAsRun (rows_of (found_of script.now)) → IsSome result }
 {
     let entries = number(script, "entries")?;
     let calls = number(script, "calls")?;
@@ -377,20 +355,9 @@ mod tests {
     }
 
     #[test]
-    fn serves_connections_with_the_limits_that_are_given(rt: HostRuntime) -> Result<(), Fail> {
-        let cases: [(&[&str], u32, u32); 2] = [
-            (&["l4sh", "wire"], 1_048_576, 4_294_967_295),
-            (&["l4sh", "wire", "--calls", "2", "--entries", "5"], 5, 2),
-        ];
-        for (words, entries, calls) in cases {
-            let strings = words_of(rt.alloc(), words)?;
-            let options = shell_options(rt.alloc(), &strings)?;
-            assert_eq!(rt;
-                options,
-                ShellOptions::Wire(ScriptLimits { entries, calls }),
-                "at {words:?}"
-            );
-        }
+    fn serves_connections_without_an_option(rt: HostRuntime) -> Result<(), Fail> {
+        let strings = words_of(rt.alloc(), &["l4sh", "wire"])?;
+        assert_eq!(rt; shell_options(rt.alloc(), &strings)?, ShellOptions::Wire);
         Ok(())
     }
 
@@ -462,6 +429,10 @@ mod tests {
                 ErrorKind::MissingRequiredArgument,
             ),
             (&["l4sh", "wire", "here"], ErrorKind::UnknownArgument),
+            (
+                &["l4sh", "wire", "--entries", "5"],
+                ErrorKind::UnknownArgument,
+            ),
             (&["l4sh", "wire", "--help"], ErrorKind::DisplayHelp),
             (&["l4sh", "walk"], ErrorKind::InvalidSubcommand),
             (&["l4sh", "--entries", "10"], ErrorKind::UnknownArgument),

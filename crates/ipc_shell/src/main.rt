@@ -17,7 +17,7 @@ use chart::chart_trace;
 use check::check_trace;
 use clap::error::ErrorKind;
 use exit::Exit;
-use ipc_core::Limits;
+use ipc_core::{Limits, MAX_CALLS, MAX_ENTRIES};
 use ipc_options::{ScriptLimits, ShellOptions, shell_options};
 use ipc_ports::{Failures, ReadPort, WritePort};
 use run::run_script;
@@ -71,9 +71,13 @@ fn obey<L: Ledger, M: Ledger, R: Files + Input + Print>(
             let mut reader = ReadPort::new(rt.reader(), reads);
             run_script(alloc, kernel_limits(limits), &mut reader, &mut writer)
         }
-        ShellOptions::Wire(limits) => {
+        ShellOptions::Wire => {
+            let limits = Limits {
+                entries: MAX_ENTRIES,
+                calls: MAX_CALLS,
+            };
             let mut reader = ReadPort::new(rt.reader(), reads);
-            wire_script(alloc, kernel_limits(limits), &mut reader, &mut writer)
+            wire_script(alloc, limits, &mut reader, &mut writer)
         }
         ShellOptions::Check { file } => match File::open(rt, *file) {
             Ok(trace) => check_trace(alloc, &mut ReadPort::new(trace, reads), &mut writer),

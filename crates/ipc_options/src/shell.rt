@@ -164,8 +164,8 @@ fn wire_command<'a>(alloc: Global) -> Result<Command<'a>, AllocError>
     ensures local { IfOk result (λ command. (fields_of command).has_globals ≡ false) }
     ensures app { IfOk result (λ command. app_of command ≡ wire_app) }
 {
-    Command::new(alloc, "wire")
-        .about("Serves connections whose bytes a script on standard input gives")
+    let about = "Serves connections whose bytes a script on standard input gives";
+    Ok(Command::new(alloc, "wire").about(about))
 }
 
 /// FILE.

@@ -9,6 +9,8 @@ mod keyvalue;
 mod messages;
 mod role;
 mod sleeper;
+#[cfg(test)]
+mod tests;
 mod trouble;
 
 use ipc_client::Client;

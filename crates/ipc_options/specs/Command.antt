@@ -42,8 +42,8 @@ text_rule = record (new_rule (codes "text")) { long = Some (codes "text"); actio
 
 abbrev pub run_app : App
 run_app = with_rule
-    (with_rule (new_app (codes "run")) (number_rule (codes "entries") max_entries entries_text))
-    (number_rule (codes "calls") max_calls calls_text)
+    (with_rule (new_app (codes "run")) (number_rule (codes "entries") max_entries max_entries_text))
+    (number_rule (codes "calls") max_calls max_calls_text)
 
 abbrev pub wire_app : App
 wire_app = new_app (codes "wire")

@@ -3,14 +3,10 @@ ghost use Rattle.std.specs.Prelude.{◌≡◌, ◌<◌, ◌^◌, None, true};
 use crate::clock::ServerClock;
 use crate::server::Server;
 use crate::serving::{Line, Ports, serve_ports};
-use crate::tracing::{Trace, TraceFault};
-use ipc_check::{Verdict, check};
 use ipc_core::{Limits, MAX_CALLS, MAX_ENTRIES};
-use ipc_history::{Entry, Input, Output};
 use ipc_lock::SharedKernel;
-use ipc_ports::{MemoryPort, PortFault, PortRead, PortWrite, Trouble};
+use ipc_ports::{PortFault, PortRead, PortWrite};
 use ipc_session::Gate;
-use ipc_trace::{TraceEnd, read_trace};
 use std::alloc::Global;
 use std::marker::Brand;
 use std::rt::Clock;
@@ -79,14 +75,6 @@ struct Story {
 }
 
 impl Story {
-    fn new(alloc: Global) -> Story {
-        Story {
-            receiver: Vec::new(alloc),
-            sender: Vec::new(alloc),
-            turns: TURNS,
-        }
-    }
-
     fn has_come(&self, cue: Cue) -> bool {
         match cue.party {
             Party::Receiver => self.receiver.len() >= cue.bytes,
@@ -217,16 +205,12 @@ fn gate() -> CountedGate {
 #[test]
 fn held_receive(rt: HostRuntime) -> Result<(), Fail> {
     let alloc = rt.alloc();
-    let story = Mutex::new(Story::new(alloc));
-    let port = MemoryPort::new(alloc, &[]);
-    serve_both::<Brand, Brand, _>(
-        &rt,
-        alloc,
-        &story,
-        port,
-        Blank::new(1 << 63),
-        Blank::new(1 << 63),
-    )?;
+    let story = Mutex::new(Story {
+        receiver: Vec::new(alloc),
+        sender: Vec::new(alloc),
+        turns: TURNS,
+    });
+    serve_both::<Brand, Brand, _>(&rt, alloc, &story, Blank::new(1 << 63), Blank::new(1 << 63))?;
     let story = story.into_inner();
     assert_eq!(rt; story.receiver.as_slice(), &RECEIVED[..]);
     assert_eq!(rt; story.sender.as_slice(), &SENT[..]);
@@ -234,74 +218,13 @@ fn held_receive(rt: HostRuntime) -> Result<(), Fail> {
     Ok(())
 }
 
-// The trace that is written beside the same meeting is a legal history, with its one pair and both ends.
-#[test]
-fn a_meeting_is_traced(rt: HostRuntime) -> Result<(), Fail> {
-    let alloc = rt.alloc();
-    let story = Mutex::new(Story::new(alloc));
-    let port = MemoryPort::new(alloc, &[]);
-    let traced = serve_both::<Brand, Brand, _>(
-        &rt,
-        alloc,
-        &story,
-        port,
-        Blank::new(1 << 63),
-        Blank::new(1 << 63),
-    )?;
-    assert_eq!(rt; traced.told, Ok(()));
-    let read = read_trace(alloc, &mut traced.text.as_slice());
-    assert_eq!(rt; read.end, TraceEnd::Whole);
-    let (mut ended, mut broke) = (0usize, 0usize);
-    for entry in &read.entries {
-        match entry {
-            Entry::Written(Output::Ended(_, _)) => ended = ended.saturating_add(1),
-            Entry::Given(Input::Broke(_)) => broke = broke.saturating_add(1),
-            _ => {}
-        }
-    }
-    assert_eq!(rt; (ended, broke), (1, 2));
-    assert!(rt; matches!(check(&read.entries), Verdict::Yes));
-    Ok(())
-}
-
-// A trace whose device fails stops there, and the meeting goes on.
-#[test]
-fn a_meeting_goes_on_without_its_trace(rt: HostRuntime) -> Result<(), Fail> {
-    let alloc = rt.alloc();
-    let story = Mutex::new(Story::new(alloc));
-    let port = MemoryPort::new(alloc, &[]).with_trouble(1, Trouble::Fails);
-    let traced = serve_both::<Brand, Brand, _>(
-        &rt,
-        alloc,
-        &story,
-        port,
-        Blank::new(1 << 63),
-        Blank::new(1 << 63),
-    )?;
-    let fault = traced.told.err().ok_or("a fault")?;
-    let fault = format!(in alloc; "{fault}")?;
-    assert_eq!(rt; fault.as_str(), "l4d: trace TR1");
-    let story = story.into_inner();
-    assert_eq!(rt; story.receiver.as_slice(), &RECEIVED[..]);
-    assert_eq!(rt; story.sender.as_slice(), &SENT[..]);
-    Ok(())
-}
-
-// What was written of the trace, and why it stopped.
-#[derive(Drop)]
-struct Traced {
-    text: Vec<u8>,
-    told: Result<(), TraceFault>,
-}
-
-fn serve_both<'a, C: Ledger + Send, T: Ledger + Send, R: Threads + Wait + Clock + Sync>(
-    rt: &'a R,
+fn serve_both<C: Ledger + Send, T: Ledger + Send, R: Threads + Wait + Clock + Sync>(
+    rt: &R,
     alloc: Global,
-    story: &'a Mutex<Story>,
-    port: MemoryPort<'_>,
+    story: &Mutex<Story>,
     calls: Blank,
     takes: Blank,
-) -> Result<Traced, Fail>
+) -> Result<(), Fail>
     requires calls_name { calls.name ≡ C.name }
     requires calls_parts { (calls.parts ≡ C.parts) × (calls.parts ≡ 2 ^ 63) }
     requires takes_name { takes.name ≡ T.name }
@@ -311,9 +234,10 @@ fn serve_both<'a, C: Ledger + Send, T: Ledger + Send, R: Threads + Wait + Clock 
         entries: MAX_ENTRIES,
         calls: MAX_CALLS,
     };
-    let shared = SharedKernel::<C, T>::new(alloc, limits, calls, takes)
-        .ok()
-        .ok_or("a kernel")?;
+    let Ok(shared) = SharedKernel::<C, T>::new(alloc, limits, calls, takes) else {
+        // nothing is written, by which the test fails
+        return Ok(());
+    };
     let clock = ServerClock::start(rt)?;
     let server = Server::new(rt, alloc, &shared, clock);
     let answered = Cue {
@@ -360,18 +284,6 @@ fn serve_both<'a, C: Ledger + Send, T: Ledger + Send, R: Threads + Wait + Clock 
         reads: gate(),
         writes: gate(),
     };
-    let server = &server;
-    let mut port = port;
-    let trace = Trace::new(alloc, &mut port);
-    let (told, ()) = thread::join(
-        rt,
-        move || trace.follow(server),
-        move || {
-            serve_ports(server, receiver, sender);
-            server.shared.close(server.rt);
-        },
-    );
-    let mut text = Vec::new(alloc);
-    text.extend_from_slice(port.output().ok_or("a text")?)?;
-    Ok(Traced { text, told })
+    serve_ports(&server, receiver, sender);
+    Ok(())
 }

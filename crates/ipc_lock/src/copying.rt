@@ -39,7 +39,7 @@ fn group_len(entries: &[Entry]) -> usize
 /// Whether the entry is a call with strings, which may have a megabyte.
 fn has_strings(entry: &Entry) -> bool {
     match entry {
-        Entry::Given(Input::Called(_, _, call)) => !call.strings().is_empty(),
+        Entry::Given(Input::Called(_, _, call)) => !call.call().strings().is_empty(),
         _ => false,
     }
 }

@@ -14,7 +14,8 @@ use Rattle.ipc_connection.specs.Replying.{reply}
 use Rattle.ipc_connection.specs.declared.asking.Request.{Request}
 use Rattle.ipc_connection.specs.declared.asking.Request.TheVariants.{Open, Enter, Exreg, Leave, Refuse, Nothing}
 use Rattle.ipc_connection.specs.declared.replying.Told.{Told}
-use Rattle.ipc_exchange.specs.Service.{Line, ServiceParts, delivered, delivered_to, line_at, outcome_at, place_of, text_of, thread_numbers, told_line, told_outcome, with_outcome}
+use Rattle.ipc_exchange.specs.Service.{Line, ServiceParts, delivered, delivered_to, line_at, outcome_at, place_of, text_of, told_line, told_outcome, with_outcome}
+use Rattle.ipc_words.specs.Limits.{table_slots}
 use Rattle.ipc_exchange.specs.Serving.{Asked, Memory, Serves, ServesAll, ServesBy, Tells}
 use Rattle.ipc_exchange.specs.Events.{Commands, Connect, Copy, Event, ExchangeParts, Finish, HappenAll, Happens, Piece, Reading, held_at}
 use Rattle.ipc_exchange.specs.Laws.{Begins, OutGrows}
@@ -64,7 +65,7 @@ delivered_to_grows (suc number) service =
 
 delivered_grows : (kernel : KernelParts) (lines : List Line) → Grow lines (delivered kernel lines).lines
 unfolding delivered
-delivered_grows kernel lines = delivered_to_grows thread_numbers (record { kernel = kernel; lines = lines })
+delivered_grows kernel lines = delivered_to_grows table_slots (record { kernel = kernel; lines = lines })
 
 module _ (memory : Memory) where
   tells_grows : (place : ℕ) (old new : ServiceParts) (told : Told) (asked : List Asked) → Tells memory old place told asked new → Grow old.lines new.lines

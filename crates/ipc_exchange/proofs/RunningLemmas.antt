@@ -9,7 +9,8 @@ use Rattle.ipc_exchange.specs.Serving.{Asked, MayLack}
 use Rattle.ipc_exchange.specs.Slots.{stage_at}
 use Rattle.ipc_exchange.specs.Events.{ExchangeParts, HappenAll, Happens}
 use Rattle.ipc_exchange.specs.Events as events
-use Rattle.ipc_exchange.specs.Exchange.{ExchangeSlots, Happened, Shows, max_connections, progress_of}
+use Rattle.ipc_exchange.specs.Exchange.{ExchangeSlots, Happened, Shows, progress_of}
+use Rattle.ipc_words.specs.Limits.{max_connections}
 use Rattle.ipc_exchange.specs.Laws.{accepted, calls_in}
 use Rattle.ipc_exchange.specs.Running.{Ran, Replied, RepliesTo, Turn, Turns, happened, happening}
 use Rattle.ipc_exchange.specs.declared.event.Event.{Event}

@@ -6,7 +6,8 @@ use Rattle.ipc_exchange.specs.Service.{line_at}
 use Rattle.ipc_exchange.specs.Serving.{Asked, MayLack}
 use Rattle.ipc_exchange.specs.Events.{ExchangeParts, HappenAll}
 use Rattle.ipc_exchange.specs.Events as events
-use Rattle.ipc_exchange.specs.Exchange.{ExchangeSlots, Shows, max_connections, progress_of}
+use Rattle.ipc_exchange.specs.Exchange.{ExchangeSlots, Shows, progress_of}
+use Rattle.ipc_words.specs.Limits.{max_connections}
 use Rattle.ipc_exchange.specs.Laws.{accepted, calls_in}
 use Rattle.ipc_exchange.specs.declared.event.Event.{Event}
 use Rattle.ipc_exchange.specs.declared.event.Event.TheVariants.{Connect, Piece, Finish, Reading, Copy}

@@ -10,8 +10,8 @@ use std::sync::Wait;
 
 /// Passes requests on for ever.
 ///
-/// The message that goes on has the flag p and shows who asked as its VirtualSender. Who asked waits for the gateway alone. When the
-/// transfer begins that wait is turned to the server, so the answer does not come through here.
+/// The message that goes on has the flag p and shows who asked as its VirtualSender. Who asked waits for the
+/// gateway alone. When the transfer begins that wait is turned to the server, so the answer does not come through here.
 pub fn serve<I: PortRead, O: PortWrite, R: Wait>(
     rt: &R,
     alloc: Global,

@@ -32,7 +32,8 @@ pub fn sleep<I: PortRead, O: PortWrite>(
     }
 }
 
-/// The word of the shortest period that is not shorter than so many microseconds; the longest for more than that. Zero time for none.
+/// The word of the shortest period that is not shorter than so many microseconds; the longest for more than
+/// that. Zero time for none.
 fn period(micros: u64) -> u16 {
     if micros == 0 {
         return Period::ZERO.to_word();

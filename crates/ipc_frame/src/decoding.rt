@@ -1,4 +1,6 @@
-ghost use Rattle.std.specs.Prelude.{IfOk, IfErr, IsOk, OnOk, OnErr, ◌++◌, ◌∷◌, Some, [], false, true, is_some, sum, take, ◌≡◌, ◌≤◌, ◌<◌, ◌+◌, ◌*◌, ℕ, List, length, drop, slice_index};
+ghost use Rattle.std.specs.Prelude.{IfOk, IfErr, IsOk, OnOk, OnErr, ◌++◌, ◌∷◌, Some, [], false};
+ghost use Rattle.std.specs.Prelude.{true, is_some, sum, take, ◌≡◌, ◌≤◌, ◌<◌, ◌+◌, ◌*◌, ℕ, List};
+ghost use Rattle.std.specs.Prelude.{length, drop, slice_index};
 ghost use Rattle.ipc_items.specs.Pieces.{PlacedBytes};
 ghost use Rattle.ipc_frame.specs.Numbers.{number_in, fields_in, words_in};
 ghost use Rattle.ipc_frame.specs.Parts.{IsIpc, IsIpcr, words_of, ipc_size, ipcr_size};
@@ -81,7 +83,10 @@ fn read_ipc(alloc: Global, head: &[u8], tail: &[u8]) -> Result<IpcFrame, AllocEr
 fn read_ipcr(alloc: Global, head: &[u8], tail: &[u8]) -> Result<IpcrFrame, AllocError>
     requires head { 32 ≤ length head.now }
     requires made { (f : Frame) × MakesFrame FrameKind.Ipcr (fields_in (widths FrameKind.Ipcr) head.now) tail.now f }
-    ensures { IfOk result (λ ipcr. frame_of FrameKind.Ipcr (fields_in (widths FrameKind.Ipcr) head.now) tail.now ≡ Some (Frame.Ipcr ipcr)) }
+    ensures { IfOk result
+        (λ ipcr.
+        frame_of FrameKind.Ipcr (fields_in (widths FrameKind.Ipcr) head.now) tail.now
+        ≡ Some (Frame.Ipcr ipcr)) }
 {
     let (tag, head) = split_u64(head);
     let (sender, head) = split_u64(head);

@@ -39,7 +39,18 @@ impl Model for IpcParts {
 
     ghost Value = { IpcParts };
 
-    ghost view = { λ p. record { to = p.to; from = p.from; timeouts = p.timeouts; originator = p.originator; tag = p.tag; acceptor = p.acceptor; words = p.words.items; buffer_words = p.buffer_words.items; payload = p.payload.items } };
+    ghost view = { λ p.
+        record {
+          to = p.to;
+          from = p.from;
+          timeouts = p.timeouts;
+          originator = p.originator;
+          tag = p.tag;
+          acceptor = p.acceptor;
+          words = p.words.items;
+          buffer_words = p.buffer_words.items;
+          payload = p.payload.items;
+        } };
 }
 
 /// A call as it is sent, within the limits of its frame; seen as its parts.

@@ -85,7 +85,15 @@ impl Model for IpcrParts {
 
     ghost Value = { IpcrParts };
 
-    ghost view = { λ p. record { tag = p.tag; sender = p.sender; actual = p.actual; error = p.error; words = p.words.items; pieces = p.pieces.items } };
+    ghost view = { λ p.
+        record {
+          tag = p.tag;
+          sender = p.sender;
+          actual = p.actual;
+          error = p.error;
+          words = p.words.items;
+          pieces = p.pieces.items;
+        } };
 }
 
 /// The outcome of a call as it is sent, within the limits of its frame; seen as its parts.

@@ -1,9 +1,13 @@
-ghost use Rattle.std.specs.Prelude.{◌≡◌, ◌<◌, ◌≤◌, ◌+◌, ◌*◌, ◌^◌, ◌++◌, ◌≢◌, ◌||◌, ◌-◌, nat_lt, sum, slice_index, is_some, if◌then◌else◌, length, Some, None, false, take, drop};
+ghost use Rattle.std.specs.Prelude.{◌≡◌, ◌<◌, ◌≤◌, ◌+◌, ◌*◌, ◌^◌, ◌++◌, ◌≢◌, ◌||◌, ◌-◌, nat_lt};
+ghost use Rattle.std.specs.Prelude.{sum, slice_index, is_some, if◌then◌else◌, length, Some, None};
+ghost use Rattle.std.specs.Prelude.{false, take, drop};
 ghost use Rattle.ipc_words.specs.Limits.{max_buffer_words, max_frame_body, max_message_words};
 ghost use Rattle.ipc_frame.specs.Numbers.{number_in, fields_in};
 ghost use Rattle.ipc_frame.specs.Parts.{words_of};
 ghost use Rattle.ipc_frame.specs.Frames.{widths};
-ghost use Rattle.ipc_frame.specs.Reading.{TellsBefore, words_fault, is_wrong_size, has_too_many_words, least_size_with, frame_of, fields_known, kind_known, size_known, reading};
+ghost use Rattle.ipc_frame.specs.Reading.{TellsBefore, words_fault, is_wrong_size};
+ghost use Rattle.ipc_frame.specs.Reading.{has_too_many_words, least_size_with, frame_of};
+ghost use Rattle.ipc_frame.specs.Reading.{fields_known, kind_known, size_known, reading};
 
 use crate::fault::FrameFault;
 use crate::kind::{FrameKind, Side};

@@ -143,7 +143,9 @@ impl Call {
 /// Whether the tag says what the message has, and the originator stands with p alone.
 #[tactic(auto)]
 fn counts(fields: &CallFields) -> bool
-    ensures { result ≡ (is_tag_normal (parts_of fields.now) && (propagates fields.now.tag || (fields.now.originator == nilthread))) }
+    ensures { result
+        ≡ (is_tag_normal (parts_of fields.now)
+        && (propagates fields.now.tag || (fields.now.originator == nilthread))) }
 {
     let untyped = fields.words.len() as u128;
     let typed = 2 * fields.strings.len() as u128;
@@ -159,7 +161,9 @@ fn counts(fields: &CallFields) -> bool
 /// Whether a phase that is absent has nothing.
 #[tactic(auto)]
 fn is_empty_where_absent(fields: &CallFields) -> bool
-    ensures { result ≡ ((not (fields.now.to == nilthread) || is_empty_send (parts_of fields.now)) && (not (fields.now.from == nilthread) || is_empty_receive (parts_of fields.now))) }
+    ensures { result
+        ≡ ((not (fields.now.to == nilthread) || is_empty_send (parts_of fields.now))
+        && (not (fields.now.from == nilthread) || is_empty_receive (parts_of fields.now))) }
 {
     let sends_nothing = fields.tag == MsgTag::EMPTY && fields.send_period == Period::NEVER;
     let receives_nothing = fields.receive_period == Period::NEVER && fields.buffers.is_none();

@@ -1,5 +1,7 @@
 ghost use Rattle.std.specs.Prelude.{◌≡◌, option_map};
-ghost use Rattle.ipc_history.specs.Entries.{moment_in, opens, space_in, thread_in, breaks, number_in, calls, call_in, count_in, receiver_in, sender_in, ends_send, ends, turned_in, closes};
+ghost use Rattle.ipc_history.specs.Entries.{moment_in, opens, space_in, thread_in, breaks};
+ghost use Rattle.ipc_history.specs.Entries.{number_in, calls, call_in, count_in, receiver_in};
+ghost use Rattle.ipc_history.specs.Entries.{sender_in, ends_send, ends, turned_in, closes};
 
 use crate::call::Call;
 use crate::entered::EnteredCall;

@@ -30,7 +30,17 @@ impl Model for Outcome {
 
     ghost Value = { OutcomeParts };
 
-    ghost view = { λ o. record { call = o.call; tag = o.tag; sender = o.sender; actual = o.actual; error = o.error; words = o.words.items; strings = o.strings; buffers = o.buffers } };
+    ghost view = { λ o.
+        record {
+          call = o.call;
+          tag = o.tag;
+          sender = o.sender;
+          actual = o.actual;
+          error = o.error;
+          words = o.words.items;
+          strings = o.strings;
+          buffers = o.buffers;
+        } };
 
     ghost invariant = { λ o. HasItsWords o.tag o.words.items };
 }

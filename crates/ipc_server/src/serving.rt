@@ -77,8 +77,8 @@ where
     server.shared.release_box(server.rt, place);
 }
 
-/// Serves two connections beside each other, each by two workers, and joins them all. Where no thread can be made they are served one
-/// after the other.
+/// Serves two connections beside each other, each by two workers, and joins them all. Where no thread can be made
+/// they are served one after the other.
 pub fn serve_ports<C, T, R, I, O, G>(
     server: &Server<'_, C, T, R>,
     first: Ports<I, O, G>,

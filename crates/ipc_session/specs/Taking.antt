@@ -1,5 +1,6 @@
 -- What a writer is given, and the text of it.
-use Rattle.std.specs.Prelude.{◌≡◌, ℕ, ◌≤◌, List, [], ◌∷◌, ◌++◌, Option, Some, None, ⊤, Bool, true, false, IsTrue, length, map, take, drop}
+use Rattle.std.specs.Prelude.{◌≡◌, ℕ, ◌≤◌, List, [], ◌∷◌, ◌++◌, Option, Some, None, ⊤, Bool, true}
+use Rattle.std.specs.Prelude.{false, IsTrue, length, map, take, drop}
 use Rattle.std.specs.Io.KnownBytes.{Appends}
 use Rattle.ipc_frame.specs.Frames.{spelling}
 use Rattle.ipc_frame.specs.Replies.{ipcr_of}

@@ -557,8 +557,8 @@ fn assert_heard(rt: &impl Abort, alloc: Global, came: Came, hear: Hear) -> Resul
 fn put_out(alloc: Global, exchange: &mut Exchange, connection: usize) -> Result<Vec<u8>, Fail> {
     let mut bytes = Vec::new(alloc);
     let mut piece = [0u8; 4096];
-    let put = exchange.output(connection, &mut piece);
-    bytes.extend_from_slice(piece.get(..put.count).ok_or("a piece")?)?;
+    let count = exchange.output(connection, &mut piece);
+    bytes.extend_from_slice(piece.get(..count).ok_or("a piece")?)?;
     Ok(bytes)
 }
 

@@ -407,7 +407,7 @@ mod tests {
 
     #[test]
     fn refuses(rt: HostRuntime) -> Result<(), Fail> {
-        let cases: [(&[&str], ErrorKind); 15] = [
+        let cases: [(&[&str], ErrorKind); 16] = [
             (
                 &["l4sh", "run", "--entries", "1048577"],
                 ErrorKind::ValueValidation,

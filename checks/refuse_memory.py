@@ -17,9 +17,9 @@ ROOT = os.path.dirname(os.path.dirname(os.path.abspath(__file__)))
 PROGRAM = f"{ROOT}/crates/ipc_shell/out/ipc_shell"
 
 
-def run(script, shim, refused=0, count_to=""):
+def run(script, shim, refused=0, count_to="", word="run"):
     env = dict(os.environ, LD_PRELOAD=shim, FAIL_AT=str(refused), COUNT_TO=count_to)
-    ran = subprocess.run([PROGRAM, "run"], input=script, capture_output=True, env=env)
+    ran = subprocess.run([PROGRAM, word], input=script, capture_output=True, env=env)
     return ran.returncode, ran.stdout, ran.stderr
 
 
@@ -53,28 +53,31 @@ def what_is_wrong(script, shim, usual, refused):
     return "refused", None if is_as_without else "it is not as without the command"
 
 
-def main(paths):
-    subprocess.run([f"{ROOT}/l4sh", "run"], stdin=subprocess.DEVNULL, check=True)
-    faults = 0
+def refuse_each(word, paths, kinds_of_runs, what_is_wrong):
+    """Runs each script with each of its growths refused in turn, tells what came of it, and answers the status of the check."""
+    subprocess.run([f"{ROOT}/l4sh", word], stdin=subprocess.DEVNULL, check=True)
+    faults = runs = 0
     with tempfile.TemporaryDirectory() as room:
         shim = f"{room}/refuse_memory.so"
         subprocess.run(["cc", "-shared", "-fPIC", "-O1", "-o", shim, f"{ROOT}/checks/refuse_memory.c", "-ldl"], check=True)
         for path in paths:
             with open(path, "rb") as file:
                 script = file.read()
-            usual = run(script, shim, count_to=f"{room}/count")
+            usual = run(script, shim, count_to=f"{room}/count", word=word)
             with open(f"{room}/count", encoding="ascii") as file:
                 growths = int(file.read())
-            kinds = {"same": 0, "ended": 0, "refused": 0, "wrong": 0}
+            kinds = dict.fromkeys(kinds_of_runs, 0)
             for refused in range(1, growths + 1):
                 kind, fault = what_is_wrong(script, shim, usual, refused)
                 kinds[kind] += 1
+                runs += 1
                 if fault:
                     faults += 1
                     print(f"{path}: growth {refused}: {fault}")
-            print(f"{path}: {growths} growths: {kinds['same']} do without, {kinds['ended']} end the program, {kinds['refused']} are K4")
-    return 1 if faults else 0
+            told = ", ".join(f"{count} {kind}" for kind, count in kinds.items())
+            print(f"{path}: {growths} growths: {told}")
+    return 1 if faults or not runs else 0
 
 
 if __name__ == "__main__":
-    sys.exit(main(sys.argv[1:]))
+    sys.exit(refuse_each("run", sys.argv[1:], ("same", "ended", "refused", "wrong"), what_is_wrong))

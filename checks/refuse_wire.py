@@ -11,20 +11,11 @@ With one growth refused, a run may
 - put out FAULT F14 as the last frame of a connection, which ends by that command; what was printed before is as otherwise.
 Behind one of the last three the dialogue is another one, so it is looked at for whole frames and nothing more. Anything else is told, and
 the status is then 1. It needs a C compiler (cc), and builds l4sh first by running it."""
-import os
-import subprocess
 import sys
-import tempfile
 
-ROOT = os.path.dirname(os.path.dirname(os.path.abspath(__file__)))
-PROGRAM = f"{ROOT}/crates/ipc_shell/out/ipc_shell"
+from refuse_memory import refuse_each, run
+
 REFUSED_K4, FAULT_F14 = bytes.fromhex("000000028404"), bytes.fromhex("0000000385460e")
-
-
-def run(script, shim, refused=0, count_to=""):
-    env = dict(os.environ, LD_PRELOAD=shim, FAIL_AT=str(refused), COUNT_TO=count_to)
-    ran = subprocess.run([PROGRAM, "wire"], input=script, capture_output=True, env=env)
-    return ran.returncode, ran.stdout, ran.stderr
 
 
 def frames(text):
@@ -58,7 +49,7 @@ def kind_of(line, after):
 
 def what_is_wrong(script, shim, usual, refused):
     """The kind of the run, and what is wrong with it, if anything is."""
-    status, output, told = run(script, shim, refused)
+    status, output, told = run(script, shim, refused, word="wire")
     if (status, output, told) == usual:
         return "same", None
     if (status, told) == (1, b"l4sh: no memory\n"):
@@ -71,30 +62,6 @@ def what_is_wrong(script, shim, usual, refused):
     return (kind, None) if kind else ("wrong", f"line {place + 1}: {lines[place][:80]}")
 
 
-def main(paths):
-    subprocess.run([f"{ROOT}/l4sh", "wire"], stdin=subprocess.DEVNULL, check=True)
-    faults = runs = 0
-    with tempfile.TemporaryDirectory() as room:
-        shim = f"{room}/refuse_memory.so"
-        subprocess.run(["cc", "-shared", "-fPIC", "-O1", "-o", shim, f"{ROOT}/checks/refuse_memory.c", "-ldl"], check=True)
-        for path in paths:
-            with open(path, "rb") as file:
-                script = file.read()
-            usual = run(script, shim, count_to=f"{room}/count")
-            with open(f"{room}/count", encoding="ascii") as file:
-                growths = int(file.read())
-            kinds = dict.fromkeys(("same", "ended", "no connection", "refused", "faults", "wrong"), 0)
-            for refused in range(1, growths + 1):
-                kind, fault = what_is_wrong(script, shim, usual, refused)
-                kinds[kind] += 1
-                runs += 1
-                if fault:
-                    faults += 1
-                    print(f"{path}: growth {refused}: {fault}")
-            told = ", ".join(f"{count} {kind}" for kind, count in kinds.items())
-            print(f"{path}: {growths} growths: {told}")
-    return 1 if faults or not runs else 0
-
-
 if __name__ == "__main__":
-    sys.exit(main(sys.argv[1:]))
+    kinds = ("same", "ended", "no connection", "refused", "faults", "wrong")
+    sys.exit(refuse_each("wire", sys.argv[1:], kinds, what_is_wrong))

@@ -36,11 +36,11 @@ use Rattle.std.proofs.lemmas.Bool.{lt-ltb, or_left, or_right}
 use Rattle.ipc_laws.proofs.Tests.{both}
 use Rattle.ipc_laws.proofs.Settling.{legal_push}
 use Rattle.ipc_laws.proofs.Histories.{follows_last}
-use Rattle.ipc_slots.specs.Slots.{Stands as SlotsStand}
-use Rattle.ipc_slots.specs.declared.slots.Slots.{Slots}
+use Rattle.ipc_waits.specs.Waiting.{IsWaiting}
+use Rattle.ipc_waits.specs.declared.waiting.Waiting.{Waiting}
 use Rattle.ipc_core.specs.Steps.{at_if_later, with_input}
 use Rattle.ipc_core.specs.CommandRoom.{command_need, is_clock}
-use Rattle.ipc_core.specs.Invariants.{IsCalm, IsCourse}
+use Rattle.ipc_core.specs.Invariants.{IsCourse}
 use Rattle.ipc_core.proofs.Commands.{clock_brings, clock_legal, clock_room, command_legal, command_room, nothing_legal, continued_none, continued_more, settled_at, output_legal, output_room, output_falls}
 
 -- the empty history
@@ -48,10 +48,10 @@ take_none : (H : List Entry) → H ≡ [] → (k : ℕ) → take k H ≡ []
 take_none H empty zero = refl
 take_none H empty (suc k) = rw empty refl
 
-pub course_none : (H : List Entry) (slots : Slots) (desks : List Desk) (taken : List ℕ) (since : ℕ) (finished : List ℕ) (width : ℕ) → H ≡ [] → SlotsStand [] slots → DesksKeep [] [] desks → taken ≡ [] → since ≡ 0 → finished ≡ [] → table_slots ≤ width → IsCourse H slots desks taken since finished width
+pub course_none : (H : List Entry) (waiting : Waiting) (desks : List Desk) (taken : List ℕ) (since : ℕ) (finished : List ℕ) (width : ℕ) → H ≡ [] → IsWaiting [] waiting → DesksKeep [] [] desks → taken ≡ [] → since ≡ 0 → finished ≡ [] → table_slots ≤ width → IsCourse H waiting desks taken since finished width
 course_none H slots desks taken since finished width empty stands keeps none start nobody wide = record {
   legal = subst Legal (sym empty) nothing_legal;
-  slots_are = subst (λ l. SlotsStand l slots) (sym empty) stands;
+  waiting_is = subst (λ l. IsWaiting l waiting) (sym empty) stands;
   desks_are = subst (λ l. DesksKeep l taken desks) (sym empty) (subst (λ t. DesksKeep [] t desks) (sym none) keeps);
   names = λ t. ap (is_among t) nobody ∙ sym (ap₂ (λ p h. finished_from p h t) (take_none H empty since) empty ∙ finished_none [] nothing_legal t);
   once = subst (IsDistinct (λ a b. a == b)) (sym nobody) none_twice;
@@ -59,15 +59,11 @@ course_none H slots desks taken since finished width empty stands keeps none sta
   wide = wide;
 }
 
--- nothing is due before the first moment
-pub calm_none : (H : List Entry) → IsCalm H 0
-calm_none H moment less = absurd (omega arith)
-
 -- where a command begins it has finished nothing
-pub course_begins : (H : List Entry) (slots : Slots) (desks : List Desk) (taken : List ℕ) (since start : ℕ) (finished names : List ℕ) (width wider : ℕ) → IsCourse H slots desks taken since finished width → start ≡ length H → names ≡ [] → width ≤ wider → IsCourse H slots desks taken start names wider
+pub course_begins : (H : List Entry) (waiting : Waiting) (desks : List Desk) (taken : List ℕ) (since start : ℕ) (finished names : List ℕ) (width wider : ℕ) → IsCourse H waiting desks taken since finished width → start ≡ length H → names ≡ [] → width ≤ wider → IsCourse H waiting desks taken start names wider
 course_begins H slots desks taken since start finished names width wider course begins nobody more = record {
   legal = course.legal;
-  slots_are = course.slots_are;
+  waiting_is = course.waiting_is;
   desks_are = course.desks_are;
   names = λ t. ap (is_among t) nobody ∙ sym (ap (λ p. finished_from p H t) (ap (λ k. take k H) begins ∙ take_all (length H) H (omega arith)) ∙ finished_none H course.legal t);
   once = subst (IsDistinct (λ a b. a == b)) (sym nobody) none_twice;
@@ -76,7 +72,7 @@ course_begins H slots desks taken since start finished names width wider course 
 }
 
 -- one more entry that follows
-module _ (H E K : List Entry) (e : Entry) (slots : Slots) (desks : List Desk) (taken : List ℕ) (since : ℕ) (finished : List ℕ) (width : ℕ) (course : IsCourse H slots desks taken since finished width) (begun : since ≤ length H) (follows : Follows H e) (here : E ≡ H) (longer : K ≡ H ++ e ∷ []) (fresh : (t : ℕ) → is_of t e ≡ true → finished_from (take since H) H t ≡ false) (first second : Option ℕ) (named : (t : ℕ) → (option_map_or (λ s. s == t) first false || option_map_or (λ s. s == t) second false) ≡ finishes E e t) where
+module _ (H E K : List Entry) (e : Entry) (waiting : Waiting) (desks : List Desk) (taken : List ℕ) (since : ℕ) (finished : List ℕ) (width : ℕ) (course : IsCourse H waiting desks taken since finished width) (begun : since ≤ length H) (follows : Follows H e) (here : E ≡ H) (longer : K ≡ H ++ e ∷ []) (fresh : (t : ℕ) → is_of t e ≡ true → finished_from (take since H) H t ≡ false) (first second : Option ℕ) (named : (t : ℕ) → (option_map_or (λ s. s == t) first false || option_map_or (λ s. s == t) second false) ≡ finishes E e t) where
   same_front : take since K ≡ take since H
   same_front = ap (take since) longer ∙ take-append-le since H (e ∷ []) begun
 
@@ -112,12 +108,12 @@ module _ (H E K : List Entry) (e : Entry) (slots : Slots) (desks : List Desk) (t
       let wide = course.wide in
       omega (arith, few, wide, more)
 
-  pub course_more : (after : Slots) (kept : List Desk) (names : List ℕ) (wider : ℕ) → SlotsStand (E ++ e ∷ []) after → DesksKeep (E ++ e ∷ []) taken kept → names ≡ with_name (with_name finished first) second → width ≤ wider → IsCourse K after kept taken since names wider
+  pub course_more : (after : Waiting) (kept : List Desk) (names : List ℕ) (wider : ℕ) → IsWaiting (E ++ e ∷ []) after → DesksKeep (E ++ e ∷ []) taken kept → names ≡ with_name (with_name finished first) second → width ≤ wider → IsCourse K after kept taken since names wider
   course_more after kept names wider stands keeps names_are more =
       let whole : E ++ e ∷ [] ≡ K = ap (λ l. l ++ e ∷ []) here ∙ sym longer in
       record {
         legal = legal_then;
-        slots_are = subst (λ l. SlotsStand l after) whole stands;
+        waiting_is = subst (λ l. IsWaiting l after) whole stands;
         desks_are = subst (λ l. DesksKeep l taken kept) whole keeps;
         names = λ t. ap (is_among t) names_are ∙ names_then t;
         begun = omega (arith, begun, ap length longer, length-append H (e ∷ []));

@@ -8,28 +8,24 @@ use Rattle.ipc_history.specs.Timing.{is_due_at}
 use Rattle.ipc_history.specs.Legal.{Legal, Quiet}
 use Rattle.ipc_history.specs.declared.entry.Entry.{Entry}
 use Rattle.ipc_laws.specs.Counting.{room_owed}
-use Rattle.ipc_slots.specs.Slots.{Stands as SlotsStand}
 use Rattle.ipc_desks.specs.Desks.{Keeps as DesksKeep}
 use Rattle.ipc_desks.specs.declared.desk.Desk.{Desk}
-use Rattle.ipc_slots.specs.declared.slots.Slots.{Slots}
+use Rattle.ipc_waits.specs.Waiting.{IsWaiting}
+use Rattle.ipc_waits.specs.declared.waiting.Waiting.{Waiting}
 use Rattle.ipc_core.specs.Books.{AreBooks}
 use Rattle.ipc_core.specs.CourseParts.{CourseParts}
 use Rattle.ipc_core.specs.Outcomes.{finished_from, is_among}
 
--- a course: a legal history, slots and desks that are its, and the threads whose calls the last command finished, each once
-pub record IsCourse (H : List Entry) (slots : Slots) (desks : List Desk) (taken : List ℕ) (since : ℕ)
+-- a course: a legal history, who waits in it, desks that are its, and the threads whose calls the last command finished, each once
+pub record IsCourse (H : List Entry) (waiting : Waiting) (desks : List Desk) (taken : List ℕ) (since : ℕ)
     (finished : List ℕ) (width : ℕ) : Type 0 where
   pub legal : Legal H
-  pub slots_are : SlotsStand H slots
+  pub waiting_is : IsWaiting H waiting
   pub desks_are : DesksKeep H taken desks
   pub names : (thread : ℕ) → is_among thread finished ≡ finished_from (take since H) H thread
   pub once : IsDistinct (λ a b. a == b) finished
   pub begun : since ≤ length H
   pub wide : table_slots ≤ width
-
--- no waiting phase is due before this moment
-abbrev pub IsCalm : List Entry → ℕ → Type 0
-IsCalm H calm = (moment : ℕ) → moment < calm → IsFalse (list_any (is_due_at H moment) (numbers H))
 
 -- a kernel's history is legal and quiet, within its limit with all that is owed; its moment is not before
 -- the history's, and no phase is due then

@@ -17,7 +17,6 @@ ghost use Rattle.ipc_desks.specs.CallsOf.{is_busy, last_call, made_by, outcome_t
 ghost use Rattle.ipc_desks.specs.Desks.{Keeps};
 ghost use Rattle.ipc_desks.specs.Messages.{prepared};
 ghost use Rattle.ipc_desks.specs.Finishes.{finishes, is_named};
-ghost use Rattle.ipc_slots.specs.Near.{IsNear};
 ghost use Rattle.ipc_slots.specs.Slots.{Stands};
 ghost use Rattle.ipc_core.specs.CourseParts.{HasCopies, SameBooks};
 ghost use Rattle.ipc_core.specs.Finished.{IsFresh, with_name};
@@ -29,7 +28,8 @@ ghost use Rattle.ipc_core.specs.ExchangeRegisters.{exreg_answer, phases_of};
 use crate::answers::ExregAnswer;
 use ipc_desks::{Desks, Finished, Prepared};
 use ipc_history::{Call, Entry, History, Input, Outcome, Output};
-use ipc_slots::{Focus, Slots};
+use ipc_slots::Slots;
+use ipc_waits::Waiting;
 use ipc_words::limits::TABLE_SLOTS;
 use ipc_words::{Control, ThreadId};
 use std::alloc::{AllocError, Global};
@@ -39,19 +39,17 @@ use std::marker::Model;
 #[derive(Drop)]
 pub(crate) struct Course {
     history: History,
-    slots: Slots,
+    waiting: Waiting,
     desks: Desks,
     taken: Vec<u64>,
     since: usize,
     finished: Vec<ThreadId>,
-    /// No waiting phase is due before this moment.
-    calm: u64,
 }
 
 impl Model for Course {
     ghost use Rattle.std.specs.Prelude.{vec_capacity};
     ghost use Rattle.ipc_core.specs.CourseParts.{CourseParts};
-    ghost use Rattle.ipc_core.specs.Invariants.{IsCalm, IsCourse};
+    ghost use Rattle.ipc_core.specs.Invariants.{IsCourse};
 
     ghost Value = { CourseParts };
 
@@ -64,8 +62,8 @@ impl Model for Course {
       places = vec_capacity c.taken;
     } };
 
-    ghost invariant = { λ c. IsCourse c.history.entries c.slots c.desks c.taken.items c.since c.finished.items
-        (vec_capacity c.finished) × IsCalm c.history.entries c.calm };
+    ghost invariant = { λ c. IsCourse c.history.entries c.waiting c.desks c.taken.items c.since c.finished.items
+        (vec_capacity c.finished) };
 }
 
 impl Course {
@@ -77,12 +75,11 @@ impl Course {
     {
         Ok(Course {
             history: History::new(alloc),
-            slots: Slots::new(),
+            waiting: Waiting::new(),
             desks: Desks::new(alloc)?,
             taken: Vec::new(alloc),
             since: 0,
             finished: Vec::with_capacity(alloc, TABLE_SLOTS)?,
-            calm: 0,
         })
     }
 
@@ -139,86 +136,78 @@ impl Course {
     pub(crate) fn live(&self) -> u64
         ensures { result ≡ live_threads self.now.entries }
     {
-        self.slots.live_threads(self.history.entries())
+        self.waiting.slots().live_threads(self.history.entries())
     }
 
     /// Whether a thread is live.
     pub(crate) fn is_live(&self, thread: ThreadId) -> bool
         ensures { result ≡ is_live self.now.entries thread }
     {
-        self.slots.is_live(self.history.entries(), thread)
+        self.waiting.slots().is_live(self.history.entries(), thread)
     }
 
     /// Whether a thread of a number is live.
     pub(crate) fn is_taken(&self, number: u32) -> bool
         ensures { result ≡ is_taken self.now.entries number }
     {
-        self.slots.is_taken(self.history.entries(), number)
+        self.waiting
+            .slots()
+            .is_taken(self.history.entries(), number)
     }
 
     /// The version that the next thread of a number gets; None where the number is worn out.
     pub(crate) fn next_version_of(&self, number: u32) -> Option<u32>
         ensures { result ≡ next_version self.now.entries number }
     {
-        self.slots.next_version_of(self.history.entries(), number)
+        self.waiting
+            .slots()
+            .next_version_of(self.history.entries(), number)
     }
 
     /// The open call of a thread.
     pub(crate) fn open_call_of(&self, thread: ThreadId) -> Option<u64>
         ensures { result ≡ open_call self.now.entries thread }
     {
-        self.slots.open_call_of(self.history.entries(), thread)
+        self.waiting
+            .slots()
+            .open_call_of(self.history.entries(), thread)
     }
 
     /// How many calls are open.
     pub(crate) fn open_calls(&self) -> usize
         ensures { result ≡ open_calls self.now.entries }
     {
-        self.slots.open_calls(self.history.entries())
+        self.waiting.slots().open_calls(self.history.entries())
     }
 
     /// How many calls were made.
     pub(crate) fn calls_made(&self) -> u64
         ensures { result ≡ calls_made self.now.entries }
     {
-        self.slots.calls_made(self.history.entries())
+        self.waiting.slots().calls_made(self.history.entries())
     }
 
-    /// The next output; under one call where that is known.
-    fn next_output(&self, focus: Option<Focus>) -> Option<Output>
-        requires near { IfSome focus (λ f. IsNear self.now.entries f) }
+    /// The next output.
+    fn next_output(&self) -> Option<Output>
         ensures { result ≡ next_output self.now.entries }
     {
-        let entries = self.history.entries();
-        match focus {
-            Some(focus) => self.slots.output_near(entries, &focus),
-            None => self.slots.next_output(entries),
-        }
-    }
-
-    /// Under which one call the output after the next one is found, where that is known.
-    fn focus_after(&self, focus: Option<Focus>, output: &Output) -> Option<Focus>
-        requires near { IfSome focus (λ f. IsNear self.now.entries f) }
-        requires next { next_output self.now.entries ≡ Some output.now }
-        ensures { IfSome result (λ f. IsNear (self.now.entries ++ Written output.now ∷ []) f) }
-    {
-        let focus = focus?;
-        self.slots
-            .focus_after(self.history.entries(), &focus, output)
+        self.waiting.next_output(self.history.entries())
     }
 
     /// What is pledged for the open calls: some entries for each, and more for each block of its strings.
     pub(crate) fn pledged_for_calls(&self) -> u128
         ensures { result ≡ sum_by (pledge_of self.now.entries) (numbers self.now.entries) }
     {
-        self.slots.pledged_for_calls(self.history.entries())
+        self.waiting
+            .slots()
+            .pledged_for_calls(self.history.entries())
     }
 
-    /// Whether a waiting phase is due at a moment. Looks at the threads only where one may be.
+    /// Whether a waiting phase is due at a moment.
     pub(crate) fn is_any_due_at(&self, moment: u64) -> bool
         ensures { result ≡ list_any (is_due_at self.now.entries moment) (numbers self.now.entries) }
     {
-        self.calm <= moment && self.slots.is_any_due_at(self.history.entries(), moment)
+        self.waiting.is_any_due_at(self.history.entries(), moment)
     }
 
     /// The least call in transfer, and how many of its bytes are copied next.
@@ -227,7 +216,7 @@ impl Course {
         ensures some { IfSome result (λ next. (next_moving self.now.entries ≡ Some next.0)
             × (next.1 ≡ block_of self.now.entries next.0)) }
     {
-        self.slots.next_block(self.history.entries())
+        self.waiting.slots().next_block(self.history.entries())
     }
 
     /// What ExchangeRegisters answers to a live thread about a target.
@@ -237,7 +226,7 @@ impl Course {
         ensures { result ≡ exreg_answer self.now.entries thread target }
     {
         let entries = self.history.entries();
-        if self.slots.is_live_beside(entries, target, thread) {
+        if self.waiting.slots().is_live_beside(entries, target, thread) {
             ExregAnswer {
                 result: target,
                 control: self.phases_of(target),
@@ -258,12 +247,12 @@ impl Course {
         ensures { result ≡ phases_of self.now.entries thread }
     {
         let entries = self.history.entries();
-        let receive = if self.slots.is_in_receive_phase(entries, thread) {
+        let receive = if self.waiting.slots().is_in_receive_phase(entries, thread) {
             2
         } else {
             0
         };
-        let send = if self.slots.is_in_send_phase(entries, thread) {
+        let send = if self.waiting.slots().is_in_send_phase(entries, thread) {
             4
         } else {
             0
@@ -330,21 +319,6 @@ impl Course {
         self.finished.clear();
     }
 
-    /// Begins a clock reading. Looks at the threads, for the moment before which none of them is due, only where the
-    /// moment has come that was found before.
-    pub(crate) fn begin_at(&mut self, moment: u64)
-        ensures entries { self.new.entries ≡ self.old.entries }
-        ensures room { self.new.room ≡ self.old.room }
-        ensures taken { self.new.taken ≡ self.old.taken }
-        ensures since { self.new.since ≡ length self.old.entries }
-        ensures places { self.new.places ≡ self.old.places }
-    {
-        self.begin();
-        if self.calm <= moment {
-            self.calm = self.slots.calm_until(self.history.entries());
-        }
-    }
-
     /// Moves the outcome out that a live thread may take. Takes no memory.
     pub(crate) fn take(&mut self, thread: ThreadId) -> Option<Outcome>
         requires live { IsTrue (is_live self.old.entries thread) }
@@ -382,22 +356,19 @@ impl Course {
             &mut self.desks,
             entries,
             &self.taken,
-            &self.slots,
+            self.waiting.slots(),
             &entry,
             copies,
         );
-        self.slots.note(entries, &entry);
+        self.waiting.note(entries, &entry);
         add(&mut self.finished, ended.first);
         add(&mut self.finished, ended.second);
         self.history.push(entry);
-        self.calm = 0;
     }
 
-    /// Writes the outputs that apply, until none does; the first of them is found under one call where that is known.
-    /// Takes no memory.
-    pub(crate) fn settle(&mut self, focus: Option<Focus>)
+    /// Writes the outputs that apply, until none does. Takes no memory.
+    pub(crate) fn settle(&mut self)
         requires legal { Legal self.old.entries }
-        requires near { IfSome focus (λ f. IsNear self.old.entries f) }
         requires room { length self.old.entries + room_owed self.old.entries ≤ self.old.room }
         ensures settled { Settled self.old.entries self.new.entries }
         ensures room { self.new.room ≡ self.old.room }
@@ -405,9 +376,7 @@ impl Course {
             ≤ length self.old.entries + room_owed self.old.entries }
         ensures books { SameBooks self.old self.new }
     {
-        let mut focus = focus;
-        while let Some(output) = self.next_output(focus) {
-            focus = self.focus_after(focus, &output);
+        while let Some(output) = self.next_output() {
             self.append(Entry::Written(output), None);
         }
     }
@@ -420,14 +389,13 @@ impl Course {
         ensures room { self.new.room ≡ self.old.room }
         ensures books { SameBooks self.old self.new }
     {
-        if self.slots.now(self.history.entries()) < moment {
+        if self.waiting.slots().now(self.history.entries()) < moment {
             self.append(Entry::Given(Input::At(moment)), None);
         }
     }
 
-    /// Appends the At of a moment that is later than the history's, and an input, and says under which one call the next output is
-    /// found, where that is known. Takes no memory.
-    fn give(&mut self, moment: u64, input: Input, copies: Option<Prepared>) -> Option<Focus>
+    /// Appends the At of a moment that is later than the history's, and an input. Takes no memory.
+    fn give(&mut self, moment: u64, input: Input, copies: Option<Prepared>)
         requires legal { Legal self.old.entries }
         requires quiet { Quiet self.old.entries }
         requires in_range { moment < last_moment + 1 }
@@ -442,12 +410,9 @@ impl Course {
         ensures room { self.new.room ≡ self.old.room }
         ensures spent { length self.new.entries + room_owed self.new.entries
             ≤ length self.old.entries + room_owed self.old.entries + command_need input }
-        ensures near { IfSome result (λ f. IsNear self.new.entries f) }
     {
         self.clock(moment);
-        let focus = focus_on(self.entries(), &input);
         self.append(Entry::Given(input), copies);
-        focus
     }
 
     /// Takes an input: appends it, after the At of a later moment, and then the outputs until none applies. Takes no memory.
@@ -470,8 +435,8 @@ impl Course {
             ≤ length self.old.entries + room_owed self.old.entries + command_need input }
     {
         self.begin();
-        let focus = self.give(moment, input, copies);
-        self.settle(focus);
+        self.give(moment, input, copies);
+        self.settle();
     }
 
     /// Appends the At of a moment at which a phase is due, and the output that it brings. Takes no memory.
@@ -489,23 +454,9 @@ impl Course {
             ≤ length self.old.entries + room_owed self.old.entries }
     {
         self.append(Entry::Given(Input::At(moment)), None);
-        if let Some(output) = self.next_output(None) {
+        if let Some(output) = self.next_output() {
             self.append(Entry::Written(output), None);
         }
-    }
-}
-
-/// Under which one call the next output is found after an input: a call alone makes nothing else possible.
-fn focus_on(entries: &[Entry], input: &Input) -> Option<Focus>
-    requires legal { Legal entries.now }
-    requires follows { Follows entries.now (Given input.now) }
-    ensures { IfSome result (λ f. IsNear (entries.now ++ Given input.now ∷ []) f) }
-{
-    match input {
-        Input::Called(number, caller, call) => {
-            Some(Focus::entered(entries, *number, *caller, call.call()))
-        }
-        _ => None,
     }
 }
 

@@ -278,10 +278,10 @@ impl Kernel {
         ensures calls_limit { self.new.calls_limit ≡ self.old.calls_limit }
     {
         let moment = self.moment.max(now.min(LAST_MOMENT));
-        self.course.begin_at(moment);
+        self.course.begin();
         if self.course.is_any_due_at(moment) {
             self.course.tick(moment);
-            self.course.settle(None);
+            self.course.settle();
         }
         self.moment = moment;
     }

@@ -23,6 +23,3 @@ append-requires-clause-fresh c = input_fresh _ _ c.args.moment _ (Given c.args.i
 
 pub returns-clause-books : goal.returns-clause-books
 returns-clause-books c = more_books _ _ _ c.clock.ensures.books c.append.ensures.books
-
-pub focus_on-focus-requires-clause-follows : goal.focus_on-focus-requires-clause-follows
-focus_on-focus-requires-clause-follows c = rw (c.entries.ensures.entries, c.clock.ensures.entries) (command_follows _ _ c.args.self.now.room c.args.input c.requires.legal c.requires.quiet c.requires.in_range c.requires.undue c.requires.admissible c.requires.no_clock)

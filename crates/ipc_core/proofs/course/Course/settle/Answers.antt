@@ -7,22 +7,16 @@ pub append-requires-clause-follows : goal.append-requires-clause-follows
 append-requires-clause-follows c = output_follows _ _ (sym c.next_output.ensures ∙ c.in-Some.is)
 
 pub append-requires-clause-room : goal.append-requires-clause-room
-append-requires-clause-room c = output_place _ _ c.in-Some.output c.loop-output.invariant.0 (sym c.next_output.ensures ∙ c.in-Some.is)
+append-requires-clause-room c = output_place _ _ c.in-Some.output c.loop-output.invariant (sym c.next_output.ensures ∙ c.in-Some.is)
 
 pub loop-output-init : goal.loop-output-init
-loop-output-init c = (goes_none _ c.requires.legal c.requires.room, c.requires.near)
+loop-output-init c = goes_none _ c.requires.legal c.requires.room
 
 pub loop-output-smaller : goal.loop-output-smaller
-loop-output-smaller c = goes_falls c.loop-output.self c.append.new.self c.in-Some.output c.loop-output.invariant.0.legal (sym c.next_output.ensures ∙ c.in-Some.is) c.append.ensures.entries
+loop-output-smaller c = goes_falls c.loop-output.self c.append.new.self c.in-Some.output c.loop-output.invariant.legal (sym c.next_output.ensures ∙ c.in-Some.is) c.append.ensures.entries
 
 pub loop-output-preserved : goal.loop-output-preserved
-loop-output-preserved c = (goes_more _ _ _ c.in-Some.output c.loop-output.invariant.0 (sym c.next_output.ensures ∙ c.in-Some.is) c.append.ensures.entries c.append.ensures.room c.append.ensures.books, rw c.append.ensures.entries c.focus_after-focus.ensures)
+loop-output-preserved c = goes_more _ _ _ c.in-Some.output c.loop-output.invariant (sym c.next_output.ensures ∙ c.in-Some.is) c.append.ensures.entries c.append.ensures.room c.append.ensures.books
 
 pub append-requires-clause-fresh : goal.append-requires-clause-fresh
 append-requires-clause-fresh c = λ t none. absurd (false≢true none)
-
-pub next_output-requires : goal.next_output-requires
-next_output-requires c = record { near = c.loop-output.invariant.1 }
-
-pub focus_after-focus-requires-clause-near : goal.focus_after-focus-requires-clause-near
-focus_after-focus-requires-clause-near c = c.loop-output.invariant.1

@@ -10,7 +10,7 @@ push_reserved-requires c =
     let taken : c.deref.result.now ≡ c.args.self.now.taken = c.deref.ensures.value ∙ ap (λ v. v.taken) c.self.view_is in
     let given = ap₂ (λ l k. outcome_to_take l k c.args.thread) (sym entries) (sym taken) ∙ (sym c.take.ensures.given ∙ c.in_ok-outcome.was) in
     let last = ap (λ l. last_call l c.args.thread) (sym entries) ∙ c.in_ok-outcome.ensures.call in
-    let done = took c.args.self.now.entries c.args.self.now.taken c.args.thread c.in_ok-outcome.outcome (subst Legal (ap (λ v. v.entries) c.self.view_is) c.self.invariant.0.legal) given last in
+    let done = took c.args.self.now.entries c.args.self.now.taken c.args.thread c.in_ok-outcome.outcome (subst Legal (ap (λ v. v.entries) c.self.view_is) c.self.invariant.legal) given last in
     let fits = c.requires.room c.in_ok-outcome.outcome.call done.0.called done.1 in
     let places = ap (λ v. v.places) c.self.view_is in
     omega (arith, fits, ap (λ v. length v.taken) c.self.view_is, places)
@@ -21,7 +21,7 @@ returns-clause-done c =
     let taken : c.deref.result.now ≡ c.args.self.now.taken = c.deref.ensures.value ∙ ap (λ v. v.taken) c.self.view_is in
     let given = ap₂ (λ l k. outcome_to_take l k c.args.thread) (sym entries) (sym taken) ∙ (sym c.take.ensures.given ∙ c.in_ok-outcome.was) in
     let last = ap (λ l. last_call l c.args.thread) (sym entries) ∙ c.in_ok-outcome.ensures.call in
-    let done = took c.args.self.now.entries c.args.self.now.taken c.args.thread c.in_ok-outcome.outcome (subst Legal (ap (λ v. v.entries) c.self.view_is) c.self.invariant.0.legal) given last in
+    let done = took c.args.self.now.entries c.args.self.now.taken c.args.thread c.in_ok-outcome.outcome (subst Legal (ap (λ v. v.entries) c.self.view_is) c.self.invariant.legal) given last in
     done.0
 
 pub returns-clause-fresh : goal.returns-clause-fresh
@@ -30,5 +30,5 @@ returns-clause-fresh c =
     let taken : c.deref.result.now ≡ c.args.self.now.taken = c.deref.ensures.value ∙ ap (λ v. v.taken) c.self.view_is in
     let given = ap₂ (λ l k. outcome_to_take l k c.args.thread) (sym entries) (sym taken) ∙ (sym c.take.ensures.given ∙ c.in_ok-outcome.was) in
     let last = ap (λ l. last_call l c.args.thread) (sym entries) ∙ c.in_ok-outcome.ensures.call in
-    let done = took c.args.self.now.entries c.args.self.now.taken c.args.thread c.in_ok-outcome.outcome (subst Legal (ap (λ v. v.entries) c.self.view_is) c.self.invariant.0.legal) given last in
+    let done = took c.args.self.now.entries c.args.self.now.taken c.args.thread c.in_ok-outcome.outcome (subst Legal (ap (λ v. v.entries) c.self.view_is) c.self.invariant.legal) given last in
     done.1

@@ -13,23 +13,23 @@ use Rattle.ipc_core.proofs.kernel.Kernel.set_clock.Goals as goal
 pub settle-requires-clause-legal : goal.settle-requires-clause-legal
 settle-requires-clause-legal c =
     let range = c.self.invariant.kernel.stands.in_range in
-    let whole = rests _ _ _ c.self.inside.course c.begin_at.new.self c.self.invariant c.begin_at.ensures.entries c.begin_at.ensures.room c.begin_at.ensures.taken c.begin_at.ensures.since c.begin_at.ensures.places in
-    c.tick.ensures.entries.legal (due_legal _ _ _ c.max-moment.result c.begin_at.new.self whole.kernel (omega arith) (omega arith) (sym c.is_any_due_at.ensures ∙ c.if-is_any_due_at.true))
+    let whole = rests _ _ _ c.self.inside.course c.begin.new.self c.self.invariant c.begin.ensures.entries c.begin.ensures.room c.begin.ensures.taken c.begin.ensures.since c.begin.ensures.places in
+    c.tick.ensures.entries.legal (due_legal _ _ _ c.max-moment.result c.begin.new.self whole.kernel (omega arith) (omega arith) (sym c.is_any_due_at.ensures ∙ c.if-is_any_due_at.true))
 
 pub invariant_of-self : goal.invariant_of-self
 invariant_of-self c =
     let range = c.self.invariant.kernel.stands.in_range in
-    let whole = rests _ _ _ c.self.inside.course c.begin_at.new.self c.self.invariant c.begin_at.ensures.entries c.begin_at.ensures.room c.begin_at.ensures.taken c.begin_at.ensures.since c.begin_at.ensures.places in
+    let whole = rests _ _ _ c.self.inside.course c.begin.new.self c.self.invariant c.begin.ensures.entries c.begin.ensures.room c.begin.ensures.taken c.begin.ensures.since c.begin.ensures.places in
     elim c.if-is_any_due_at.branch [
       | then-is_any_due_at w ↦ rw w.self-inside-is (
           let settled = continued_settled _ _ _ w.tick.ensures.entries w.settle.ensures.settled in
           let books = more_books _ _ _ w.tick.ensures.books w.settle.ensures.books in
           record {
-            kernel = kernel_ticks _ _ _ c.max-moment.result c.begin_at.new.self whole.kernel (omega arith) (omega arith) (sym c.is_any_due_at.ensures ∙ w.if-is_any_due_at.true) w.settle.new.self settled (w.settle.ensures.room ∙ w.tick.ensures.room) (omega arith);
-            books = books_grown _ _ (At c.max-moment.result) (ticks_grows _ _ _ settled) c.begin_at.new.self.taken _ books.taken _ c.begin_at.new.self.since c.begin_at.new.self.places _ (books.since ∙ (c.begin_at.ensures.since ∙ sym (ap length c.begin_at.ensures.entries))) refl books.places whole.books;
+            kernel = kernel_ticks _ _ _ c.max-moment.result c.begin.new.self whole.kernel (omega arith) (omega arith) (sym c.is_any_due_at.ensures ∙ w.if-is_any_due_at.true) w.settle.new.self settled (w.settle.ensures.room ∙ w.tick.ensures.room) (omega arith);
+            books = books_grown _ _ (At c.max-moment.result) (ticks_grows _ _ _ settled) c.begin.new.self.taken _ books.taken _ c.begin.new.self.since c.begin.new.self.places _ (books.since ∙ (c.begin.ensures.since ∙ sym (ap length c.begin.ensures.entries))) refl books.places whole.books;
           })
       | else-is_any_due_at w ↦ rw w.self-inside-is (record {
-        kernel = kernel_waits _ _ _ c.max-moment.result c.begin_at.new.self whole.kernel (omega arith) (omega arith) (sym c.is_any_due_at.ensures ∙ w.if-is_any_due_at.false);
+        kernel = kernel_waits _ _ _ c.max-moment.result c.begin.new.self whole.kernel (omega arith) (omega arith) (sym c.is_any_due_at.ensures ∙ w.if-is_any_due_at.false);
         books = whole.books;
       })
     ]
@@ -37,8 +37,8 @@ invariant_of-self c =
 pub returns-clause-history : goal.returns-clause-history
 returns-clause-history c =
     let moment_is = c.max-moment.ensures ∙ ap (λ m. max c.self.inside.moment m) c.min.ensures in
-    let same : c.begin_at.new.self.entries ≡ c.self.inside.course.entries = c.begin_at.ensures.entries in
-    let history : Sets c.begin_at.new.self.entries c.max-moment.result c.if-is_any_due_at.self-inside.course.entries = elim c.if-is_any_due_at.branch [
+    let same : c.begin.new.self.entries ≡ c.self.inside.course.entries = c.begin.ensures.entries in
+    let history : Sets c.begin.new.self.entries c.max-moment.result c.if-is_any_due_at.self-inside.course.entries = elim c.if-is_any_due_at.branch [
       | then-is_any_due_at w ↦ rw w.self-inside-is (sets_due _ _ _ (sym c.is_any_due_at.ensures ∙ w.if-is_any_due_at.true) (continued_settled _ _ _ w.tick.ensures.entries w.settle.ensures.settled))
       | else-is_any_due_at w ↦ rw w.self-inside-is (sets_undue _ _ _ (sym c.is_any_due_at.ensures ∙ w.if-is_any_due_at.false) refl)
     ] in

@@ -1,0 +1,6 @@
+//! Who waits for whom, and until when, and what comes next of it.
+#![tactic(auto)]
+
+mod waiting;
+
+pub use waiting::Waiting;

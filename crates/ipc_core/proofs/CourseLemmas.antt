@@ -49,7 +49,7 @@ take_none H empty zero = refl
 take_none H empty (suc k) = rw empty refl
 
 pub course_none : (H : List Entry) (waiting : Waiting) (desks : List Desk) (taken : List ℕ) (since : ℕ) (finished : List ℕ) (width : ℕ) → H ≡ [] → IsWaiting [] waiting → DesksKeep [] [] desks → taken ≡ [] → since ≡ 0 → finished ≡ [] → table_slots ≤ width → IsCourse H waiting desks taken since finished width
-course_none H slots desks taken since finished width empty stands keeps none start nobody wide = record {
+course_none H waiting desks taken since finished width empty stands keeps none start nobody wide = record {
   legal = subst Legal (sym empty) nothing_legal;
   waiting_is = subst (λ l. IsWaiting l waiting) (sym empty) stands;
   desks_are = subst (λ l. DesksKeep l taken desks) (sym empty) (subst (λ t. DesksKeep [] t desks) (sym none) keeps);
@@ -61,7 +61,7 @@ course_none H slots desks taken since finished width empty stands keeps none sta
 
 -- where a command begins it has finished nothing
 pub course_begins : (H : List Entry) (waiting : Waiting) (desks : List Desk) (taken : List ℕ) (since start : ℕ) (finished names : List ℕ) (width wider : ℕ) → IsCourse H waiting desks taken since finished width → start ≡ length H → names ≡ [] → width ≤ wider → IsCourse H waiting desks taken start names wider
-course_begins H slots desks taken since start finished names width wider course begins nobody more = record {
+course_begins H waiting desks taken since start finished names width wider course begins nobody more = record {
   legal = course.legal;
   waiting_is = course.waiting_is;
   desks_are = course.desks_are;

@@ -109,7 +109,7 @@ module _ (P : List Entry) (l : Legal P) where
   unfolding source_of
   sends_itself n m g = rw (false_from_ne_true (is_receiving P n) (λ r. sends_apart P l n (meets_parts P n m g).sends (receives_parts P n n r).turned)) refl
 
-  least_source : (n m : ℕ) → matches P n m ≡ true → ((k : ℕ) → k < n → meeting_of P k ≡ None) → source_of P m ≡ Some n
+  pub least_source : (n m : ℕ) → matches P n m ≡ true → ((k : ℕ) → k < n → meeting_of P k ≡ None) → source_of P m ≡ Some n
   unfolding source_of
   least_source n m g none =
       let p = meets_parts P n m g in

@@ -6,3 +6,4 @@ pub mod FailureKinds
 pub mod Silent
 pub mod Takers
 pub mod OneCandidate
+pub mod AtPlaces

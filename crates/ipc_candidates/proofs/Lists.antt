@@ -1,7 +1,8 @@
 -- Rising lists, and the first of one that gives something.
 use Rattle.std.proofs.lemmas.Bool.{false≢true, or_cases, or_left, or_right}
 use Rattle.std.proofs.lemmas.Option.{none-some}
-use Rattle.std.proofs.Common.{◌≡◌, refl, sym, ap, ◌∙◌, ℕ, ◌<◌, ◌==◌, eq-eqb, eqb-true, Bool, true, false, ◌||◌, List, [], ◌∷◌, ◌++◌, Option, Some, None, inl, inr, arith, if◌then◌else◌, nat_lt}
+use Rattle.std.proofs.lemmas.Map.Views.{any-filter_same}
+use Rattle.std.proofs.Common.{◌≡◌, refl, sym, ap, ◌∙◌, ℕ, ◌<◌, ◌==◌, eq-eqb, eqb-true, Bool, true, false, ◌||◌, List, [], ◌∷◌, ◌++◌, Option, Some, None, inl, inr, arith, if◌then◌else◌, nat_lt, filter, cond, find, ◌&&◌}
 use Rattle.std.specs.Option.{option_or}
 use Rattle.ipc_history.specs.Words.{first_some}
 use Rattle.ipc_candidates.specs.Candidates.{IsRising, insert, is_among}
@@ -107,3 +108,16 @@ among_push (y ∷ xs) x k = rw (among_push xs x k) (assoc (y == k) (is_among xs 
 pub rising_push : (xs : List ℕ) (x : ℕ) → IsRising xs → ((k : ℕ) → is_among xs k ≡ true → k < x) → IsRising (xs ++ x ∷ [])
 rising_push [] x rising below = (λ y among. absurd (false≢true among), tt)
 rising_push (y ∷ xs) x rising below = (λ k among. elim (or_cases (is_among xs k) (x == k) (sym (among_push xs x k) ∙ among)) [ inl before ↦ rising.0 k before | inr same ↦ (let s : x ≡ k = eqb-true x k same in let far = below y (or_left (y == y) (is_among xs y) (eq-eqb y y refl)) in omega arith) ], rising_push xs x rising.1 (λ k among. below k (or_right (y == k) (is_among xs k) among)))
+
+-- what passes a test
+pub among_filtered : (test : ℕ → Bool) (xs : List ℕ) (n : ℕ) → is_among (filter test xs) n ≡ (test n && is_among xs n)
+among_filtered test xs n = any-filter_same (λ k. k == n) test (test n) (λ k same. ap test (eqb-true k n same)) xs
+
+-- the first that passes two tests, of those that pass one
+pub find_filtered : (p q r : ℕ → Bool) (xs : List ℕ) → ((n : ℕ) → p n ≡ (q n && r n)) → find p xs ≡ find r (filter q xs)
+find_filtered p q r [] h = refl
+find_filtered p q r (x ∷ xs) h = rw (h x) (go (q x) (find_filtered p q r xs h))
+  where
+    go : (b : Bool) → find p xs ≡ find r (filter q xs) → cond (b && r x) (Some x) (find p xs) ≡ find r (cond b (x ∷ filter q xs) (filter q xs))
+    go true later = ap (λ o. cond (r x) (Some x) o) later
+    go false later = later

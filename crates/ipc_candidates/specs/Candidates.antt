@@ -3,6 +3,7 @@ use Rattle.std.specs.Prelude.{ℕ, ◌<◌, List, [], ◌∷◌, Bool, false, �
 use Rattle.std.specs.Prelude.{find, filter, nat_lt, option_and_then, ◌==◌, if◌then◌else◌}
 use Rattle.std.specs.List.{list_any}
 use Rattle.std.specs.Option.{option_or, option_map_or}
+use Rattle.ipc_words.specs.ThreadId.{number_of}
 use Rattle.ipc_history.specs.Entries.{names}
 use Rattle.ipc_history.specs.Calls.{numbers, caller_of, to_of}
 use Rattle.ipc_history.specs.Phases.{receiver_of, sender_of, is_sending, is_transferring, is_receiving}
@@ -29,6 +30,10 @@ abbrev pub insert : ℕ → List ℕ → List ℕ
 insert n [] = n ∷ []
 insert n (x ∷ xs) = (if n == x then x ∷ xs else (if nat_lt n x then n ∷ x ∷ xs else x ∷ insert n xs))
 
+-- the calls whose callers have these numbers
+abbrev pub calls_at : List Entry → List ℕ → List ℕ
+calls_at P places = filter (λ n. is_among places (number_of (caller_of P n))) (numbers P)
+
 -- the calls under which an output is found: the end of a transfer under its sending call, a meeting under either call, a failure
 -- under the call that fails
 abbrev pub finds : ℕ → Output → Bool
@@ -38,6 +43,10 @@ finds n output = names n (Written output)
 -- every output that the calls make possible is found under a candidate
 abbrev pub Covers : List Entry → List ℕ → Type 0
 Covers P candidates = (output : Output) → Possible P output → (n : ℕ) × IsTrue (is_among candidates n) × IsTrue (finds n output)
+
+-- so it is of the calls at these places, which are thread numbers
+abbrev pub CoversAt : List Entry → List ℕ → Type 0
+CoversAt P places = Covers P (calls_at P places)
 
 -- the sending call of the meeting under c: c itself, and where c receives the least call that meets it
 unfoldable pub source_of : List Entry → ℕ → Option ℕ
@@ -50,6 +59,10 @@ sources P (c ∷ cs) = option_map_or (λ k. insert k (sources P cs)) (source_of 
 -- the calls that lose their partner where the thread ends: n sends to it, waits for it, or is in transfer with a call of it
 abbrev pub sends_to : List Entry → ℕ → ℕ → Bool
 sends_to P n thread = is_sending P n && (to_of P n == thread)
+
+-- those that wait to send to it, in call order
+abbrev pub senders : List Entry → ℕ → List ℕ
+senders P thread = filter (λ n. sends_to P n thread) (numbers P)
 
 abbrev pub waits_for : List Entry → ℕ → ℕ → Bool
 waits_for P n thread = is_receiving P n && (from_specifier P n == thread)

@@ -1,0 +1,14 @@
+-- The places under whose calls the next output is found.
+use Rattle.std.specs.Prelude.{ℕ, List, [], ◌∷◌, ◌++◌, ◌==◌, ◌<◌, All, if◌then◌else◌}
+use Rattle.std.specs.List.{IsDistinct}
+use Rattle.ipc_words.specs.Limits.{table_slots}
+use Rattle.ipc_candidates.specs.Candidates.{is_among}
+
+-- places of a table, each once
+pub record ArePlaces (places : List ℕ) : Type 0 where
+  pub once : IsDistinct (λ a b. a == b) places
+  pub within : All (λ k. k < table_slots) places
+
+-- one more, where it is not yet there
+abbrev pub with_place : List ℕ → ℕ → List ℕ
+with_place places place = (if is_among places place then places else places ++ place ∷ [])

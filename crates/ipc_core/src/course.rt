@@ -386,7 +386,7 @@ impl Course {
             &entry,
             copies,
         );
-        self.slots.note(entries, &entry);
+        let _ = self.slots.note(entries, &entry);
         add(&mut self.finished, ended.first);
         add(&mut self.finished, ended.second);
         self.history.push(entry);

@@ -26,3 +26,4 @@ pub mod SlotSums
 pub mod Concerns
 pub mod Nears
 pub mod Calms
+pub mod Changed

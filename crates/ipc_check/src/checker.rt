@@ -37,7 +37,7 @@ pub fn check(entries: &[Entry]) -> Verdict
                 expected: slots.next_output(before),
             };
         }
-        slots.note(before, entry);
+        let _ = slots.note(before, entry);
     }
     Verdict::Yes
 }

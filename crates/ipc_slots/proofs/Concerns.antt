@@ -1,21 +1,14 @@
 -- A rule gives nothing for a call that it does not concern.
-use Rattle.std.proofs.lemmas.Bool.{cases_order}
-use Rattle.std.proofs.Common.{◌≡◌, refl, sym, ap, ◌∙◌, ℕ, ◌+◌, Bool, false, ◌||◌, List, Option, Some, None, inl, inr, arith}
-use Rattle.std.proofs.lemmas.Option.{none-some, same_Some}
+use Rattle.std.proofs.Common.{◌≡◌, refl, sym, ap, ◌∙◌, ℕ, Bool, false, ◌||◌, List, None}
 use Rattle.ipc_history.specs.Threads.{is_live}
 use Rattle.ipc_history.specs.Legal.{Legal}
 use Rattle.ipc_history.specs.declared.entry.Entry.{Entry}
-use Rattle.ipc_history.specs.declared.entry.Output.{Output}
 use Rattle.ipc_laws.proofs.Tests.{not_both}
-use Rattle.ipc_slots.specs.Least.{IsLeast}
 use Rattle.ipc_slots.specs.Rules.{IsStanding, abort_by, concerns, end_by, rule_of, timeout_by, waits_to_receive, waits_to_send}
-use Rattle.ipc_slots.specs.Slots.{slot_at}
-use Rattle.ipc_slots.specs.Steps.{standing_in}
 use Rattle.ipc_slots.specs.declared.rules.Rule.{Rule}
 use Rattle.ipc_slots.specs.declared.rules.Rule.TheVariants.{Ends, Fails, Meets, Expires, Copies}
 use Rattle.ipc_slots.specs.declared.slot.Phase.{Phase}
 use Rattle.ipc_slots.specs.declared.slot.Phase.TheVariants.{Sending, Passing, Receiving, Taking}
-use Rattle.ipc_slots.specs.declared.slot.Slot.{Slot}
 use Rattle.ipc_slots.specs.declared.slot.Standing.{Standing}
 use Rattle.ipc_slots.proofs.Meets.{sending_kept}
 use Rattle.ipc_slots.proofs.Overs.{unsent_no_meeting}
@@ -40,20 +33,9 @@ no_timeout moment s (Passing m) is h = rw is refl
 no_timeout moment s Receiving is h = not_both refl h
 no_timeout moment s (Taking k by bytes) is h = rw is refl
 
-unconcerned : (rule : Rule) (P : List Entry) → Legal P → (s : Standing) → IsStanding P s → concerns rule s.phase ≡ false → rule_of rule P s.number ≡ None
+pub unconcerned : (rule : Rule) (P : List Entry) → Legal P → (s : Standing) → IsStanding P s → concerns rule s.phase ≡ false → rule_of rule P s.number ≡ None
 unconcerned Ends P legal s call h = sym (end_at P legal s call) ∙ no_end (is_live P s.to) s s.phase refl h
 unconcerned Copies P legal s call h = sym (abort_told P legal s call) ∙ no_abort (is_live P s.to) s s.phase refl h
 unconcerned Meets P legal s call h = unsent_no_meeting P s.number (sym (ap (λ s. waits_to_send s.phase) call.is ∙ sending_kept P legal s.number call.opened) ∙ h)
 unconcerned (Expires moment) P legal s call h = sym (timeout_at P legal moment s call) ∙ no_timeout moment s s.phase refl h
 unconcerned Fails P legal s call h = not_both refl h
-
--- so its slot changes nothing of what is least
-pub least_passes : (rule : Rule) (P : List Entry) (table : List Slot) (i : ℕ) (best : Option (ℕ × Output)) (s : Standing) → Legal P → standing_in (slot_at table i) ≡ Some s → IsStanding P s → concerns rule s.phase ≡ false → IsLeast (rule_of rule P) table i best → IsLeast (rule_of rule P) table (i + 1) best
-least_passes rule P table i best s legal there call h least = record {
-  seen = λ k within r e y gives. elim (cases_order k i) [
-    | inl same ↦ (let is : s ≡ r = same_Some s r (sym there ∙ (ap (λ k. standing_in (slot_at table k)) (sym same) ∙ e)) in absurd (none-some y (sym (ap (λ s. rule_of rule P s.number) (sym is) ∙ unconcerned rule P legal s call h) ∙ gives)))
-    | inr (inl less) ↦ least.seen k less r e y gives
-    | inr (inr more) ↦ absurd (omega arith)
-  ];
-  is = least.is;
-}

@@ -15,7 +15,7 @@ use Rattle.ipc_laws.proofs.Numbering.{called_below, numbered, number_at}
 use Rattle.ipc_laws.proofs.Histories.{called_place}
 use Rattle.ipc_laws.proofs.WordLemmas.{first_some_push}
 use Rattle.ipc_slots.proofs.Overs.{over_no_end, over_no_partner, over_no_meeting, over_no_due, over_no_abort}
-use Rattle.ipc_slots.specs.Least.{IsLeast}
+use Rattle.ipc_slots.specs.Least.{IsFound, IsLeast}
 use Rattle.ipc_slots.specs.Rules.{rule_of, IsStanding}
 use Rattle.ipc_slots.specs.Slots.{Stands, slot_at}
 use Rattle.ipc_slots.specs.Standings.{standing_of}
@@ -60,8 +60,24 @@ first_at f (suc m) n y positive within gives none = go (first_at f m n y positiv
     go again (inr (inl less)) = first_some_push f (up_to m) (suc m) ∙ rw (again (omega arith) gives none) refl
     go again (inr (inr more)) = absurd (omega arith)
 
--- so it is the first in call order
-module _ (P : List Entry) (slots : Slots) (legal : Legal P) (stands : Stands P slots) (f : ℕ → Option Output) (quiet : (n : ℕ) → is_over P n ≡ true → f n ≡ None) where
+-- the least number up to m for which f gives something
+record IsFirst (f : ℕ → Option Output) (n : ℕ) (y : Output) : Type 0 where
+  gives : f n ≡ Some y
+  before : (k : ℕ) → k < n → f k ≡ None
+
+none_or_first : (f : ℕ → Option Output) (m : ℕ) → ((n : ℕ) → n < m → f n ≡ None) ⊎ ((n : ℕ) × (y : Output) × (n < m) × IsFirst f n y)
+none_or_first f zero = inl (λ n h. absurd (omega arith))
+none_or_first f (suc m) = elim (none_or_first f m) [
+  | inl none ↦ at none (f m) refl
+  | inr found ↦ inr (found.0, found.1, (let within = found.2 in omega arith), found.3)
+]
+  where
+    at : ((n : ℕ) → n < m → f n ≡ None) → (o : Option Output) → f m ≡ o → ((n : ℕ) → n < suc m → f n ≡ None) ⊎ ((n : ℕ) × (y : Output) × (n < suc m) × IsFirst f n y)
+    at none None e = inl (λ n h. elim (cases_order n m) [ inl same ↦ ap f same ∙ e | inr (inl less) ↦ none n less | inr (inr more) ↦ absurd (omega arith) ])
+    at none (Some y) e = inr (m, y, omega arith, record { gives = e; before = none })
+
+-- Of the calls of a history: f gives nothing for those that are over
+module _ (P : List Entry) (legal : Legal P) (f : ℕ → Option Output) (quiet : (n : ℕ) → is_over P n ≡ true → f n ≡ None) where
   giving_open : (n : ℕ) (y : Output) → f n ≡ Some y → is_over P n ≡ false
   giving_open n y g = go (is_over P n) refl
     where
@@ -69,6 +85,43 @@ module _ (P : List Entry) (slots : Slots) (legal : Legal P) (stands : Stands P s
       go true o = absurd (none-some y (sym (quiet n o) ∙ g))
       go false o = o
 
+  positive : (n : ℕ) → is_over P n ≡ false → 0 < n
+  positive n o = let made = called_place P n (open_is_called P n o) in let at = number_at P legal n made.thread made.call made.at in omega arith
+
+  -- where the least call for which f gives something is found, the best is the first in call order
+  pub first_found : (best : Option (ℕ × Output)) → ((b : ℕ × Output) → best ≡ Some b → f b.0 ≡ Some b.1) → ((n : ℕ) (y : Output) → f n ≡ Some y → ((k : ℕ) → k < n → f k ≡ None) → IsFound best n) → first_some f (numbers P) ≡ option_map (λ b. b.1) best
+  first_found best is found = ap (first_some f) (numbered P legal) ∙ elim (none_or_first f (suc (calls_made P))) [
+    | inl none ↦ nothing none best refl
+    | inr first ↦ something first.0 first.1 first.3
+  ]
+    where
+      nothing : ((n : ℕ) → n < suc (calls_made P) → f n ≡ None) → (o : Option (ℕ × Output)) → best ≡ o → first_some f (up_to (calls_made P)) ≡ option_map (λ b. b.1) o
+      nothing none None e = none_below f (calls_made P) (λ n l. none n (omega arith))
+      nothing none (Some b) e =
+          let gives = is b e in
+          let few = called_below P legal b.0 (open_is_called P b.0 (giving_open b.0 b.1 gives)) in
+          absurd (none-some b.1 (sym (none b.0 (omega arith)) ∙ gives))
+
+      something : (n : ℕ) (y : Output) → IsFirst f n y → first_some f (up_to (calls_made P)) ≡ option_map (λ b. b.1) best
+      something n y first =
+          let o = giving_open n y first.gives in
+          first_at f (calls_made P) n y (positive n o) (called_below P legal n (open_is_called P n o)) first.gives first.before ∙ (ap (λ y. Some y) same ∙ sym (ap (option_map (λ b. b.1)) it.1))
+        where
+          it : IsFound best n
+          it = found n y first.gives first.before
+
+          at : it.0.0 ≡ n
+          at = elim (cases_order it.0.0 n) [
+            | inl same ↦ same
+            | inr (inl less) ↦ absurd (none-some it.0.1 (sym (first.before it.0.0 less) ∙ is it.0 it.1))
+            | inr (inr more) ↦ (let within = it.2 in absurd (omega arith))
+          ]
+
+          same : y ≡ it.0.1
+          same = same_Some y it.0.1 (sym first.gives ∙ (ap f (sym at) ∙ is it.0 it.1))
+
+-- so the best of all slots is the first in call order
+module _ (P : List Entry) (slots : Slots) (legal : Legal P) (stands : Stands P slots) (f : ℕ → Option Output) (quiet : (n : ℕ) → is_over P n ≡ true → f n ≡ None) where
   standing_number : (n : ℕ) → (standing_of P n).number ≡ n
   unfolding standing_of
   standing_number n = refl
@@ -76,41 +129,17 @@ module _ (P : List Entry) (slots : Slots) (legal : Legal P) (stands : Stands P s
   nearer : (n b : ℕ) → b ≤ (standing_of P n).number → b ≤ n
   nearer n b h = omega (arith, standing_number n)
 
-  low : (i : ℕ) → slots.top ≤ i → (best : Option (ℕ × Output)) → IsLeast f slots.table i best → (n : ℕ) (y : Output) → f n ≡ Some y → (b : ℕ × Output) × (best ≡ Some b) × (b.0 ≤ n)
+  low : (i : ℕ) → slots.top ≤ i → (best : Option (ℕ × Output)) → IsLeast f slots.table i best → (n : ℕ) (y : Output) → f n ≡ Some y → IsFound best n
   low i all best h n y g =
-      let o = giving_open n y g in
+      let o = giving_open P legal f quiet n y g in
       let k = number_of (caller_of P n) in
       let at : standing_in (slot_at slots.table k) ≡ Some (standing_of P n) = ap standing_in (stands.table k) ∙ slot_of_call P legal n o in
       let near = held_below P slots stands k (standing_of P n) at in
       let found = h.seen k (omega arith) (standing_of P n) at y (rw (standing_number n) g) in
       (found.0, found.1, nearer n found.0.0 found.2)
 
-  positive : (n : ℕ) → is_over P n ≡ false → 0 < n
-  positive n o = let made = called_place P n (open_is_called P n o) in let at = number_at P legal n made.thread made.call made.at in omega arith
-
   pub least_is : (i : ℕ) → slots.top ≤ i → (best : Option (ℕ × Output)) → IsLeast f slots.table i best → first_some f (numbers P) ≡ option_map (λ b. b.1) best
-  least_is i all best h = ap (first_some f) (numbered P legal) ∙ go best refl
-    where
-      nothing : best ≡ None → (n : ℕ) → f n ≡ None
-      nothing e n = of (f n) refl
-        where
-          of : (o : Option Output) → f n ≡ o → f n ≡ None
-          of None g = g
-          of (Some y) g = let l = low i all best h n y g in absurd (none-some l.0 (sym e ∙ l.1))
-
-      before : (b : ℕ × Output) → best ≡ Some b → (k : ℕ) → k < b.0 → f k ≡ None
-      before b e k less = of (f k) refl
-        where
-          of : (o : Option Output) → f k ≡ o → f k ≡ None
-          of None g = g
-          of (Some y) g = let l = low i all best h k y g in let same : l.0 ≡ b = same_Some l.0 b (sym l.1 ∙ e) in let far : b.0 ≤ k = rw (← same) l.2 in absurd (omega arith)
-
-      go : (o : Option (ℕ × Output)) → best ≡ o → first_some f (up_to (calls_made P)) ≡ option_map (λ b. b.1) o
-      go None e = none_below f (calls_made P) (λ n l. nothing e n)
-      go (Some b) e =
-          let gives = h.is b e in
-          let o = giving_open b.0 b.1 gives in
-          first_at f (calls_made P) b.0 b.1 (positive b.0 o) (called_below P legal b.0 (open_is_called P b.0 o)) gives (before b e)
+  least_is i all best h = first_found P legal f quiet best h.is (λ n y g before. low i all best h n y g)
 
 -- the rules say nothing of a call that is over
 pub rule_over : (rule : Rule) (P : List Entry) (n : ℕ) → is_over P n ≡ true → rule_of rule P n ≡ None

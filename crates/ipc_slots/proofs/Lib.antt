@@ -15,6 +15,7 @@ pub mod CallSteps
 pub mod Lookups
 pub mod PhaseFacts
 pub mod Leasts
+pub mod Betters
 pub mod MovedSteps
 pub mod Spaces
 pub mod Meets
@@ -26,3 +27,4 @@ pub mod SlotSums
 pub mod Concerns
 pub mod Nears
 pub mod Calms
+pub mod Changed

@@ -168,7 +168,7 @@ impl Slots {
 
     /// What the last entry makes come.
     #[tactic(auto, using(crate::proofs::Lasts::last_is_got))]
-    pub(crate) fn after_last(&self, entries: &[Entry]) -> Option<Output>
+    pub fn after_last(&self, entries: &[Entry]) -> Option<Output>
         requires legal { Legal entries.now }
         requires stands { Stands entries.now self.now }
         ensures { result ≡ last_output entries.now }

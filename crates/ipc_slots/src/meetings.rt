@@ -65,7 +65,7 @@ impl Standing {
 
 impl Slots {
     /// What is kept of the open call of a thread.
-    pub(crate) fn call_of(&self, entries: &[Entry], thread: ThreadId) -> Option<Standing>
+    pub fn call_of(&self, entries: &[Entry], thread: ThreadId) -> Option<Standing>
         requires legal { Legal entries.now }
         requires stands { Stands entries.now self.now }
         ensures { result ≡ option_map (standing_of entries.now) (open_call entries.now thread) }
@@ -96,7 +96,7 @@ impl Slots {
     }
 
     /// What comes of an open call that meets a receiving call.
-    pub(crate) fn meeting_of(&self, entries: &[Entry], call: &Standing) -> Option<Output>
+    pub fn meeting_of(&self, entries: &[Entry], call: &Standing) -> Option<Output>
         requires legal { Legal entries.now }
         requires stands { Stands entries.now self.now }
         requires call { IsStanding entries.now call.now }

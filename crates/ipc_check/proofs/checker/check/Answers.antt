@@ -13,4 +13,4 @@ returns-then-not-follows-clause-yes c =
     ((λ yes. absurd (no_is_not_yes c.loop-index.index c.next_output.result yes)), (λ legal. absurd (fault_whole c.args.entries.now c.loop-index.index c.next_output.result fault legal)))
 
 pub loop-index-preserved : goal.loop-index-preserved
-loop-index-preserved c = walk_on c.args.entries.now c.loop-index.index c.index-entries-index.result c.note.new.self c.loop-index-test.true c.index-entries-index.is c.loop-index.invariant.legal c.if-not-follows.ensures.yes c.note.ensures
+loop-index-preserved c = walk_on c.args.entries.now c.loop-index.index c.index-entries-index.result c.note.new.self c.loop-index-test.true c.index-entries-index.is c.loop-index.invariant.legal c.if-not-follows.ensures.yes c.note.ensures.stands

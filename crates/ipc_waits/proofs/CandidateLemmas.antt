@@ -1,20 +1,22 @@
 -- Places, each once, are few.
 use Rattle.std.proofs.lemmas.Bool.{false≢true, false_from_ne_true, or_cases}
-use Rattle.std.proofs.lemmas.List.{length-append}
+use Rattle.std.proofs.lemmas.List.{length-append, map-append, take_all, take_more}
+use Rattle.std.proofs.lemmas.List.Folds.{list_any-append}
 use Rattle.std.proofs.lemmas.List.Elements.{All-head, All-nil, All-push, All-tail}
 use Rattle.std.proofs.lemmas.Map.Keys.{IsDistinct-push}
 use Rattle.std.proofs.lemmas.Map.Steps.{length-le_from_distinct_below}
-use Rattle.std.proofs.Common.{◌≡◌, refl, sym, ap, ap₂, ◌∙◌, subst, ℕ, ◌<◌, ◌≤◌, ◌||◌, ◌==◌, eq-eqb, eqb-true, Bool, true, false, List, [], ◌∷◌, ◌++◌, length, inl, inr, arith}
+use Rattle.std.proofs.Common.{◌≡◌, refl, sym, ap, ap₂, ◌∙◌, subst, ℕ, ◌+◌, ◌<◌, ◌≤◌, ◌||◌, ◌==◌, eq-eqb, eqb-true, Bool, true, false, List, [], ◌∷◌, ◌++◌, length, take, map, get_or, if◌then◌else◌, inl, inr, arith}
 use Rattle.std.specs.Cmp.{IsEquivalence}
 use Rattle.std.specs.Prelude.{All}
 use Rattle.std.specs.List.{IsDistinct, list_any}
 use Rattle.ipc_candidates.specs.Candidates.{is_among}
 use Rattle.ipc_laws.proofs.Tests.{not_both}
 use Rattle.ipc_words.specs.Limits.{table_slots}
-use Rattle.ipc_waits.specs.Candidates.{ArePlaces}
+use Rattle.ipc_waits.specs.Candidates.{ArePlaces, with_place}
+use Rattle.ipc_waits.specs.declared.queue.Wait.{Wait}
 
 -- equal numbers
-eqb_sym : (x y : ℕ) → (x == y) ≡ (y == x)
+pub eqb_sym : (x y : ℕ) → (x == y) ≡ (y == x)
 eqb_sym x y = go (x == y) refl
   where
     go : (b : Bool) → (x == y) ≡ b → (x == y) ≡ (y == x)
@@ -51,3 +53,44 @@ places_few places place are below absent =
     let more = places_more places place are below absent in
     let few = length-le_from_distinct_below (places ++ place ∷ []) table_slots more.once (λ q found. among_all (λ k. k < table_slots) (places ++ place ∷ []) q more.within (among_either (places ++ place ∷ []) q ∙ found)) in
     omega (arith, few, length-append places (place ∷ []))
+
+-- One more place
+
+or_none : (b : Bool) → (b || false) ≡ b
+or_none true = refl
+or_none false = refl
+
+or_assoc : (a b c : Bool) → ((a || b) || c) ≡ (a || (b || c))
+or_assoc true b c = refl
+or_assoc false b c = refl
+
+pub among_with : (places : List ℕ) (k j : ℕ) → is_among (with_place places k) j ≡ (is_among places j || (k == j))
+among_with places k j = go (is_among places k) refl
+  where
+    either : (a b : Bool) → (b ≡ true → a ≡ true) → a ≡ (a || b)
+    either true b h = refl
+    either false true h = absurd (false≢true (h refl))
+    either false false h = refl
+
+    go : (b : Bool) → is_among places k ≡ b → is_among (if b then places else places ++ k ∷ []) j ≡ (is_among places j || (k == j))
+    go true there = either (is_among places j) (k == j) (λ same. ap (is_among places) (sym (eqb-true k j same)) ∙ there)
+    go false absent = list_any-append (λ x. x == j) places (k ∷ []) ∙ ap (λ b. is_among places j || b) (or_none (k == j))
+
+-- The places of the first i of some waits
+
+abbrev pub Added : List ℕ → List Wait → ℕ → List ℕ → Type 0
+Added old waits i new = (j : ℕ) → is_among new j ≡ (is_among old j || is_among (map (λ w. w.place) (take i waits)) j)
+
+pub added_none : (places : List ℕ) (waits : List Wait) → Added places waits 0 places
+added_none places waits j = sym (or_none (is_among places j))
+
+pub added_more : (old new after : List ℕ) (waits : List Wait) (i : ℕ) (w : Wait) → i < length waits → Added old waits i new → after ≡ with_place new (get_or waits i w).place → Added old waits (i + 1) after
+added_more old new after waits i w within added is j =
+    let front = map (λ w. w.place) (take i waits) in
+    let k = (get_or waits i w).place in
+    let longer : map (λ w. w.place) (take (i + 1) waits) ≡ front ++ k ∷ [] = ap (map (λ w. w.place)) (take_more waits i w within) ∙ map-append (λ w. w.place) (take i waits) (get_or waits i w ∷ []) in
+    let right : is_among (map (λ w. w.place) (take (i + 1) waits)) j ≡ (is_among front j || (k == j)) = ap (λ l. is_among l j) longer ∙ (list_any-append (λ x. x == j) front (k ∷ []) ∙ ap (λ b. is_among front j || b) (or_none (k == j))) in
+    ap (λ l. is_among l j) is ∙ (among_with new k j ∙ (ap (λ b. b || (k == j)) (added j) ∙ (or_assoc (is_among old j) (is_among front j) (k == j) ∙ ap (λ b. is_among old j || b) (sym right))))
+
+pub added_all : (old new : List ℕ) (waits : List Wait) (i : ℕ) → length waits ≤ i → Added old waits i new → (j : ℕ) → is_among new j ≡ (is_among old j || is_among (map (λ w. w.place) waits) j)
+added_all old new waits i all added j = added j ∙ ap (λ l. is_among old j || is_among (map (λ w. w.place) l) j) (take_all i waits all)

@@ -1,1 +1,3 @@
 pub mod CandidateLemmas
+pub mod Following
+pub mod Bests

@@ -1,9 +1,23 @@
 -- What a history says of who waits, as a program keeps it.
-use Rattle.std.specs.Prelude.{List}
+use Rattle.std.specs.Prelude.{ℕ, List, IsTrue, IsFalse}
+use Rattle.ipc_words.specs.ThreadId.{number_of}
+use Rattle.ipc_history.specs.Calls.{caller_of}
+use Rattle.ipc_history.specs.Entries.{names}
 use Rattle.ipc_history.specs.declared.entry.Entry.{Entry}
+use Rattle.ipc_candidates.specs.Candidates.{CoversAt, is_among, touched}
 use Rattle.ipc_slots.specs.Slots.{Stands}
+use Rattle.ipc_waits.specs.Keys.{AreWaits}
 use Rattle.ipc_waits.specs.declared.waiting.Waiting.{Waiting}
 
--- the slots are those of the history
+-- the slots are those of the history, the queues have the waits of the calls that the slots hold, and each output that is
+-- possible is found under a call at one of the places
 pub record IsWaiting (P : List Entry) (waiting : Waiting) : Type 0 where
   pub slots : Stands P waiting.slots
+  pub waits : AreWaits waiting.slots.table waiting.waits
+  pub covers : CoversAt P waiting.candidates
+
+-- before an entry: the places are those under whose calls an output is found, or whose calls the entry touches without naming them
+pub record IsTouched (P : List Entry) (e : Entry) (places : List ℕ) : Type 0 where
+  pub covers : CoversAt P places
+  pub unnamed : (n : ℕ) → IsTrue (is_among (touched P e) n) → IsFalse (names n e)
+      → IsTrue (is_among places (number_of (caller_of P n)))

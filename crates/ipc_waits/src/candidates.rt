@@ -1,8 +1,9 @@
-ghost use Rattle.std.specs.Prelude.{◌≡◌, ◌<◌, [], All};
+ghost use Rattle.std.specs.Prelude.{◌≡◌, ℕ, ◌<◌, ◌||◌, [], All, map};
 ghost use Rattle.ipc_candidates.specs.Candidates.{is_among};
 ghost use Rattle.ipc_words.specs.Limits.{table_slots};
 ghost use Rattle.ipc_waits.specs.Candidates.{with_place};
 
+use crate::queue::Wait;
 use arrayvec::ArrayVec;
 use ipc_words::limits::TABLE_SLOTS;
 use std::marker::Model;
@@ -62,6 +63,18 @@ impl Candidates {
     {
         if !self.has(place) {
             self.places.push(place);
+        }
+    }
+}
+
+impl Candidates {
+    /// Adds the places of waits.
+    pub(crate) fn add_all(&mut self, waits: &[Wait])
+        requires { All (λ w. w.place < table_slots) waits.now }
+        ensures { (place : ℕ) → is_among self.new place ≡ (is_among self.old place || is_among (map (λ w. w.place) waits.now) place) }
+    {
+        for wait in waits {
+            self.add(wait.place);
         }
     }
 }

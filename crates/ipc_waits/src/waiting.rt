@@ -2,17 +2,21 @@ ghost use Rattle.std.specs.Prelude.{◌≡◌, ◌++◌, ◌∷◌, []};
 ghost use Rattle.std.specs.List.{list_any};
 ghost use Rattle.ipc_history.specs.Calls.{numbers};
 ghost use Rattle.ipc_history.specs.Legal.{Legal, Follows};
-ghost use Rattle.ipc_history.specs.NextOutput.{next_output};
 ghost use Rattle.ipc_history.specs.Timing.{is_due_at};
-ghost use Rattle.ipc_waits.specs.Waiting.{IsWaiting};
+ghost use Rattle.ipc_waits.specs.Following.{CanFollow, FollowsChange};
+ghost use Rattle.ipc_waits.specs.Waiting.{IsTouched, IsWaiting};
 
-use ipc_history::{Entry, Output};
-use ipc_slots::Slots;
+use crate::candidates::Candidates;
+use crate::waits::Waits;
+use ipc_history::{Entry, Input};
+use ipc_slots::{Change, Slots};
 
 /// The threads of a history by their slots, who waits for whom, and under which calls the next output is found.
 #[derive(Drop)]
 pub struct Waiting {
-    slots: Slots,
+    pub(crate) slots: Slots,
+    pub(crate) waits: Waits,
+    pub(crate) candidates: Candidates,
 }
 
 impl Waiting {
@@ -22,6 +26,8 @@ impl Waiting {
     {
         Waiting {
             slots: Slots::new(),
+            waits: Waits::new(),
+            candidates: Candidates::new(),
         }
     }
 
@@ -32,6 +38,45 @@ impl Waiting {
         &self.slots
     }
 
+    /// Before an entry, finds the calls that it touches without naming them: those whose partner ends, and those that are due.
+    /// An input comes where nothing more is possible, so that what was looked at before is forgotten.
+    fn touch(&mut self, entries: &[Entry], entry: &Entry)
+        requires legal { Legal entries.now }
+        requires follows { Follows entries.now entry.now }
+        requires waiting { IsWaiting entries.now self.old }
+        ensures slots { self.new.slots ≡ self.old.slots }
+        ensures waits { self.new.waits ≡ self.old.waits }
+        ensures touched { IsTouched entries.now entry.now self.new.candidates }
+    {
+        let _ = entries.len();
+        if let Entry::Given(input) = entry {
+            self.candidates.clear();
+            match input {
+                Input::Broke(thread) => {
+                    self.candidates.add_all(self.waits.watchers().of(*thread))
+                }
+                Input::At(moment) => {
+                    self.candidates
+                        .add_all(self.waits.deadlines().until(*moment))
+                }
+                _ => {}
+            }
+        }
+    }
+
+    /// Brings queues and candidates in step with a slot that has changed.
+    fn follow(&mut self, change: Option<Change>)
+        requires { CanFollow self.old change }
+        ensures { FollowsChange self.old self.new change }
+    {
+        if let Some(change) = change {
+            let after = self.slots.held(change.place);
+            self.waits
+                .change(change.place, change.before.as_ref(), after);
+            self.candidates.add(change.place);
+        }
+    }
+
     /// Takes note of the next entry of a legal history, whose entries before it these are. Takes no memory.
     pub fn note(&mut self, entries: &[Entry], entry: &Entry)
         requires legal { Legal entries.now }
@@ -39,16 +84,10 @@ impl Waiting {
         requires waiting { IsWaiting entries.now self.old }
         ensures { IsWaiting (entries.now ++ entry.now ∷ []) self.new }
     {
-        self.slots.note(entries, entry);
-    }
-
-    /// The next output, found under the calls that the last entries touched.
-    pub fn next_output(&self, entries: &[Entry]) -> Option<Output>
-        requires legal { Legal entries.now }
-        requires waiting { IsWaiting entries.now self.now }
-        ensures { result ≡ next_output entries.now }
-    {
-        self.slots.next_output(entries)
+        self.touch(entries, entry);
+        let changes = self.slots.note(entries, entry);
+        self.follow(changes.first);
+        self.follow(changes.second);
     }
 
     /// Whether a waiting phase is due at a moment. Looks at the least deadline alone.
@@ -57,6 +96,7 @@ impl Waiting {
         requires waiting { IsWaiting entries.now self.now }
         ensures { result ≡ list_any (is_due_at entries.now moment) (numbers entries.now) }
     {
-        self.slots.is_any_due_at(entries, moment)
+        let _ = entries.len();
+        self.waits.deadlines().is_any_due(moment)
     }
 }

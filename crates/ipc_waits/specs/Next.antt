@@ -1,0 +1,39 @@
+-- What comes next of the calls at some places.
+use Rattle.std.specs.Prelude.{◌≡◌, ℕ, ◌<◌, List, Option, Some, None, option_map, option_and_then, map, length}
+use Rattle.std.specs.Option.{option_map_or}
+use Rattle.ipc_history.specs.NextOutput.{meeting_of}
+use Rattle.ipc_history.specs.declared.entry.Entry.{Entry}
+use Rattle.ipc_history.specs.declared.entry.Output.{Output}
+use Rattle.ipc_candidates.specs.Candidates.{source_of}
+use Rattle.ipc_slots.specs.Least.{IsFound, IsLeast, earlier}
+use Rattle.ipc_slots.specs.Slots.{slot_at}
+use Rattle.ipc_slots.specs.Steps.{standing_in}
+use Rattle.ipc_slots.specs.declared.slot.Slot.{Slot}
+use Rattle.ipc_slots.specs.declared.slot.Standing.{Standing}
+
+-- the slots at these places
+abbrev pub slots_at : List Slot → List ℕ → List Slot
+slots_at table places = map (λ k. slot_at table k) places
+
+-- the best of what f gives for the calls at these places: that of the least number
+abbrev pub IsBest : (ℕ → Option Output) → List Slot → List ℕ → Option (ℕ × Output) → Type 0
+IsBest f table places best = IsLeast f (slots_at table places) (length places) best
+
+-- a call and what comes of its meeting
+abbrev pub meeting_by : List Entry → ℕ → Option (ℕ × Output)
+meeting_by P n = option_map (λ output. (n, output)) (meeting_of P n)
+
+-- the meeting under a call: where it receives, that of the least call that it meets
+abbrev pub meeting_under : List Entry → ℕ → Option (ℕ × Output)
+meeting_under P n = option_and_then (meeting_by P) (source_of P n)
+
+-- the better of the best so far and of the meeting under the call of a slot
+abbrev pub better_meeting : List Entry → Option Standing → Option (ℕ × Output) → Option (ℕ × Output)
+better_meeting P None best = best
+better_meeting P (Some s) best = option_map_or (λ m. earlier best m.0 m.1) (meeting_under P s.number) best
+
+-- the best of the meetings under the calls of the first i slots
+pub record IsLeastMeeting (P : List Entry) (table : List Slot) (i : ℕ) (best : Option (ℕ × Output)) : Type 0 where
+  pub seen : (k : ℕ) → k < i → (s : Standing) → standing_in (slot_at table k) ≡ Some s
+      → (m : ℕ × Output) → meeting_under P s.number ≡ Some m → IsFound best m.0
+  pub is : (b : ℕ × Output) → best ≡ Some b → meeting_of P b.0 ≡ Some b.1

@@ -1,3 +1,12 @@
+pub mod Numbers
+pub mod Sames
+pub mod Orders
+pub mod Parts
+pub mod Distinct
+pub mod Edits
+pub mod Here
+pub mod Leasts
+pub mod Laws
 pub mod CandidateLemmas
 pub mod Following
 pub mod Bests

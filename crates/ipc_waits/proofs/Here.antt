@@ -1,0 +1,45 @@
+-- What a queue has at one place.
+use Rattle.std.proofs.Common.{◌≡◌, refl, sym, ap, ap₂, ◌∙◌, ℕ, Bool, true, false, not, ◌&&◌, ◌||◌, ◌==◌, eq-eqb, eqb-true, Option, Some, None, List, [], ◌∷◌, arith}
+use Rattle.std.proofs.lemmas.Bool.{and_right, false≢true, or_from, or_parts, true≢false}
+use Rattle.ipc_slots.specs.declared.slot.Standing.{Standing}
+use Rattle.ipc_waits.specs.Keys.{HasAt, is_of}
+use Rattle.ipc_waits.specs.Places.{HasHere, IsAt, is_one, wait_of}
+use Rattle.ipc_waits.specs.Queues.{is_in, is_placed, is_same}
+use Rattle.ipc_waits.specs.declared.queue.Wait.{Wait}
+use Rattle.ipc_waits.proofs.Numbers.{eqb_sym}
+use Rattle.ipc_waits.proofs.Sames.{same_itself}
+
+-- where it has none
+pub placed_none : (place : ℕ) (ws : List Wait) → ((w : Wait) → w.place ≡ place → is_in ws w ≡ false) → is_placed ws place ≡ false
+placed_none place [] none = refl
+placed_none place (x ∷ xs) none = or_from _ _ (here (x.place == place) refl) (placed_none place xs (λ w at. (or_parts (is_same w x) (is_in xs w) (none w at)).1))
+  where
+    here : (b : Bool) → (x.place == place) ≡ b → b ≡ false
+    here true e = absurd (true≢false (sym (same_itself x) ∙ (or_parts (is_same x x) (is_in xs x) (none x (eqb-true x.place place e))).0))
+    here false e = refl
+
+pub fresh_in : (place : ℕ) (mid ws : List Wait) (w : Wait) → mid ≡ ws → w.place ≡ place → HasHere ws place None → is_placed mid w.place ≡ false
+fresh_in place mid ws w same at none = ap₂ (λ l k. is_placed l k) same at ∙ placed_none place ws none
+
+emptied : (b : Bool) → (b && not b) ≡ false
+emptied true = refl
+emptied false = refl
+
+-- after its wait is taken out
+pub taken_out : (old new : List Wait) (place : ℕ) (wait : Option Wait) → HasHere old place wait → ((w : Wait) → is_in new w ≡ (is_in old w && not (is_one wait w))) → HasHere new place None
+taken_out old new place wait has taken w at = taken w ∙ ap (λ b. b && not (is_one wait w)) (has w at) ∙ emptied (is_one wait w)
+
+-- after a wait is put in where it had none
+pub put_in : (old new : List Wait) (place : ℕ) (wait : Option Wait) → HasHere old place None → ((w : Wait) → is_in new w ≡ (is_in old w || is_one wait w)) → HasHere new place wait
+put_in old new place wait none put w at = put w ∙ ap (λ b. b || is_one wait w) (none w at)
+
+-- a wait of another place
+pub other_place : (place : ℕ) (wait : Option Wait) (w : Wait) → IsAt place wait → (w.place == place) ≡ false → is_one wait w ≡ false
+other_place place None w at other = refl
+other_place place (Some x) w at other = and_right _ _ (ap (λ k. w.place == k) at ∙ other)
+
+made : ℕ → ℕ → ℕ → Wait
+made number place key = record { key = key; number = number; place = place }
+
+turned : (a b c : Bool) → c ≡ true → (a && b) ≡ ((b && a) && c)
+turned a b c h = grind arith

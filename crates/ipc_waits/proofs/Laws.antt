@@ -1,0 +1,2 @@
+-- The waits of a table.
+use Rattle.std.proofs.Common.{◌≡◌, ℕ}

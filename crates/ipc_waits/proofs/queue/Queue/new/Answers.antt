@@ -1,0 +1,5 @@
+use Rattle.ipc_waits.proofs.Edits.{no_waits}
+use Rattle.ipc_waits.proofs.queue.Queue.new.Goals as goal
+
+pub invariant_of-result : goal.invariant_of-result
+invariant_of-result c = no_waits c.new.result.items c.new.ensures

@@ -1,0 +1,43 @@
+-- Calls that wait under keys: for a receiver, for a partner, until a moment.
+use Rattle.std.specs.Prelude.{ℕ, List, [], ◌∷◌, Bool, ◌&&◌, ◌||◌, ◌==◌, Option, IsTrue, filter, map, nat_lt, nat_le, ◌≡◌, ◌<◌, ◌≤◌, All, None, Some}
+use Rattle.std.specs.Option.{option_map_or}
+use Rattle.std.specs.List.{list_any, IsDistinct}
+use Rattle.ipc_words.specs.Limits.{table_slots}
+use Rattle.ipc_waits.specs.declared.queue.Wait.{Wait}
+
+-- the same wait
+abbrev pub is_same : Wait → Wait → Bool
+is_same a b = (a.key == b.key) && (a.number == b.number) && (a.place == b.place)
+
+-- whether a wait is in a queue, and whether one of the call at this place is
+abbrev pub is_in : List Wait → Wait → Bool
+is_in waits wait = list_any (is_same wait) waits
+
+abbrev pub is_placed : List Wait → ℕ → Bool
+is_placed waits place = list_any (λ w. w.place == place) waits
+
+-- by rising keys, and under one key by rising numbers
+abbrev pub comes_before : Wait → Wait → Bool
+comes_before a b = nat_lt a.key b.key || ((a.key == b.key) && nat_le a.number b.number)
+
+abbrev pub IsOrdered : List Wait → Type 0
+IsOrdered [] = Unit {0}
+IsOrdered (x ∷ xs) = ((w : Wait) → IsTrue (is_in xs w) → IsTrue (comes_before x w)) × IsOrdered xs
+
+-- a queue: in order, of each place at most one wait
+pub record IsQueue (waits : List Wait) : Type 0 where
+  pub ordered : IsOrdered waits
+  pub once : IsDistinct (λ a b. a == b) (map (λ w. w.place) waits)
+  pub within : All (λ w. w.place < table_slots) waits
+
+-- those under a key, and those whose key is no greater than a moment
+abbrev pub under : ℕ → List Wait → List Wait
+under key waits = filter (λ w. w.key == key) waits
+
+abbrev pub until : ℕ → List Wait → List Wait
+until moment waits = filter (λ w. nat_le w.key moment) waits
+
+-- the least number of these waits: none of no waits, else that of one of them, which no other goes below
+abbrev pub IsLeastNumber : List Wait → Option ℕ → Type 0
+IsLeastNumber waits None = waits ≡ []
+IsLeastNumber waits (Some n) = IsTrue (list_any (λ w. w.number == n) waits) × ((w : Wait) → IsTrue (is_in waits w) → n ≤ w.number)

@@ -1,0 +1,73 @@
+ghost use Rattle.std.specs.Prelude.{◌≡◌, ◌<◌, [], map, min, nat_le, option_copied};
+ghost use Rattle.std.specs.List.{list_any, reduce};
+ghost use Rattle.ipc_words.specs.Limits.{table_slots};
+ghost use Rattle.ipc_waits.specs.Keys.{HasAt, IsSameElsewhere, due_under};
+ghost use Rattle.ipc_waits.specs.Queues.{IsLeastNumber, until};
+
+use crate::keys::deadline;
+use crate::queue::{Queue, Wait};
+use ipc_slots::Standing;
+use std::marker::Model;
+
+/// The waiting phases by the moment from which they are due.
+#[derive(Drop)]
+pub struct Deadlines {
+    queue: Queue,
+}
+
+impl Model for Deadlines {
+    ghost use Rattle.std.specs.Prelude.{List};
+    ghost use Rattle.ipc_waits.specs.declared.queue.Wait.{Wait};
+
+    ghost Value = { List Wait };
+
+    ghost view = { λ q. q.queue };
+}
+
+/// The least number of these waits.
+fn least_number(waits: &[Wait]) -> Option<u64>
+    ensures { result ≡ reduce min (map (λ w. w.number) waits.now) }
+{
+    waits.iter().map(|wait| wait.number).min()
+}
+
+impl Deadlines {
+    pub(crate) fn new() -> Deadlines
+        ensures { result ≡ [] }
+    {
+        Deadlines {
+            queue: Queue::new(),
+        }
+    }
+
+    /// Those that are due at a moment.
+    pub fn until(&self, now: u64) -> &[Wait]
+        ensures { result.now ≡ until now self.now }
+    {
+        self.queue.until(now)
+    }
+
+    /// Whether one is due at a moment.
+    pub fn is_any_due(&self, now: u64) -> bool
+        ensures { result ≡ list_any (λ w. nat_le w.key now) self.now }
+    {
+        self.queue.is_any_until(now)
+    }
+
+    /// The least number of a call that is due at a moment.
+    pub fn least_due(&self, now: u64) -> Option<u64>
+        ensures { IsLeastNumber (until now self.now) result }
+    {
+        least_number(self.until(now))
+    }
+
+    /// The call at a place was this one, and is another from now on.
+    pub(crate) fn change(&mut self, place: usize, before: Option<&Standing>, after: Option<&Standing>)
+        requires within { place < table_slots }
+        requires before { HasAt due_under self.old place (option_copied before) }
+        ensures after { HasAt due_under self.new place (option_copied after.entry) }
+        ensures elsewhere { IsSameElsewhere self.old self.new place }
+    {
+        self.queue.replace(place, deadline(place, before), deadline(place, after));
+    }
+}

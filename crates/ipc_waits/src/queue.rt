@@ -1,0 +1,163 @@
+ghost use Rattle.std.specs.Prelude.{◌≡◌, ◌<◌, ◌≤◌, ◌&&◌, ◌||◌, ◌==◌, ℕ, not, [], true, false, IsTrue, IfSome, IfNone, nat_le, length, take, drop, slice_index_or, filter};
+ghost use Rattle.std.specs.List.{list_any};
+ghost use Rattle.std.specs.List.Sorted.{IsPartitionPoint};
+ghost use Rattle.std.specs.Option.{option_map_or};
+ghost use Rattle.ipc_words.specs.Limits.{table_slots};
+ghost use Rattle.ipc_waits.specs.Queues.{IsOrdered, comes_before, is_in, is_placed, is_same, under, until};
+ghost use Rattle.ipc_waits.specs.Places.{IsAt, HasHere};
+ghost use Rattle.ipc_waits.specs.declared.queue.Wait.{Wait};
+
+use arrayvec::ArrayVec;
+use ipc_words::limits::TABLE_SLOTS;
+use std::marker::Model;
+
+/// A call that waits under a key: its number, and the place of its caller's slot.
+#[derive(Clone, Copy, Default, PartialEq, Eq)]
+pub struct Wait {
+    pub key: u64,
+    pub number: u64,
+    pub place: usize,
+}
+
+impl Wait {
+    /// Whether it comes before another one: by its key, and under one key by its number.
+    fn comes_before(&self, other: &Wait) -> bool
+        ensures { result ≡ comes_before self.now other.now }
+    {
+        self.key < other.key || self.key == other.key && self.number <= other.number
+    }
+}
+
+/// Where the waits from a key on begin.
+fn begin_of(waits: &[Wait], key: u64) -> usize
+    requires { IsOrdered waits.now }
+    ensures within { result ≤ length waits.now }
+    ensures rest { drop result waits.now ≡ filter (λ w. nat_le key w.key) waits.now }
+{
+    waits.partition_point(|wait| wait.key < key)
+}
+
+/// Where the waits whose key is no greater than a moment end.
+fn end_of(waits: &[Wait], moment: u64) -> usize
+    requires { IsOrdered waits.now }
+    ensures within { result ≤ length waits.now }
+    ensures front { take result waits.now ≡ until moment waits.now }
+{
+    waits.partition_point(|wait| wait.key <= moment)
+}
+
+/// Where a wait goes: behind those that come before it.
+fn place_for(waits: &[Wait], wait: &Wait) -> usize
+    requires { IsOrdered waits.now }
+    ensures within { result ≤ length waits.now }
+    ensures order { IsPartitionPoint (λ w. comes_before w wait.now ≡ true) (λ w. comes_before w wait.now ≡ false) waits.now result }
+{
+    waits.partition_point(|other| other.comes_before(wait))
+}
+
+/// Where a wait stands, if it does.
+fn place_of(waits: &[Wait], wait: &Wait) -> Option<usize>
+    requires { IsOrdered waits.now }
+    ensures found { IfSome result (λ index. (index < length waits.now) × (slice_index_or waits.now index wait.now ≡ wait.now)) }
+    ensures none { IfNone result (is_in waits.now wait.now ≡ false) }
+{
+    for index in waits.partition_point(|other| !wait.comes_before(other))..waits.len() {
+        if waits[index] == *wait {
+            return Some(index);
+        }
+    }
+    None
+}
+
+/// Calls that wait under keys, by rising keys and under one key by rising numbers; of each place at most one.
+#[derive(Drop)]
+pub(crate) struct Queue {
+    waits: ArrayVec<Wait, TABLE_SLOTS>,
+}
+
+impl Model for Queue {
+    ghost use Rattle.std.specs.Prelude.{List};
+    ghost use Rattle.ipc_waits.specs.Queues.{IsQueue};
+    ghost use Rattle.ipc_waits.specs.declared.queue.Wait.{Wait};
+
+    ghost Value = { List Wait };
+
+    ghost view = { λ q. q.waits.items };
+
+    ghost invariant = { λ q. IsQueue q.waits.items };
+}
+
+impl Queue {
+    pub(crate) fn new() -> Queue
+        ensures { result ≡ [] }
+    {
+        Queue {
+            waits: ArrayVec::new(),
+        }
+    }
+
+    /// Adds the wait of a place that has none.
+    pub(crate) fn insert(&mut self, wait: Wait)
+        requires within { wait.place < table_slots }
+        requires fresh { is_placed self.old wait.place ≡ false }
+        ensures { (w : Wait) → is_in self.new w ≡ (is_in self.old w || is_same w wait) }
+    {
+        let place = place_for(self.waits.as_slice(), &wait);
+        self.waits.insert(place, wait);
+    }
+
+    /// Takes a wait out, if it is there.
+    pub(crate) fn remove(&mut self, wait: Wait)
+        ensures { (w : Wait) → is_in self.new w ≡ (is_in self.old w && not (is_same w wait)) }
+    {
+        if let Some(index) = place_of(self.waits.as_slice(), &wait) {
+            self.waits.remove(index);
+        }
+    }
+
+    /// At a place one wait in the stead of another.
+    pub(crate) fn replace(&mut self, place: usize, before: Option<Wait>, after: Option<Wait>)
+        requires within { place < table_slots }
+        requires before { HasHere self.old place before }
+        requires here { IsAt place before }
+        requires there { IsAt place after }
+        ensures after { HasHere self.new place after }
+        ensures elsewhere { (w : Wait) → (w.place == place) ≡ false → is_in self.new w ≡ is_in self.old w }
+    {
+        let _ = place;
+        if let Some(wait) = before {
+            self.remove(wait);
+        }
+        if let Some(wait) = after {
+            self.insert(wait);
+        }
+    }
+
+    /// The waits under a key, by rising numbers.
+    pub(crate) fn under(&self, key: u64) -> &[Wait]
+        ensures value { result.now ≡ under key self.now }
+        ensures order { IsOrdered result.now }
+    {
+        let waits = self.until(key);
+        &waits[begin_of(waits, key)..]
+    }
+
+    /// The waits whose key is no greater than a moment.
+    pub(crate) fn until(&self, moment: u64) -> &[Wait]
+        ensures value { result.now ≡ until moment self.now }
+        ensures order { IsOrdered result.now }
+    {
+        let waits = self.waits.as_slice();
+        &waits[..end_of(waits, moment)]
+    }
+
+    /// Whether a wait has a key that is no greater than a moment.
+    pub(crate) fn is_any_until(&self, moment: u64) -> bool
+        ensures { result ≡ list_any (λ w. nat_le w.key moment) self.now }
+    {
+        match self.waits.as_slice().first() {
+            Some(wait) => wait.key <= moment,
+            None => false,
+        }
+    }
+}

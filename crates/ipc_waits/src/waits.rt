@@ -1,0 +1,62 @@
+ghost use Rattle.std.specs.Prelude.{◌≡◌, ◌<◌, [], option_copied};
+ghost use Rattle.ipc_words.specs.Limits.{table_slots};
+ghost use Rattle.ipc_waits.specs.Keys.{HaveAt, SameElsewhere};
+
+use crate::deadlines::Deadlines;
+use crate::send_queues::SendQueues;
+use crate::watchers::Watchers;
+use ipc_slots::Standing;
+
+/// The waits of the open calls: by the receiver that they send to, by the thread whose end fails them, and by the moment from which
+/// they are due.
+#[derive(Drop)]
+pub struct Waits {
+    pub(crate) senders: SendQueues,
+    pub(crate) watchers: Watchers,
+    pub(crate) deadlines: Deadlines,
+}
+
+impl Waits {
+    /// Where no call is open.
+    pub fn new() -> Waits
+        ensures senders { result.senders ≡ [] }
+        ensures watchers { result.watchers ≡ [] }
+        ensures deadlines { result.deadlines ≡ [] }
+    {
+        Waits {
+            senders: SendQueues::new(),
+            watchers: Watchers::new(),
+            deadlines: Deadlines::new(),
+        }
+    }
+
+    pub fn senders(&self) -> &SendQueues
+        ensures { result.now ≡ self.now.senders }
+    {
+        &self.senders
+    }
+
+    pub fn watchers(&self) -> &Watchers
+        ensures { result.now ≡ self.now.watchers }
+    {
+        &self.watchers
+    }
+
+    pub fn deadlines(&self) -> &Deadlines
+        ensures { result.now ≡ self.now.deadlines }
+    {
+        &self.deadlines
+    }
+
+    /// The call at a place was this one, and is another from now on.
+    pub fn change(&mut self, place: usize, before: Option<&Standing>, after: Option<&Standing>)
+        requires within { place < table_slots }
+        requires before { HaveAt self.old place (option_copied before) }
+        ensures after { HaveAt self.new place (option_copied after.entry) }
+        ensures elsewhere { SameElsewhere self.old self.new place }
+    {
+        self.senders.change(place, before, after);
+        self.watchers.change(place, before, after);
+        self.deadlines.change(place, before, after);
+    }
+}

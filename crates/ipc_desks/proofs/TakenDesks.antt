@@ -1,62 +1,32 @@
 -- What a thread is told, and what is left when it took it.
-use Rattle.std.proofs.lemmas.Bool.{false≢true, false_from_ne_true, ne_eqb, cases_eq, or_cases}
+use Rattle.std.proofs.lemmas.Bool.{false≢true, ne_eqb, cases_eq, or_cases}
 use Rattle.std.proofs.lemmas.Option.{none-some, same_Some, cond_some}
 use Rattle.std.proofs.lemmas.List.Folds.{list_any-append}
 use Rattle.std.proofs.lemmas.List.Sums.{sum_by_push}
-use Rattle.std.proofs.Common.{◌≡◌, ◌≢◌, refl, sym, ap, ◌∙◌, ℕ, ◌+◌, ◌≤◌, ◌<◌, ◌^◌, add-zero, cond, Bool, true, false, ◌||◌, ◌&&◌, ◌==◌, not, eqb-true, eq-eqb, if◌then◌else◌, List, [], ◌∷◌, ◌++◌, length, Option, Some, None, IfSome, option_and_then, unwrap_or, inl, inr, ◌⊎◌, arith}
-use Rattle.std.specs.List.{list_any}
+use Rattle.std.proofs.Common.{◌≡◌, ◌≢◌, refl, sym, ap, ◌∙◌, ℕ, ◌+◌, ◌≤◌, add-zero, cond, Bool, true, false, ◌||◌, ◌==◌, not, eqb-true, eq-eqb, if◌then◌else◌, List, [], ◌∷◌, ◌++◌, Option, Some, None, IfSome, option_and_then, unwrap_or, inl, inr, ◌⊎◌, arith}
 use Rattle.std.specs.Option.{option_map_or}
 use Rattle.ipc_words.specs.ThreadId.{number_of}
 use Rattle.ipc_history.specs.Words.{first_some}
-use Rattle.ipc_history.specs.Calls.{is_called, caller_of, buffers_of}
+use Rattle.ipc_history.specs.Calls.{caller_of, buffers_of}
 use Rattle.ipc_history.specs.Threads.{is_live, has_broken}
 use Rattle.ipc_history.specs.Phases.{is_over}
 use Rattle.ipc_history.specs.Outcomes.{OutcomeParts, failure, nothing, outcome_in, outcome_of, received}
-use Rattle.ipc_history.specs.Legal.{Legal, Follows}
+use Rattle.ipc_history.specs.Legal.{Legal}
 use Rattle.ipc_history.specs.declared.entry.Entry.{Entry}
 use Rattle.ipc_laws.proofs.Endings.{live_unbroken}
 use Rattle.ipc_history.specs.declared.entry.Entry.TheVariants.{Written}
 use Rattle.ipc_history.specs.declared.entry.Output.TheVariants.{Ended, Overflowed, Aborted, Failed}
 use Rattle.ipc_laws.proofs.Places.{first_place}
-use Rattle.ipc_laws.proofs.Tests.{not_both}
 use Rattle.ipc_slots.specs.Slots.{live_of}
 use Rattle.ipc_slots.proofs.Holders.{live_of_at, live_of_is}
 use Rattle.ipc_desks.specs.CallsOf.{is_among, is_busy, last_call, made_by, outcome_to_take, taken_by, untaken_outcome}
-use Rattle.ipc_desks.specs.Desks.{Keeps, blank_desk, desk_at, desk_of, message_at, is_unsent, one_if, thread_desk, told_at}
-use Rattle.ipc_desks.specs.Steps.{Changed, cleared, is_nothing, is_ready, outcome_in_told, taken_from, waits_in}
+use Rattle.ipc_desks.specs.Desks.{Keeps, blank_desk, desk_at, desk_of, one_if, thread_desk, told_at}
+use Rattle.ipc_desks.specs.Steps.{Changed, cleared, is_nothing, is_ready, outcome_in_told, taken_from}
 use Rattle.ipc_desks.specs.declared.desk.Desk.{Desk}
 use Rattle.ipc_desks.specs.declared.desk.Told.{Told}
 use Rattle.ipc_desks.specs.declared.desk.Told.TheVariants.{Nothing, Waiting, Ready}
 use Rattle.ipc_desks.proofs.LastCalls.{last_is}
-use Rattle.ipc_desks.proofs.DeskSteps.{desk_by, desk_open}
-use Rattle.ipc_desks.proofs.OutputDesks.{untaken}
-
--- which call a desk waits for
-waits_told : (P : List Entry) (taken : List ℕ) (k n : ℕ) → waits_in n (told_at P taken k) ≡ true → k ≡ n
-waits_told P taken k n h = go (is_among k taken) (is_over P k) (outcome_of P k) h
-  where
-    go : (a b : Bool) (o : Option OutcomeParts) → waits_in n (if a then Nothing else (if b then option_map_or (λ o. Ready o) o Nothing else Waiting k (buffers_of P k))) ≡ true → k ≡ n
-    go true b o g = absurd (false≢true g)
-    go false true None g = absurd (false≢true g)
-    go false true (Some x) g = absurd (false≢true g)
-    go false false o g = eqb-true k n g
-
-pub waits_at : (P : List Entry) → Legal P → (taken : List ℕ) (desks : List Desk) (place n : ℕ) → Keeps P taken desks → waits_in n (desk_at desks place).told ≡ true → place ≡ number_of (caller_of P n)
-unfolding desk_of thread_desk
-waits_at P legal taken desks place n keeps h = go (live_of P place) refl (ap (λ d. waits_in n d.told) (sym (keeps.table place)) ∙ h)
-  where
-    call : (t : ℕ) → live_of P place ≡ Some t → (o : Option ℕ) → last_call P t ≡ o → waits_in n (option_map_or (told_at P taken) o Nothing) ≡ true → place ≡ number_of (caller_of P n)
-    call t l None e g = absurd (false≢true g)
-    call t l (Some k) e g =
-        let same = waits_told P taken k n g in
-        sym (live_of_is P place t l).number ∙ ap number_of (sym (last_is P legal t k e).0 ∙ ap (caller_of P) same)
-
-    go : (o : Option ℕ) → live_of P place ≡ o → waits_in n (option_map_or (thread_desk P taken) o blank_desk).told ≡ true → place ≡ number_of (caller_of P n)
-    go None e g = absurd (false≢true g)
-    go (Some t) e g = call t e (last_call P t) refl g
-
-pub waits_there : (P : List Entry) → Legal P → (taken : List ℕ) (desks : List Desk) (n : ℕ) → Keeps P taken desks → is_over P n ≡ false → waits_in n (desk_at desks (number_of (caller_of P n))).told ≡ true
-waits_there P legal taken desks n keeps o = ap (λ d. waits_in n d.told) (keeps.table (number_of (caller_of P n)) ∙ desk_open P legal taken n o) ∙ rw (untaken P taken desks n keeps o, o) (eq-eqb n n refl)
+use Rattle.ipc_desks.proofs.DeskSteps.{desk_by}
 
 -- An outcome is that of its call, which is over
 

@@ -33,11 +33,6 @@ entered n call prepared desk = record desk {
   made = desk.made + 1;
 }
 
--- it waits for the outcome of n
-abbrev pub waits_in : ℕ → Told → Bool
-waits_in n (Waiting k buffers) = k == n
-waits_in n _ = false
-
 -- the buffer strings of a call that is open
 abbrev pub buffers_in : Told → List (List Substring)
 buffers_in (Waiting k buffers) = buffers

@@ -2,7 +2,7 @@ ghost use Rattle.std.specs.Prelude.{◌≡◌, ◌≤◌, ◌+◌, ◌<◌, ◌^
 ghost use Rattle.ipc_history.specs.Outcomes.{HasItsWords, failure, nothing};
 ghost use Rattle.ipc_desks.specs.Desks.{blank_desk};
 ghost use Rattle.ipc_desks.specs.Messages.{MessageParts, delivered};
-ghost use Rattle.ipc_desks.specs.Steps.{finished, emptied, cleared, entered, entered_told, waits_in, buffers_in};
+ghost use Rattle.ipc_desks.specs.Steps.{finished, emptied, cleared, entered, entered_told, buffers_in};
 ghost use Rattle.ipc_desks.specs.Steps.{outcome_in_told, is_ready, is_nothing, unbuffered, taken_from};
 ghost use Rattle.ipc_desks.specs.declared.desk.Told.TheVariants.{Nothing};
 
@@ -35,16 +35,6 @@ pub(crate) struct Desk {
 }
 
 impl Told {
-    /// Whether it waits for the outcome of a call.
-    fn waits(&self, number: u64) -> bool
-        ensures { result ≡ waits_in number self.now }
-    {
-        match self {
-            Told::Waiting(call, _) => *call == number,
-            _ => false,
-        }
-    }
-
     /// The buffer strings of the open call, none where there is none.
     fn into_buffers(self, alloc: Global) -> BufferList
         ensures { result ≡ buffers_in self }
@@ -83,13 +73,6 @@ impl Desk {
             made: 0,
             taken: 0,
         }
-    }
-
-    /// Whether it waits for the outcome of a call.
-    pub(crate) fn waits(&self, number: u64) -> bool
-        ensures { result ≡ waits_in number self.now.told }
-    {
-        self.told.waits(number)
     }
 
     /// Keeps an outcome.

@@ -201,23 +201,6 @@ impl Desks {
 impl Desks {
     ghost use Rattle.ipc_desks.specs.Steps.{Failing};
 
-    /// The place of the desk that waits for the outcome of an open call.
-    fn place_of(&self, entries: &[Entry], taken: &[u64], number: u64) -> usize
-        requires legal { Legal entries.now }
-        requires keeps { Keeps entries.now taken.now self.now }
-        requires open { IsFalse (is_over entries.now number) }
-        ensures within { result < table_slots }
-        ensures place { result ≡ number_of (caller_of entries.now number) }
-    {
-        let _ = (entries.len(), taken.len());
-        for place in 0..TABLE_SLOTS {
-            if self.desk(place).waits(number) {
-                return place;
-            }
-        }
-        unreachable!()
-    }
-
     /// Takes note of the failure of a call.
     fn note_failed(
         &mut self,
@@ -234,7 +217,8 @@ impl Desks {
         ensures keeps { Keeps (entries.now ++ Written (Failed number error) ∷ []) taken.now self.new }
         ensures finished { (t : ℕ) → is_named result t ≡ finishes entries.now (Written (Failed number error)) t }
     {
-        let place = self.place_of(entries, taken, number);
+        let _ = taken.len();
+        let place = slots.place_of(entries, number);
         let call = standing(entries, slots, number, place);
         let alloc = self.alloc;
         self.finish(place, failure(alloc, number, error));
@@ -267,8 +251,9 @@ impl Desks {
           second = Some (caller_of entries.now receiving);
         } }
     {
-        let from = self.place_of(entries, taken, sending);
-        let to = self.place_of(entries, taken, receiving);
+        let _ = taken.len();
+        let from = slots.place_of(entries, sending);
+        let to = slots.place_of(entries, receiving);
         let sender = standing(entries, slots, sending, from);
         let receiver = standing(entries, slots, receiving, to);
         let alloc = self.alloc;
@@ -373,8 +358,8 @@ impl Desks {
         ensures keeps { Keeps (entries.now ++ Written (Ended sending receiving) ∷ []) taken.now self.new }
         ensures finished { (t : ℕ) → is_named result t ≡ finishes entries.now (Written (Ended sending receiving)) t }
     {
-        let from = self.place_of(entries, taken, sending);
-        let to = self.place_of(entries, taken, receiving);
+        let from = slots.place_of(entries, sending);
+        let to = slots.place_of(entries, receiving);
         let sender = standing(entries, slots, sending, from);
         let receiver = standing(entries, slots, receiving, to);
         let outcome = self.hand_over(entries, taken, receiving, &sender, from, to);

@@ -208,7 +208,7 @@ module _ (P : List Entry) (n t : ℕ) (call : CallParts) (legal : Legal P) (foll
   unfolding Follows
   numbered = (entered_free P n t call follows.1).1
 
-  pub noted_called : (slots : Slots) → Stands P slots → number_of t < 256 → Stands Q (record { table = slice_set slots.table (number_of t) (calling (entered P n t call) (slot_at slots.table (number_of t))); moment = slots.moment; calls_made = n; live = slots.live; top = slots.top })
+  pub noted_called : (slots : Slots) → Stands P slots → number_of t < 256 → Stands Q (record slots { table = slice_set slots.table (number_of t) (calling (entered P n t call) (slot_at slots.table (number_of t))); calls_made = n })
   noted_called slots stands within = record {
     size = length-set slots.table (number_of t) _ ∙ stands.size;
     moment = stands.moment ∙ sym ((changes P e).moment);

@@ -1,0 +1,8 @@
+use Rattle.ipc_words.specs.ThreadId.{number_of}
+use Rattle.ipc_history.specs.Calls.{caller_of}
+use Rattle.ipc_slots.proofs.Holders.{held_somewhere}
+use Rattle.ipc_slots.proofs.Leasts.{none_held}
+use Rattle.ipc_slots.proofs.slots.Slots.place_by_walk.Goals as goal
+
+pub unreachable-requires : goal.unreachable-requires
+unreachable-requires c = none_held c.args.entries.now c.args.self.now c.requires.stands c.args.number c.loop-place.place c.loop-place-test.false c.loop-place.invariant (number_of (caller_of c.args.entries.now c.args.number)) (held_somewhere c.args.entries.now c.requires.legal c.args.self.now.table c.requires.stands.table c.args.number c.requires.open)

@@ -1,14 +1,19 @@
 -- Candidates by places, and whom a receiving call meets.
-use Rattle.std.proofs.lemmas.Bool.{or_cases}
-use Rattle.std.proofs.Common.{find, ◌≡◌, refl, sym, ap, ◌∙◌, subst, ℕ, ◌<◌, ◌==◌, ◌&&◌, eqb-true, Bool, true, false, not, List, [], ◌∷◌, ◌++◌, Option, Some, None, inl, inr, arith}
+use Rattle.std.proofs.lemmas.Bool.{false≢true, or_cases, or_left, or_right}
+use Rattle.std.proofs.Common.{find, ◌≡◌, refl, sym, ap, ◌∙◌, subst, ℕ, ◌<◌, ◌==◌, ◌&&◌, ◌||◌, eq-eqb, eqb-true, Bool, true, false, not, List, [], ◌∷◌, ◌++◌, Option, Some, None, inl, inr, arith}
 use Rattle.ipc_words.specs.ThreadId.{number_of}
+use Rattle.ipc_history.specs.Entries.{breaks, moment_in, names}
 use Rattle.ipc_history.specs.Calls.{numbers, is_called, caller_of, to_of}
 use Rattle.ipc_history.specs.Phases.{is_over, is_sending, is_receiving}
 use Rattle.ipc_history.specs.Matching.{accepts, matches, shown_sender}
 use Rattle.ipc_history.specs.NextOutput.{end_of, partner_gone_of, meeting, meeting_of, timeout_of}
+use Rattle.ipc_history.specs.Timing.{is_due_at}
 use Rattle.ipc_history.specs.Legal.{Legal, Quiet, Follows}
 use Rattle.ipc_history.specs.declared.entry.Entry.{Entry}
+use Rattle.ipc_history.specs.declared.entry.Entry.TheVariants.{Given, Written}
+use Rattle.ipc_history.specs.declared.entry.Input.TheVariants.{At, Called, Broke, Moved}
 use Rattle.ipc_history.specs.declared.entry.Output.{Output}
+use Rattle.ipc_history.specs.declared.entry.Output.TheVariants.{Began, Turned, Ended}
 use Rattle.ipc_laws.specs.Locality.Possible.{Meets}
 use Rattle.ipc_laws.proofs.Gives.{Gives, Gives-at}
 use Rattle.ipc_laws.proofs.Growth.{caller_of_kept}
@@ -16,11 +21,11 @@ use Rattle.ipc_laws.proofs.Numbering.{number_was_called}
 use Rattle.ipc_laws.proofs.Places.{any_place}
 use Rattle.ipc_laws.proofs.Resting.{none_possible}
 use Rattle.ipc_laws.proofs.Tests.{both, left, right}
-use Rattle.ipc_candidates.specs.Candidates.{CoversAt, calls_at, is_among, senders, sends_to, source_of, touched}
+use Rattle.ipc_candidates.specs.Candidates.{CoversAt, calls_at, is_among, senders, sends_to, source_of, touched, watches}
 use Rattle.ipc_candidates.specs.Laws.{AsksOnly, FoundAt, IsAtPlaces}
 use Rattle.ipc_candidates.proofs.Among.{least_source, open_among, sends_itself}
 use Rattle.ipc_candidates.proofs.Kept.{entry_covers, found_open}
-use Rattle.ipc_candidates.proofs.Lists.{among_filtered, find_filtered}
+use Rattle.ipc_candidates.proofs.Lists.{among_filtered, among_insert, find_filtered}
 use Rattle.ipc_candidates.proofs.Under.{IsUnder, end_under, meeting_found, meeting_under, partner_gone_under, timeout_under}
 
 -- what is among the numbers is a call
@@ -47,6 +52,25 @@ entry_covers_at P e places more l f covers into added = entry_covers P e (calls_
         let was : (placed && is_among (numbers P) n) ≡ true = sym (at_place P places n) ∙ among in
         let caller = caller_of_kept P (e ∷ []) n (among_called P n (right placed (is_among (numbers P) n) was)) in
         placed_call (P ++ e ∷ []) more n (ap (λ t. is_among more (number_of t)) caller ∙ into (number_of (caller_of P n)) (left placed (is_among (numbers P) n) was)) o
+
+-- Why an entry touches a call: it names it, breaks a thread that the call watches, or is a moment at which the call is due
+pub data IsTouched (P : List Entry) (e : Entry) (n : ℕ) : Type 0 where
+  Named : names n e ≡ true → IsTouched P e n
+  Watching : (thread : ℕ) → breaks thread e ≡ true → watches P thread n ≡ true → IsTouched P e n
+  Due : (moment : ℕ) → moment_in e ≡ Some moment → is_due_at P moment n ≡ true → IsTouched P e n
+
+only_one : (k n : ℕ) → ((k == n) || false) ≡ true → (k == n) ≡ true
+only_one k n h = elim (or_cases (k == n) false h) [ inl same ↦ same | inr no_more ↦ absurd (false≢true no_more) ]
+
+pub touched_is : (P : List Entry) (e : Entry) (n : ℕ) → is_among (touched P e) n ≡ true → IsTouched P e n
+touched_is P (Given (Called k thread call)) n h = Named (only_one k n h)
+touched_is P (Given (Moved k count)) n h = Named (only_one k n h)
+touched_is P (Given (Broke t)) n h = Watching t (eq-eqb t t refl) (left (watches P t n) (is_among (numbers P) n) (sym (among_filtered (watches P t) (numbers P) n) ∙ h))
+touched_is P (Given (At m)) n h = Due m refl (left (is_due_at P m n) (is_among (numbers P) n) (sym (among_filtered (is_due_at P m) (numbers P) n) ∙ h))
+touched_is P (Written (Began k m)) n h = Named (elim (or_cases (k == n) ((m == n) || false) (sym (among_insert k (m ∷ []) n) ∙ h)) [ inl same ↦ or_left (k == n) (m == n) same | inr other ↦ or_right (k == n) (m == n) (only_one m n other) ])
+touched_is P (Written (Turned k thread)) n h = Named (only_one k n h)
+touched_is P (Written (Ended k m)) n h = Named (or_left (k == n) (m == n) (only_one k n h))
+touched_is P _ n h = absurd (false≢true h)
 
 -- What the rules give
 

@@ -5,6 +5,7 @@ use Rattle.std.proofs.lemmas.Map.Views.{any-filter_same}
 use Rattle.std.proofs.Common.{◌≡◌, refl, sym, ap, ◌∙◌, ℕ, ◌<◌, ◌==◌, eq-eqb, eqb-true, Bool, true, false, ◌||◌, List, [], ◌∷◌, ◌++◌, Option, Some, None, inl, inr, arith, if◌then◌else◌, nat_lt, filter, cond, find, ◌&&◌}
 use Rattle.std.specs.Option.{option_or}
 use Rattle.ipc_history.specs.Words.{first_some}
+use Rattle.ipc_laws.proofs.Tests.{right}
 use Rattle.ipc_candidates.specs.Candidates.{IsRising, insert, is_among}
 
 module _ {Y : Type 0} (f : ℕ → Option Y) where
@@ -112,6 +113,14 @@ rising_push (y ∷ xs) x rising below = (λ k among. elim (or_cases (is_among xs
 -- what passes a test
 pub among_filtered : (test : ℕ → Bool) (xs : List ℕ) (n : ℕ) → is_among (filter test xs) n ≡ (test n && is_among xs n)
 among_filtered test xs n = any-filter_same (λ k. k == n) test (test n) (λ k same. ap test (eqb-true k n same)) xs
+
+pub rising_filter : (test : ℕ → Bool) (xs : List ℕ) → IsRising xs → IsRising (filter test xs)
+rising_filter test [] rising = tt
+rising_filter test (x ∷ xs) rising = go (test x) (rising_filter test xs rising.1)
+  where
+    go : (b : Bool) → IsRising (filter test xs) → IsRising (cond b (x ∷ filter test xs) (filter test xs))
+    go true later = (λ y among. rising.0 y (right (test y) (is_among xs y) (sym (among_filtered test xs y) ∙ among)), later)
+    go false later = later
 
 -- the first that passes two tests, of those that pass one
 pub find_filtered : (p q r : ℕ → Bool) (xs : List ℕ) → ((n : ℕ) → p n ≡ (q n && r n)) → find p xs ≡ find r (filter q xs)

@@ -10,3 +10,7 @@ pub mod Laws
 pub mod CandidateLemmas
 pub mod Following
 pub mod Bests
+pub mod WaitLists
+pub mod WaitPlaces
+pub mod WaitKeys
+pub mod WaitFacts

@@ -61,7 +61,8 @@ fn place_of(waits: &[Wait], wait: &Wait) -> Option<usize>
     ensures found { IfSome result (λ index. (index < length waits.now) × (slice_index_or waits.now index wait.now ≡ wait.now)) }
     ensures none { IfNone result (is_in waits.now wait.now ≡ false) }
 {
-    for index in waits.partition_point(|other| !wait.comes_before(other))..waits.len() {
+    let begin = waits.partition_point(|other| !wait.comes_before(other));
+    for index in begin..waits.len() {
         if waits[index] == *wait {
             return Some(index);
         }
@@ -125,6 +126,9 @@ impl Queue {
         ensures elsewhere { (w : Wait) → (w.place == place) ≡ false → is_in self.new w ≡ is_in self.old w }
     {
         let _ = place;
+        if before == after {
+            return;
+        }
         if let Some(wait) = before {
             self.remove(wait);
         }

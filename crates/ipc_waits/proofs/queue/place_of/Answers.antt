@@ -16,7 +16,7 @@ pub loop-index-init : goal.loop-index-init
 loop-index-init c k d low high =
     let wait = c.args.wait.now in
     let parted = partitioned (λ w. not (comes_before wait w)) (falls wait) c.args.waits.now c.requires in
-    let point = IsPartitionPoint-from_clause (λ w. not (comes_before wait w)) _ _ c.partition_point-index.ensures.partitioned parted (λ a r q k. search rules) in
+    let point = IsPartitionPoint-from_clause (λ w. not (comes_before wait w)) _ _ c.partition_point-begin.ensures.partitioned parted (λ a r q k. search rules) in
     unlike wait _ (not-true _ (point.0 k d low high))
 
 pub returns-clause-none : goal.returns-clause-none

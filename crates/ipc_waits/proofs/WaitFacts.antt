@@ -50,7 +50,7 @@ unfolding standing_of
 its_number P n = eq-eqb n n refl
 
 -- the wait that an open call has under a key
-abbrev wait_for : List Entry → ℕ → ℕ → Wait
+abbrev pub wait_for : List Entry → ℕ → ℕ → Wait
 wait_for P n key = record { key = key; number = n; place = number_of (caller_of P n) }
 
 module _ (P : List Entry) (slots : Slots) (legal : Legal P) (stands : Stands P slots) (key_of : Standing → Option ℕ) (ws : List Wait) (mirrors : Mirrors key_of slots.table ws) where

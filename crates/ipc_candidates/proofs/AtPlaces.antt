@@ -53,7 +53,8 @@ entry_covers_at P e places more l f covers into added = entry_covers P e (calls_
         let caller = caller_of_kept P (e ∷ []) n (among_called P n (right placed (is_among (numbers P) n) was)) in
         placed_call (P ++ e ∷ []) more n (ap (λ t. is_among more (number_of t)) caller ∙ into (number_of (caller_of P n)) (left placed (is_among (numbers P) n) was)) o
 
--- Why an entry touches a call: it names it, breaks a thread that the call watches, or is a moment at which the call is due
+-- Why an entry touches a call: it names the call, breaks a thread that it watches, or is a moment
+-- at which it is due
 pub data IsTouched (P : List Entry) (e : Entry) (n : ℕ) : Type 0 where
   Named : names n e ≡ true → IsTouched P e n
   Watching : (thread : ℕ) → breaks thread e ≡ true → watches P thread n ≡ true → IsTouched P e n

@@ -50,7 +50,7 @@ unfolding standing_of
 its_number P n = eq-eqb n n refl
 
 -- the wait that an open call has under a key
-abbrev wait_for : List Entry → ℕ → ℕ → Wait
+abbrev pub wait_for : List Entry → ℕ → ℕ → Wait
 wait_for P n key = record { key = key; number = n; place = number_of (caller_of P n) }
 
 module _ (P : List Entry) (slots : Slots) (legal : Legal P) (stands : Stands P slots) (key_of : Standing → Option ℕ) (ws : List Wait) (mirrors : Mirrors key_of slots.table ws) where
@@ -175,10 +175,11 @@ module _ (P : List Entry) (slots : Slots) (legal : Legal P) (stands : Stands P s
       go (Some key) e late = (key, has_wait P slots legal stands due_under ws mirrors n key o e, late)
 
   -- each call that is due at a moment waits until then
+  pub due_is_in : (moment n : ℕ) → is_due_at P moment n ≡ true → (w : Wait) × (is_in (until moment ws) w ≡ true) × (w.number ≡ n) × (w.place ≡ number_of (caller_of P n))
+  due_is_in moment n due = let wait = due_waits moment n due in (wait_for P n wait.0, in_filter (λ w. nat_le w.key moment) ws (wait_for P n wait.0) ∙ both _ _ wait.2 wait.1, refl, refl)
+
   pub due_wait_until : (moment n : ℕ) → is_due_at P moment n ≡ true → is_among (map (λ w. w.place) (until moment ws)) (number_of (caller_of P n)) ≡ true
-  due_wait_until moment n due =
-      let wait = due_waits moment n due in
-      in_map (λ w. w.place) (until moment ws) (wait_for P n wait.0) (in_filter (λ w. nat_le w.key moment) ws (wait_for P n wait.0) ∙ both _ _ wait.2 wait.1)
+  due_wait_until moment n due = let wait = due_is_in moment n due in subst (λ k. is_among (map (λ w. w.place) (until moment ws)) k ≡ true) wait.3 (in_map (λ w. w.place) (until moment ws) wait.0 wait.1)
 
   -- and no other. A key is cut at the greatest number of 64 bits, so that moment alone is left out
   pub wait_is_due : (moment : ℕ) → moment < 2 ^ 64 - 1 → (w : Wait) → is_in ws w ≡ true → is_due_at P moment w.number ≡ nat_le w.key moment

@@ -33,7 +33,7 @@ kept_in : (P : List Entry) (n : ℕ) (p : Phase) → phase_of P n ≡ p → stan
 unfolding standing_of
 kept_in P n p e = ap (λ p. in_phase P n p) e
 
--- a moment below the last of 64 bits is past the end of a period where it is past that end or the last of 64 bits
+-- a moment below the greatest of 64 bits does not see that an end was cut there
 cut : (a b m : ℕ) → m < b → nat_le a m ≡ nat_le (min a b) m
 cut a b m h = grind (arith, nat_tests)
 

@@ -29,3 +29,4 @@ pub mod Concerns
 pub mod Nears
 pub mod Calms
 pub mod Changed
+pub mod Naming

@@ -1,7 +1,11 @@
 -- Which slots an entry changed.
-use Rattle.std.specs.Prelude.{◌≡◌, ℕ, ◌<◌, ◌==◌, ◌||◌, Bool, false, List, Option, Some, IfSome}
+use Rattle.std.specs.Prelude.{◌≡◌, ℕ, ◌<◌, ◌==◌, ◌||◌, Bool, false, List, [], ◌∷◌, ◌++◌, Option, Some, IfSome, IsTrue}
 use Rattle.std.specs.Option.{option_map_or}
 use Rattle.ipc_words.specs.Limits.{table_slots}
+use Rattle.ipc_words.specs.ThreadId.{number_of}
+use Rattle.ipc_history.specs.Calls.{caller_of}
+use Rattle.ipc_history.specs.Entries.{names}
+use Rattle.ipc_history.specs.declared.entry.Entry.{Entry}
 use Rattle.ipc_slots.specs.Slots.{slot_at}
 use Rattle.ipc_slots.specs.Steps.{standing_in}
 use Rattle.ipc_slots.specs.declared.changes.Change.{Change}
@@ -29,3 +33,7 @@ pub record HaveChanged (old new : List Slot) (changes : Changes) : Type 0 where
   pub second : IfSome changes.second (IsChange old)
   pub apart : (a b : Change) → changes.first ≡ Some a → changes.second ≡ Some b → (a.place == b.place) ≡ false
   pub elsewhere : (k : ℕ) → changes_at changes k ≡ false → slot_at new k ≡ slot_at old k
+
+-- and the place of each call that the entry names
+abbrev pub HasNamed : List Entry → Entry → Changes → Type 0
+HasNamed P e changes = (n : ℕ) → IsTrue (names n e) → IsTrue (changes_at changes (number_of (caller_of (P ++ e ∷ []) n)))

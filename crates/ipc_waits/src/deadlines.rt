@@ -4,7 +4,7 @@ ghost use Rattle.ipc_words.specs.Limits.{table_slots};
 ghost use Rattle.ipc_waits.specs.Keys.{HasAt, IsSameElsewhere, due_under};
 ghost use Rattle.ipc_waits.specs.Queues.{IsLeastNumber, until};
 
-use crate::keys::deadline;
+use crate::keys::Due;
 use crate::queue::{Queue, Wait};
 use ipc_slots::Standing;
 use std::marker::Model;
@@ -68,6 +68,6 @@ impl Deadlines {
         ensures after { HasAt due_under self.new place (option_copied after.entry) }
         ensures elsewhere { IsSameElsewhere self.old self.new place }
     {
-        self.queue.replace(place, deadline(place, before), deadline(place, after));
+        self.queue.change::<Due>(place, before, after);
     }
 }

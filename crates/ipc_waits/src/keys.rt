@@ -50,38 +50,58 @@ fn due_under(call: &Standing) -> Option<u64>
     }
 }
 
-/// The wait of a send phase at a place.
-pub(crate) fn send_wait(place: usize, call: Option<&Standing>) -> Option<Wait>
-    ensures { result ≡ wait_of sends_under place (option_copied call.entry) }
-{
-    let call = call?;
-    let receiver = sends_under(call)?;
-    Some(Wait {
-        key: receiver.to_word(),
-        number: call.number,
-        place,
-    })
+/// A key under which calls wait.
+pub(crate) trait Key {
+    ghost use Rattle.std.specs.Prelude.{ℕ, Option};
+    ghost use Rattle.ipc_slots.specs.declared.slot.Standing.{Standing};
+
+    ghost key_of: { Standing → Option ℕ };
+
+    fn key_of(call: &Standing) -> Option<u64>
+        ensures { result ≡ key_of call.now };
 }
 
-/// The wait by which a call at a place watches a thread.
-pub(crate) fn watch(place: usize, call: Option<&Standing>) -> Option<Wait>
-    ensures { result ≡ wait_of watches_under place (option_copied call.entry) }
-{
-    let call = call?;
-    let partner = watches_under(call)?;
-    Some(Wait {
-        key: partner.to_word(),
-        number: call.number,
-        place,
-    })
+/// The receiver of a waiting send phase.
+pub(crate) struct Receiver;
+
+/// The thread whose end fails a call.
+pub(crate) struct Partner;
+
+/// The moment from which a waiting phase is due.
+pub(crate) struct Due;
+
+impl Key for Receiver {
+    ghost key_of = { sends_under };
+
+    fn key_of(call: &Standing) -> Option<u64> {
+        let receiver = sends_under(call)?;
+        Some(receiver.to_word())
+    }
 }
 
-/// The wait of a call at a place until its phase is due.
-pub(crate) fn deadline(place: usize, call: Option<&Standing>) -> Option<Wait>
-    ensures { result ≡ wait_of due_under place (option_copied call.entry) }
+impl Key for Partner {
+    ghost key_of = { watches_under };
+
+    fn key_of(call: &Standing) -> Option<u64> {
+        let partner = watches_under(call)?;
+        Some(partner.to_word())
+    }
+}
+
+impl Key for Due {
+    ghost key_of = { due_under };
+
+    fn key_of(call: &Standing) -> Option<u64> {
+        due_under(call)
+    }
+}
+
+/// The wait of a call at a place, where it has one.
+pub(crate) fn wait_of<K: Key>(place: usize, call: Option<&Standing>) -> Option<Wait>
+    ensures { result ≡ wait_of K.key_of place (option_copied call.entry) }
 {
     let call = call?;
-    let key = due_under(call)?;
+    let key = K::key_of(call)?;
     Some(Wait {
         key,
         number: call.number,

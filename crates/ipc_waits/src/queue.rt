@@ -1,13 +1,16 @@
-ghost use Rattle.std.specs.Prelude.{◌≡◌, ◌<◌, ◌≤◌, ◌&&◌, ◌||◌, ◌==◌, ℕ, not, [], true, false, IsTrue, IfSome, IfNone, nat_le, length, take, drop, slice_index_or, filter};
+ghost use Rattle.std.specs.Prelude.{◌≡◌, ◌<◌, ◌≤◌, ◌&&◌, ◌||◌, ◌==◌, ℕ, not, [], true, false, IsTrue, IfSome, IfNone, nat_le, length, take, drop, slice_index_or, filter, option_copied};
 ghost use Rattle.std.specs.List.{list_any};
 ghost use Rattle.std.specs.List.Sorted.{IsPartitionPoint};
 ghost use Rattle.std.specs.Option.{option_map_or};
 ghost use Rattle.ipc_words.specs.Limits.{table_slots};
 ghost use Rattle.ipc_waits.specs.Queues.{IsOrdered, comes_before, is_in, is_placed, is_same, under, until};
+ghost use Rattle.ipc_waits.specs.Keys.{HasAt, IsSameElsewhere};
 ghost use Rattle.ipc_waits.specs.Places.{IsAt, HasHere};
 ghost use Rattle.ipc_waits.specs.declared.queue.Wait.{Wait};
 
+use crate::keys::{Key, wait_of};
 use arrayvec::ArrayVec;
+use ipc_slots::Standing;
 use ipc_words::limits::TABLE_SLOTS;
 use std::marker::Model;
 
@@ -135,6 +138,21 @@ impl Queue {
         if let Some(wait) = after {
             self.insert(wait);
         }
+    }
+
+    /// The call at a place was this one, and is another from now on.
+    pub(crate) fn change<K: Key>(
+        &mut self,
+        place: usize,
+        before: Option<&Standing>,
+        after: Option<&Standing>,
+    )
+        requires within { place < table_slots }
+        requires before { HasAt K.key_of self.old place (option_copied before) }
+        ensures after { HasAt K.key_of self.new place (option_copied after.entry) }
+        ensures elsewhere { IsSameElsewhere self.old self.new place }
+    {
+        self.replace(place, wait_of::<K>(place, before), wait_of::<K>(place, after));
     }
 
     /// The waits under a key, by rising numbers.

@@ -3,7 +3,7 @@ ghost use Rattle.ipc_words.specs.Limits.{table_slots};
 ghost use Rattle.ipc_waits.specs.Keys.{HasAt, IsSameElsewhere, sends_under};
 ghost use Rattle.ipc_waits.specs.Queues.{IsOrdered, under};
 
-use crate::keys::send_wait;
+use crate::keys::Receiver;
 use crate::queue::{Queue, Wait};
 use ipc_slots::Standing;
 use ipc_words::ThreadId;
@@ -48,6 +48,6 @@ impl SendQueues {
         ensures after { HasAt sends_under self.new place (option_copied after.entry) }
         ensures elsewhere { IsSameElsewhere self.old self.new place }
     {
-        self.queue.replace(place, send_wait(place, before), send_wait(place, after));
+        self.queue.change::<Receiver>(place, before, after);
     }
 }

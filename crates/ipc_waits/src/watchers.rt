@@ -3,7 +3,7 @@ ghost use Rattle.ipc_words.specs.Limits.{table_slots};
 ghost use Rattle.ipc_waits.specs.Keys.{HasAt, IsSameElsewhere, watches_under};
 ghost use Rattle.ipc_waits.specs.Queues.{IsOrdered, under};
 
-use crate::keys::watch;
+use crate::keys::Partner;
 use crate::queue::{Queue, Wait};
 use ipc_slots::Standing;
 use ipc_words::ThreadId;
@@ -48,6 +48,6 @@ impl Watchers {
         ensures after { HasAt watches_under self.new place (option_copied after.entry) }
         ensures elsewhere { IsSameElsewhere self.old self.new place }
     {
-        self.queue.replace(place, watch(place, before), watch(place, after));
+        self.queue.change::<Partner>(place, before, after);
     }
 }

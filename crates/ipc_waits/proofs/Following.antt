@@ -1,20 +1,27 @@
 -- Queues and candidates in step with the slots.
-use Rattle.std.proofs.lemmas.Bool.{false≢true, or_left, or_right}
-use Rattle.std.proofs.lemmas.Option.{none-some}
-use Rattle.std.proofs.Common.{◌≡◌, refl, sym, ap, ◌∙◌, subst, ℕ, ◌<◌, ◌||◌, ◌==◌, eqb-true, Bool, true, false, List, Option, Some, None, IfSome, if◌then◌else◌}
+use Rattle.std.proofs.lemmas.Bool.{false≢true, or_cases, or_left, or_right}
+use Rattle.std.proofs.Common.{◌≡◌, refl, sym, ap, ◌∙◌, subst, ℕ, ◌<◌, ◌||◌, ◌==◌, eqb-true, Bool, true, false, List, [], ◌∷◌, ◌++◌, Option, Some, None, IfSome, inl, inr, arith, if◌then◌else◌}
 use Rattle.std.specs.Option.{option_map_or}
-use Rattle.ipc_candidates.specs.Candidates.{is_among}
-use Rattle.ipc_slots.specs.Changes.{HaveChanged, IsChange, changes_at, names_place}
-use Rattle.ipc_slots.specs.Slots.{slot_at}
+use Rattle.ipc_words.specs.ThreadId.{number_of}
+use Rattle.ipc_history.specs.Calls.{caller_of}
+use Rattle.ipc_history.specs.Entries.{names}
+use Rattle.ipc_history.specs.Legal.{Follows, Legal}
+use Rattle.ipc_history.specs.Phases.{is_over}
+use Rattle.ipc_history.specs.declared.entry.Entry.{Entry}
+use Rattle.ipc_laws.proofs.Growth.{caller_of_kept, open_is_called}
+use Rattle.ipc_candidates.specs.Candidates.{CoversAt, is_among, touched as touched_by}
+use Rattle.ipc_candidates.proofs.AtPlaces.{entry_covers_at}
+use Rattle.ipc_slots.specs.Changes.{HasNamed, HaveChanged, changes_at, names_place}
+use Rattle.ipc_slots.specs.Slots.{Stands, slot_at}
 use Rattle.ipc_slots.specs.Steps.{standing_in}
 use Rattle.ipc_slots.specs.declared.changes.Change.{Change}
 use Rattle.ipc_slots.specs.declared.changes.Changes.{Changes}
 use Rattle.ipc_slots.specs.declared.slot.Slot.{Slot}
 use Rattle.ipc_slots.specs.declared.slot.Standing.{Standing}
-use Rattle.ipc_waits.specs.Candidates.{with_place}
-use Rattle.ipc_waits.specs.Following.{CanFollow, Followed, FollowsChange}
-use Rattle.ipc_waits.specs.Keys.{AreWaits, HasAt, HaveAt, IsSameElsewhere, Mirrors, SameElsewhere, is_of}
+use Rattle.ipc_waits.specs.Following.{FollowsChange}
+use Rattle.ipc_waits.specs.Keys.{AreWaits, HasAt, HaveAt, IsSameElsewhere, SameElsewhere, due_under, is_of, sends_under, watches_under}
 use Rattle.ipc_waits.specs.Queues.{is_in}
+use Rattle.ipc_waits.specs.Waiting.{IsTouched, IsWaiting}
 use Rattle.ipc_waits.specs.declared.queue.Wait.{Wait}
 use Rattle.ipc_waits.specs.declared.waiting.Waiting.{Waiting}
 use Rattle.ipc_waits.specs.declared.waits.Waits.{Waits}
@@ -29,9 +36,9 @@ abbrev HasAll : (Standing → Option ℕ) → (ℕ → Option Standing) → List
 HasAll key_of calls waits = (w : Wait) → is_in waits w ≡ is_of key_of (calls w.place) w
 
 record HaveAll (calls : ℕ → Option Standing) (waits : Waits) : Type 0 where
-  senders : HasAll Rattle.ipc_waits.specs.Keys.sends_under calls waits.senders
-  watchers : HasAll Rattle.ipc_waits.specs.Keys.watches_under calls waits.watchers
-  deadlines : HasAll Rattle.ipc_waits.specs.Keys.due_under calls waits.deadlines
+  senders : HasAll sends_under calls waits.senders
+  watchers : HasAll watches_under calls waits.watchers
+  deadlines : HasAll due_under calls waits.deadlines
 
 has_at : (key_of : Standing → Option ℕ) (calls : ℕ → Option Standing) (waits : List Wait) (place : ℕ) → HasAll key_of calls waits → HasAt key_of waits place (calls place)
 has_at key_of calls waits place has w here = has w ∙ ap (λ k. is_of key_of (calls k) w) here
@@ -69,3 +76,72 @@ followed_by table (Some c) calls = changed_at c.place (calls_in table c.place) c
 have_followed : (calls : ℕ → Option Standing) (old new : Waiting) (change : Option Change) → HaveAll calls old.waits → FollowsChange old new change → HaveAll (followed_by old.slots.table change calls) new.waits
 have_followed calls old new None have follows = subst (λ w. HaveAll calls w.waits) (sym (follows.nothing refl)) have
 have_followed calls old new (Some c) have follows = have_changed calls old.waits new.waits c.place (calls_in old.slots.table c.place) have follows.followed.here follows.followed.elsewhere
+
+followed_is : (table : List Slot) (change : Option Change) (calls : ℕ → Option Standing) (k : ℕ) → (names_place k change ≡ false → calls k ≡ calls_in table k) → followed_by table change calls k ≡ calls_in table k
+followed_is table None calls k same = same refl
+followed_is table (Some c) calls k same = go (k == c.place) refl
+  where
+    go : (b : Bool) → (k == c.place) ≡ b → (if b then calls_in table c.place else calls k) ≡ calls_in table k
+    go true e = ap (calls_in table) (sym (eqb-true k c.place e))
+    go false e = same (eqb_sym c.place k ∙ e)
+
+-- so where both changes are followed the queues have the calls that the slots hold
+module _ (table : List Slot) (changes : Changes) (old first second : Waiting) (changed : HaveChanged table old.slots.table changes) (one : FollowsChange old first changes.first) (two : FollowsChange first second changes.second) where
+  calls_are : (k : ℕ) → followed_by first.slots.table changes.second (followed_by old.slots.table changes.first (calls_in table)) k ≡ calls_in second.slots.table k
+  calls_are k = ap (λ s. followed_by s.table changes.second (followed_by old.slots.table changes.first (calls_in table)) k) one.slots ∙ (followed_is old.slots.table changes.second _ k (λ no_second. followed_is old.slots.table changes.first (calls_in table) k (λ no_first. ap standing_in (sym (changed.elsewhere k (neither _ _ no_first no_second))))) ∙ ap (λ s. calls_in s.table k) (sym (two.slots ∙ one.slots)))
+    where
+      neither : (a b : Bool) → a ≡ false → b ≡ false → (a || b) ≡ false
+      neither a b x y = grind arith
+
+  has_again : (key_of : Standing → Option ℕ) (calls again : ℕ → Option Standing) (waits : List Wait) → ((k : ℕ) → calls k ≡ again k) → HasAll key_of calls waits → HasAll key_of again waits
+  has_again key_of calls again waits same has w = has w ∙ ap (λ c. is_of key_of c w) (same w.place)
+
+  pub waits_are : AreWaits table old.waits → AreWaits second.slots.table second.waits
+  waits_are are =
+      let have = have_followed _ first second changes.second (have_followed (calls_in table) old first changes.first (record { senders = are.senders; watchers = are.watchers; deadlines = are.deadlines }) one) two in
+      record {
+        senders = has_again _ _ _ second.waits.senders calls_are have.senders;
+        watchers = has_again _ _ _ second.waits.watchers calls_are have.watchers;
+        deadlines = has_again _ _ _ second.waits.deadlines calls_are have.deadlines;
+      }
+
+-- The places among the candidates
+
+follows_keeps : (old new : Waiting) (change : Option Change) → FollowsChange old new change → (k : ℕ) → is_among old.candidates k ≡ true → is_among new.candidates k ≡ true
+follows_keeps old new None follows k among = ap (λ w. is_among w.candidates k) (follows.nothing refl) ∙ among
+follows_keeps old new (Some c) follows k among = ap (λ l. is_among l k) follows.followed.candidates ∙ (among_with old.candidates c.place k ∙ or_left (is_among old.candidates k) (c.place == k) among)
+
+follows_adds : (old new : Waiting) (change : Option Change) → FollowsChange old new change → (k : ℕ) → names_place k change ≡ true → is_among new.candidates k ≡ true
+follows_adds old new None follows k named = absurd (false≢true named)
+follows_adds old new (Some c) follows k named = ap (λ l. is_among l k) follows.followed.candidates ∙ (among_with old.candidates c.place k ∙ or_right (is_among old.candidates k) (c.place == k) named)
+
+module _ (changes : Changes) (old first second : Waiting) (one : FollowsChange old first changes.first) (two : FollowsChange first second changes.second) where
+  pub places_stay : (k : ℕ) → is_among old.candidates k ≡ true → is_among second.candidates k ≡ true
+  places_stay k among = follows_keeps first second changes.second two k (follows_keeps old first changes.first one k among)
+
+  pub places_come : (k : ℕ) → changes_at changes k ≡ true → is_among second.candidates k ≡ true
+  places_come k at = elim (or_cases (names_place k changes.first) (names_place k changes.second) at) [
+    | inl a ↦ follows_keeps first second changes.second two k (follows_adds old first changes.first one k a)
+    | inr b ↦ follows_adds first second changes.second two k b
+  ]
+
+-- An entry is followed
+module _ (P : List Entry) (e : Entry) (legal : Legal P) (follows : Follows P e) (table : List Slot) (changes : Changes) (old first second : Waiting) (stands : Stands (P ++ e ∷ []) old.slots) (changed : HaveChanged table old.slots.table changes) (named : HasNamed P e changes) (one : FollowsChange old first changes.first) (two : FollowsChange first second changes.second) where
+  covers_again : IsTouched P e old.candidates → CoversAt (P ++ e ∷ []) second.candidates
+  covers_again touched = entry_covers_at P e touched.base second.candidates legal follows touched.covers (λ k among. places_stay changes old first second one two k (touched.kept k among)) there
+    where
+      there : (n : ℕ) → is_among (touched_by P e) n ≡ true → is_over (P ++ e ∷ []) n ≡ false → is_among second.candidates (number_of (caller_of (P ++ e ∷ []) n)) ≡ true
+      there n among opened = go (names n e) refl
+        where
+          go : (b : Bool) → names n e ≡ b → is_among second.candidates (number_of (caller_of (P ++ e ∷ []) n)) ≡ true
+          go true is = places_come changes old first second one two (number_of (caller_of (P ++ e ∷ []) n)) (named n is)
+          go false is =
+              let waits = touched.unnamed n among is in
+              ap (λ t. is_among second.candidates (number_of t)) (caller_of_kept P (e ∷ []) n (open_is_called P n waits.0)) ∙ places_stay changes old first second one two (number_of (caller_of P n)) waits.1
+
+  pub noted : AreWaits table old.waits → IsTouched P e old.candidates → IsWaiting (P ++ e ∷ []) second
+  noted are touched = record {
+    slots = subst (Stands (P ++ e ∷ [])) (sym (two.slots ∙ one.slots)) stands;
+    waits = waits_are table changes old first second changed one two are;
+    covers = covers_again touched;
+  }

@@ -14,3 +14,5 @@ pub mod WaitLists
 pub mod WaitPlaces
 pub mod WaitKeys
 pub mod WaitFacts
+pub mod LeastDue
+pub mod Touches

@@ -3,6 +3,7 @@ use Rattle.std.specs.Prelude.{ℕ, List, IsTrue, IsFalse}
 use Rattle.ipc_words.specs.ThreadId.{number_of}
 use Rattle.ipc_history.specs.Calls.{caller_of}
 use Rattle.ipc_history.specs.Entries.{names}
+use Rattle.ipc_history.specs.Phases.{is_over}
 use Rattle.ipc_history.specs.declared.entry.Entry.{Entry}
 use Rattle.ipc_candidates.specs.Candidates.{CoversAt, is_among, touched}
 use Rattle.ipc_slots.specs.Slots.{Stands}
@@ -16,8 +17,11 @@ pub record IsWaiting (P : List Entry) (waiting : Waiting) : Type 0 where
   pub waits : AreWaits waiting.slots.table waiting.waits
   pub covers : CoversAt P waiting.candidates
 
--- before an entry: the places are those under whose calls an output is found, or whose calls the entry touches without naming them
+-- before an entry: the places have those under whose calls an output is found, and those of the calls that the entry touches without
+-- naming them
 pub record IsTouched (P : List Entry) (e : Entry) (places : List ℕ) : Type 0 where
-  pub covers : CoversAt P places
+  pub base : List ℕ
+  pub covers : CoversAt P base
+  pub kept : (k : ℕ) → IsTrue (is_among base k) → IsTrue (is_among places k)
   pub unnamed : (n : ℕ) → IsTrue (is_among (touched P e) n) → IsFalse (names n e)
-      → IsTrue (is_among places (number_of (caller_of P n)))
+      → IsFalse (is_over P n) × IsTrue (is_among places (number_of (caller_of P n)))

@@ -1,4 +1,4 @@
-ghost use Rattle.std.specs.Prelude.{◌≡◌, ◌<◌, [], map, min, nat_le, option_copied};
+ghost use Rattle.std.specs.Prelude.{◌≡◌, ◌<◌, All, [], map, min, nat_le, option_copied};
 ghost use Rattle.std.specs.List.{list_any, reduce};
 ghost use Rattle.ipc_words.specs.Limits.{table_slots};
 ghost use Rattle.ipc_waits.specs.Keys.{HasAt, IsSameElsewhere, due_under};
@@ -42,7 +42,8 @@ impl Deadlines {
 
     /// Those that are due at a moment.
     pub fn until(&self, now: u64) -> &[Wait]
-        ensures { result.now ≡ until now self.now }
+        ensures value { result.now ≡ until now self.now }
+        ensures within { All (λ w. w.place < table_slots) result.now }
     {
         self.queue.until(now)
     }

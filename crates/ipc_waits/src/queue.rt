@@ -1,4 +1,4 @@
-ghost use Rattle.std.specs.Prelude.{◌≡◌, ◌<◌, ◌≤◌, ◌&&◌, ◌||◌, ◌==◌, ℕ, not, [], true, false, IsTrue, IfSome, IfNone, nat_le, length, take, drop, slice_index_or, filter, option_copied};
+ghost use Rattle.std.specs.Prelude.{All, ◌≡◌, ◌<◌, ◌≤◌, ◌&&◌, ◌||◌, ◌==◌, ℕ, not, [], true, false, IsTrue, IfSome, IfNone, nat_le, length, take, drop, slice_index_or, filter, option_copied};
 ghost use Rattle.std.specs.List.{list_any};
 ghost use Rattle.std.specs.List.Sorted.{IsPartitionPoint};
 ghost use Rattle.std.specs.Option.{option_map_or};
@@ -159,6 +159,7 @@ impl Queue {
     pub(crate) fn under(&self, key: u64) -> &[Wait]
         ensures value { result.now ≡ under key self.now }
         ensures order { IsOrdered result.now }
+        ensures within { All (λ w. w.place < table_slots) result.now }
     {
         let waits = self.until(key);
         &waits[begin_of(waits, key)..]
@@ -168,6 +169,7 @@ impl Queue {
     pub(crate) fn until(&self, moment: u64) -> &[Wait]
         ensures value { result.now ≡ until moment self.now }
         ensures order { IsOrdered result.now }
+        ensures within { All (λ w. w.place < table_slots) result.now }
     {
         let waits = self.waits.as_slice();
         &waits[..end_of(waits, moment)]

@@ -1,5 +1,6 @@
-ghost use Rattle.std.specs.Prelude.{◌≡◌, ◌++◌, ◌∷◌, []};
+ghost use Rattle.std.specs.Prelude.{◌≡◌, ◌+◌, ◌<◌, ◌++◌, ◌∷◌, []};
 ghost use Rattle.std.specs.List.{list_any};
+ghost use Rattle.ipc_words.specs.Limits.{last_moment};
 ghost use Rattle.ipc_history.specs.Calls.{numbers};
 ghost use Rattle.ipc_history.specs.Legal.{Legal, Follows};
 ghost use Rattle.ipc_history.specs.Timing.{is_due_at};
@@ -8,7 +9,7 @@ ghost use Rattle.ipc_waits.specs.Waiting.{IsTouched, IsWaiting};
 
 use crate::candidates::Candidates;
 use crate::waits::Waits;
-use ipc_history::{Entry, Input};
+use ipc_history::Entry;
 use ipc_slots::{Change, Slots};
 
 /// The threads of a history by their slots, who waits for whom, and under which calls the next output is found.
@@ -49,19 +50,10 @@ impl Waiting {
         ensures touched { IsTouched entries.now entry.now self.new.candidates }
     {
         let _ = entries.len();
-        if let Entry::Given(input) = entry {
+        if let Entry::Given(_) = entry {
             self.candidates.clear();
-            match input {
-                Input::Broke(thread) => {
-                    self.candidates.add_all(self.waits.watchers().of(*thread))
-                }
-                Input::At(moment) => {
-                    self.candidates
-                        .add_all(self.waits.deadlines().until(*moment))
-                }
-                _ => {}
-            }
         }
+        self.candidates.add_all(self.waits.touched(entry));
     }
 
     /// Brings queues and candidates in step with a slot that has changed.
@@ -94,6 +86,7 @@ impl Waiting {
     pub fn is_any_due_at(&self, entries: &[Entry], moment: u64) -> bool
         requires legal { Legal entries.now }
         requires waiting { IsWaiting entries.now self.now }
+        requires in_range { moment < last_moment + 1 }
         ensures { result ≡ list_any (is_due_at entries.now moment) (numbers entries.now) }
     {
         let _ = entries.len();

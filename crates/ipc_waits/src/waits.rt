@@ -1,10 +1,13 @@
-ghost use Rattle.std.specs.Prelude.{◌≡◌, ◌<◌, [], option_copied};
+ghost use Rattle.std.specs.Prelude.{◌≡◌, ◌<◌, All, [], option_copied};
 ghost use Rattle.ipc_words.specs.Limits.{table_slots};
 ghost use Rattle.ipc_waits.specs.Keys.{HaveAt, SameElsewhere};
+ghost use Rattle.ipc_waits.specs.Touching.{waits_touched};
 
 use crate::deadlines::Deadlines;
 use crate::send_queues::SendQueues;
+use crate::queue::Wait;
 use crate::watchers::Watchers;
+use ipc_history::{Entry, Input};
 use ipc_slots::Standing;
 
 /// The waits of the open calls: by the receiver that they send to, by the thread whose end fails them, and by the moment from which
@@ -46,6 +49,18 @@ impl Waits {
         ensures { result.now ≡ self.now.deadlines }
     {
         &self.deadlines
+    }
+
+    /// The waits of the calls that an entry touches without naming them: of those whose partner ends, and of those that are due.
+    pub(crate) fn touched(&self, entry: &Entry) -> &[Wait]
+        ensures value { result.now ≡ waits_touched entry.now self.now }
+        ensures within { All (λ w. w.place < table_slots) result.now }
+    {
+        match entry {
+            Entry::Given(Input::Broke(thread)) => self.watchers.of(*thread),
+            Entry::Given(Input::At(moment)) => self.deadlines.until(*moment),
+            _ => &[],
+        }
     }
 
     /// The call at a place was this one, and is another from now on.

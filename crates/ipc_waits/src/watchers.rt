@@ -1,4 +1,4 @@
-ghost use Rattle.std.specs.Prelude.{◌≡◌, ◌<◌, [], option_copied};
+ghost use Rattle.std.specs.Prelude.{◌≡◌, ◌<◌, All, [], option_copied};
 ghost use Rattle.ipc_words.specs.Limits.{table_slots};
 ghost use Rattle.ipc_waits.specs.Keys.{HasAt, IsSameElsewhere, watches_under};
 ghost use Rattle.ipc_waits.specs.Queues.{IsOrdered, under};
@@ -37,6 +37,7 @@ impl Watchers {
     pub fn of(&self, partner: ThreadId) -> &[Wait]
         ensures value { result.now ≡ under partner self.now }
         ensures order { IsOrdered result.now }
+        ensures within { All (λ w. w.place < table_slots) result.now }
     {
         self.queue.under(partner.to_word())
     }

@@ -6,4 +6,5 @@ pub mod Distinct
 pub mod Edits
 pub mod Here
 pub mod Leasts
+pub mod Dues
 pub mod Laws

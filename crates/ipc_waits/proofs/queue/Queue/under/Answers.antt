@@ -1,4 +1,4 @@
-use Rattle.std.proofs.Common.{◌≡◌, ◌∙◌, ◌-◌, ap, subst, sym, filter, nat_le, take, drop, length}
+use Rattle.std.proofs.Common.{◌∙◌, ap, subst, sym, filter, nat_le}
 use Rattle.std.proofs.lemmas.List.{take_rest}
 use Rattle.ipc_waits.specs.Queues.{IsOrdered}
 use Rattle.ipc_waits.proofs.Orders.{ordered_filter}
@@ -13,4 +13,4 @@ returns-clause-value c =
 pub returns-clause-order : goal.returns-clause-order
 returns-clause-order c =
     subst IsOrdered (sym (take_rest c.until-waits.result.now c.begin_of.result ∙ c.begin_of.ensures.rest))
-        (ordered_filter (λ w. nat_le c.args.key w.key) c.until-waits.result.now c.until-waits.ensures.order)
+    (ordered_filter (λ w. nat_le c.args.key w.key) c.until-waits.result.now c.until-waits.ensures.order)

@@ -1,8 +1,8 @@
 -- A queue with one more wait, and without one.
 use Rattle.std.proofs.Common.{◌≡◌, refl, sym, ap, ◌∙◌, subst, ℕ, suc, ◌<◌, ◌≤◌, Bool, true, false, not, ◌&&◌, ◌||◌, ◌==◌, List, [], ◌∷◌, ◌++◌, length, map, get_or, take, drop, filter, insert, remove, drop-cons, take-append-drop, arith}
-use Rattle.std.proofs.lemmas.Bool.{not-true, not_from_false, true≢false}
+use Rattle.std.proofs.lemmas.Bool.{not-true}
 use Rattle.std.proofs.lemmas.List.Elements.{All-append, All-cons, All-drop, All-nil, All-take}
-use Rattle.std.specs.List.{All, AllWithin, IsDistinct}
+use Rattle.std.specs.List.{IsDistinct}
 use Rattle.std.specs.List.Sorted.{IsPartitionPoint}
 use Rattle.ipc_words.specs.Limits.{table_slots}
 use Rattle.ipc_waits.specs.Queues.{IsOrdered, IsQueue, comes_before, is_in, is_placed, is_same}

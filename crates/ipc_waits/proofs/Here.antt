@@ -1,12 +1,9 @@
 -- What a queue has at one place.
-use Rattle.std.proofs.Common.{◌≡◌, refl, sym, ap, ap₂, ◌∙◌, ℕ, Bool, true, false, not, ◌&&◌, ◌||◌, ◌==◌, eq-eqb, eqb-true, Option, Some, None, List, [], ◌∷◌, arith}
-use Rattle.std.proofs.lemmas.Bool.{and_right, false≢true, or_from, or_parts, true≢false}
-use Rattle.ipc_slots.specs.declared.slot.Standing.{Standing}
-use Rattle.ipc_waits.specs.Keys.{HasAt, is_of}
-use Rattle.ipc_waits.specs.Places.{HasHere, IsAt, is_one, wait_of}
+use Rattle.std.proofs.Common.{◌≡◌, refl, sym, ap, ap₂, ◌∙◌, ℕ, Bool, true, false, not, ◌&&◌, ◌||◌, ◌==◌, eqb-true, Option, Some, None, List, [], ◌∷◌, arith}
+use Rattle.std.proofs.lemmas.Bool.{and_right, or_from, or_parts, true≢false}
+use Rattle.ipc_waits.specs.Places.{HasHere, IsAt, is_one}
 use Rattle.ipc_waits.specs.Queues.{is_in, is_placed, is_same}
 use Rattle.ipc_waits.specs.declared.queue.Wait.{Wait}
-use Rattle.ipc_waits.proofs.Numbers.{eqb_sym}
 use Rattle.ipc_waits.proofs.Sames.{same_itself}
 
 -- where it has none

@@ -1,8 +1,8 @@
 -- The least of the numbers of waits.
-use Rattle.std.proofs.Common.{◌≡◌, ◌⊎◌, refl, sym, ap, ◌∙◌, ℕ, ◌≤◌, Bool, true, ◌||◌, ◌==◌, eq-eqb, eqb-true, min, fold, map, List, [], ◌∷◌, inl, inr, arith}
-use Rattle.std.proofs.lemmas.Bool.{and_parts, cases_lt, false≢true, or_cases, or_left, or_right}
+use Rattle.std.proofs.Common.{◌≡◌, ◌⊎◌, refl, sym, ap, ◌∙◌, ℕ, ◌≤◌, Bool, true, ◌==◌, eq-eqb, min, fold, map, List, [], ◌∷◌, inl, inr, arith}
+use Rattle.std.proofs.lemmas.Bool.{cases_lt, false≢true, or_cases, or_left, or_right}
 use Rattle.std.specs.List.{list_any, reduce}
-use Rattle.ipc_waits.specs.Queues.{IsLeastNumber, is_in, is_same}
+use Rattle.ipc_waits.specs.Queues.{IsLeastNumber, is_in}
 use Rattle.ipc_waits.specs.declared.queue.Wait.{Wait}
 use Rattle.ipc_waits.proofs.Sames.{same_is}
 

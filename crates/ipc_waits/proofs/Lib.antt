@@ -6,6 +6,7 @@ pub mod Distinct
 pub mod Edits
 pub mod Here
 pub mod Leasts
+pub mod Dues
 pub mod Laws
 pub mod CandidateLemmas
 pub mod Following

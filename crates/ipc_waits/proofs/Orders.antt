@@ -1,11 +1,11 @@
 -- Waits in order.
-use Rattle.std.proofs.Common.{◌≡◌, refl, sym, ap, subst, ℕ, zero, suc, ◌<◌, ◌≤◌, Bool, true, false, cond, ◌&&◌, ◌||◌, ◌==◌, not, nat_le, nat_lt, List, [], ◌∷◌, ◌++◌, length, get_or, filter, inl, inr, arith}
+use Rattle.std.proofs.Common.{◌≡◌, zero, suc, ◌≤◌, Bool, true, false, cond, List, [], ◌∷◌, ◌++◌, get_or, filter, inl, inr, arith}
 use Rattle.std.proofs.lemmas.Bool.{or_cases, or_left, or_right}
 use Rattle.std.proofs.lemmas.Bool.Decides.{nat_tests}
 use Rattle.std.specs.List.Sorted.{IsPartitionedBy}
 use Rattle.ipc_waits.specs.Queues.{IsOrdered, comes_before, is_in, is_same}
 use Rattle.ipc_waits.specs.declared.queue.Wait.{Wait}
-use Rattle.ipc_waits.proofs.Sames.{in_at, in_filter, in_left, in_with, same_is, same_itself}
+use Rattle.ipc_waits.proofs.Sames.{in_at, in_filter, in_with, same_is, same_itself}
 
 pub before_itself : (w : Wait) → comes_before w w ≡ true
 before_itself w = grind (arith, nat_tests)

@@ -1,9 +1,9 @@
 -- What a test keeps of a list that it parts in two.
-use Rattle.std.proofs.Common.{◌≡◌, refl, sym, ap, ◌∙◌, ℕ, zero, suc, ◌<◌, ◌≤◌, Bool, true, false, cond, ◌&&◌, ◌||◌, ◌==◌, nat_le, Option, Some, slice_get, List, [], ◌∷◌, length, get_or, take, drop, filter, arith}
+use Rattle.std.proofs.Common.{◌≡◌, refl, sym, ap, ◌∙◌, ℕ, zero, suc, ◌<◌, ◌≤◌, Bool, true, false, cond, ◌&&◌, ◌||◌, ◌==◌, nat_le, Some, slice_get, List, [], ◌∷◌, length, take, drop, filter, arith}
 use Rattle.std.proofs.lemmas.Bool.{cond-false, cond-true, lt-leb, or_from, or_left, or_right}
 use Rattle.std.proofs.lemmas.Bool.Decides.{nat_tests}
 use Rattle.std.specs.List.{AllWithin, list_any}
-use Rattle.ipc_waits.specs.Queues.{IsOrdered, comes_before, is_in, is_same, under, until}
+use Rattle.ipc_waits.specs.Queues.{IsOrdered, is_in, is_same, under, until}
 use Rattle.ipc_waits.specs.declared.queue.Wait.{Wait}
 use Rattle.ipc_waits.proofs.Orders.{key_rises}
 use Rattle.ipc_waits.proofs.Sames.{same_itself}

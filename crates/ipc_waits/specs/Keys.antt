@@ -1,5 +1,6 @@
 -- Under which keys an open call waits, by what is kept of it.
-use Rattle.std.specs.Prelude.{ℕ, ◌+◌, ◌-◌, ◌^◌, min, List, Bool, false, ◌&&◌, ◌||◌, ◌==◌, Option, Some, None, option_map, if◌then◌else◌, ◌≡◌}
+use Rattle.std.specs.Prelude.{◌≡◌, ℕ, ◌+◌, ◌-◌, ◌^◌, min, List, Bool, false, ◌&&◌, ◌||◌, ◌==◌}
+use Rattle.std.specs.Prelude.{Option, Some, None, option_map, if◌then◌else◌}
 use Rattle.std.specs.Option.{option_map_or}
 use Rattle.ipc_words.specs.ThreadId.{anythread, anylocalthread}
 use Rattle.ipc_words.specs.Time.{span}
@@ -7,7 +8,7 @@ use Rattle.ipc_slots.specs.Rules.{partner_by, waits_to_receive, waits_to_send}
 use Rattle.ipc_slots.specs.Slots.{slot_at}
 use Rattle.ipc_slots.specs.Steps.{standing_in}
 use Rattle.ipc_slots.specs.declared.slot.Phase.{Phase}
-use Rattle.ipc_slots.specs.declared.slot.Phase.TheVariants.{Sending, Passing, Receiving, Taking}
+use Rattle.ipc_slots.specs.declared.slot.Phase.TheVariants.{Sending, Receiving}
 use Rattle.ipc_slots.specs.declared.slot.Slot.{Slot}
 use Rattle.ipc_slots.specs.declared.slot.Standing.{Standing}
 use Rattle.ipc_waits.specs.Queues.{is_in}
@@ -18,7 +19,7 @@ use Rattle.ipc_waits.specs.declared.waits.Waits.{Waits}
 abbrev pub sends_under : Standing → Option ℕ
 sends_under s = (if waits_to_send s.phase then Some s.to else None)
 
--- the thread whose end fails the call: that which it sends to, waits for or is in transfer with; an open receive waits for nobody
+-- the thread whose end fails the call: that which it sends to, waits for or is in transfer with; none for a receive from any thread
 abbrev pub watches_under : Standing → Option ℕ
 watches_under s =
     (if waits_to_receive s.phase && ((s.awaited == anythread) || (s.awaited == anylocalthread)) then None

@@ -1,6 +1,6 @@
 -- Calls that wait under keys: for a receiver, for a partner, until a moment.
-use Rattle.std.specs.Prelude.{ℕ, List, [], ◌∷◌, Bool, ◌&&◌, ◌||◌, ◌==◌, Option, IsTrue, filter, map, nat_lt, nat_le, ◌≡◌, ◌<◌, ◌≤◌, All, None, Some}
-use Rattle.std.specs.Option.{option_map_or}
+use Rattle.std.specs.Prelude.{◌≡◌, ℕ, ◌<◌, ◌≤◌, nat_lt, nat_le, Bool, IsTrue, ◌&&◌, ◌||◌, ◌==◌}
+use Rattle.std.specs.Prelude.{List, [], ◌∷◌, All, filter, map, Option, None, Some}
 use Rattle.std.specs.List.{list_any, IsDistinct}
 use Rattle.ipc_words.specs.Limits.{table_slots}
 use Rattle.ipc_waits.specs.declared.queue.Wait.{Wait}
@@ -40,4 +40,5 @@ until moment waits = filter (λ w. nat_le w.key moment) waits
 -- the least number of these waits: none of no waits, else that of one of them, which no other goes below
 abbrev pub IsLeastNumber : List Wait → Option ℕ → Type 0
 IsLeastNumber waits None = waits ≡ []
-IsLeastNumber waits (Some n) = IsTrue (list_any (λ w. w.number == n) waits) × ((w : Wait) → IsTrue (is_in waits w) → n ≤ w.number)
+IsLeastNumber waits (Some n) =
+    IsTrue (list_any (λ w. w.number == n) waits) × ((w : Wait) → IsTrue (is_in waits w) → n ≤ w.number)

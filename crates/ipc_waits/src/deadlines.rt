@@ -63,7 +63,12 @@ impl Deadlines {
     }
 
     /// The call at a place was this one, and is another from now on.
-    pub(crate) fn change(&mut self, place: usize, before: Option<&Standing>, after: Option<&Standing>)
+    pub(crate) fn change(
+        &mut self,
+        place: usize,
+        before: Option<&Standing>,
+        after: Option<&Standing>,
+    )
         requires within { place < table_slots }
         requires before { HasAt due_under self.old place (option_copied before) }
         ensures after { HasAt due_under self.new place (option_copied after.entry) }

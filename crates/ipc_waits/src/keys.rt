@@ -1,5 +1,4 @@
-ghost use Rattle.std.specs.Prelude.{◌≡◌, ◌+◌, ◌-◌, ◌^◌, min, option_map, option_copied};
-ghost use Rattle.ipc_words.specs.Time.{span};
+ghost use Rattle.std.specs.Prelude.{◌≡◌, option_copied};
 ghost use Rattle.ipc_waits.specs.Keys.{due_after, due_under, sends_under, watches_under};
 ghost use Rattle.ipc_waits.specs.Places.{wait_of};
 
@@ -23,8 +22,7 @@ fn watches_under(call: &Standing) -> Option<ThreadId>
 {
     match call.phase {
         Phase::Receiving
-            if call.awaited == ThreadId::ANYTHREAD || call.awaited == ThreadId::ANYLOCALTHREAD =>
-        {
+            if call.awaited == ThreadId::ANYTHREAD || call.awaited == ThreadId::ANYLOCALTHREAD => {
             None
         }
         _ => Some(call.partner()),

@@ -1,7 +1,7 @@
-ghost use Rattle.std.specs.Prelude.{All, ◌≡◌, ◌<◌, ◌≤◌, ◌&&◌, ◌||◌, ◌==◌, ℕ, not, [], true, false, IsTrue, IfSome, IfNone, nat_le, length, take, drop, slice_index_or, filter, option_copied};
+ghost use Rattle.std.specs.Prelude.{◌≡◌, ◌<◌, ◌≤◌, ◌&&◌, ◌||◌, ◌==◌, not, [], true, false, nat_le};
+ghost use Rattle.std.specs.Prelude.{All, IfSome, IfNone, length, take, drop, slice_index_or, filter, option_copied};
 ghost use Rattle.std.specs.List.{list_any};
 ghost use Rattle.std.specs.List.Sorted.{IsPartitionPoint};
-ghost use Rattle.std.specs.Option.{option_map_or};
 ghost use Rattle.ipc_words.specs.Limits.{table_slots};
 ghost use Rattle.ipc_waits.specs.Queues.{IsOrdered, comes_before, is_in, is_placed, is_same, under, until};
 ghost use Rattle.ipc_waits.specs.Keys.{HasAt, IsSameElsewhere};
@@ -53,7 +53,8 @@ fn end_of(waits: &[Wait], moment: u64) -> usize
 fn place_for(waits: &[Wait], wait: &Wait) -> usize
     requires { IsOrdered waits.now }
     ensures within { result ≤ length waits.now }
-    ensures order { IsPartitionPoint (λ w. comes_before w wait.now ≡ true) (λ w. comes_before w wait.now ≡ false) waits.now result }
+    ensures order { IsPartitionPoint
+        (λ w. comes_before w wait.now ≡ true) (λ w. comes_before w wait.now ≡ false) waits.now result }
 {
     waits.partition_point(|other| other.comes_before(wait))
 }
@@ -119,7 +120,7 @@ impl Queue {
         }
     }
 
-    /// At a place one wait in the stead of another.
+    /// Takes the wait of a place out, if it had one, and adds another, if it has one from now on.
     pub(crate) fn replace(&mut self, place: usize, before: Option<Wait>, after: Option<Wait>)
         requires within { place < table_slots }
         requires before { HasHere self.old place before }
@@ -152,7 +153,11 @@ impl Queue {
         ensures after { HasAt K.key_of self.new place (option_copied after.entry) }
         ensures elsewhere { IsSameElsewhere self.old self.new place }
     {
-        self.replace(place, wait_of::<K>(place, before), wait_of::<K>(place, after));
+        self.replace(
+            place,
+            wait_of::<K>(place, before),
+            wait_of::<K>(place, after),
+        );
     }
 
     /// The waits under a key, by rising numbers.

@@ -1,4 +1,4 @@
-use Rattle.std.proofs.Common.{◌≡◌, ℕ, true, leb, ltb, ◌<◌, ◌≤◌, ltb-true, arith, rules}
+use Rattle.std.proofs.Common.{◌≡◌, ℕ, true, leb, ltb, ltb-true, arith, rules}
 use Rattle.std.proofs.lemmas.Bool.{le-leb, lt-leb, lt-ltb, ltb-false}
 use Rattle.std.proofs.lemmas.List.Sorted.{IsPartitionPoint-from_clause}
 use Rattle.ipc_waits.specs.Queues.{comes_before}
@@ -16,6 +16,6 @@ returns-clause-rest c =
     let parted = partitioned (λ w. ltb w.key key) (falls key) c.args.waits.now c.requires in
     let point = IsPartitionPoint-from_clause (λ w. ltb w.key key) _ _ c.partition_point.ensures.partitioned parted (λ a r q k. search rules) in
     rest_is (λ w. leb key w.key) c.args.waits.now c.partition_point.result
-        (λ k d low high. lt-leb _ _ (ltb-true _ _ (point.0 k d low high)))
-        (λ k d low high. le-leb _ _ (ltb-false _ _ (point.1 k d low high)))
-        c.partition_point.ensures.bound
+    (λ k d low high. lt-leb _ _ (ltb-true _ _ (point.0 k d low high)))
+    (λ k d low high. le-leb _ _ (ltb-false _ _ (point.1 k d low high)))
+    c.partition_point.ensures.bound

@@ -1,4 +1,4 @@
-use Rattle.std.proofs.Common.{◌≡◌, ℕ, true, leb, ◌≤◌, leb-true, arith, rules}
+use Rattle.std.proofs.Common.{◌≡◌, ℕ, true, leb, leb-true, arith, rules}
 use Rattle.std.proofs.lemmas.Bool.{le-leb}
 use Rattle.std.proofs.lemmas.List.Sorted.{IsPartitionPoint-from_clause}
 use Rattle.ipc_waits.specs.Queues.{comes_before}

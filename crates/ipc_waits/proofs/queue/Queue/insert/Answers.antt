@@ -8,9 +8,13 @@ use Rattle.ipc_waits.proofs.queue.Queue.insert.Goals as goal
 pub insert-requires : goal.insert-requires
 insert-requires c =
     let wait = c.args.wait in
-    let fresh = ap (λ l. is_placed l wait.place) c.self.view_is ∙ c.requires.fresh in
-    (lit< tt, (subst (λ l. c.place_for-place.result ≤ length l) c.as_slice.ensures.value c.place_for-place.ensures.within,
-        room c.self.inside.waits.items wait c.self.invariant c.requires.within fresh))
+    let fresh = ap (λ l. is_placed l wait.place) c.self.view_is ∙ c.requires.fresh in (
+      lit< tt,
+      (
+        subst (λ l. c.place_for-place.result ≤ length l) c.as_slice.ensures.value c.place_for-place.ensures.within,
+        room c.self.inside.waits.items wait c.self.invariant c.requires.within fresh,
+      ),
+    )
 
 pub invariant_of-self : goal.invariant_of-self
 invariant_of-self c =

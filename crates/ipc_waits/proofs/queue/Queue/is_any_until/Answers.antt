@@ -1,4 +1,4 @@
-use Rattle.std.proofs.Common.{◌≡◌, ◌∙◌, ap, Some, nat_le, slice_get, subst}
+use Rattle.std.proofs.Common.{◌∙◌, ap, nat_le, slice_get}
 use Rattle.std.specs.List.{list_any}
 use Rattle.ipc_waits.proofs.Parts.{due_first}
 use Rattle.ipc_waits.proofs.queue.Queue.is_any_until.Goals as goal

@@ -1,6 +1,6 @@
 use Rattle.std.proofs.Common.{◌≡◌, ◌∙◌, ap, subst, sym, ◌&&◌, not, ◌<◌, length, slice_index_or}
 use Rattle.ipc_waits.specs.Queues.{IsQueue, is_in, is_same}
-use Rattle.ipc_waits.proofs.Edits.{in_kept, in_removed, queue_without}
+use Rattle.ipc_waits.proofs.Edits.{in_removed, queue_without}
 use Rattle.ipc_waits.proofs.queue.Queue.remove.Goals as goal
 
 pub invariant_of-self : goal.invariant_of-self

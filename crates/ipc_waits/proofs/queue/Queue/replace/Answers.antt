@@ -1,4 +1,4 @@
-use Rattle.std.proofs.Common.{◌≡◌, Some, subst}
+use Rattle.std.proofs.Common.{Some, subst}
 use Rattle.ipc_waits.specs.Places.{HasHere, IsAt}
 use Rattle.ipc_waits.proofs.Here.{fresh_in, taken_out}
 use Rattle.ipc_waits.proofs.queue.Queue.replace.Goals as goal

@@ -17,3 +17,4 @@ pub mod WaitKeys
 pub mod WaitFacts
 pub mod LeastDue
 pub mod Touches
+pub mod Meetings

@@ -1,11 +1,12 @@
 -- What an entry touches is named by it, or waits in a queue.
 use Rattle.std.proofs.lemmas.Bool.{false≢true}
 use Rattle.std.proofs.lemmas.Option.{none-some, same_Some}
-use Rattle.std.proofs.Common.{◌≡◌, sym, ap, ◌∙◌, subst, ℕ, ◌==◌, ◌||◌, eqb-true, Bool, true, false, List, [], Option, Some, None, map, arith}
+use Rattle.std.proofs.Common.{◌≡◌, sym, ap, ◌∙◌, subst, ℕ, ◌==◌, ◌||◌, eqb-true, Bool, true, false, refl, List, [], Option, Some, None, map, arith}
 use Rattle.ipc_words.specs.ThreadId.{number_of}
-use Rattle.ipc_history.specs.Calls.{caller_of}
+use Rattle.ipc_history.specs.Calls.{caller_of, numbers}
 use Rattle.ipc_history.specs.Entries.{breaks, moment_in, names}
 use Rattle.ipc_history.specs.Legal.{Follows, Legal, Quiet, is_admissible}
+use Rattle.ipc_history.specs.NextOutput.{next_output}
 use Rattle.ipc_history.specs.Phases.{is_over}
 use Rattle.ipc_history.specs.Threads.{is_live}
 use Rattle.ipc_history.specs.Timing.{is_due_at}
@@ -18,7 +19,8 @@ use Rattle.ipc_candidates.specs.Candidates.{CoversAt, is_among, touched, watches
 use Rattle.ipc_candidates.proofs.AtPlaces.{IsTouched as Touching, touched_is}
 use Rattle.ipc_candidates.proofs.AtPlaces.IsTouched.{Due, Named, Watching}
 use Rattle.ipc_candidates.proofs.Kept.{due_at_open}
-use Rattle.ipc_slots.specs.Slots.{Stands}
+use Rattle.ipc_slots.specs.Slots.{Stands, live_of, slot_of}
+use Rattle.ipc_slots.specs.Steps.{standing_in}
 use Rattle.ipc_slots.specs.declared.slots.Slots.{Slots}
 use Rattle.ipc_waits.specs.Keys.{AreWaits}
 use Rattle.ipc_waits.specs.Touching.{waits_touched}
@@ -72,3 +74,13 @@ module _ (P : List Entry) (slots : Slots) (waits : Waits) (legal : Legal P) (sta
 pub quiet_before : (P : List Entry) (e : Entry) (input : Input) → Follows P e → e ≡ Given input → Quiet P
 unfolding Follows
 quiet_before P e input follows is = (rw is at follows).0
+
+-- The empty history
+
+pub nothing_quiet : Quiet []
+unfolding next_output numbers
+nothing_quiet = refl
+
+pub nothing_held : (k : ℕ) → standing_in (slot_of [] k) ≡ None
+unfolding slot_of live_of
+nothing_held k = refl

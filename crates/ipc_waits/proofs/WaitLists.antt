@@ -80,6 +80,14 @@ under_sorted t (x ∷ ws) ordered = go (x.key == t) refl (under_sorted t ws orde
     go true e later = (below (eqb-true x.key t e), later)
     go false e later = later
 
+pub under_twice : (t : ℕ) (ws : List Wait) → under t (under t ws) ≡ under t ws
+under_twice t [] = refl
+under_twice t (x ∷ ws) = go (x.key == t) refl (under_twice t ws)
+  where
+    go : (b : Bool) → (x.key == t) ≡ b → under t (under t ws) ≡ under t ws → under t (cond b (x ∷ under t ws) (under t ws)) ≡ cond b (x ∷ under t ws) (under t ws)
+    go true e later = rw (e, later) refl
+    go false e later = later
+
 -- the first that passes is among them, passes, and is the least of those
 record IsFound (test : ℕ → Bool) (xs : List ℕ) (k : ℕ) : Type 0 where
   pub among : is_among xs k ≡ true

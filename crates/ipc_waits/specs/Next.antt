@@ -1,7 +1,10 @@
 -- What comes next of the calls at some places.
-use Rattle.std.specs.Prelude.{◌≡◌, ℕ, ◌<◌, List, Option, Some, None, option_map, option_and_then, map, length}
+use Rattle.std.specs.Prelude.{◌≡◌, ℕ, ◌<◌, List, Option, Some, None, IsFalse, option_map, option_and_then, map, length}
 use Rattle.std.specs.Option.{option_map_or}
+use Rattle.ipc_words.specs.ThreadId.{number_of}
+use Rattle.ipc_history.specs.Calls.{caller_of}
 use Rattle.ipc_history.specs.NextOutput.{meeting_of}
+use Rattle.ipc_history.specs.Phases.{is_over}
 use Rattle.ipc_history.specs.declared.entry.Entry.{Entry}
 use Rattle.ipc_history.specs.declared.entry.Output.{Output}
 use Rattle.ipc_candidates.specs.Candidates.{source_of}
@@ -10,6 +13,7 @@ use Rattle.ipc_slots.specs.Slots.{slot_at}
 use Rattle.ipc_slots.specs.Steps.{standing_in}
 use Rattle.ipc_slots.specs.declared.slot.Slot.{Slot}
 use Rattle.ipc_slots.specs.declared.slot.Standing.{Standing}
+use Rattle.ipc_waits.specs.declared.queue.Wait.{Wait}
 
 -- the slots at these places
 abbrev pub slots_at : List Slot → List ℕ → List Slot
@@ -37,3 +41,8 @@ pub record IsLeastMeeting (P : List Entry) (table : List Slot) (i : ℕ) (best :
   pub seen : (k : ℕ) → k < i → (s : Standing) → standing_in (slot_at table k) ≡ Some s
       → (m : ℕ × Output) → meeting_under P s.number ≡ Some m → IsFound best m.0
   pub is : (b : ℕ × Output) → best ≡ Some b → meeting_of P b.0 ≡ Some b.1
+
+-- a wait is that of an open call, at its place
+pub record IsOpenAt (P : List Entry) (w : Wait) : Type 0 where
+  pub opened : IsFalse (is_over P w.number)
+  pub place : number_of (caller_of P w.number) ≡ w.place

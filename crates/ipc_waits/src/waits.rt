@@ -4,8 +4,8 @@ ghost use Rattle.ipc_waits.specs.Keys.{HaveAt, SameElsewhere};
 ghost use Rattle.ipc_waits.specs.Touching.{waits_touched};
 
 use crate::deadlines::Deadlines;
-use crate::send_queues::SendQueues;
 use crate::queue::Wait;
+use crate::send_queues::SendQueues;
 use crate::watchers::Watchers;
 use ipc_history::{Entry, Input};
 use ipc_slots::Standing;

@@ -7,4 +7,4 @@ use Rattle.ipc_waits.proofs.deadlines.Deadlines.least_due.Goals as goal
 pub returns : goal.returns
 returns c =
     let due = until c.args.now c.args.self.now in
-    subst (IsLeastNumber due) (sym (c.least_number.ensures ∙ ap (λ l. reduce min (map (λ w. w.number) l)) c.until.ensures)) (least_is due)
+    subst (IsLeastNumber due) (sym (c.least_number.ensures ∙ ap (λ l. reduce min (map (λ w. w.number) l)) c.until.ensures.value)) (least_is due)

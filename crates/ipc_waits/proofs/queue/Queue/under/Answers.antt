@@ -16,9 +16,9 @@ returns-clause-value c =
 pub returns-clause-order : goal.returns-clause-order
 returns-clause-order c =
     subst IsOrdered (sym (take_rest c.until-waits.result.now c.begin_of.result ∙ c.begin_of.ensures.rest))
-        (ordered_filter (λ w. nat_le c.args.key w.key) c.until-waits.result.now c.until-waits.ensures.order)
+    (ordered_filter (λ w. nat_le c.args.key w.key) c.until-waits.result.now c.until-waits.ensures.order)
 
 pub returns-clause-within : goal.returns-clause-within
 returns-clause-within c =
     subst (All (λ w. w.place < table_slots)) (sym (take_rest c.until-waits.result.now c.begin_of.result ∙ c.begin_of.ensures.rest))
-        (All-filter (λ w. nat_le c.args.key w.key) (λ w. w.place < table_slots) c.until-waits.result.now c.until-waits.ensures.within)
+    (All-filter (λ w. nat_le c.args.key w.key) (λ w. w.place < table_slots) c.until-waits.result.now c.until-waits.ensures.within)

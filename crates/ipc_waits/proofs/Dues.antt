@@ -1,5 +1,5 @@
 -- A moment from which a phase is due, and a period that is past.
-use Rattle.std.proofs.Common.{◌≡◌, refl, sym, ◌∙◌, ℕ, ◌+◌, ◌-◌, ◌<◌, ◌^◌, Bool, false, min, nat_le, Option, Some, None, option_map, inl, inr, arith}
+use Rattle.std.proofs.Common.{◌≡◌, refl, sym, ◌∙◌, ℕ, ◌+◌, ◌-◌, ◌<◌, ◌^◌, false, min, nat_le, Option, Some, None, option_map, inl, inr, arith}
 use Rattle.std.proofs.lemmas.Bool.{cases_lt, le-leb, lt-leb}
 use Rattle.std.specs.Option.{option_map_or}
 use Rattle.ipc_words.specs.Time.{span}

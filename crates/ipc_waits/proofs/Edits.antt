@@ -62,10 +62,3 @@ module _ (ws : List Wait) (i : ℕ) (v : Wait) (within : i < length ws) (is : ge
       lone : (a b : Bool) → (b ≡ true → a ≡ false) → a ≡ ((a || b) && not b)
       lone a true h = rw (h refl)
       lone a false h = grind arith
-
-pub in_kept : (ws : List Wait) (v w : Wait) → is_in ws v ≡ false → is_in ws w ≡ (is_in ws w && not (is_same w v))
-in_kept ws v w none = go (is_same w v) refl
-  where
-    go : (b : Bool) → is_same w v ≡ b → is_in ws w ≡ (is_in ws w && not b)
-    go true same = (let absent : is_in ws w ≡ false = ap (is_in ws) (same_is w v same) ∙ none in rw absent)
-    go false other = grind arith

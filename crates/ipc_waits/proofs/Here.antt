@@ -1,7 +1,7 @@
 -- What a queue has at one place.
-use Rattle.std.proofs.Common.{◌≡◌, refl, sym, ap, ap₂, ◌∙◌, ℕ, Bool, true, false, not, ◌&&◌, ◌||◌, ◌==◌, eqb-true, Option, Some, None, List, [], ◌∷◌, arith}
-use Rattle.std.proofs.lemmas.Bool.{and_right, or_from, or_parts, true≢false}
-use Rattle.ipc_waits.specs.Places.{HasHere, IsAt, is_one}
+use Rattle.std.proofs.Common.{◌≡◌, refl, sym, ap, ap₂, ◌∙◌, ℕ, Bool, true, false, not, ◌&&◌, ◌==◌, eqb-true, Option, None, List, [], ◌∷◌}
+use Rattle.std.proofs.lemmas.Bool.{or_from, or_parts, true≢false}
+use Rattle.ipc_waits.specs.Places.{HasHere, is_one}
 use Rattle.ipc_waits.specs.Queues.{is_in, is_placed, is_same}
 use Rattle.ipc_waits.specs.declared.queue.Wait.{Wait}
 use Rattle.ipc_waits.proofs.Sames.{same_itself}
@@ -25,18 +25,3 @@ emptied false = refl
 -- after its wait is taken out
 pub taken_out : (old new : List Wait) (place : ℕ) (wait : Option Wait) → HasHere old place wait → ((w : Wait) → is_in new w ≡ (is_in old w && not (is_one wait w))) → HasHere new place None
 taken_out old new place wait has taken w at = taken w ∙ ap (λ b. b && not (is_one wait w)) (has w at) ∙ emptied (is_one wait w)
-
--- after a wait is put in where it had none
-pub put_in : (old new : List Wait) (place : ℕ) (wait : Option Wait) → HasHere old place None → ((w : Wait) → is_in new w ≡ (is_in old w || is_one wait w)) → HasHere new place wait
-put_in old new place wait none put w at = put w ∙ ap (λ b. b || is_one wait w) (none w at)
-
--- a wait of another place
-pub other_place : (place : ℕ) (wait : Option Wait) (w : Wait) → IsAt place wait → (w.place == place) ≡ false → is_one wait w ≡ false
-other_place place None w at other = refl
-other_place place (Some x) w at other = and_right _ _ (ap (λ k. w.place == k) at ∙ other)
-
-made : ℕ → ℕ → ℕ → Wait
-made number place key = record { key = key; number = number; place = place }
-
-turned : (a b c : Bool) → c ≡ true → (a && b) ≡ ((b && a) && c)
-turned a b c h = grind arith

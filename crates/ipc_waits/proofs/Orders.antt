@@ -7,9 +7,6 @@ use Rattle.ipc_waits.specs.Queues.{IsOrdered, comes_before, is_in, is_same}
 use Rattle.ipc_waits.specs.declared.queue.Wait.{Wait}
 use Rattle.ipc_waits.proofs.Sames.{in_at, in_filter, in_with, same_is, same_itself}
 
-pub before_itself : (w : Wait) → comes_before w w ≡ true
-before_itself w = grind (arith, nat_tests)
-
 pub before_before : (a b c : Wait) → comes_before a b ≡ true → comes_before b c ≡ true → comes_before a c ≡ true
 before_before a b c h k = grind (arith, nat_tests)
 

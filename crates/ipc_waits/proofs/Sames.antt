@@ -21,13 +21,6 @@ same_is a b h =
 pub in_at : (ws : List Wait) (k : ℕ) (d : Wait) → k < length ws → is_in ws (get_or ws k d) ≡ true
 in_at ws k d within = list_any_at (is_same (get_or ws k d)) ws k d within (same_itself (get_or ws k d))
 
--- in a part
-pub in_left : (xs ys : List Wait) (w : Wait) → is_in xs w ≡ true → is_in (xs ++ ys) w ≡ true
-in_left xs ys w h = list_any-append (is_same w) xs ys ∙ or_left _ _ h
-
-pub in_right : (xs ys : List Wait) (w : Wait) → is_in ys w ≡ true → is_in (xs ++ ys) w ≡ true
-in_right xs ys w h = list_any-append (is_same w) xs ys ∙ or_right _ _ h
-
 -- in a list with one more
 swapped : (a b c : Bool) → (a || (b || c)) ≡ ((a || c) || b)
 swapped a b c = grind arith

@@ -1,5 +1,5 @@
 ghost use Rattle.std.specs.Prelude.{◌≡◌, ◌+◌, ◌^◌, ◌≤◌, ◌<◌, [], ◌∷◌, ◌++◌, ◌==◌, ℕ, length, take, vec_len, vec_capacity};
-ghost use Rattle.std.specs.Prelude.{◌↔◌, Some, None, IsNone, IfSome, IsTrue, IsFalse, true, false, IfOk, OnOk, nat_lt, sum_by};
+ghost use Rattle.std.specs.Prelude.{◌↔◌, Some, None, IsNone, IfSome, IsTrue, IsFalse, true, false, IfErr, IfOk, OnErr, OnOk, nat_lt, sum_by};
 ghost use Rattle.std.specs.List.{IsDistinct, list_any};
 ghost use Rattle.ipc_words.specs.Limits.{last_moment};
 ghost use Rattle.ipc_history.specs.declared.entry.Entry.TheVariants.{Given, Written};
@@ -28,7 +28,7 @@ ghost use Rattle.ipc_core.specs.ExchangeRegisters.{exreg_answer, phases_of};
 
 use crate::answers::ExregAnswer;
 use ipc_desks::{Desks, Finished, Prepared};
-use ipc_history::{Call, Entry, History, Input, Outcome, Output};
+use ipc_history::{Call, EnteredCall, Entry, History, Input, Outcome, Output};
 use ipc_slots::{Focus, Slots};
 use ipc_words::limits::TABLE_SLOTS;
 use ipc_words::{Control, ThreadId};
@@ -72,6 +72,7 @@ impl Course {
     /// The course of the empty history.
     pub(crate) fn new(alloc: Global) -> Result<Course, AllocError>
         ensures entries { IfOk result (λ course. course.entries ≡ []) }
+        ensures room { IfOk result (λ course. course.room ≡ 0) }
         ensures taken { IfOk result (λ course. course.taken ≡ []) }
         ensures since { IfOk result (λ course. course.since ≡ 0) }
     {
@@ -271,12 +272,21 @@ impl Course {
         Control::from_word(receive + send)
     }
 
+    /// For how many more entries there is room.
+    pub(crate) fn spare(&self) -> u64
+        ensures { result + length self.now.entries ≡ self.now.room }
+    {
+        self.history.spare() as u64
+    }
+
     /// Makes room for so many more entries. Where memory is refused nothing changes.
     pub(crate) fn reserve(&mut self, more: usize) -> Result<(), AllocError>
         ensures entries { self.new.entries ≡ self.old.entries }
         ensures ok { OnOk result (length self.new.entries + more ≤ self.new.room) }
         ensures room { self.old.room ≤ self.new.room }
         ensures books { SameBooks self.old self.new }
+        ensures err { OnErr result (self.new.room ≡ self.old.room) }
+        ensures memory { OnErr result (self.old.room < length self.old.entries + more) }
     {
         self.history.reserve(more)
     }
@@ -294,15 +304,15 @@ impl Course {
         self.taken.reserve(calls.saturating_sub(self.taken.len()))
     }
 
-    /// Makes what a call needs: room for so many more entries and for its number among those taken, and its copies. Where memory
-    /// is refused what is seen stays as it is, but for more room.
+    /// Makes what a call needs: room for its number among those taken, its copies, a place for it, and room for so many more
+    /// entries, in this order. Where memory is refused the call is handed back, and what a kernel shows stays as it is.
     pub(crate) fn prepare(
         &mut self,
         alloc: Global,
         more: usize,
         number: u64,
-        call: &Call,
-    ) -> Result<Prepared, AllocError>
+        call: Call,
+    ) -> Result<(EnteredCall, Prepared), Call>
         requires { number < 2 ^ 32 }
         ensures entries { self.new.entries ≡ self.old.entries }
         ensures room { self.old.room ≤ self.new.room }
@@ -311,11 +321,22 @@ impl Course {
         ensures places { self.old.places ≤ self.new.places }
         ensures fits { OnOk result (length self.new.entries + more ≤ self.new.room) }
         ensures place { OnOk result (number + 1 ≤ self.new.places) }
-        ensures copies { IfOk result (λ copies. copies ≡ prepared call.now) }
+        ensures call { IfOk result (λ made. made.0 ≡ call) }
+        ensures copies { IfOk result (λ made. made.1 ≡ prepared call) }
+        ensures back { IfErr result (λ refused. refused ≡ call) }
+        ensures err { OnErr result (self.new.room ≡ self.old.room) }
     {
-        self.reserve(more)?;
-        self.reserve_calls(number + 1)?;
-        Prepared::of(alloc, call)
+        let Ok(()) = self.reserve_calls(number + 1) else {
+            return Err(call);
+        };
+        let Ok(copies) = Prepared::of(alloc, &call) else {
+            return Err(call);
+        };
+        let entered = EnteredCall::new(alloc, call)?;
+        let Ok(()) = self.reserve(more) else {
+            return Err(entered.into_call());
+        };
+        Ok((entered, copies))
     }
 
     /// Begins a command: it has finished no call yet.

@@ -22,7 +22,8 @@ impl Model for History {
 impl History {
     /// An empty history. Takes no memory.
     pub fn new(alloc: Global) -> History
-        ensures { result.entries ≡ [] }
+        ensures entries { result.entries ≡ [] }
+        ensures room { result.room ≡ 0 }
     {
         History {
             entries: Vec::new(alloc),
@@ -48,6 +49,13 @@ impl History {
         ensures { result ≡ (length self.now.entries == 0) }
     {
         self.entries.is_empty()
+    }
+
+    /// For how many more entries there is room.
+    pub fn spare(&self) -> usize
+        ensures { result + length self.now.entries ≡ self.now.room }
+    {
+        self.entries.capacity() - self.entries.len()
     }
 
     /// Makes room for so many more entries. The room grows by doubling. Where memory is refused nothing changes.

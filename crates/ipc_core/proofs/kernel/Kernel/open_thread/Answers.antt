@@ -1,4 +1,4 @@
-use Rattle.std.proofs.Common.{◌≡◌, refl, sym, ap, ◌∙◌, subst, false, IsTrue, Some, inl, inr, arith}
+use Rattle.std.proofs.Common.{◌≡◌, ◌+◌, ◌<◌, length, refl, sym, ap, ◌∙◌, subst, false, IsTrue, Some, inl, inr, arith}
 use Rattle.ipc_history.specs.Threads.{is_taken, next_version}
 use Rattle.ipc_history.specs.Legal.{is_admissible}
 use Rattle.ipc_history.specs.declared.entry.Input.TheVariants.{Opened}
@@ -44,6 +44,9 @@ returns-in_default-reserve-clause-cause c =
     let range : InRange c.args.number c.args.space = record { least = omega arith; most = omega arith; inner = omega arith; outer = omega arith } in
     inr (open_allowed c.args.self.now c.args.number c.args.space range (cc) c.in-Some.version (cc) (not_since _ c.in-Some-room_for.ensures.full.1), refl)
 
+pub returns-in_default-reserve-clause-memory : goal.returns-in_default-reserve-clause-memory
+returns-in_default-reserve-clause-memory c = λ is. c.in-Some-room_for.ensures.least (subst (λ k. k.room < length k.history + c.in-Some-room_for.room) c.self.view_is c.in_default-reserve.ensures.memory)
+
 pub take_input-requires-clause-admissible : goal.take_input-requires-clause-admissible
 take_input-requires-clause-admissible c =
     let history : c.self.inside.course.entries ≡ c.args.self.now.history = ap (λ k. k.history) c.self.view_is in
@@ -78,5 +81,5 @@ returns-clause-ok c =
     let free : is_taken c.args.self.now.history c.args.number ≡ false = cc in
     let next : next_version c.args.self.now.history c.args.number ≡ Some c.in-Some.version = cc in
     let allowed = open_allowed c.args.self.now c.args.number c.args.space range free c.in-Some.version next (not_since _ c.in-Some-room_for.ensures.full.1) in
-    let takes = takes_input _ c.args.self.now _ c.reserve.new.self (Opened c.thread_id-thread.result c.args.space) (Opened c.thread_id-thread.result c.args.space) c.self.view_is c.reserve.ensures.entries refl c.take_input.ensures.settled c.take_input.ensures.legal c.take_input.ensures.since refl refl refl in
+    let takes = takes_input _ c.args.self.now _ c.reserve.new.self (Opened c.thread_id-thread.result c.args.space) (Opened c.thread_id-thread.result c.args.space) c.self.view_is c.reserve.ensures.entries refl c.take_input.ensures.settled c.take_input.ensures.legal c.take_input.ensures.since refl refl refl (omega (arith, c.reserve.ensures.room, c.take_input.ensures.room)) in
     (allowed, record { number_is = c.thread_id-thread.ensures.number; version_is = next ∙ ap Some (sym c.thread_id-thread.ensures.version); takes = takes; taken = c.take_input.ensures.taken ∙ (c.reserve.ensures.books.taken ∙ ap (λ k. k.taken) c.self.view_is) })

@@ -1,4 +1,4 @@
-use Rattle.std.proofs.Common.{◌≡◌, refl, sym, ap, ◌∙◌, subst, true, IsTrue, inl, inr}
+use Rattle.std.proofs.Common.{◌≡◌, ◌+◌, ◌<◌, arith, length, refl, sym, ap, ◌∙◌, subst, true, IsTrue, inl, inr}
 use Rattle.ipc_words.specs.Control.{masked_of}
 use Rattle.ipc_history.specs.Threads.{is_live}
 use Rattle.ipc_history.specs.Legal.{is_admissible}
@@ -33,6 +33,9 @@ returns-in_default-reserve-clause-cause c =
     let history : c.self.inside.course.entries ≡ c.args.self.now.history = ap (λ k. k.history) c.self.view_is in
     inr (exreg_allowed c.args.self.now c.args.thread (cc) (cc) (not_since _ c.in-Some.ensures.full.1), refl)
 
+pub returns-in_default-reserve-clause-memory : goal.returns-in_default-reserve-clause-memory
+returns-in_default-reserve-clause-memory c = λ is. c.in-Some.ensures.least (subst (λ k. k.room < length k.history + c.in-Some.room) c.self.view_is c.in_default-reserve.ensures.memory)
+
 pub take_input-requires-clause-admissible : goal.take_input-requires-clause-admissible
 take_input-requires-clause-admissible c =
     let history : c.self.inside.course.entries ≡ c.args.self.now.history = ap (λ k. k.history) c.self.view_is in
@@ -63,7 +66,7 @@ returns-clause-ok c =
     let history : c.self.inside.course.entries ≡ c.args.self.now.history = ap (λ k. k.history) c.self.view_is in
     let allowed = exreg_allowed c.args.self.now c.args.thread (cc) (cc) (not_since _ c.in-Some.ensures.full.1) in
     let same = ap (λ m. Exreg c.args.thread c.args.target m) c.masked.ensures in
-    let takes = takes_input _ c.args.self.now _ c.reserve.new.self (Exreg c.args.thread c.args.target c.masked.result) (Exreg c.args.thread c.args.target (masked_of c.args.control)) c.self.view_is c.reserve.ensures.entries same c.take_input.ensures.settled c.take_input.ensures.legal c.take_input.ensures.since refl refl refl in
+    let takes = takes_input _ c.args.self.now _ c.reserve.new.self (Exreg c.args.thread c.args.target c.masked.result) (Exreg c.args.thread c.args.target (masked_of c.args.control)) c.self.view_is c.reserve.ensures.entries same c.take_input.ensures.settled c.take_input.ensures.legal c.take_input.ensures.since refl refl refl (omega (arith, c.reserve.ensures.room, c.take_input.ensures.room)) in
     (allowed, record { answer_is = c.exreg_answer-answer.ensures ∙ ap (λ l. exreg_answer l c.args.thread c.args.target) (c.reserve.ensures.entries ∙ history); takes = takes; taken = c.take_input.ensures.taken ∙ (c.reserve.ensures.books.taken ∙ ap (λ k. k.taken) c.self.view_is) })
 
 pub exreg_answer-answer-requires : goal.exreg_answer-answer-requires

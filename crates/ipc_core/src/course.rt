@@ -1,5 +1,6 @@
 ghost use Rattle.std.specs.Prelude.{◌≡◌, ◌+◌, ◌^◌, ◌≤◌, ◌<◌, [], ◌∷◌, ◌++◌, ◌==◌, ℕ, length, take, vec_len, vec_capacity};
-ghost use Rattle.std.specs.Prelude.{◌↔◌, Some, None, IsNone, IfSome, IsTrue, IsFalse, true, false, IfErr, IfOk, OnErr, OnOk, nat_lt, sum_by};
+ghost use Rattle.std.specs.Prelude.{◌↔◌, Some, None, IsNone, IfSome, IsTrue, IsFalse, true, false, nat_lt, sum_by};
+ghost use Rattle.std.specs.Prelude.{IfErr, IfOk, OnErr, OnOk};
 ghost use Rattle.std.specs.List.{IsDistinct, list_any};
 ghost use Rattle.ipc_words.specs.Limits.{last_moment};
 ghost use Rattle.ipc_history.specs.declared.entry.Entry.TheVariants.{Given, Written};

@@ -179,8 +179,8 @@ impl Kernel {
 }
 
 impl Kernel {
-    /// For how many more entries to make room: at least for those that are pledged and a need. None where they would pass the
-    /// limit. More than those only where there is room already. Asks each call only where the most that can be pledged does not fit.
+    /// For how many more entries to make room: those that are pledged and a need, or more where there is room for more. None
+    /// where they would pass the limit. Asks each call only where the most that can be pledged does not fit.
     fn room_for(&self, need: u64) -> Option<usize>
         ensures full { IsNone result ↔ IsTrue (is_full self.now need) }
         ensures value { IfSome result (λ more. pledged self.now.history + need ≤ more) }

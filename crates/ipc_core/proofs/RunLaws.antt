@@ -19,9 +19,6 @@ use Rattle.ipc_core.specs.Effects.{Ticks}
 use Rattle.ipc_core.specs.KernelParts.{KernelParts, without_room}
 use Rattle.ipc_core.specs.Obeying.{Does, Obeys, ObeysOr, Runs, cause_of}
 use Rattle.ipc_core.specs.Steps.{Takes, at_moment, taken_after}
-use Rattle.ipc_core.specs.Outcomes.{has_untaken, is_busy, outcome_to_take}
-use Rattle.ipc_core.specs.Refusals.{enter_refusal, exreg_refusal, open_refusal}
-use Rattle.ipc_core.specs.Room.{is_full}
 use Rattle.ipc_core.specs.Laws.{RunsOnce}
 use Rattle.ipc_core.specs.declared.answers.Advance.TheVariants.{Moved, Idle}
 use Rattle.ipc_core.specs.declared.command.Answer.{Answer}
@@ -29,6 +26,7 @@ use Rattle.ipc_core.specs.declared.command.Answer.TheVariants.{Opened, Entered, 
 use Rattle.ipc_core.specs.declared.command.Command.{Command}
 use Rattle.ipc_core.specs.declared.command.Command.TheVariants.{Open, Enter, Exreg, Broke, At, Advance, Take}
 use Rattle.ipc_core.specs.declared.refusal.Refusal.{Refusal}
+use Rattle.ipc_core.proofs.SeenFrom.{cause_seen, does_seen}
 
 -- a thread is its number and its version
 same_thread : (t u number version : ℕ) → number_of t ≡ number → number_of u ≡ number → Some (version_of t) ≡ Some version → Some (version_of u) ≡ Some version → t ≡ u
@@ -168,39 +166,14 @@ obeys_legal old new command answer legal obeys = go (cause_of old command) obeys
     go (Some refusal) x = rw x.1 legal
     go None x = does_legal old new command answer legal x
 
--- what a command does to a kernel, said without the room
-took_bare : (old new : KernelParts) (given : Input) → Takes old new given → Takes (without_room old) (without_room new) given
-took_bare old new given takes = record { history = takes.history; legal = takes.legal; since = takes.since; moment = takes.moment; entries_limit = takes.entries_limit; calls_limit = takes.calls_limit; room = omega arith }
-
-does_bare : (old new : KernelParts) (command : Command) (answer : Answer) → Does old command answer new → Does (without_room old) command answer (without_room new)
-unfolding Does outcome_to_take
-does_bare old new (Open number space) (Opened t) a = record { number_is = a.number_is; version_is = a.version_is; takes = took_bare old new _ a.takes; taken = a.taken }
-does_bare old new (Enter thread call) (Entered n) a = record { number_is = a.number_is; takes = took_bare old new _ a.takes; taken = a.taken }
-does_bare old new (Exreg thread target control) (Exchanged x) a = record { answer_is = a.answer_is; takes = took_bare old new _ a.takes; taken = a.taken }
-does_bare old new (Broke thread) Done a = record { takes = took_bare old new _ a.takes; taken = a.taken; room = refl }
-does_bare old new (At reading) Done a = record { moment = a.moment; history = a.history; legal = a.legal; since = a.since; taken = a.taken; entries_limit = a.entries_limit; calls_limit = a.calls_limit; room = refl }
-does_bare old new Advance (Advanced Moved) a = record { number = a.number; is_next = a.is_next; takes = took_bare old new _ a.takes; taken = a.taken; room = refl }
-does_bare old new Advance (Advanced Idle) a = (a.0, ap without_room a.1)
-does_bare old new (Take thread) (Taken outcome) a = record { outcome_is = a.outcome_is; taken = ap without_room a.taken }
-does_bare old new _ _ a = absurd a
-
-cause_bare : (old : KernelParts) (command : Command) → cause_of (without_room old) command ≡ cause_of old command
-unfolding cause_of open_refusal enter_refusal exreg_refusal is_busy has_untaken is_full
-cause_bare old (Open number space) = refl
-cause_bare old (Enter thread call) = refl
-cause_bare old (Exreg thread target control) = refl
-cause_bare old (Broke thread) = refl
-cause_bare old (At reading) = refl
-cause_bare old Advance = refl
-cause_bare old (Take thread) = refl
-
+-- a command that is obeyed, said without the room
 obeys_bare : (old new : KernelParts) (command : Command) (answer : Answer) → Obeys old command answer new → Obeys (without_room old) command answer (without_room new)
 unfolding Obeys
-obeys_bare old new command answer obeys = subst (λ cause. ObeysOr cause (without_room old) command answer (without_room new)) (sym (cause_bare old command)) (go (cause_of old command) obeys)
+obeys_bare old new command answer obeys = subst (λ cause. ObeysOr cause (without_room old) command answer (without_room new)) (sym (cause_seen old.since old command)) (go (cause_of old command) obeys)
   where
     go : (cause : Option Refusal) → ObeysOr cause old command answer new → ObeysOr cause (without_room old) command answer (without_room new)
     go (Some refusal) x = (x.0, ap without_room x.1)
-    go None x = does_bare old new command answer x
+    go None x = does_seen old.since old new command answer x
 
 -- one after the other, from kernels that are the same but for the room
 runs_from : (old again one other : KernelParts) (commands : List Command) (answers others : List Answer) → without_room old ≡ without_room again → Legal old.history → Runs old commands answers one → Runs again commands others other → (answers ≡ others) × (without_room one ≡ without_room other)

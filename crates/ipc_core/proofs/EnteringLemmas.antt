@@ -90,8 +90,8 @@ pub passes_may_call : (kernel : KernelParts) (thread made : ℕ) (call : CallPar
 passes_may_call kernel thread made call H pass same normal = subst (λ l. IsTrue (is_admissible l (Called (made + 1) thread call))) (sym same) (may_call kernel thread (made + 1) call pass.live pass.free (ap (λ n. n + 1) pass.made_is) normal)
 
 -- the room that was made is enough
-pub called_room : (kernel : KernelParts) (Q : List Entry) (more need wanted places : ℕ) → Q ≡ kernel.history → Legal Q → pledged kernel.history + need ≤ more → need ≡ wanted → length Q + more ≤ places → length Q + room_owed Q + wanted ≤ places
-called_room kernel Q more need wanted places same legal pledge needed fits = let covers = pledge_covers Q legal in let counted : pledged kernel.history ≡ pledged Q = ap pledged (sym same) in omega arith
+pub called_room : (Q : List Entry) (need wanted places : ℕ) → Legal Q → need ≡ wanted → length Q + (pledged Q + need) ≤ places → length Q + room_owed Q + wanted ≤ places
+called_room Q need wanted places legal needed fits = let covers = pledge_covers Q legal in omega arith
 
 -- and the limit is kept
 pub called_within : (kernel : KernelParts) (thread made limit : ℕ) (call : CallParts) (Q : List Entry) → Passes kernel thread call made → Q ≡ kernel.history → limit ≡ kernel.entries_limit → Legal Q → length Q + room_owed Q + call_need call ≤ limit

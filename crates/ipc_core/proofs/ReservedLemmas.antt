@@ -1,7 +1,7 @@
 -- The room that is made for a command, and the kernel after the command took it.
 use Rattle.std.proofs.lemmas.Bool.{le-ltb, lt-ltb, ltb-true, ltb-false}
 use Rattle.std.proofs.lemmas.List.Sums.{sum_by-cons}
-use Rattle.std.proofs.Common.{◌≡◌, min, sym, ap, ◌∙◌, subst, ℕ, ◌+◌, ◌-◌, ◌*◌, ◌<◌, ◌≤◌, ◌==◌, if◌then◌else◌, Bool, true, false, not, cond, List, [], ◌∷◌, length, IsTrue, Option, Some, None, IfSome, sum_by, arith}
+use Rattle.std.proofs.Common.{◌≡◌, sym, ap, ◌∙◌, subst, ℕ, ◌+◌, ◌-◌, ◌*◌, ◌<◌, ◌≤◌, ◌==◌, if◌then◌else◌, Bool, true, false, not, cond, List, [], ◌∷◌, length, IsTrue, Option, Some, None, IfSome, sum_by, arith}
 use Rattle.std.specs.Prelude.{◌↔◌}
 use Rattle.ipc_core.specs.CourseParts.{CourseParts}
 use Rattle.ipc_history.specs.Legal.{Legal, is_admissible}
@@ -37,12 +37,6 @@ unfolding pledged
 room_where H need live calls None live_is calls_are none = none
 room_where H need live calls (Some room) live_is calls_are some = let same : room ≡ 2 * live + calls + need = some in omega arith
 
--- and no more than that
-pub room_least : (H : List Entry) (room need live calls : ℕ) (found : Option ℕ) → live ≡ live_threads H → calls ≡ sum_by (pledge_of H) (numbers H) → IfSome found (λ more. more ≡ 2 * live + calls + need) → IfSome found (λ more. room < length H + more → room < length H + pledged H + need)
-unfolding pledged
-room_least H room need live calls None live_is calls_are none = none
-room_least H room need live calls (Some more) live_is calls_are some = λ less. (let same : more ≡ 2 * live + calls + need = some in omega arith)
-
 -- no thread has more pledged than this
 call_most : (H : List Entry) → Legal H → (n : ℕ) → pledge_of H n ≤ 37 * cond (not (is_over H n)) 1 0
 unfolding pledge_of
@@ -65,9 +59,9 @@ pub pledged_most : (H : List Entry) → Legal H → pledged H ≤ 39 * live_thre
 unfolding pledged
 pledged_most H legal = omega (arith, calls_most H legal, open_bound H legal)
 
-pub room_most : (kernel : KernelParts) (need left spare free live : ℕ) → Legal kernel.history → left + length kernel.history ≡ kernel.entries_limit → live ≡ live_threads kernel.history → free ≡ min left spare → need ≤ free → 39 * live ≤ free - need → is_full kernel need ≡ false
+pub room_most : (kernel : KernelParts) (need left live : ℕ) → Legal kernel.history → left + length kernel.history ≡ kernel.entries_limit → live ≡ live_threads kernel.history → need ≤ left → 39 * live ≤ left - need → is_full kernel need ≡ false
 unfolding is_full
-room_most kernel need left spare free live legal split live_is least fits most = let bound = pledged_most kernel.history legal in le-ltb _ _ (omega arith)
+room_most kernel need left live legal split live_is fits most = let bound = pledged_most kernel.history legal in le-ltb _ _ (omega arith)
 
 -- what is pledged and needed fits where the history is not full
 within_where : (kernel : KernelParts) (need : ℕ) → is_full kernel need ≡ false → length kernel.history + pledged kernel.history + need ≤ kernel.entries_limit
@@ -90,9 +84,9 @@ kernel_kept entries_limit calls_limit moment old kept kernel same more = record 
 }
 
 -- what is pledged and needed was reserved
-module _ (view kernel : KernelParts) (old kept : CourseParts) (need room : ℕ) (view_is : view ≡ kernel) where
-  pub reserved : IsKernel view.entries_limit view.calls_limit view.moment old → old.entries ≡ view.history → kept.entries ≡ old.entries → old.room ≤ kept.room → is_full kernel need ≡ false → pledged kernel.history + need ≤ room → length kept.entries + room ≤ kept.room → HasRoomFor view.entries_limit view.calls_limit view.moment kept need
-  reserved stood before same more not_full room_is made =
+module _ (view kernel : KernelParts) (old kept : CourseParts) (need : ℕ) (view_is : view ≡ kernel) where
+  pub reserved : IsKernel view.entries_limit view.calls_limit view.moment old → old.entries ≡ view.history → kept.entries ≡ old.entries → old.room ≤ kept.room → is_full kernel need ≡ false → length kept.entries + (pledged kept.entries + need) ≤ kept.room → HasRoomFor view.entries_limit view.calls_limit view.moment kept need
+  reserved stood before same more not_full made =
       let history : kept.entries ≡ kernel.history = same ∙ (before ∙ ap (λ k. k.history) view_is) in
       let limit : view.entries_limit ≡ kernel.entries_limit = ap (λ k. k.entries_limit) view_is in
       let stands = kernel_kept view.entries_limit view.calls_limit view.moment old kept stood same more in

@@ -13,7 +13,7 @@ ghost use Rattle.ipc_history.specs.Legal.{Legal, Quiet, Follows, is_admissible, 
 ghost use Rattle.ipc_history.specs.NextOutput.{next_output};
 ghost use Rattle.ipc_history.specs.Settled.{Continued, Settled};
 ghost use Rattle.ipc_history.specs.Timing.{is_due_at};
-ghost use Rattle.ipc_laws.specs.Counting.{open_calls, room_owed, live_threads, pledge_of};
+ghost use Rattle.ipc_laws.specs.Counting.{open_calls, pledged, room_owed, live_threads, pledge_of};
 ghost use Rattle.ipc_desks.specs.CallsOf.{is_busy, last_call, made_by, outcome_to_take, taken_by};
 ghost use Rattle.ipc_desks.specs.Desks.{Keeps};
 ghost use Rattle.ipc_desks.specs.Messages.{prepared};
@@ -31,7 +31,7 @@ use crate::answers::ExregAnswer;
 use ipc_desks::{Desks, Finished, Prepared};
 use ipc_history::{Call, EnteredCall, Entry, History, Input, Outcome, Output};
 use ipc_slots::{Focus, Slots};
-use ipc_words::limits::TABLE_SLOTS;
+use ipc_words::limits::{PLEDGE_OF_THREAD, TABLE_SLOTS};
 use ipc_words::{Control, ThreadId};
 use std::alloc::{AllocError, Global};
 use std::marker::Model;
@@ -273,15 +273,8 @@ impl Course {
         Control::from_word(receive + send)
     }
 
-    /// For how many more entries there is room.
-    pub(crate) fn spare(&self) -> u64
-        ensures { result + length self.now.entries ≡ self.now.room }
-    {
-        self.history.spare() as u64
-    }
-
     /// Makes room for so many more entries. Where memory is refused nothing changes.
-    pub(crate) fn reserve(&mut self, more: usize) -> Result<(), AllocError>
+    fn reserve(&mut self, more: usize) -> Result<(), AllocError>
         ensures entries { self.new.entries ≡ self.old.entries }
         ensures ok { OnOk result (length self.new.entries + more ≤ self.new.room) }
         ensures room { self.old.room ≤ self.new.room }
@@ -290,6 +283,26 @@ impl Course {
         ensures memory { OnErr result (self.old.room < length self.old.entries + more) }
     {
         self.history.reserve(more)
+    }
+
+    /// Makes room for so many more entries; where that is refused, for those that are pledged and a need alone. Where memory is
+    /// refused nothing changes.
+    #[tactic(auto, unfolding(ipc_laws::specs::Counting::pledged))]
+    pub(crate) fn make_room(&mut self, more: usize, need: u64) -> Result<(), AllocError>
+        requires { pledged self.old.entries + need ≤ more }
+        ensures entries { self.new.entries ≡ self.old.entries }
+        ensures ok { OnOk result (length self.new.entries + (pledged self.new.entries + need) ≤ self.new.room) }
+        ensures room { self.old.room ≤ self.new.room }
+        ensures books { SameBooks self.old self.new }
+        ensures err { OnErr result (self.new.room ≡ self.old.room) }
+        ensures memory { OnErr result (self.old.room < length self.old.entries + pledged self.old.entries + need) }
+    {
+        if self.reserve(more).is_ok() {
+            return Ok(());
+        }
+        let threads = PLEDGE_OF_THREAD * self.live();
+        let calls = self.pledged_for_calls() as u64;
+        self.reserve((threads + calls + need) as usize)
     }
 
     /// Makes room for so many calls whose outcome is taken. Where memory is refused nothing changes.
@@ -305,22 +318,24 @@ impl Course {
         self.taken.reserve(calls.saturating_sub(self.taken.len()))
     }
 
-    /// Makes what a call needs: room for its number among those taken, its copies, a place for it, and room for so many more
-    /// entries, in this order. Where memory is refused the call is handed back, and what a kernel shows stays as it is.
+    /// Makes what a call needs: room for its number among those taken, its copies, a place for it, and room for entries, in
+    /// this order. Where memory is refused the call is handed back, and what a kernel shows stays as it is.
     pub(crate) fn prepare(
         &mut self,
         alloc: Global,
         more: usize,
+        need: u64,
         number: u64,
         call: Call,
     ) -> Result<(EnteredCall, Prepared), Call>
-        requires { number < 2 ^ 32 }
+        requires few { number < 2 ^ 32 }
+        requires enough { pledged self.old.entries + need ≤ more }
         ensures entries { self.new.entries ≡ self.old.entries }
         ensures room { self.old.room ≤ self.new.room }
         ensures taken { self.new.taken ≡ self.old.taken }
         ensures since { self.new.since ≡ self.old.since }
         ensures places { self.old.places ≤ self.new.places }
-        ensures fits { OnOk result (length self.new.entries + more ≤ self.new.room) }
+        ensures fits { OnOk result (length self.new.entries + (pledged self.new.entries + need) ≤ self.new.room) }
         ensures place { OnOk result (number + 1 ≤ self.new.places) }
         ensures call { IfOk result (λ made. made.0 ≡ call) }
         ensures copies { IfOk result (λ made. made.1 ≡ prepared call) }
@@ -334,7 +349,7 @@ impl Course {
             return Err(call);
         };
         let entered = EnteredCall::new(alloc, call)?;
-        let Ok(()) = self.reserve(more) else {
+        let Ok(()) = self.make_room(more, need) else {
             return Err(entered.into_call());
         };
         Ok((entered, copies))

@@ -179,18 +179,16 @@ impl Kernel {
 }
 
 impl Kernel {
-    /// For how many more entries to make room: those that are pledged and a need, or more where there is room for more. None
-    /// where they would pass the limit. Asks each call only where the most that can be pledged does not fit.
+    /// For how many more entries to make room: at least for those that are pledged and a need. None where they would pass the
+    /// limit. Asks each call only where the most that can be pledged would pass it.
     fn room_for(&self, need: u64) -> Option<usize>
         ensures full { IsNone result ↔ IsTrue (is_full self.now need) }
         ensures value { IfSome result (λ more. pledged self.now.history + need ≤ more) }
-        ensures least { IfSome result (λ more. self.now.room < length self.now.history + more → LacksRoomFor self.now need) }
     {
         let left = self.entries_limit - self.course.entries().len() as u64;
         let live = self.course.live();
         let most = MOST_PLEDGED * live;
-        let free = left.min(self.course.spare());
-        if need <= free && most <= free - need {
+        if need <= left && most <= left - need {
             return Some((most + need) as usize);
         }
         room_within(left, live, self.course.pledged_for_calls(), need)
@@ -231,7 +229,7 @@ impl Kernel {
         let Some(room) = self.room_for(NEED_OF_OPEN) else {
             return Err(Refusal::HistoryFull);
         };
-        let Ok(()) = self.course.reserve(room) else {
+        let Ok(()) = self.course.make_room(room, NEED_OF_OPEN) else {
             return Err(Refusal::NoMemory);
         };
         let thread = thread_id(number as u32, version);
@@ -361,7 +359,8 @@ impl Kernel {
                 call,
             });
         }
-        let Some(room) = self.room_for(call_need(&call)) else {
+        let need = call_need(&call);
+        let Some(room) = self.room_for(need) else {
             return Err(EnterRefused {
                 refusal: Refusal::HistoryFull,
                 call,
@@ -370,7 +369,7 @@ impl Kernel {
         let number = made + 1;
         let is_normal = call.is_normal();
         prove!(is_normal);
-        match self.course.prepare(self.alloc, room, number, call) {
+        match self.course.prepare(self.alloc, room, need, number, call) {
             Ok((entered, copies)) => {
                 self.course.take_input(
                     self.moment,
@@ -425,7 +424,7 @@ impl Kernel {
         let Some(room) = self.room_for(NEED_OF_EXCHANGE) else {
             return Err(Refusal::HistoryFull);
         };
-        let Ok(()) = self.course.reserve(room) else {
+        let Ok(()) = self.course.make_room(room, NEED_OF_EXCHANGE) else {
             return Err(Refusal::NoMemory);
         };
         let answer = self.course.exreg_answer(thread, target);

@@ -51,13 +51,6 @@ impl History {
         self.entries.is_empty()
     }
 
-    /// For how many more entries there is room.
-    pub fn spare(&self) -> usize
-        ensures { result + length self.now.entries ≡ self.now.room }
-    {
-        self.entries.capacity() - self.entries.len()
-    }
-
     /// Makes room for so many more entries. The room grows by doubling. Where memory is refused nothing changes.
     pub fn reserve(&mut self, more: usize) -> Result<(), AllocError>
         ensures entries { self.new.entries ≡ self.old.entries }

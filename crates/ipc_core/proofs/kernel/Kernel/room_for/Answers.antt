@@ -1,10 +1,10 @@
 use Rattle.std.proofs.lemmas.Bool.{false≢true}
-use Rattle.std.proofs.Common.{◌≡◌, ◌+◌, ◌*◌, ◌<◌, ◌≤◌, sym, ◌∙◌, false, ap, subst, IfSome, IsNone, IsTrue, length, arith}
+use Rattle.std.proofs.Common.{◌≡◌, ◌+◌, ◌*◌, ◌≤◌, sym, ◌∙◌, false, ap, subst, IfSome, IsNone, IsTrue, length, arith}
 use Rattle.std.specs.Prelude.{◌↔◌}
 use Rattle.ipc_laws.specs.Counting.{pledged}
-use Rattle.ipc_core.specs.Room.{LacksRoomFor, is_full}
+use Rattle.ipc_core.specs.Room.{is_full}
 use Rattle.ipc_laws.proofs.LiveThreads.{live_bound}
-use Rattle.ipc_core.proofs.ReservedLemmas.{full_where, pledged_most, room_least, room_most, room_where}
+use Rattle.ipc_core.proofs.ReservedLemmas.{full_where, pledged_most, room_most, room_where}
 use Rattle.ipc_core.proofs.kernel.Kernel.room_for.Goals as goal
 
 pub room_within-requires : goal.room_within-requires
@@ -22,19 +22,12 @@ returns-clause-value c = subst (λ k. IfSome c.room_within.result (λ room. pled
 pub overflow_mul-most : goal.overflow_mul-most
 overflow_mul-most c = let few = live_bound c.self.inside.course.entries c.self.invariant.kernel.stands.legal in omega (arith, few, c.live-live.ensures)
 
-pub returns-then-most-free-clause-full : goal.returns-then-most-free-clause-full
-returns-then-most-free-clause-full c =
+pub returns-then-most-left-clause-full : goal.returns-then-most-left-clause-full
+returns-then-most-left-clause-full c =
     let count : length c.entries.result.now ≡ length c.self.inside.course.entries = ap length c.entries.ensures.entries in
     let within = c.self.invariant.kernel.stands.within in
-    let room : is_full c.args.self.now c.args.need ≡ false = subst (λ k. is_full k c.args.need ≡ false) c.self.view_is (room_most _ c.args.need _ _ _ c.live-live.result c.self.invariant.kernel.stands.legal (omega arith) c.live-live.ensures c.min-free.ensures c.if-need-free.true c.if-most-free.true) in
+    let room : is_full c.args.self.now c.args.need ≡ false = subst (λ k. is_full k c.args.need ≡ false) c.self.view_is (room_most _ c.args.need _ c.live-live.result c.self.invariant.kernel.stands.legal (omega arith) c.live-live.ensures c.if-need-left.true c.if-most-left.true) in
     (λ none. absurd (false≢true (sym none)), λ full. absurd (false≢true (sym room ∙ full)))
 
-pub returns-then-most-free-clause-value : goal.returns-then-most-free-clause-value
-returns-then-most-free-clause-value c = subst (λ k. pledged k.history + c.args.need ≤ 39 * c.live-live.result + c.args.need) c.self.view_is (omega (arith, pledged_most c.self.inside.course.entries c.self.invariant.kernel.stands.legal, c.live-live.ensures))
-
-pub returns-clause-least : goal.returns-clause-least
-returns-clause-least c = subst (λ k. IfSome c.room_within.result (λ more. k.room < length k.history + more → LacksRoomFor k c.args.need)) c.self.view_is (room_least c.self.inside.course.entries c.self.inside.course.room c.args.need c.live-live.result c.pledged_for_calls.result c.room_within.result c.live-live.ensures c.pledged_for_calls.ensures c.room_within.ensures.value)
-
--- where the most that can be pledged fits in the room, none is missing
-pub returns-then-most-free-clause-least : goal.returns-then-most-free-clause-least
-returns-then-most-free-clause-least c = subst (λ k. k.room < length k.history + (39 * c.live-live.result + c.args.need) → LacksRoomFor k c.args.need) c.self.view_is (λ less. absurd (let least = c.min-free.ensures in let spare = c.spare.ensures in omega (arith, c.if-need-free.true, c.if-most-free.true)))
+pub returns-then-most-left-clause-value : goal.returns-then-most-left-clause-value
+returns-then-most-left-clause-value c = subst (λ k. pledged k.history + c.args.need ≤ 39 * c.live-live.result + c.args.need) c.self.view_is (omega (arith, pledged_most c.self.inside.course.entries c.self.invariant.kernel.stands.legal, c.live-live.ensures))

@@ -90,8 +90,8 @@ pub passes_may_call : (kernel : KernelParts) (thread made : ℕ) (call : CallPar
 passes_may_call kernel thread made call H pass same normal = subst (λ l. IsTrue (is_admissible l (Called (made + 1) thread call))) (sym same) (may_call kernel thread (made + 1) call pass.live pass.free (ap (λ n. n + 1) pass.made_is) normal)
 
 -- the room that was made is enough
-pub called_room : (kernel : KernelParts) (Q : List Entry) (more need wanted places : ℕ) → Q ≡ kernel.history → Legal Q → pledged kernel.history + need ≤ more → need ≡ wanted → length Q + more ≤ places → length Q + room_owed Q + wanted ≤ places
-called_room kernel Q more need wanted places same legal pledge needed fits = let covers = pledge_covers Q legal in let counted : pledged kernel.history ≡ pledged Q = ap pledged (sym same) in omega arith
+pub called_room : (Q : List Entry) (need wanted places : ℕ) → Legal Q → need ≡ wanted → length Q + (pledged Q + need) ≤ places → length Q + room_owed Q + wanted ≤ places
+called_room Q need wanted places legal needed fits = let covers = pledge_covers Q legal in omega arith
 
 -- and the limit is kept
 pub called_within : (kernel : KernelParts) (thread made limit : ℕ) (call : CallParts) (Q : List Entry) → Passes kernel thread call made → Q ≡ kernel.history → limit ≡ kernel.entries_limit → Legal Q → length Q + room_owed Q + call_need call ≤ limit
@@ -100,9 +100,9 @@ called_within kernel thread made limit call Q pass same same_limit legal =
     let moved : length Q + pledged Q + call_need call ≤ limit = rw (same, same_limit) within in
     owed_fits Q (call_need call) limit legal moved
 
-pub enters : (inside kernel new : KernelParts) (thread number : ℕ) (call : CallParts) → inside ≡ kernel → number ≡ calls_made kernel.history + 1 → Settled (with_input inside.history inside.moment (Called number thread call)) new.history → Legal new.history → new.since ≡ length inside.history → new.moment ≡ inside.moment → new.entries_limit ≡ inside.entries_limit → new.calls_limit ≡ inside.calls_limit → new.taken ≡ inside.taken → Enters kernel new number thread call
-enters inside kernel new thread number call same next settled legal since moment entries_limit calls_limit taken = subst (λ old. Enters old new number thread call) same (record {
+pub enters : (inside kernel new : KernelParts) (thread number : ℕ) (call : CallParts) → inside ≡ kernel → number ≡ calls_made kernel.history + 1 → Settled (with_input inside.history inside.moment (Called number thread call)) new.history → Legal new.history → new.since ≡ length inside.history → new.moment ≡ inside.moment → new.entries_limit ≡ inside.entries_limit → new.calls_limit ≡ inside.calls_limit → inside.room ≤ new.room → new.taken ≡ inside.taken → Enters kernel new number thread call
+enters inside kernel new thread number call same next settled legal since moment entries_limit calls_limit room taken = subst (λ old. Enters old new number thread call) same (record {
   number_is = next ∙ ap (λ k. calls_made k.history + 1) (sym same);
-  takes = record { history = settled; legal = λ was. legal; since = since; moment = moment; entries_limit = entries_limit; calls_limit = calls_limit };
+  takes = record { history = settled; legal = λ was. legal; since = since; moment = moment; entries_limit = entries_limit; calls_limit = calls_limit; room = room };
   taken = taken;
 })

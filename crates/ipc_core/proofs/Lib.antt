@@ -14,6 +14,7 @@ pub mod Few
 pub mod BookLemmas
 pub mod FinishedLaws
 pub mod Resting
+pub mod SeenFrom
 pub mod RunLaws
 pub mod IdleLaws
 pub mod OutcomeCall

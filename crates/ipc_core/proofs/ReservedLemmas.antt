@@ -84,9 +84,9 @@ kernel_kept entries_limit calls_limit moment old kept kernel same more = record 
 }
 
 -- what is pledged and needed was reserved
-module _ (view kernel : KernelParts) (old kept : CourseParts) (need room : ℕ) (view_is : view ≡ kernel) where
-  pub reserved : IsKernel view.entries_limit view.calls_limit view.moment old → old.entries ≡ view.history → kept.entries ≡ old.entries → old.room ≤ kept.room → is_full kernel need ≡ false → pledged kernel.history + need ≤ room → length kept.entries + room ≤ kept.room → HasRoomFor view.entries_limit view.calls_limit view.moment kept need
-  reserved stood before same more not_full room_is made =
+module _ (view kernel : KernelParts) (old kept : CourseParts) (need : ℕ) (view_is : view ≡ kernel) where
+  pub reserved : IsKernel view.entries_limit view.calls_limit view.moment old → old.entries ≡ view.history → kept.entries ≡ old.entries → old.room ≤ kept.room → is_full kernel need ≡ false → length kept.entries + (pledged kept.entries + need) ≤ kept.room → HasRoomFor view.entries_limit view.calls_limit view.moment kept need
+  reserved stood before same more not_full made =
       let history : kept.entries ≡ kernel.history = same ∙ (before ∙ ap (λ k. k.history) view_is) in
       let limit : view.entries_limit ≡ kernel.entries_limit = ap (λ k. k.entries_limit) view_is in
       let stands = kernel_kept view.entries_limit view.calls_limit view.moment old kept stood same more in
@@ -101,12 +101,13 @@ pub kernel_took : (entries_limit calls_limit moment : ℕ) (old new : CoursePart
 kernel_took entries_limit calls_limit moment old new input had admissible no_clock settled same spent = kernel_after entries_limit calls_limit moment old new input had.kernel admissible no_clock had.within (let fits = had.fits in omega arith) settled spent
 
 -- and what it did
-pub takes_input : (view old new : KernelParts) (kept : CourseParts) (given input : Input) → view ≡ old → kept.entries ≡ view.history → given ≡ input → Settled (with_input kept.entries view.moment given) new.history → Legal new.history → new.since ≡ length kept.entries → new.moment ≡ view.moment → new.entries_limit ≡ view.entries_limit → new.calls_limit ≡ view.calls_limit → Takes old new input
-takes_input view old new kept given input view_is same is_input settled legal since moment entries_limit calls_limit = subst (λ k. Takes k new input) view_is (record {
+pub takes_input : (view old new : KernelParts) (kept : CourseParts) (given input : Input) → view ≡ old → kept.entries ≡ view.history → given ≡ input → Settled (with_input kept.entries view.moment given) new.history → Legal new.history → new.since ≡ length kept.entries → new.moment ≡ view.moment → new.entries_limit ≡ view.entries_limit → new.calls_limit ≡ view.calls_limit → view.room ≤ new.room → Takes old new input
+takes_input view old new kept given input view_is same is_input settled legal since moment entries_limit calls_limit room = subst (λ k. Takes k new input) view_is (record {
   history = subst (λ i. Settled (with_input view.history view.moment i) new.history) is_input (subst (λ H. Settled (with_input H view.moment given) new.history) same settled);
   legal = λ was. legal;
   since = since ∙ ap length same;
   moment = moment;
   entries_limit = entries_limit;
   calls_limit = calls_limit;
+  room = room;
 })

@@ -16,7 +16,7 @@ use Rattle.ipc_history.specs.declared.entry.Input.TheVariants as input
 use Rattle.ipc_laws.proofs.Histories.{legal_front}
 use Rattle.ipc_laws.proofs.Settling.{settles_once}
 use Rattle.ipc_core.specs.Effects.{Ticks}
-use Rattle.ipc_core.specs.KernelParts.{KernelParts}
+use Rattle.ipc_core.specs.KernelParts.{KernelParts, without_room}
 use Rattle.ipc_core.specs.Obeying.{Does, Obeys, ObeysOr, Runs, cause_of}
 use Rattle.ipc_core.specs.Steps.{Takes, at_moment, taken_after}
 use Rattle.ipc_core.specs.Laws.{RunsOnce}
@@ -26,6 +26,7 @@ use Rattle.ipc_core.specs.declared.command.Answer.TheVariants.{Opened, Entered, 
 use Rattle.ipc_core.specs.declared.command.Command.{Command}
 use Rattle.ipc_core.specs.declared.command.Command.TheVariants.{Open, Enter, Exreg, Broke, At, Advance, Take}
 use Rattle.ipc_core.specs.declared.refusal.Refusal.{Refusal}
+use Rattle.ipc_core.proofs.SeenFrom.{cause_seen, does_seen}
 
 -- a thread is its number and its version
 same_thread : (t u number version : ℕ) → number_of t ≡ number → number_of u ≡ number → Some (version_of t) ≡ Some version → Some (version_of u) ≡ Some version → t ≡ u
@@ -34,28 +35,28 @@ same_thread t u number version a b v w =
     let b' : version_of u ≡ version = same_Some _ _ w in
     omega (arith, a, b, a', b')
 
--- kernels whose parts are the same are the same
-same_kernel : (a b : KernelParts) → a.entries_limit ≡ b.entries_limit → a.calls_limit ≡ b.calls_limit → a.moment ≡ b.moment → a.history ≡ b.history → a.taken ≡ b.taken → a.since ≡ b.since → a ≡ b
-same_kernel a b e c m h t s = λ i. record { entries_limit = e i; calls_limit = c i; moment = m i; history = h i; taken = t i; since = s i }
+-- kernels whose parts are the same but for the room are the same but for it
+same_kernel : (a b : KernelParts) → a.entries_limit ≡ b.entries_limit → a.calls_limit ≡ b.calls_limit → a.moment ≡ b.moment → a.history ≡ b.history → a.taken ≡ b.taken → a.since ≡ b.since → without_room a ≡ without_room b
+same_kernel a b e c m h t s = λ i. record { entries_limit = e i; calls_limit = c i; moment = m i; history = h i; taken = t i; since = s i; room = 0 }
 
 -- a legal end has a legal beginning
 begun : (P Q : List Entry) → Settled P Q → Legal Q → Legal P
 begun P Q settled legal = legal_front P (map Written settled.outputs) (subst Legal settled.appended legal)
 
-took_once : (old one other : KernelParts) (given : Input) → Legal old.history → Takes old one given → Takes old other given → one.taken ≡ old.taken → other.taken ≡ old.taken → one ≡ other
+took_once : (old one other : KernelParts) (given : Input) → Legal old.history → Takes old one given → Takes old other given → one.taken ≡ old.taken → other.taken ≡ old.taken → without_room one ≡ without_room other
 took_once old one other given legal a b t u =
     let start = begun _ _ a.history (a.legal legal) in
     same_kernel one other (a.entries_limit ∙ sym b.entries_limit) (a.calls_limit ∙ sym b.calls_limit) (a.moment ∙ sym b.moment) (settles_once _ _ _ start a.history b.history) (t ∙ sym u) (a.since ∙ sym b.since)
 
 -- under two names of one input
-took_one : (old one other : KernelParts) (given named : Input) → given ≡ named → Legal old.history → Takes old one given → Takes old other named → one.taken ≡ old.taken → other.taken ≡ old.taken → one ≡ other
+took_one : (old one other : KernelParts) (given named : Input) → given ≡ named → Legal old.history → Takes old one given → Takes old other named → one.taken ≡ old.taken → other.taken ≡ old.taken → without_room one ≡ without_room other
 took_one old one other given named same legal a b t u = took_once old one other named legal (subst (Takes old one) same a) b t u
 
 ticked_history : (b : Bool) (H K L : List Entry) (moment : ℕ) → Legal K → MatchBool b (Settled (H ++ Given (input.At moment) ∷ []) K) (K ≡ H) → MatchBool b (Settled (H ++ Given (input.At moment) ∷ []) L) (L ≡ H) → K ≡ L
 ticked_history true H K L moment legal a b = settles_once _ _ _ (begun _ _ a legal) a b
 ticked_history false H K L moment legal a b = a ∙ sym b
 
-ticked_once : (old one other : KernelParts) (reading : ℕ) → Legal old.history → Ticks old one reading → Ticks old other reading → one ≡ other
+ticked_once : (old one other : KernelParts) (reading : ℕ) → Legal old.history → Ticks old one reading → Ticks old other reading → without_room one ≡ without_room other
 ticked_once old one other reading legal a b = same_kernel one other (a.entries_limit ∙ sym b.entries_limit) (a.calls_limit ∙ sym b.calls_limit) (a.moment ∙ sym b.moment) (ticked_history _ old.history one.history other.history (at_moment old reading) (a.legal legal) a.history b.history) (a.taken ∙ sym b.taken) (a.since ∙ sym b.since)
 
 -- a version that is there
@@ -68,7 +69,7 @@ none_is_not x o n s = absurd (none-some x (sym n ∙ s))
 -- a command does one thing
 module _ (old one other : KernelParts) (legal : Legal old.history) where
   abbrev OneEnd : Answer → Answer → Type 0
-  OneEnd answer answer' = (answer ≡ answer') × (one ≡ other)
+  OneEnd answer answer' = (answer ≡ answer') × (without_room one ≡ without_room other)
 
   open_once : (number space : ℕ) (answer answer' : Answer) → Does old (Open number space) answer one → Does old (Open number space) answer' other → OneEnd answer answer'
   unfolding Does
@@ -109,7 +110,7 @@ module _ (old one other : KernelParts) (legal : Legal old.history) where
   advance_once (Advanced Moved) (Advanced Moved) a b =
       let same : a.number ≡ b.number = same_Some a.number b.number (sym a.is_next ∙ b.is_next) in
       (refl, took_one old one other (input.Moved a.number (block_of old.history a.number)) (input.Moved b.number (block_of old.history b.number)) (ap (λ n. input.Moved n (block_of old.history n)) same) legal a.takes b.takes a.taken b.taken)
-  advance_once (Advanced Idle) (Advanced Idle) a b = (refl, a.1 ∙ sym b.1)
+  advance_once (Advanced Idle) (Advanced Idle) a b = (refl, ap without_room (a.1 ∙ sym b.1))
   advance_once (Advanced Moved) (Advanced Idle) a b = absurd (none_is_not a.number (next_moving old.history) b.0 a.is_next)
   advance_once (Advanced Idle) (Advanced Moved) a b = absurd (none_is_not b.number (next_moving old.history) a.0 b.is_next)
   advance_once (Advanced Moved) _ a b = absurd b
@@ -120,7 +121,7 @@ module _ (old one other : KernelParts) (legal : Legal old.history) where
   unfolding Does
   take_once thread (Taken x) (Taken y) a b =
       let same : x ≡ y = a.outcome_is ∙ sym b.outcome_is in
-      (ap Taken same, a.taken ∙ (ap (λ o. record old { taken = taken_after o old.taken; since = length old.history }) same ∙ sym b.taken))
+      (ap Taken same, ap without_room (a.taken ∙ (ap (λ o. record old { taken = taken_after o old.taken; since = length old.history }) same ∙ sym b.taken)))
   take_once thread (Taken x) _ a b = absurd b
   take_once thread _ _ a b = absurd a
 
@@ -138,7 +139,7 @@ module _ (old one other : KernelParts) (legal : Legal old.history) where
   obeyed_once command answer answer' a b = go (cause_of old command) a b
     where
       go : (cause : Option Refusal) → ObeysOr cause old command answer one → ObeysOr cause old command answer' other → OneEnd answer answer'
-      go (Some refusal) x y = (x.0 ∙ sym y.0, x.1 ∙ sym y.1)
+      go (Some refusal) x y = (x.0 ∙ sym y.0, ap without_room (x.1 ∙ sym y.1))
       go None x y = does_once command answer answer' x y
 
 -- what a command that is obeyed leaves legal
@@ -165,15 +166,28 @@ obeys_legal old new command answer legal obeys = go (cause_of old command) obeys
     go (Some refusal) x = rw x.1 legal
     go None x = does_legal old new command answer legal x
 
--- one after the other
-pub runs_once : RunsOnce
+-- a command that is obeyed, said without the room
+obeys_bare : (old new : KernelParts) (command : Command) (answer : Answer) → Obeys old command answer new → Obeys (without_room old) command answer (without_room new)
+unfolding Obeys
+obeys_bare old new command answer obeys = subst (λ cause. ObeysOr cause (without_room old) command answer (without_room new)) (sym (cause_seen old.since old command)) (go (cause_of old command) obeys)
+  where
+    go : (cause : Option Refusal) → ObeysOr cause old command answer new → ObeysOr cause (without_room old) command answer (without_room new)
+    go (Some refusal) x = (x.0, ap without_room x.1)
+    go None x = does_seen old.since old new command answer x
+
+-- one after the other, from kernels that are the same but for the room
+runs_from : (old again one other : KernelParts) (commands : List Command) (answers others : List Answer) → without_room old ≡ without_room again → Legal old.history → Runs old commands answers one → Runs again commands others other → (answers ≡ others) × (without_room one ≡ without_room other)
 unfolding Runs
-runs_once old one other [] [] [] legal a b = (refl, a ∙ sym b)
-runs_once old one other (c ∷ cs) (x ∷ xs) (y ∷ ys) legal a b =
-    let first = obeyed_once old a.0 b.0 legal c x y a.1 b.1 in
-    let rest = runs_once a.0 one other cs xs ys (obeys_legal old a.0 c x legal a.1) a.2 (subst (λ k. Runs k cs ys other) (sym first.1) b.2) in
+runs_from old again one other [] [] [] same legal a b = (refl, ap without_room a ∙ (same ∙ sym (ap without_room b)))
+runs_from old again one other (c ∷ cs) (x ∷ xs) (y ∷ ys) same legal a b =
+    let second : Obeys (without_room old) c y (without_room b.0) = subst (λ k. Obeys k c y (without_room b.0)) (sym same) (obeys_bare again b.0 c y b.1) in
+    let first = obeyed_once (without_room old) (without_room a.0) (without_room b.0) legal c x y (obeys_bare old a.0 c x a.1) second in
+    let rest = runs_from a.0 b.0 one other cs xs ys first.1 (obeys_legal old a.0 c x legal a.1) a.2 b.2 in
     (ap₂ (λ z zs. z ∷ zs) first.0 rest.0, rest.1)
-runs_once old one other [] (x ∷ xs) _ legal a b = absurd a
-runs_once old one other [] [] (y ∷ ys) legal a b = absurd b
-runs_once old one other (c ∷ cs) [] _ legal a b = absurd a
-runs_once old one other (c ∷ cs) (x ∷ xs) [] legal a b = absurd b
+runs_from old again one other [] (x ∷ xs) _ same legal a b = absurd a
+runs_from old again one other [] [] (y ∷ ys) same legal a b = absurd b
+runs_from old again one other (c ∷ cs) [] _ same legal a b = absurd a
+runs_from old again one other (c ∷ cs) (x ∷ xs) [] same legal a b = absurd b
+
+pub runs_once : RunsOnce
+runs_once old one other commands answers others legal a b = runs_from old old one other commands answers others refl legal a b

@@ -25,6 +25,7 @@ pub record Exchanges (old new : KernelParts) (thread target control : ℕ) (answ
 pub record Breaks (old new : KernelParts) (thread : ℕ) : Type 0 where
   pub takes : Takes old new (Broke thread)
   pub taken : new.taken ≡ old.taken
+  pub room : new.room ≡ old.room
 
 -- a clock reading: the moment never goes back, and an At is written only where a phase is due then
 pub record Ticks (old new : KernelParts) (reading : ℕ) : Type 0 where
@@ -37,6 +38,7 @@ pub record Ticks (old new : KernelParts) (reading : ℕ) : Type 0 where
   pub taken : new.taken ≡ old.taken
   pub entries_limit : new.entries_limit ≡ old.entries_limit
   pub calls_limit : new.calls_limit ≡ old.calls_limit
+  pub room : new.room ≡ old.room
 
 -- a taking: the outcome of the thread's last call, once, and the history stays
 pub record Gives (old new : KernelParts) (thread : ℕ) (outcome : Option OutcomeParts) : Type 0 where

@@ -5,7 +5,7 @@ use Rattle.ipc_history.specs.CallParts.{CallParts}
 use Rattle.ipc_history.specs.Legal.{Legal, Quiet}
 use Rattle.ipc_history.specs.Outcomes.{OutcomeParts}
 use Rattle.ipc_history.specs.Threads.{is_live}
-use Rattle.ipc_core.specs.KernelParts.{KernelParts}
+use Rattle.ipc_core.specs.KernelParts.{KernelParts, without_room}
 use Rattle.ipc_core.specs.Obeying.{MayObey, Runs}
 use Rattle.ipc_core.specs.Outcomes.{IsTaken, is_busy, is_finished, outcome_to_take}
 use Rattle.ipc_core.specs.declared.command.Answer.{Answer}
@@ -28,12 +28,12 @@ StaysSound =
     (old : KernelParts) (command : Command) (answer : Answer) (new : KernelParts)
     → IsSound old → MayObey old command answer new → IsSound new
 
--- the same commands, each obeyed, have one list of answers and one end
+-- the same commands, each obeyed, have one list of answers and one end, in all that is seen but the room
 abbrev pub RunsOnce : Type 0
 RunsOnce =
     (old one other : KernelParts) (commands : List Command) (answers others : List Answer)
     → Legal old.history → Runs old commands answers one → Runs old commands others other
-    → (answers ≡ others) × (one ≡ other)
+    → (answers ≡ others) × (without_room one ≡ without_room other)
 
 -- a thread that is not busy has nothing to take
 abbrev pub IdleHasNothing : Type 0

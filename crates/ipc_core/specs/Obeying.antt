@@ -6,6 +6,7 @@ use Rattle.ipc_history.specs.Threads.{is_live}
 use Rattle.ipc_core.specs.Effects.{Breaks, Exchanges, Gives, Ticks}
 use Rattle.ipc_core.specs.KernelParts.{KernelParts}
 use Rattle.ipc_core.specs.Refusals.{enter_refusal, exreg_refusal, open_refusal}
+use Rattle.ipc_core.specs.Room.{LacksRoomFor, exreg_need, open_need}
 use Rattle.ipc_core.specs.Steps.{Advances, Enters, Opens}
 use Rattle.ipc_core.specs.declared.answers.Advance.TheVariants.{Moved, Idle}
 use Rattle.ipc_core.specs.declared.answers.EnterRefused.{EnterRefused}
@@ -57,10 +58,18 @@ ObeysOr None old command answer new = Does old command answer new
 unfoldable pub Obeys : KernelParts → Command → Answer → KernelParts → Type 0
 Obeys old command answer new = ObeysOr (cause_of old command) old command answer new
 
+-- what an open or an ExchangeRegisters takes memory for: more room in the history. A call takes it for its copies too, so of a call
+-- nothing is said
+abbrev pub LacksRoom : KernelParts → Command → Type 0
+LacksRoom kernel (Open number space) = LacksRoomFor kernel open_need
+LacksRoom kernel (Exreg thread target control) = LacksRoomFor kernel exreg_need
+LacksRoom kernel _ = Unit {0}
+
 -- a command that may take memory, and has no other cause to be refused, may be refused for want of it; then it changes nothing
 pub record LacksMemory (old : KernelParts) (command : Command) (answer : Answer) (new : KernelParts) : Type 0 where
   pub takes_memory : IsTrue (takes_memory command)
   pub no_other_cause : cause_of old command ≡ None
+  pub lacks_room : LacksRoom old command
   pub answer_is : answer ≡ Refused NoMemory
   pub stays : new ≡ old
 
@@ -100,4 +109,4 @@ Runs old _ _ new = ⊥
 -- a kernel with an empty history at the moment 0
 abbrev pub empty_kernel : ℕ → ℕ → KernelParts
 empty_kernel entries_limit calls_limit =
-    record { entries_limit = entries_limit; calls_limit = calls_limit; moment = 0; history = []; taken = []; since = 0 }
+    record { entries_limit = entries_limit; calls_limit = calls_limit; moment = 0; history = []; taken = []; since = 0; room = 0 }

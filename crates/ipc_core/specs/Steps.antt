@@ -1,5 +1,5 @@
 -- What a command does to a kernel.
-use Rattle.std.specs.Prelude.{◌≡◌, ℕ, ◌+◌, List, [], ◌∷◌, ◌++◌, nat_lt, if◌then◌else◌, Option, Some, None, max, min, length, ◌⊎◌}
+use Rattle.std.specs.Prelude.{◌≡◌, ℕ, ◌+◌, ◌≤◌, List, [], ◌∷◌, ◌++◌, nat_lt, if◌then◌else◌, Option, Some, None, max, min, length, ◌⊎◌}
 use Rattle.ipc_words.specs.Limits.{last_moment}
 use Rattle.ipc_words.specs.ThreadId.{number_of, version_of}
 use Rattle.ipc_history.specs.Calls.{calls_made}
@@ -26,7 +26,7 @@ abbrev pub with_input : List Entry → ℕ → Input → List Entry
 with_input H moment input = H ++ at_if_later H moment ++ Given input ∷ []
 
 -- the kernel took an input: after the old history come the At of the moment where that is later, the input, the outputs until none
--- applies, and nothing else; a legal history stays legal; limits and moment stay
+-- applies, and nothing else; a legal history stays legal; limits and moment stay; its room does not shrink
 pub record Takes (old new : KernelParts) (input : Input) : Type 0 where
   pub history : Settled (with_input old.history old.moment input) new.history
   pub legal : Legal old.history → Legal new.history
@@ -34,6 +34,7 @@ pub record Takes (old new : KernelParts) (input : Input) : Type 0 where
   pub moment : new.moment ≡ old.moment
   pub entries_limit : new.entries_limit ≡ old.entries_limit
   pub calls_limit : new.calls_limit ≡ old.calls_limit
+  pub room : old.room ≤ new.room
 
 -- the moment after a clock reading: it never goes back, and stops at the last one
 abbrev pub at_moment : KernelParts → ℕ → ℕ
@@ -62,6 +63,7 @@ pub record Advances (old new : KernelParts) : Type 0 where
   pub is_next : next_moving old.history ≡ Some number
   pub takes : Takes old new (Moved number (block_of old.history number))
   pub taken : new.taken ≡ old.taken
+  pub room : new.room ≡ old.room
 
 -- which outcomes were taken after one more, or after none
 abbrev pub taken_after : Option OutcomeParts → List ℕ → List ℕ

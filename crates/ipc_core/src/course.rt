@@ -1,5 +1,6 @@
 ghost use Rattle.std.specs.Prelude.{◌≡◌, ◌+◌, ◌^◌, ◌≤◌, ◌<◌, [], ◌∷◌, ◌++◌, ◌==◌, ℕ, length, take, vec_len, vec_capacity};
-ghost use Rattle.std.specs.Prelude.{◌↔◌, Some, None, IsNone, IfSome, IsTrue, IsFalse, true, false, IfOk, OnOk, nat_lt, sum_by};
+ghost use Rattle.std.specs.Prelude.{◌↔◌, Some, None, IsNone, IfSome, IsTrue, IsFalse, true, false, nat_lt, sum_by};
+ghost use Rattle.std.specs.Prelude.{IfErr, IfOk, OnErr, OnOk};
 ghost use Rattle.std.specs.List.{IsDistinct, list_any};
 ghost use Rattle.ipc_words.specs.Limits.{last_moment};
 ghost use Rattle.ipc_history.specs.declared.entry.Entry.TheVariants.{Given, Written};
@@ -12,7 +13,7 @@ ghost use Rattle.ipc_history.specs.Legal.{Legal, Quiet, Follows, is_admissible, 
 ghost use Rattle.ipc_history.specs.NextOutput.{next_output};
 ghost use Rattle.ipc_history.specs.Settled.{Continued, Settled};
 ghost use Rattle.ipc_history.specs.Timing.{is_due_at};
-ghost use Rattle.ipc_laws.specs.Counting.{open_calls, room_owed, live_threads, pledge_of};
+ghost use Rattle.ipc_laws.specs.Counting.{open_calls, pledged, room_owed, live_threads, pledge_of};
 ghost use Rattle.ipc_desks.specs.CallsOf.{is_busy, last_call, made_by, outcome_to_take, taken_by};
 ghost use Rattle.ipc_desks.specs.Desks.{Keeps};
 ghost use Rattle.ipc_desks.specs.Messages.{prepared};
@@ -27,10 +28,10 @@ ghost use Rattle.ipc_core.specs.ExchangeRegisters.{exreg_answer, phases_of};
 
 use crate::answers::ExregAnswer;
 use ipc_desks::{Desks, Finished, Prepared};
-use ipc_history::{Call, Entry, History, Input, Outcome, Output};
+use ipc_history::{Call, EnteredCall, Entry, History, Input, Outcome, Output};
 use ipc_slots::Slots;
 use ipc_waits::Waiting;
-use ipc_words::limits::TABLE_SLOTS;
+use ipc_words::limits::{PLEDGE_OF_THREAD, TABLE_SLOTS};
 use ipc_words::{Control, ThreadId};
 use std::alloc::{AllocError, Global};
 use std::marker::Model;
@@ -70,6 +71,7 @@ impl Course {
     /// The course of the empty history.
     pub(crate) fn new(alloc: Global) -> Result<Course, AllocError>
         ensures entries { IfOk result (λ course. course.entries ≡ []) }
+        ensures room { IfOk result (λ course. course.room ≡ 0) }
         ensures taken { IfOk result (λ course. course.taken ≡ []) }
         ensures since { IfOk result (λ course. course.since ≡ 0) }
     {
@@ -203,8 +205,9 @@ impl Course {
             .pledged_for_calls(self.history.entries())
     }
 
-    /// Whether a waiting phase is due at a moment.
+    /// Whether a waiting phase is due at a moment. Looks at no thread.
     pub(crate) fn is_any_due_at(&self, moment: u64) -> bool
+        requires { moment < last_moment + 1 }
         ensures { result ≡ list_any (is_due_at self.now.entries moment) (numbers self.now.entries) }
     {
         self.waiting.is_any_due_at(self.history.entries(), moment)
@@ -261,13 +264,35 @@ impl Course {
     }
 
     /// Makes room for so many more entries. Where memory is refused nothing changes.
-    pub(crate) fn reserve(&mut self, more: usize) -> Result<(), AllocError>
+    fn reserve(&mut self, more: usize) -> Result<(), AllocError>
         ensures entries { self.new.entries ≡ self.old.entries }
         ensures ok { OnOk result (length self.new.entries + more ≤ self.new.room) }
         ensures room { self.old.room ≤ self.new.room }
         ensures books { SameBooks self.old self.new }
+        ensures err { OnErr result (self.new.room ≡ self.old.room) }
+        ensures memory { OnErr result (self.old.room < length self.old.entries + more) }
     {
         self.history.reserve(more)
+    }
+
+    /// Makes room for so many more entries; where that is refused, for those that are pledged and a need alone. Where memory is
+    /// refused nothing changes.
+    #[tactic(auto, unfolding(ipc_laws::specs::Counting::pledged))]
+    pub(crate) fn make_room(&mut self, more: usize, need: u64) -> Result<(), AllocError>
+        requires { pledged self.old.entries + need ≤ more }
+        ensures entries { self.new.entries ≡ self.old.entries }
+        ensures ok { OnOk result (length self.new.entries + (pledged self.new.entries + need) ≤ self.new.room) }
+        ensures room { self.old.room ≤ self.new.room }
+        ensures books { SameBooks self.old self.new }
+        ensures err { OnErr result (self.new.room ≡ self.old.room) }
+        ensures memory { OnErr result (self.old.room < length self.old.entries + pledged self.old.entries + need) }
+    {
+        if self.reserve(more).is_ok() {
+            return Ok(());
+        }
+        let threads = PLEDGE_OF_THREAD * self.live();
+        let calls = self.pledged_for_calls() as u64;
+        self.reserve((threads + calls + need) as usize)
     }
 
     /// Makes room for so many calls whose outcome is taken. Where memory is refused nothing changes.
@@ -283,28 +308,41 @@ impl Course {
         self.taken.reserve(calls.saturating_sub(self.taken.len()))
     }
 
-    /// Makes what a call needs: room for so many more entries and for its number among those taken, and its copies. Where memory
-    /// is refused what is seen stays as it is, but for more room.
+    /// Makes what a call needs: room for its number among those taken, its copies, a place for it, and room for entries, in
+    /// this order. Where memory is refused the call is handed back, and what a kernel shows stays as it is.
     pub(crate) fn prepare(
         &mut self,
         alloc: Global,
         more: usize,
+        need: u64,
         number: u64,
-        call: &Call,
-    ) -> Result<Prepared, AllocError>
-        requires { number < 2 ^ 32 }
+        call: Call,
+    ) -> Result<(EnteredCall, Prepared), Call>
+        requires few { number < 2 ^ 32 }
+        requires enough { pledged self.old.entries + need ≤ more }
         ensures entries { self.new.entries ≡ self.old.entries }
         ensures room { self.old.room ≤ self.new.room }
         ensures taken { self.new.taken ≡ self.old.taken }
         ensures since { self.new.since ≡ self.old.since }
         ensures places { self.old.places ≤ self.new.places }
-        ensures fits { OnOk result (length self.new.entries + more ≤ self.new.room) }
+        ensures fits { OnOk result (length self.new.entries + (pledged self.new.entries + need) ≤ self.new.room) }
         ensures place { OnOk result (number + 1 ≤ self.new.places) }
-        ensures copies { IfOk result (λ copies. copies ≡ prepared call.now) }
+        ensures call { IfOk result (λ made. made.0 ≡ call) }
+        ensures copies { IfOk result (λ made. made.1 ≡ prepared call) }
+        ensures back { IfErr result (λ refused. refused ≡ call) }
+        ensures err { OnErr result (self.new.room ≡ self.old.room) }
     {
-        self.reserve(more)?;
-        self.reserve_calls(number + 1)?;
-        Prepared::of(alloc, call)
+        let Ok(()) = self.reserve_calls(number + 1) else {
+            return Err(call);
+        };
+        let Ok(copies) = Prepared::of(alloc, &call) else {
+            return Err(call);
+        };
+        let entered = EnteredCall::new(alloc, call)?;
+        let Ok(()) = self.make_room(more, need) else {
+            return Err(entered.into_call());
+        };
+        Ok((entered, copies))
     }
 
     /// Begins a command: it has finished no call yet.

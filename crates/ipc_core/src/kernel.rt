@@ -20,7 +20,7 @@ ghost use Rattle.ipc_core.specs.Laws.{IsSound};
 ghost use Rattle.ipc_core.specs.Obeying.{MayObey, broke_answer, empty_kernel, enter_answer, exreg_result, open_answer, rested};
 ghost use Rattle.ipc_core.specs.Outcomes.{has_untaken, is_among, is_busy, is_finished, made_by, outcome_to_take, taken_by};
 ghost use Rattle.ipc_core.specs.Refusals.{open_refusal, enter_refusal, exreg_refusal};
-ghost use Rattle.ipc_core.specs.Room.{is_full};
+ghost use Rattle.ipc_core.specs.Room.{LacksRoomFor, exreg_need, is_full, open_need};
 ghost use Rattle.ipc_core.specs.Steps.{Advances, Enters, MayRefuse, Opens, at_moment, taken_after};
 ghost use Rattle.ipc_core.specs.declared.command.Answer.TheVariants.{Advanced, Done, Taken};
 ghost use Rattle.ipc_core.specs.declared.command.Command.TheVariants as command;
@@ -29,7 +29,7 @@ use crate::answers::{Advance, EnterRefused, ExregAnswer, NoThread};
 use crate::course::Course;
 use crate::refusal::Refusal;
 use crate::room::call_need;
-use ipc_history::{Call, EnteredCall, Entry, Input, Outcome};
+use ipc_history::{Call, Entry, Input, Outcome};
 use ipc_words::limits::{
     BLOCK_BYTES, LAST_MOMENT, MAX_CALLS, MAX_ENTRIES, MAX_SPACE, MAX_STRING_BYTES,
     MAX_THREAD_NUMBER, NEED_OF_EXCHANGE, NEED_OF_OPEN, PLEDGE_OF_BLOCK, PLEDGE_OF_OPEN_CALL,
@@ -71,6 +71,7 @@ impl Model for Kernel {
       history = k.course.entries;
       taken = k.course.taken;
       since = k.course.since;
+      room = k.course.room;
     } };
 
     ghost invariant = { λ k. IsWhole k.entries_limit k.calls_limit k.moment k.course };
@@ -178,11 +179,11 @@ impl Kernel {
 }
 
 impl Kernel {
-    /// For how many entries to make room: at least for those that are pledged and a need. None where the history has no room for
-    /// them. Asks each call only where the most that can be pledged does not fit.
+    /// For how many more entries to make room: at least for those that are pledged and a need. None where they would pass the
+    /// limit. Asks each call only where the most that can be pledged would pass it.
     fn room_for(&self, need: u64) -> Option<usize>
         ensures full { IsNone result ↔ IsTrue (is_full self.now need) }
-        ensures value { IfSome result (λ room. pledged self.now.history + need ≤ room) }
+        ensures value { IfSome result (λ more. pledged self.now.history + need ≤ more) }
     {
         let left = self.entries_limit - self.course.entries().len() as u64;
         let live = self.course.live();
@@ -194,11 +195,13 @@ impl Kernel {
     }
 
     /// Opens the thread of a number, 1 to 255, in a space, 1 to 64, and answers its id, with the next version of the
-    /// number. The refusals are K1, K2, K3, K5 and K4, the first that applies.
+    /// number. The refusals are K1, K2, K3, K5 and K4, the first that applies; K4 only where the history has less room
+    /// than for its entries, what is pledged and what an open needs.
     pub fn open(&mut self, number: u64, space: u64) -> Result<ThreadId, Refusal>
         ensures ok { IfOk result (λ thread. (open_refusal self.old number space ≡ None)
             × Opens self.old self.new number space thread) }
         ensures cause { IfErr result (λ refusal. MayRefuse (open_refusal self.old number space) refusal) }
+        ensures memory { result ≡ Err Refusal.NoMemory → LacksRoomFor self.old open_need }
         ensures err { OnErr result (self.new ≡ self.old) }
         ensures obeys { MayObey self.old (command.Open number space) (open_answer result) self.new }
     {
@@ -209,6 +212,7 @@ impl Kernel {
         ensures ok { IfOk result (λ thread. (open_refusal self.old number space ≡ None)
             × Opens self.old self.new number space thread) }
         ensures cause { IfErr result (λ refusal. MayRefuse (open_refusal self.old number space) refusal) }
+        ensures memory { result ≡ Err Refusal.NoMemory → LacksRoomFor self.old open_need }
         ensures err { OnErr result (self.new ≡ self.old) }
     {
         let most = u64::from(MAX_THREAD_NUMBER);
@@ -225,7 +229,7 @@ impl Kernel {
         let Some(room) = self.room_for(NEED_OF_OPEN) else {
             return Err(Refusal::HistoryFull);
         };
-        let Ok(()) = self.course.reserve(room) else {
+        let Ok(()) = self.course.make_room(room, NEED_OF_OPEN) else {
             return Err(Refusal::NoMemory);
         };
         let thread = thread_id(number as u32, version);
@@ -276,6 +280,7 @@ impl Kernel {
         ensures since { self.new.since ≡ length self.old.history }
         ensures entries_limit { self.new.entries_limit ≡ self.old.entries_limit }
         ensures calls_limit { self.new.calls_limit ≡ self.old.calls_limit }
+        ensures room { self.new.room ≡ self.old.room }
     {
         let moment = self.moment.max(now.min(LAST_MOMENT));
         self.course.begin();
@@ -354,26 +359,21 @@ impl Kernel {
                 call,
             });
         }
-        let Some(room) = self.room_for(call_need(&call)) else {
+        let need = call_need(&call);
+        let Some(room) = self.room_for(need) else {
             return Err(EnterRefused {
                 refusal: Refusal::HistoryFull,
                 call,
             });
         };
         let number = made + 1;
-        let Ok(copies) = self.course.prepare(self.alloc, room, number, &call) else {
-            return Err(EnterRefused {
-                refusal: Refusal::NoMemory,
-                call,
-            });
-        };
         let is_normal = call.is_normal();
         prove!(is_normal);
-        match EnteredCall::new(self.alloc, call) {
-            Ok(call) => {
+        match self.course.prepare(self.alloc, room, need, number, call) {
+            Ok((entered, copies)) => {
                 self.course.take_input(
                     self.moment,
-                    Input::Called(number, thread, call),
+                    Input::Called(number, thread, entered),
                     Some(copies),
                 );
                 Ok(number)
@@ -386,7 +386,7 @@ impl Kernel {
     }
 
     /// Stops phases of a live thread of the caller's space, R a receive phase and S a send phase (L4 X.2 manual,
-    /// ExchangeRegisters).
+    /// ExchangeRegisters). K4 only where the history has less room than for its entries, what is pledged and what this needs.
     pub fn exreg(
         &mut self,
         thread: ThreadId,
@@ -396,6 +396,7 @@ impl Kernel {
         ensures ok { IfOk result (λ answer. (exreg_refusal self.old thread ≡ None)
             × Exchanges self.old self.new thread target control answer) }
         ensures cause { IfErr result (λ refusal. MayRefuse (exreg_refusal self.old thread) refusal) }
+        ensures memory { result ≡ Err Refusal.NoMemory → LacksRoomFor self.old exreg_need }
         ensures err { OnErr result (self.new ≡ self.old) }
         ensures obeys { MayObey self.old (command.Exreg thread target control) (exreg_result result) self.new }
     {
@@ -411,6 +412,7 @@ impl Kernel {
         ensures ok { IfOk result (λ answer. (exreg_refusal self.old thread ≡ None)
             × Exchanges self.old self.new thread target control answer) }
         ensures cause { IfErr result (λ refusal. MayRefuse (exreg_refusal self.old thread) refusal) }
+        ensures memory { result ≡ Err Refusal.NoMemory → LacksRoomFor self.old exreg_need }
         ensures err { OnErr result (self.new ≡ self.old) }
     {
         if !self.course.is_live(thread) {
@@ -422,7 +424,7 @@ impl Kernel {
         let Some(room) = self.room_for(NEED_OF_EXCHANGE) else {
             return Err(Refusal::HistoryFull);
         };
-        let Ok(()) = self.course.reserve(room) else {
+        let Ok(()) = self.course.make_room(room, NEED_OF_EXCHANGE) else {
             return Err(Refusal::NoMemory);
         };
         let answer = self.course.exreg_answer(thread, target);

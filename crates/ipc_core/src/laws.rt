@@ -6,7 +6,7 @@ pub fn stays_sound()
     ensures { StaysSound }
 {}
 
-/// The same commands, each obeyed, have one list of answers and one end.
+/// The same commands, each obeyed, have one list of answers and one end, in all that is seen but the room.
 pub fn runs_once()
     ensures { RunsOnce }
 {}

@@ -11,7 +11,7 @@ use Rattle.ipc_frame.specs.Replies.{ipcr_of}
 use Rattle.ipc_laws.proofs.Tests.{not_both}
 use Rattle.ipc_core.specs.KernelParts.{KernelParts}
 use Rattle.ipc_core.specs.Laws.{IsSound}
-use Rattle.ipc_core.specs.Obeying.{MayObey, rested}
+use Rattle.ipc_core.specs.Obeying.{MayObey}
 use Rattle.ipc_core.specs.Outcomes.{is_busy, outcome_to_take}
 use Rattle.ipc_core.specs.Steps.{taken_after}
 use Rattle.ipc_core.specs.declared.command.Answer.{Answer}
@@ -19,7 +19,7 @@ use Rattle.ipc_core.specs.declared.command.Command.TheVariants.{Take}
 use Rattle.ipc_connection.specs.declared.stage.Stage.{Stage}
 use Rattle.ipc_connection.specs.declared.stage.Stage.TheVariants.{Greeting, Serving, Finished}
 use Rattle.ipc_words.specs.Limits.{table_slots}
-use Rattle.ipc_exchange.specs.Service.{Line, ServiceParts, delivered, delivered_to, line_at, nobody, outcome_at, place_of, serves_number, told_outcome, with_outcome, without_outcome}
+use Rattle.ipc_exchange.specs.Service.{Line, ServiceParts, at_rest, delivered, delivered_to, line_at, nobody, outcome_at, place_of, serves_number, told_outcome, with_outcome, without_outcome}
 use Rattle.ipc_exchange.specs.Slots.{HasRoom, IsPlaced, LineSlots, Ready, ServiceSlots, StaysReady, lines_of, service_of, slot_at, stage_at}
 use Rattle.ipc_core.proofs.IdleLaws.{idle_has_nothing}
 use Rattle.ipc_exchange.proofs.KernelLaws.{taken_is_idle}
@@ -85,13 +85,13 @@ taking kernel outcome = record kernel { taken = taken_after outcome kernel.taken
 pub nothing_told : (s : ServiceSlots) (place thread : ℕ) (kernel : KernelParts) → stage_at s.slots place ≡ Serving thread → None ≡ outcome_to_take s.kernel thread → kernel ≡ taking s.kernel None → service_of (record s { kernel = kernel }) ≡ told_outcome place (service_of s)
 nothing_told s place thread kernel e none is =
     ap (λ k. service_of (record s { kernel = k })) is
-    ∙ sym (none_told (service_of s) place (ap (outcome_at (rested s.kernel)) (ap (λ (l : Line). l.stage) (line_there s.slots place) ∙ e) ∙ (same_outcome s.kernel thread ∙ sym none)))
+    ∙ sym (none_told (service_of s) place (ap (outcome_at (at_rest s.kernel)) (ap (λ (l : Line). l.stage) (line_there s.slots place) ∙ e) ∙ (same_outcome s.kernel thread ∙ sym none)))
 
 -- where the line serves no thread
 pub nobody_told : (s : ServiceSlots) (place : ℕ) → ((t : ℕ) → stage_at s.slots place ≢ Serving t) → service_of s ≡ told_outcome place (service_of s)
-nobody_told s place none = sym (none_told (service_of s) place (ap (outcome_at (rested s.kernel)) (ap (λ (l : Line). l.stage) (line_there s.slots place)) ∙ idle (stage_at s.slots place) refl))
+nobody_told s place none = sym (none_told (service_of s) place (ap (outcome_at (at_rest s.kernel)) (ap (λ (l : Line). l.stage) (line_there s.slots place)) ∙ idle (stage_at s.slots place) refl))
   where
-    idle : (stage : Stage) → stage_at s.slots place ≡ stage → outcome_at (rested s.kernel) stage ≡ None
+    idle : (stage : Stage) → stage_at s.slots place ≡ stage → outcome_at (at_rest s.kernel) stage ≡ None
     idle Greeting e = refl
     idle Finished e = refl
     idle (Serving t) e = absurd (none t e)
@@ -108,11 +108,11 @@ past_told s place past = nobody_told s place (λ t e. (let f = past_stage s.slot
 -- where it has an outcome to take
 pub outcome_told : (s : ServiceSlots) (place thread : ℕ) (outcome : OutcomeParts) (kernel : KernelParts) (slot : LineSlots) → stage_at s.slots place ≡ Serving thread → Some outcome ≡ outcome_to_take s.kernel thread → kernel ≡ taking s.kernel (Some outcome) → slot.line ≡ record (slot_at s.slots place).line { out = (slot_at s.slots place).line.out ++ spelling (ipcr_of outcome) } → service_of (record s { kernel = kernel; slots = slice_set s.slots place slot }) ≡ told_outcome place (service_of s)
 outcome_told s place thread outcome kernel slot e told is line =
-    let outcome_is : outcome_at (rested s.kernel) (line_at (lines_of s.slots) place).stage ≡ Some outcome = ap (outcome_at (rested s.kernel)) (ap (λ (l : Line). l.stage) (line_there s.slots place) ∙ e) ∙ (same_outcome s.kernel thread ∙ sym told) in
-    let kernels : rested kernel ≡ without_outcome (rested s.kernel) (Some outcome) = ap rested is in
+    let outcome_is : outcome_at (at_rest s.kernel) (line_at (lines_of s.slots) place).stage ≡ Some outcome = ap (outcome_at (at_rest s.kernel)) (ap (λ (l : Line). l.stage) (line_there s.slots place) ∙ e) ∙ (same_outcome s.kernel thread ∙ sym told) in
+    let kernels : at_rest kernel ≡ without_outcome (at_rest s.kernel) (Some outcome) = ap at_rest is in
     let lines : lines_of (slice_set s.slots place slot) ≡ slice_set (lines_of s.slots) place (with_outcome (Some outcome) (line_at (lines_of s.slots) place)) = map-set (λ (l : LineSlots). l.line) s.slots place slot ∙ ap (λ (l : Line). slice_set (lines_of s.slots) place l) (line ∙ ap (with_outcome (Some outcome)) (sym (line_there s.slots place))) in
     ap₂ (λ k l. record { kernel = k; lines = l }) kernels lines
-    ∙ ap (λ o. record { kernel = without_outcome (rested s.kernel) o; lines = slice_set (lines_of s.slots) place (with_outcome o (line_at (lines_of s.slots) place)) }) (sym outcome_is)
+    ∙ ap (λ o. record { kernel = without_outcome (at_rest s.kernel) o; lines = slice_set (lines_of s.slots) place (with_outcome o (line_at (lines_of s.slots) place)) }) (sym outcome_is)
 
 -- The service stays ready
 
@@ -176,7 +176,7 @@ pub deliver_more : (s now next : ServiceSlots) (number : ℕ) → service_of now
 unfolding delivered_to
 deliver_more s now next number before told = rw add-one (told ∙ ap (λ (p : ServiceParts). told_outcome (place_of number p.lines) p) before)
 
-pub deliver_end : (s now : ServiceSlots) (number : ℕ) → service_of now ≡ delivered_to number (service_of s) → number ≡ table_slots → service_of now ≡ delivered (rested s.kernel) (lines_of s.slots)
+pub deliver_end : (s now : ServiceSlots) (number : ℕ) → service_of now ≡ delivered_to number (service_of s) → number ≡ table_slots → service_of now ≡ delivered (at_rest s.kernel) (lines_of s.slots)
 unfolding delivered
 deliver_end s now number before all = before ∙ ap (λ n. delivered_to n (service_of s)) all
 

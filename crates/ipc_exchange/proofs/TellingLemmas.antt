@@ -5,7 +5,7 @@ use Rattle.std.proofs.lemmas.List.{length-set, map-set, set-get_or}
 use Rattle.ipc_frame.specs.declared.fault.FrameFault.{FrameFault}
 use Rattle.ipc_core.specs.KernelParts.{KernelParts}
 use Rattle.ipc_core.specs.Laws.{IsSound}
-use Rattle.ipc_core.specs.Obeying.{Does as KernelDoes, MayObey, Obeys, ObeysOr, cause_of, rested}
+use Rattle.ipc_core.specs.Obeying.{Does as KernelDoes, MayObey, Obeys, ObeysOr, cause_of}
 use Rattle.ipc_core.specs.declared.command.Answer.{Answer}
 use Rattle.ipc_core.specs.declared.command.Answer.TheVariants as answer
 use Rattle.ipc_core.specs.declared.command.Command.{Command}
@@ -22,7 +22,7 @@ use Rattle.ipc_connection.specs.declared.stage.Stage.{Stage}
 use Rattle.ipc_connection.specs.declared.stage.Stage.TheVariants.{Greeting, Serving, Finished}
 use Rattle.ipc_connection.specs.declared.replying.Told.{Told}
 use Rattle.ipc_connection.specs.declared.replying.Told.TheVariants as tells
-use Rattle.ipc_exchange.specs.Service.{Line, delivered, line_at, nobody, told_line, without_bytes}
+use Rattle.ipc_exchange.specs.Service.{Line, at_rest, delivered, line_at, nobody, told_line, without_bytes}
 use Rattle.ipc_exchange.specs.Serving.{Asked, Does, DoesAlone, Leaves, MayLack, Serves, ServesBy, Tells, told_of}
 use Rattle.ipc_exchange.specs.Slots.{CanAsk, CanDo, CanServe, CanTell, HasRoom, IsPlaced, LineSlots, MayGet, NoneServes, Ready, ServiceSlots, StaysReady, SuitsRequest, SuitsTold, WantsRoom, lines_of, no_slots, service_of, slot_at, stage_at, table_told}
 use Rattle.ipc_exchange.proofs.ReadyLemmas.{ample, ended, left_alone, obeyed_ready, opened_fresh, roomier, told_ready}
@@ -125,28 +125,28 @@ told_slot slots place slot new told h e is =
     map-set (λ (s : LineSlots). s.line) slots place new ∙ ap (λ (line : Line). slice_set (lines_of slots) place line) (is ∙ ap (told_line told) (sym (line_there slots place ∙ ap (λ (s : LineSlots). s.line) (at_line slots place slot h e))))
 
 -- all that is told when something is told
-pub tells_by : (old told_now left last : ServiceSlots) (place : ℕ) (told : Told) → told_now.kernel ≡ old.kernel → lines_of told_now.slots ≡ slice_set (lines_of old.slots) place (told_line told (line_at (lines_of old.slots) place)) → ((asked : List Asked) × Leaves MayLack (rested told_now.kernel) (thread_left (line_at (lines_of old.slots) place).stage (next_stage (line_at (lines_of old.slots) place).stage told)) asked (rested left.kernel)) → left.slots ≡ told_now.slots → service_of last ≡ delivered (rested left.kernel) (lines_of left.slots) → (asked : List Asked) × Tells MayLack (service_of old) place told asked (service_of last)
+pub tells_by : (old told_now left last : ServiceSlots) (place : ℕ) (told : Told) → told_now.kernel ≡ old.kernel → lines_of told_now.slots ≡ slice_set (lines_of old.slots) place (told_line told (line_at (lines_of old.slots) place)) → ((asked : List Asked) × Leaves MayLack (at_rest told_now.kernel) (thread_left (line_at (lines_of old.slots) place).stage (next_stage (line_at (lines_of old.slots) place).stage told)) asked (at_rest left.kernel)) → left.slots ≡ told_now.slots → service_of last ≡ delivered (at_rest left.kernel) (lines_of left.slots) → (asked : List Asked) × Tells MayLack (service_of old) place told asked (service_of last)
 tells_by old told_now left last place told kernel lines leaves slots is = (
   leaves.0,
   record {
-    kernel = rested left.kernel;
-    leaves = subst (λ k. Leaves MayLack (rested k) (thread_left (line_at (lines_of old.slots) place).stage (next_stage (line_at (lines_of old.slots) place).stage told)) leaves.0 (rested left.kernel)) kernel leaves.1;
-    new_is = is ∙ ap (λ (l : List Line). delivered (rested left.kernel) l) (ap lines_of slots ∙ lines);
+    kernel = at_rest left.kernel;
+    leaves = subst (λ k. Leaves MayLack (at_rest k) (thread_left (line_at (lines_of old.slots) place).stage (next_stage (line_at (lines_of old.slots) place).stage told)) leaves.0 (at_rest left.kernel)) kernel leaves.1;
+    new_is = is ∙ ap (λ (l : List Line). delivered (at_rest left.kernel) l) (ap lines_of slots ∙ lines);
   },
 )
 
 -- a command that is obeyed, and told
 pub does_by : (old middle last : ServiceSlots) (place : ℕ) (given : Command) (told : Told) → ((said : Answer) × MayObey old.kernel given said middle.kernel × (told ≡ told_of said)) → middle.slots ≡ old.slots → ((asked : List Asked) × Tells MayLack (service_of middle) place told asked (service_of last)) → (asked : List Asked) × Does MayLack (service_of old) place given asked (service_of last)
 does_by old middle last place given told obeyed slots tells =
-    let here : Tells MayLack (record { kernel = rested middle.kernel; lines = lines_of old.slots }) place told tells.0 (service_of last) = subst (λ (s : List LineSlots). Tells MayLack (record { kernel = rested middle.kernel; lines = lines_of s }) place told tells.0 (service_of last)) slots tells.1 in (
+    let here : Tells MayLack (record { kernel = at_rest middle.kernel; lines = lines_of old.slots }) place told tells.0 (service_of last) = subst (λ (s : List LineSlots). Tells MayLack (record { kernel = at_rest middle.kernel; lines = lines_of s }) place told tells.0 (service_of last)) slots tells.1 in (
       record { command = given; answer = obeyed.0 } ∷ tells.0,
       record {
         answer = obeyed.0;
-        between = rested middle.kernel;
+        between = at_rest middle.kernel;
         obeys = rested_obeys old.kernel given obeyed.0 middle.kernel obeyed.1;
         rest = tells.0;
         asked_is = refl;
-        tells = subst (λ (t : Told). Tells MayLack (record { kernel = rested middle.kernel; lines = lines_of old.slots }) place t tells.0 (service_of last)) obeyed.2 here;
+        tells = subst (λ (t : Told). Tells MayLack (record { kernel = at_rest middle.kernel; lines = lines_of old.slots }) place t tells.0 (service_of last)) obeyed.2 here;
       },
     )
 
@@ -233,16 +233,16 @@ pub end_refuse : (s : ServiceSlots) (place class number : ℕ) → CanAsk s plac
 end_refuse s place class number can = can_end s place (tells.Faulted class number) can.within can.ready can.suits tt
 
 -- a command of nobody's
-pub does_alone : (s middle last : ServiceSlots) (command : Command) (said : Answer) → MayObey s.kernel command said middle.kernel → middle.slots ≡ s.slots → service_of last ≡ delivered (rested middle.kernel) (lines_of middle.slots) → DoesAlone MayLack (service_of s) command (service_of last)
-does_alone s middle last command said obeys slots is = (said, (rested middle.kernel, rested_obeys s.kernel command said middle.kernel obeys, is ∙ ap (λ l. delivered (rested middle.kernel) (lines_of l)) slots))
+pub does_alone : (s middle last : ServiceSlots) (command : Command) (said : Answer) → MayObey s.kernel command said middle.kernel → middle.slots ≡ s.slots → service_of last ≡ delivered (at_rest middle.kernel) (lines_of middle.slots) → DoesAlone MayLack (service_of s) command (service_of last)
+does_alone s middle last command said obeys slots is = (said, (at_rest middle.kernel, rested_obeys s.kernel command said middle.kernel obeys, is ∙ ap (λ l. delivered (at_rest middle.kernel) (lines_of l)) slots))
 
 -- a line that changes in its bytes alone, with no less room
 module _ (s : ServiceSlots) (place : ℕ) (read new : LineSlots) (within : place < length s.slots) (there : read ≡ slice_index_or s.slots place read) where
   pub same_lines : new.line ≡ read.line → service_of (record s { slots = slice_set s.slots place new }) ≡ service_of s
-  same_lines same = ap (λ l. record { kernel = rested s.kernel; lines = l }) (map-set (λ (l : LineSlots). l.line) s.slots place new ∙ (ap (λ (l : Line). slice_set (lines_of s.slots) place l) (same ∙ sym (line_there s.slots place ∙ ap (λ (l : LineSlots). l.line) (at_line s.slots place read within there))) ∙ set-get_or (lines_of s.slots) place nobody))
+  same_lines same = ap (λ l. record { kernel = at_rest s.kernel; lines = l }) (map-set (λ (l : LineSlots). l.line) s.slots place new ∙ (ap (λ (l : Line). slice_set (lines_of s.slots) place l) (same ∙ sym (line_there s.slots place ∙ ap (λ (l : LineSlots). l.line) (at_line s.slots place read within there))) ∙ set-get_or (lines_of s.slots) place nobody))
 
   pub less_bytes : (count : ℕ) → new.line ≡ record read.line { out = drop count read.line.out } → service_of (record s { slots = slice_set s.slots place new }) ≡ without_bytes place count (service_of s)
-  less_bytes count same = ap (λ l. record { kernel = rested s.kernel; lines = l }) (map-set (λ (l : LineSlots). l.line) s.slots place new ∙ ap (λ (l : Line). slice_set (lines_of s.slots) place l) (same ∙ ap (λ (l : Line). record l { out = drop count l.out }) (sym (line_there s.slots place ∙ ap (λ (l : LineSlots). l.line) (at_line s.slots place read within there)))))
+  less_bytes count same = ap (λ l. record { kernel = at_rest s.kernel; lines = l }) (map-set (λ (l : LineSlots). l.line) s.slots place new ∙ ap (λ (l : Line). slice_set (lines_of s.slots) place l) (same ∙ ap (λ (l : Line). record l { out = drop count l.out }) (sym (line_there s.slots place ∙ ap (λ (l : LineSlots). l.line) (at_line s.slots place read within there)))))
 
   pub more_room : new.line.stage ≡ read.line.stage → read.free ≤ new.free → Ready s → StaysReady s (record s { slots = slice_set s.slots place new })
   more_room same more ready =

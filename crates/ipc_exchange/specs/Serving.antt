@@ -3,7 +3,7 @@ use Rattle.std.specs.Prelude.{◌≡◌, ℕ, List, [], ◌∷◌, ◌++◌, Opt
 use Rattle.ipc_frame.specs.declared.fault.FrameFault.{FrameFault}
 use Rattle.ipc_frame.specs.declared.fault.FrameFault.TheVariants as fault
 use Rattle.ipc_core.specs.KernelParts.{KernelParts}
-use Rattle.ipc_core.specs.Obeying.{Obeys, MayObey, rested}
+use Rattle.ipc_core.specs.Obeying.{Obeys, MayObey}
 use Rattle.ipc_core.specs.RefusalNumbers.{refusal_number}
 use Rattle.ipc_core.specs.declared.command.Answer.{Answer}
 use Rattle.ipc_core.specs.declared.command.Answer.TheVariants as answer
@@ -17,7 +17,7 @@ use Rattle.ipc_connection.specs.declared.asking.Request.TheVariants.{Open, Enter
 use Rattle.ipc_calls.specs.declared.heard.Heard.{Heard}
 use Rattle.ipc_connection.specs.declared.replying.Told.{Told}
 use Rattle.ipc_connection.specs.declared.replying.Told.TheVariants.{Opened, Entered, Exchanged, Refused, Faulted, Left}
-use Rattle.ipc_exchange.specs.Service.{ServiceParts, delivered, line_at, told_line}
+use Rattle.ipc_exchange.specs.Service.{ServiceParts, at_rest, delivered, line_at, told_line}
 
 -- whether there is memory for all that is wanted
 pub data Memory : Type 0 where
@@ -36,7 +36,7 @@ AnswersIn MayLack old command answer new = MayObey old command answer new
 -- a command is obeyed; between commands a kernel is seen at rest
 abbrev pub ObeysIn : Memory → KernelParts → Command → Answer → KernelParts → Type 0
 ObeysIn memory old command answer new =
-    (after : KernelParts) × AnswersIn memory old command answer after × (new ≡ rested after)
+    (after : KernelParts) × AnswersIn memory old command answer after × (new ≡ at_rest after)
 
 -- what a kernel's answer tells a connection
 abbrev pub told_of : Answer → Told

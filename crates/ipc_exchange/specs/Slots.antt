@@ -10,7 +10,6 @@ use Rattle.ipc_history.specs.Threads.{is_live}
 use Rattle.ipc_core.specs.KernelParts.{KernelParts}
 use Rattle.ipc_core.specs.Laws.{IsSound}
 pub use Rattle.ipc_core.specs.Laws.{is_call_of}
-use Rattle.ipc_core.specs.Obeying.{rested}
 use Rattle.ipc_core.specs.Outcomes.{is_busy}
 use Rattle.ipc_core.specs.declared.command.Command.{Command}
 use Rattle.ipc_core.specs.declared.command.Command.TheVariants.{Open, Enter, Exreg, Broke, At, Advance, Take}
@@ -20,7 +19,7 @@ use Rattle.ipc_connection.specs.declared.replying.Told.{Told}
 use Rattle.ipc_connection.specs.declared.replying.Told.TheVariants.{Opened, Entered, Exchanged, Refused, Faulted, Left}
 use Rattle.ipc_connection.specs.declared.stage.Stage.{Stage}
 use Rattle.ipc_connection.specs.declared.stage.Stage.TheVariants.{Greeting, Serving}
-use Rattle.ipc_exchange.specs.Service.{Line, ServiceParts, nobody}
+use Rattle.ipc_exchange.specs.Service.{Line, ServiceParts, at_rest, nobody}
 
 -- a line, and how many more answers it can hold without memory
 pub record LineSlots : Type 0 where
@@ -37,7 +36,7 @@ abbrev pub lines_of : List LineSlots → List Line
 lines_of slots = map (λ (s : LineSlots). s.line) slots
 
 abbrev pub service_of : ServiceSlots → ServiceParts
-service_of service = record { kernel = rested service.kernel; lines = lines_of service.slots }
+service_of service = record { kernel = at_rest service.kernel; lines = lines_of service.slots }
 
 abbrev pub no_slots : LineSlots
 no_slots = record { line = nobody; free = 0 }

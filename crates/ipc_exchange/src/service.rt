@@ -5,13 +5,13 @@ ghost use Rattle.ipc_words.specs.Limits.{max_calls, max_entries, table_slots};
 ghost use Rattle.ipc_history.specs.Legal.{Legal, Quiet};
 ghost use Rattle.ipc_history.specs.Paired.{Paired};
 ghost use Rattle.ipc_core.specs.Laws.{IsSound};
-ghost use Rattle.ipc_core.specs.Obeying.{MayObey, empty_kernel, broke_answer, rested};
+ghost use Rattle.ipc_core.specs.Obeying.{MayObey, empty_kernel, broke_answer};
 ghost use Rattle.ipc_core.specs.declared.command.Answer.{Answer};
 ghost use Rattle.ipc_core.specs.declared.command.Answer.TheVariants as answer;
 ghost use Rattle.ipc_core.specs.declared.command.Command.TheVariants as command;
 ghost use Rattle.ipc_connection.specs.Replying.{next_stage, thread_left};
 ghost use Rattle.ipc_exchange.specs.Feeding.{has_finished};
-ghost use Rattle.ipc_exchange.specs.Service.{delivered, line_at, place_of};
+ghost use Rattle.ipc_exchange.specs.Service.{at_rest, delivered, line_at, place_of};
 ghost use Rattle.ipc_exchange.specs.Service.{told_line, told_outcome, with_line, without_bytes};
 ghost use Rattle.ipc_exchange.specs.Serving.{Asked, Does, DoesAlone, Leaves, MayLack, Serves, ServesBy, Tells, told_of};
 ghost use Rattle.ipc_exchange.specs.Slots.{CanAsk, CanDo, CanServe, CanTell, NoneServes, Ready};
@@ -300,7 +300,7 @@ impl Service {
     fn leave(&mut self, left: Option<ThreadId>)
         requires ready { Ready self.old }
         requires alone { IfSome left (λ thread. NoneServes self.old.slots thread) }
-        ensures kernel { (asked : List Asked) × Leaves MayLack (rested self.old.kernel) left asked (rested self.new.kernel) }
+        ensures kernel { (asked : List Asked) × Leaves MayLack (at_rest self.old.kernel) left asked (at_rest self.new.kernel) }
         ensures slots { self.new.slots ≡ self.old.slots }
         ensures ready { Ready self.new }
     {
@@ -325,7 +325,7 @@ impl Service {
     /// Each thread's line is told the outcome that the thread may take.
     fn deliver(&mut self)
         requires { Ready self.old }
-        ensures told { service_of self.new ≡ delivered (rested self.old.kernel) (lines_of self.old.slots) }
+        ensures told { service_of self.new ≡ delivered (at_rest self.old.kernel) (lines_of self.old.slots) }
         ensures ready { StaysReady self.old self.new }
     {
         for number in 0..TABLE_SLOTS {

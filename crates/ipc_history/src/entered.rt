@@ -30,6 +30,14 @@ impl EnteredCall {
         }
     }
 
+    /// Moves the call out. Takes no memory.
+    pub fn into_call(self) -> Call
+        ensures { result ≡ self }
+    {
+        let EnteredCall { call } = self;
+        Box::into_inner(call)
+    }
+
     /// The call.
     pub fn call(&self) -> &Call
         ensures { result.now ≡ self.now }

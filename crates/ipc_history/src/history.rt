@@ -22,7 +22,8 @@ impl Model for History {
 impl History {
     /// An empty history. Takes no memory.
     pub fn new(alloc: Global) -> History
-        ensures { result.entries ≡ [] }
+        ensures entries { result.entries ≡ [] }
+        ensures room { result.room ≡ 0 }
     {
         History {
             entries: Vec::new(alloc),

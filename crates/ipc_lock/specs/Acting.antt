@@ -6,10 +6,12 @@ use Rattle.ipc_core.specs.KernelParts.{KernelParts}
 use Rattle.ipc_core.specs.Obeying.{MayObey}
 use Rattle.ipc_core.specs.Outcomes.{made_by}
 use Rattle.ipc_core.specs.Refusals.{enter_refusal, exreg_refusal, open_refusal}
+use Rattle.ipc_core.specs.Room.{LacksRoomFor, exreg_need, open_need}
 use Rattle.ipc_core.specs.Steps.{Enters, MayRefuse, Opens}
 use Rattle.ipc_core.specs.declared.command.Answer.TheVariants as answer
 use Rattle.ipc_core.specs.declared.command.Command.TheVariants as command
 use Rattle.ipc_core.specs.declared.refusal.Refusal.{Refusal}
+use Rattle.ipc_core.specs.declared.refusal.Refusal.TheVariants.{NoMemory}
 use Rattle.ipc_history.specs.CallParts.{CallParts}
 use Rattle.ipc_core.specs.declared.answers.ExregAnswer.{ExregAnswer}
 use Rattle.ipc_lock.specs.Seats.{SeatRefuses}
@@ -61,6 +63,7 @@ pub record ExchangesSeated {C : Type 0} (old new : KernelParts) (seat after : Ca
 
 pub record KeepsRegisters {C : Type 0} (old new : KernelParts) (seat after : CallSeat C) (refusal : Refusal) : Type 0 where
   pub cause : SeatRefuses seat.made (made_by old.history seat.thread) (exreg_refusal old seat.thread) refusal
+  pub memory : refusal ≡ NoMemory → LacksRoomFor old exreg_need
   pub same : SameSeat seat after
   pub stays : new ≡ old
 
@@ -68,7 +71,7 @@ pub record KeepsRegisters {C : Type 0} (old new : KernelParts) (seat after : Cal
 unfoldable pub StepDoes : {C T : Type 0} → KernelParts → Step C → Told C T → KernelParts → Type 0
 StepDoes old (step.Hello number space) (told.Opened thread calls takes) new = OpensSeated old new number space thread calls takes
 StepDoes old (step.Hello number space) (told.NotOpened refusal) new =
-    MayRefuse (open_refusal old number space) refusal × (new ≡ old)
+    MayRefuse (open_refusal old number space) refusal × (refusal ≡ NoMemory → LacksRoomFor old open_need) × (new ≡ old)
 StepDoes old (step.Enter seat call) (told.Entered after number) new = EntersSeated old new seat after number call
 StepDoes old (step.Enter seat call) (told.NotEntered after refusal back) new = KeepsCall old new seat after call back refusal
 StepDoes old (step.Exreg seat target control) (told.Exchanged after answer) new =

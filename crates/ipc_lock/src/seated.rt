@@ -6,6 +6,7 @@ ghost use Rattle.ipc_history.specs.Threads.{is_live};
 ghost use Rattle.ipc_core.specs.Effects.{Breaks, Exchanges, Gives, Ticks};
 ghost use Rattle.ipc_words.specs.Limits.{max_calls, max_entries};
 ghost use Rattle.ipc_core.specs.Obeying.{MayObey, empty_kernel};
+ghost use Rattle.ipc_core.specs.Room.{LacksRoomFor, exreg_need, open_need};
 ghost use Rattle.ipc_core.specs.declared.command.Answer.TheVariants as answer;
 ghost use Rattle.ipc_core.specs.declared.command.Command.TheVariants as command;
 ghost use Rattle.ipc_core.specs.Outcomes.{made_by, outcome_to_take, taken_by};
@@ -109,7 +110,8 @@ impl<C: Ledger, T: Ledger> Locked<C, T> {
         })
     }
 
-    /// Opens the thread of a number in a space, and makes its seats. The refusals are K1, K2, K3, K5 and K4.
+    /// Opens the thread of a number in a space, and makes its seats. The refusals are K1, K2, K3, K5 and K4, which comes only
+    /// where the history's room is less than an open needs.
     pub fn open_seated(
         &mut self,
         number: u64,
@@ -120,6 +122,7 @@ impl<C: Ledger, T: Ledger> Locked<C, T> {
         ensures call_seat { IfOk result (λ opened. (opened.1.thread ≡ opened.0) × (opened.1.made ≡ 0)) }
         ensures take_seat { IfOk result (λ opened. (opened.2.thread ≡ opened.0) × (opened.2.taken ≡ 0)) }
         ensures cause { IfErr result (λ refusal. MayRefuse (open_refusal self.old.kernel number space) refusal) }
+        ensures memory { result ≡ Err Refusal.NoMemory → LacksRoomFor self.old.kernel open_need }
         ensures err { OnErr result (self.new.kernel ≡ self.old.kernel) }
     {
         let Locked {
@@ -185,7 +188,8 @@ impl<C: Ledger, T: Ledger> Locked<C, T> {
         Ok(number)
     }
 
-    /// Stops phases of a target for the seat's thread. K6 also where the seat's amount is not the kernel's count.
+    /// Stops phases of a target for the seat's thread. K6 also where the seat's amount is not the kernel's count; K4 only
+    /// where the history's room is less than this needs.
     pub fn exreg_seated(
         &mut self,
         seat: &CallSeat<C>,
@@ -198,6 +202,7 @@ impl<C: Ledger, T: Ledger> Locked<C, T> {
         ensures cause { IfErr result (λ refusal. SeatRefuses seat.now.made
             (made_by self.old.kernel.history seat.now.thread)
             (exreg_refusal self.old.kernel seat.now.thread) refusal) }
+        ensures memory { result ≡ Err Refusal.NoMemory → LacksRoomFor self.old.kernel exreg_need }
         ensures err { OnErr result (self.new.kernel ≡ self.old.kernel) }
     {
         let Locked { kernel, .. } = self;

@@ -4,7 +4,7 @@ use Rattle.ipc_history.specs.Calls.{calls_made}
 use Rattle.ipc_history.specs.Legal.{Legal, is_admissible}
 use Rattle.ipc_history.specs.Settled.{Settled}
 use Rattle.ipc_history.specs.declared.entry.Input.TheVariants.{Called}
-use Rattle.ipc_laws.specs.Counting.{room_owed}
+use Rattle.ipc_laws.specs.Counting.{pledged, room_owed}
 use Rattle.ipc_core.specs.Room.{is_full, call_need}
 use Rattle.ipc_core.specs.Steps.{with_input}
 use Rattle.ipc_core.proofs.BookLemmas.{books_entered}
@@ -33,37 +33,37 @@ returns-in_default-clause-cause c =
     let live = test_moved (λ l. is_live l c.args.thread) _ _ _ _ _ refl (ap (λ k. k.history) c.self.view_is) c.is_live.ensures c.if-not-is_live.false in
     let made = c.calls_made-made.ensures ∙ ap calls_made (ap (λ k. k.history) c.self.view_is) in
     let limit = ap (λ k. k.calls_limit) c.self.view_is in
-    inl (full c.args.self.now c.args.thread c.args.call live (sym c.is_busy.ensures ∙ c.if-is_busy.false) (omega (arith, made, limit, c.if-made-self.false)) (ap (is_full c.args.self.now) (sym c.call_need.ensures) ∙ c.in_default.ensures.full.0 refl))
-
-pub returns-in_default-prepare-clause-cause : goal.returns-in_default-prepare-clause-cause
-returns-in_default-prepare-clause-cause c = inr (passes_entered _ _ _ _ (passes c.args.self.now c.args.thread c.args.call _ _ _ c.calls_made-made.result _ _ _ refl (ap (λ k. k.history) c.self.view_is) (ap (λ k. k.calls_limit) c.self.view_is) c.is_live.ensures c.if-not-is_live.false c.is_busy.ensures c.if-is_busy.false c.calls_made-made.ensures c.if-made-self.false c.call_need.ensures c.in-Some.ensures.full), refl)
+    inl (full c.args.self.now c.args.thread c.args.call live (sym c.is_busy.ensures ∙ c.if-is_busy.false) (omega (arith, made, limit, c.if-made-self.false)) (ap (is_full c.args.self.now) (sym c.call_need-need.ensures) ∙ c.in_default.ensures.full.0 refl))
 
 pub returns-in-Err-clause-cause : goal.returns-in-Err-clause-cause
-returns-in-Err-clause-cause c = inr (passes_entered _ _ _ _ (passes c.args.self.now c.args.thread c.args.call _ _ _ c.calls_made-made.result _ _ _ refl (ap (λ k. k.history) c.self.view_is) (ap (λ k. k.calls_limit) c.self.view_is) c.is_live.ensures c.if-not-is_live.false c.is_busy.ensures c.if-is_busy.false c.calls_made-made.ensures c.if-made-self.false c.call_need.ensures c.in-Some.ensures.full), refl)
+returns-in-Err-clause-cause c = inr (passes_entered _ _ _ _ (passes c.args.self.now c.args.thread c.args.call _ _ _ c.calls_made-made.result _ _ _ refl (ap (λ k. k.history) c.self.view_is) (ap (λ k. k.calls_limit) c.self.view_is) c.is_live.ensures c.if-not-is_live.false c.is_busy.ensures c.if-is_busy.false c.calls_made-made.ensures c.if-made-self.false c.call_need-need.ensures c.in-Some.ensures.full), refl)
 
-pub prepare-requires : goal.prepare-requires
-prepare-requires c = let few = c.self.invariant.kernel.few_calls in omega (arith, few, c.if-made-self.false)
+pub prepare-requires-clause-few : goal.prepare-requires-clause-few
+prepare-requires-clause-few c = let few = c.self.invariant.kernel.few_calls in omega (arith, few, c.if-made-self.false)
+
+pub prepare-requires-clause-enough : goal.prepare-requires-clause-enough
+prepare-requires-clause-enough c = subst (λ l. pledged l + c.call_need-need.result ≤ c.in-Some.room) (sym (ap (λ k. k.history) c.self.view_is)) c.in-Some.ensures.value
 
 pub take_input-requires-clause-admissible : goal.take_input-requires-clause-admissible
-take_input-requires-clause-admissible c = subst (λ call. IsTrue (is_admissible c.prepare.new.self.entries (Called (c.calls_made-made.result + 1) c.args.thread call))) (sym c.in-Ok-new.ensures.ok) (passes_may_call _ _ _ _ c.prepare.new.self.entries (passes c.args.self.now c.args.thread c.args.call _ _ _ c.calls_made-made.result _ _ _ refl (ap (λ k. k.history) c.self.view_is) (ap (λ k. k.calls_limit) c.self.view_is) c.is_live.ensures c.if-not-is_live.false c.is_busy.ensures c.if-is_busy.false c.calls_made-made.ensures c.if-made-self.false c.call_need.ensures c.in-Some.ensures.full) (c.in-Ok.ensures.entries ∙ ap (λ k. k.history) c.self.view_is) (sym c.is_normal-is_normal.ensures.value ∙ c.is_normal-is_normal.ensures.always))
+take_input-requires-clause-admissible c = subst (λ call. IsTrue (is_admissible c.prepare.new.self.entries (Called (c.calls_made-made.result + 1) c.args.thread call))) (sym c.in-Ok.ensures.call) (passes_may_call _ _ _ _ c.prepare.new.self.entries (passes c.args.self.now c.args.thread c.args.call _ _ _ c.calls_made-made.result _ _ _ refl (ap (λ k. k.history) c.self.view_is) (ap (λ k. k.calls_limit) c.self.view_is) c.is_live.ensures c.if-not-is_live.false c.is_busy.ensures c.if-is_busy.false c.calls_made-made.ensures c.if-made-self.false c.call_need-need.ensures c.in-Some.ensures.full) (c.in-Ok.ensures.entries ∙ ap (λ k. k.history) c.self.view_is) (sym c.is_normal-is_normal.ensures.value ∙ c.is_normal-is_normal.ensures.always))
 
 pub take_input-requires-clause-room : goal.take_input-requires-clause-room
-take_input-requires-clause-room c = subst (λ call. length c.prepare.new.self.entries + room_owed c.prepare.new.self.entries + call_need call ≤ c.prepare.new.self.room) (sym c.in-Ok-new.ensures.ok) (called_room c.args.self.now c.prepare.new.self.entries _ _ _ _ (c.in-Ok.ensures.entries ∙ ap (λ k. k.history) c.self.view_is) (subst Legal (sym c.in-Ok.ensures.entries) c.self.invariant.kernel.stands.legal) c.in-Some.ensures.value c.call_need.ensures c.in-Ok.ensures.fits)
+take_input-requires-clause-room c = subst (λ call. length c.prepare.new.self.entries + room_owed c.prepare.new.self.entries + call_need call ≤ c.prepare.new.self.room) (sym c.in-Ok.ensures.call) (called_room c.prepare.new.self.entries _ _ _ (subst Legal (sym c.in-Ok.ensures.entries) c.self.invariant.kernel.stands.legal) c.call_need-need.ensures c.in-Ok.ensures.fits)
 
-pub invariant_of-self-in-Ok-new : goal.invariant_of-self-in-Ok-new
-invariant_of-self-in-Ok-new c =
-    let pass = passes c.args.self.now c.args.thread c.args.call _ _ _ c.calls_made-made.result _ _ _ refl (ap (λ k. k.history) c.self.view_is) (ap (λ k. k.calls_limit) c.self.view_is) c.is_live.ensures c.if-not-is_live.false c.is_busy.ensures c.if-is_busy.false c.calls_made-made.ensures c.if-made-self.false c.call_need.ensures c.in-Some.ensures.full in
+pub invariant_of-self : goal.invariant_of-self
+invariant_of-self c =
+    let pass = passes c.args.self.now c.args.thread c.args.call _ _ _ c.calls_made-made.result _ _ _ refl (ap (λ k. k.history) c.self.view_is) (ap (λ k. k.calls_limit) c.self.view_is) c.is_live.ensures c.if-not-is_live.false c.is_busy.ensures c.if-is_busy.false c.calls_made-made.ensures c.if-made-self.false c.call_need-need.ensures c.in-Some.ensures.full in
     let view = ap (λ k. k.history) c.self.view_is in
-    let fits = called_room c.args.self.now c.prepare.new.self.entries _ _ (call_need c.args.call) c.prepare.new.self.room (c.in-Ok.ensures.entries ∙ view) (subst Legal (sym c.in-Ok.ensures.entries) c.self.invariant.kernel.stands.legal) c.in-Some.ensures.value c.call_need.ensures c.in-Ok.ensures.fits in
+    let fits = called_room c.prepare.new.self.entries _ (call_need c.args.call) c.prepare.new.self.room (subst Legal (sym c.in-Ok.ensures.entries) c.self.invariant.kernel.stands.legal) c.call_need-need.ensures c.in-Ok.ensures.fits in
     let same : c.prepare.new.self.entries ≡ c.self.inside.course.entries = c.in-Ok.ensures.entries in
-    let settled = subst (λ call. Settled (with_input c.self.inside.course.entries c.self.inside.moment (Called (c.calls_made-made.result + 1) c.args.thread call)) c.take_input.new.self.entries) c.in-Ok-new.ensures.ok (subst (λ l. Settled (with_input l c.self.inside.moment (Called (c.calls_made-made.result + 1) c.args.thread c.in-Ok-new.call)) c.take_input.new.self.entries) same c.take_input.ensures.settled) in
+    let settled = subst (λ call. Settled (with_input c.self.inside.course.entries c.self.inside.moment (Called (c.calls_made-made.result + 1) c.args.thread call)) c.take_input.new.self.entries) c.in-Ok.ensures.call (subst (λ l. Settled (with_input l c.self.inside.moment (Called (c.calls_made-made.result + 1) c.args.thread c.in-Ok.entered)) c.take_input.new.self.entries) same c.take_input.ensures.settled) in
     let kernel = kernel_after _ _ _ c.self.inside.course c.take_input.new.self (Called (c.calls_made-made.result + 1) c.args.thread c.args.call) c.self.invariant.kernel
     (passes_may_call _ _ _ _ c.self.inside.course.entries pass view (sym c.is_normal-is_normal.ensures.value ∙ c.is_normal-is_normal.ensures.always))
     refl
     (called_within c.args.self.now _ _ _ _ c.self.inside.course.entries pass view (ap (λ k. k.entries_limit) c.self.view_is) c.self.invariant.kernel.stands.legal)
     (subst (λ l. length l + room_owed l + call_need c.args.call ≤ c.take_input.new.self.room) same (subst (λ r. length c.prepare.new.self.entries + room_owed c.prepare.new.self.entries + call_need c.args.call ≤ r) (sym c.take_input.ensures.room) fits))
     settled
-    (subst (λ call. length c.take_input.new.self.entries + room_owed c.take_input.new.self.entries ≤ length c.self.inside.course.entries + room_owed c.self.inside.course.entries + call_need call) c.in-Ok-new.ensures.ok (subst (λ l. length c.take_input.new.self.entries + room_owed c.take_input.new.self.entries ≤ length l + room_owed l + call_need c.in-Ok-new.call) same c.take_input.ensures.spent)) in
+    (subst (λ call. length c.take_input.new.self.entries + room_owed c.take_input.new.self.entries ≤ length c.self.inside.course.entries + room_owed c.self.inside.course.entries + call_need call) c.in-Ok.ensures.call (subst (λ l. length c.take_input.new.self.entries + room_owed c.take_input.new.self.entries ≤ length l + room_owed l + call_need c.in-Ok.entered) same c.take_input.ensures.spent)) in
     let place = c.in-Ok.ensures.place in
     let wider = c.in-Ok.ensures.places in
     let same_places = c.take_input.ensures.places in
@@ -72,13 +72,13 @@ invariant_of-self-in-Ok-new c =
       books = books_entered _ _ (c.calls_made-made.result + 1) c.args.thread c.args.call (takes_grows _ _ _ _ settled) c.self.inside.course.taken _ (c.take_input.ensures.taken ∙ c.in-Ok.ensures.taken) _ c.self.inside.course.since c.self.inside.course.places _ (c.take_input.ensures.since ∙ ap length same) (omega (arith, wider, same_places)) (omega (arith, place, same_places)) c.self.invariant.books;
     }
 
-pub returns-in-Ok-new-clause-ok : goal.returns-in-Ok-new-clause-ok
-returns-in-Ok-new-clause-ok c =
-    let pass = passes c.args.self.now c.args.thread c.args.call _ _ _ c.calls_made-made.result _ _ _ refl (ap (λ k. k.history) c.self.view_is) (ap (λ k. k.calls_limit) c.self.view_is) c.is_live.ensures c.if-not-is_live.false c.is_busy.ensures c.if-is_busy.false c.calls_made-made.ensures c.if-made-self.false c.call_need.ensures c.in-Some.ensures.full in
+pub returns-in-Ok-clause-ok : goal.returns-in-Ok-clause-ok
+returns-in-Ok-clause-ok c =
+    let pass = passes c.args.self.now c.args.thread c.args.call _ _ _ c.calls_made-made.result _ _ _ refl (ap (λ k. k.history) c.self.view_is) (ap (λ k. k.calls_limit) c.self.view_is) c.is_live.ensures c.if-not-is_live.false c.is_busy.ensures c.if-is_busy.false c.calls_made-made.ensures c.if-made-self.false c.call_need-need.ensures c.in-Some.ensures.full in
     let same : c.prepare.new.self.entries ≡ c.self.inside.course.entries = c.in-Ok.ensures.entries in (
       passes_entered _ _ _ _ pass,
       enters _ c.args.self.now _ c.args.thread (c.calls_made-made.result + 1) c.args.call c.self.view_is (ap (λ n. n + 1) pass.made_is)
-          (subst (λ call. Settled (with_input c.self.inside.course.entries c.self.inside.moment (Called (c.calls_made-made.result + 1) c.args.thread call)) c.take_input.new.self.entries) c.in-Ok-new.ensures.ok (subst (λ l. Settled (with_input l c.self.inside.moment (Called (c.calls_made-made.result + 1) c.args.thread c.in-Ok-new.call)) c.take_input.new.self.entries) same c.take_input.ensures.settled))
+          (subst (λ call. Settled (with_input c.self.inside.course.entries c.self.inside.moment (Called (c.calls_made-made.result + 1) c.args.thread call)) c.take_input.new.self.entries) c.in-Ok.ensures.call (subst (λ l. Settled (with_input l c.self.inside.moment (Called (c.calls_made-made.result + 1) c.args.thread c.in-Ok.entered)) c.take_input.new.self.entries) same c.take_input.ensures.settled))
           c.take_input.ensures.legal (c.take_input.ensures.since ∙ ap length same)
-          refl refl refl (c.take_input.ensures.taken ∙ c.in-Ok.ensures.taken),
+          refl refl refl (omega (arith, c.in-Ok.ensures.room, c.take_input.ensures.room)) (c.take_input.ensures.taken ∙ c.in-Ok.ensures.taken),
     )

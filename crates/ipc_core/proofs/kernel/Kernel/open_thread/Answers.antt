@@ -1,8 +1,9 @@
-use Rattle.std.proofs.Common.{◌≡◌, refl, sym, ap, ◌∙◌, subst, false, IsTrue, Some, inl, inr, arith}
+use Rattle.std.proofs.Common.{◌≡◌, ◌+◌, ◌≤◌, refl, sym, ap, ◌∙◌, subst, false, IsTrue, Some, inl, inr, arith}
 use Rattle.ipc_history.specs.Threads.{is_taken, next_version}
 use Rattle.ipc_history.specs.Legal.{is_admissible}
 use Rattle.ipc_history.specs.declared.entry.Input.TheVariants.{Opened}
-use Rattle.ipc_core.specs.Room.{open_need}
+use Rattle.ipc_core.specs.Room.{LacksRoomFor, open_need}
+use Rattle.ipc_laws.specs.Counting.{pledged}
 use Rattle.ipc_core.proofs.OpeningLemmas.{InRange, may_open_next}
 use Rattle.ipc_core.proofs.RefusalLemmas.{not_since, open_allowed, open_bad, open_full, open_taken, open_worn}
 use Rattle.ipc_core.proofs.ReservedLemmas.{kernel_took, reserved, takes_input}
@@ -38,11 +39,17 @@ returns-in_default-room_for-clause-cause c =
     let range : InRange c.args.number c.args.space = record { least = omega arith; most = omega arith; inner = omega arith; outer = omega arith } in
     inl (open_full c.args.self.now c.args.number c.args.space range (cc) c.in-Some.version (cc) (c.in_default-room_for.ensures.full.0 refl))
 
-pub returns-in_default-reserve-clause-cause : goal.returns-in_default-reserve-clause-cause
-returns-in_default-reserve-clause-cause c =
+pub returns-in_default-make_room-clause-cause : goal.returns-in_default-make_room-clause-cause
+returns-in_default-make_room-clause-cause c =
     let history : c.self.inside.course.entries ≡ c.args.self.now.history = ap (λ k. k.history) c.self.view_is in
     let range : InRange c.args.number c.args.space = record { least = omega arith; most = omega arith; inner = omega arith; outer = omega arith } in
     inr (open_allowed c.args.self.now c.args.number c.args.space range (cc) c.in-Some.version (cc) (not_since _ c.in-Some-room_for.ensures.full.1), refl)
+
+pub returns-in_default-make_room-clause-memory : goal.returns-in_default-make_room-clause-memory
+returns-in_default-make_room-clause-memory c = λ is. subst (λ k. LacksRoomFor k open_need) c.self.view_is c.in_default-make_room.ensures.memory
+
+pub make_room-requires : goal.make_room-requires
+make_room-requires c = subst (λ l. pledged l + open_need ≤ c.in-Some-room_for.room) (sym (ap (λ k. k.history) c.self.view_is)) c.in-Some-room_for.ensures.value
 
 pub take_input-requires-clause-admissible : goal.take_input-requires-clause-admissible
 take_input-requires-clause-admissible c =
@@ -50,11 +57,11 @@ take_input-requires-clause-admissible c =
     let range : InRange c.args.number c.args.space = record { least = omega arith; most = omega arith; inner = omega arith; outer = omega arith } in
     let free : is_taken c.args.self.now.history c.args.number ≡ false = cc in
     let next : next_version c.args.self.now.history c.args.number ≡ Some c.in-Some.version = cc in
-    subst (λ l. IsTrue (is_admissible l (Opened c.thread_id-thread.result c.args.space))) (sym (c.reserve.ensures.entries ∙ history)) (may_open_next c.args.self.now.history c.thread_id-thread.result c.args.number c.in-Some.version c.args.space range c.thread_id-thread.ensures.number c.thread_id-thread.ensures.version free next)
+    subst (λ l. IsTrue (is_admissible l (Opened c.thread_id-thread.result c.args.space))) (sym (c.make_room.ensures.entries ∙ history)) (may_open_next c.args.self.now.history c.thread_id-thread.result c.args.number c.in-Some.version c.args.space range c.thread_id-thread.ensures.number c.thread_id-thread.ensures.version free next)
 
 pub take_input-requires-clause-room : goal.take_input-requires-clause-room
 take_input-requires-clause-room c =
-    let had = reserved _ c.args.self.now c.self.inside.course c.reserve.new.self open_need c.in-Some-room_for.room c.self.view_is c.self.invariant.kernel refl c.reserve.ensures.entries c.reserve.ensures.room (not_since _ c.in-Some-room_for.ensures.full.1) c.in-Some-room_for.ensures.value c.in-Ok.ensures.ok in
+    let had = reserved _ c.args.self.now c.self.inside.course c.make_room.new.self open_need c.self.view_is c.self.invariant.kernel refl c.make_room.ensures.entries c.make_room.ensures.room (not_since _ c.in-Some-room_for.ensures.full.1) c.in-Ok.ensures.ok in
     had.fits
 
 pub invariant_of-self-2 : goal.invariant_of-self-2
@@ -63,12 +70,12 @@ invariant_of-self-2 c =
     let range : InRange c.args.number c.args.space = record { least = omega arith; most = omega arith; inner = omega arith; outer = omega arith } in
     let free : is_taken c.args.self.now.history c.args.number ≡ false = cc in
     let next : next_version c.args.self.now.history c.args.number ≡ Some c.in-Some.version = cc in
-    let admissible = subst (λ l. IsTrue (is_admissible l (Opened c.thread_id-thread.result c.args.space))) (sym (c.reserve.ensures.entries ∙ history)) (may_open_next c.args.self.now.history c.thread_id-thread.result c.args.number c.in-Some.version c.args.space range c.thread_id-thread.ensures.number c.thread_id-thread.ensures.version free next) in
-    let had = reserved _ c.args.self.now c.self.inside.course c.reserve.new.self open_need c.in-Some-room_for.room c.self.view_is c.self.invariant.kernel refl c.reserve.ensures.entries c.reserve.ensures.room (not_since _ c.in-Some-room_for.ensures.full.1) c.in-Some-room_for.ensures.value c.in-Ok.ensures.ok in
-    let kernel = kernel_took _ _ _ c.reserve.new.self c.take_input.new.self (Opened c.thread_id-thread.result c.args.space) had admissible refl c.take_input.ensures.settled c.take_input.ensures.room c.take_input.ensures.spent in
+    let admissible = subst (λ l. IsTrue (is_admissible l (Opened c.thread_id-thread.result c.args.space))) (sym (c.make_room.ensures.entries ∙ history)) (may_open_next c.args.self.now.history c.thread_id-thread.result c.args.number c.in-Some.version c.args.space range c.thread_id-thread.ensures.number c.thread_id-thread.ensures.version free next) in
+    let had = reserved _ c.args.self.now c.self.inside.course c.make_room.new.self open_need c.self.view_is c.self.invariant.kernel refl c.make_room.ensures.entries c.make_room.ensures.room (not_since _ c.in-Some-room_for.ensures.full.1) c.in-Ok.ensures.ok in
+    let kernel = kernel_took _ _ _ c.make_room.new.self c.take_input.new.self (Opened c.thread_id-thread.result c.args.space) had admissible refl c.take_input.ensures.settled c.take_input.ensures.room c.take_input.ensures.spent in
     record {
       kernel = kernel;
-      books = books_grown _ _ _ (takes_grows _ _ _ _ c.take_input.ensures.settled) c.self.inside.course.taken _ (c.take_input.ensures.taken ∙ c.reserve.ensures.books.taken) _ c.self.inside.course.since c.self.inside.course.places _ c.take_input.ensures.since refl (c.take_input.ensures.places ∙ c.reserve.ensures.books.places) (subst (λ l. AreBooks l c.self.inside.course.taken c.self.inside.course.since c.self.inside.course.places) (sym c.reserve.ensures.entries) c.self.invariant.books);
+      books = books_grown _ _ _ (takes_grows _ _ _ _ c.take_input.ensures.settled) c.self.inside.course.taken _ (c.take_input.ensures.taken ∙ c.make_room.ensures.books.taken) _ c.self.inside.course.since c.self.inside.course.places _ c.take_input.ensures.since refl (c.take_input.ensures.places ∙ c.make_room.ensures.books.places) (subst (λ l. AreBooks l c.self.inside.course.taken c.self.inside.course.since c.self.inside.course.places) (sym c.make_room.ensures.entries) c.self.invariant.books);
     }
 
 pub returns-clause-ok : goal.returns-clause-ok
@@ -78,5 +85,5 @@ returns-clause-ok c =
     let free : is_taken c.args.self.now.history c.args.number ≡ false = cc in
     let next : next_version c.args.self.now.history c.args.number ≡ Some c.in-Some.version = cc in
     let allowed = open_allowed c.args.self.now c.args.number c.args.space range free c.in-Some.version next (not_since _ c.in-Some-room_for.ensures.full.1) in
-    let takes = takes_input _ c.args.self.now _ c.reserve.new.self (Opened c.thread_id-thread.result c.args.space) (Opened c.thread_id-thread.result c.args.space) c.self.view_is c.reserve.ensures.entries refl c.take_input.ensures.settled c.take_input.ensures.legal c.take_input.ensures.since refl refl refl in
-    (allowed, record { number_is = c.thread_id-thread.ensures.number; version_is = next ∙ ap Some (sym c.thread_id-thread.ensures.version); takes = takes; taken = c.take_input.ensures.taken ∙ (c.reserve.ensures.books.taken ∙ ap (λ k. k.taken) c.self.view_is) })
+    let takes = takes_input _ c.args.self.now _ c.make_room.new.self (Opened c.thread_id-thread.result c.args.space) (Opened c.thread_id-thread.result c.args.space) c.self.view_is c.make_room.ensures.entries refl c.take_input.ensures.settled c.take_input.ensures.legal c.take_input.ensures.since refl refl refl (omega (arith, c.make_room.ensures.room, c.take_input.ensures.room)) in
+    (allowed, record { number_is = c.thread_id-thread.ensures.number; version_is = next ∙ ap Some (sym c.thread_id-thread.ensures.version); takes = takes; taken = c.take_input.ensures.taken ∙ (c.make_room.ensures.books.taken ∙ ap (λ k. k.taken) c.self.view_is) })

@@ -1,9 +1,10 @@
-use Rattle.std.proofs.Common.{◌≡◌, refl, sym, ap, ◌∙◌, subst, true, IsTrue, inl, inr}
+use Rattle.std.proofs.Common.{◌≡◌, ◌+◌, ◌≤◌, arith, refl, sym, ap, ◌∙◌, subst, true, IsTrue, inl, inr}
 use Rattle.ipc_words.specs.Control.{masked_of}
 use Rattle.ipc_history.specs.Threads.{is_live}
 use Rattle.ipc_history.specs.Legal.{is_admissible}
 use Rattle.ipc_history.specs.declared.entry.Input.TheVariants.{Exreg}
-use Rattle.ipc_core.specs.Room.{exreg_need}
+use Rattle.ipc_core.specs.Room.{LacksRoomFor, exreg_need}
+use Rattle.ipc_laws.specs.Counting.{pledged}
 use Rattle.ipc_core.proofs.OpeningLemmas.{may_stop}
 use Rattle.ipc_core.proofs.RefusalLemmas.{exreg_allowed, exreg_busy, exreg_full, exreg_no_thread, idle_no_call, not_since}
 use Rattle.ipc_core.proofs.ReservedLemmas.{kernel_took, reserved, takes_input}
@@ -28,21 +29,27 @@ returns-in_default-clause-cause c =
     let history : c.self.inside.course.entries ≡ c.args.self.now.history = ap (λ k. k.history) c.self.view_is in
     inl (exreg_full c.args.self.now c.args.thread (cc) (cc) (c.in_default.ensures.full.0 refl))
 
-pub returns-in_default-reserve-clause-cause : goal.returns-in_default-reserve-clause-cause
-returns-in_default-reserve-clause-cause c =
+pub returns-in_default-make_room-clause-cause : goal.returns-in_default-make_room-clause-cause
+returns-in_default-make_room-clause-cause c =
     let history : c.self.inside.course.entries ≡ c.args.self.now.history = ap (λ k. k.history) c.self.view_is in
     inr (exreg_allowed c.args.self.now c.args.thread (cc) (cc) (not_since _ c.in-Some.ensures.full.1), refl)
+
+pub returns-in_default-make_room-clause-memory : goal.returns-in_default-make_room-clause-memory
+returns-in_default-make_room-clause-memory c = λ is. subst (λ k. LacksRoomFor k exreg_need) c.self.view_is c.in_default-make_room.ensures.memory
+
+pub make_room-requires : goal.make_room-requires
+make_room-requires c = subst (λ l. pledged l + exreg_need ≤ c.in-Some.room) (sym (ap (λ k. k.history) c.self.view_is)) c.in-Some.ensures.value
 
 pub take_input-requires-clause-admissible : goal.take_input-requires-clause-admissible
 take_input-requires-clause-admissible c =
     let history : c.self.inside.course.entries ≡ c.args.self.now.history = ap (λ k. k.history) c.self.view_is in
     let live : is_live c.args.self.now.history c.args.thread ≡ true = cc in
     let idle = idle_no_call c.args.self.now c.args.thread (cc) in
-    subst (λ l. IsTrue (is_admissible l (Exreg c.args.thread c.args.target c.masked.result))) (sym (c.reserve.ensures.entries ∙ history)) (may_stop c.args.self.now.history c.args.thread c.args.target c.args.control c.masked.result live idle c.masked.ensures)
+    subst (λ l. IsTrue (is_admissible l (Exreg c.args.thread c.args.target c.masked.result))) (sym (c.make_room.ensures.entries ∙ history)) (may_stop c.args.self.now.history c.args.thread c.args.target c.args.control c.masked.result live idle c.masked.ensures)
 
 pub take_input-requires-clause-room : goal.take_input-requires-clause-room
 take_input-requires-clause-room c =
-    let had = reserved _ c.args.self.now c.self.inside.course c.reserve.new.self exreg_need c.in-Some.room c.self.view_is c.self.invariant.kernel refl c.reserve.ensures.entries c.reserve.ensures.room (not_since _ c.in-Some.ensures.full.1) c.in-Some.ensures.value c.in-Ok.ensures.ok in
+    let had = reserved _ c.args.self.now c.self.inside.course c.make_room.new.self exreg_need c.self.view_is c.self.invariant.kernel refl c.make_room.ensures.entries c.make_room.ensures.room (not_since _ c.in-Some.ensures.full.1) c.in-Ok.ensures.ok in
     had.fits
 
 pub invariant_of-self-2 : goal.invariant_of-self-2
@@ -50,12 +57,12 @@ invariant_of-self-2 c =
     let history : c.self.inside.course.entries ≡ c.args.self.now.history = ap (λ k. k.history) c.self.view_is in
     let live : is_live c.args.self.now.history c.args.thread ≡ true = cc in
     let idle = idle_no_call c.args.self.now c.args.thread (cc) in
-    let admissible = subst (λ l. IsTrue (is_admissible l (Exreg c.args.thread c.args.target c.masked.result))) (sym (c.reserve.ensures.entries ∙ history)) (may_stop c.args.self.now.history c.args.thread c.args.target c.args.control c.masked.result live idle c.masked.ensures) in
-    let had = reserved _ c.args.self.now c.self.inside.course c.reserve.new.self exreg_need c.in-Some.room c.self.view_is c.self.invariant.kernel refl c.reserve.ensures.entries c.reserve.ensures.room (not_since _ c.in-Some.ensures.full.1) c.in-Some.ensures.value c.in-Ok.ensures.ok in
-    let kernel = kernel_took _ _ _ c.reserve.new.self c.take_input.new.self (Exreg c.args.thread c.args.target c.masked.result) had admissible refl c.take_input.ensures.settled c.take_input.ensures.room c.take_input.ensures.spent in
+    let admissible = subst (λ l. IsTrue (is_admissible l (Exreg c.args.thread c.args.target c.masked.result))) (sym (c.make_room.ensures.entries ∙ history)) (may_stop c.args.self.now.history c.args.thread c.args.target c.args.control c.masked.result live idle c.masked.ensures) in
+    let had = reserved _ c.args.self.now c.self.inside.course c.make_room.new.self exreg_need c.self.view_is c.self.invariant.kernel refl c.make_room.ensures.entries c.make_room.ensures.room (not_since _ c.in-Some.ensures.full.1) c.in-Ok.ensures.ok in
+    let kernel = kernel_took _ _ _ c.make_room.new.self c.take_input.new.self (Exreg c.args.thread c.args.target c.masked.result) had admissible refl c.take_input.ensures.settled c.take_input.ensures.room c.take_input.ensures.spent in
     record {
       kernel = kernel;
-      books = books_grown _ _ _ (takes_grows _ _ _ _ c.take_input.ensures.settled) c.self.inside.course.taken _ (c.take_input.ensures.taken ∙ c.reserve.ensures.books.taken) _ c.self.inside.course.since c.self.inside.course.places _ c.take_input.ensures.since refl (c.take_input.ensures.places ∙ c.reserve.ensures.books.places) (subst (λ l. AreBooks l c.self.inside.course.taken c.self.inside.course.since c.self.inside.course.places) (sym c.reserve.ensures.entries) c.self.invariant.books);
+      books = books_grown _ _ _ (takes_grows _ _ _ _ c.take_input.ensures.settled) c.self.inside.course.taken _ (c.take_input.ensures.taken ∙ c.make_room.ensures.books.taken) _ c.self.inside.course.since c.self.inside.course.places _ c.take_input.ensures.since refl (c.take_input.ensures.places ∙ c.make_room.ensures.books.places) (subst (λ l. AreBooks l c.self.inside.course.taken c.self.inside.course.since c.self.inside.course.places) (sym c.make_room.ensures.entries) c.self.invariant.books);
     }
 
 pub returns-clause-ok : goal.returns-clause-ok
@@ -63,10 +70,10 @@ returns-clause-ok c =
     let history : c.self.inside.course.entries ≡ c.args.self.now.history = ap (λ k. k.history) c.self.view_is in
     let allowed = exreg_allowed c.args.self.now c.args.thread (cc) (cc) (not_since _ c.in-Some.ensures.full.1) in
     let same = ap (λ m. Exreg c.args.thread c.args.target m) c.masked.ensures in
-    let takes = takes_input _ c.args.self.now _ c.reserve.new.self (Exreg c.args.thread c.args.target c.masked.result) (Exreg c.args.thread c.args.target (masked_of c.args.control)) c.self.view_is c.reserve.ensures.entries same c.take_input.ensures.settled c.take_input.ensures.legal c.take_input.ensures.since refl refl refl in
-    (allowed, record { answer_is = c.exreg_answer-answer.ensures ∙ ap (λ l. exreg_answer l c.args.thread c.args.target) (c.reserve.ensures.entries ∙ history); takes = takes; taken = c.take_input.ensures.taken ∙ (c.reserve.ensures.books.taken ∙ ap (λ k. k.taken) c.self.view_is) })
+    let takes = takes_input _ c.args.self.now _ c.make_room.new.self (Exreg c.args.thread c.args.target c.masked.result) (Exreg c.args.thread c.args.target (masked_of c.args.control)) c.self.view_is c.make_room.ensures.entries same c.take_input.ensures.settled c.take_input.ensures.legal c.take_input.ensures.since refl refl refl (omega (arith, c.make_room.ensures.room, c.take_input.ensures.room)) in
+    (allowed, record { answer_is = c.exreg_answer-answer.ensures ∙ ap (λ l. exreg_answer l c.args.thread c.args.target) (c.make_room.ensures.entries ∙ history); takes = takes; taken = c.take_input.ensures.taken ∙ (c.make_room.ensures.books.taken ∙ ap (λ k. k.taken) c.self.view_is) })
 
 pub exreg_answer-answer-requires : goal.exreg_answer-answer-requires
 exreg_answer-answer-requires c =
-    let history : c.reserve.new.self.entries ≡ c.self.inside.course.entries = c.reserve.ensures.entries in
+    let history : c.make_room.new.self.entries ≡ c.self.inside.course.entries = c.make_room.ensures.entries in
     ap (λ l. is_live l c.args.thread) history ∙ (sym c.is_live.ensures ∙ c.if-not-is_live.false)

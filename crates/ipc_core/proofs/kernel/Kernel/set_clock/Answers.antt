@@ -10,6 +10,9 @@ use Rattle.ipc_core.proofs.Resting.{rests}
 use Rattle.ipc_core.proofs.kernel.Kernel.set_clock.Goals.{then-is_any_due_at, else-is_any_due_at}
 use Rattle.ipc_core.proofs.kernel.Kernel.set_clock.Goals as goal
 
+pub is_any_due_at-requires : goal.is_any_due_at-requires
+is_any_due_at-requires c = let range = c.self.invariant.kernel.stands.in_range in omega arith
+
 pub settle-requires-clause-legal : goal.settle-requires-clause-legal
 settle-requires-clause-legal c =
     let range = c.self.invariant.kernel.stands.in_range in

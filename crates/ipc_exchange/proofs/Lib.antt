@@ -13,6 +13,7 @@ pub mod FeedLemmas
 pub mod ExchangeLemmas
 pub mod EndingLemmas
 pub mod Along
+pub mod PendingLemmas
 pub mod CallLemmas
 pub mod OnceLemmas
 pub mod RunningLemmas

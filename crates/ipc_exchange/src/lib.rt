@@ -6,6 +6,7 @@ mod exchange;
 mod feeding;
 mod laws;
 mod line;
+mod pending;
 mod progress;
 mod running;
 mod service;

@@ -1,3 +1,4 @@
+pub mod LinesLemmas
 pub mod OutcomeCall
 pub mod KernelLaws
 pub mod Opening

@@ -1,5 +1,5 @@
 -- Places in falling order.
-use Rattle.std.specs.Prelude.{◌≡◌, ◌≢◌, ℕ, ◌<◌, List, [], ◌∷◌, ◌⊎◌, ⊤}
+use Rattle.std.specs.Prelude.{◌≡◌, ◌≢◌, ℕ, ◌<◌, List, [], ◌∷◌, length, ◌⊎◌, ⊤}
 use Rattle.ipc_exchange.specs.Slots.{LineSlots, slot_at}
 
 -- how many places there are, and those that are listed
@@ -20,3 +20,8 @@ IsAmong place (other ∷ places) = (other ≡ place) ⊎ IsAmong place places
 -- each line that has bytes to put out is listed
 abbrev pub AllListed : List LineSlots → List ℕ → Type 0
 AllListed slots places = (place : ℕ) → (slot_at slots place).line.out ≢ [] → IsAmong place places
+
+-- there is a place for each line, and each line that has bytes to put out is listed
+pub record IsListed (slots : List LineSlots) (pending : PendingParts) : Type 0 where
+  pub count : pending.count ≡ length slots
+  pub listed : AllListed slots pending.places

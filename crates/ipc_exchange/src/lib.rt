@@ -6,6 +6,7 @@ mod exchange;
 mod feeding;
 mod laws;
 mod line;
+mod lines;
 mod pending;
 mod progress;
 mod running;

@@ -1,5 +1,5 @@
 ghost use Rattle.std.specs.Prelude.{◌≡◌, ◌<◌, ◌≤◌, ◌+◌, ℕ, [], false, List, length, min, take};
-ghost use Rattle.std.specs.Prelude.{drop, slice_set, IfOk, IfSome, OnOk, OnErr};
+ghost use Rattle.std.specs.Prelude.{drop, slice_set, IfOk, IfSome, IsNone, OnOk, OnErr};
 ghost use Rattle.ipc_words.specs.ThreadId.{number_of};
 ghost use Rattle.ipc_words.specs.Limits.{max_calls, max_entries, table_slots};
 ghost use Rattle.ipc_history.specs.Legal.{Legal, Quiet};
@@ -18,7 +18,7 @@ ghost use Rattle.ipc_exchange.specs.Slots.{CanAsk, CanDo, CanServe, CanTell, Non
 ghost use Rattle.ipc_exchange.specs.Slots.{StaysReady, lines_of, service_of, slot_at, stage_at};
 ghost use Rattle.ipc_exchange.specs.Slots.{table_told};
 
-use crate::line::Line;
+use crate::lines::Lines;
 use crate::told::told_of;
 use ipc_calls::Heard;
 use ipc_connection::{Request, Stage, Told, asks, next_stage, thread_left};
@@ -34,7 +34,7 @@ use std::marker::Model;
 #[derive(Drop)]
 pub(crate) struct Service {
     kernel: Kernel,
-    lines: Vec<Line>,
+    lines: Lines,
     // for each thread number the connection that had it last, 0 where none had it
     table: Vec<usize>,
 }
@@ -44,7 +44,7 @@ impl Model for Service {
 
     ghost Value = { ServiceSlots };
 
-    ghost view = { λ s. record { kernel = s.kernel; slots = s.lines.items; table = s.table.items } };
+    ghost view = { λ s. record { kernel = s.kernel; slots = s.lines; table = s.table.items } };
 }
 
 impl Service {
@@ -65,7 +65,7 @@ impl Service {
         let _ = kernel.history();
         Ok(Service {
             kernel,
-            lines: Vec::new(alloc),
+            lines: Lines::new(alloc),
             table,
         })
     }
@@ -92,7 +92,7 @@ impl Service {
         requires { place < length self.now.slots }
         ensures { result ≡ stage_at self.now.slots place }
     {
-        self.lines[place].stage()
+        self.lines.stage(place)
     }
 
     /// Whether the connection in a place has ended.
@@ -115,8 +115,7 @@ impl Service {
         ensures ready { Ready self.new }
         ensures err { OnErr result (self.new ≡ self.old) }
     {
-        let line = Line::new(alloc, space)?;
-        self.lines.push(line)?;
+        self.lines.push(alloc, space)?;
         Ok(())
     }
 
@@ -128,7 +127,7 @@ impl Service {
         ensures ready { StaysReady self.old self.new }
         ensures ok { OnOk result (3 ≤ (slot_at self.new.slots place).free) }
     {
-        self.lines[place].reserve()
+        self.lines.reserve(place)
     }
 
     /// Puts the next bytes of the connection in a place into the slice, as many as there are and as
@@ -144,7 +143,18 @@ impl Service {
         ensures left { service_of self.new ≡ without_bytes place result (service_of self.old) }
         ensures ready { StaysReady self.old self.new }
     {
-        self.lines[place].output(out)
+        self.lines.output(place, out)
+    }
+
+    /// The first place, from one on, whose connection may have bytes to put out.
+    pub(crate) fn next_output(&self, from: usize) -> Option<usize>
+        ensures some { IfSome result (λ place. (from ≤ place) × (place < length self.now.slots)) }
+        ensures first { IfSome result (λ place. (other : ℕ) → from ≤ other → other < place
+            → (line_at (service_of self.now).lines other).out ≡ []) }
+        ensures none { IsNone result → (other : ℕ) → from ≤ other
+            → (line_at (service_of self.now).lines other).out ≡ [] }
+    {
+        self.lines.next_output(from)
     }
 
     /// The clock is read, in microseconds, and outcomes go out.
@@ -196,7 +206,7 @@ impl Service {
         ensures served { (asked : List Asked) × Serves MayLack (service_of self.old) place heard asked (service_of self.new) }
         ensures ready { StaysReady self.old self.new }
     {
-        let stage = self.lines[place].stage();
+        let stage = self.lines.stage(place);
         let request = asks(stage, heard);
         self.serve_request(place, request);
     }
@@ -209,7 +219,7 @@ impl Service {
         match request {
             Request::Nothing => {}
             Request::Open(number) => {
-                let space = u64::from(self.lines[place].space());
+                let space = u64::from(self.lines.space(place));
                 let number = u64::from(number);
                 self.ask(place, Command::Open { number, space });
             }
@@ -278,9 +288,8 @@ impl Service {
         let opened = told;
         let said = told;
         self.place_thread(place, opened);
-        let line = &mut self.lines[place];
-        let before = line.stage();
-        line.tell(said);
+        let before = self.lines.stage(place);
+        self.lines.tell(place, said);
         let here = before;
         let after = next_stage(here, told);
         thread_left(before, after)
@@ -292,7 +301,7 @@ impl Service {
         ensures { self.new ≡ record self.old { table = table_told told place self.old.table } }
     {
         if let Told::Opened(thread) = told {
-            self.table[thread.number() as usize] = place + 1;
+            self.table[thread.number() as usize] = self.lines.number(place);
         }
     }
 
@@ -360,7 +369,7 @@ impl Service {
         if place >= none {
             return none;
         }
-        if self.lines[place].serves(number) {
+        if self.lines.serves(place, number) {
             place
         } else {
             none
@@ -373,12 +382,12 @@ impl Service {
         ensures told { service_of self.new ≡ told_outcome place (service_of self.old) }
         ensures ready { StaysReady self.old self.new }
     {
-        if let Stage::Serving(thread) = self.lines[place].stage() {
+        if let Stage::Serving(thread) = self.lines.stage(place) {
             let taken = self.kernel.take(thread);
             // its contract says that the kernel is sound
             let _ = self.kernel.history();
             if let Some(outcome) = taken {
-                self.lines[place].push_outcome(outcome);
+                self.lines.push_outcome(place, outcome);
             }
         }
     }

@@ -1,3 +1,4 @@
+pub mod DueLemmas
 pub mod LinesLemmas
 pub mod OutcomeCall
 pub mod KernelLaws

@@ -1,6 +1,8 @@
 //! Many connections over pieces of bytes, and one kernel.
 #![tactic(auto)]
 
+mod desk;
+mod due;
 mod event;
 mod exchange;
 mod feeding;

@@ -18,11 +18,12 @@ ghost use Rattle.ipc_exchange.specs.Slots.{CanAsk, CanDo, CanServe, CanTell, Non
 ghost use Rattle.ipc_exchange.specs.Slots.{StaysReady, lines_of, service_of, slot_at, stage_at};
 ghost use Rattle.ipc_exchange.specs.Slots.{table_told};
 
+use crate::desk::Desk;
 use crate::lines::Lines;
 use crate::told::told_of;
 use ipc_calls::Heard;
 use ipc_connection::{Request, Stage, Told, asks, next_stage, thread_left};
-use ipc_core::{Advance, Command, Kernel, Limits, NoThread};
+use ipc_core::{Advance, Command, Limits, NoThread};
 use ipc_frame::FrameFault;
 use ipc_history::Entry;
 use ipc_words::ThreadId;
@@ -33,7 +34,7 @@ use std::marker::Model;
 /// A kernel, and the lines of the connections.
 #[derive(Drop)]
 pub(crate) struct Service {
-    kernel: Kernel,
+    kernel: Desk,
     lines: Lines,
     // for each thread number the connection that had it last, 0 where none had it
     table: Vec<usize>,
@@ -58,9 +59,7 @@ impl Service {
         ensures none { IfOk result (λ service. service.slots ≡ []) }
     {
         let table = vec![in alloc; 0; TABLE_SLOTS]?;
-        let Ok(kernel) = Kernel::new(alloc, limits) else {
-            return Err(AllocError);
-        };
+        let kernel = Desk::new(alloc, limits)?;
         // its contract says that the kernel is sound
         let _ = kernel.history();
         Ok(Service {
@@ -348,6 +347,9 @@ impl Service {
         ensures told { service_of self.new ≡ told_outcome (place_of number (lines_of self.old.slots)) (service_of self.old) }
         ensures ready { StaysReady self.old self.new }
     {
+        if !self.kernel.is_due(number) {
+            return;
+        }
         let place = self.place_of(number);
         if place < self.lines.len() {
             self.deliver_at(place);

@@ -1,8 +1,8 @@
 -- Which thread numbers may have an outcome to take.
-use Rattle.std.proofs.Common.{◌≡◌, ◌≢◌, ℕ, zero, suc, ◌<◌, ◌≤◌, ◌==◌, eqb-true, eq-eqb, ◌||◌, Bool, true, false, List, [], ◌∷◌, ◌++◌, ◌+◌, length, refl, sym, ap, subst, ◌∙◌, inl, inr, arith, Option, Some, None}
-use Rattle.std.specs.Prelude.{slice_index_or, slice_set, if◌then◌else◌}
+use Rattle.std.proofs.Common.{◌≡◌, ◌≢◌, ℕ, suc, ◌<◌, ◌≤◌, ◌==◌, eqb-true, eq-eqb, ◌||◌, Bool, true, false, List, [], ◌∷◌, ◌+◌, length, refl, sym, ap, subst, ◌∙◌, arith, Option, Some, None}
+use Rattle.std.specs.Prelude.{slice_index_or, slice_set}
 use Rattle.std.proofs.lemmas.Bool.{false≢true, false_from_ne_true, eqb-false}
-use Rattle.std.proofs.lemmas.List.{get_or-set_same, get_or-set_other, length-set}
+use Rattle.std.proofs.lemmas.List.{get_or-set_other, length-set}
 use Rattle.ipc_words.specs.Limits.{table_slots}
 use Rattle.ipc_words.specs.ThreadId.{number_of}
 use Rattle.ipc_history.specs.Outcomes.{OutcomeParts}
@@ -20,7 +20,7 @@ use Rattle.ipc_core.specs.declared.command.Command.TheVariants.{Take}
 use Rattle.ipc_core.proofs.IdleLaws.{idle_has_nothing}
 use Rattle.ipc_core.proofs.UnfinishedLaws.{unfinished_keeps}
 use Rattle.ipc_exchange.proofs.KernelLaws.{taken_is_idle}
-use Rattle.ipc_exchange.specs.Due.{AreDue, NothingDue, is_marked}
+use Rattle.ipc_exchange.specs.Due.{AreDue, is_marked}
 
 -- a thread that is not live has nothing to take
 dead_has_nothing : (kernel : KernelParts) (thread : ℕ) → is_live kernel.history thread ≡ false → outcome_to_take kernel thread ≡ None

@@ -4,7 +4,7 @@ use Rattle.std.specs.Prelude.{slice_index_or, slice_set}
 use Rattle.std.proofs.lemmas.Bool.{eqb-false}
 use Rattle.std.proofs.lemmas.List.{get_or-set_same, get_or-set_other, length-set}
 use Rattle.std.proofs.Math.Seq.{drop-nil}
-use Rattle.ipc_exchange.specs.Pending.{AllListed, IsAmong, IsListed, PendingParts}
+use Rattle.ipc_exchange.specs.Pending.{IsAmong, IsListed, PendingParts}
 use Rattle.ipc_exchange.specs.Service.{Line, line_at}
 use Rattle.ipc_exchange.specs.Slots.{LineSlots, lines_of, no_slots, slot_at}
 use Rattle.ipc_exchange.proofs.TellingLemmas.{line_there}

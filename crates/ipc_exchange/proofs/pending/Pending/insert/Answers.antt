@@ -1,6 +1,5 @@
-use Rattle.std.proofs.Common.{◌≡◌, ◌≢◌, ◌<◌, ◌≤◌, ◌-◌, length, subst, sym, ap, arith}
+use Rattle.std.proofs.Common.{◌≢◌, ◌<◌, ◌≤◌, ◌-◌, length, arith}
 use Rattle.std.specs.Prelude.{slice_index_or}
-use Rattle.ipc_exchange.specs.Pending.{PendingParts}
 use Rattle.ipc_exchange.proofs.PendingLemmas.{absent_by, found_here, inserted_falls, inserted_here, inserted_kept, new_fits}
 use Rattle.ipc_exchange.proofs.pending.Pending.insert.Goals as goal
 use Rattle.ipc_exchange.proofs.pending.Pending.insert.Goals.{else-at-gt0-via-then-at-gt0+else-index-place, else-at-gt0-via-else-at-gt0}

@@ -1,5 +1,4 @@
-use Rattle.std.proofs.Common.{◌≡◌, ◌<◌, ◌≤◌, ◌-◌, length, arith}
-use Rattle.std.specs.Prelude.{slice_index_or}
+use Rattle.std.proofs.Common.{◌<◌, ◌≤◌, ◌-◌, length, arith}
 use Rattle.ipc_exchange.proofs.PendingLemmas.{falls_below, least_among, none_among, read_zero}
 use Rattle.ipc_exchange.proofs.pending.Pending.next.Goals as goal
 

@@ -1,4 +1,4 @@
-use Rattle.std.proofs.Common.{◌≤◌, ◌∙◌, ap, refl, sym, arith}
+use Rattle.std.proofs.Common.{◌∙◌, ap, refl, sym, arith}
 use Rattle.ipc_exchange.specs.Slots.{slot_at}
 use Rattle.ipc_exchange.proofs.DeliverLemmas.{taking, deliver_ready, deliver_told, nothing_told, stage_is, told_room, took_ready}
 use Rattle.ipc_exchange.proofs.TellingLemmas.{slot_self}

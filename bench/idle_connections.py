@@ -20,6 +20,7 @@ ANSWER = (
     "0000000000000000000000000009"
 )
 
+
 def main():
     idle, rounds = int(sys.argv[1]), int(sys.argv[2])
     lines = ["connect 1", "connect 1", "feed 1 " + HELLO % 1, "feed 2 " + HELLO % 2]

@@ -1,6 +1,6 @@
 -- Outcomes go out, each on the line of its thread.
-use Rattle.std.proofs.Common.{◌≡◌, ◌≢◌, ℕ, zero, suc, ◌+◌, ◌<◌, ◌≤◌, Bool, true, false, ◌==◌, eqb-true, eq-eqb, List, [], ◌∷◌, ◌++◌, length, refl, sym, ap, ap₂, ◌∙◌, add-one, Option, Some, None, arith}
-use Rattle.std.specs.Prelude.{slice_set, slice_index_or}
+use Rattle.std.proofs.Common.{◌≡◌, ◌≢◌, ℕ, zero, suc, ◌+◌, ◌<◌, ◌≤◌, Bool, true, false, ◌==◌, eqb-true, eq-eqb, List, [], ◌∷◌, ◌++◌, length, refl, sym, ap, ap₂, subst, ◌∙◌, add-one, Option, Some, None, arith}
+use Rattle.std.specs.Prelude.{slice_set, slice_index_or, nat_lt}
 use Rattle.std.proofs.lemmas.Bool.{false≢true, false_from_ne_true}
 use Rattle.std.proofs.lemmas.List.{append-nil, length-set, map-set, set-get_or}
 use Rattle.std.proofs.lemmas.List.Sums.{position_or_len_is}
@@ -20,12 +20,13 @@ use Rattle.ipc_connection.specs.declared.stage.Stage.{Stage}
 use Rattle.ipc_connection.specs.declared.stage.Stage.TheVariants.{Greeting, Serving, Finished}
 use Rattle.ipc_words.specs.Limits.{table_slots}
 use Rattle.ipc_exchange.specs.Service.{Line, ServiceParts, at_rest, delivered, delivered_to, line_at, nobody, outcome_at, place_of, serves_number, told_outcome, with_outcome, without_outcome}
+use Rattle.ipc_exchange.specs.Due.{NothingDue}
 use Rattle.ipc_exchange.specs.Slots.{HasRoom, IsPlaced, LineSlots, Ready, ServiceSlots, StaysReady, lines_of, service_of, slot_at, stage_at}
 use Rattle.ipc_core.proofs.IdleLaws.{idle_has_nothing}
 use Rattle.ipc_exchange.proofs.KernelLaws.{taken_is_idle}
 use Rattle.ipc_exchange.proofs.ReadyLemmas.{at_each, command_ready, same_place}
 use Rattle.ipc_exchange.proofs.RestedLemmas.{same_outcome}
-use Rattle.ipc_exchange.proofs.TellingLemmas.{at_line, line_there}
+use Rattle.ipc_exchange.proofs.TellingLemmas.{at_line, line_there, slot_self}
 
 -- Which line a number has
 
@@ -211,3 +212,34 @@ any_default (y ∷ xs) (suc i) x within e = any_default xs i x (omega (arith, wi
 
 pub table_read : (s : ServiceSlots) (number x : ℕ) → Ready s → number < table_slots → x ≡ slice_index_or s.table number x → x ≡ slice_index_or s.table number 0
 table_read s number x ready within e = any_default s.table number x (rw ready.table within) e
+
+-- A number of which nothing is due is passed over
+module _ (s : ServiceSlots) (number : ℕ) (ready : Ready s) (none : NothingDue s.kernel number) where
+  abbrev Skipped : Type 0
+  Skipped = service_of s ≡ told_outcome (place_of number (lines_of s.slots)) (service_of s)
+
+  nobody_there : length s.slots ≡ place_of number (lines_of s.slots) → Skipped
+  nobody_there past = subst (λ p. service_of s ≡ told_outcome p (service_of s)) past (past_told s (length s.slots) (omega arith))
+
+  stage_nothing : (stage : Stage) → serves_number number stage ≡ true → outcome_at (at_rest s.kernel) stage ≡ None
+  stage_nothing (Serving t) holds = same_outcome s.kernel t ∙ none t (eqb-true (number_of t) number holds)
+  stage_nothing Greeting holds = refl
+  stage_nothing Finished holds = refl
+
+  line_nothing : (p : ℕ) → serves_number number (stage_at s.slots p) ≡ true → service_of s ≡ told_outcome p (service_of s)
+  line_nothing p holds = sym (none_told (service_of s) p (ap (outcome_at (at_rest s.kernel)) (ap (λ (l : Line). l.stage) (line_there s.slots p)) ∙ stage_nothing (stage_at s.slots p) holds))
+
+  serving_skipped : (p : ℕ) → suc p ≡ slice_index_or s.table number 0 → p < length s.slots → (b : Bool) → serves_number number (stage_at s.slots p) ≡ b → Skipped
+  serving_skipped p is within true holds = subst (λ q. service_of s ≡ told_outcome q (service_of s)) (found_by s number p (slot_at s.slots p) ready within (slot_self s.slots p within) holds) (line_nothing p holds)
+  serving_skipped p is within false fails = nobody_there (missing_other s number (suc p) p (slot_at s.slots p) ready is refl within (slot_self s.slots p within) fails)
+
+  named_skipped : (connection : ℕ) → connection ≡ slice_index_or s.table number 0 → Skipped
+  named_skipped zero is = nobody_there (missing_none s number 0 ready is refl)
+  named_skipped (suc p) is = go (nat_lt p (length s.slots)) refl
+    where
+      go : (b : Bool) → nat_lt p (length s.slots) ≡ b → Skipped
+      go true e = serving_skipped p is (grind (arith, e)) (serves_number number (stage_at s.slots p)) refl
+      go false e = nobody_there (missing_past s number (suc p) ready is (grind (arith, e)))
+
+  pub skip_told : Skipped
+  skip_told = named_skipped (slice_index_or s.table number 0) refl

@@ -1,5 +1,5 @@
 -- What an exchange stands for after an event.
-use Rattle.std.proofs.Common.{◌≡◌, ◌≢◌, ℕ, zero, suc, ◌<◌, ◌≤◌, ◌+◌, ◌-◌, ◌==◌, eqb-true, Bool, true, false, List, [], ◌∷◌, ◌++◌, Result, refl, sym, ap, subst, ◌∙◌, length, drop, arith, length-append, inl}
+use Rattle.std.proofs.Common.{◌≡◌, ◌≢◌, ℕ, zero, suc, ◌<◌, ◌≤◌, ◌+◌, ◌-◌, ◌==◌, eqb-true, Bool, true, false, List, [], ◌∷◌, ◌++◌, Result, refl, sym, ap, subst, ◌∙◌, length, arith, length-append, inl}
 use Rattle.std.proofs.lemmas.Bool.{eqb-false}
 use Rattle.std.proofs.lemmas.List.{get_or-set_same, get_or-set_other, length-map, length-set, set-get_or}
 use Rattle.std.specs.Prelude.{slice_index_or, slice_set}
@@ -8,7 +8,6 @@ use Rattle.ipc_frame.specs.declared.fault.FrameFault.{FrameFault}
 use Rattle.ipc_frame.specs.declared.kind.Side.TheVariants.{Server}
 use Rattle.ipc_core.specs.Obeying.{empty_kernel}
 use Rattle.ipc_core.specs.declared.command.Command.{Command}
-use Rattle.ipc_core.specs.declared.command.Command.TheVariants as command
 use Rattle.ipc_calls.specs.Hearing.{heard_at_end, heard_in, left_in}
 use Rattle.ipc_calls.specs.Taking.{Decoding, Holds}
 use Rattle.ipc_calls.specs.declared.heard.Heard.{Heard}
@@ -18,10 +17,10 @@ use Rattle.ipc_connection.specs.declared.asking.Request.{Request}
 use Rattle.ipc_connection.specs.declared.asking.Request.TheVariants.{Open, Enter, Exreg, Leave, Refuse, Nothing}
 use Rattle.ipc_connection.specs.declared.stage.Stage.{Stage}
 use Rattle.ipc_connection.specs.declared.stage.Stage.TheVariants.{Greeting, Serving, Finished}
-use Rattle.ipc_exchange.specs.Service.{Line, ServiceParts, delivered, line_at, nobody, told_line, with_line, without_bytes}
+use Rattle.ipc_exchange.specs.Service.{Line, ServiceParts, line_at, nobody, told_line, with_line, without_bytes}
 use Rattle.ipc_exchange.specs.Serving.{Answers, Asked, DoesAlone, MayLack, Memory, Serves, ServesAll, ServesBy, Tells}
 use Rattle.ipc_exchange.specs.Slots.{LineSlots, Ready, ServiceSlots, StaysReady, service_of, stage_at}
-use Rattle.ipc_exchange.specs.Events.{Commands, Connect, Copy, Event, ExchangeParts, Finish, Piece, Reading, connected, empty_exchange, held_at, holding, kept}
+use Rattle.ipc_exchange.specs.Events.{Commands, Connect, Event, ExchangeParts, Finish, Piece, connected, empty_exchange, held_at, holding, kept}
 use Rattle.ipc_exchange.specs.Feeding.{FeedsLine, HoldsFor, has_finished}
 use Rattle.ipc_exchange.specs.Exchange.{ClosesLine, ExchangeSlots, Happened, IsExchange, Shows, ShowsHeld, decoder_at, no_decoder}
 use Rattle.ipc_exchange.proofs.ServingLemmas.{all_idle_again, delivered_stage, idle_again, set_stage}

@@ -1,7 +1,7 @@
 -- A piece is served frame by frame.
-use Rattle.std.proofs.Common.{◌≡◌, ◌⊎◌, inl, inr, ℕ, ◌<◌, ◌≤◌, ◌+◌, true, false, List, [], ◌∷◌, ◌++◌, Option, Some, None, Result, Ok, Err, refl, sym, ap, subst, ◌∙◌, length, drop, arith, length-append}
+use Rattle.std.proofs.Common.{◌≡◌, ◌⊎◌, inl, inr, ℕ, ◌+◌, true, false, List, [], ◌∷◌, ◌++◌, Option, Some, None, Result, Ok, Err, refl, sym, ap, subst, ◌∙◌, length, drop, length-append}
 use Rattle.std.specs.Bool.{⊤}
-use Rattle.ipc_frame.specs.Stream.{End, Rest, stream_of}
+use Rattle.ipc_frame.specs.Stream.{End, stream_of}
 use Rattle.ipc_frame.specs.declared.fault.FrameFault.{FrameFault}
 use Rattle.ipc_frame.specs.declared.fault.FrameFault.TheVariants.{NoMemory, Unfinished}
 use Rattle.ipc_frame.specs.declared.kind.Side.TheVariants.{Server}
@@ -15,7 +15,7 @@ use Rattle.ipc_connection.specs.declared.stage.Stage.{Stage}
 use Rattle.ipc_connection.specs.declared.stage.Stage.TheVariants.{Greeting, Serving, Finished}
 use Rattle.ipc_exchange.specs.Service.{ServiceParts, line_at}
 use Rattle.ipc_exchange.specs.Serving.{Asked, Hears, MayLack, Serves}
-use Rattle.ipc_exchange.specs.Slots.{LineSlots, ServiceSlots, service_of, stage_at}
+use Rattle.ipc_exchange.specs.Slots.{ServiceSlots, service_of, stage_at}
 use Rattle.ipc_exchange.specs.Exchange.{ClosesLine}
 use Rattle.ipc_exchange.specs.Feeding.{FeedsFirst, FeedsLine, HearsOne, HoldsFor, IsHeard, has_finished}
 use Rattle.ipc_exchange.proofs.ServingLemmas.{all_idle_again, fault_finishes}

@@ -1,3 +1,5 @@
+pub mod DueLemmas
+pub mod LinesLemmas
 pub mod OutcomeCall
 pub mod KernelLaws
 pub mod Opening
@@ -13,6 +15,7 @@ pub mod FeedLemmas
 pub mod ExchangeLemmas
 pub mod EndingLemmas
 pub mod Along
+pub mod PendingLemmas
 pub mod CallLemmas
 pub mod OnceLemmas
 pub mod RunningLemmas

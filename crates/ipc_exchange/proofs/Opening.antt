@@ -1,6 +1,6 @@
 -- A thread that opens was not opened before, and so has not ended.
 use Rattle.std.proofs.lemmas.Bool.{false≢true, false_from_ne_true}
-use Rattle.std.proofs.Common.{◌≡◌, ℕ, ◌≤◌, Bool, true, false, eq-eqb, eqb-true, List, count_by, refl, arith}
+use Rattle.std.proofs.Common.{◌≡◌, ℕ, ◌≤◌, true, false, eq-eqb, eqb-true, List, count_by, refl, arith}
 use Rattle.std.specs.List.{list_any}
 use Rattle.ipc_history.specs.Entries.{breaks, opens}
 use Rattle.ipc_history.specs.Threads.{has_broken, was_opened, is_live}

@@ -1,17 +1,17 @@
 -- Events, one after the other, and their answers.
-use Rattle.std.proofs.Common.{◌≡◌, ℕ, zero, suc, ◌+◌, List, [], ◌∷◌, ◌++◌, map, filter_map, length, refl, sym, ap, subst, ◌∙◌, arith}
+use Rattle.std.proofs.Common.{◌≡◌, ℕ, zero, suc, ◌+◌, List, [], ◌∷◌, ◌++◌, length, refl, sym, ap, subst, ◌∙◌, arith}
 use Rattle.std.specs.Prelude.{nat_le, if◌then◌else◌}
 use Rattle.std.proofs.lemmas.List.{append-nil, map-append}
 use Rattle.std.proofs.lemmas.Grind.{flat_map-append}
 use Rattle.ipc_connection.proofs.ChainLemmas.{chain_both, chain_none, chain_one, chain_push}
 use Rattle.ipc_exchange.specs.Service.{ServiceParts, line_at}
-use Rattle.ipc_exchange.specs.Serving.{Asked, MayLack}
+use Rattle.ipc_exchange.specs.Serving.{MayLack}
 use Rattle.ipc_exchange.specs.Slots.{stage_at}
 use Rattle.ipc_exchange.specs.Events.{ExchangeParts, HappenAll, Happens}
 use Rattle.ipc_exchange.specs.Events as events
 use Rattle.ipc_exchange.specs.Exchange.{ExchangeSlots, Happened, Shows, progress_of}
 use Rattle.ipc_words.specs.Limits.{max_connections}
-use Rattle.ipc_exchange.specs.Laws.{accepted, calls_in}
+use Rattle.ipc_exchange.specs.Laws.{calls_in}
 use Rattle.ipc_exchange.specs.Running.{Ran, Replied, RepliesTo, Turn, Turns, happened, happening}
 use Rattle.ipc_exchange.specs.declared.event.Event.{Event}
 use Rattle.ipc_exchange.specs.declared.event.Event.TheVariants.{Connect, Piece, Finish, Reading, Copy}

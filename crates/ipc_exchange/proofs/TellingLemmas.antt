@@ -33,6 +33,11 @@ at_line [] place slot h e = absurd (omega arith)
 at_line (s ∷ slots) zero slot h e = sym e
 at_line (s ∷ slots) (suc place) slot h e = at_line slots place slot (omega arith) e
 
+pub slot_self : (slots : List LineSlots) (place : ℕ) → place < length slots → slot_at slots place ≡ slice_index_or slots place (slot_at slots place)
+slot_self [] place h = absurd (omega arith)
+slot_self (s ∷ slots) zero h = refl
+slot_self (s ∷ slots) (suc place) h = slot_self slots place (omega arith)
+
 -- a request suits its line
 asks_suits : (kernel : KernelParts) (slot : LineSlots) (stage : Stage) (said : Result Heard FrameFault) → slot.line.stage ≡ stage → HasRoom kernel slot → (WantsRoom said → 3 ≤ slot.free) → SuitsRequest stage slot.free (asks stage said)
 unfolding asks
@@ -102,6 +107,12 @@ suits_one free tells.Left room = room
 
 pub can_push : (s : ServiceSlots) (place : ℕ) (told : Told) (slot : LineSlots) (slots : List LineSlots) → CanTell s place told → slots ≡ s.slots → slot ≡ slice_index_or slots place slot → 0 < slot.free
 can_push s place told slot slots can same there = let one = suits_one _ told can.room in omega (arith, one, ap (λ (l : LineSlots). l.free) (at_line s.slots place slot can.within (there ∙ ap (λ l. slice_index_or l place slot) same)))
+
+pub told_within : (s now : ServiceSlots) (place : ℕ) (told : Told) → CanTell s place told → now ≡ record s { table = table_told told place s.table } → place < length now.slots
+told_within s now place told can placed = rw placed can.within
+
+pub told_free : (s now : ServiceSlots) (place : ℕ) (told : Told) → CanTell s place told → now ≡ record s { table = table_told told place s.table } → 0 < (slot_at now.slots place).free
+told_free s now place told can placed = let one = suits_one _ told can.room in rw placed one
 
 -- a line whose request the kernel obeyed can be told the answer
 pub can_tell : (old middle : ServiceSlots) (place : ℕ) (command : Command) (told : Told) → CanDo old place command → IsSound middle.kernel → ((said : Answer) × MayObey old.kernel command said middle.kernel × (told ≡ told_of said)) → middle.slots ≡ old.slots → middle.table ≡ old.table → CanTell middle place told

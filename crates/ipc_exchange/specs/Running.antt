@@ -1,5 +1,5 @@
 -- A list of events, one after the other, and how each is answered.
-use Rattle.std.specs.Prelude.{◌≡◌, ℕ, zero, suc, ◌+◌, List, [], ◌∷◌, ◌++◌, map, filter_map, length, nat_le, if◌then◌else◌, ⊤}
+use Rattle.std.specs.Prelude.{◌≡◌, zero, suc, ◌+◌, List, [], ◌∷◌, ◌++◌, map, filter_map, length, nat_le, if◌then◌else◌, ⊤}
 use Rattle.std.specs.List.{flat_map}
 use Rattle.ipc_connection.specs.Chain.{Chain}
 use Rattle.ipc_exchange.specs.Service.{line_at}

@@ -1,5 +1,5 @@
 -- The lines of a service with their room: how many more answers each can hold without memory.
-use Rattle.std.specs.Prelude.{◌≡◌, ◌≢◌, ℕ, suc, ◌<◌, ◌≤◌, Bool, false, ◌==◌, List, length, map}
+use Rattle.std.specs.Prelude.{◌≡◌, ◌≢◌, ℕ, suc, ◌<◌, ◌≤◌, List, length, map}
 use Rattle.std.specs.Prelude.{slice_index_or, slice_set, IsTrue, ⊤, Result, Ok, Err}
 use Rattle.ipc_words.specs.Limits.{table_slots}
 use Rattle.ipc_words.specs.ThreadId.{number_of}

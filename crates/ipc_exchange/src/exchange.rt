@@ -1,5 +1,5 @@
 ghost use Rattle.std.specs.Prelude.{◌≡◌, ◌<◌, ◌≤◌, ◌+◌, ℕ, [], false, length, min, take, drop, nat_le, if◌then◌else◌};
-ghost use Rattle.std.specs.Prelude.{IfOk, IfErr, OnErr};
+ghost use Rattle.std.specs.Prelude.{IfOk, IfErr, IfSome, IsNone, OnErr};
 ghost use Rattle.ipc_words.specs.Limits.{max_calls, max_connections, max_entries};
 ghost use Rattle.ipc_history.specs.Legal.{Legal, Quiet};
 ghost use Rattle.ipc_history.specs.Paired.{Paired};
@@ -141,6 +141,20 @@ impl Exchange {
             return 0;
         }
         self.service.output(connection - 1, out)
+    }
+
+    /// The first connection behind one that may have bytes to put out; the first of all behind 0. It
+    /// looks at no connection that has none.
+    pub fn next_output(&self, behind: usize) -> Option<usize>
+        ensures some { IfSome result (λ connection. (behind < connection)
+            × (connection ≤ length self.now.service.slots)) }
+        ensures first { IfSome result (λ connection. (place : ℕ) → behind ≤ place → place + 1 < connection
+            → (line_at (service_of self.now.service).lines place).out ≡ []) }
+        ensures none { IsNone result → (place : ℕ) → behind ≤ place
+            → (line_at (service_of self.now.service).lines place).out ≡ [] }
+    {
+        let place = self.service.next_output(behind)?;
+        Some(place + 1)
     }
 
     /// The history, oldest entry first.

@@ -1,11 +1,15 @@
 //! Many connections over pieces of bytes, and one kernel.
 #![tactic(auto)]
 
+mod desk;
+mod due;
 mod event;
 mod exchange;
 mod feeding;
 mod laws;
 mod line;
+mod lines;
+mod pending;
 mod progress;
 mod running;
 mod service;

@@ -1,4 +1,4 @@
-ghost use Rattle.std.specs.Prelude.{◌≡◌, ◌<◌, ◌≤◌, ◌+◌, [], ◌++◌, min, take, drop, length};
+ghost use Rattle.std.specs.Prelude.{◌≡◌, ◌<◌, ◌≤◌, ◌+◌, [], ◌++◌, min, take, drop, length, true};
 ghost use Rattle.std.specs.Prelude.{IfOk, OnOk};
 ghost use Rattle.ipc_frame.specs.Frames.{spelling};
 ghost use Rattle.ipc_frame.specs.Replies.{ipcr_of};
@@ -117,6 +117,13 @@ impl Line {
         }
         let before = self.stage;
         self.stage = next_stage(before, told);
+    }
+
+    /// Whether no answer waits. Then it has no bytes to put out.
+    pub(crate) fn is_empty(&self) -> bool
+        ensures { result ≡ true → self.now.line.out ≡ [] }
+    {
+        self.queue.is_empty()
     }
 
     /// Puts the next bytes into the slice, as many as there are and as have room, and says how

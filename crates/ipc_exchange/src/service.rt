@@ -1,5 +1,5 @@
 ghost use Rattle.std.specs.Prelude.{◌≡◌, ◌<◌, ◌≤◌, ◌+◌, ℕ, [], false, List, length, min, take};
-ghost use Rattle.std.specs.Prelude.{drop, slice_set, IfOk, IfSome, OnOk, OnErr};
+ghost use Rattle.std.specs.Prelude.{drop, slice_set, IfOk, IfSome, IsNone, OnOk, OnErr};
 ghost use Rattle.ipc_words.specs.ThreadId.{number_of};
 ghost use Rattle.ipc_words.specs.Limits.{max_calls, max_entries, table_slots};
 ghost use Rattle.ipc_history.specs.Legal.{Legal, Quiet};
@@ -18,11 +18,12 @@ ghost use Rattle.ipc_exchange.specs.Slots.{CanAsk, CanDo, CanServe, CanTell, Non
 ghost use Rattle.ipc_exchange.specs.Slots.{StaysReady, lines_of, service_of, slot_at, stage_at};
 ghost use Rattle.ipc_exchange.specs.Slots.{table_told};
 
-use crate::line::Line;
+use crate::desk::Desk;
+use crate::lines::Lines;
 use crate::told::told_of;
 use ipc_calls::Heard;
 use ipc_connection::{Request, Stage, Told, asks, next_stage, thread_left};
-use ipc_core::{Advance, Command, Kernel, Limits, NoThread};
+use ipc_core::{Advance, Command, Limits, NoThread};
 use ipc_frame::FrameFault;
 use ipc_history::Entry;
 use ipc_words::ThreadId;
@@ -33,8 +34,8 @@ use std::marker::Model;
 /// A kernel, and the lines of the connections.
 #[derive(Drop)]
 pub(crate) struct Service {
-    kernel: Kernel,
-    lines: Vec<Line>,
+    kernel: Desk,
+    lines: Lines,
     // for each thread number the connection that had it last, 0 where none had it
     table: Vec<usize>,
 }
@@ -44,7 +45,7 @@ impl Model for Service {
 
     ghost Value = { ServiceSlots };
 
-    ghost view = { λ s. record { kernel = s.kernel; slots = s.lines.items; table = s.table.items } };
+    ghost view = { λ s. record { kernel = s.kernel; slots = s.lines; table = s.table.items } };
 }
 
 impl Service {
@@ -58,14 +59,12 @@ impl Service {
         ensures none { IfOk result (λ service. service.slots ≡ []) }
     {
         let table = vec![in alloc; 0; TABLE_SLOTS]?;
-        let Ok(kernel) = Kernel::new(alloc, limits) else {
-            return Err(AllocError);
-        };
+        let kernel = Desk::new(alloc, limits)?;
         // its contract says that the kernel is sound
         let _ = kernel.history();
         Ok(Service {
             kernel,
-            lines: Vec::new(alloc),
+            lines: Lines::new(alloc),
             table,
         })
     }
@@ -92,7 +91,7 @@ impl Service {
         requires { place < length self.now.slots }
         ensures { result ≡ stage_at self.now.slots place }
     {
-        self.lines[place].stage()
+        self.lines.stage(place)
     }
 
     /// Whether the connection in a place has ended.
@@ -115,8 +114,7 @@ impl Service {
         ensures ready { Ready self.new }
         ensures err { OnErr result (self.new ≡ self.old) }
     {
-        let line = Line::new(alloc, space)?;
-        self.lines.push(line)?;
+        self.lines.push(alloc, space)?;
         Ok(())
     }
 
@@ -128,7 +126,7 @@ impl Service {
         ensures ready { StaysReady self.old self.new }
         ensures ok { OnOk result (3 ≤ (slot_at self.new.slots place).free) }
     {
-        self.lines[place].reserve()
+        self.lines.reserve(place)
     }
 
     /// Puts the next bytes of the connection in a place into the slice, as many as there are and as
@@ -144,7 +142,18 @@ impl Service {
         ensures left { service_of self.new ≡ without_bytes place result (service_of self.old) }
         ensures ready { StaysReady self.old self.new }
     {
-        self.lines[place].output(out)
+        self.lines.output(place, out)
+    }
+
+    /// The first place, from one on, whose connection may have bytes to put out.
+    pub(crate) fn next_output(&self, from: usize) -> Option<usize>
+        ensures some { IfSome result (λ place. (from ≤ place) × (place < length self.now.slots)) }
+        ensures first { IfSome result (λ place. (other : ℕ) → from ≤ other → other < place
+            → (line_at (service_of self.now).lines other).out ≡ []) }
+        ensures none { IsNone result → (other : ℕ) → from ≤ other
+            → (line_at (service_of self.now).lines other).out ≡ [] }
+    {
+        self.lines.next_output(from)
     }
 
     /// The clock is read, in microseconds, and outcomes go out.
@@ -196,7 +205,7 @@ impl Service {
         ensures served { (asked : List Asked) × Serves MayLack (service_of self.old) place heard asked (service_of self.new) }
         ensures ready { StaysReady self.old self.new }
     {
-        let stage = self.lines[place].stage();
+        let stage = self.lines.stage(place);
         let request = asks(stage, heard);
         self.serve_request(place, request);
     }
@@ -209,7 +218,7 @@ impl Service {
         match request {
             Request::Nothing => {}
             Request::Open(number) => {
-                let space = u64::from(self.lines[place].space());
+                let space = u64::from(self.lines.space(place));
                 let number = u64::from(number);
                 self.ask(place, Command::Open { number, space });
             }
@@ -278,9 +287,8 @@ impl Service {
         let opened = told;
         let said = told;
         self.place_thread(place, opened);
-        let line = &mut self.lines[place];
-        let before = line.stage();
-        line.tell(said);
+        let before = self.lines.stage(place);
+        self.lines.tell(place, said);
         let here = before;
         let after = next_stage(here, told);
         thread_left(before, after)
@@ -292,7 +300,7 @@ impl Service {
         ensures { self.new ≡ record self.old { table = table_told told place self.old.table } }
     {
         if let Told::Opened(thread) = told {
-            self.table[thread.number() as usize] = place + 1;
+            self.table[thread.number() as usize] = self.lines.number(place);
         }
     }
 
@@ -339,6 +347,9 @@ impl Service {
         ensures told { service_of self.new ≡ told_outcome (place_of number (lines_of self.old.slots)) (service_of self.old) }
         ensures ready { StaysReady self.old self.new }
     {
+        if !self.kernel.is_due(number) {
+            return;
+        }
         let place = self.place_of(number);
         if place < self.lines.len() {
             self.deliver_at(place);
@@ -360,7 +371,7 @@ impl Service {
         if place >= none {
             return none;
         }
-        if self.lines[place].serves(number) {
+        if self.lines.serves(place, number) {
             place
         } else {
             none
@@ -373,12 +384,12 @@ impl Service {
         ensures told { service_of self.new ≡ told_outcome place (service_of self.old) }
         ensures ready { StaysReady self.old self.new }
     {
-        if let Stage::Serving(thread) = self.lines[place].stage() {
+        if let Stage::Serving(thread) = self.lines.stage(place) {
             let taken = self.kernel.take(thread);
             // its contract says that the kernel is sound
             let _ = self.kernel.history();
             if let Some(outcome) = taken {
-                self.lines[place].push_outcome(outcome);
+                self.lines.push_outcome(place, outcome);
             }
         }
     }

@@ -1,5 +1,5 @@
 -- What the lines of a wire script spell, and what is put out and printed for them.
-use Rattle.std.proofs.Common.{◌≡◌, ◌≢◌, ℕ, zero, suc, ◌+◌, ◌<◌, ◌≤◌, ◌^◌, Bool, true, false, Option, Some, None, IfSome, List, [], ◌∷◌, ◌++◌, length, take, drop, map, codes, refl, sym, ap, subst, ◌∙◌, arith, append_assoc, append-nil}
+use Rattle.std.proofs.Common.{◌≡◌, ◌≢◌, ℕ, zero, suc, ◌+◌, ◌-◌, ◌<◌, ◌≤◌, ◌^◌, Bool, true, false, Option, Some, None, IfSome, List, [], ◌∷◌, ◌++◌, length, take, drop, map, codes, refl, sym, ap, subst, ◌∙◌, arith, append_assoc, append-nil}
 use Rattle.std.specs.Prelude.{slice_index_or, slice_set, IsNone, if◌then◌else◌, nat_le}
 use Rattle.std.specs.Fmt.{decimal}
 use Rattle.std.specs.Io.KnownBytes.{Appends}
@@ -9,7 +9,7 @@ use Rattle.std.proofs.Math.Seq.{take-add, take-length, drop-nil}
 use Rattle.std.proofs.Math.ListN.{drop_of_length-le}
 use Rattle.ipc_words.specs.Limits.{max_space, max_connections}
 use Rattle.ipc_exchange.specs.Service.{Line, line_at, nobody, without_bytes}
-use Rattle.ipc_exchange.specs.Slots.{LineSlots, stage_at}
+use Rattle.ipc_exchange.specs.Slots.{LineSlots, service_of, stage_at}
 use Rattle.ipc_exchange.specs.Feeding.{has_finished}
 use Rattle.ipc_exchange.specs.Events.{Event, Connect, Piece, Finish, Reading, Copy, ExchangeParts}
 use Rattle.ipc_exchange.specs.Exchange.{ExchangeSlots, Happened, Shows}
@@ -292,6 +292,72 @@ all_written parts n before now exchange all written =
 
 pub partly_within : (parts : ExchangeParts) (n : ℕ) → n < length parts.service.lines → n < length (partly n parts.service.lines)
 partly_within parts n within = omega (arith, partly_long n parts.service.lines, within)
+
+-- a connection that has nothing to put out is passed over
+still : (line : Line) → line.out ≡ [] → emptied line ≡ line
+still line none = ap (λ bytes. record line { out = bytes }) (sym none)
+
+nothing_text : (number : ℕ) (bytes : List ℕ) → bytes ≡ [] → output_text number bytes ≡ []
+nothing_text number bytes none = ap (output_text number) none
+
+abbrev HasNothing : ExchangeSlots → ℕ → Type 0
+HasNothing exchange place = (line_at (service_of exchange.service).lines place).out ≡ []
+
+one_passed : (parts : ExchangeParts) (n : ℕ) (before now : List ℕ) (exchange : ExchangeSlots) → n < length parts.service.lines → HasNothing exchange n
+    → WrittenTo parts n before now exchange → WrittenTo parts (n + 1) before now exchange
+one_passed parts n before now exchange within none written =
+    let lines = partly n parts.service.lines in
+    let here : (line_at lines n).out ≡ [] = ap (λ s. (line_at s.lines n).out) written.shows.service ∙ none in
+    let same : slice_set lines n (emptied (line_at lines n)) ≡ lines = ap (slice_set lines n) (still (line_at lines n) here) ∙ set-get_or lines n nobody in
+    one_written parts n before now now exchange exchange within written (
+      sym (append-nil now) ∙ ap (λ t. now ++ t) (sym (nothing_text (n + 1) (line_at lines n).out here)),
+      subst (λ ls. Shows exchange (with_lines parts ls)) (sym same) written.shows,
+    )
+
+passed : (parts : ExchangeParts) (n k : ℕ) (before now : List ℕ) (exchange : ExchangeSlots) → n + k ≤ length parts.service.lines
+    → ((place : ℕ) → n ≤ place → place < n + k → HasNothing exchange place)
+    → WrittenTo parts n before now exchange → WrittenTo parts (n + k) before now exchange
+passed parts n zero before now exchange within none written =
+    let same : n ≡ n + 0 = omega arith in subst (λ m. WrittenTo parts m before now exchange) same written
+passed parts n (suc k) before now exchange within none written =
+    let same : (n + 1) + k ≡ n + suc k = omega arith in
+    let more = one_passed parts n before now exchange (omega (arith, within)) (none n (omega arith) (omega arith)) written in
+    subst (λ m. WrittenTo parts m before now exchange) same
+    (passed parts (n + 1) k before now exchange (omega (arith, within)) (λ place least less. none place (omega (arith, least)) (omega (arith, less))) more)
+
+passed_to : (parts : ExchangeParts) (n m : ℕ) (before now : List ℕ) (exchange : ExchangeSlots) → n ≤ m → m ≤ length parts.service.lines
+    → ((place : ℕ) → n ≤ place → place < m → HasNothing exchange place)
+    → WrittenTo parts n before now exchange → WrittenTo parts m before now exchange
+passed_to parts n m before now exchange least within none written =
+    let same : n + (m - n) ≡ m = omega (arith, least) in
+    subst (λ k. WrittenTo parts k before now exchange) same
+    (passed parts n (m - n) before now exchange (omega (arith, least, within)) (λ place low high. none place low (omega (arith, high, least))) written)
+
+-- the next connection that may have something is written
+pub next_written : (parts : ExchangeParts) (behind connection : ℕ) (before now after : List ℕ) (old new : ExchangeSlots) → behind < connection → connection ≤ length old.service.slots
+    → ((place : ℕ) → behind ≤ place → place + 1 < connection → HasNothing old place)
+    → WrittenTo parts behind before now old
+    → ((place : ℕ) (ps : ExchangeParts) → connection ≡ place + 1 → place < length ps.service.lines → Shows old ps → WritesOutput ps place now after new)
+    → (connection ≤ length parts.service.lines) × WrittenTo parts connection before after new
+next_written parts behind connection before now after old new more few none written writes =
+    let place = connection - 1 in
+    let number : connection ≡ place + 1 = omega (arith, more) in
+    let long = shows_long old (with_lines parts (partly behind parts.service.lines)) written.shows in
+    let given : connection ≤ length parts.service.lines = omega (arith, long, partly_long behind parts.service.lines, few) in
+    let within : place < length parts.service.lines = omega (arith, given, more) in
+    let here = passed_to parts behind place before now old (omega (arith, more)) (omega (arith, within)) (λ q low high. none q low (omega (arith, high, more))) written in (
+      given,
+      subst (λ k. WrittenTo parts k before after new) (sym number)
+          (one_written parts place before now after old new within here (writes place (with_lines parts (partly place parts.service.lines)) number (partly_within parts place within) here.shows)),
+    )
+
+-- there is none
+pub rest_written : (parts : ExchangeParts) (behind : ℕ) (before now : List ℕ) (exchange : ExchangeSlots) → behind ≤ length parts.service.lines
+    → ((place : ℕ) → behind ≤ place → HasNothing exchange place)
+    → WrittenTo parts behind before now exchange → WritesOutputs parts before now exchange
+rest_written parts behind before now exchange within none written =
+    all_written parts (length parts.service.lines) before now exchange refl
+    (passed_to parts behind (length parts.service.lines) before now exchange within (omega arith) (λ place low high. none place low) written)
 
 -- where each connection is at the stage at which it was, none ended
 next_at : (lines : List Line) (q : ℕ) → line_at (drop 1 lines) q ≡ line_at lines (suc q)

@@ -253,8 +253,14 @@ fn write_outputs(
     ensures { OnOk result ((parts : ExchangeParts) → Shows exchange.old parts
         → WritesOutputs parts (string_bytes text.old) (string_bytes text.new) exchange.new) }
 {
-    for place in 0..exchange.connections() {
-        write_output(alloc, exchange, place + 1, piece, text)?;
+    let mut behind = 0;
+    // each connection has one turn at most
+    for _turn in 0..exchange.connections() {
+        let Some(connection) = exchange.next_output(behind) else {
+            return Ok(());
+        };
+        write_output(alloc, exchange, connection, piece, text)?;
+        behind = connection;
     }
     Ok(())
 }

@@ -1,4 +1,4 @@
-use Rattle.std.proofs.Common.{refl, sym, ◌∙◌, ap, subst, None, Some, arith}
+use Rattle.std.proofs.Common.{sym, ◌∙◌, ap, subst, None, Some, arith}
 use Rattle.ipc_calls.specs.Taking.{Takes}
 use Rattle.ipc_calls.proofs.PieceLemmas.{take_hears}
 use Rattle.ipc_exchange.proofs.FeedLemmas.{ends, fails, finished_is, goes_on, held_size, rests, service_stage, taken_as}

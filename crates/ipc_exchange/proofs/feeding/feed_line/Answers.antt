@@ -1,4 +1,4 @@
-use Rattle.std.proofs.Common.{refl, ap, sym, ◌∙◌, subst, []}
+use Rattle.std.proofs.Common.{refl, ◌∙◌, subst, []}
 use Rattle.std.proofs.lemmas.List.{take_rest}
 use Rattle.ipc_exchange.specs.Slots.{service_of}
 use Rattle.ipc_exchange.specs.Feeding.{FeedsLine}

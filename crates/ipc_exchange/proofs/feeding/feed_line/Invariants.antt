@@ -1,4 +1,4 @@
-use Rattle.std.proofs.Common.{◌≡◌, ◌+◌, ℕ, List, [], length}
+use Rattle.std.proofs.Common.{◌+◌, ℕ, List, length}
 use Rattle.ipc_calls.specs.Taking.{Decoding, Holds}
 use Rattle.ipc_exchange.specs.Service.{ServiceParts}
 use Rattle.ipc_exchange.specs.Slots.{StaysReady, service_of}

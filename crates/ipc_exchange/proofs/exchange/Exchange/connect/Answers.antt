@@ -1,5 +1,4 @@
-use Rattle.std.proofs.Common.{◌∙◌, ap, sym, ◌∷◌, ◌++◌, [], length-append, arith}
-use Rattle.ipc_exchange.specs.Events.{Connect}
+use Rattle.std.proofs.Common.{◌∙◌, ap, ◌∷◌, ◌++◌, []}
 use Rattle.ipc_exchange.proofs.ExchangeLemmas.{connected_keeps, connects_by}
 use Rattle.ipc_exchange.proofs.exchange.Exchange.connect.Goals as goal
 

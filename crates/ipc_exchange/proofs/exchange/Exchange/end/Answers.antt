@@ -1,5 +1,4 @@
 use Rattle.std.proofs.Common.{sym, ◌∙◌, arith}
-use Rattle.ipc_exchange.specs.Exchange.{ExchangeSlots}
 use Rattle.ipc_exchange.proofs.ExchangeLemmas.{ended_there, end_happens, end_keeps, not_closed, skipped_stage}
 use Rattle.ipc_exchange.proofs.exchange.Exchange.end.Goals as goal
 use Rattle.ipc_exchange.proofs.exchange.Exchange.end.Goals.{then-connection-eq0-via-then-connection-eq0, then-connection-eq0-via-else-connection-eq0+then-connection-len}

@@ -1,5 +1,4 @@
 use Rattle.std.proofs.Common.{sym, ◌∙◌, arith}
-use Rattle.ipc_exchange.specs.Exchange.{ExchangeSlots}
 use Rattle.ipc_exchange.proofs.ExchangeLemmas.{ended_there, feed_happens, feed_keeps, not_fed, skipped_stage}
 use Rattle.ipc_exchange.proofs.exchange.Exchange.feed.Goals as goal
 use Rattle.ipc_exchange.proofs.exchange.Exchange.feed.Goals.{then-connection-eq0-via-then-connection-eq0, then-connection-eq0-via-else-connection-eq0+then-connection-len}

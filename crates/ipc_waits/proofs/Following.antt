@@ -40,16 +40,6 @@ record HaveAll (calls : ℕ → Option Standing) (waits : Waits) : Type 0 where
   watchers : HasAll watches_under calls waits.watchers
   deadlines : HasAll due_under calls waits.deadlines
 
-has_at : (key_of : Standing → Option ℕ) (calls : ℕ → Option Standing) (waits : List Wait) (place : ℕ) → HasAll key_of calls waits → HasAt key_of waits place (calls place)
-has_at key_of calls waits place has w here = has w ∙ ap (λ k. is_of key_of (calls k) w) here
-
-have_at : (calls : ℕ → Option Standing) (waits : Waits) (place : ℕ) → HaveAll calls waits → HaveAt waits place (calls place)
-have_at calls waits place have = record {
-  senders = has_at _ calls waits.senders place have.senders;
-  watchers = has_at _ calls waits.watchers place have.watchers;
-  deadlines = has_at _ calls waits.deadlines place have.deadlines;
-}
-
 -- the calls where the one of a place is another
 abbrev changed_at : ℕ → Option Standing → (ℕ → Option Standing) → ℕ → Option Standing
 changed_at place call calls k = (if k == place then call else calls k)

@@ -94,9 +94,6 @@ module _ (P : List Entry) (slots : Slots) (legal : Legal P) (stands : Stands P s
   pub has_under : (n t : ℕ) → is_over P n ≡ false → key_of (standing_of P n) ≡ Some t → is_in (under t ws) (wait_for P n t) ≡ true
   has_under n t o e = in_filter (λ w. w.key == t) ws (wait_for P n t) ∙ both _ _ (eq-eqb t t refl) (has_wait n t o e)
 
-  pub each_under : (t : ℕ) → All (IsWaitOf P key_of) (under t ws)
-  each_under t = all_in (IsWaitOf P key_of) (under t ws) (λ w there. wait_of w (under_is t w there).1)
-
 -- The waiting sends
 
 module _ (P : List Entry) (slots : Slots) (legal : Legal P) (stands : Stands P slots) (ws : List Wait) (mirrors : Mirrors sends_under slots.table ws) where
@@ -131,14 +128,6 @@ module _ (P : List Entry) (slots : Slots) (legal : Legal P) (stands : Stands P s
       from among =
           let sends : sends_to P n t ≡ true = left _ (is_among (numbers P) n) (sym passing ∙ among) in
           in_map (λ w. w.number) (under t ws) (wait_for P n t) (sender_waits n t sends)
-
-  -- and the first that passes a test is the first sender that does
-  pub first_sender : (t : ℕ) (test : ℕ → Bool) → IsOrdered ws → option_map (λ w. w.number) (find (λ w. test w.number) (under t ws)) ≡ find test (senders P t)
-  first_sender t test ordered = find_mapped (λ w. w.number) test (under t ws) ∙ same_find test _ _ (under_sorted t ws ordered) (rising_sorted (senders P t) (rising_filter (λ n. sends_to P n t) (numbers P) (numbers_rise P legal))) (λ n. senders_are n t)
-
-  -- so that is the source of a receiving call
-  pub source_waits : (m : ℕ) → is_receiving P m ≡ true → IsOrdered ws → source_of P m ≡ option_map (λ w. w.number) (find (λ w. not (to_of P w.number == caller_of P w.number) && accepts P m (shown_sender P w.number)) (under (caller_of P m) ws))
-  source_waits m receives ordered = source_is_sender P m receives ∙ sym (first_sender (caller_of P m) (λ k. not (to_of P k == caller_of P k) && accepts P m (shown_sender P k)) ordered)
 
 -- The watchers
 
@@ -186,12 +175,6 @@ module _ (P : List Entry) (slots : Slots) (legal : Legal P) (stands : Stands P s
   wait_is_due moment early w there =
       let wait = wait_of P slots legal stands due_under ws mirrors w there in
       due_key P legal w.number wait.opened moment early ∙ ap (λ o. option_map_or (λ key. nat_le key moment) o false) wait.key
-
-  pub until_is_due : (moment : ℕ) → moment < 2 ^ 64 - 1 → (w : Wait) → is_in (until moment ws) w ≡ true → IsWaitOf P due_under w × (is_due_at P moment w.number ≡ true)
-  until_is_due moment early w there =
-      let parts : (nat_le w.key moment && is_in ws w) ≡ true = sym (in_filter (λ w. nat_le w.key moment) ws w) ∙ there in
-      let at : is_in ws w ≡ true = right (nat_le w.key moment) (is_in ws w) parts in
-      (wait_of P slots legal stands due_under ws mirrors w at, wait_is_due moment early w at ∙ left (nat_le w.key moment) (is_in ws w) parts)
 
   pub any_is_due : (moment : ℕ) → moment < 2 ^ 64 - 1 → list_any (λ w. nat_le w.key moment) ws ≡ list_any (is_due_at P moment) (numbers P)
   any_is_due moment early = same_tests _ _ to from

@@ -1,13 +1,10 @@
 -- The waits of the calls that the slots of a table hold.
-use Rattle.std.proofs.Common.{◌≡◌, refl, sym, ap, ◌∙◌, ℕ, ◌<◌, ◌≤◌, Bool, true, false, ◌==◌, eq-eqb, eqb-true, Option, Some, None, List, [], length, inl, inr}
-use Rattle.std.proofs.lemmas.Bool.{and_from, and_parts, cases_lt, false≢true}
-use Rattle.std.proofs.lemmas.List.{get_or_past}
-use Rattle.std.specs.Option.{option_map_or}
-use Rattle.ipc_slots.specs.Slots.{blank, slot_at}
+use Rattle.std.proofs.Common.{◌≡◌, refl, sym, ap, ◌∙◌, ℕ, Option, None, List, []}
+use Rattle.ipc_slots.specs.Slots.{slot_at}
 use Rattle.ipc_slots.specs.Steps.{standing_in}
 use Rattle.ipc_slots.specs.declared.slot.Slot.{Slot}
 use Rattle.ipc_slots.specs.declared.slot.Standing.{Standing}
-use Rattle.ipc_waits.specs.Keys.{AreWaits, HasAt, HaveAt, IsSameElsewhere, Mirrors, SameElsewhere, is_of, due_under, sends_under, watches_under}
+use Rattle.ipc_waits.specs.Keys.{AreWaits, Mirrors, is_of, due_under, sends_under, watches_under}
 use Rattle.ipc_waits.specs.Queues.{is_in}
 use Rattle.ipc_waits.specs.declared.queue.Wait.{Wait}
 use Rattle.ipc_waits.specs.declared.waits.Waits.{Waits}

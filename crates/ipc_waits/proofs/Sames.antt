@@ -1,6 +1,6 @@
 -- The same wait, and which waits are in a list.
-use Rattle.std.proofs.Common.{◌≡◌, refl, sym, ap, ◌∙◌, ℕ, ◌<◌, Bool, true, false, cond, ◌&&◌, ◌||◌, eq-eqb, eqb-true, List, [], ◌∷◌, ◌++◌, length, get_or, filter, inl, inr, arith}
-use Rattle.std.proofs.lemmas.Bool.{and_from, and_left, and_parts, and_right, false≢true, or_cases, or_from, or_left, or_parts, or_right}
+use Rattle.std.proofs.Common.{◌≡◌, refl, sym, ap, ◌∙◌, ℕ, ◌<◌, Bool, true, false, cond, ◌||◌, eq-eqb, eqb-true, List, [], ◌∷◌, ◌++◌, length, get_or, filter, inl, inr, arith}
+use Rattle.std.proofs.lemmas.Bool.{and_from, and_parts, and_right, false≢true, or_cases, or_from, or_left, or_parts, or_right}
 use Rattle.std.proofs.lemmas.List.Folds.{list_any-append, list_any_at}
 use Rattle.ipc_waits.specs.Queues.{is_in, is_placed, is_same}
 use Rattle.ipc_waits.specs.declared.queue.Wait.{Wait}

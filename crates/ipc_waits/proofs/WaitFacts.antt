@@ -1,14 +1,13 @@
 -- What the queues say of a history.
 use Rattle.std.proofs.lemmas.Bool.{false≢true, false_from_ne_true}
 use Rattle.std.proofs.lemmas.Option.{cond_some}
-use Rattle.std.proofs.Common.{All, ◌≡◌, refl, sym, ap, ◌∙◌, subst, ℕ, ◌-◌, ◌^◌, ◌<◌, ◌≤◌, ◌==◌, ◌&&◌, eq-eqb, eqb-true, nat_le, Bool, true, false, List, Option, Some, None, option_map, find, not, map, arith}
+use Rattle.std.proofs.Common.{◌≡◌, refl, sym, ap, ◌∙◌, subst, ℕ, ◌-◌, ◌^◌, ◌<◌, ◌≤◌, ◌==◌, ◌&&◌, eq-eqb, eqb-true, nat_le, Bool, true, false, List, Option, Some, None, map, arith}
 use Rattle.std.specs.List.{list_any}
 use Rattle.std.specs.Option.{option_map_or}
 use Rattle.ipc_words.specs.ThreadId.{anythread, anylocalthread, number_of}
 use Rattle.ipc_history.specs.Calls.{numbers, caller_of, to_of}
 use Rattle.ipc_history.specs.Threads.{is_live}
-use Rattle.ipc_history.specs.Phases.{is_over, is_sending, is_receiving}
-use Rattle.ipc_history.specs.Matching.{accepts, shown_sender}
+use Rattle.ipc_history.specs.Phases.{is_over, is_sending}
 use Rattle.ipc_history.specs.Timing.{is_due_at}
 use Rattle.ipc_history.specs.Legal.{Legal}
 use Rattle.ipc_history.specs.declared.entry.Entry.{Entry}
@@ -16,11 +15,10 @@ use Rattle.ipc_laws.proofs.Places.{any_at, any_place}
 use Rattle.ipc_laws.proofs.PhaseParts.{sends_parts}
 use Rattle.ipc_laws.proofs.Steps.{number_of_open}
 use Rattle.ipc_laws.proofs.Tests.{both, left, right}
-use Rattle.ipc_candidates.specs.Candidates.{is_among, senders, sends_to, source_of, watches}
-use Rattle.ipc_candidates.proofs.Among.{numbers_rise, open_among}
-use Rattle.ipc_candidates.proofs.AtPlaces.{source_is_sender}
+use Rattle.ipc_candidates.specs.Candidates.{is_among, senders, sends_to, watches}
+use Rattle.ipc_candidates.proofs.Among.{open_among}
 use Rattle.ipc_candidates.proofs.Kept.{due_at_open}
-use Rattle.ipc_candidates.proofs.Lists.{among_filtered, rising_filter}
+use Rattle.ipc_candidates.proofs.Lists.{among_filtered}
 use Rattle.ipc_slots.specs.Slots.{Stands, slot_at}
 use Rattle.ipc_slots.specs.Standings.{standing_of}
 use Rattle.ipc_slots.specs.Steps.{standing_in}
@@ -29,10 +27,10 @@ use Rattle.ipc_slots.specs.declared.slots.Slots.{Slots}
 use Rattle.ipc_slots.proofs.Holders.{call_of_slot, slot_of_call}
 use Rattle.ipc_slots.proofs.ThreadSteps.{live_within}
 use Rattle.ipc_waits.specs.Keys.{Mirrors, due_under, is_of, sends_under, watches_under}
-use Rattle.ipc_waits.specs.Queues.{IsOrdered, is_in, under, until}
+use Rattle.ipc_waits.specs.Queues.{is_in, under, until}
 use Rattle.ipc_waits.specs.declared.queue.Wait.{Wait}
 use Rattle.ipc_waits.proofs.WaitKeys.{due_key, due_reaches, sends_key, watches_key, watches_open}
-use Rattle.ipc_waits.proofs.WaitLists.{all_in, any_in, find_mapped, in_any, in_filter, in_map, of_map, rising_sorted, same_find, under_sorted}
+use Rattle.ipc_waits.proofs.WaitLists.{any_in, in_any, in_filter, in_map, of_map}
 
 -- the open call that a wait is of
 pub record IsWaitOf (P : List Entry) (key_of : Standing → Option ℕ) (w : Wait) : Type 0 where

@@ -1,29 +1,24 @@
--- The next output is that of the candidates.
-use Rattle.std.proofs.lemmas.Bool.{cases_order, false_from_ne_true, false≢true, or_cases, or_left, or_right}
+-- The numbers of a history, and the sending calls of meetings.
+use Rattle.std.proofs.lemmas.Bool.{cases_order, false_from_ne_true, false≢true, or_cases}
 use Rattle.std.proofs.lemmas.Option.{none-some}
 use Rattle.std.proofs.Common.{◌≡◌, refl, sym, ap, ◌∙◌, subst, ℕ, zero, suc, ◌<◌, ◌≤◌, ◌==◌, eq-eqb, eqb-true, Bool, true, false, List, [], ◌∷◌, Option, Some, None, option_map, find, inl, inr, arith, if◌then◌else◌}
-use Rattle.std.specs.Option.{option_map_or}
-use Rattle.ipc_history.specs.Words.{first_some}
 use Rattle.ipc_history.specs.Calls.{numbers, calls_made}
 use Rattle.ipc_history.specs.Phases.{is_over, is_receiving}
 use Rattle.ipc_history.specs.Matching.{matches, match_of}
-use Rattle.ipc_history.specs.NextOutput.{end_of, partner_gone_of, meeting, meeting_of, timeout_of}
+use Rattle.ipc_history.specs.NextOutput.{meeting, meeting_of}
 use Rattle.ipc_history.specs.Legal.{Legal}
 use Rattle.ipc_history.specs.declared.entry.Entry.{Entry}
 use Rattle.ipc_history.specs.declared.entry.Output.{Output}
 use Rattle.ipc_laws.specs.Laws.{up_to}
-use Rattle.ipc_laws.specs.Locality.Possible.{Meets}
-use Rattle.ipc_laws.proofs.Gives.{Gives, Gives-at, Gives-find}
+use Rattle.ipc_laws.proofs.Gives.{Gives-at, Gives-find}
 use Rattle.ipc_laws.proofs.Numbering.{numbered}
 use Rattle.ipc_laws.proofs.PhaseParts.{meets_parts, receives_parts}
 use Rattle.ipc_laws.proofs.OnePhase.{sends_apart}
 use Rattle.ipc_laws.proofs.Places.{any_at}
 use Rattle.ipc_laws.proofs.Steps.{number_of_open}
 use Rattle.ipc_laws.proofs.Tests.{left, not_both, right}
-use Rattle.ipc_candidates.specs.Laws.{SameAmong}
-use Rattle.ipc_candidates.specs.Candidates.{Covers, IsRising, insert, is_among, source_of, sources}
-use Rattle.ipc_candidates.proofs.Lists.{among_insert, among_push, rising_insert, rising_push, same_first}
-use Rattle.ipc_candidates.proofs.Under.{IsUnder, end_under, meeting_found, meeting_under, partner_gone_under, timeout_under}
+use Rattle.ipc_candidates.specs.Candidates.{IsRising, is_among, source_of}
+use Rattle.ipc_candidates.proofs.Lists.{among_push, rising_push}
 
 -- the numbers of a history rise
 up_to_below : (m k : ℕ) → is_among (up_to m) k ≡ true → k ≤ m
@@ -65,13 +60,6 @@ find_below test (x ∷ xs) n k rising among passes e = go (test x) refl e (find_
     go true t e later = let s : x ≡ k = cc in elim (or_cases (x == n) (is_among xs n) among) [ inl same ↦ (let z : x ≡ n = eqb-true x n same in omega arith) | inr behind ↦ (let far = rising.0 n behind in omega arith) ]
     go false t e later = elim (or_cases (x == n) (is_among xs n) among) [ inl same ↦ not_both passes (sym (ap test (eqb-true x n same)) ∙ t) | inr behind ↦ later behind passes e ]
 
-module _ (P : List Entry) (cs : List ℕ) (l : Legal P) (covers : Covers P cs) (rising : IsRising cs) where
-  -- a rule that speaks of the call alone
-  of_rule : (f : ℕ → Option Output) → ((n : ℕ) → Gives (IsUnder P n) (f n)) → first_some f (numbers P) ≡ first_some f cs
-  of_rule f under = same_first f (numbers P) cs (numbers_rise P l) rising
-      (λ n y e. open_among P n (Gives-at (f n) y (under n) e).opened)
-      (λ n y e none. let is = Gives-at (f n) y (under n) e in let found = covers y is.possible in let same : n ≡ found.0 = is.alone found.0 found.2 in subst (λ k. is_among cs k ≡ true) (sym same) found.1)
-
 -- The sending calls of meetings
 
 pub meeting_gives : (P : List Entry) (n m : ℕ) → matches P n m ≡ true → (y : Output) × (meeting_of P n ≡ Some y)
@@ -83,26 +71,6 @@ meeting_gives P n m g =
 pub receives_of : (P : List Entry) (n m : ℕ) → matches P n m ≡ true → is_receiving P m ≡ true
 unfolding matches
 receives_of P n m g = right _ _ (left _ _ (left _ _ (left _ _ g)))
-
--- what a source adds
-pub sources_rise : (P : List Entry) (cs : List ℕ) → IsRising (sources P cs)
-sources_rise P [] = tt
-sources_rise P (c ∷ cs) = go (source_of P c) (sources_rise P cs)
-  where
-    go : (o : Option ℕ) → IsRising (sources P cs) → IsRising (option_map_or (λ k. insert k (sources P cs)) o (sources P cs))
-    go None later = later
-    go (Some k) later = rising_insert k (sources P cs) later
-
-pub source_among : (P : List Entry) (cs : List ℕ) (c n : ℕ) → is_among cs c ≡ true → source_of P c ≡ Some n → is_among (sources P cs) n ≡ true
-source_among P [] c n among e = absurd (false≢true among)
-source_among P (x ∷ cs) c n among e = go (source_of P x) refl (source_among P cs c n)
-  where
-    go : (o : Option ℕ) → source_of P x ≡ o → (is_among cs c ≡ true → source_of P c ≡ Some n → is_among (sources P cs) n ≡ true) → is_among (option_map_or (λ k. insert k (sources P cs)) o (sources P cs)) n ≡ true
-    go None s later = elim (or_cases (x == c) (is_among cs c) among) [ inl same ↦ absurd (none-some n (sym s ∙ (ap (source_of P) (eqb-true x c same) ∙ e))) | inr behind ↦ later behind e ]
-    go (Some k) s later = among_insert k (sources P cs) n ∙ elim (or_cases (x == c) (is_among cs c) among) [ inl same ↦ or_left (k == n) _ (eq-eqb k n (first_same k (sym s ∙ (ap (source_of P) (eqb-true x c same) ∙ e)))) | inr behind ↦ or_right (k == n) _ (later behind e) ]
-      where
-        first_same : (k : ℕ) → Some k ≡ Some n → k ≡ n
-        first_same k e = cc
 
 module _ (P : List Entry) (l : Legal P) where
   pub sends_itself : (n m : ℕ) → matches P n m ≡ true → source_of P n ≡ Some n
@@ -120,26 +88,3 @@ module _ (P : List Entry) (l : Legal P) where
         | inr (inl less) ↦ (let y = meeting_gives P found.0 m found.2 in absurd (none-some y.0 (sym (none found.0 less) ∙ y.1)))
         | inr (inr more) ↦ absurd (omega arith)
       ])
-
-module _ (P : List Entry) (cs : List ℕ) (l : Legal P) (covers : Covers P cs) (rising : IsRising cs) where
-  of_meetings : first_some (meeting_of P) (numbers P) ≡ first_some (meeting_of P) (sources P cs)
-  of_meetings = same_first (meeting_of P) (numbers P) (sources P cs) (numbers_rise P l) (sources_rise P cs)
-      (λ n y e. let is = Gives-at (meeting_of P n) y (meeting_under P n) e in open_among P n (meets_parts P n is.receiver is.meets).sends.opened)
-      least
-    where
-      least : (n : ℕ) (y : Output) → meeting_of P n ≡ Some y → ((k : ℕ) → k < n → meeting_of P k ≡ None) → is_among (sources P cs) n ≡ true
-      least n y e none =
-          let is = Gives-at (meeting_of P n) y (meeting_under P n) e in
-          let found = covers (meeting P n is.receiver) (Meets n is.receiver is.meets refl) in
-          elim (or_cases (n == found.0) (is.receiver == found.0) (sym (meeting_found P n is.receiver found.0) ∙ found.2)) [
-            | inl same ↦ source_among P cs found.0 n found.1 (ap (source_of P) (sym (eqb-true n found.0 same)) ∙ sends_itself P l n is.receiver is.meets)
-            | inr same ↦ source_among P cs found.0 n found.1 (ap (source_of P) (sym (eqb-true is.receiver found.0 same)) ∙ least_source P l n is.receiver is.meets none)
-          ]
-
-  pub same_among : SameAmong P cs
-  same_among = record {
-    ends = of_rule P cs l covers rising (end_of P) (end_under P);
-    fails = of_rule P cs l covers rising (partner_gone_of P) (partner_gone_under P);
-    meets = of_meetings;
-    expires = of_rule P cs l covers rising (timeout_of P) (timeout_under P);
-  }

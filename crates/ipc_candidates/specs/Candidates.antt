@@ -1,20 +1,19 @@
 -- The calls of which the next output can be, so that a kernel looks at no other.
 use Rattle.std.specs.Prelude.{ℕ, ◌<◌, List, [], ◌∷◌, Bool, false, ◌&&◌, ◌||◌, Option, Some, IsTrue}
-use Rattle.std.specs.Prelude.{find, filter, nat_lt, option_and_then, ◌==◌, if◌then◌else◌}
+use Rattle.std.specs.Prelude.{find, filter, nat_lt, ◌==◌, if◌then◌else◌}
 use Rattle.std.specs.List.{list_any}
-use Rattle.std.specs.Option.{option_or, option_map_or}
+use Rattle.std.specs.Option.{option_map_or}
 use Rattle.ipc_words.specs.ThreadId.{number_of}
 use Rattle.ipc_history.specs.Entries.{names}
 use Rattle.ipc_history.specs.Calls.{numbers, caller_of, to_of}
 use Rattle.ipc_history.specs.Phases.{receiver_of, sender_of, is_sending, is_transferring, is_receiving}
 use Rattle.ipc_history.specs.Matching.{from_specifier, matches}
 use Rattle.ipc_history.specs.Timing.{is_due_at}
-use Rattle.ipc_history.specs.NextOutput.{end_of, partner_gone_of, meeting_of, timeout_of}
 use Rattle.ipc_history.specs.declared.entry.Entry.{Entry}
 use Rattle.ipc_history.specs.declared.entry.Entry.TheVariants.{Given, Written}
 use Rattle.ipc_history.specs.declared.entry.Input.TheVariants.{At, Called, Broke, Moved}
 use Rattle.ipc_history.specs.declared.entry.Output.{Output}
-use Rattle.ipc_history.specs.declared.entry.Output.TheVariants.{Began, Turned, Ended, Failed}
+use Rattle.ipc_history.specs.declared.entry.Output.TheVariants.{Began, Turned, Ended}
 use Rattle.ipc_laws.specs.Locality.{Possible}
 
 abbrev pub is_among : List ℕ → ℕ → Bool
@@ -52,10 +51,6 @@ CoversAt P places = Covers P (calls_at P places)
 unfoldable pub source_of : List Entry → ℕ → Option ℕ
 source_of P c = (if is_receiving P c then find (λ k. matches P k c) (numbers P) else Some c)
 
-abbrev pub sources : List Entry → List ℕ → List ℕ
-sources P [] = []
-sources P (c ∷ cs) = option_map_or (λ k. insert k (sources P cs)) (source_of P c) (sources P cs)
-
 -- the calls that lose their partner where the thread ends: n sends to it, waits for it, or is in transfer with a call of it
 abbrev pub sends_to : List Entry → ℕ → ℕ → Bool
 sends_to P n thread = is_sending P n && (to_of P n == thread)
@@ -86,19 +81,3 @@ touched P (Written (Began n m)) = insert n (m ∷ [])
 touched P (Written (Turned r thread)) = r ∷ []
 touched P (Written (Ended n m)) = n ∷ []
 touched P _ = []
-
--- the output of one candidate
-abbrev pub next_of : List Entry → ℕ → Option Output
-next_of P n =
-    option_or (end_of P n)
-    (option_or (partner_gone_of P n)
-    (option_or (option_and_then (meeting_of P) (source_of P n)) (timeout_of P n)))
-
--- the failure of a call whose partner is gone, and of one that is due
-abbrev pub is_loss : Output → Bool
-is_loss (Failed n code) = nat_lt 3 code
-is_loss _ = false
-
-abbrev pub is_expiry : Output → Bool
-is_expiry (Failed n code) = nat_lt code 4
-is_expiry _ = false

@@ -10,7 +10,7 @@ use Rattle.ipc_history.specs.Entries.{thread_in}
 use Rattle.ipc_history.specs.Calls.{numbers, message_size}
 use Rattle.ipc_history.specs.Threads.{now, is_live, is_taken, next_version}
 use Rattle.ipc_history.specs.Phases.{is_over, is_transferring, moved_bytes, open_call, receiver_of}
-use Rattle.ipc_history.specs.Timing.{is_due, is_due_at}
+use Rattle.ipc_history.specs.Timing.{is_due}
 use Rattle.ipc_history.specs.NextOutput.{abort_send, timeout_of}
 use Rattle.ipc_history.specs.Legal.{Legal, next_moving}
 use Rattle.ipc_history.specs.declared.entry.Entry.{Entry}
@@ -44,22 +44,6 @@ timeouts P (x ∷ xs) = rw (due_now P x, timeouts P xs) refl
 
 pub first_due : (P : List Entry) (moment : ℕ) → moment ≡ now P → first_some (rule_of (Expires moment) P) (numbers P) ≡ first_some (timeout_of P) (numbers P)
 first_due P moment e = rw e (timeouts P (numbers P))
-
-due_some : (P : List Entry) (moment n : ℕ) → is_some (timeout_at P moment n) ≡ is_due_at P moment n
-unfolding timeout_at
-due_some P moment n = go _ (is_due_at P moment n)
-  where
-    go : (y : Output) (b : Bool) → is_some (if b then Some y else None) ≡ b
-    go y true = refl
-    go y false = refl
-
-some_or : (a b : Option Output) → is_some (option_or a b) ≡ (is_some a || is_some b)
-some_or None b = refl
-some_or (Some x) b = refl
-
-pub any_due : (P : List Entry) (moment : ℕ) (xs : List ℕ) → is_some (first_some (rule_of (Expires moment) P) xs) ≡ list_any (is_due_at P moment) xs
-any_due P moment [] = refl
-any_due P moment (x ∷ xs) = some_or (timeout_at P moment x) (first_some (rule_of (Expires moment) P) xs) ∙ rw (due_some P moment x, any_due P moment xs) refl
 
 -- The least call in transfer
 

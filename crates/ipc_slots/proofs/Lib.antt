@@ -26,7 +26,5 @@ pub mod Lasts
 pub mod Answering
 pub mod SlotSums
 pub mod Concerns
-pub mod Nears
-pub mod Calms
 pub mod Changed
 pub mod Naming

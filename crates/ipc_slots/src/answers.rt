@@ -1,11 +1,9 @@
-ghost use Rattle.std.specs.Prelude.{◌≡◌, ◌-◌, ◌↔◌, ◌<◌, min, Some, None, IsNone, IfSome, IsTrue};
-ghost use Rattle.std.specs.List.{list_any};
+ghost use Rattle.std.specs.Prelude.{◌≡◌, ◌-◌, ◌↔◌, ◌<◌, min, Some, None, IsNone, IfSome};
 ghost use Rattle.ipc_words.specs.Limits.{block_bytes};
 ghost use Rattle.ipc_history.specs.Blocks.{block_of};
-ghost use Rattle.ipc_history.specs.Calls.{numbers, calls_made};
+ghost use Rattle.ipc_history.specs.Calls.{calls_made};
 ghost use Rattle.ipc_history.specs.Threads.{now, is_taken, next_version};
 ghost use Rattle.ipc_history.specs.Phases.{open_call};
-ghost use Rattle.ipc_history.specs.Timing.{is_due_at};
 ghost use Rattle.ipc_history.specs.NextOutput.{timeout_of, next_output};
 ghost use Rattle.ipc_history.specs.Legal.{Legal, next_moving};
 ghost use Rattle.ipc_laws.specs.Counting.{live_threads};
@@ -106,15 +104,6 @@ impl Slots {
             Some(output) => Some(output),
             None => self.waiting_output(entries),
         }
-    }
-
-    /// Whether a waiting phase is due at a moment.
-    pub fn is_any_due_at(&self, entries: &[Entry], moment: u64) -> bool
-        requires legal { Legal entries.now }
-        requires stands { Stands entries.now self.now }
-        ensures { result ≡ list_any (is_due_at entries.now moment) (numbers entries.now) }
-    {
-        self.least(entries, &Rule::Expires(moment)).is_some()
     }
 
     /// The least call in transfer.

@@ -1,7 +1,6 @@
 -- Queues and candidates in step with the slots.
 use Rattle.std.proofs.lemmas.Bool.{false≢true, or_cases, or_left, or_right}
-use Rattle.std.proofs.Common.{◌≡◌, refl, sym, ap, ◌∙◌, subst, ℕ, ◌<◌, ◌||◌, ◌==◌, eqb-true, Bool, true, false, List, [], ◌∷◌, ◌++◌, Option, Some, None, IfSome, inl, inr, arith, if◌then◌else◌}
-use Rattle.std.specs.Option.{option_map_or}
+use Rattle.std.proofs.Common.{◌≡◌, refl, sym, ap, ◌∙◌, subst, ℕ, ◌||◌, ◌==◌, eqb-true, Bool, true, false, List, [], ◌∷◌, ◌++◌, Option, Some, None, inl, inr, arith, if◌then◌else◌}
 use Rattle.ipc_words.specs.ThreadId.{number_of}
 use Rattle.ipc_history.specs.Calls.{caller_of}
 use Rattle.ipc_history.specs.Entries.{names}
@@ -39,16 +38,6 @@ record HaveAll (calls : ℕ → Option Standing) (waits : Waits) : Type 0 where
   senders : HasAll sends_under calls waits.senders
   watchers : HasAll watches_under calls waits.watchers
   deadlines : HasAll due_under calls waits.deadlines
-
-has_at : (key_of : Standing → Option ℕ) (calls : ℕ → Option Standing) (waits : List Wait) (place : ℕ) → HasAll key_of calls waits → HasAt key_of waits place (calls place)
-has_at key_of calls waits place has w here = has w ∙ ap (λ k. is_of key_of (calls k) w) here
-
-have_at : (calls : ℕ → Option Standing) (waits : Waits) (place : ℕ) → HaveAll calls waits → HaveAt waits place (calls place)
-have_at calls waits place have = record {
-  senders = has_at _ calls waits.senders place have.senders;
-  watchers = has_at _ calls waits.watchers place have.watchers;
-  deadlines = has_at _ calls waits.deadlines place have.deadlines;
-}
 
 -- the calls where the one of a place is another
 abbrev changed_at : ℕ → Option Standing → (ℕ → Option Standing) → ℕ → Option Standing

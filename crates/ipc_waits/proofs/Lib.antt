@@ -6,15 +6,12 @@ pub mod Distinct
 pub mod Edits
 pub mod Here
 pub mod Leasts
-pub mod Dues
 pub mod Laws
 pub mod CandidateLemmas
 pub mod Following
 pub mod Bests
 pub mod WaitLists
-pub mod WaitPlaces
 pub mod WaitKeys
 pub mod WaitFacts
-pub mod LeastDue
 pub mod Touches
 pub mod Meetings

@@ -1,6 +1,6 @@
 -- The same wait, and which waits are in a list.
-use Rattle.std.proofs.Common.{◌≡◌, refl, sym, ap, ◌∙◌, ℕ, ◌<◌, Bool, true, false, cond, ◌&&◌, ◌||◌, eq-eqb, eqb-true, List, [], ◌∷◌, ◌++◌, length, get_or, filter, inl, inr, arith}
-use Rattle.std.proofs.lemmas.Bool.{and_from, and_left, and_parts, and_right, false≢true, or_cases, or_from, or_left, or_parts, or_right}
+use Rattle.std.proofs.Common.{◌≡◌, refl, sym, ap, ◌∙◌, ℕ, ◌<◌, Bool, true, false, cond, ◌||◌, eq-eqb, eqb-true, List, [], ◌∷◌, ◌++◌, length, get_or, filter, inl, inr, arith}
+use Rattle.std.proofs.lemmas.Bool.{and_from, and_parts, and_right, false≢true, or_cases, or_from, or_left, or_parts, or_right}
 use Rattle.std.proofs.lemmas.List.Folds.{list_any-append, list_any_at}
 use Rattle.ipc_waits.specs.Queues.{is_in, is_placed, is_same}
 use Rattle.ipc_waits.specs.declared.queue.Wait.{Wait}
@@ -59,14 +59,3 @@ unplaced [] w none = refl
 unplaced (x ∷ xs) w none =
     let parts = or_parts _ _ none in
     or_from _ _ (and_right _ _ (eqb_sym w.place x.place ∙ parts.0)) (unplaced xs w parts.1)
-
--- the waits that a test keeps
-pub in_kept_by : (p : Wait → Bool) (ws : List Wait) (w : Wait) → is_in (filter p ws) w ≡ (p w && is_in ws w)
-in_kept_by p [] w = grind arith
-in_kept_by p (x ∷ xs) w = go (in_kept_by p xs w) (p x) refl (is_same w x) refl
-  where
-    go : is_in (filter p xs) w ≡ (p w && is_in xs w) → (a : Bool) → p x ≡ a → (s : Bool) → is_same w x ≡ s → is_in (cond a (x ∷ filter p xs) (filter p xs)) w ≡ (p w && (is_same w x || is_in xs w))
-    go rest true passes true same = (let at : p w ≡ true = ap p (same_is w x same) ∙ passes in or_left _ _ same ∙ sym (and_from _ _ at (or_left _ _ same)))
-    go rest true passes false other = ap (λ b. b || is_in (filter p xs) w) other ∙ rest ∙ ap (λ b. p w && (b || is_in xs w)) (sym other)
-    go rest false fails true same = (let at : p w ≡ false = ap p (same_is w x same) ∙ fails in rest ∙ and_left _ _ at ∙ sym (and_left _ _ at))
-    go rest false fails false other = rest ∙ ap (λ b. p w && (b || is_in xs w)) (sym other)

@@ -1,14 +1,13 @@
 -- What the queues say of a history.
 use Rattle.std.proofs.lemmas.Bool.{false≢true, false_from_ne_true}
 use Rattle.std.proofs.lemmas.Option.{cond_some}
-use Rattle.std.proofs.Common.{All, ◌≡◌, refl, sym, ap, ◌∙◌, subst, ℕ, ◌-◌, ◌^◌, ◌<◌, ◌≤◌, ◌==◌, ◌&&◌, eq-eqb, eqb-true, nat_le, Bool, true, false, List, Option, Some, None, option_map, find, not, map, arith}
+use Rattle.std.proofs.Common.{◌≡◌, refl, sym, ap, ◌∙◌, subst, ℕ, ◌-◌, ◌^◌, ◌<◌, ◌≤◌, ◌==◌, ◌&&◌, eq-eqb, eqb-true, nat_le, Bool, true, false, List, Option, Some, None, map, arith}
 use Rattle.std.specs.List.{list_any}
 use Rattle.std.specs.Option.{option_map_or}
 use Rattle.ipc_words.specs.ThreadId.{anythread, anylocalthread, number_of}
 use Rattle.ipc_history.specs.Calls.{numbers, caller_of, to_of}
 use Rattle.ipc_history.specs.Threads.{is_live}
-use Rattle.ipc_history.specs.Phases.{is_over, is_sending, is_receiving}
-use Rattle.ipc_history.specs.Matching.{accepts, shown_sender}
+use Rattle.ipc_history.specs.Phases.{is_over, is_sending}
 use Rattle.ipc_history.specs.Timing.{is_due_at}
 use Rattle.ipc_history.specs.Legal.{Legal}
 use Rattle.ipc_history.specs.declared.entry.Entry.{Entry}
@@ -16,11 +15,10 @@ use Rattle.ipc_laws.proofs.Places.{any_at, any_place}
 use Rattle.ipc_laws.proofs.PhaseParts.{sends_parts}
 use Rattle.ipc_laws.proofs.Steps.{number_of_open}
 use Rattle.ipc_laws.proofs.Tests.{both, left, right}
-use Rattle.ipc_candidates.specs.Candidates.{is_among, senders, sends_to, source_of, watches}
-use Rattle.ipc_candidates.proofs.Among.{numbers_rise, open_among}
-use Rattle.ipc_candidates.proofs.AtPlaces.{source_is_sender}
+use Rattle.ipc_candidates.specs.Candidates.{is_among, senders, sends_to, watches}
+use Rattle.ipc_candidates.proofs.Among.{open_among}
 use Rattle.ipc_candidates.proofs.Kept.{due_at_open}
-use Rattle.ipc_candidates.proofs.Lists.{among_filtered, rising_filter}
+use Rattle.ipc_candidates.proofs.Lists.{among_filtered}
 use Rattle.ipc_slots.specs.Slots.{Stands, slot_at}
 use Rattle.ipc_slots.specs.Standings.{standing_of}
 use Rattle.ipc_slots.specs.Steps.{standing_in}
@@ -29,10 +27,10 @@ use Rattle.ipc_slots.specs.declared.slots.Slots.{Slots}
 use Rattle.ipc_slots.proofs.Holders.{call_of_slot, slot_of_call}
 use Rattle.ipc_slots.proofs.ThreadSteps.{live_within}
 use Rattle.ipc_waits.specs.Keys.{Mirrors, due_under, is_of, sends_under, watches_under}
-use Rattle.ipc_waits.specs.Queues.{IsOrdered, is_in, under, until}
+use Rattle.ipc_waits.specs.Queues.{is_in, under, until}
 use Rattle.ipc_waits.specs.declared.queue.Wait.{Wait}
 use Rattle.ipc_waits.proofs.WaitKeys.{due_key, due_reaches, sends_key, watches_key, watches_open}
-use Rattle.ipc_waits.proofs.WaitLists.{all_in, any_in, find_mapped, in_any, in_filter, in_map, of_map, rising_sorted, same_find, under_sorted}
+use Rattle.ipc_waits.proofs.WaitLists.{any_in, in_any, in_filter, in_map, of_map}
 
 -- the open call that a wait is of
 pub record IsWaitOf (P : List Entry) (key_of : Standing → Option ℕ) (w : Wait) : Type 0 where
@@ -94,9 +92,6 @@ module _ (P : List Entry) (slots : Slots) (legal : Legal P) (stands : Stands P s
   pub has_under : (n t : ℕ) → is_over P n ≡ false → key_of (standing_of P n) ≡ Some t → is_in (under t ws) (wait_for P n t) ≡ true
   has_under n t o e = in_filter (λ w. w.key == t) ws (wait_for P n t) ∙ both _ _ (eq-eqb t t refl) (has_wait n t o e)
 
-  pub each_under : (t : ℕ) → All (IsWaitOf P key_of) (under t ws)
-  each_under t = all_in (IsWaitOf P key_of) (under t ws) (λ w there. wait_of w (under_is t w there).1)
-
 -- The waiting sends
 
 module _ (P : List Entry) (slots : Slots) (legal : Legal P) (stands : Stands P slots) (ws : List Wait) (mirrors : Mirrors sends_under slots.table ws) where
@@ -131,14 +126,6 @@ module _ (P : List Entry) (slots : Slots) (legal : Legal P) (stands : Stands P s
       from among =
           let sends : sends_to P n t ≡ true = left _ (is_among (numbers P) n) (sym passing ∙ among) in
           in_map (λ w. w.number) (under t ws) (wait_for P n t) (sender_waits n t sends)
-
-  -- and the first that passes a test is the first sender that does
-  pub first_sender : (t : ℕ) (test : ℕ → Bool) → IsOrdered ws → option_map (λ w. w.number) (find (λ w. test w.number) (under t ws)) ≡ find test (senders P t)
-  first_sender t test ordered = find_mapped (λ w. w.number) test (under t ws) ∙ same_find test _ _ (under_sorted t ws ordered) (rising_sorted (senders P t) (rising_filter (λ n. sends_to P n t) (numbers P) (numbers_rise P legal))) (λ n. senders_are n t)
-
-  -- so that is the source of a receiving call
-  pub source_waits : (m : ℕ) → is_receiving P m ≡ true → IsOrdered ws → source_of P m ≡ option_map (λ w. w.number) (find (λ w. not (to_of P w.number == caller_of P w.number) && accepts P m (shown_sender P w.number)) (under (caller_of P m) ws))
-  source_waits m receives ordered = source_is_sender P m receives ∙ sym (first_sender (caller_of P m) (λ k. not (to_of P k == caller_of P k) && accepts P m (shown_sender P k)) ordered)
 
 -- The watchers
 
@@ -186,12 +173,6 @@ module _ (P : List Entry) (slots : Slots) (legal : Legal P) (stands : Stands P s
   wait_is_due moment early w there =
       let wait = wait_of P slots legal stands due_under ws mirrors w there in
       due_key P legal w.number wait.opened moment early ∙ ap (λ o. option_map_or (λ key. nat_le key moment) o false) wait.key
-
-  pub until_is_due : (moment : ℕ) → moment < 2 ^ 64 - 1 → (w : Wait) → is_in (until moment ws) w ≡ true → IsWaitOf P due_under w × (is_due_at P moment w.number ≡ true)
-  until_is_due moment early w there =
-      let parts : (nat_le w.key moment && is_in ws w) ≡ true = sym (in_filter (λ w. nat_le w.key moment) ws w) ∙ there in
-      let at : is_in ws w ≡ true = right (nat_le w.key moment) (is_in ws w) parts in
-      (wait_of P slots legal stands due_under ws mirrors w at, wait_is_due moment early w at ∙ left (nat_le w.key moment) (is_in ws w) parts)
 
   pub any_is_due : (moment : ℕ) → moment < 2 ^ 64 - 1 → list_any (λ w. nat_le w.key moment) ws ≡ list_any (is_due_at P moment) (numbers P)
   any_is_due moment early = same_tests _ _ to from

@@ -1,7 +1,6 @@
 -- The best of the calls at some places.
 use Rattle.std.proofs.lemmas.Bool.{false≢true, or_cases}
-use Rattle.std.proofs.lemmas.Option.{none-some, same_Some}
-use Rattle.std.proofs.Common.{◌≡◌, refl, sym, ap, ◌∙◌, subst, ℕ, zero, suc, ◌+◌, ◌<◌, ◌==◌, eqb-true, Bool, true, false, List, [], ◌∷◌, length, map, get_or, Option, Some, None, option_map, inl, inr, arith}
+use Rattle.std.proofs.Common.{◌≡◌, refl, sym, ap, ◌∙◌, subst, ℕ, zero, suc, ◌+◌, ◌<◌, ◌==◌, eqb-true, true, false, List, [], ◌∷◌, length, get_or, Option, Some, None, option_map, inl, inr, arith}
 use Rattle.ipc_words.specs.ThreadId.{number_of}
 use Rattle.ipc_history.specs.Words.{first_some}
 use Rattle.ipc_history.specs.Calls.{numbers, caller_of}
@@ -18,7 +17,6 @@ use Rattle.ipc_slots.specs.Standings.{standing_of}
 use Rattle.ipc_slots.specs.Steps.{standing_in}
 use Rattle.ipc_slots.specs.declared.rules.Rule.{Rule}
 use Rattle.ipc_slots.specs.declared.slot.Slot.{Slot}
-use Rattle.ipc_slots.specs.declared.slot.Standing.{Standing}
 use Rattle.ipc_slots.specs.declared.slots.Slots.{Slots}
 use Rattle.ipc_slots.proofs.Betters.{least_better}
 use Rattle.ipc_slots.proofs.Holders.{slot_of_call}

@@ -1,14 +1,14 @@
 -- The meetings under the calls at some places.
 use Rattle.std.proofs.lemmas.Bool.{cases_order, false≢true, or_left, or_right}
 use Rattle.std.proofs.lemmas.Option.{none-some, same_Some}
-use Rattle.std.proofs.Common.{All, ◌≡◌, refl, sym, ap, ap₂, ◌∙◌, subst, ℕ, zero, suc, ◌+◌, ◌<◌, ◌==◌, ◌&&◌, eq-eqb, Bool, true, false, not, List, [], ◌∷◌, length, map, get_or, drop, Option, Some, None, find, is_some, option_map, option_and_then, eqb-true, cond, ◌≤◌, inl, inr, arith, if◌then◌else◌}
+use Rattle.std.proofs.Common.{All, ◌≡◌, refl, sym, ap, ◌∙◌, subst, ℕ, zero, suc, ◌+◌, ◌<◌, ◌==◌, ◌&&◌, Bool, true, false, not, List, [], ◌∷◌, length, map, get_or, drop, Option, Some, None, find, is_some, option_map, option_and_then, eqb-true, cond, ◌≤◌, inl, inr, arith, if◌then◌else◌}
 use Rattle.std.proofs.lemmas.List.{drop_all}
 use Rattle.std.specs.Option.{option_map_or, option_or}
 use Rattle.ipc_words.specs.ThreadId.{number_of}
 use Rattle.ipc_history.specs.Words.{first_some}
 use Rattle.ipc_history.specs.Calls.{numbers, caller_of, to_of}
 use Rattle.ipc_history.specs.Legal.{Legal}
-use Rattle.ipc_history.specs.Matching.{accepts, match_of, shown_sender}
+use Rattle.ipc_history.specs.Matching.{accepts, shown_sender}
 use Rattle.ipc_history.specs.NextOutput.{meeting, meeting_of}
 use Rattle.ipc_history.specs.Phases.{is_over, is_receiving, is_sending, open_call}
 use Rattle.ipc_history.specs.declared.entry.Entry.{Entry}

@@ -1,17 +1,16 @@
 -- What an entry touches is named by it, or waits in a queue.
 use Rattle.std.proofs.lemmas.Bool.{false≢true}
 use Rattle.std.proofs.lemmas.Option.{none-some, same_Some}
-use Rattle.std.proofs.Common.{◌≡◌, sym, ap, ◌∙◌, subst, ℕ, ◌==◌, ◌||◌, eqb-true, Bool, true, false, refl, List, [], Option, Some, None, map, arith}
+use Rattle.std.proofs.Common.{◌≡◌, sym, subst, ℕ, ◌||◌, eqb-true, Bool, true, false, refl, List, [], Some, None, map, arith}
 use Rattle.ipc_words.specs.ThreadId.{number_of}
 use Rattle.ipc_history.specs.Calls.{caller_of, numbers}
 use Rattle.ipc_history.specs.Entries.{breaks, moment_in, names}
 use Rattle.ipc_history.specs.Legal.{Follows, Legal, Quiet, is_admissible}
 use Rattle.ipc_history.specs.NextOutput.{next_output}
 use Rattle.ipc_history.specs.Phases.{is_over}
-use Rattle.ipc_history.specs.Threads.{is_live}
 use Rattle.ipc_history.specs.Timing.{is_due_at}
 use Rattle.ipc_history.specs.declared.entry.Entry.{Entry}
-use Rattle.ipc_history.specs.declared.entry.Entry.TheVariants.{Given, Written}
+use Rattle.ipc_history.specs.declared.entry.Entry.TheVariants.{Given}
 use Rattle.ipc_history.specs.declared.entry.Input.{Input}
 use Rattle.ipc_history.specs.declared.entry.Input.TheVariants.{At, Broke}
 use Rattle.ipc_laws.proofs.Tests.{not_both}

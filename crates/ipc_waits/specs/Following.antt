@@ -1,5 +1,5 @@
 -- Queues and candidates in step with slots.
-use Rattle.std.specs.Prelude.{◌≡◌, ◌<◌, List, Option, Some, None, IfSome}
+use Rattle.std.specs.Prelude.{◌≡◌, ◌<◌, Option, None, IfSome}
 use Rattle.ipc_words.specs.Limits.{table_slots}
 use Rattle.ipc_slots.specs.Slots.{slot_at}
 use Rattle.ipc_slots.specs.Steps.{standing_in}

@@ -1,4 +1,4 @@
-use Rattle.std.proofs.Common.{◌≡◌, sym, ap, subst, ◌∙◌, option_map}
+use Rattle.std.proofs.Common.{sym, ap, subst, ◌∙◌, option_map}
 use Rattle.ipc_slots.specs.Rules.{rule_of}
 use Rattle.ipc_waits.specs.Next.{IsBest}
 use Rattle.ipc_waits.proofs.Bests.{best_is}

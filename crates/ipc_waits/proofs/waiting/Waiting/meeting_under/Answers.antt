@@ -1,9 +1,8 @@
-use Rattle.std.proofs.Common.{All, ◌≡◌, ◌∙◌, sym, ap, subst, map, List}
+use Rattle.std.proofs.Common.{All, ◌≡◌, ◌∙◌, sym, ap, subst, map}
 use Rattle.ipc_history.specs.Calls.{caller_of}
 use Rattle.ipc_history.specs.Words.{first_some}
 use Rattle.ipc_waits.specs.Next.{IsOpenAt, meeting_by}
 use Rattle.ipc_waits.specs.Queues.{IsOrdered, under}
-use Rattle.ipc_waits.specs.declared.queue.Wait.{Wait}
 use Rattle.ipc_waits.proofs.Meetings.{caller_is, own_meeting, receives, receives_not, senders_open, under_meets}
 use Rattle.ipc_waits.proofs.waiting.Waiting.meeting_under.Goals as goal
 

@@ -1,5 +1,4 @@
-use Rattle.std.proofs.Common.{[], ◌∙◌, ap, sym, subst}
-use Rattle.ipc_candidates.specs.Candidates.{CoversAt}
+use Rattle.std.proofs.Common.{[], ◌∙◌, ap}
 use Rattle.ipc_candidates.proofs.AtPlaces.{quiet_covers_at}
 use Rattle.ipc_slots.specs.Steps.{standing_in}
 use Rattle.ipc_waits.proofs.Laws.{no_calls}

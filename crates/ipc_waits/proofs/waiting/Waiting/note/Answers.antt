@@ -1,5 +1,4 @@
-use Rattle.std.proofs.Common.{sym, ap, subst}
-use Rattle.ipc_slots.specs.Changes.{HaveChanged}
+use Rattle.std.proofs.Common.{sym, subst}
 use Rattle.ipc_waits.specs.Keys.{AreWaits}
 use Rattle.ipc_waits.proofs.Following.{noted}
 use Rattle.ipc_waits.proofs.waiting.Waiting.note.Goals as goal

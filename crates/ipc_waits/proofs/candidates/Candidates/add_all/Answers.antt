@@ -1,4 +1,4 @@
-use Rattle.std.proofs.Common.{refl, ◌<◌}
+use Rattle.std.proofs.Common.{◌<◌}
 use Rattle.std.proofs.lemmas.List.Elements.{All-get_or}
 use Rattle.ipc_words.specs.Limits.{table_slots}
 use Rattle.ipc_waits.proofs.CandidateLemmas.{added_all, added_more, added_none}

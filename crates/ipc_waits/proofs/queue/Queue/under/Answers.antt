@@ -1,7 +1,7 @@
 use Rattle.std.proofs.lemmas.List.Elements.{All-filter}
 use Rattle.std.proofs.Common.{All, ◌<◌}
 use Rattle.ipc_words.specs.Limits.{table_slots}
-use Rattle.std.proofs.Common.{◌∙◌, ◌-◌, ap, subst, sym, filter, nat_le}
+use Rattle.std.proofs.Common.{◌∙◌, ap, subst, sym, filter, nat_le}
 use Rattle.std.proofs.lemmas.List.{take_rest}
 use Rattle.ipc_waits.specs.Queues.{IsOrdered}
 use Rattle.ipc_waits.proofs.Orders.{ordered_filter}

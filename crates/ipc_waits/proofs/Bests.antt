@@ -43,7 +43,7 @@ best_more f table places i place d best within is least =
     let there : slot_at (slots_at table places) i ≡ slot_at table place = slot_there table places i d within ∙ ap (slot_at table) (sym is) in
     subst (λ slot. IsLeast f (slots_at table places) (i + 1) (better_of f (standing_in slot) best)) there (least_better f (slots_at table places) i best least)
 
-standing_number : (P : List Entry) (n : ℕ) → (standing_of P n).number ≡ n
+pub standing_number : (P : List Entry) (n : ℕ) → (standing_of P n).number ≡ n
 unfolding standing_of
 standing_number P n = refl
 

@@ -1,5 +1,5 @@
 -- Places, each once, are few.
-use Rattle.std.proofs.lemmas.Bool.{false≢true, false_from_ne_true, or_cases}
+use Rattle.std.proofs.lemmas.Bool.{false≢true, or_cases}
 use Rattle.std.proofs.lemmas.List.{length-append, map-append, take_all, take_more}
 use Rattle.std.proofs.lemmas.List.Folds.{list_any-append}
 use Rattle.std.proofs.lemmas.List.Elements.{All-head, All-nil, All-push, All-tail}
@@ -10,19 +10,12 @@ use Rattle.std.specs.Cmp.{IsEquivalence}
 use Rattle.std.specs.Prelude.{All}
 use Rattle.std.specs.List.{IsDistinct, list_any}
 use Rattle.ipc_candidates.specs.Candidates.{is_among}
-use Rattle.ipc_laws.proofs.Tests.{not_both}
 use Rattle.ipc_words.specs.Limits.{table_slots}
 use Rattle.ipc_waits.specs.Candidates.{ArePlaces, with_place}
 use Rattle.ipc_waits.specs.declared.queue.Wait.{Wait}
+use Rattle.ipc_waits.proofs.Numbers.{eqb_sym}
 
 -- equal numbers
-pub eqb_sym : (x y : ℕ) → (x == y) ≡ (y == x)
-eqb_sym x y = go (x == y) refl
-  where
-    go : (b : Bool) → (x == y) ≡ b → (x == y) ≡ (y == x)
-    go true e = e ∙ sym (eq-eqb y x (sym (eqb-true x y e)))
-    go false e = e ∙ sym (false_from_ne_true (y == x) (λ t. not_both (eq-eqb x y (sym (eqb-true y x t))) e))
-
 eqb_equivalence : IsEquivalence (λ (a b : ℕ). a == b)
 eqb_equivalence = record { refl = λ x. eq-eqb x x refl; symm = eqb_sym; congr = λ x y z same. ap (λ w. w == z) (eqb-true x y same) }
 

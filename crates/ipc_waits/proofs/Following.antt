@@ -24,7 +24,8 @@ use Rattle.ipc_waits.specs.Waiting.{IsTouched, IsWaiting}
 use Rattle.ipc_waits.specs.declared.queue.Wait.{Wait}
 use Rattle.ipc_waits.specs.declared.waiting.Waiting.{Waiting}
 use Rattle.ipc_waits.specs.declared.waits.Waits.{Waits}
-use Rattle.ipc_waits.proofs.CandidateLemmas.{among_with, eqb_sym}
+use Rattle.ipc_waits.proofs.CandidateLemmas.{among_with}
+use Rattle.ipc_waits.proofs.Numbers.{eqb_sym}
 
 -- the open call of each place
 abbrev calls_in : List Slot → ℕ → Option Standing

@@ -38,13 +38,10 @@ use Rattle.ipc_waits.specs.Keys.{Mirrors, sends_under}
 use Rattle.ipc_waits.specs.Next.{IsLeastMeeting, IsOpenAt, better_meeting, meeting_by, meeting_under, slots_at}
 use Rattle.ipc_waits.specs.Queues.{IsOrdered, is_in, is_same, under}
 use Rattle.ipc_waits.specs.declared.queue.Wait.{Wait}
-use Rattle.ipc_waits.proofs.Bests.{seen_there, slot_there}
+use Rattle.ipc_waits.proofs.Bests.{seen_there, slot_there, standing_number}
 use Rattle.ipc_waits.proofs.WaitFacts.{sender_is, senders_are, under_is, wait_of}
-use Rattle.ipc_waits.proofs.WaitLists.{IsSorted, all_in, find_mapped, rising_sorted, same_find, same_self, under_sorted, under_twice}
-
-standing_number : (P : List Entry) (n : ℕ) → (standing_of P n).number ≡ n
-unfolding standing_of
-standing_number P n = refl
+use Rattle.ipc_waits.proofs.Sames.{same_itself}
+use Rattle.ipc_waits.proofs.WaitLists.{IsSorted, all_in, find_mapped, rising_sorted, same_find, under_sorted, under_twice}
 
 -- The best of the meetings
 
@@ -167,7 +164,7 @@ firsts P test [] same = refl
 firsts P test (x ∷ ws) same = go (meeting_by P x.number) refl (test x.number) refl (firsts P test ws (λ w there. same w (or_right (is_same w x) _ there)))
   where
     here : is_some (meeting_by P x.number) ≡ test x.number
-    here = same x (or_left (is_same x x) _ (same_self x))
+    here = same x (or_left (is_same x x) _ (same_itself x))
 
     go : (o : Option (ℕ × Output)) → meeting_by P x.number ≡ o → (b : Bool) → test x.number ≡ b → first_some (meeting_by P) (map (λ w. w.number) ws) ≡ option_and_then (meeting_by P) (option_map (λ w. w.number) (find (λ w. test w.number) ws)) → option_or o (first_some (meeting_by P) (map (λ w. w.number) ws)) ≡ option_and_then (meeting_by P) (option_map (λ w. w.number) (cond b (Some x) (find (λ w. test w.number) ws)))
     go (Some m) e true f later = sym e

@@ -10,16 +10,7 @@ use Rattle.ipc_candidates.specs.Candidates.{IsRising, is_among}
 use Rattle.ipc_candidates.proofs.Among.{find_least}
 use Rattle.ipc_waits.specs.Queues.{IsOrdered, comes_before, is_in, is_same, under}
 use Rattle.ipc_waits.specs.declared.queue.Wait.{Wait}
-
-pub same_self : (w : Wait) → is_same w w ≡ true
-same_self w = both _ _ (both _ _ (eq-eqb w.key w.key refl) (eq-eqb w.number w.number refl)) (eq-eqb w.place w.place refl)
-
-pub same_is : (a b : Wait) → is_same a b ≡ true → a ≡ b
-same_is a b h =
-    let key = eqb-true a.key b.key (left _ _ (left _ _ h)) in
-    let number = eqb-true a.number b.number (right _ _ (left _ _ h)) in
-    let place = eqb-true a.place b.place (right _ _ h) in
-    (λ i. record { key = key i; number = number i; place = place i })
+use Rattle.ipc_waits.proofs.Sames.{same_is, same_itself}
 
 -- What is in a list
 
@@ -32,11 +23,11 @@ in_any test (x ∷ ws) w h passes = elim (or_cases (is_same w x) (is_in ws w) h)
 
 pub any_in : (test : Wait → Bool) (ws : List Wait) → list_any test ws ≡ true → (w : Wait) × (is_in ws w ≡ true) × (test w ≡ true)
 any_in test [] h = absurd (false≢true h)
-any_in test (x ∷ ws) h = elim (or_cases (test x) (list_any test ws) h) [ inl here ↦ (x, or_left (is_same x x) _ (same_self x), here) | inr behind ↦ (let w = any_in test ws behind in (w.0, or_right (is_same w.0 x) _ w.1, w.2)) ]
+any_in test (x ∷ ws) h = elim (or_cases (test x) (list_any test ws) h) [ inl here ↦ (x, or_left (is_same x x) _ (same_itself x), here) | inr behind ↦ (let w = any_in test ws behind in (w.0, or_right (is_same w.0 x) _ w.1, w.2)) ]
 
 pub all_in : (X : Wait → Type 0) (ws : List Wait) → ((w : Wait) → is_in ws w ≡ true → X w) → All X ws
 all_in X [] h = All-nil X
-all_in X (x ∷ ws) h = All-cons X x ws (h x (or_left (is_same x x) _ (same_self x))) (all_in X ws (λ w there. h w (or_right (is_same w x) _ there)))
+all_in X (x ∷ ws) h = All-cons X x ws (h x (or_left (is_same x x) _ (same_itself x))) (all_in X ws (λ w there. h w (or_right (is_same w x) _ there)))
 
 pub in_map : (f : Wait → ℕ) (ws : List Wait) (w : Wait) → is_in ws w ≡ true → is_among (map f ws) (f w) ≡ true
 in_map f [] w h = absurd (false≢true h)
@@ -44,7 +35,7 @@ in_map f (x ∷ ws) w h = elim (or_cases (is_same w x) (is_in ws w) h) [ inl sam
 
 pub of_map : (f : Wait → ℕ) (ws : List Wait) (k : ℕ) → is_among (map f ws) k ≡ true → (w : Wait) × (is_in ws w ≡ true) × (f w ≡ k)
 of_map f [] k h = absurd (false≢true h)
-of_map f (x ∷ ws) k h = elim (or_cases (f x == k) (is_among (map f ws) k) h) [ inl same ↦ (x, or_left (is_same x x) _ (same_self x), eqb-true (f x) k same) | inr behind ↦ (let w = of_map f ws k behind in (w.0, or_right (is_same w.0 x) _ w.1, w.2)) ]
+of_map f (x ∷ ws) k h = elim (or_cases (f x == k) (is_among (map f ws) k) h) [ inl same ↦ (x, or_left (is_same x x) _ (same_itself x), eqb-true (f x) k same) | inr behind ↦ (let w = of_map f ws k behind in (w.0, or_right (is_same w.0 x) _ w.1, w.2)) ]
 
 -- The first that passes
 

@@ -1,5 +1,5 @@
 -- The waits of the calls that the slots of a table hold.
-use Rattle.std.proofs.Common.{◌≡◌, refl, sym, ap, ◌∙◌, ℕ, Option, None, List, []}
+use Rattle.std.proofs.Common.{◌≡◌, sym, ap, ◌∙◌, ℕ, Option, None, List, []}
 use Rattle.ipc_slots.specs.Slots.{slot_at}
 use Rattle.ipc_slots.specs.Steps.{standing_in}
 use Rattle.ipc_slots.specs.declared.slot.Slot.{Slot}

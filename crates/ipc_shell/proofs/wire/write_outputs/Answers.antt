@@ -10,7 +10,7 @@ pub loop-turn-preserved : goal.loop-turn-preserved
 loop-turn-preserved c = λ parts shows.
     let (turns, within, written) = c.loop-turn.invariant parts shows in
     let next = next_written parts c.loop-turn.behind c.in-Some.connection (string_bytes c.args.text.now) (string_bytes c.loop-turn.text) (string_bytes c.write_output.new.text) c.loop-turn.exchange c.write_output.new.exchange
-        c.in-Some.ensures.some.0 c.in-Some.ensures.some.1 c.in-Some.ensures.first written c.in_ok-write_output.ensures in
+    c.in-Some.ensures.some.0 c.in-Some.ensures.some.1 c.in-Some.ensures.first written c.in_ok-write_output.ensures in
     (omega (arith, turns, c.in-Some.ensures.some.0), next.0, next.1)
 
 pub returns-in_default : goal.returns-in_default

@@ -7,7 +7,7 @@ use Rattle.ipc_history.specs.declared.entry.Output.{Output}
 use Rattle.ipc_slots.specs.Least.{IsFound, IsLeast, better_of, earlier}
 use Rattle.ipc_slots.specs.Slots.{slot_at}
 use Rattle.ipc_slots.specs.Steps.{standing_in}
-use Rattle.ipc_slots.specs.declared.slot.Slot.{Slot}
+use Rattle.ipc_slots.specs.Slot.{Slot}
 use Rattle.ipc_slots.specs.declared.slot.Standing.{Standing}
 
 -- the earlier one is no later than the one that came

@@ -32,7 +32,7 @@ use Rattle.ipc_slots.specs.Standings.{standing_of, since_of, phase_of, entered, 
 use Rattle.ipc_slots.specs.Slots.{Stands, slot_at, slot_of, live_of, live_at, blank}
 use Rattle.ipc_slots.specs.Steps.{calling}
 use Rattle.ipc_slots.specs.declared.slot.Phase.TheVariants.{Sending, Receiving}
-use Rattle.ipc_slots.specs.declared.slot.Slot.{Slot}
+use Rattle.ipc_slots.specs.Slot.{Slot}
 use Rattle.ipc_slots.specs.declared.slot.Standing.{Standing}
 use Rattle.ipc_slots.specs.declared.slots.Slots.{Slots}
 use Rattle.ipc_slots.proofs.Holders.{live_of_at, live_of_is}

@@ -18,7 +18,7 @@ use Rattle.ipc_laws.proofs.Tests.{neither_left, neither_right}
 use Rattle.ipc_slots.specs.Changes.{HaveChanged, change_at}
 use Rattle.ipc_slots.specs.Slots.{blank, slot_at}
 use Rattle.ipc_slots.specs.Steps.{Names, names_two, holds, standing_in}
-use Rattle.ipc_slots.specs.declared.slot.Slot.{Slot}
+use Rattle.ipc_slots.specs.Slot.{Slot}
 use Rattle.ipc_slots.proofs.MovedSteps.{passes}
 use Rattle.ipc_slots.proofs.Tables.{held}
 

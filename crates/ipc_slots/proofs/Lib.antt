@@ -5,6 +5,7 @@ pub mod PhaseSteps
 pub mod StandingSteps
 pub mod SlotSteps
 pub mod Tables
+pub mod SlotTables
 pub mod Starting
 pub mod Recents
 pub mod Holders

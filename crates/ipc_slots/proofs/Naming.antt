@@ -1,6 +1,6 @@
 -- The changes of an entry name the places of the calls that it names.
 use Rattle.std.proofs.lemmas.Bool.{or_cases, or_left, or_right}
-use Rattle.std.proofs.Common.{◌≡◌, refl, ap, ◌∙◌, subst, ℕ, ◌==◌, eq-eqb, eqb-true, true, false, List, [], ◌∷◌, ◌++◌, Some, None, ◌⊎◌, inl, inr}
+use Rattle.std.proofs.Common.{◌≡◌, ap, ◌∙◌, subst, ℕ, ◌==◌, eq-eqb, eqb-true, true, false, List, [], ◌∷◌, ◌++◌, Some, None, ◌⊎◌, inl, inr}
 use Rattle.ipc_words.specs.ThreadId.{number_of}
 use Rattle.ipc_history.specs.CallParts.{CallParts}
 use Rattle.ipc_history.specs.Calls.{caller_of}
@@ -16,7 +16,7 @@ use Rattle.ipc_laws.proofs.Growth.{caller_of_kept, open_is_called}
 use Rattle.ipc_slots.specs.Changes.{HasNamed, change_at, changes_at}
 use Rattle.ipc_slots.specs.Steps.{Names}
 use Rattle.ipc_slots.specs.declared.changes.Changes.{Changes}
-use Rattle.ipc_slots.specs.declared.slot.Slot.{Slot}
+use Rattle.ipc_slots.specs.Slot.{Slot}
 use Rattle.ipc_slots.proofs.CallSteps.{new_caller}
 use Rattle.ipc_slots.proofs.OutputCalls.{both_open}
 

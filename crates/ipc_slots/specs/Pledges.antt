@@ -5,7 +5,7 @@ use Rattle.ipc_words.specs.Limits.{pledge_of_open_call, pledge_of_block}
 use Rattle.ipc_words.specs.ThreadId.{nilthread}
 use Rattle.ipc_history.specs.Blocks.{blocks}
 use Rattle.ipc_slots.specs.Steps.{standing_in}
-use Rattle.ipc_slots.specs.declared.slot.Slot.{Slot}
+use Rattle.ipc_slots.specs.Slot.{Slot}
 use Rattle.ipc_slots.specs.declared.slot.Standing.{Standing}
 
 -- what an open call needs, and what each block of the bytes of its strings needs

@@ -189,7 +189,7 @@ impl Slots {
         ensures { result ≡ next_version entries.now number }
     {
         let _ = entries;
-        self.slot_of(number).version
+        self.table.next_version_of(number)
     }
 
     /// Whether a thread of the number is live.
@@ -199,7 +199,7 @@ impl Slots {
         ensures { result ≡ is_taken entries.now number }
     {
         let _ = entries;
-        self.slot_of(number).live.is_some()
+        self.table.is_taken(number)
     }
 
     /// How many calls were made.

@@ -71,7 +71,7 @@ impl Slots {
         ensures { result ≡ option_map (standing_of entries.now) (open_call entries.now thread) }
     {
         let _ = entries;
-        match self.live(thread) {
+        match self.table.live(thread) {
             Some(live) => live.call,
             None => None,
         }

@@ -1,6 +1,6 @@
 //! A table of the threads by their numbers.
-ghost use Rattle.std.specs.Prelude.{◌≡◌, ◌==◌, ◌<◌, ◌↔◌, ℕ, not, length, replicate, slice_set};
-ghost use Rattle.std.specs.Prelude.{IsNone, IsTrue, IsSome, IfErr, IfOk, OnOk, OnErr, None, Some};
+ghost use Rattle.std.specs.Prelude.{◌≡◌, ◌==◌, ◌<◌, ◌↔◌, ℕ, not, is_some, length, replicate, slice_set};
+ghost use Rattle.std.specs.Prelude.{IsNone, IsTrue, IsSome, IfErr, IfSome, IfOk, OnOk, OnErr, None, Some};
 ghost use Rattle.std.specs.Bool.{OnTrue, OnFalse};
 ghost use Rattle.ipc_words.specs.Limits.{table_slots};
 ghost use Rattle.ipc_words.specs.ThreadId.{id_of, number_of, version_of};
@@ -132,12 +132,34 @@ impl ThreadTable {
 
     /// The live thread of a number, if there is one.
     pub fn thread_of(&self, number: u32) -> Option<ThreadId>
-        ensures { result ≡ live_id_of self.now number }
+        ensures value { result ≡ live_id_of self.now number }
+        ensures number { IfSome result (λ id. number_of id ≡ number) }
+        ensures version { IfSome result (λ id. version_of id ≡ last_version_of self.now number) }
     {
         let slot = self.slots.get(number as usize)?;
         match slot.space {
             Some(_) => Some(id_of(number, slot.last)),
             None => None,
+        }
+    }
+
+    /// Whether a thread of a number is live.
+    pub fn is_taken(&self, number: u32) -> bool
+        ensures { result ≡ is_some (slot_of self.now number).space }
+    {
+        match self.slots.get(number as usize) {
+            Some(slot) => slot.space.is_some(),
+            None => false,
+        }
+    }
+
+    /// The last version of a number, 0 before its first.
+    pub fn last_version(&self, number: u32) -> u32
+        ensures { result ≡ last_version_of self.now number }
+    {
+        match self.slots.get(number as usize) {
+            Some(slot) => slot.last,
+            None => 0,
         }
     }
 

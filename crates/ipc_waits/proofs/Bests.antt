@@ -16,7 +16,7 @@ use Rattle.ipc_slots.specs.Slots.{Stands, slot_at}
 use Rattle.ipc_slots.specs.Standings.{standing_of}
 use Rattle.ipc_slots.specs.Steps.{standing_in}
 use Rattle.ipc_slots.specs.declared.rules.Rule.{Rule}
-use Rattle.ipc_slots.specs.declared.slot.Slot.{Slot}
+use Rattle.ipc_slots.specs.Slot.{Slot}
 use Rattle.ipc_slots.specs.declared.slots.Slots.{Slots}
 use Rattle.ipc_slots.proofs.Betters.{least_better}
 use Rattle.ipc_slots.proofs.Holders.{slot_of_call}

@@ -15,7 +15,7 @@ use Rattle.ipc_slots.specs.Slots.{Stands, slot_at}
 use Rattle.ipc_slots.specs.Steps.{standing_in}
 use Rattle.ipc_slots.specs.declared.changes.Change.{Change}
 use Rattle.ipc_slots.specs.declared.changes.Changes.{Changes}
-use Rattle.ipc_slots.specs.declared.slot.Slot.{Slot}
+use Rattle.ipc_slots.specs.Slot.{Slot}
 use Rattle.ipc_slots.specs.declared.slot.Standing.{Standing}
 use Rattle.ipc_waits.specs.Following.{FollowsChange}
 use Rattle.ipc_waits.specs.Keys.{AreWaits, HasAt, HaveAt, IsSameElsewhere, SameElsewhere, due_under, is_of, sends_under, watches_under}

@@ -2,7 +2,7 @@
 use Rattle.std.proofs.Common.{◌≡◌, sym, ap, ◌∙◌, ℕ, Option, None, List, []}
 use Rattle.ipc_slots.specs.Slots.{slot_at}
 use Rattle.ipc_slots.specs.Steps.{standing_in}
-use Rattle.ipc_slots.specs.declared.slot.Slot.{Slot}
+use Rattle.ipc_slots.specs.Slot.{Slot}
 use Rattle.ipc_slots.specs.declared.slot.Standing.{Standing}
 use Rattle.ipc_waits.specs.Keys.{AreWaits, Mirrors, is_of, due_under, sends_under, watches_under}
 use Rattle.ipc_waits.specs.Queues.{is_in}

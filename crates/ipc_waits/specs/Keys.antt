@@ -9,7 +9,7 @@ use Rattle.ipc_slots.specs.Slots.{slot_at}
 use Rattle.ipc_slots.specs.Steps.{standing_in}
 use Rattle.ipc_slots.specs.declared.slot.Phase.{Phase}
 use Rattle.ipc_slots.specs.declared.slot.Phase.TheVariants.{Sending, Receiving}
-use Rattle.ipc_slots.specs.declared.slot.Slot.{Slot}
+use Rattle.ipc_slots.specs.Slot.{Slot}
 use Rattle.ipc_slots.specs.declared.slot.Standing.{Standing}
 use Rattle.ipc_waits.specs.Queues.{is_in}
 use Rattle.ipc_waits.specs.declared.queue.Wait.{Wait}

@@ -11,7 +11,7 @@ use Rattle.ipc_candidates.specs.Candidates.{source_of}
 use Rattle.ipc_slots.specs.Least.{IsFound, IsLeast, earlier}
 use Rattle.ipc_slots.specs.Slots.{slot_at}
 use Rattle.ipc_slots.specs.Steps.{standing_in}
-use Rattle.ipc_slots.specs.declared.slot.Slot.{Slot}
+use Rattle.ipc_slots.specs.Slot.{Slot}
 use Rattle.ipc_slots.specs.declared.slot.Standing.{Standing}
 use Rattle.ipc_waits.specs.declared.queue.Wait.{Wait}
 

@@ -1,0 +1,5 @@
+use Rattle.ipc_slots.proofs.SlotTables.{from_blank}
+use Rattle.ipc_slots.proofs.table.SlotTable.new.Goals as goal
+
+pub returns : goal.returns
+returns c = rw c.new.ensures (from_blank 256 0)

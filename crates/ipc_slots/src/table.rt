@@ -1,0 +1,120 @@
+ghost use Rattle.std.specs.Prelude.{◌≡◌, ◌<◌, IsSome, is_some, option_copied, replicate, slice_set};
+ghost use Rattle.ipc_words.specs.Limits.{table_slots};
+ghost use Rattle.ipc_words.specs.ThreadId.{number_of};
+ghost use Rattle.ipc_slots.specs.Steps.{calling, standing_in};
+ghost use Rattle.ipc_slots.specs.Table.{MayOpen, blank, ended, fresh, live_in, slot_at};
+
+use crate::slot::{Live, Standing};
+use ipc_threads::ThreadTable;
+use ipc_words::limits::TABLE_SLOTS;
+use ipc_words::{ThreadId, next_version};
+use std::marker::Model;
+
+/// The threads by their numbers, each with its open call; seen as the list of the slots of the numbers 0 to 255.
+#[derive(Drop)]
+pub(crate) struct SlotTable {
+    threads: ThreadTable,
+    /// The open call of the live thread of each number. Nothing is said where none is live.
+    calls: [Option<Standing>; TABLE_SLOTS],
+}
+
+impl Model for SlotTable {
+    ghost use Rattle.std.specs.Prelude.{◌≡◌, List, length};
+    ghost use Rattle.ipc_words.specs.Limits.{table_slots};
+    ghost use Rattle.ipc_slots.specs.Slot.{Slot};
+    ghost use Rattle.ipc_slots.specs.Table.{slots_from};
+
+    ghost Value = { List Slot };
+
+    ghost view = { λ table. slots_from 0 table.threads table.calls };
+
+    ghost invariant = { λ table. (length table.threads ≡ table_slots) × (length table.calls ≡ table_slots) };
+}
+
+impl SlotTable {
+    /// A table of which no number had a thread yet.
+    pub(crate) fn new() -> SlotTable
+        ensures { result ≡ replicate table_slots blank }
+    {
+        SlotTable {
+            threads: ThreadTable::new(),
+            calls: [None; TABLE_SLOTS],
+        }
+    }
+
+    /// The version that the next thread of a number gets; None where the number is worn out.
+    pub(crate) fn next_version_of(&self, number: u32) -> Option<u32>
+        ensures { result ≡ (slot_at self.now number).version }
+    {
+        next_version(self.threads.last_version(number))
+    }
+
+    /// Whether a thread of the number is live.
+    pub(crate) fn is_taken(&self, number: u32) -> bool
+        ensures { result ≡ is_some (slot_at self.now number).live }
+    {
+        self.threads.is_taken(number)
+    }
+
+    /// The live thread of an id, with its open call.
+    pub(crate) fn live(&self, thread: ThreadId) -> Option<Live>
+        ensures { result ≡ live_in self.now thread }
+    {
+        let space = self.threads.space_of(thread)?;
+        Some(Live {
+            thread,
+            space: u64::from(space),
+            call: self.calls[thread.number() as usize],
+        })
+    }
+
+    /// The live thread of the number of a place, with its open call.
+    pub(crate) fn live_at(&self, place: usize) -> Option<Live>
+        requires { place < table_slots }
+        ensures { result ≡ (slot_at self.now place).live }
+    {
+        let thread = self.threads.thread_of(place as u32)?;
+        self.live(thread)
+    }
+
+    /// The open call of the live thread of a place, where it stands; None past the last place.
+    pub(crate) fn held(&self, place: usize) -> Option<&Standing>
+        ensures { option_copied result ≡ standing_in (slot_at self.now place) }
+    {
+        let call = self.calls.get(place)?;
+        if self.threads.is_taken(place as u32) {
+            call.as_ref()
+        } else {
+            None
+        }
+    }
+
+    /// Gives the thread of a place an open call, or none.
+    pub(crate) fn set_call(&mut self, place: usize, call: Option<Standing>)
+        requires { place < table_slots }
+        ensures { self.new ≡ slice_set self.old place (calling call (slot_at self.old place)) }
+    {
+        self.calls[place] = call;
+    }
+
+    /// Opens a thread, with no open call.
+    pub(crate) fn open(&mut self, thread: ThreadId, space: u64)
+        requires { MayOpen self.old thread space }
+        ensures { self.new ≡ slice_set self.old (number_of thread) (fresh thread space) }
+    {
+        let number = thread.number();
+        let Ok(_) = self.threads.open(number, space as u32) else {
+            unreachable!()
+        };
+        self.calls[number as usize] = None;
+    }
+
+    /// Ends a live thread.
+    pub(crate) fn close(&mut self, thread: ThreadId)
+        requires { IsSome (live_in self.old thread) }
+        ensures { self.new ≡ slice_set self.old (number_of thread) (ended (slot_at self.old (number_of thread))) }
+    {
+        self.threads.close(thread);
+        self.calls[thread.number() as usize] = None;
+    }
+}

@@ -27,6 +27,7 @@ use Rattle.ipc_laws.proofs.Settling.{legal_push}
 use Rattle.ipc_laws.proofs.Tests.{not_both}
 use Rattle.ipc_laws.proofs.ThreadChanges.{live_threads_push, has_broken_push, is_live_push}
 use Rattle.ipc_laws.proofs.WordLemmas.{first_some_push, option_or_none}
+use Rattle.ipc_slots.proofs.LiveSlots.{live_calling}
 use Rattle.ipc_slots.proofs.Silent.{Before, unnamed_front}
 use Rattle.ipc_slots.specs.Standings.{standing_of, since_of, phase_of, entered, entered_standing}
 use Rattle.ipc_slots.specs.Slots.{Stands, slot_at, slot_of, live_of, live_at, blank}
@@ -213,7 +214,7 @@ module _ (P : List Entry) (n t : ℕ) (call : CallParts) (legal : Legal P) (foll
     size = length-set slots.table (number_of t) _ ∙ stands.size;
     moment = stands.moment ∙ sym ((changes P e).moment);
     calls_made = numbered ∙ sym made_one;
-    live = stands.live ∙ sym (live_threads_push P e refl (λ t. refl) (λ t. refl));
+    live = live_calling slots.table (number_of t) (entered P n t call) ∙ stands.live ∙ sym (live_threads_push P e refl (λ t. refl) (λ t. refl));
     top = stands.top;
     above = λ k h. last_kept P e k refl ∙ stands.above k h;
     table = λ k. elim (cases_eq k (number_of t)) [ inl is ↦ rw is (get_or-set_same slots.table (number_of t) (calling (entered P n t call) (slot_at slots.table (number_of t))) blank (rw stands.size within) ∙ (ap (calling (entered P n t call)) (stands.table (number_of t)) ∙ sym slot_called)) | inr p ↦ get_or-set_other slots.table (number_of t) k (calling (entered P n t call) (slot_at slots.table (number_of t))) blank p ∙ (stands.table k ∙ sym (slot_beside k (λ g. p (sym g)))) ];

@@ -6,6 +6,7 @@ pub mod StandingSteps
 pub mod SlotSteps
 pub mod Tables
 pub mod SlotTables
+pub mod LiveSlots
 pub mod Starting
 pub mod Recents
 pub mod Holders

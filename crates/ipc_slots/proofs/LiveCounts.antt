@@ -10,7 +10,6 @@ use Rattle.ipc_history.specs.declared.entry.Entry.{Entry}
 use Rattle.ipc_history.specs.declared.entry.Entry.TheVariants.{Given, Written}
 use Rattle.ipc_history.specs.declared.entry.Input.TheVariants.{At, Opened, Called, Exreg, Broke, Moved}
 use Rattle.ipc_laws.specs.Counting.{live_threads, threads}
-use Rattle.ipc_laws.proofs.LiveThreads.{live_bound}
 use Rattle.ipc_laws.proofs.OneLive.{opened_once}
 use Rattle.ipc_laws.proofs.Sums.{count_agrees, one_at, sum_both}
 use Rattle.ipc_laws.proofs.Tests.{not_both}
@@ -19,9 +18,6 @@ use Rattle.ipc_laws.proofs.ThreadChanges.{broke_live, is_live_push, live_before,
 pub live_none : live_threads [] ≡ 0
 unfolding live_threads threads
 live_none = refl
-
-pub live_few : (P : List Entry) → Legal P → live_threads P ≤ 255
-live_few P legal = live_bound P legal
 
 -- An Opened makes its thread live
 

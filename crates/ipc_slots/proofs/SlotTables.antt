@@ -1,18 +1,19 @@
 -- What a table of slots says after a change of its threads or of an open call.
-use Rattle.std.proofs.Common.{◌≡◌, refl, sym, ap, ◌∙◌, ℕ, zero, suc, ◌+◌, ◌*◌, ◌^◌, ◌<◌, ◌≤◌, ◌==◌, eq-eqb, eqb-true, true, false, Bool, List, [], ◌∷◌, length, Option, Some, None, Ok, ◌&&◌, inl, inr, subst, option_map, option_and_then, is_some, if◌then◌else◌, arith}
+use Rattle.std.proofs.Common.{◌≡◌, refl, sym, cond, ap, ◌∙◌, ℕ, zero, suc, ◌+◌, ◌*◌, ◌^◌, ◌<◌, ◌≤◌, ◌==◌, eq-eqb, eqb-true, true, false, Bool, List, [], ◌∷◌, length, Option, Some, None, Ok, ◌&&◌, inl, inr, subst, option_map, option_and_then, is_some, if◌then◌else◌, arith}
 use Rattle.std.specs.Prelude.{replicate, slice_index_or, slice_set}
 use Rattle.std.proofs.lemmas.Bool.{false≢true, ne_eqb, cases_order}
 use Rattle.std.proofs.lemmas.Bool.Decides.{nat_tests}
 use Rattle.std.proofs.lemmas.List.{get_or_default, get_or_past}
+use Rattle.std.proofs.lemmas.List.Sums.{sum_by-cons}
 use Rattle.std.proofs.lemmas.Option.{none-some, same_Some}
-use Rattle.ipc_threads.specs.Threads.{slot_of, live_id_of, live_space_of, next_id_of, blank as unused}
+use Rattle.ipc_threads.specs.Threads.{slot_of, live_count, live_id_of, live_space_of, next_id_of, blank as unused}
 use Rattle.ipc_threads.specs.Ids.{IsPlace, is_space, is_thread_number}
 use Rattle.ipc_threads.specs.declared.table.Slot.{Slot as Numbered}
 use Rattle.ipc_words.specs.ThreadId.{id_of, number_of, version_of}
 use Rattle.ipc_words.specs.Version.{next_version_of}
 use Rattle.ipc_slots.specs.Slot.{Slot}
 use Rattle.ipc_slots.specs.Steps.{calling, with_call, live_with, called_live, standing_in}
-use Rattle.ipc_slots.specs.Table.{blank, ended, fresh, if_thread, live_in, slot_at, slots_from, slot_from, live_from}
+use Rattle.ipc_slots.specs.Table.{blank, ended, fresh, live_slots, if_thread, live_in, slot_at, slots_from, slot_from, live_from}
 use Rattle.ipc_slots.specs.declared.slot.Live.{Live}
 use Rattle.ipc_slots.specs.declared.slot.Standing.{Standing}
 
@@ -43,6 +44,21 @@ at_zero k = omega arith
 
 at_next : (k p : ℕ) → k + suc p ≡ k + 1 + p
 at_next k p = omega arith
+
+-- how many are live
+abbrev one_if : Bool → ℕ
+one_if b = cond b 1 0
+
+pub live_from_threads : (k : ℕ) (xs : List Numbered) (cs : List (Option Standing)) → length xs ≡ length cs → live_slots (slots_from k xs cs) ≡ live_count xs
+live_from_threads k [] cs h = refl
+live_from_threads k (x ∷ xs) [] h = absurd (omega (arith, h))
+live_from_threads k (x ∷ xs) (c ∷ cs) h =
+    let first : one_if (is_some (slot_from k x c).live) ≡ one_if (is_some x.space) = ap one_if (go x.space) in
+    omega (arith, first, live_from_threads (k + 1) xs cs (omega (arith, h)), sum_by-cons (λ slot. one_if (is_some slot.live)) (slot_from k x c) (slots_from (k + 1) xs cs), sum_by-cons (λ slot. one_if (is_some slot.space)) x xs)
+  where
+    go : (o : Option ℕ) → is_some (option_map (made k x.last c) o) ≡ is_some o
+    go None = refl
+    go (Some space) = refl
 
 -- the slot of a number
 pub slot_from_at : (k p : ℕ) (xs : List Numbered) (cs : List (Option Standing)) → length xs ≡ length cs → slot_at (slots_from k xs cs) p ≡ slot_from (k + p) (slot_of xs p) (slice_index_or cs p None)

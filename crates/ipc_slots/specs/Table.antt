@@ -1,5 +1,5 @@
 -- The slots of thread numbers, as a table of threads and a list of their open calls say them.
-use Rattle.std.specs.Prelude.{◌≡◌, ℕ, ◌+◌, List, [], ◌∷◌, Option, Some, None, ◌==◌, option_map, option_and_then, if◌then◌else◌, slice_index_or}
+use Rattle.std.specs.Prelude.{◌≡◌, ℕ, ◌+◌, List, [], ◌∷◌, Option, Some, None, ◌==◌, count_by, is_some, option_map, option_and_then, if◌then◌else◌, slice_index_or}
 use Rattle.std.specs.Option.{option_map_or}
 use Rattle.ipc_words.specs.ThreadId.{id_of, number_of, version_of}
 use Rattle.ipc_words.specs.Version.{next_version_of}
@@ -49,6 +49,10 @@ live_in table t = option_and_then (if_thread t) (slot_at table (number_of t)).li
 -- and its space, 0 where it is not live
 abbrev pub space_in : List Slot → ℕ → ℕ
 space_in table t = option_map_or (λ l. l.space) (live_in table t) 0
+
+-- how many threads are live
+abbrev pub live_slots : List Slot → ℕ
+live_slots table = count_by (λ slot. is_some slot.live) table
 
 -- a thread may open in a space: its number and the space are within their limits, the number is free, and the version its next one
 pub record MayOpen (table : List Slot) (thread space : ℕ) : Type 0 where

@@ -226,6 +226,6 @@ impl Slots {
         ensures { result ≡ live_threads entries.now }
     {
         let _ = entries;
-        self.live
+        u64::from(self.table.live_threads())
     }
 }

@@ -2,7 +2,7 @@ ghost use Rattle.std.specs.Prelude.{◌≡◌, ◌<◌, IsSome, is_some, option_
 ghost use Rattle.ipc_words.specs.Limits.{table_slots};
 ghost use Rattle.ipc_words.specs.ThreadId.{number_of};
 ghost use Rattle.ipc_slots.specs.Steps.{calling, standing_in};
-ghost use Rattle.ipc_slots.specs.Table.{MayOpen, blank, ended, fresh, live_in, slot_at};
+ghost use Rattle.ipc_slots.specs.Table.{MayOpen, blank, ended, fresh, live_in, live_slots, slot_at};
 
 use crate::slot::{Live, Standing};
 use ipc_threads::ThreadTable;
@@ -40,6 +40,13 @@ impl SlotTable {
             threads: ThreadTable::new(),
             calls: [None; TABLE_SLOTS],
         }
+    }
+
+    /// How many threads are live.
+    pub(crate) fn live_threads(&self) -> u32
+        ensures { result ≡ live_slots self.now }
+    {
+        self.threads.live()
     }
 
     /// The version that the next thread of a number gets; None where the number is worn out.

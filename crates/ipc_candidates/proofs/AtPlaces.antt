@@ -43,7 +43,7 @@ placed_call P places n placed o = at_place P places n ∙ both _ _ placed (open_
 pub quiet_covers_at : (P : List Entry) (places : List ℕ) → Quiet P → CoversAt P places
 quiet_covers_at P places quiet output possible = absurd (none_possible P quiet output possible)
 
-pub entry_covers_at : (P : List Entry) (e : Entry) (places more : List ℕ) → Legal P → Follows P e → CoversAt P places → ((k : ℕ) → is_among places k ≡ true → is_among more k ≡ true) → ((n : ℕ) → is_among (touched P e) n ≡ true → is_over (P ++ e ∷ []) n ≡ false → is_among more (number_of (caller_of (P ++ e ∷ []) n)) ≡ true) → CoversAt (P ++ e ∷ []) more
+pub entry_covers_at : (P : List Entry) (e : Entry) (places more : List ℕ) → Legal P → Follows P e → CoversAt P places → ((n : ℕ) → is_over (P ++ e ∷ []) n ≡ false → is_among places (number_of (caller_of (P ++ e ∷ []) n)) ≡ true → is_among more (number_of (caller_of (P ++ e ∷ []) n)) ≡ true) → ((n : ℕ) → is_among (touched P e) n ≡ true → is_over (P ++ e ∷ []) n ≡ false → is_among more (number_of (caller_of (P ++ e ∷ []) n)) ≡ true) → CoversAt (P ++ e ∷ []) more
 entry_covers_at P e places more l f covers into added = entry_covers P e (calls_at P places) (calls_at (P ++ e ∷ []) more) l f covers kept (λ n among o. placed_call (P ++ e ∷ []) more n (added n among o) o)
   where
     kept : (n : ℕ) → is_among (calls_at P places) n ≡ true → is_over (P ++ e ∷ []) n ≡ false → is_among (calls_at (P ++ e ∷ []) more) n ≡ true
@@ -51,7 +51,7 @@ entry_covers_at P e places more l f covers into added = entry_covers P e (calls_
         let placed = is_among places (number_of (caller_of P n)) in
         let was : (placed && is_among (numbers P) n) ≡ true = sym (at_place P places n) ∙ among in
         let caller = caller_of_kept P (e ∷ []) n (among_called P n (right placed (is_among (numbers P) n) was)) in
-        placed_call (P ++ e ∷ []) more n (ap (λ t. is_among more (number_of t)) caller ∙ into (number_of (caller_of P n)) (left placed (is_among (numbers P) n) was)) o
+        placed_call (P ++ e ∷ []) more n (into n o (ap (λ t. is_among places (number_of t)) caller ∙ left placed (is_among (numbers P) n) was)) o
 
 -- Why an entry touches a call: it names the call, breaks a thread that it watches, or is a moment
 -- at which it is due

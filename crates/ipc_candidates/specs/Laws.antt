@@ -15,11 +15,12 @@ use Rattle.ipc_candidates.specs.Candidates.{CoversAt, is_among, senders, source_
 abbrev pub QuietCoversAt : Type 0
 QuietCoversAt = (P : List Entry) (places : List ℕ) → Quiet P → CoversAt P places
 
--- an entry adds the places of the open calls that it touches
+-- an entry leaves the places of the open calls, and adds those of the open calls that it touches
 abbrev pub EntryCoversAt : Type 0
 EntryCoversAt =
     (P : List Entry) (e : Entry) (places more : List ℕ) → Legal P → Follows P e → CoversAt P places
-    → ((place : ℕ) → IsTrue (is_among places place) → IsTrue (is_among more place))
+    → ((n : ℕ) → IsFalse (is_over (P ++ e ∷ []) n) → IsTrue (is_among places (number_of (caller_of (P ++ e ∷ []) n)))
+    → IsTrue (is_among more (number_of (caller_of (P ++ e ∷ []) n))))
     → ((n : ℕ) → IsTrue (is_among (touched P e) n) → IsFalse (is_over (P ++ e ∷ []) n)
     → IsTrue (is_among more (number_of (caller_of (P ++ e ∷ []) n))))
     → CoversAt (P ++ e ∷ []) more

@@ -20,7 +20,8 @@ use Rattle.ipc_desks.specs.Steps.{Changed, Moved, finished}
 use Rattle.ipc_desks.specs.declared.desk.Desk.{Desk}
 use Rattle.ipc_desks.proofs.HandOver.{delivered_is, message_strings, strings_fit}
 use Rattle.ipc_desks.proofs.OutputDesks.{ended_finishes, ended_keeps_open, ended_keeps_over}
-use Rattle.ipc_desks.proofs.Standings.{standing_caller, standing_from, standing_number, standing_shown}
+use Rattle.ipc_slots.proofs.Holders.{standing_number}
+use Rattle.ipc_desks.proofs.Standings.{standing_caller, standing_from, standing_shown}
 
 module _ (P : List Entry) (n m : ℕ) (legal : Legal P) (follows : Follows P (Written (Ended n m))) where
   -- the outcome that is put together

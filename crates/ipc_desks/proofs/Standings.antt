@@ -26,7 +26,3 @@ standing_from P n = refl
 pub standing_shown : (P : List Entry) (n : ℕ) → (standing_of P n).shown ≡ shown_sender P n
 unfolding standing_of
 standing_shown P n = refl
-
-pub standing_number : (P : List Entry) (n : ℕ) → (standing_of P n).number ≡ n
-unfolding standing_of
-standing_number P n = refl

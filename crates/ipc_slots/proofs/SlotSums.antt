@@ -24,6 +24,7 @@ use Rattle.ipc_slots.specs.Standings.{standing_of}
 use Rattle.ipc_slots.specs.Steps.{standing_in}
 use Rattle.ipc_slots.specs.declared.slot.Standing.{Standing}
 use Rattle.ipc_slots.specs.declared.slots.Slots.{Slots}
+use Rattle.ipc_slots.proofs.Holders.{standing_number}
 use Rattle.ipc_slots.proofs.Holders.{slot_of_call}
 use Rattle.ipc_slots.proofs.Leasts.{held_below, slot_standing}
 use Rattle.ipc_slots.proofs.OutputSteps.{one_holder}
@@ -90,10 +91,6 @@ one_more by m (Some s) = at s.number (by s)
   where
     at : (n v : ℕ) → (if nat_le n (suc m) then v else 0) ≡ (if nat_le n m then v else 0) + (if n == suc m then v else 0)
     at n v = grind (arith, nat_tests, common_steps)
-
-standing_number : (P : List Entry) (n : ℕ) → (standing_of P n).number ≡ n
-unfolding standing_of
-standing_number P n = refl
 
 -- what each open call counts, by what is kept of it, and the same by its number
 pub record Counts (P : List Entry) (by : Standing → ℕ) (of : ℕ → ℕ) : Type 0 where

@@ -1,5 +1,6 @@
 -- The slots of thread numbers, as a table of threads and a list of their open calls say them.
-use Rattle.std.specs.Prelude.{◌≡◌, ℕ, ◌+◌, List, [], ◌∷◌, Option, Some, None, ◌==◌, count_by, is_some, option_map, option_and_then, if◌then◌else◌, slice_index_or}
+use Rattle.std.specs.Prelude.{◌≡◌, ℕ, ◌+◌, List, [], ◌∷◌, Option, Some, None, ◌==◌, count_by, is_some}
+use Rattle.std.specs.Prelude.{option_map, option_and_then, if◌then◌else◌, slice_index_or}
 use Rattle.std.specs.Option.{option_map_or}
 use Rattle.ipc_words.specs.ThreadId.{id_of, number_of, version_of}
 use Rattle.ipc_words.specs.Version.{next_version_of}

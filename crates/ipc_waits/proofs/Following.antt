@@ -1,6 +1,6 @@
 -- Queues and candidates in step with the slots.
-use Rattle.std.proofs.lemmas.Bool.{false≢true, or_cases, or_left, or_right}
-use Rattle.std.proofs.Common.{◌≡◌, refl, sym, ap, ◌∙◌, subst, ℕ, ◌||◌, ◌==◌, eqb-true, Bool, true, false, List, [], ◌∷◌, ◌++◌, Option, Some, None, inl, inr, arith, if◌then◌else◌}
+use Rattle.std.proofs.lemmas.Bool.{false≢true, or_cases}
+use Rattle.std.proofs.Common.{◌≡◌, refl, sym, ap, ◌∙◌, subst, ℕ, ◌||◌, ◌==◌, eqb-true, Bool, true, false, List, [], ◌∷◌, ◌++◌, Option, Some, None, is_some, inl, inr, arith, if◌then◌else◌}
 use Rattle.ipc_words.specs.ThreadId.{number_of}
 use Rattle.ipc_history.specs.Calls.{caller_of}
 use Rattle.ipc_history.specs.Entries.{names}
@@ -24,7 +24,9 @@ use Rattle.ipc_waits.specs.Waiting.{IsTouched, IsWaiting}
 use Rattle.ipc_waits.specs.declared.queue.Wait.{Wait}
 use Rattle.ipc_waits.specs.declared.waiting.Waiting.{Waiting}
 use Rattle.ipc_waits.specs.declared.waits.Waits.{Waits}
-use Rattle.ipc_waits.proofs.CandidateLemmas.{among_with}
+use Rattle.ipc_waits.specs.Candidates.{FollowsPlace}
+use Rattle.ipc_laws.proofs.Settling.{legal_push}
+use Rattle.ipc_slots.proofs.Holders.{slot_of_call}
 use Rattle.ipc_waits.proofs.Numbers.{eqb_sym}
 
 -- the open call of each place
@@ -97,37 +99,52 @@ module _ (table : List Slot) (changes : Changes) (old first second : Waiting) (c
 
 -- The places among the candidates
 
-follows_keeps : (old new : Waiting) (change : Option Change) → FollowsChange old new change → (k : ℕ) → is_among old.candidates k ≡ true → is_among new.candidates k ≡ true
-follows_keeps old new None follows k among = ap (λ w. is_among w.candidates k) (follows.nothing refl) ∙ among
-follows_keeps old new (Some c) follows k among = ap (λ l. is_among l k) follows.followed.candidates ∙ (among_with old.candidates c.place k ∙ or_left (is_among old.candidates k) (c.place == k) among)
+-- the place stays while its slot holds a call
+stays : (old new : List ℕ) (place k : ℕ) (is_open : Bool) → FollowsPlace old new place is_open → ((place == k) ≡ true → is_open ≡ true) → is_among old k ≡ true → is_among new k ≡ true
+stays old new place k is_open follows held among = follows k ∙ go (place == k) refl
+  where
+    go : (b : Bool) → (place == k) ≡ b → (if b then is_open else is_among old k) ≡ true
+    go true same = held same
+    go false other = among
 
-follows_adds : (old new : Waiting) (change : Option Change) → FollowsChange old new change → (k : ℕ) → names_place k change ≡ true → is_among new.candidates k ≡ true
-follows_adds old new None follows k named = absurd (false≢true named)
-follows_adds old new (Some c) follows k named = ap (λ l. is_among l k) follows.followed.candidates ∙ (among_with old.candidates c.place k ∙ or_right (is_among old.candidates k) (c.place == k) named)
+follows_keeps : (old new : Waiting) (change : Option Change) → FollowsChange old new change → (k : ℕ) → is_some (calls_in old.slots.table k) ≡ true → is_among old.candidates k ≡ true → is_among new.candidates k ≡ true
+follows_keeps old new None follows k held among = ap (λ w. is_among w.candidates k) (follows.nothing refl) ∙ among
+follows_keeps old new (Some c) follows k held among = stays old.candidates new.candidates c.place k _ follows.followed.candidates (λ same. ap (λ j. is_some (calls_in old.slots.table j)) (eqb-true c.place k same) ∙ held) among
+
+follows_adds : (old new : Waiting) (change : Option Change) → FollowsChange old new change → (k : ℕ) → is_some (calls_in old.slots.table k) ≡ true → names_place k change ≡ true → is_among new.candidates k ≡ true
+follows_adds old new None follows k held named = absurd (false≢true named)
+follows_adds old new (Some c) follows k held named = follows.followed.candidates k ∙ rw named (ap (λ j. is_some (calls_in old.slots.table j)) (eqb-true c.place k named) ∙ held)
 
 module _ (changes : Changes) (old first second : Waiting) (one : FollowsChange old first changes.first) (two : FollowsChange first second changes.second) where
-  pub places_stay : (k : ℕ) → is_among old.candidates k ≡ true → is_among second.candidates k ≡ true
-  places_stay k among = follows_keeps first second changes.second two k (follows_keeps old first changes.first one k among)
+  open_then : (k : ℕ) → is_some (calls_in old.slots.table k) ≡ true → is_some (calls_in first.slots.table k) ≡ true
+  open_then k held = ap (λ s. is_some (calls_in s.table k)) one.slots ∙ held
 
-  pub places_come : (k : ℕ) → changes_at changes k ≡ true → is_among second.candidates k ≡ true
-  places_come k at = elim (or_cases (names_place k changes.first) (names_place k changes.second) at) [
-    | inl a ↦ follows_keeps first second changes.second two k (follows_adds old first changes.first one k a)
-    | inr b ↦ follows_adds first second changes.second two k b
+  pub places_stay : (k : ℕ) → is_some (calls_in old.slots.table k) ≡ true → is_among old.candidates k ≡ true → is_among second.candidates k ≡ true
+  places_stay k held among = follows_keeps first second changes.second two k (open_then k held) (follows_keeps old first changes.first one k held among)
+
+  pub places_come : (k : ℕ) → is_some (calls_in old.slots.table k) ≡ true → changes_at changes k ≡ true → is_among second.candidates k ≡ true
+  places_come k held at = elim (or_cases (names_place k changes.first) (names_place k changes.second) at) [
+    | inl a ↦ follows_keeps first second changes.second two k (open_then k held) (follows_adds old first changes.first one k held a)
+    | inr b ↦ follows_adds first second changes.second two k (open_then k held) b
   ]
 
 -- An entry is followed
 module _ (P : List Entry) (e : Entry) (legal : Legal P) (follows : Follows P e) (table : List Slot) (changes : Changes) (old first second : Waiting) (stands : Stands (P ++ e ∷ []) old.slots) (changed : HaveChanged table old.slots.table changes) (named : HasNamed P e changes) (one : FollowsChange old first changes.first) (two : FollowsChange first second changes.second) where
   covers_again : IsTouched P e old.candidates → CoversAt (P ++ e ∷ []) second.candidates
-  covers_again touched = entry_covers_at P e touched.base second.candidates legal follows touched.covers (λ k among. places_stay changes old first second one two k (touched.kept k among)) there
+  covers_again touched = entry_covers_at P e touched.base second.candidates legal follows touched.covers (λ n opened among. places_stay changes old first second one two (number_of (caller_of (P ++ e ∷ []) n)) (open_there n opened) (touched.kept _ among)) there
     where
+      -- the slot of its caller holds an held call
+      open_there : (n : ℕ) → is_over (P ++ e ∷ []) n ≡ false → is_some (calls_in old.slots.table (number_of (caller_of (P ++ e ∷ []) n))) ≡ true
+      open_there n opened = ap (λ slot. is_some (standing_in slot)) (stands.table (number_of (caller_of (P ++ e ∷ []) n))) ∙ ap is_some (slot_of_call (P ++ e ∷ []) (legal_push P e legal follows) n opened)
+
       there : (n : ℕ) → is_among (touched_by P e) n ≡ true → is_over (P ++ e ∷ []) n ≡ false → is_among second.candidates (number_of (caller_of (P ++ e ∷ []) n)) ≡ true
       there n among opened = go (names n e) refl
         where
           go : (b : Bool) → names n e ≡ b → is_among second.candidates (number_of (caller_of (P ++ e ∷ []) n)) ≡ true
-          go true is = places_come changes old first second one two (number_of (caller_of (P ++ e ∷ []) n)) (named n is)
+          go true is = places_come changes old first second one two (number_of (caller_of (P ++ e ∷ []) n)) (open_there n opened) (named n is)
           go false is =
               let waits = touched.unnamed n among is in
-              ap (λ t. is_among second.candidates (number_of t)) (caller_of_kept P (e ∷ []) n (open_is_called P n waits.0)) ∙ places_stay changes old first second one two (number_of (caller_of P n)) waits.1
+              places_stay changes old first second one two (number_of (caller_of (P ++ e ∷ []) n)) (open_there n opened) (ap (λ t. is_among old.candidates (number_of t)) (caller_of_kept P (e ∷ []) n (open_is_called P n waits.0)) ∙ waits.1)
 
   pub noted : AreWaits table old.waits → IsTouched P e old.candidates → IsWaiting (P ++ e ∷ []) second
   noted are touched = record {

@@ -8,6 +8,7 @@ pub mod Here
 pub mod Leasts
 pub mod Laws
 pub mod CandidateLemmas
+pub mod Dropped
 pub mod Following
 pub mod Bests
 pub mod WaitLists

@@ -1,10 +1,10 @@
 -- Queues and candidates in step with slots.
-use Rattle.std.specs.Prelude.{◌≡◌, ◌<◌, Option, None, IfSome}
+use Rattle.std.specs.Prelude.{◌≡◌, ◌<◌, Option, None, IfSome, is_some}
 use Rattle.ipc_words.specs.Limits.{table_slots}
 use Rattle.ipc_slots.specs.Slots.{slot_at}
 use Rattle.ipc_slots.specs.Steps.{standing_in}
 use Rattle.ipc_slots.specs.declared.changes.Change.{Change}
-use Rattle.ipc_waits.specs.Candidates.{with_place}
+use Rattle.ipc_waits.specs.Candidates.{FollowsPlace}
 use Rattle.ipc_waits.specs.Keys.{HaveAt, SameElsewhere}
 use Rattle.ipc_waits.specs.declared.waiting.Waiting.{Waiting}
 
@@ -16,7 +16,7 @@ CanFollow waiting change = IfSome change (λ c. (c.place < table_slots) × HaveA
 pub record Followed (old new : Waiting) (change : Change) : Type 0 where
   pub here : HaveAt new.waits change.place (standing_in (slot_at old.slots.table change.place))
   pub elsewhere : SameElsewhere old.waits new.waits change.place
-  pub candidates : new.candidates ≡ with_place old.candidates change.place
+  pub candidates : FollowsPlace old.candidates new.candidates change.place (is_some (standing_in (slot_at old.slots.table change.place)))
 
 pub record FollowsChange (old new : Waiting) (change : Option Change) : Type 0 where
   pub slots : new.slots ≡ old.slots

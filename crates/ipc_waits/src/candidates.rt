@@ -1,7 +1,7 @@
-ghost use Rattle.std.specs.Prelude.{◌≡◌, ℕ, ◌<◌, ◌||◌, [], All, map};
+ghost use Rattle.std.specs.Prelude.{◌≡◌, ℕ, ◌<◌, ◌||◌, [], All, IfNone, IfSome, false, length, map, slice_index_or};
 ghost use Rattle.ipc_candidates.specs.Candidates.{is_among};
 ghost use Rattle.ipc_words.specs.Limits.{table_slots};
-ghost use Rattle.ipc_waits.specs.Candidates.{with_place};
+ghost use Rattle.ipc_waits.specs.Candidates.{FollowsPlace, with_place};
 
 use crate::queue::Wait;
 use arrayvec::ArrayVec;
@@ -57,7 +57,7 @@ impl Candidates {
     }
 
     /// Adds a place, where it is not yet there.
-    pub(crate) fn add(&mut self, place: usize)
+    fn add(&mut self, place: usize)
         requires { place < table_slots }
         ensures { self.new ≡ with_place self.old place }
     {
@@ -68,6 +68,38 @@ impl Candidates {
 }
 
 impl Candidates {
+    /// Where a place stands among them, if it does.
+    fn index_of(&self, place: usize) -> Option<usize>
+        ensures found { IfSome result (λ index. (index < length self.now) × (slice_index_or self.now index place ≡ place)) }
+        ensures none { IfNone result (is_among self.now place ≡ false) }
+    {
+        self.places
+            .as_slice()
+            .iter()
+            .position(|known| *known == place)
+    }
+
+    /// Drops a place, where it is there.
+    fn remove(&mut self, place: usize)
+        ensures { FollowsPlace self.old self.new place false }
+    {
+        if let Some(index) = self.index_of(place) {
+            self.places.remove(index);
+        }
+    }
+
+    /// Adds a place whose slot holds a call, and drops one whose slot holds none.
+    pub(crate) fn follow(&mut self, place: usize, is_open: bool)
+        requires { place < table_slots }
+        ensures { FollowsPlace self.old self.new place is_open }
+    {
+        if is_open {
+            self.add(place);
+        } else {
+            self.remove(place);
+        }
+    }
+
     /// Adds the places of waits.
     pub(crate) fn add_all(&mut self, waits: &[Wait])
         requires { All (λ w. w.place < table_slots) waits.now }

@@ -63,9 +63,10 @@ impl Waiting {
     {
         if let Some(change) = change {
             let after = self.slots.held(change.place);
+            let is_open = after.is_some();
             self.waits
                 .change(change.place, change.before.as_ref(), after);
-            self.candidates.add(change.place);
+            self.candidates.follow(change.place, is_open);
         }
     }
 

@@ -13,5 +13,6 @@ pub mod Bests
 pub mod WaitLists
 pub mod WaitKeys
 pub mod WaitFacts
+pub mod LeastDue
 pub mod Touches
 pub mod Meetings

@@ -1,53 +1,54 @@
--- The least of the numbers of waits.
-use Rattle.std.proofs.Common.{◌≡◌, ◌⊎◌, refl, sym, ap, ◌∙◌, ℕ, ◌≤◌, Bool, true, ◌==◌, eq-eqb, min, fold, map, List, [], ◌∷◌, inl, inr, arith}
-use Rattle.std.proofs.lemmas.Bool.{cases_lt, false≢true, or_cases, or_left, or_right}
-use Rattle.std.specs.List.{list_any, reduce}
-use Rattle.ipc_waits.specs.Queues.{IsLeastNumber, is_in}
+-- The wait that has the least number.
+use Rattle.std.proofs.Common.{◌≡◌, refl, sym, ◌∙◌, subst, ℕ, ◌+◌, ◌<◌, ◌≤◌, nat_le, Bool, true, false, ◌||◌, List, [], ◌∷◌, ◌++◌, Option, Some, None, length, take, get_or, if◌then◌else◌, inl, inr, arith}
+use Rattle.std.proofs.lemmas.Bool.{false≢true, or_cases, or_left, or_right}
+use Rattle.std.proofs.lemmas.Bool.Decides.{nat_tests}
+use Rattle.std.proofs.lemmas.List.{take_all, take_more}
+use Rattle.std.proofs.lemmas.List.Folds.{list_any-append}
+use Rattle.ipc_waits.specs.Queues.{IsLeastWait, is_in, is_same, lesser}
 use Rattle.ipc_waits.specs.declared.queue.Wait.{Wait}
-use Rattle.ipc_waits.proofs.Sames.{same_is}
+use Rattle.ipc_waits.proofs.Sames.{same_is, same_itself}
 
-abbrev least : ℕ → List Wait → ℕ
-least n ws = fold min n (map (λ w. w.number) ws)
+-- one more wait
+module _ (xs : List Wait) (x : Wait) where
+  in_more : (w : Wait) → is_in (xs ++ x ∷ []) w ≡ (is_in xs w || is_same w x)
+  in_more w = list_any-append (is_same w) xs (x ∷ []) ∙ last (is_in xs w) (is_same w x)
+    where
+      last : (a b : Bool) → (a || (b || false)) ≡ (a || b)
+      last a b = grind arith
 
-one_of : (a b : ℕ) → (min a b ≡ a) ⊎ (min a b ≡ b)
-one_of a b = elim (cases_lt a b) [ inl less ↦ inl (omega arith) | inr more ↦ inr (omega arith) ]
+  least_with : (least : Wait) → (is_in xs least || is_same least x) ≡ true → ((w : Wait) → is_in xs w ≡ true → least.number ≤ w.number) → least.number ≤ x.number → IsLeastWait (xs ++ x ∷ []) (Some least)
+  least_with least there low lower = (
+    in_more least ∙ there,
+    λ w among. elim (or_cases (is_in xs w) (is_same w x) (sym (in_more w) ∙ among)) [
+      | inl before ↦ low w before
+      | inr same ↦ subst (λ v. least.number ≤ v.number) (sym (same_is w x same)) lower
+    ],
+  )
 
-abbrev has : List Wait → ℕ → Bool
-has ws n = list_any (λ w. w.number == n) ws
+  pub least_more : (least : Option Wait) → IsLeastWait xs least → IsLeastWait (xs ++ x ∷ []) (lesser least x)
+  least_more None none = subst (λ l. IsLeastWait (l ++ x ∷ []) (Some x)) (sym none) (
+    or_left (is_same x x) false (same_itself x),
+    λ w among. elim (or_cases (is_same w x) false among) [
+      | inl same ↦ subst (λ v. x.number ≤ v.number) (sym (same_is w x same)) (omega arith)
+      | inr none ↦ absurd (false≢true none)
+    ],
+  )
+  least_more (Some known) least = go (nat_le known.number x.number) refl
+    where
+      go : (b : Bool) → nat_le known.number x.number ≡ b → IsLeastWait (xs ++ x ∷ []) (if b then Some known else Some x)
+      go true e = least_with known (or_left _ _ least.0) least.1 (low known.number x.number e)
+        where
+          low : (m n : ℕ) → nat_le m n ≡ true → m ≤ n
+          low m n e = grind (arith, nat_tests)
+      go false e = least_with x (or_right (is_in xs x) _ (same_itself x)) (λ w among. (let near = high known.number x.number e in let far = least.1 w among in omega arith)) (omega arith)
+        where
+          high : (m n : ℕ) → nat_le m n ≡ false → n ≤ m
+          high m n e = grind (arith, nat_tests)
 
-found : (n : ℕ) (ws : List Wait) → (least n ws ≡ n) ⊎ (has ws (least n ws) ≡ true)
-found n [] = inl refl
-found n (x ∷ xs) = elim (found (min n x.number) xs) [
-  | inl first ↦ (elim (one_of n x.number) [
-    | inl old ↦ inl (first ∙ old)
-    | inr new ↦ inr (or_left _ _ (eq-eqb x.number (least (min n x.number) xs) (sym (first ∙ new))))
-  ])
-  | inr later ↦ inr (or_right (x.number == least (min n x.number) xs) _ later)
-]
+-- of the first i of some waits
 
-below : (n : ℕ) (ws : List Wait) → least n ws ≤ n
-below n [] = omega arith
-below n (x ∷ xs) = omega (arith, below (min n x.number) xs)
+pub least_next : (ws : List Wait) (i : ℕ) (d : Wait) (least : Option Wait) → i < length ws → IsLeastWait (take i ws) least → IsLeastWait (take (i + 1) ws) (lesser least (get_or ws i d))
+least_next ws i d least within is = subst (λ l. IsLeastWait l (lesser least (get_or ws i d))) (sym (take_more ws i d within)) (least_more (take i ws) (get_or ws i d) least is)
 
-below_each : (n : ℕ) (ws : List Wait) (w : Wait) → is_in ws w ≡ true → least n ws ≤ w.number
-below_each n [] w h = absurd (false≢true h)
-below_each n (x ∷ xs) w h = elim (or_cases _ _ h) [
-  | inl it ↦ (let same : w.number ≡ x.number = ap (λ v. v.number) (same_is w x it) in omega (arith, below (min n x.number) xs))
-  | inr later ↦ below_each (min n x.number) xs w later
-]
-
-pub least_is : (ws : List Wait) → IsLeastNumber ws (reduce min (map (λ w. w.number) ws))
-least_is [] = refl
-least_is (x ∷ xs) = (first, each)
-  where
-    first : has (x ∷ xs) (least x.number xs) ≡ true
-    first = elim (found x.number xs) [
-      | inl is ↦ or_left _ _ (eq-eqb x.number (least x.number xs) (sym is))
-      | inr later ↦ or_right (x.number == least x.number xs) _ later
-    ]
-
-    each : (w : Wait) → is_in (x ∷ xs) w ≡ true → least x.number xs ≤ w.number
-    each w h = elim (or_cases _ _ h) [
-      | inl it ↦ (let same : w.number ≡ x.number = ap (λ v. v.number) (same_is w x it) in omega (arith, below x.number xs))
-      | inr later ↦ below_each x.number xs w later
-    ]
+pub least_all : (ws : List Wait) (i : ℕ) (least : Option Wait) → length ws ≤ i → IsLeastWait (take i ws) least → IsLeastWait ws least
+least_all ws i least all is = subst (λ l. IsLeastWait l least) (take_all i ws all) is

@@ -14,5 +14,6 @@ pub mod Bests
 pub mod WaitLists
 pub mod WaitKeys
 pub mod WaitFacts
+pub mod LeastDue
 pub mod Touches
 pub mod Meetings

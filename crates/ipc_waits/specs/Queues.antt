@@ -1,6 +1,6 @@
 -- Calls that wait under keys: for a receiver, for a partner, until a moment.
 use Rattle.std.specs.Prelude.{◌≡◌, ℕ, ◌<◌, ◌≤◌, nat_lt, nat_le, Bool, IsTrue, ◌&&◌, ◌||◌, ◌==◌}
-use Rattle.std.specs.Prelude.{List, [], ◌∷◌, All, filter, map, Option, None, Some}
+use Rattle.std.specs.Prelude.{List, [], ◌∷◌, All, filter, map, Option, None, Some, if◌then◌else◌}
 use Rattle.std.specs.List.{list_any, IsDistinct}
 use Rattle.ipc_words.specs.Limits.{table_slots}
 use Rattle.ipc_waits.specs.declared.queue.Wait.{Wait}
@@ -37,8 +37,13 @@ under key waits = filter (λ w. w.key == key) waits
 abbrev pub until : ℕ → List Wait → List Wait
 until moment waits = filter (λ w. nat_le w.key moment) waits
 
--- the least number of these waits: none of no waits, else that of one of them, which no other goes below
-abbrev pub IsLeastNumber : List Wait → Option ℕ → Type 0
-IsLeastNumber waits None = waits ≡ []
-IsLeastNumber waits (Some n) =
-    IsTrue (list_any (λ w. w.number == n) waits) × ((w : Wait) → IsTrue (is_in waits w) → n ≤ w.number)
+-- the one of the lesser number, and the first where they are equal
+abbrev pub lesser : Option Wait → Wait → Option Wait
+lesser None w = Some w
+lesser (Some known) w = (if nat_le known.number w.number then Some known else Some w)
+
+-- the one of these waits that has the least number: none of no waits, else one of them, whose number no other goes below
+abbrev pub IsLeastWait : List Wait → Option Wait → Type 0
+IsLeastWait waits None = waits ≡ []
+IsLeastWait waits (Some least) =
+    IsTrue (is_in waits least) × ((w : Wait) → IsTrue (is_in waits w) → least.number ≤ w.number)

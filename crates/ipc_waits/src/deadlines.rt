@@ -1,8 +1,8 @@
-ghost use Rattle.std.specs.Prelude.{◌≡◌, ◌<◌, All, [], map, min, nat_le, option_copied};
-ghost use Rattle.std.specs.List.{list_any, reduce};
+ghost use Rattle.std.specs.Prelude.{◌≡◌, ◌<◌, All, [], nat_le, option_copied};
+ghost use Rattle.std.specs.List.{list_any};
 ghost use Rattle.ipc_words.specs.Limits.{table_slots};
 ghost use Rattle.ipc_waits.specs.Keys.{HasAt, IsSameElsewhere, due_under};
-ghost use Rattle.ipc_waits.specs.Queues.{IsLeastNumber, until};
+ghost use Rattle.ipc_waits.specs.Queues.{IsLeastWait, lesser, until};
 
 use crate::keys::Due;
 use crate::queue::{Queue, Wait};
@@ -24,11 +24,25 @@ impl Model for Deadlines {
     ghost view = { λ q. q.queue };
 }
 
-/// The least number of these waits.
-fn least_number(waits: &[Wait]) -> Option<u64>
-    ensures { result ≡ reduce min (map (λ w. w.number) waits.now) }
+/// Of the least so far and another wait the one of the lesser number.
+fn lesser(least: Option<Wait>, wait: Wait) -> Option<Wait>
+    ensures { result ≡ lesser least wait }
 {
-    waits.iter().map(|wait| wait.number).min()
+    match least {
+        Some(known) if known.number <= wait.number => Some(known),
+        _ => Some(wait),
+    }
+}
+
+/// The one of these waits that has the least number.
+fn least_wait(waits: &[Wait]) -> Option<Wait>
+    ensures { IsLeastWait waits.now result }
+{
+    let mut least = None;
+    for wait in waits {
+        least = lesser(least, *wait);
+    }
+    least
 }
 
 impl Deadlines {
@@ -55,11 +69,11 @@ impl Deadlines {
         self.queue.is_any_until(now)
     }
 
-    /// The least number of a call that is due at a moment.
-    pub fn least_due(&self, now: u64) -> Option<u64>
-        ensures { IsLeastNumber (until now self.now) result }
+    /// The wait of the least call that is due at a moment.
+    pub fn least_due(&self, now: u64) -> Option<Wait>
+        ensures { IsLeastWait (until now self.now) result }
     {
-        least_number(self.until(now))
+        least_wait(self.until(now))
     }
 
     /// The call at a place was this one, and is another from now on.

@@ -144,7 +144,10 @@ impl Waiting {
         requires waiting { IsWaiting entries.now self.now }
         ensures { result ≡ first_some (timeout_of entries.now) (numbers entries.now) }
     {
-        self.least(entries, &Rule::Expires(self.slots.moment()))
+        let now = self.slots.moment();
+        let wait = self.waits.deadlines().least_due(now)?;
+        let call = self.slots.held(wait.place)?;
+        self.slots.apply(entries, &Rule::Expires(now), call)
     }
 
     /// The output of the open calls: of the rules in their order the first that applies, for the least call.

@@ -1,16 +1,46 @@
-use Rattle.std.proofs.Common.{◌≡◌, ◌∙◌, sym, ap, Some}
-use Rattle.ipc_history.specs.NextOutput.{timeout_of}
+use Rattle.std.proofs.Common.{◌≡◌, ◌∙◌, sym, ap, subst, option_copied, arith}
 use Rattle.ipc_history.specs.Threads.{now}
-use Rattle.ipc_laws.specs.Laws.{timeout_at}
-use Rattle.ipc_candidates.proofs.AtPlaces.{found_at}
-use Rattle.ipc_slots.proofs.Answering.{due_now, first_due}
+use Rattle.ipc_slots.proofs.Answering.{first_due}
+use Rattle.ipc_slots.specs.Rules.{rule_of}
+use Rattle.ipc_slots.specs.declared.rules.Rule.TheVariants.{Expires}
+use Rattle.ipc_waits.specs.Queues.{IsLeastWait, until}
+use Rattle.ipc_waits.proofs.LeastDue.{due_is_open, least_is_due, none_is_due, now_in_range}
+use Rattle.ipc_waits.proofs.Meetings.{call_there, none_there}
 use Rattle.ipc_waits.proofs.waiting.Waiting.first_timeout.Goals as goal
 
-pub least-requires-clause-asks : goal.least-requires-clause-asks
-least-requires-clause-asks c = λ n output gives.
-    let moment : c.moment.result ≡ now c.args.entries.now = c.moment.ensures ∙ c.requires.waiting.slots.moment in
-    let due : timeout_of c.args.entries.now n ≡ Some output = sym (due_now c.args.entries.now n) ∙ (ap (λ m. timeout_at c.args.entries.now m n) (sym moment) ∙ gives) in
-    (found_at c.args.entries.now c.args.self.now.candidates c.requires.legal c.requires.waiting.covers).expires n output due
+pub returns-in_err-wait : goal.returns-in_err-wait
+returns-in_err-wait c =
+    let P = c.args.entries.now in
+    let waiting = c.requires.waiting in
+    let moment : c.moment-now.result ≡ now P = c.moment-now.ensures ∙ waiting.slots.moment in
+    let early = now_in_range P c.requires.legal in
+    let least = subst (λ l. IsLeastWait (until c.moment-now.result l) c.least_due.result) c.deadlines.ensures c.least_due.ensures in
+    c.from_residual.ensures ∙ sym (sym (first_due P c.moment-now.result moment) ∙ none_is_due P c.args.self.now.slots c.requires.legal waiting.slots c.args.self.now.waits.deadlines waiting.waits.deadlines c.moment-now.result (omega (arith, moment, early)) (subst (IsLeastWait (until c.moment-now.result c.args.self.now.waits.deadlines)) c.in_err-wait.was least))
+
+pub returns-in_err-call : goal.returns-in_err-call
+returns-in_err-call c =
+    let P = c.args.entries.now in
+    let waiting = c.requires.waiting in
+    let least = subst (IsLeastWait (until c.moment-now.result c.args.self.now.waits.deadlines)) c.in_ok-wait.was (subst (λ l. IsLeastWait (until c.moment-now.result l) c.least_due.result) c.deadlines.ensures c.least_due.ensures) in
+    let waits = due_is_open P c.args.self.now.slots c.requires.legal waiting.slots c.args.self.now.waits.deadlines waiting.waits.deadlines c.moment-now.result c.in_ok-wait.wait least.0 in
+    absurd (none_there P c.args.self.now.slots c.requires.legal waiting.slots c.in_ok-wait.wait waits (sym c.held.ensures ∙ ap option_copied c.in_err-call.was))
+
+pub apply-requires-clause-call : goal.apply-requires-clause-call
+apply-requires-clause-call c =
+    let P = c.args.entries.now in
+    let waiting = c.requires.waiting in
+    let least = subst (IsLeastWait (until c.moment-now.result c.args.self.now.waits.deadlines)) c.in_ok-wait.was (subst (λ l. IsLeastWait (until c.moment-now.result l) c.least_due.result) c.deadlines.ensures c.least_due.ensures) in
+    let waits = due_is_open P c.args.self.now.slots c.requires.legal waiting.slots c.args.self.now.waits.deadlines waiting.waits.deadlines c.moment-now.result c.in_ok-wait.wait least.0 in
+    (call_there P c.args.self.now.slots c.requires.legal waiting.slots c.in_ok-wait.wait waits c.in_ok-call.call.now (sym c.held.ensures ∙ ap option_copied c.in_ok-call.was)).1
 
 pub returns : goal.returns
-returns c = c.least.ensures ∙ first_due c.args.entries.now c.moment.result (c.moment.ensures ∙ c.requires.waiting.slots.moment)
+returns c =
+    let P = c.args.entries.now in
+    let waiting = c.requires.waiting in
+    let moment : c.moment-now.result ≡ now P = c.moment-now.ensures ∙ waiting.slots.moment in
+    let early = now_in_range P c.requires.legal in
+    let least = subst (IsLeastWait (until c.moment-now.result c.args.self.now.waits.deadlines)) c.in_ok-wait.was (subst (λ l. IsLeastWait (until c.moment-now.result l) c.least_due.result) c.deadlines.ensures c.least_due.ensures) in
+    let waits = due_is_open P c.args.self.now.slots c.requires.legal waiting.slots c.args.self.now.waits.deadlines waiting.waits.deadlines c.moment-now.result c.in_ok-wait.wait least.0 in
+    let number = (call_there P c.args.self.now.slots c.requires.legal waiting.slots c.in_ok-wait.wait waits c.in_ok-call.call.now (sym c.held.ensures ∙ ap option_copied c.in_ok-call.was)).0 in
+    let due = least_is_due P c.args.self.now.slots c.requires.legal waiting.slots c.args.self.now.waits.deadlines waiting.waits.deadlines c.moment-now.result (omega (arith, moment, early)) c.in_ok-wait.wait least in
+    c.apply.ensures ∙ (ap (rule_of (Expires c.moment-now.result) P) number ∙ (sym due ∙ first_due P c.moment-now.result moment))

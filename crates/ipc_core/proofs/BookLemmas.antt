@@ -1,13 +1,12 @@
 -- What keeps the books of a kernel.
-use Rattle.std.proofs.lemmas.Bool.{false≢true, false_from_ne_true, or_cases}
+use Rattle.std.proofs.lemmas.Bool.{false≢true, or_cases}
 use Rattle.std.proofs.lemmas.List.{length-append}
 use Rattle.std.proofs.lemmas.List.Elements.{All-head, All-nil, All-push, All-tail, All-weaker}
 use Rattle.std.proofs.lemmas.List.Folds.{list_any-append}
 use Rattle.std.proofs.lemmas.Map.Keys.{IsDistinct-push}
 use Rattle.std.proofs.lemmas.Map.Steps.{length-le_from_distinct_below}
-use Rattle.std.proofs.Common.{◌≡◌, refl, sym, ap, ap₂, ◌∙◌, subst, ℕ, ◌<◌, ◌≤◌, Bool, true, false, ◌||◌, ◌==◌, eq-eqb, eqb-true, List, [], ◌∷◌, ◌++◌, length, Option, Some, None, IfSome, inl, inr, arith}
+use Rattle.std.proofs.Common.{◌≡◌, refl, sym, ap, ap₂, ◌∙◌, subst, ℕ, ◌<◌, ◌≤◌, Bool, true, false, ◌||◌, ◌==◌, eqb-true, List, [], ◌∷◌, ◌++◌, length, Option, Some, None, IfSome, inl, inr, arith}
 use Rattle.std.specs.Prelude.{All}
-use Rattle.std.specs.Cmp.{IsEquivalence}
 use Rattle.std.specs.List.{IsDistinct, list_any}
 use Rattle.ipc_history.specs.CallParts.{CallParts}
 use Rattle.ipc_history.specs.Calls.{call_at, is_called}
@@ -16,24 +15,13 @@ use Rattle.ipc_history.specs.declared.entry.Entry.{Entry}
 use Rattle.ipc_history.specs.declared.entry.Input.{Input}
 use Rattle.ipc_history.specs.declared.entry.Input.TheVariants.{Called}
 use Rattle.ipc_laws.proofs.Growth.{is_called_kept, over_kept}
-use Rattle.ipc_laws.proofs.Tests.{not_both}
+use Rattle.ipc_waits.proofs.Numbers.{eqb_equivalence, eqb_sym}
 use Rattle.ipc_core.specs.Books.{AreBooks}
 use Rattle.ipc_core.specs.KernelParts.{KernelParts}
 use Rattle.ipc_core.specs.Obeying.{rested}
 use Rattle.ipc_core.specs.Outcomes.{IsTaken, is_among}
 use Rattle.ipc_core.specs.Steps.{taken_after}
 use Rattle.ipc_core.proofs.NewCalls.{Grows, is_call, no_new_call}
-
--- equal numbers
-eqb_sym : (x y : ℕ) → (x == y) ≡ (y == x)
-eqb_sym x y = go (x == y) refl
-  where
-    go : (b : Bool) → (x == y) ≡ b → (x == y) ≡ (y == x)
-    go true e = e ∙ sym (eq-eqb y x (sym (eqb-true x y e)))
-    go false e = e ∙ sym (false_from_ne_true (y == x) (λ t. not_both (eq-eqb x y (sym (eqb-true y x t))) e))
-
-pub eqb_equivalence : IsEquivalence (λ (a b : ℕ). a == b)
-eqb_equivalence = record { refl = λ x. eq-eqb x x refl; symm = eqb_sym; congr = λ x y z same. ap (λ w. w == z) (eqb-true x y same) }
 
 pub none_twice : IsDistinct (λ (a b : ℕ). a == b) []
 unfolding IsDistinct

@@ -39,7 +39,7 @@ use Rattle.ipc_core.specs.Finished.{is_of, with_name}
 use Rattle.ipc_core.specs.Outcomes.{finished_from, is_among}
 use Rattle.ipc_core.specs.Steps.{at_if_later}
 use Rattle.ipc_core.proofs.AfterAt.{same_over}
-use Rattle.ipc_core.proofs.BookLemmas.{eqb_equivalence}
+use Rattle.ipc_waits.proofs.Numbers.{eqb_equivalence}
 
 -- who made a call was opened
 caller_opened : (H : List Entry) → Legal H → (t n : ℕ) → last_call H t ≡ Some n → was_opened H t ≡ true

@@ -1,5 +1,5 @@
 -- What a kernel keeps.
-use Rattle.std.specs.Prelude.{◌≡◌, ℕ, ◌+◌, ◌≤◌, ◌<◌, List, ◌==◌, length, take, false, IsFalse}
+use Rattle.std.specs.Prelude.{◌≡◌, ℕ, ◌+◌, ◌≤◌, ◌<◌, List, ◌==◌, length, take, false}
 use Rattle.std.specs.List.{IsDistinct, list_any}
 use Rattle.ipc_words.specs.Limits.{table_slots, last_moment, max_entries, max_calls}
 use Rattle.ipc_history.specs.Calls.{numbers}

@@ -1,5 +1,5 @@
 -- Which outcomes are to be taken, how many were, and whose calls the last command finished.
-use Rattle.std.specs.Prelude.{ℕ, List, Bool, false, not, ◌&&◌, ◌||◌, ◌==◌, Option, None, is_some, if◌then◌else◌, take, IsTrue}
+use Rattle.std.specs.Prelude.{ℕ, List, Bool, false, not, ◌&&◌, ◌||◌, Option, None, is_some, if◌then◌else◌, take, IsTrue}
 use Rattle.std.specs.Option.{option_map_or}
 use Rattle.ipc_history.specs.Calls.{caller_of, is_called}
 use Rattle.ipc_history.specs.Threads.{is_live}

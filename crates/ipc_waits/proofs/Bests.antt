@@ -21,6 +21,7 @@ use Rattle.ipc_slots.specs.declared.slots.Slots.{Slots}
 use Rattle.ipc_slots.proofs.Betters.{least_better}
 use Rattle.ipc_slots.proofs.Holders.{slot_of_call}
 use Rattle.ipc_slots.proofs.Leasts.{first_found, rule_over}
+use Rattle.ipc_slots.proofs.Holders.{standing_number}
 use Rattle.ipc_waits.specs.Next.{IsBest, slots_at}
 
 -- the slot of the i-th place
@@ -42,10 +43,6 @@ pub best_more : (f : ℕ → Option Output) (table : List Slot) (places : List �
 best_more f table places i place d best within is least =
     let there : slot_at (slots_at table places) i ≡ slot_at table place = slot_there table places i d within ∙ ap (slot_at table) (sym is) in
     subst (λ slot. IsLeast f (slots_at table places) (i + 1) (better_of f (standing_in slot) best)) there (least_better f (slots_at table places) i best least)
-
-pub standing_number : (P : List Entry) (n : ℕ) → (standing_of P n).number ≡ n
-unfolding standing_of
-standing_number P n = refl
 
 -- an open call whose place is among them is seen
 pub seen_there : (P : List Entry) (slots : Slots) → Legal P → Stands P slots → (places : List ℕ) (n : ℕ) → is_over P n ≡ false → is_among places (number_of (caller_of P n)) ≡ true → (i : ℕ) × (i < length places) × (standing_in (slot_at (slots_at slots.table places) i) ≡ Some (standing_of P n))

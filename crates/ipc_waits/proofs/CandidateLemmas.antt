@@ -5,19 +5,14 @@ use Rattle.std.proofs.lemmas.List.Folds.{list_any-append}
 use Rattle.std.proofs.lemmas.List.Elements.{All-head, All-nil, All-push, All-tail}
 use Rattle.std.proofs.lemmas.Map.Keys.{IsDistinct-push}
 use Rattle.std.proofs.lemmas.Map.Steps.{length-le_from_distinct_below}
-use Rattle.std.proofs.Common.{◌≡◌, refl, sym, ap, ap₂, ◌∙◌, subst, ℕ, ◌+◌, ◌<◌, ◌≤◌, ◌||◌, ◌==◌, eq-eqb, eqb-true, Bool, true, false, List, [], ◌∷◌, ◌++◌, length, take, map, get_or, if◌then◌else◌, inl, inr, arith}
-use Rattle.std.specs.Cmp.{IsEquivalence}
+use Rattle.std.proofs.Common.{◌≡◌, refl, sym, ap, ap₂, ◌∙◌, subst, ℕ, ◌+◌, ◌<◌, ◌≤◌, ◌||◌, ◌==◌, eqb-true, Bool, true, false, List, [], ◌∷◌, ◌++◌, length, take, map, get_or, if◌then◌else◌, inl, inr, arith}
 use Rattle.std.specs.Prelude.{All}
 use Rattle.std.specs.List.{IsDistinct, list_any}
 use Rattle.ipc_candidates.specs.Candidates.{is_among}
 use Rattle.ipc_words.specs.Limits.{table_slots}
 use Rattle.ipc_waits.specs.Candidates.{ArePlaces, with_place}
 use Rattle.ipc_waits.specs.declared.queue.Wait.{Wait}
-use Rattle.ipc_waits.proofs.Numbers.{eqb_sym}
-
--- equal numbers
-eqb_equivalence : IsEquivalence (λ (a b : ℕ). a == b)
-eqb_equivalence = record { refl = λ x. eq-eqb x x refl; symm = eqb_sym; congr = λ x y z same. ap (λ w. w == z) (eqb-true x y same) }
+use Rattle.ipc_waits.proofs.Numbers.{eqb_equivalence, eqb_sym}
 
 among_either : (places : List ℕ) (n : ℕ) → is_among places n ≡ list_any (λ k. n == k) places
 among_either [] n = refl

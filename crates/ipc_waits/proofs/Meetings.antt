@@ -38,7 +38,8 @@ use Rattle.ipc_waits.specs.Keys.{Mirrors, sends_under}
 use Rattle.ipc_waits.specs.Next.{IsLeastMeeting, IsOpenAt, better_meeting, meeting_by, meeting_under, slots_at}
 use Rattle.ipc_waits.specs.Queues.{IsOrdered, is_in, is_same, under}
 use Rattle.ipc_waits.specs.declared.queue.Wait.{Wait}
-use Rattle.ipc_waits.proofs.Bests.{seen_there, slot_there, standing_number}
+use Rattle.ipc_slots.proofs.Holders.{standing_number}
+use Rattle.ipc_waits.proofs.Bests.{seen_there, slot_there}
 use Rattle.ipc_waits.proofs.WaitFacts.{sender_is, senders_are, under_is, wait_of}
 use Rattle.ipc_waits.proofs.Sames.{same_itself}
 use Rattle.ipc_waits.proofs.WaitLists.{IsSorted, all_in, find_mapped, rising_sorted, same_find, under_sorted, under_twice}

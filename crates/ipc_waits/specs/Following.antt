@@ -16,7 +16,8 @@ CanFollow waiting change = IfSome change (λ c. (c.place < table_slots) × HaveA
 pub record Followed (old new : Waiting) (change : Change) : Type 0 where
   pub here : HaveAt new.waits change.place (standing_in (slot_at old.slots.table change.place))
   pub elsewhere : SameElsewhere old.waits new.waits change.place
-  pub candidates : FollowsPlace old.candidates new.candidates change.place (is_some (standing_in (slot_at old.slots.table change.place)))
+  pub candidates : FollowsPlace old.candidates new.candidates change.place
+      (is_some (standing_in (slot_at old.slots.table change.place)))
 
 pub record FollowsChange (old new : Waiting) (change : Option Change) : Type 0 where
   pub slots : new.slots ≡ old.slots

@@ -17,8 +17,8 @@ pub record IsWaiting (P : List Entry) (waiting : Waiting) : Type 0 where
   pub waits : AreWaits waiting.slots.table waiting.waits
   pub covers : CoversAt P waiting.candidates
 
--- before an entry: the places have those under whose calls an output is found, and those of the calls that the entry touches without
--- naming them
+-- before an entry: the places have those under whose calls an output is found, and those of the calls that the entry touches
+-- without naming them
 pub record IsTouched (P : List Entry) (e : Entry) (places : List ℕ) : Type 0 where
   pub base : List ℕ
   pub covers : CoversAt P base

@@ -103,7 +103,8 @@ impl Candidates {
     /// Adds the places of waits.
     pub(crate) fn add_all(&mut self, waits: &[Wait])
         requires { All (λ w. w.place < table_slots) waits.now }
-        ensures { (place : ℕ) → is_among self.new place ≡ (is_among self.old place || is_among (map (λ w. w.place) waits.now) place) }
+        ensures { (place : ℕ) → is_among self.new place
+            ≡ (is_among self.old place || is_among (map (λ w. w.place) waits.now) place) }
     {
         for wait in waits {
             self.add(wait.place);

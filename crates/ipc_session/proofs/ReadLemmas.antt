@@ -23,7 +23,7 @@ use Rattle.ipc_connection.specs.declared.stage.Stage.TheVariants.{Greeting, Fini
 use Rattle.ipc_session.proofs.CauseLemmas.{cause_of, fault_ends, still_on}
 use Rattle.ipc_session.proofs.TakeLemmas.{TookFault, TookNone, TookOne}
 use Rattle.ipc_session.proofs.TellLemmas.{tells_both, tells_none}
-use Rattle.ipc_session.specs.Reading.{EndsSo, HasEnded, HasServed, HeardUpTo, IsCause, IsNext, Log, ServesPiece}
+use Rattle.ipc_session.specs.Reading.{EndsSo, HasEnded, HasServed, HeardUpTo, IsCause, IsNext, Leaves, Log, ServesPiece}
 use Rattle.ipc_session.specs.Serving.{Serves, ServesAll, Steps}
 use Rattle.ipc_session.specs.declared.ending.Ending.{Ending}
 use Rattle.ipc_session.specs.declared.ending.Ending.TheVariants as ending
@@ -281,3 +281,19 @@ not_at_end e a b first bytes input h is = (subst (λ (x : Ending). HasEnded a b 
 
 pub goes_on : (a b : Log) (bytes left : List ℕ) (stage : Stage) → HasServed a b Greeting bytes left stage [] → stage ≡ Finished → ⊥
 goes_on a b bytes left stage s = all_on (map heard_of (stream_of Server bytes).frames) Greeting stage s.calls (λ e. cc) s.serves
+
+-- what a piece was served of, behind what was served before
+pub leaves_piece : (a b c : Log) (between : Stage) (bytes left piece : List ℕ) (input : Option (List ℕ)) (decoder : Decoding) (turned : Turned) → HasServed a b Greeting bytes left between [] → ServesPiece b c between (left ++ piece) input decoder turned → Leaves turned a c (bytes ++ piece) input decoder
+leaves_piece a b c between bytes left piece input decoder (On stage) one two = (two.0, served_then a b c Greeting between stage bytes left piece two.0 one two.1, two.2)
+leaves_piece a b c between bytes left piece input decoder (Over e) one two = ends_by e a c (bytes ++ piece) input (ended_then a b c Greeting between bytes left piece input e one two)
+
+-- a piece ends a reader by what it says alone
+pub not_by_piece : (turned : Turned) (a b : Log) (before : Stage) (bytes : List ℕ) (input : Option (List ℕ)) (decoder : Decoding) (e : Ending) → ServesPiece a b before bytes input decoder turned → turned ≡ Over e → HasEnded a b before bytes input e []
+not_by_piece turned a b before bytes input decoder e h is = subst (λ (t : Turned). ServesPiece a b before bytes input decoder t) is h
+
+-- what a turn left, by whether the connection goes on
+pub goes_on_with : (turned : Turned) (a b : Log) (bytes : List ℕ) (input : Option (List ℕ)) (decoder : Decoding) (stage : Stage) → turned ≡ On stage → Leaves turned a b bytes input decoder → (left : List ℕ) × HasServed a b Greeting bytes left stage [] × Holds decoder left
+goes_on_with turned a b bytes input decoder stage is h = subst (λ (t : Turned). Leaves t a b bytes input decoder) is h
+
+pub ends_with : (turned : Turned) (a b : Log) (bytes : List ℕ) (input : Option (List ℕ)) (decoder : Decoding) (e : Ending) → turned ≡ Over e → Leaves turned a b bytes input decoder → EndsSo e a b bytes input []
+ends_with turned a b bytes input decoder e is h = subst (λ (t : Turned). Leaves t a b bytes input decoder) is h

@@ -1,8 +1,8 @@
-ghost use Rattle.std.specs.Prelude.{◌≡◌, ◌≢◌, ◌<◌, ℕ, List, [], ◌∷◌, ◌++◌, Option, true};
+ghost use Rattle.std.specs.Prelude.{◌≡◌, ◌≢◌, ◌<◌, ℕ, List, [], ◌∷◌, ◌++◌, Option, length, true};
 ghost use Rattle.std.specs.Io.KnownBytes.{Consumes, IsAtEnd};
 ghost use Rattle.ipc_calls.specs.Taking.{Holds};
 ghost use Rattle.ipc_connection.specs.Desk.{Breaks};
-ghost use Rattle.ipc_session.specs.Reading.{EndsSo, HasServed, Log, ServesPiece};
+ghost use Rattle.ipc_session.specs.Reading.{EndsSo, HasServed, Log, ReadsOn, ServesPiece};
 ghost use Rattle.ipc_connection.specs.declared.stage.Stage.TheVariants as at_stage;
 
 use crate::calling::CallDesk;
@@ -15,8 +15,11 @@ use ipc_connection::Stage;
 use ipc_ports::PortRead;
 use std::alloc::Global;
 
-/// How many bytes are read at most in one turn.
-const PIECE: usize = 8192;
+/// How many bytes a turn reads at most, where little is waiting: any frame without strings.
+const SHORT: usize = 1024;
+
+/// How many bytes a turn reads at most, where the last one read as many as a short one may.
+const LONG: usize = 65_536;
 
 /// Reads frames and serves each by the rules of a connection, one after the other, and then tells the desk once that the
 /// thread ends. While the desk makes it wait nothing is read.
@@ -55,22 +58,77 @@ fn read_all<P: PortRead, D: CallDesk, G: Gate>(
     ensures ended { result ≡ Ending.EndOfInput → IsAtEnd (P.remaining port.new) }
 {
     let mut decoder = CallDecoder::new(alloc);
-    let mut buffer = [0u8; PIECE];
     let mut stage = Stage::Greeting;
+    let mut is_long = false;
     'turns: while gate.turn() {
-        let count = match port.read(&mut buffer) {
-            Ok(count) => count,
-            Err(_) => return Ending::Device,
-        };
-        if count == 0 {
-            return end_input(desk, &mut decoder, stage);
-        }
-        match serve_piece(desk, &mut decoder, stage, &buffer[..count]) {
+        let (turned, was_much) = read_next(port, desk, &mut decoder, stage, is_long);
+        match turned {
             Turned::On(next) => stage = next,
             Turned::Over(ending) => return ending,
         }
+        is_long = was_much;
     }
     Ending::Stopped
+}
+
+/// Reads once, and serves the frames that end in what was read. Also answers whether that was much, so that more may be waiting.
+fn read_next<P: PortRead, D: CallDesk>(
+    port: &mut P,
+    desk: &mut D,
+    decoder: &mut CallDecoder,
+    stage: Stage,
+    is_long: bool,
+) -> (Turned, bool)
+    requires { stage ≢ Stage.Finished }
+    ensures { ReadsOn (P.remaining port.old) (P.remaining port.new) (D.log desk.old) (D.log desk.new) decoder.old decoder.new
+        (P.failures port.old) (P.failures port.new) stage result.0 }
+{
+    if is_long {
+        read_long(port, desk, decoder, stage)
+    } else {
+        read_turn(port, desk, decoder, stage, &mut [0u8; SHORT])
+    }
+}
+
+/// Reads once through a long buffer. It stands on the stack of this function alone, which is never inlined. So a connection that
+/// says little never touches it.
+#[inline(never)]
+fn read_long<P: PortRead, D: CallDesk>(
+    port: &mut P,
+    desk: &mut D,
+    decoder: &mut CallDecoder,
+    stage: Stage,
+) -> (Turned, bool)
+    requires { stage ≢ Stage.Finished }
+    ensures { ReadsOn (P.remaining port.old) (P.remaining port.new) (D.log desk.old) (D.log desk.new) decoder.old decoder.new
+        (P.failures port.old) (P.failures port.new) stage result.0 }
+{
+    read_turn(port, desk, decoder, stage, &mut [0u8; LONG])
+}
+
+/// Reads once into a buffer, and serves the frames that end in what was read. Also answers whether that was much.
+fn read_turn<P: PortRead, D: CallDesk>(
+    port: &mut P,
+    desk: &mut D,
+    decoder: &mut CallDecoder,
+    stage: Stage,
+    buffer: &mut [u8],
+) -> (Turned, bool)
+    requires goes_on { stage ≢ Stage.Finished }
+    requires some { 0 < length buffer.old }
+    ensures { ReadsOn (P.remaining port.old) (P.remaining port.new) (D.log desk.old) (D.log desk.new) decoder.old decoder.new
+        (P.failures port.old) (P.failures port.new) stage result.0 }
+{
+    let count = match port.read(buffer) {
+        Ok(count) => count,
+        Err(_) => return (Turned::Over(Ending::Device), false),
+    };
+    if count == 0 {
+        let ending = end_input(desk, decoder, stage);
+        return (Turned::Over(ending), false);
+    }
+    let turned = serve_piece(desk, decoder, stage, &buffer[..count]);
+    (turned, count >= SHORT)
 }
 
 /// The input is at its end: inside a frame that is a fault.

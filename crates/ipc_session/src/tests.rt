@@ -247,6 +247,40 @@ fn each_cut_in_two_is_served_alike(rt: HostRuntime) {
     }
 }
 
+// HELLO, then so many times the EXREG of TALK, then BYE; and what a desk is asked by it.
+fn long_talk(rt: &impl Abort, alloc: Global, times: usize) -> (Vec<u8>, Vec<Brief>) {
+    let [opened, _, exchanged] = DEEDS;
+    let mut talk = Vec::new(alloc);
+    let mut deeds = Vec::new(alloc);
+    talk.extend_from_slice(&TALK[..7]).expect(rt, "memory");
+    deeds.push(opened).expect(rt, "memory");
+    for _ in 0..times {
+        talk.extend_from_slice(&TALK[65..86]).expect(rt, "memory");
+        deeds.push(exchanged).expect(rt, "memory");
+    }
+    talk.extend_from_slice(&TALK[86..]).expect(rt, "memory");
+    (talk, deeds)
+}
+
+// 1,024 bytes are the most that a first turn reads, and 65,536 the most of any
+#[test]
+fn what_several_turns_read_is_served_alike(rt: HostRuntime) {
+    let alloc = rt.alloc();
+    for times in [47, 48, 49, 97, 98, 3200, 6500] {
+        let (talk, deeds) = long_talk(&rt, alloc, times);
+        let mut port = MemoryPort::new(alloc, talk.as_slice());
+        assert_read(
+            &rt,
+            alloc,
+            &mut port,
+            None,
+            ENOUGH,
+            Ending::Bye,
+            deeds.as_slice(),
+        );
+    }
+}
+
 #[test]
 fn a_reader_ends_where_a_read_fails(rt: HostRuntime) {
     let alloc = rt.alloc();

@@ -10,15 +10,22 @@ use crate::taking::TakeDesk;
 use ipc_frame::Encoder;
 use ipc_ports::{PortFault, PortWrite, write_all};
 
-/// How many bytes go out in one write at most.
-const PIECE: usize = 8192;
+/// How many bytes of a short frame go out in one write at most: any frame without strings.
+const SHORT: usize = 1024;
+
+/// How many bytes of a long frame go out in one write at most.
+const LONG: usize = 65_536;
+
+/// From so many bytes of strings on the frame of an outcome is a long one.
+const LONG_STRINGS: u64 = 512;
 
 /// Writes the next bytes of an encoder; false where none are left.
 fn write_piece<P: PortWrite>(
     port: &mut P,
     encoder: &mut Encoder,
-    buffer: &mut [u8; PIECE],
+    buffer: &mut [u8],
 ) -> Result<bool, PortFault>
+    requires { 0 < length buffer.old }
     ensures wrote { OnOk result (Writes (P.written port.old) (P.written port.new) encoder.old encoder.new) }
     ensures more { IfOk result (λ more. more ≡ true → length encoder.new < length encoder.old) }
     ensures done { IfOk result (λ more. more ≡ false → encoder.old ≡ []) }
@@ -38,8 +45,9 @@ fn write_piece<P: PortWrite>(
 fn write_encoder<P: PortWrite>(
     port: &mut P,
     encoder: Encoder,
-    buffer: &mut [u8; PIECE],
+    buffer: &mut [u8],
 ) -> Result<(), PortFault>
+    requires { 0 < length buffer.old }
     ensures whole { OnOk result (Appends (P.written port.old) (P.written port.new) encoder) }
     ensures part { OnErr result (AppendsPart (P.written port.old) (P.written port.new) encoder) }
     ensures failed { OnErr result (P.failures port.old < P.failures port.new) }
@@ -48,6 +56,40 @@ fn write_encoder<P: PortWrite>(
     let mut encoder = encoder;
     'pieces: while write_piece(port, &mut encoder, buffer)? {}
     Ok(())
+}
+
+/// Writes the bytes of an encoder in long pieces. Their buffer stands on the stack of this function alone, which is never inlined.
+/// So a connection that is told little never touches it.
+#[inline(never)]
+fn write_long<P: PortWrite>(port: &mut P, encoder: Encoder) -> Result<(), PortFault>
+    ensures whole { OnOk result (Appends (P.written port.old) (P.written port.new) encoder) }
+    ensures part { OnErr result (AppendsPart (P.written port.old) (P.written port.new) encoder) }
+    ensures failed { OnErr result (P.failures port.old < P.failures port.new) }
+    ensures kept { OnOk result (P.failures port.new ≡ P.failures port.old) }
+{
+    write_encoder(port, encoder, &mut [0u8; LONG])
+}
+
+/// Writes the bytes of an encoder, in long pieces or in short ones.
+fn write_frame<P: PortWrite>(port: &mut P, encoder: Encoder, is_long: bool) -> Result<(), PortFault>
+    ensures whole { OnOk result (Appends (P.written port.old) (P.written port.new) encoder) }
+    ensures part { OnErr result (AppendsPart (P.written port.old) (P.written port.new) encoder) }
+    ensures failed { OnErr result (P.failures port.old < P.failures port.new) }
+    ensures kept { OnOk result (P.failures port.new ≡ P.failures port.old) }
+{
+    if is_long {
+        write_long(port, encoder)
+    } else {
+        write_encoder(port, encoder, &mut [0u8; SHORT])
+    }
+}
+
+/// Whether the frame of what is given is better written in long pieces.
+fn is_long(next: &Next) -> bool {
+    match next {
+        Next::Outcome(outcome) => outcome.strings.size() >= LONG_STRINGS,
+        _ => false,
+    }
 }
 
 /// The encoder of what is given; None where nothing more comes. Takes no memory.
@@ -62,11 +104,7 @@ fn encoder_of(next: Next) -> Option<Encoder>
 }
 
 /// Writes what the desk gives next, and answers how the loop ends, if it does.
-fn write_next<P: PortWrite, D: TakeDesk>(
-    port: &mut P,
-    desk: &mut D,
-    buffer: &mut [u8; PIECE],
-) -> Option<WriteEnding>
+fn write_next<P: PortWrite, D: TakeDesk>(port: &mut P, desk: &mut D) -> Option<WriteEnding>
     ensures text { Wrote (D.log desk.old) (D.log desk.new) (P.written port.old) (P.written port.new)
         (broken_by result) (is_whole_at result) }
     ensures device { result ≡ Some WriteEnding.Device → P.failures port.old < P.failures port.new }
@@ -75,10 +113,11 @@ fn write_next<P: PortWrite, D: TakeDesk>(
     ensures goes_on { result ≢ Some WriteEnding.Stopped }
 {
     let next = desk.next();
+    let is_long = is_long(&next);
     let Some(encoder) = encoder_of(next) else {
         return Some(WriteEnding::Gone);
     };
-    match write_encoder(port, encoder, buffer) {
+    match write_frame(port, encoder, is_long) {
         Ok(()) => None,
         Err(_) => {
             desk.broke();
@@ -100,9 +139,8 @@ pub fn write_loop<P: PortWrite, D: TakeDesk, G: Gate>(
     ensures stopped { result ≡ WriteEnding.Stopped → G.stopped gate.new ≡ true }
     ensures gone { result ≡ WriteEnding.Gone → D.gone desk.new ≡ true }
 {
-    let mut buffer = [0u8; PIECE];
     'turns: while gate.turn() {
-        if let Some(ending) = write_next(port, desk, &mut buffer) {
+        if let Some(ending) = write_next(port, desk) {
             return ending;
         }
     }

@@ -1,0 +1,42 @@
+use Rattle.std.proofs.Common.{◌++◌, ◌<◌, length, refl, rules}
+use Rattle.std.proofs.KnownBytes.{Consumes-trans}
+use Rattle.ipc_session.proofs.ReadLemmas.{consumes_none, leaves_piece, not_at_end, not_by_piece, not_device, not_stopped}
+use Rattle.ipc_session.proofs.reading.read_turn.Goals as goal
+
+pub returns-in-Err : goal.returns-in-Err
+returns-in-Err g c = λ start first bytes left consumed holds served. record {
+  bytes = bytes;
+  consumed = search rules;
+  leaves = (left, c.args.stage, served);
+  device = λ is. c.in-Err.ensures.failed;
+  kept = λ stage is. absurd (cc);
+  ended = λ is. absurd (cc);
+  goes_on = λ is. absurd (cc);
+}
+
+pub returns-then-count-eq0 : goal.returns-then-count-eq0
+returns-then-count-eq0 g c = λ start first bytes left consumed holds served.
+    let read = c.in-Ok.ensures.bytes in
+    let some = c.requires.some in
+    let long : 0 < length c.read.new.buf = search rules in
+    let at_end = read.1 c.if-count-eq0.true long in record {
+      bytes = bytes;
+      consumed = consumes_none _ _ _ bytes _ _ consumed read.0 c.if-count-eq0.true;
+      leaves = c.end_input-ending.ensures.calls _ bytes left _ holds served at_end;
+      device = λ is. absurd (c.end_input-ending.ensures.only (cc));
+      kept = λ stage is. absurd (cc);
+      ended = λ is. at_end;
+      goes_on = λ is. absurd (c.end_input-ending.ensures.never (cc));
+    }
+
+pub returns : goal.returns
+returns g c = λ start first bytes left consumed holds served.
+    let piece = c.serve_piece-turned.ensures left (g.P.PortRead.remaining c.read.new.self) holds in record {
+      bytes = bytes ++ _;
+      consumed = Consumes-trans _ _ _ bytes _ consumed c.in-Ok.ensures.bytes.0;
+      leaves = leaves_piece _ _ _ _ bytes left _ _ _ _ served piece;
+      device = λ is. absurd (not_device _ _ _ _ _ _ (not_by_piece _ _ _ _ _ _ _ _ piece is) refl);
+      kept = λ stage is. c.in-Ok.ensures.kept;
+      ended = λ is. absurd (not_at_end _ _ _ _ _ _ (not_by_piece _ _ _ _ _ _ _ _ piece is) refl);
+      goes_on = λ is. absurd (not_stopped _ _ _ _ _ _ (not_by_piece _ _ _ _ _ _ _ _ piece is) refl);
+    }

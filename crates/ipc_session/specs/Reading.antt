@@ -101,26 +101,30 @@ EndsSo Halted old new bytes input last = (left : List ℕ) × (stage : Stage) ×
 EndsSo EndOfInput old new bytes input last = (stage : Stage) × HasServed old new Greeting bytes [] stage last
 EndsSo ending old new bytes input last = HasEnded old new Greeting bytes input ending last
 
--- what a turn leaves: all whole frames of the bytes read so far were served, or the reader ended by what it read
+-- what a turn leaves: all whole frames of the bytes read so far were served, or the reader ended
+-- by what it read
 abbrev pub Leaves : Turned → Log → Log → List ℕ → Option (List ℕ) → Decoding → Type 0
-Leaves (On stage) old new bytes input decoder = (left : List ℕ) × HasServed old new Greeting bytes left stage [] × Holds decoder left
+Leaves (On stage) old new bytes input decoder =
+    (left : List ℕ) × HasServed old new Greeting bytes left stage [] × Holds decoder left
 Leaves (Over ending) old new bytes input decoder = EndsSo ending old new bytes input []
 
--- what a reader has read and served from a beginning on, one more read included. That read ends it for a failure of the device, at the
--- end of the input, or by what it heard
-pub record HasRead (start input : Option (List ℕ)) (old new : Log) (decoder : Decoding) (failures failures_now : ℕ)
-    (turned : Turned) : Type 0 where
+-- what a reader has read and served from a beginning on, one more read included. That read ends it
+-- for a failure of the device, at the end of the input, or by what it heard
+pub record HasRead (start input : Option (List ℕ)) (old new : Log) (decoder : Decoding)
+    (failures failures_now : ℕ) (turned : Turned) : Type 0 where
   pub bytes : List ℕ
   pub consumed : Consumes start input bytes
   pub leaves : Leaves turned old new bytes input decoder
   pub device : turned ≡ Over Device → failures < failures_now
   pub kept : (stage : Stage) → turned ≡ On stage → failures_now ≡ failures
   pub ended : turned ≡ Over EndOfInput → IsAtEnd input
-  pub goes_on : turned ≡ Over Halted → ⊥
+  pub not_stopped : turned ≡ Over Halted → ⊥
 
 -- one read, whatever was read and served before it
-abbrev pub ReadsOn : Option (List ℕ) → Option (List ℕ) → Log → Log → Decoding → Decoding → ℕ → ℕ → Stage → Turned → Type 0
+abbrev pub ReadsOn : Option (List ℕ) → Option (List ℕ) → Log → Log → Decoding → Decoding → ℕ → ℕ
+    → Stage → Turned → Type 0
 ReadsOn input input_now log log_now decoder decoder_now failures failures_now stage turned =
     (start : Option (List ℕ)) → (first : Log) → (bytes left : List ℕ)
-    → Consumes start input bytes → Holds decoder left → HasServed first log Greeting bytes left stage []
+    → Consumes start input bytes → Holds decoder left
+    → HasServed first log Greeting bytes left stage []
     → HasRead start input_now first log_now decoder_now failures failures_now turned

@@ -2,6 +2,7 @@
 #![tactic(auto)]
 
 mod answers;
+mod buffers;
 mod calling;
 mod deed;
 mod ending;

@@ -5,6 +5,7 @@ ghost use Rattle.ipc_connection.specs.Desk.{Breaks};
 ghost use Rattle.ipc_session.specs.Reading.{EndsSo, HasServed, Log, ReadsOn, ServesPiece};
 ghost use Rattle.ipc_connection.specs.declared.stage.Stage.TheVariants as at_stage;
 
+use crate::buffers::{LONG, SHORT};
 use crate::calling::CallDesk;
 use crate::ending::Ending;
 use crate::gate::Gate;
@@ -14,12 +15,6 @@ use ipc_calls::CallDecoder;
 use ipc_connection::Stage;
 use ipc_ports::PortRead;
 use std::alloc::Global;
-
-/// How many bytes a turn reads at most, where little is waiting: any frame without strings.
-const SHORT: usize = 1024;
-
-/// How many bytes a turn reads at most, where the last one read as many as a short one may.
-const LONG: usize = 65_536;
 
 /// Reads frames and serves each by the rules of a connection, one after the other, and then tells the desk once that the
 /// thread ends. While the desk makes it wait nothing is read.
@@ -71,7 +66,8 @@ fn read_all<P: PortRead, D: CallDesk, G: Gate>(
     Ending::Stopped
 }
 
-/// Reads once, and serves the frames that end in what was read. Also answers whether that was much, so that more may be waiting.
+/// Reads once, and serves the frames that end in what was read. Also answers whether that was much,
+/// so that more may be waiting.
 fn read_next<P: PortRead, D: CallDesk>(
     port: &mut P,
     desk: &mut D,
@@ -80,7 +76,8 @@ fn read_next<P: PortRead, D: CallDesk>(
     is_long: bool,
 ) -> (Turned, bool)
     requires { stage ≢ Stage.Finished }
-    ensures { ReadsOn (P.remaining port.old) (P.remaining port.new) (D.log desk.old) (D.log desk.new) decoder.old decoder.new
+    ensures { ReadsOn (P.remaining port.old) (P.remaining port.new)
+        (D.log desk.old) (D.log desk.new) decoder.old decoder.new
         (P.failures port.old) (P.failures port.new) stage result.0 }
 {
     if is_long {
@@ -90,8 +87,8 @@ fn read_next<P: PortRead, D: CallDesk>(
     }
 }
 
-/// Reads once through a long buffer. It stands on the stack of this function alone, which is never inlined. So a connection that
-/// says little never touches it.
+/// Reads once through a long buffer. It stands on the stack of this function alone, which is never
+/// inlined. So a connection that says little never touches it.
 #[inline(never)]
 fn read_long<P: PortRead, D: CallDesk>(
     port: &mut P,
@@ -100,13 +97,15 @@ fn read_long<P: PortRead, D: CallDesk>(
     stage: Stage,
 ) -> (Turned, bool)
     requires { stage ≢ Stage.Finished }
-    ensures { ReadsOn (P.remaining port.old) (P.remaining port.new) (D.log desk.old) (D.log desk.new) decoder.old decoder.new
+    ensures { ReadsOn (P.remaining port.old) (P.remaining port.new)
+        (D.log desk.old) (D.log desk.new) decoder.old decoder.new
         (P.failures port.old) (P.failures port.new) stage result.0 }
 {
     read_turn(port, desk, decoder, stage, &mut [0u8; LONG])
 }
 
-/// Reads once into a buffer, and serves the frames that end in what was read. Also answers whether that was much.
+/// Reads once into a buffer, and serves the frames that end in what was read. Also answers whether
+/// that was much.
 fn read_turn<P: PortRead, D: CallDesk>(
     port: &mut P,
     desk: &mut D,
@@ -116,7 +115,8 @@ fn read_turn<P: PortRead, D: CallDesk>(
 ) -> (Turned, bool)
     requires goes_on { stage ≢ Stage.Finished }
     requires some { 0 < length buffer.old }
-    ensures { ReadsOn (P.remaining port.old) (P.remaining port.new) (D.log desk.old) (D.log desk.new) decoder.old decoder.new
+    ensures { ReadsOn (P.remaining port.old) (P.remaining port.new)
+        (D.log desk.old) (D.log desk.new) decoder.old decoder.new
         (P.failures port.old) (P.failures port.new) stage result.0 }
 {
     let count = match port.read(buffer) {

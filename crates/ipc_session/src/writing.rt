@@ -3,18 +3,13 @@ ghost use Rattle.std.specs.Io.KnownBytes.{Appends};
 ghost use Rattle.ipc_ports.specs.Ports.{AppendsPart};
 ghost use Rattle.ipc_session.specs.Taking.{Encodes, Writes, Wrote, broken_by, is_whole_at};
 
+use crate::buffers::{LONG, SHORT};
 use crate::ending::WriteEnding;
 use crate::gate::Gate;
 use crate::next::Next;
 use crate::taking::TakeDesk;
 use ipc_frame::Encoder;
 use ipc_ports::{PortFault, PortWrite, write_all};
-
-/// How many bytes of a short frame go out in one write at most: any frame without strings.
-const SHORT: usize = 1024;
-
-/// How many bytes of a long frame go out in one write at most.
-const LONG: usize = 65_536;
 
 /// From so many bytes of strings on the frame of an outcome is a long one.
 const LONG_STRINGS: u64 = 512;
@@ -58,8 +53,8 @@ fn write_encoder<P: PortWrite>(
     Ok(())
 }
 
-/// Writes the bytes of an encoder in long pieces. Their buffer stands on the stack of this function alone, which is never inlined.
-/// So a connection that is told little never touches it.
+/// Writes the bytes of an encoder in long pieces. Their buffer stands on the stack of this function
+/// alone, which is never inlined. So a connection that is told little never touches it.
 #[inline(never)]
 fn write_long<P: PortWrite>(port: &mut P, encoder: Encoder) -> Result<(), PortFault>
     ensures whole { OnOk result (Appends (P.written port.old) (P.written port.new) encoder) }

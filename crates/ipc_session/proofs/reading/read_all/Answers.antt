@@ -50,7 +50,7 @@ pub returns-in-Over-clause-stopped : goal.returns-in-Over-clause-stopped
 returns-in-Over-clause-stopped g c is =
     let before = c.turns.invariant in
     let read = c.read_next-turned.ensures _ _ _ _ before.consumed before.holds before.served in
-    absurd (read.goes_on (c.in-Over.is ∙ ap Over is))
+    absurd (read.not_stopped (c.in-Over.is ∙ ap Over is))
 
 pub returns-in-Over-clause-ended : goal.returns-in-Over-clause-ended
 returns-in-Over-clause-ended g c is =

@@ -11,7 +11,7 @@ returns-in-Err g c = λ start first bytes left consumed holds served. record {
   device = λ is. c.in-Err.ensures.failed;
   kept = λ stage is. absurd (cc);
   ended = λ is. absurd (cc);
-  goes_on = λ is. absurd (cc);
+  not_stopped = λ is. absurd (cc);
 }
 
 pub returns-then-count-eq0 : goal.returns-then-count-eq0
@@ -26,7 +26,7 @@ returns-then-count-eq0 g c = λ start first bytes left consumed holds served.
       device = λ is. absurd (c.end_input-ending.ensures.only (cc));
       kept = λ stage is. absurd (cc);
       ended = λ is. at_end;
-      goes_on = λ is. absurd (c.end_input-ending.ensures.never (cc));
+      not_stopped = λ is. absurd (c.end_input-ending.ensures.never (cc));
     }
 
 pub returns : goal.returns
@@ -38,5 +38,5 @@ returns g c = λ start first bytes left consumed holds served.
       device = λ is. absurd (not_device _ _ _ _ _ _ (not_by_piece _ _ _ _ _ _ _ _ piece is) refl);
       kept = λ stage is. c.in-Ok.ensures.kept;
       ended = λ is. absurd (not_at_end _ _ _ _ _ _ (not_by_piece _ _ _ _ _ _ _ _ piece is) refl);
-      goes_on = λ is. absurd (not_stopped _ _ _ _ _ _ (not_by_piece _ _ _ _ _ _ _ _ piece is) refl);
+      not_stopped = λ is. absurd (not_stopped _ _ _ _ _ _ (not_by_piece _ _ _ _ _ _ _ _ piece is) refl);
     }

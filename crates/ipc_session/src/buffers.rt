@@ -1,0 +1,7 @@
+//! How long the buffers are through which a connection is read and written. No clause names them.
+
+/// Bytes of a short buffer, which hold any frame without strings.
+pub(crate) const SHORT: usize = 1024;
+
+/// Bytes of a long buffer.
+pub(crate) const LONG: usize = 65_536;

@@ -40,6 +40,9 @@ DIALOGUES = [
     ("strings", [
         (1, hello(1)), (2, hello(2)), (1, ipc(0, TWO, buffers=[0x1000, 0x1000, 0x2000, 0x2000])),
         (2, ipc(ONE, 0, [0xC00, 0x0, 0x1400, 0x3], tag=0x100, payload=b"abchello")), (1, BYE), (2, BYE)]),
+    ("a string that is longer than the buffers of a connection", [
+        (1, hello(1)), (2, hello(2)), (1, ipc(0, TWO, buffers=[70_000 << 10, 0x1000])),
+        (2, ipc(ONE, 0, [70_000 << 10, 0x0], tag=0x80, payload=bytes(n % 251 for n in range(70_000)))), (1, BYE), (2, BYE)]),
     ("a string that does not fit", [
         (1, hello(1)), (2, hello(2)), (1, ipc(0, TWO, buffers=[0x800, 0x1000])),
         (2, ipc(ONE, 0, [0xC00, 0x0], tag=0x80, payload=b"abc")), (1, BYE), (2, BYE)]),

@@ -40,7 +40,8 @@ def missing(path, words):
         if is_name and any(part not in words and part not in OUTSIDE for part in re.findall(r"\w+", quoted)):
             yield quoted
         is_path = re.fullmatch(r"(?:\./)?(?:crates|docs|checks|bench|examples|clients|packaging|tutorial)/[\w./-]+", quoted)
-        if is_path and not glob.glob(quoted):
+        # (NAME and X stand for any name)
+        if is_path and not glob.glob(re.sub(r"\b(?:NAME|X)\b", "*", quoted)):
             yield quoted
     for link in re.findall(r"\]\(([^)#:]+)(?:#[^)]*)?\)", plain):
         if not os.path.exists(os.path.join(os.path.dirname(path), link)):

@@ -12,7 +12,20 @@ import sys
 import tempfile
 
 ROOT = os.path.dirname(os.path.dirname(os.path.abspath(__file__)))
-CRATES = "words items history laws candidates slots desks core lines lock".split()
+
+
+def below(name):
+    """The crates of this repository that a crate stands on, itself included, with their lines of crates.txt."""
+    with open(f"{ROOT}/crates.txt", encoding="utf-8") as file:
+        listed = {line.split(":")[0]: line for line in file if ":" in line}
+    found, waiting = {}, [name]
+    while waiting:
+        crate = waiting.pop()
+        if crate in listed and crate not in found:
+            found[crate] = listed[crate]
+            waiting += listed[crate].split(":")[1].split()
+    return found
+
 
 HEAD = """//! Would make what only the lock may make.
 #![tactic(auto)]
@@ -91,13 +104,13 @@ def main():
     with tempfile.TemporaryDirectory() as room:
         os.makedirs(f"{room}/crates/ipc_forger/src")
         shutil.copy(f"{ROOT}/HANDLES", room)
-        with open(f"{ROOT}/crates.txt", encoding="utf-8") as file:
-            listed = [line for line in file if line.split(":")[0] in {f"ipc_{name}" for name in CRATES}]
+        crates = below("ipc_lock")
         with open(f"{room}/crates.txt", "w", encoding="utf-8") as file:
-            file.writelines(listed + ["ipc_forger: ipc_words ipc_history ipc_lock\n"])
-        for name in CRATES:
+            file.writelines([*crates.values(), "ipc_forger: ipc_words ipc_history ipc_core ipc_lock\n"])
+        for name in crates:
             for part in ("src", "specs"):
-                shutil.copytree(f"{ROOT}/crates/ipc_{name}/{part}", f"{room}/crates/ipc_{name}/{part}")
+                if os.path.isdir(f"{ROOT}/crates/{name}/{part}"):
+                    shutil.copytree(f"{ROOT}/crates/{name}/{part}", f"{room}/crates/{name}/{part}")
         status, _, said = compiled(room, HEAD)
         if status != 0:
             print(f"the program without the rows is not accepted:\n{said}")

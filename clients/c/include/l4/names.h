@@ -1,0 +1,27 @@
+/* The name server of docs/NAMES.md: which thread has a name now. A server that ended and came again has another id, and
+ * the same name. These calls are Ipc with thread 255, so they change the message registers and L4_ErrorCode as L4_Call
+ * does; the buffer registers stay. */
+#ifndef L4_NAMES_H
+#define L4_NAMES_H
+
+#include <l4/types.h>
+
+/* The bytes of the longest name. Names are printable ASCII without the space. */
+enum { L4_NAME_BYTES = 64 };
+
+/* From now on the name is that of the calling thread, until that ends. 0, or -1 with errno: EINVAL for what is no name,
+ * EADDRINUSE where another live thread has it, ENOSPC, ENOMEM, ESRCH where there is no name server, EIO where the call
+ * of it failed, or that of a lost connection. */
+int l4_register(const char *name);
+
+/* The live thread that has the name; L4_nilthread with errno ENOENT where there is none, or as l4_register has it. */
+L4_ThreadId_t l4_lookup(const char *name);
+
+/* The first name behind `after`, in the order of bytes, and its thread; from "" on, all of them one by one. 1, or 0
+ * where there is no further one, or -1 with errno as l4_register has it. name ends with a zero byte. */
+int l4_list(const char *after, char name[L4_NAME_BYTES + 1], L4_ThreadId_t *thread);
+
+/* Asks this thread as name server, in place of the first live one of 255.1 to 255.63. L4_nilthread: that one again. */
+void l4_use_name_server(L4_ThreadId_t server);
+
+#endif

@@ -1,0 +1,119 @@
+/* Threads: their ids, the connection that makes the calling thread one of them, and ExchangeRegisters. */
+#ifndef L4_THREAD_H
+#define L4_THREAD_H
+
+#include <l4/types.h>
+
+#define L4_nilthread ((L4_ThreadId_t) { 0 })
+#define L4_anythread ((L4_ThreadId_t) { ~(L4_Word_t) 0 })
+#define L4_anylocalthread ((L4_ThreadId_t) { ~(L4_Word_t) 0x3f })
+
+/* The id of these two; what does not fit 32 bits is cut off. */
+static inline L4_ThreadId_t L4_GlobalId(L4_Word_t threadno, L4_Word_t version)
+{
+	return (L4_ThreadId_t) { threadno << 32 | (version & 0xffffffff) };
+}
+
+static inline L4_Word_t L4_ThreadNo(L4_ThreadId_t t)
+{
+	return t.raw >> 32;
+}
+
+static inline L4_Word_t L4_Version(L4_ThreadId_t t)
+{
+	return t.raw & 0xffffffff;
+}
+
+static inline L4_Bool_t L4_IsThreadEqual(L4_ThreadId_t l, L4_ThreadId_t r)
+{
+	return l.raw == r.raw;
+}
+
+static inline L4_Bool_t L4_IsThreadNotEqual(L4_ThreadId_t l, L4_ThreadId_t r)
+{
+	return l.raw != r.raw;
+}
+
+/* No thread has a local id here, so two ids are the same thread only where they are equal. */
+static inline L4_Bool_t L4_SameThreads(L4_ThreadId_t l, L4_ThreadId_t r)
+{
+	return l.raw == r.raw;
+}
+
+static inline L4_Bool_t L4_IsNilThread(L4_ThreadId_t t)
+{
+	return t.raw == 0;
+}
+
+/* Has the form of a local id, as L4_anylocalthread does. */
+static inline L4_Bool_t L4_IsLocalId(L4_ThreadId_t t)
+{
+	return t.raw != 0 && (t.raw & 0x3f) == 0;
+}
+
+/* Has the form of a global id, as L4_anythread does. */
+static inline L4_Bool_t L4_IsGlobalId(L4_ThreadId_t t)
+{
+	return (t.raw & 0x3f) != 0;
+}
+
+/* Makes the calling thread the L4 thread of this number (1 to 255) in this space (1 to 64) of the server whose folder
+ * is dir: it connects to dir/spaceN. 0, or -1 with errno: that of connect(2) or socket(2); EISCONN where the thread is
+ * connected; EINVAL, EADDRINUSE, EADDRNOTAVAIL, ENOMEM, ENOSPC for REFUSED K1 to K5; EPROTO for a FAULT or another
+ * answer. The connection, and so the L4 thread, ends with the thread of the process at the latest. */
+int l4_connect(const char *dir, unsigned space, unsigned number);
+
+/* Ends the L4 thread. Nothing happens where the calling thread is none. */
+void l4_disconnect(void);
+
+/* Why the last call of this thread that failed did so: the phase and error of an Ipc, the number of a refusal or
+ * fault, or what was wrong with the connection. "no error" before the first. It stands until the next call of
+ * l4_error in this thread. */
+const char *l4_error(void);
+
+/* The id of the calling thread; L4_nilthread where it is not connected, or no longer. */
+L4_ThreadId_t L4_Myself(void);
+L4_ThreadId_t L4_MyGlobalId(void);
+
+/* The thread control registers that are there. L4_ErrorCode: p in bit 0 (0 send phase, 1 receive phase), e in bits 1
+ * to 3, the offset from bit 4 on. e is 0 where the server refused the call, or the connection or the call itself was at
+ * fault: the offset is then 256 * class + number, with the
+ * class K, F or S of a refusal or fault, C for what this library tells itself, N for names. */
+L4_Word_t L4_ErrorCode(void);
+L4_ThreadId_t L4_ActualSender(void);
+void L4_Set_VirtualSender(L4_ThreadId_t t);
+
+/* The bits R and S of the control word of ExchangeRegisters are 0x2 and 0x4. A control with any other bit stops nobody:
+ * the answer is L4_nilthread, with errno EINVAL and C3 in L4_ErrorCode. No stack pointer, instruction pointer, flags,
+ * handle or pager of another process can be had or set, so these parameters are not looked at, and what comes back is
+ * 0 and L4_nilthread. *old_control has R where dest was in a receive phase and S where it was in a send phase. For a
+ * dest that is not a live thread of the caller's space the answer is L4_nilthread with L4_ErrInvalidThread in
+ * L4_ErrorCode. Any pointer may be null. */
+#define L4_ErrInvalidThread ((L4_Word_t) 2)
+
+L4_ThreadId_t L4_ExchangeRegisters(L4_ThreadId_t dest, L4_Word_t control, L4_Word_t sp, L4_Word_t ip, L4_Word_t flags,
+				   L4_Word_t UserDefinedHandle, L4_ThreadId_t pager, L4_Word_t *old_control,
+				   L4_Word_t *old_sp, L4_Word_t *old_ip, L4_Word_t *old_flags,
+				   L4_Word_t *old_UserDefinedHandle, L4_ThreadId_t *old_pager);
+
+/* What an old control word tells: (L4_ThreadState_t) { old_control }. */
+typedef struct {
+	L4_Word_t raw;
+} L4_ThreadState_t;
+
+static inline L4_Bool_t L4_ThreadWasReceiving(L4_ThreadState_t s)
+{
+	return (s.raw & 0x2) != 0;
+}
+
+static inline L4_Bool_t L4_ThreadWasSending(L4_ThreadState_t s)
+{
+	return (s.raw & 0x4) != 0;
+}
+
+static inline L4_Bool_t L4_ThreadWasIpcing(L4_ThreadState_t s)
+{
+	return (s.raw & 0x6) != 0;
+}
+
+#endif

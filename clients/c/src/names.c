@@ -1,0 +1,163 @@
+/* The client's side of docs/NAMES.md. */
+#include "internal.h"
+
+#include <l4/ipc.h>
+#include <l4/names.h>
+
+#include <errno.h>
+#include <string.h>
+
+enum label {
+	REGISTER = 1,
+	LOOK_UP = 2,
+	LIST = 3,
+};
+
+enum {
+	SERVER_NUMBER = 255,
+	/* versions are looked for up to here; after that a server's id has to be given */
+	LAST_VERSION = 63,
+	/* ErrorCode of a send to, and of a receive from, a thread that is not live */
+	NOBODY_TO_SEND_TO = 0x4,
+	NOBODY_TO_RECEIVE_FROM = 0x5,
+};
+
+struct answer {
+	L4_Word_t error;
+	L4_ThreadId_t thread;
+	size_t name_bytes;
+	char name[L4_NAME_BYTES];
+};
+
+void l4_use_name_server(L4_ThreadId_t server)
+{
+	l4_thread.name_server = server;
+}
+
+/* 1 where a thread of this id is live, 0 where not, -1 where that cannot be asked. A closed receive with zero time
+ * disturbs nobody. */
+static int is_live(struct thread *thread, L4_ThreadId_t id)
+{
+	if (L4_IpcSucceeded(L4_Receive_Timeout(id, L4_ZeroTime)))
+		return 1;
+	if (thread->last.source != OUTCOME)
+		return -1;
+	return L4_ErrorCode() != NOBODY_TO_RECEIVE_FROM;
+}
+
+/* Finds the server from this version on. */
+static int find_server(struct thread *thread, L4_Word_t version)
+{
+	for (; version <= LAST_VERSION; version++) {
+		L4_ThreadId_t id = L4_GlobalId(SERVER_NUMBER, version);
+		int found = is_live(thread, id);
+
+		if (found < 0)
+			return -1;
+		thread->name_server = id;
+		if (found > 0)
+			return 0;
+	}
+	thread->name_server = L4_nilthread;
+	return l4_refuse(thread, FOUND_HERE, 'N', NO_NAME_SERVER);
+}
+
+/* One call of the server. 0, or -1 as for each failed Ipc. */
+static int call(struct thread *thread, enum label label, const char *name, struct answer *answer)
+{
+	L4_Msg_t msg;
+	L4_MsgTag_t tag;
+
+	L4_MsgClear(&msg);
+	L4_Set_MsgLabel(&msg, label);
+	L4_MsgAppendSimpleStringItem(&msg, L4_StringItem((int) strlen(name), (char *) name));
+	L4_MsgLoad(&msg);
+	tag = L4_Call(thread->name_server);
+	if (L4_IpcFailed(tag))
+		return -1;
+	L4_MsgStore(tag, &msg);
+	answer->error = L4_Label(tag);
+	answer->thread.raw = L4_UntypedWords(tag) > 0 ? L4_MsgWord(&msg, 0) : 0;
+	answer->name_bytes = L4_TypedWords(tag) > 0 ? item_length(msg.raw[1 + L4_UntypedWords(tag)]) : 0;
+	return 0;
+}
+
+/* The call, of the next server where the one that was known has ended. */
+static int call_live(struct thread *thread, enum label label, const char *name, struct answer *answer)
+{
+	if (L4_IsNilThread(thread->name_server) && find_server(thread, 1) < 0)
+		return -1;
+	while (call(thread, label, name, answer) < 0) {
+		if (thread->last.source != OUTCOME || L4_ErrorCode() != NOBODY_TO_SEND_TO)
+			return -1;
+		if (find_server(thread, L4_Version(thread->name_server) + 1) < 0)
+			return -1;
+	}
+	return 0;
+}
+
+static bool is_name(const char *name)
+{
+	size_t length = strlen(name);
+
+	for (const char *byte = name; *byte != 0; byte++)
+		if (*byte < 0x21 || *byte > 0x7e)
+			return false;
+	return length <= L4_NAME_BYTES;
+}
+
+/* A request, with a buffer for the answer's name in place of the caller's buffers. */
+static int ask(enum label label, const char *name, struct answer *answer)
+{
+	struct thread *thread = &l4_thread;
+	L4_Word_t buffers[BUFFER_REGISTERS];
+	L4_MsgBuffer_t buffer;
+	int status;
+
+	if (!is_name(name) || (label != LIST && *name == 0))
+		return l4_refuse(thread, FOUND_HERE, 'N', BAD_NAME);
+	L4_StoreBRs(0, BUFFER_REGISTERS, buffers);
+	L4_MsgBufferClear(&buffer);
+	L4_MsgBufferAppendSimpleRcvString(&buffer, L4_StringItem(L4_NAME_BYTES, answer->name));
+	L4_AcceptStrings(L4_StringItemsAcceptor, &buffer);
+	status = call_live(thread, label, name, answer);
+	L4_LoadBRs(0, BUFFER_REGISTERS, buffers);
+	/* the server ended in midst of the call, or somebody cancelled it: no number of the system says that */
+	if (status < 0 && thread->last.source == OUTCOME)
+		errno = EIO;
+	if (status == 0 && answer->error != 0)
+		return l4_refuse(thread, SERVER_REFUSED, 'N', (unsigned) (answer->error < 0xff ? answer->error : 0xff));
+	return status;
+}
+
+int l4_register(const char *name)
+{
+	struct answer answer = { 0 };
+
+	return ask(REGISTER, name, &answer);
+}
+
+L4_ThreadId_t l4_lookup(const char *name)
+{
+	struct answer answer = { 0 };
+
+	if (ask(LOOK_UP, name, &answer) < 0)
+		return L4_nilthread;
+	if (L4_IsNilThread(answer.thread))
+		(void) l4_refuse(&l4_thread, FOUND_HERE, 'N', NOBODY_HAS_NAME);
+	return answer.thread;
+}
+
+int l4_list(const char *after, char name[L4_NAME_BYTES + 1], L4_ThreadId_t *thread)
+{
+	struct answer answer = { 0 };
+
+	if (ask(LIST, after, &answer) < 0)
+		return -1;
+	if (L4_IsNilThread(answer.thread))
+		return 0;
+	memcpy(name, answer.name, answer.name_bytes);
+	name[answer.name_bytes] = 0;
+	*thread = answer.thread;
+	return 1;
+}

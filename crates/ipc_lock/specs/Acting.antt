@@ -1,5 +1,6 @@
 -- What a step does to the kernel, and how it is answered.
-use Rattle.std.specs.Prelude.{◌≡◌, ℕ, ◌+◌, None, false}
+use Rattle.std.specs.Prelude.{◌≡◌, ℕ, ◌+◌, None, Bool, true, false, ⊤}
+use Rattle.ipc_words.specs.ThreadId.{number_of}
 use Rattle.ipc_history.specs.Threads.{is_live}
 use Rattle.ipc_core.specs.Effects.{Breaks, Exchanges, Ticks}
 use Rattle.ipc_core.specs.KernelParts.{KernelParts}
@@ -13,10 +14,11 @@ use Rattle.ipc_core.specs.declared.command.Command.TheVariants as command
 use Rattle.ipc_core.specs.declared.refusal.Refusal.{Refusal}
 use Rattle.ipc_core.specs.declared.refusal.Refusal.TheVariants.{NoMemory}
 use Rattle.ipc_history.specs.CallParts.{CallParts}
+use Rattle.ipc_core.specs.declared.answers.Advance.TheVariants as advance
 use Rattle.ipc_core.specs.declared.answers.ExregAnswer.{ExregAnswer}
 use Rattle.ipc_lock.specs.Seats.{SeatRefuses}
-use Rattle.ipc_lock.specs.declared.seats.CallSeat.{CallSeat}
-use Rattle.ipc_lock.specs.declared.seats.TakeSeat.{TakeSeat}
+use Rattle.ipc_lock.specs.declared.seated.seats.CallSeat.{CallSeat}
+use Rattle.ipc_lock.specs.declared.seated.seats.TakeSeat.{TakeSeat}
 use Rattle.ipc_lock.specs.declared.step.Step.{Step}
 use Rattle.ipc_lock.specs.declared.step.Step.TheVariants as step
 use Rattle.ipc_lock.specs.declared.told.Told.{Told}
@@ -88,3 +90,35 @@ pub record Acts {C T : Type 0} (old new : KernelParts) (now : ℕ) (step : Step 
   pub between : KernelParts
   pub ticks : Ticks old between now
   pub does : StepDoes between step told new
+
+-- the two seats of a thread of this number, which made and took nothing
+pub record SeatsOf {C T : Type 0} (number thread : ℕ) (calls : CallSeat C) (takes : TakeSeat T) : Type 0 where
+  pub number_is : number_of thread ≡ number
+  pub call_thread : calls.thread ≡ thread
+  pub none_made : calls.made ≡ 0
+  pub take_thread : takes.thread ≡ thread
+  pub none_taken : takes.taken ≡ 0
+
+-- the seat rose by 1
+pub record RisenSeat {C : Type 0} (seat after : CallSeat C) : Type 0 where
+  pub thread : after.thread ≡ seat.thread
+  pub made : after.made ≡ seat.made + 1
+
+-- an answer to a step: of its kind and of its thread, and with its seat, which rises by an accepted call and stays else
+unfoldable pub AnswersStep : {C T : Type 0} → Step C → Told C T → Type 0
+AnswersStep (step.Hello number space) (told.Opened thread calls takes) = SeatsOf number thread calls takes
+AnswersStep (step.Hello number space) (told.NotOpened refusal) = ⊤
+AnswersStep (step.Enter seat call) (told.Entered after number) = RisenSeat seat after
+AnswersStep (step.Enter seat call) (told.NotEntered after refusal back) = SameSeat seat after × (back ≡ call)
+AnswersStep (step.Exreg seat target control) (told.Exchanged after answer) = SameSeat seat after
+AnswersStep (step.Exreg seat target control) (told.NotExchanged after refusal) = SameSeat seat after
+AnswersStep (step.Broke thread) (told.Broken broken) = broken ≡ thread
+AnswersStep (step.Broke thread) (told.NotThere gone) = gone ≡ thread
+AnswersStep step.Advance (told.Advanced advance) = ⊤
+AnswersStep step.Tick told.Ticked = ⊤
+AnswersStep _ _ = ⊥
+
+-- no transfer goes on
+abbrev pub is_idle : {C T : Type 0} → Told C T → Bool
+is_idle (told.Advanced advance.Idle) = true
+is_idle _ = false

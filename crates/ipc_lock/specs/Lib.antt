@@ -2,3 +2,4 @@ pub mod Groups
 pub mod Opens
 pub mod Seats
 pub mod Acting
+pub mod Next

@@ -1,10 +1,15 @@
 //! What stands under the lock: the kernel with its books, and the post boxes.
-ghost use Rattle.std.specs.Prelude.{◌≡◌, ◌+◌, IfSome, IfNone};
+ghost use Rattle.std.specs.Prelude.{◌≡◌, ◌+◌, ◌*◌, ◌≤◌, IfSome, IfNone, IfErr, Some, length, slice_get};
+ghost use Rattle.ipc_core.specs.Effects.{Gives};
+ghost use Rattle.ipc_history.specs.Paired.{Paired};
 ghost use Rattle.ipc_history.specs.Threads.{is_live};
+ghost use Rattle.ipc_lock.specs.Acting.{Acts, AnswersStep};
+ghost use Rattle.ipc_lock.specs.Next.{ComesOut, LooksFirst, MayGiveNext};
+ghost use Rattle.ipc_lock.specs.Seats.{TakesNothing};
+ghost use Rattle.ipc_words.specs.Limits.{max_command_entries};
 
 use crate::post_box::{PostBox, Posted};
-use crate::seated::{Answer, Locked, Taken};
-use crate::seats::TakeSeat;
+use crate::seated::{Answer, Locked, TakeSeat, Taken};
 use crate::step::Step;
 use ipc_history::Entry;
 use ipc_words::ThreadId;
@@ -89,7 +94,13 @@ impl<C: Ledger, T: Ledger> Inside<C, T> {
     }
 
     /// Makes one step, and answers whom it concerns.
-    pub(crate) fn act(&mut self, now: u64, step: Step<C>) -> (Answer<C, T>, Bells) {
+    pub(crate) fn act(&mut self, now: u64, step: Step<C>) -> (Answer<C, T>, Bells)
+        ensures acts { Acts self.old.locked.kernel self.new.locked.kernel now step result.0.told }
+        ensures answers { AnswersStep step result.0.told }
+        ensures few { length self.new.locked.kernel.history
+            ≤ length self.old.locked.kernel.history + 2 * max_command_entries }
+        ensures paired { Paired self.new.locked.kernel.history }
+    {
         let before = self.locked.entries();
         let ends_a_thread = matches!(&step, Step::Broke(_));
         self.finished.clear();
@@ -122,6 +133,11 @@ impl<C: Ledger, T: Ledger> Inside<C, T> {
 
     /// Takes the outcome of the seat's thread's last call, where it is over.
     pub(crate) fn take_for(&mut self, seat: &mut TakeSeat<T>) -> Option<Taken<T>>
+        ensures some { IfSome result (λ taken. Gives self.old.locked.kernel self.new.locked.kernel
+            seat.old.thread (Some taken.outcome)) }
+        ensures nothing { IfNone result (TakesNothing self.old.locked.kernel self.new.locked.kernel
+            seat.old.thread seat.old.taken) }
+        ensures boxes { self.new.boxes ≡ self.old.boxes }
         ensures thread { seat.new.thread ≡ seat.old.thread }
         ensures named { IfSome result (λ taken. (taken.thread ≡ seat.old.thread) × (taken.amount ≡ seat.new.taken)) }
         ensures taken { IfSome result (λ _. seat.new.taken ≡ seat.old.taken + 1) }
@@ -138,7 +154,11 @@ impl<C: Ledger, T: Ledger> Inside<C, T> {
     }
 
     /// What the box's writer writes next: an outcome before a posted answer, and Gone where the box is shut and empty.
-    pub(crate) fn next(&mut self, place: usize, seat: &mut Option<TakeSeat<T>>) -> Option<Next<T>> {
+    pub(crate) fn next(&mut self, place: usize, seat: &mut Option<TakeSeat<T>>) -> Option<Next<T>>
+        ensures seat { MayGiveNext seat.old result seat.new }
+        ensures first { LooksFirst self.old.locked.kernel self.new.locked.kernel seat.old result }
+        ensures out { ComesOut (slice_get self.old.boxes.items place) result }
+    {
         if let Some(seat) = seat {
             self.own(seat.thread().number(), place);
             if let Some(taken) = self.take_for(seat) {
@@ -156,21 +176,29 @@ impl<C: Ledger, T: Ledger> Inside<C, T> {
     }
 
     /// The outcomes of the thread of a number are told to this box's writer.
-    fn own(&mut self, number: u32, place: usize) {
+    fn own(&mut self, number: u32, place: usize)
+        ensures locked { self.new.locked ≡ self.old.locked }
+        ensures boxes { self.new.boxes ≡ self.old.boxes }
+    {
         if let Some(owner) = self.owners.get_mut(number as usize) {
             *owner = Some(place);
         }
     }
 
     /// Leaves an answer. A full or shut box, or one that is not there, hands it back.
-    pub(crate) fn post(&mut self, place: usize, posted: Posted<T>) -> Result<(), Posted<T>> {
+    pub(crate) fn post(&mut self, place: usize, posted: Posted<T>) -> Result<(), Posted<T>>
+        ensures back { IfErr result (λ back. back ≡ posted) }
+        ensures locked { self.new.locked ≡ self.old.locked }
+    {
         match self.boxes.get_mut(place) {
             Some(post_box) => post_box.post(posted),
             None => Err(posted),
         }
     }
 
-    pub(crate) fn shut(&mut self, place: usize) {
+    pub(crate) fn shut(&mut self, place: usize)
+        ensures { self.new.locked ≡ self.old.locked }
+    {
         if let Some(post_box) = self.boxes.get_mut(place) {
             post_box.shut();
         }
@@ -200,7 +228,9 @@ impl<C: Ledger, T: Ledger> Inside<C, T> {
     }
 
     /// An empty box: one that was given back, else a new one.
-    pub(crate) fn connect_box(&mut self) -> Result<usize, AllocError> {
+    pub(crate) fn connect_box(&mut self) -> Result<usize, AllocError>
+        ensures { self.new.locked ≡ self.old.locked }
+    {
         if let Some(place) = self.free.pop() {
             if let Some(post_box) = self.boxes.get_mut(place) {
                 post_box.reopen();
@@ -215,7 +245,9 @@ impl<C: Ledger, T: Ledger> Inside<C, T> {
     }
 
     /// Gives a box back that nobody uses any more.
-    pub(crate) fn release_box(&mut self, place: usize) {
+    pub(crate) fn release_box(&mut self, place: usize)
+        ensures { self.new.locked ≡ self.old.locked }
+    {
         for owner in self.owners.iter_mut() {
             if *owner == Some(place) {
                 *owner = None;
@@ -235,7 +267,9 @@ impl<C: Ledger, T: Ledger> Inside<C, T> {
         self.is_work_over || self.closed
     }
 
-    pub(crate) fn end_work(&mut self) {
+    pub(crate) fn end_work(&mut self)
+        ensures { self.new.locked ≡ self.old.locked }
+    {
         self.is_work_over = true;
     }
 
@@ -243,11 +277,15 @@ impl<C: Ledger, T: Ledger> Inside<C, T> {
         self.closed
     }
 
-    pub(crate) fn close(&mut self) {
+    pub(crate) fn close(&mut self)
+        ensures { self.new.locked ≡ self.old.locked }
+    {
         self.closed = true;
     }
 
-    pub(crate) fn entries(&self) -> usize {
+    pub(crate) fn entries(&self) -> usize
+        ensures { result ≡ length self.now.locked.kernel.history }
+    {
         self.locked.entries()
     }
 
@@ -262,12 +300,16 @@ impl<C: Ledger, T: Ledger> Inside<C, T> {
     }
 
     /// The trace waits for the next entry.
-    pub(crate) fn await_entry(&mut self) {
+    pub(crate) fn await_entry(&mut self)
+        ensures { self.new.locked ≡ self.old.locked }
+    {
         self.is_awaited = true;
     }
 
     /// Whether the trace has to be told of the last step: it waits, and there are more entries than before.
-    pub(crate) fn tells_trace(&mut self) -> bool {
+    pub(crate) fn tells_trace(&mut self) -> bool
+        ensures { self.new.locked ≡ self.old.locked }
+    {
         let is_told = self.is_awaited && self.has_grown;
         self.is_awaited = self.is_awaited && !is_told;
         is_told

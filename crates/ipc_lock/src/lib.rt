@@ -5,7 +5,6 @@ mod copying;
 mod inside;
 mod post_box;
 mod seated;
-mod seats;
 mod shared_kernel;
 mod step;
 #[cfg(test)]
@@ -14,8 +13,7 @@ mod told;
 
 pub use inside::Next;
 pub use post_box::{PostBox, Posted};
-pub use seated::{Answer, Locked, Taken};
-pub use seats::{CallSeat, TakeSeat};
+pub use seated::{Answer, CallSeat, Locked, TakeSeat, Taken};
 pub use shared_kernel::SharedKernel;
 pub use step::Step;
 pub use told::Told;

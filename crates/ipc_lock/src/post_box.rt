@@ -1,7 +1,7 @@
 //! A post box for each connection: one answer that its reader leaves for its writer.
 ghost use Rattle.std.specs.Prelude.{◌≡◌, ◌&&◌, Some, None, true, false, OnOk, OnErr, IfErr, IfOk, ◌||◌, is_some, not};
 
-use crate::seats::TakeSeat;
+use crate::seated::TakeSeat;
 use ipc_words::{Control, ThreadId};
 use std::alloc::{AllocError, Global};
 use std::sync::ledger::Ledger;

@@ -1,10 +1,12 @@
 //! What the lock keeps, and the calls that change it. Nobody else makes an [`Answer`] or a [`Taken`].
-ghost use Rattle.std.specs.Prelude.{◌≡◌, ◌+◌, ◌^◌, [], ◌∷◌, false, None, Some, length, min, slice_get};
+ghost use Rattle.std.specs.Prelude.{◌≡◌, ◌+◌, ◌*◌, ◌≤◌, ◌^◌, [], ◌∷◌, false, None, Some, length, min, slice_get};
 ghost use Rattle.std.specs.Prelude.{IfOk, IfErr, IfSome, OnOk, OnErr, IfNone};
 ghost use Rattle.ipc_history.specs.Calls.{calls_made};
+ghost use Rattle.ipc_history.specs.Legal.{Legal, Quiet};
+ghost use Rattle.ipc_history.specs.Paired.{Paired};
 ghost use Rattle.ipc_history.specs.Threads.{is_live};
 ghost use Rattle.ipc_core.specs.Effects.{Breaks, Exchanges, Gives, Ticks};
-ghost use Rattle.ipc_words.specs.Limits.{max_calls, max_entries};
+ghost use Rattle.ipc_words.specs.Limits.{max_calls, max_command_entries, max_entries};
 ghost use Rattle.ipc_core.specs.Obeying.{MayObey, empty_kernel};
 ghost use Rattle.ipc_core.specs.Room.{LacksRoomFor, exreg_need, open_need};
 ghost use Rattle.ipc_core.specs.declared.command.Answer.TheVariants as answer;
@@ -12,19 +14,21 @@ ghost use Rattle.ipc_core.specs.declared.command.Command.TheVariants as command;
 ghost use Rattle.ipc_core.specs.Outcomes.{made_by, outcome_to_take, taken_by};
 ghost use Rattle.ipc_core.specs.Refusals.{enter_refusal, exreg_refusal, open_refusal};
 ghost use Rattle.ipc_core.specs.Steps.{Enters, MayRefuse, Opens};
-ghost use Rattle.ipc_lock.specs.Acting.{Acts, StepDoes};
+ghost use Rattle.ipc_lock.specs.Acting.{Acts, AnswersStep, StepDoes, is_idle};
 ghost use Rattle.ipc_lock.specs.Groups.{IsGroupAt};
 ghost use Rattle.ipc_lock.specs.Opens.{opens};
 ghost use Rattle.ipc_lock.specs.declared.step.Step.TheVariants as step;
 ghost use Rattle.ipc_lock.specs.Seats.{SeatRefuses, TakesNothing};
 
+mod seats;
+
 use crate::copying::{copy_entry, copy_group};
-use crate::seats::{CallSeat, TakeSeat};
 use crate::step::Step;
 use crate::told::Told;
 use ipc_core::{Advance, EnterRefused, ExregAnswer, Kernel, Limits, NoThread, Refusal};
 use ipc_history::{Call, Entry, Outcome, Output};
 use ipc_words::{Control, ThreadId};
+pub use seats::{CallSeat, TakeSeat};
 use std::alloc::{AllocError, Global};
 use std::marker::PhantomData;
 use std::sync::ledger::{Blank, Book, Ledger, Share};
@@ -124,6 +128,7 @@ impl<C: Ledger, T: Ledger> Locked<C, T> {
         ensures cause { IfErr result (λ refusal. MayRefuse (open_refusal self.old.kernel number space) refusal) }
         ensures memory { result ≡ Err Refusal.NoMemory → LacksRoomFor self.old.kernel open_need }
         ensures err { OnErr result (self.new.kernel ≡ self.old.kernel) }
+        ensures few { length self.new.kernel.history ≤ length self.old.kernel.history + max_command_entries }
     {
         let Locked {
             kernel,
@@ -134,6 +139,7 @@ impl<C: Ledger, T: Ledger> Locked<C, T> {
         // a history has fewer entries than a ledger has parts
         let _ = kernel.history().len();
         let thread = kernel.open(number, space)?;
+        let _ = kernel.history();
         let made = calls_left.split_off(1, 0);
         let taken = takes_left.split_off(1, 0);
         Ok((
@@ -167,6 +173,7 @@ impl<C: Ledger, T: Ledger> Locked<C, T> {
         ensures err { OnErr result (self.new.kernel ≡ self.old.kernel) }
         ensures err_seat { OnErr result (seat.new.made ≡ seat.old.made) }
         ensures err_book { OnErr result (self.new.calls.total ≡ self.old.calls.total) }
+        ensures few { length self.new.kernel.history ≤ length self.old.kernel.history + max_command_entries }
     {
         let Locked { kernel, calls, .. } = self;
         let CallSeat {
@@ -183,6 +190,7 @@ impl<C: Ledger, T: Ledger> Locked<C, T> {
             });
         }
         let number = kernel.enter(*thread, call)?;
+        let _ = kernel.history();
         calls.add(share, 1);
         *made += 1;
         Ok(number)
@@ -204,12 +212,15 @@ impl<C: Ledger, T: Ledger> Locked<C, T> {
             (exreg_refusal self.old.kernel seat.now.thread) refusal) }
         ensures memory { result ≡ Err Refusal.NoMemory → LacksRoomFor self.old.kernel exreg_need }
         ensures err { OnErr result (self.new.kernel ≡ self.old.kernel) }
+        ensures few { length self.new.kernel.history ≤ length self.old.kernel.history + max_command_entries }
     {
         let Locked { kernel, .. } = self;
         if kernel.made(seat.thread) != seat.made {
             return Err(Refusal::NoThread);
         }
-        kernel.exreg(seat.thread, target, control)
+        let answer = kernel.exreg(seat.thread, target, control);
+        let _ = kernel.history();
+        answer
     }
 }
 
@@ -254,6 +265,7 @@ impl<C: Ledger, T: Ledger> Locked<C, T> {
         ensures ok { OnOk result (Breaks self.old.kernel self.new.kernel seat.now.thread) }
         ensures gone { OnErr result (is_live self.old.kernel.history seat.now.thread ≡ false) }
         ensures err { OnErr result (self.new.kernel ≡ self.old.kernel) }
+        ensures few { length self.new.kernel.history ≤ length self.old.kernel.history + max_command_entries }
     {
         self.break_thread(seat.thread)
     }
@@ -262,24 +274,32 @@ impl<C: Ledger, T: Ledger> Locked<C, T> {
         ensures ok { OnOk result (Breaks self.old.kernel self.new.kernel thread) }
         ensures gone { OnErr result (is_live self.old.kernel.history thread ≡ false) }
         ensures err { OnErr result (self.new.kernel ≡ self.old.kernel) }
+        ensures few { length self.new.kernel.history ≤ length self.old.kernel.history + max_command_entries }
     {
         let Locked { kernel, .. } = self;
-        kernel.broke(thread)
+        let ended = kernel.broke(thread);
+        let _ = kernel.history();
+        ended
     }
 
     /// Sets the clock, in microseconds.
     fn tick(&mut self, now: u64)
-        ensures { Ticks self.old.kernel self.new.kernel now }
+        ensures ticks { Ticks self.old.kernel self.new.kernel now }
+        ensures few { length self.new.kernel.history ≤ length self.old.kernel.history + max_command_entries }
     {
         let Locked { kernel, .. } = self;
         kernel.at(now);
+        let _ = kernel.history();
     }
 
     fn advance(&mut self) -> Advance
-        ensures { MayObey self.old.kernel command.Advance (answer.Advanced result) self.new.kernel }
+        ensures obeys { MayObey self.old.kernel command.Advance (answer.Advanced result) self.new.kernel }
+        ensures few { length self.new.kernel.history ≤ length self.old.kernel.history + max_command_entries }
     {
         let Locked { kernel, .. } = self;
-        kernel.advance()
+        let advance = kernel.advance();
+        let _ = kernel.history();
+        advance
     }
 }
 
@@ -299,7 +319,9 @@ impl<C: Ledger, T: Ledger> Answer<C, T> {
     }
 
     /// Whether it says that no transfer goes on.
-    pub fn is_idle(&self) -> bool {
+    pub fn is_idle(&self) -> bool
+        ensures { result ≡ is_idle self.now.told }
+    {
         matches!(&self.told, Told::Advanced(Advance::Idle))
     }
 }
@@ -308,18 +330,23 @@ impl<C: Ledger, T: Ledger> Locked<C, T> {
     /// Sets the clock to `now`, in microseconds, and then obeys the step. The threads whose calls it finished are put into
     /// `finished`, which has room for them.
     pub fn act(&mut self, now: u64, step: Step<C>, finished: &mut Vec<ThreadId>) -> Answer<C, T>
-        ensures { Acts self.old.kernel self.new.kernel now step result.told }
+        ensures acts { Acts self.old.kernel self.new.kernel now step result.told }
+        ensures answers { AnswersStep step result.told }
+        ensures few { length self.new.kernel.history ≤ length self.old.kernel.history + 2 * max_command_entries }
+        ensures paired { Paired self.new.kernel.history }
     {
         self.tick(now);
         self.note_finished(finished);
         let told = self.obey(step);
         self.note_finished(finished);
+        let _ = self.history();
         Answer { told }
     }
 
     #[tactic(auto, unfolding(crate::specs::Acting::StepDoes))]
     fn obey(&mut self, step: Step<C>) -> Told<C, T>
-        ensures { StepDoes self.old.kernel step result self.new.kernel }
+        ensures does { StepDoes self.old.kernel step result self.new.kernel }
+        ensures few { length self.new.kernel.history ≤ length self.old.kernel.history + max_command_entries }
     {
         match step {
             Step::Hello { number, space } => self.hello(number, space),
@@ -333,7 +360,8 @@ impl<C: Ledger, T: Ledger> Locked<C, T> {
 
     #[tactic(auto, unfolding(crate::specs::Acting::StepDoes))]
     fn hello(&mut self, number: u64, space: u64) -> Told<C, T>
-        ensures { StepDoes self.old.kernel (step.Hello number space) result self.new.kernel }
+        ensures does { StepDoes self.old.kernel (step.Hello number space) result self.new.kernel }
+        ensures few { length self.new.kernel.history ≤ length self.old.kernel.history + max_command_entries }
     {
         match self.open_seated(number, space) {
             Ok((thread, calls, takes)) => Told::Opened(thread, calls, takes),
@@ -343,7 +371,8 @@ impl<C: Ledger, T: Ledger> Locked<C, T> {
 
     #[tactic(auto, unfolding(crate::specs::Acting::StepDoes))]
     fn enter(&mut self, seat: CallSeat<C>, call: Call) -> Told<C, T>
-        ensures { StepDoes self.old.kernel (step.Enter seat call) result self.new.kernel }
+        ensures does { StepDoes self.old.kernel (step.Enter seat call) result self.new.kernel }
+        ensures few { length self.new.kernel.history ≤ length self.old.kernel.history + max_command_entries }
     {
         let mut seat = seat;
         match self.enter_seated(&mut seat, call) {
@@ -354,7 +383,8 @@ impl<C: Ledger, T: Ledger> Locked<C, T> {
 
     #[tactic(auto, unfolding(crate::specs::Acting::StepDoes))]
     fn exreg(&mut self, seat: CallSeat<C>, target: ThreadId, control: Control) -> Told<C, T>
-        ensures { StepDoes self.old.kernel (step.Exreg seat target control) result self.new.kernel }
+        ensures does { StepDoes self.old.kernel (step.Exreg seat target control) result self.new.kernel }
+        ensures few { length self.new.kernel.history ≤ length self.old.kernel.history + max_command_entries }
     {
         match self.exreg_seated(&seat, target, control) {
             Ok(answer) => Told::Exchanged(seat, answer),
@@ -364,7 +394,8 @@ impl<C: Ledger, T: Ledger> Locked<C, T> {
 
     #[tactic(auto, unfolding(crate::specs::Acting::StepDoes))]
     fn broke(&mut self, thread: ThreadId) -> Told<C, T>
-        ensures { StepDoes self.old.kernel (step.Broke thread) result self.new.kernel }
+        ensures does { StepDoes self.old.kernel (step.Broke thread) result self.new.kernel }
+        ensures few { length self.new.kernel.history ≤ length self.old.kernel.history + max_command_entries }
     {
         match self.break_thread(thread) {
             Ok(()) => Told::Broken(thread),
@@ -380,11 +411,21 @@ impl<C: Ledger, T: Ledger> Locked<C, T> {
         }
     }
 
+    /// The history, oldest entry first. Each time the lock is held it is legal, and has the promise.
+    pub fn history(&self) -> &[Entry]
+        ensures entries { result.now ≡ self.now.kernel.history }
+        ensures legal { Legal self.now.kernel.history }
+        ensures quiet { Quiet self.now.kernel.history }
+        ensures paired { Paired self.now.kernel.history }
+    {
+        self.kernel.history()
+    }
+
     /// Whether a transfer has begun, among the entries behind so many, that has not ended among them.
     pub(crate) fn has_begun_since(&self, before: usize) -> bool {
         let mut begun = 0u64;
         let mut ended = 0u64;
-        let history = self.kernel.history();
+        let history = self.history();
         let (_, added) = history.split_at(before.min(history.len()));
         for entry in added {
             match entry {
@@ -404,15 +445,17 @@ impl<C: Ledger, T: Ledger> Locked<C, T> {
     }
 
     /// How many entries the history has.
-    pub(crate) fn entries(&self) -> usize {
-        self.kernel.history().len()
+    pub(crate) fn entries(&self) -> usize
+        ensures { result ≡ length self.now.kernel.history }
+    {
+        self.history().len()
     }
 
     /// A copy of the entry of this place of the history, counted from 0.
     pub fn entry(&self, alloc: Global, index: usize) -> Result<Option<Entry>, AllocError>
         ensures { IfOk result (λ entry. entry ≡ slice_get self.now.kernel.history index) }
     {
-        match self.kernel.history().get(index) {
+        match self.history().get(index) {
             Some(entry) => Ok(Some(copy_entry(alloc, entry)?)),
             None => Ok(None),
         }
@@ -423,6 +466,6 @@ impl<C: Ledger, T: Ledger> Locked<C, T> {
     pub fn group(&self, alloc: Global, index: usize) -> Result<Vec<Entry>, AllocError>
         ensures { IfOk result (λ group. IsGroupAt self.now.kernel.history index group.items) }
     {
-        copy_group(alloc, self.kernel.history(), index)
+        copy_group(alloc, self.history(), index)
     }
 }

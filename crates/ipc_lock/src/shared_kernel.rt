@@ -1,10 +1,11 @@
 //! The kernel and the post boxes under one lock. Here it is only taken; what is done under it stands in its own files.
-ghost use Rattle.std.specs.Prelude.{◌≡◌, ◌^◌, IfSome, IfNone, ◌+◌};
+ghost use Rattle.std.specs.Prelude.{◌≡◌, ◌^◌, IfSome, IfNone, IfErr, ◌+◌};
+ghost use Rattle.ipc_lock.specs.Acting.{AnswersStep};
+ghost use Rattle.ipc_lock.specs.Next.{GivesNext};
 
 use crate::inside::{Bells, Inside, Next};
 use crate::post_box::Posted;
-use crate::seated::{Answer, Locked, Taken};
-use crate::seats::TakeSeat;
+use crate::seated::{Answer, Locked, TakeSeat, Taken};
 use crate::step::Step;
 use ipc_core::{Advance, Limits, Refusal};
 use ipc_history::Entry;
@@ -33,6 +34,7 @@ impl<C: Ledger, T: Ledger> SharedKernel<C, T> {
         requires takes_name { takes.name ≡ T.name }
         requires takes_parts { takes.parts ≡ T.parts }
         requires many_takes { takes.parts ≡ 2 ^ 63 }
+        ensures { IfErr result (λ refusal. refusal ≡ Refusal.NoMemory) }
     {
         let locked = Locked::new(alloc, limits, calls, takes)?;
         let Ok(inside) = Inside::new(alloc, locked) else {
@@ -48,7 +50,9 @@ impl<C: Ledger, T: Ledger> SharedKernel<C, T> {
     }
 
     /// Takes the lock, makes one step, and wakes those whom it concerns.
-    pub fn submit<R: Wait>(&self, rt: &R, now: u64, step: Step<C>) -> Answer<C, T> {
+    pub fn submit<R: Wait>(&self, rt: &R, now: u64, step: Step<C>) -> Answer<C, T>
+        ensures { AnswersStep step result.told }
+    {
         let mut inside = self.inside.lock(rt);
         let (answer, bells) = inside.act(now, step);
         let begun = inside.has_begun();
@@ -85,7 +89,9 @@ impl<C: Ledger, T: Ledger> SharedKernel<C, T> {
     }
 
     /// Makes an empty box, and answers its number. The only refusal is K4.
-    pub fn connect_box<R: Wait>(&self, rt: &R) -> Result<usize, Refusal> {
+    pub fn connect_box<R: Wait>(&self, rt: &R) -> Result<usize, Refusal>
+        ensures { IfErr result (λ refusal. refusal ≡ Refusal.NoMemory) }
+    {
         match self.inside.lock(rt).connect_box() {
             Ok(place) => Ok(place),
             Err(_) => Err(Refusal::NoMemory),
@@ -98,7 +104,9 @@ impl<C: Ledger, T: Ledger> SharedKernel<C, T> {
     }
 
     /// Leaves an answer for the box's writer. A full or shut box hands it back.
-    pub fn post<R: Wait>(&self, rt: &R, place: usize, posted: Posted<T>) -> Result<(), Posted<T>> {
+    pub fn post<R: Wait>(&self, rt: &R, place: usize, posted: Posted<T>) -> Result<(), Posted<T>>
+        ensures { IfErr result (λ back. back ≡ posted) }
+    {
         let mut inside = self.inside.lock(rt);
         inside.post(place, posted)?;
         let bell = inside.bell(place);
@@ -134,7 +142,9 @@ impl<C: Ledger, T: Ledger> SharedKernel<C, T> {
         rt: &R,
         place: usize,
         seat: &mut Option<TakeSeat<T>>,
-    ) -> Next<T> {
+    ) -> Next<T>
+        ensures { GivesNext seat.old result seat.new }
+    {
         let mut inside = self.inside.lock(rt);
         let Some(bell) = inside.bell(place) else {
             return Next::Gone;

@@ -1,4 +1,4 @@
-use crate::seats::CallSeat;
+use crate::seated::CallSeat;
 use ipc_history::Call;
 use ipc_words::{Control, ThreadId};
 use std::sync::ledger::Ledger;

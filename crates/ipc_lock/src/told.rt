@@ -1,4 +1,4 @@
-use crate::seats::{CallSeat, TakeSeat};
+use crate::seated::{CallSeat, TakeSeat};
 use ipc_core::{Advance, ExregAnswer, Refusal};
 use ipc_history::Call;
 use ipc_words::ThreadId;

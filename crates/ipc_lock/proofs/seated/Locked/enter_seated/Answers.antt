@@ -1,5 +1,6 @@
 use Rattle.std.proofs.Common.{rules, arith, ◌≡◌}
 use Rattle.ipc_core.specs.Outcomes.{made_by}
+use Rattle.ipc_core.proofs.Few.{obeys_few}
 use Rattle.ipc_lock.proofs.Counts.{calls_entered, made_few, opens_entered, seat_refuses}
 use Rattle.ipc_lock.proofs.seated.Locked.enter_seated.Goals as goal
 
@@ -20,3 +21,6 @@ pub overflow_add-made : goal.overflow_add-made
 overflow_add-made g c =
     let few = made_few c.args.self.now.kernel.history c.args.seat.now.thread in
     search (rules, arith)
+
+pub returns-clause-few : goal.returns-clause-few
+returns-clause-few g c = obeys_few _ _ _ _ c.enter.ensures.obeys c.history-2.ensures.legal

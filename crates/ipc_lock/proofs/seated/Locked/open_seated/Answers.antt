@@ -1,4 +1,5 @@
 use Rattle.std.proofs.Common.{rules, arith}
+use Rattle.ipc_core.proofs.Few.{obeys_few}
 use Rattle.ipc_lock.proofs.Counts.{calls_opened, few_opens, opens_opened}
 use Rattle.ipc_lock.proofs.seated.Locked.open_seated.Goals as goal
 
@@ -15,3 +16,6 @@ invariant_of-self-2 g c =
     c.in_ok-thread.thread c.in_ok-thread.ensures.ok.1 in
     let taken = c.in_ok-thread.ensures.ok.1.taken in
     search (rules, arith)
+
+pub returns-clause-few : goal.returns-clause-few
+returns-clause-few g c = obeys_few _ _ _ _ c.open.ensures.obeys c.history-2.ensures.legal

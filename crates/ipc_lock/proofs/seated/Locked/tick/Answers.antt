@@ -1,4 +1,5 @@
 use Rattle.std.proofs.Common.{rules, arith}
+use Rattle.ipc_core.proofs.Few.{obeys_few}
 use Rattle.ipc_lock.proofs.Counts.{ticks_same}
 use Rattle.ipc_lock.proofs.seated.Locked.tick.Goals as goal
 
@@ -9,3 +10,6 @@ invariant_of-self g c =
     let opens = same.opens in
     let taken = same.taken in
     search (rules, arith)
+
+pub returns-clause-few : goal.returns-clause-few
+returns-clause-few g c = obeys_few _ _ _ _ c.at.ensures.obeys c.history.ensures.legal

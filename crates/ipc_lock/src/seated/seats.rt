@@ -1,3 +1,4 @@
+//! Seats. Their fields are seen by the module of the seated calls alone.
 ghost use Rattle.std.specs.Prelude.{◌≡◌};
 
 use ipc_words::ThreadId;
@@ -8,9 +9,9 @@ use std::sync::ledger::{Ledger, Share};
 /// It has no copy. It goes from step to step, and every answer hands it back.
 #[derive(Drop)]
 pub struct CallSeat<C: Ledger> {
-    pub(crate) thread: ThreadId,
-    pub(crate) made: u64,
-    pub(crate) share: Share<C>,
+    pub(super) thread: ThreadId,
+    pub(super) made: u64,
+    pub(super) share: Share<C>,
     pub ghost one_part: { share.parts ≡ 1 },
     pub ghost counted: { share.amount ≡ made },
 }
@@ -18,9 +19,9 @@ pub struct CallSeat<C: Ledger> {
 /// The right to take outcomes of one thread, and how many it took. Only `open_seated` makes one.
 #[derive(Drop)]
 pub struct TakeSeat<T: Ledger> {
-    pub(crate) thread: ThreadId,
-    pub(crate) taken: u64,
-    pub(crate) share: Share<T>,
+    pub(super) thread: ThreadId,
+    pub(super) taken: u64,
+    pub(super) share: Share<T>,
     pub ghost one_part: { share.parts ≡ 1 },
     pub ghost counted: { share.amount ≡ taken },
 }

@@ -1,15 +1,15 @@
 -- A piece is heard call by call.
-use Rattle.std.proofs.Common.{◌≡◌, ◌⊎◌, inl, inr, ℕ, zero, suc, ◌+◌, ◌-◌, ◌<◌, ◌≤◌, true, List, [], ◌∷◌, ◌++◌, Option, Some, None, Result, Ok, Err, refl, sym, ap, ap₂, subst, ◌∙◌, length, drop, arith, length-append, length-drop}
+use Rattle.std.proofs.Common.{◌≡◌, ◌⊎◌, inl, inr, ℕ, zero, suc, ◌+◌, ◌-◌, ◌<◌, ◌≤◌, true, List, [], ◌∷◌, ◌++◌, map, Option, Some, None, Result, Ok, Err, refl, sym, ap, ap₂, subst, ◌∙◌, length, drop, arith, length-append, length-drop}
 use Rattle.std.proofs.lemmas.List.{drop-drop, drop_at}
-use Rattle.ipc_frame.specs.Stream.{Rest, Stopped, put_front, frames_within, stream_of}
+use Rattle.ipc_frame.specs.Stream.{Rest, Stopped, Stream, put_front, frames_within, stream_of}
 use Rattle.ipc_frame.specs.Reading.{Reading, Short, Bad, Whole, reading}
 use Rattle.ipc_frame.specs.declared.kind.Side.TheVariants.{Server}
 use Rattle.ipc_frame.specs.declared.frame.Frame.{Frame}
 use Rattle.ipc_frame.specs.declared.fault.FrameFault.{FrameFault}
 use Rattle.ipc_frame.specs.declared.fault.FrameFault.TheVariants.{NoMemory}
 use Rattle.ipc_frame.proofs.FoundLemmas.{whole_within}
-use Rattle.ipc_calls.specs.Hearing.{heard_in, heard_of}
-use Rattle.ipc_calls.specs.Taking.{Decoding, Holds, Takes, TakesBy, TakesUp, uses_up, hears, fails, answer_of}
+use Rattle.ipc_calls.specs.Hearing.{IsCut, heard_in, heard_of}
+use Rattle.ipc_calls.specs.Taking.{Decoding, Holds, MayLack, Takes, TakesBy, TakesUp, uses_up, hears, fails, answer_of}
 use Rattle.ipc_calls.specs.Laws.{IsHeardOf, StandsAt, to_fault, PieceIsHeard}
 use Rattle.ipc_calls.specs.declared.heard.Heard.{Heard}
 
@@ -71,12 +71,36 @@ pub err_is : (r : Result Heard FrameFault) (u : ℕ) (fault : FrameFault) → fa
 err_is (Ok heard) u fault e = absurd (cc)
 err_is (Err other) u fault e = let same : fault ≡ other = cc in ap Err (sym same)
 
-heard_cons : (heard : Heard) (said rest : List (Result Heard FrameFault)) → IsHeardOf said rest → IsHeardOf (Ok heard ∷ said) (Ok heard ∷ rest)
-heard_cons heard said rest (inl e) = inl (ap (λ l. Ok heard ∷ l) e)
-heard_cons heard said rest (inr h) = inr (Ok heard ∷ h.0, h.1, ap (λ l. Ok heard ∷ l) h.2, ap (λ l. Ok heard ∷ l) h.3)
+-- what a first frame says is heard in front of the rest
+pub cut_cons : (May : Frame → Type 0) (f : Frame) (heard : Heard) (stream : Stream) (rest : List (Result Heard FrameFault))
+    → heard_of f ≡ Ok heard → IsCut May stream rest → IsCut May (put_front (f ∷ []) stream) (Ok heard ∷ rest)
+cut_cons May f heard stream rest says cut = record {
+  front = f ∷ cut.front;
+  frame = cut.frame;
+  behind = cut.behind;
+  frames_are = ap (λ l. f ∷ l) cut.frames_are;
+  may = cut.may;
+  heard_is = ap (λ l. Ok heard ∷ l) cut.heard_is ∙ ap (λ h. h ∷ (map heard_of cut.front ++ Err NoMemory ∷ [])) (sym says);
+}
+
+heard_cons : (f : Frame) (heard : Heard) (stream : Stream) (rest : List (Result Heard FrameFault))
+    → heard_of f ≡ Ok heard → IsHeardOf stream rest → IsHeardOf (put_front (f ∷ []) stream) (Ok heard ∷ rest)
+heard_cons f heard stream rest says (inl e) = inl (rw says (ap (λ l. Ok heard ∷ l) e))
+heard_cons f heard stream rest says (inr cut) = inr (cut_cons MayLack f heard stream rest says cut)
+
+-- there is no memory for what the first frame says
+pub cut_first : (May : Frame → Type 0) (f : Frame) (stream behind : Stream) → stream ≡ put_front (f ∷ []) behind → May f → IsCut May stream (Err NoMemory ∷ [])
+cut_first May f stream behind is may = record {
+  front = [];
+  frame = f;
+  behind = behind.frames;
+  frames_are = ap (λ (s : Stream). s.frames) is;
+  may = may;
+  heard_is = refl;
+}
 
 abbrev HeardAll : List ℕ → List (Result Heard FrameFault) → Decoding → Type 0
-HeardAll bytes heard new = IsHeardOf (heard_in (stream_of Server bytes)) heard × StandsAt heard (stream_of Server bytes).end new
+HeardAll bytes heard new = IsHeardOf (stream_of Server bytes) heard × StandsAt heard (stream_of Server bytes).end new
 
 step_none : (new : Decoding) (bytes piece : List ℕ) (r : Reading) → reading Server (bytes ++ piece) ≡ r → TakesBy r bytes piece new (Ok (length piece, None)) → HeardAll (bytes ++ piece) [] new
 step_none new bytes piece (Short wanted) e h = let s = stream_short (bytes ++ piece) wanted e in rw s (inl refl, h.1)
@@ -97,7 +121,10 @@ step_fails new bytes piece fault (Whole f n) e h =
     let s = stream_whole (bytes ++ piece) f n e in
     elim h.1.answer [
       | inl is ↦ let heard = err_is (heard_of f) (n - length bytes) fault is in rw (s, heard) (inl refl, h.1.after)
-      | inr is ↦ let lack = is.0 in let same : fault ≡ NoMemory = cc in (inr ([], heard_in (stream_of Server (bytes ++ piece)), refl, ap (λ g. Err g ∷ []) same), h.1.after)
+      | inr is ↦
+          let lack = is.0 in
+          let same : fault ≡ NoMemory = cc in
+          (inr (subst (λ g. IsCut MayLack (stream_of Server (bytes ++ piece)) (Err g ∷ [])) (sym same) (cut_first MayLack f _ (stream_of Server (drop n (bytes ++ piece))) s is.1)), h.1.after)
     ]
 
 step_hears : (between new : Decoding) (bytes piece : List ℕ) (used : ℕ) (heard : Heard) (rest : List (Result Heard FrameFault)) (r : Reading) → reading Server (bytes ++ piece) ≡ r → TakesBy r bytes piece between (Ok (used, Some heard)) → HeardAll (drop used piece) rest new → HeardAll (bytes ++ piece) (Ok heard ∷ rest) new
@@ -108,7 +135,7 @@ step_hears between new bytes piece used heard rest (Whole f n) e h later = elim 
       let parts = some_is (heard_of f) used (n - length bytes) heard is in
       let left : drop n (bytes ++ piece) ≡ drop used piece = drop_past n bytes piece h.0 ∙ ap (λ k. drop k piece) (sym parts.0) in
       let s = stream_whole (bytes ++ piece) f n e ∙ ap (λ xs. put_front (f ∷ []) (stream_of Server xs)) left in
-      rw (s, parts.1) (heard_cons heard _ rest later.0, later.1)
+      rw s (heard_cons f heard (stream_of Server (drop used piece)) rest parts.1 later.0, later.1)
   | inr is ↦ let no = is.0 in absurd (cc)
 ]
 
@@ -123,8 +150,9 @@ piece_is_heard new bytes piece heard up = go up
 
 -- a whole frame that a piece ends: what is heard of the bytes held and the piece is what it says, and then what the rest says
 pub record IsHeardFirst (bytes piece : List ℕ) (used : ℕ) (heard : Heard) (new : Decoding) : Type 0 where
-  pub said : heard_in (stream_of Server (bytes ++ piece)) ≡ Ok heard ∷ heard_in (stream_of Server (drop used piece))
-  pub end : (stream_of Server (bytes ++ piece)).end ≡ (stream_of Server (drop used piece)).end
+  pub frame : Frame
+  pub stream : stream_of Server (bytes ++ piece) ≡ put_front (frame ∷ []) (stream_of Server (drop used piece))
+  pub says : heard_of frame ≡ Ok heard
   pub holds : Holds new []
   pub within : used ≤ length piece
   pub some : 0 < used + length bytes
@@ -143,8 +171,9 @@ take_hears new bytes piece used heard takes = go (reading Server (bytes ++ piece
           let s = stream_whole (bytes ++ piece) f n e ∙ ap (λ xs. put_front (f ∷ []) (stream_of Server xs)) left in
           let size = whole_within Server (bytes ++ piece) f n e in
           record {
-            said = rw (s, parts.1) refl;
-            end = rw s refl;
+            frame = f;
+            stream = s;
+            says = parts.1;
             holds = h.1.after;
             within = omega (arith, size, length-append bytes piece, parts.0);
             some = omega (arith, size, h.0, parts.0);
@@ -170,12 +199,17 @@ take_rests new bytes piece used takes = go (reading Server (bytes ++ piece)) ref
       | inr is ↦ let no = is.0 in absurd (cc)
     ]
 
--- a fault is what is heard next, or there is no memory for it
-pub take_fails : (new : Decoding) (bytes piece : List ℕ) (fault : FrameFault) → Takes bytes piece new (Err fault) → ((rest : List (Result Heard FrameFault)) × (heard_in (stream_of Server (bytes ++ piece)) ≡ Err fault ∷ rest)) ⊎ (fault ≡ NoMemory)
+-- a fault is what is heard next, or there is no memory for what the first frame says
+abbrev pub FailsFirst : List ℕ → FrameFault → Type 0
+FailsFirst bytes fault =
+    ((rest : List (Result Heard FrameFault)) × (heard_in (stream_of Server bytes) ≡ Err fault ∷ rest))
+    ⊎ ((fault ≡ NoMemory) × IsCut MayLack (stream_of Server bytes) (Err NoMemory ∷ []))
+
+pub take_fails : (new : Decoding) (bytes piece : List ℕ) (fault : FrameFault) → Takes bytes piece new (Err fault) → FailsFirst (bytes ++ piece) fault
 unfolding Takes
 take_fails new bytes piece fault takes = go (reading Server (bytes ++ piece)) refl takes
   where
-    go : (r : Reading) → reading Server (bytes ++ piece) ≡ r → TakesBy r bytes piece new (Err fault) → ((rest : List (Result Heard FrameFault)) × (heard_in (stream_of Server (bytes ++ piece)) ≡ Err fault ∷ rest)) ⊎ (fault ≡ NoMemory)
+    go : (r : Reading) → reading Server (bytes ++ piece) ≡ r → TakesBy r bytes piece new (Err fault) → FailsFirst (bytes ++ piece) fault
     go (Short wanted) e h = let no = h.0 in absurd (cc)
     go (Bad other) e h =
         let is = h.0 in
@@ -186,5 +220,8 @@ take_fails new bytes piece fault takes = go (reading Server (bytes ++ piece)) re
         let s = stream_whole (bytes ++ piece) f n e in
         elim h.1.answer [
           | inl is ↦ let heard = err_is (heard_of f) (n - length bytes) fault is in inl (heard_in (stream_of Server (drop n (bytes ++ piece))), rw (s, heard) refl)
-          | inr is ↦ let lack = is.0 in let same : fault ≡ NoMemory = cc in inr same
+          | inr is ↦
+              let lack = is.0 in
+              let same : fault ≡ NoMemory = cc in
+              inr (same, cut_first MayLack f _ (stream_of Server (drop n (bytes ++ piece))) s is.1)
         ]

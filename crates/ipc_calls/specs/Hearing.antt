@@ -1,9 +1,9 @@
 -- What the server hears: what each whole frame says, or the fault that stands in its place.
-use Rattle.std.specs.Prelude.{ℕ, List, [], ◌∷◌, ◌++◌, map, Result, Ok, Err}
+use Rattle.std.specs.Prelude.{◌≡◌, ℕ, List, [], ◌∷◌, ◌++◌, map, Result, Ok, Err}
 use Rattle.ipc_history.specs.CallParts.{CallParts}
 use Rattle.ipc_frame.specs.Stream.{End, Rest, Stopped, Stream}
 use Rattle.ipc_frame.specs.declared.fault.FrameFault.{FrameFault}
-use Rattle.ipc_frame.specs.declared.fault.FrameFault.TheVariants.{UnknownKind, Unfinished}
+use Rattle.ipc_frame.specs.declared.fault.FrameFault.TheVariants.{NoMemory, UnknownKind, Unfinished}
 use Rattle.ipc_frame.specs.declared.frame.Frame.{Frame}
 use Rattle.ipc_frame.specs.declared.frame.Frame.TheVariants as frame
 use Rattle.ipc_calls.specs.CallOf.{call_of}
@@ -30,6 +30,15 @@ heard_behind (Stopped fault) = Err fault ∷ []
 -- all that a stream says
 abbrev pub heard_in : Stream → List (Result Heard FrameFault)
 heard_in stream = map heard_of stream.frames ++ heard_behind stream.end
+
+-- the first frames of a stream are heard, and in place of what the next one says, if such a frame may lack memory, that there is none
+pub record IsCut (May : Frame → Type 0) (stream : Stream) (heard : List (Result Heard FrameFault)) : Type 0 where
+  pub front : List Frame
+  pub frame : Frame
+  pub behind : List Frame
+  pub frames_are : stream.frames ≡ front ++ frame ∷ behind
+  pub may : May frame
+  pub heard_is : heard ≡ map heard_of front ++ Err NoMemory ∷ []
 
 -- the bytes since its last whole frame
 abbrev pub left_in : End → List ℕ

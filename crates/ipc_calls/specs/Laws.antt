@@ -1,14 +1,13 @@
 -- What holds of what is heard.
 use Rattle.std.specs.Prelude.{◌≡◌, ◌⊎◌, ℕ, ◌-◌, true, List, [], ◌∷◌, ◌++◌, length, drop, Result, Ok, Err}
-use Rattle.ipc_frame.specs.Stream.{End, stream_of, Rest, Stopped}
+use Rattle.ipc_frame.specs.Stream.{End, Stream, stream_of, Rest, Stopped}
 use Rattle.ipc_frame.specs.Frames.{spelling, kind_of, side_of, IsFrame}
 use Rattle.ipc_frame.specs.Reading.{Reading, Short, Bad, Whole, reading}
 use Rattle.ipc_frame.specs.declared.fault.FrameFault.{FrameFault}
-use Rattle.ipc_frame.specs.declared.fault.FrameFault.TheVariants.{NoMemory}
 use Rattle.ipc_frame.specs.declared.frame.Frame.{Frame}
 use Rattle.ipc_frame.specs.declared.kind.Side.TheVariants.{Server}
-use Rattle.ipc_calls.specs.Hearing.{heard_in, heard_of}
-use Rattle.ipc_calls.specs.Taking.{Decoding, Holds, TakesUp}
+use Rattle.ipc_calls.specs.Hearing.{IsCut, heard_in, heard_of}
+use Rattle.ipc_calls.specs.Taking.{Decoding, Holds, MayLack, TakesUp}
 use Rattle.ipc_calls.specs.declared.heard.Heard.{Heard}
 
 -- where bytes end inside a frame, what is heard of them and a piece is what was heard, and then
@@ -31,11 +30,9 @@ to_fault [] = []
 to_fault (Ok heard ∷ rest) = Ok heard ∷ to_fault rest
 to_fault (Err fault ∷ rest) = Err fault ∷ []
 
--- all that is said up to the first fault was heard; or a front of it, and want of memory in place of the next
-abbrev pub IsHeardOf : List (Result Heard FrameFault) → List (Result Heard FrameFault) → Type 0
-IsHeardOf said heard =
-    (heard ≡ to_fault said)
-    ⊎ ((front rest : List (Result Heard FrameFault)) × (said ≡ front ++ rest) × (heard ≡ front ++ Err NoMemory ∷ []))
+-- all that is said up to the first fault was heard; or the first frames of it, and want of memory in place of a call that may want it
+abbrev pub IsHeardOf : Stream → List (Result Heard FrameFault) → Type 0
+IsHeardOf stream heard = (heard ≡ to_fault (heard_in stream)) ⊎ IsCut MayLack stream heard
 
 -- where a decoder stands after what it heard: it holds what is left, or it answered a fault
 abbrev pub StandsAt : List (Result Heard FrameFault) → End → Decoding → Type 0
@@ -48,5 +45,5 @@ StandsAt (Err fault ∷ rest) end decoder = decoder.spent ≡ true
 abbrev pub PieceIsHeard : Type 0
 PieceIsHeard = (new : Decoding) (bytes piece : List ℕ) (heard : List (Result Heard FrameFault))
     → TakesUp bytes piece heard new
-    → IsHeardOf (heard_in (stream_of Server (bytes ++ piece))) heard
+    → IsHeardOf (stream_of Server (bytes ++ piece)) heard
     × StandsAt heard (stream_of Server (bytes ++ piece)).end new

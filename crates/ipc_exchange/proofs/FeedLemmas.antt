@@ -1,21 +1,23 @@
 -- A piece is served frame by frame.
 use Rattle.std.proofs.Common.{◌≡◌, ◌⊎◌, inl, inr, ℕ, ◌+◌, true, false, List, [], ◌∷◌, ◌++◌, Option, Some, None, Result, Ok, Err, refl, sym, ap, subst, ◌∙◌, length, drop, length-append}
 use Rattle.std.specs.Bool.{⊤}
-use Rattle.ipc_frame.specs.Stream.{End, stream_of}
+use Rattle.ipc_frame.specs.Stream.{Stream, put_front, stream_of}
 use Rattle.ipc_frame.specs.declared.fault.FrameFault.{FrameFault}
 use Rattle.ipc_frame.specs.declared.fault.FrameFault.TheVariants.{NoMemory, Unfinished}
+use Rattle.ipc_frame.specs.declared.frame.Frame.{Frame}
 use Rattle.ipc_frame.specs.declared.kind.Side.TheVariants.{Server}
-use Rattle.ipc_calls.specs.Hearing.{heard_in, left_in}
+use Rattle.ipc_calls.specs.Hearing.{IsCut, heard_in, heard_of, left_in}
+use Rattle.ipc_calls.specs.Taking as taking
 use Rattle.ipc_calls.specs.Taking.{Decoding, Finishes, Holds, Takes}
 use Rattle.ipc_calls.specs.declared.heard.Heard.{Heard}
 use Rattle.ipc_calls.specs.declared.heard.Heard.TheVariants.{Bye}
-use Rattle.ipc_calls.proofs.PieceLemmas.{take_fails, take_hears, take_rests}
+use Rattle.ipc_calls.proofs.PieceLemmas.{FailsFirst, cut_cons, cut_first, take_fails, take_hears, take_rests}
 use Rattle.ipc_connection.specs.Chain.{Chain}
 use Rattle.ipc_connection.specs.declared.stage.Stage.{Stage}
 use Rattle.ipc_connection.specs.declared.stage.Stage.TheVariants.{Greeting, Serving, Finished}
 use Rattle.ipc_exchange.specs.Service.{ServiceParts, line_at}
-use Rattle.ipc_exchange.specs.Serving.{Asked, Hears, MayLack, Serves}
-use Rattle.ipc_exchange.specs.Slots.{ServiceSlots, service_of, stage_at}
+use Rattle.ipc_exchange.specs.Serving.{Asked, Hears, MayLack, MayWant, Serves}
+use Rattle.ipc_exchange.specs.Slots.{ServiceSlots, WantsRoom, service_of, stage_at}
 use Rattle.ipc_exchange.specs.Exchange.{ClosesLine}
 use Rattle.ipc_exchange.specs.Feeding.{FeedsFirst, FeedsLine, HearsOne, HoldsFor, IsHeard, has_finished}
 use Rattle.ipc_exchange.proofs.ServingLemmas.{all_idle_again, fault_finishes}
@@ -40,9 +42,17 @@ holds_all Finished decoder bytes holds = tt
 holds_all Greeting decoder bytes holds = holds
 holds_all (Serving thread) decoder bytes holds = holds
 
+-- what the first frame says, and then the rest
+said_first : (f : Frame) (heard : Heard) (stream behind : Stream) → stream ≡ put_front (f ∷ []) behind → heard_of f ≡ Ok heard → heard_in stream ≡ Ok heard ∷ heard_in behind
+said_first f heard stream behind is says = ap heard_in is ∙ ap (λ h. h ∷ heard_in behind) says
+
+-- where its call may lack memory a frame may want it
+cut_wants : (stream : Stream) (heard : List (Result Heard FrameFault)) → IsCut taking.MayLack stream heard → IsCut MayWant stream heard
+cut_wants stream heard cut = record { front = cut.front; frame = cut.frame; behind = cut.behind; frames_are = cut.frames_are; may = inr cut.may; heard_is = cut.heard_is }
+
 -- what was heard last ended the connection: the rest of the piece is not served
 ends_so : (old new : ServiceParts) (place : ℕ) (bytes piece : List ℕ) (decoder : Decoding) (heard : Result Heard FrameFault) (asked : List Asked)
-    → ((rest : List (Result Heard FrameFault)) × (heard_in (stream_of Server (bytes ++ piece)) ≡ heard ∷ rest)) ⊎ (heard ≡ Err NoMemory)
+    → ((rest : List (Result Heard FrameFault)) × (heard_in (stream_of Server (bytes ++ piece)) ≡ heard ∷ rest)) ⊎ IsCut MayWant (stream_of Server (bytes ++ piece)) (heard ∷ [])
     → Serves MayLack old place heard asked new → (line_at new.lines place).stage ≡ Finished → FeedsLine old place bytes piece new decoder
 unfolding Chain
 ends_so old new place bytes piece decoder heard asked (inl (rest, said)) serves ended = record {
@@ -52,9 +62,9 @@ ends_so old new place bytes piece decoder heard asked (inl (rest, said)) serves 
   serves = (asked, [], new, refl, serves, all_idle_again MayLack place rest new ended);
   holds = holds_ended _ decoder _ ended;
 }
-ends_so old new place bytes piece decoder heard asked (inr lacks) serves ended = record {
+ends_so old new place bytes piece decoder heard asked (inr cut) serves ended = record {
   heard = heard ∷ [];
-  hears = inr ([], heard_in (stream_of Server (bytes ++ piece)), refl, ap (λ h. h ∷ []) lacks);
+  hears = inr cut;
   asked = asked ++ [];
   serves = (asked, [], new, refl, serves, (refl, refl));
   holds = holds_ended _ decoder _ ended;
@@ -78,19 +88,16 @@ rests old place bytes piece used decoder takes =
 pub fails : (old new : ServiceParts) (place : ℕ) (bytes piece : List ℕ) (fault : FrameFault) (decoder : Decoding) → Takes bytes piece decoder (Err fault) → HearsOne old place (Err fault) new → FeedsLine old place bytes piece new decoder
 fails old new place bytes piece fault decoder takes hears = go hears.is (take_fails decoder bytes piece fault takes)
   where
-    Said : FrameFault → Type 0
-    Said f = ((rest : List (Result Heard FrameFault)) × (heard_in (stream_of Server (bytes ++ piece)) ≡ Err f ∷ rest)) ⊎ (f ≡ NoMemory)
-
-    go : IsHeard (Err fault) hears.heard → Said fault → FeedsLine old place bytes piece new decoder
-    go (inr lacks) said =
-        let serves = subst (λ h. Serves MayLack old place h hears.asked new) lacks hears.serves in
-        ends_so old new place bytes piece decoder (Err NoMemory) hears.asked (inr refl) serves (fault_finishes MayLack place old new NoMemory hears.asked serves)
+    go : IsHeard (Err fault) hears.heard → FailsFirst (bytes ++ piece) fault → FeedsLine old place bytes piece new decoder
+    go (inr lacks) said = absurd lacks.1
     go (inl is) (inl said) =
         let serves = subst (λ h. Serves MayLack old place h hears.asked new) is hears.serves in
         ends_so old new place bytes piece decoder (Err fault) hears.asked (inl said) serves (fault_finishes MayLack place old new fault hears.asked serves)
-    go (inl is) (inr lacks) =
+    go (inl is) (inr (lacks, cut)) =
         let serves = subst (λ h. Serves MayLack old place h hears.asked new) is hears.serves in
-        ends_so old new place bytes piece decoder (Err fault) hears.asked (inr (ap Err lacks)) serves (fault_finishes MayLack place old new fault hears.asked serves)
+        let stream = stream_of Server (bytes ++ piece) in
+        let wants = subst (λ f. IsCut MayWant stream (Err f ∷ [])) (sym lacks) (cut_wants stream (Err NoMemory ∷ []) cut) in
+        ends_so old new place bytes piece decoder (Err fault) hears.asked (inr wants) serves (fault_finishes MayLack place old new fault hears.asked serves)
 
 -- a frame, behind which the connection has ended
 pub ends : (old new : ServiceParts) (place : ℕ) (bytes piece : List ℕ) (used : ℕ) (heard : Heard) (decoder : Decoding) → Takes bytes piece decoder (Ok (used, Some heard)) → HearsOne old place (Ok heard) new → (line_at new.lines place).stage ≡ Finished → FeedsLine old place bytes piece new decoder
@@ -98,11 +105,15 @@ ends old new place bytes piece used heard decoder takes hears ended = go hears.i
   where
     go : IsHeard (Ok heard) hears.heard → FeedsLine old place bytes piece new decoder
     go (inl is) =
+        let first = take_hears decoder bytes piece used heard takes in
         let serves = subst (λ h. Serves MayLack old place h hears.asked new) is hears.serves in
-        ends_so old new place bytes piece decoder (Ok heard) hears.asked (inl (heard_in (stream_of Server (drop used piece)), (take_hears decoder bytes piece used heard takes).said)) serves ended
+        let said = said_first first.frame heard _ (stream_of Server (drop used piece)) first.stream first.says in
+        ends_so old new place bytes piece decoder (Ok heard) hears.asked (inl (heard_in (stream_of Server (drop used piece)), said)) serves ended
     go (inr lacks) =
-        let serves = subst (λ h. Serves MayLack old place h hears.asked new) lacks hears.serves in
-        ends_so old new place bytes piece decoder (Err NoMemory) hears.asked (inr refl) serves ended
+        let first = take_hears decoder bytes piece used heard takes in
+        let serves = subst (λ h. Serves MayLack old place h hears.asked new) lacks.0 hears.serves in
+        let cut = cut_first MayWant first.frame _ (stream_of Server (drop used piece)) first.stream (inl (subst WantsRoom (sym first.says) lacks.1)) in
+        ends_so old new place bytes piece decoder (Err NoMemory) hears.asked (inr cut) serves ended
 
 -- a frame, behind which it goes on
 pub goes_on : (old new : ServiceParts) (place : ℕ) (bytes piece : List ℕ) (used : ℕ) (heard : Heard) (decoder : Decoding) → Takes bytes piece decoder (Ok (used, Some heard)) → HearsOne old place (Ok heard) new → has_finished (line_at new.lines place).stage ≡ false → FeedsFirst old place bytes piece used new
@@ -110,14 +121,15 @@ goes_on old new place bytes piece used heard decoder takes hears lives = go hear
   where
     go : IsHeard (Ok heard) hears.heard → FeedsFirst old place bytes piece used new
     go (inl is) = record {
+      frame = (take_hears decoder bytes piece used heard takes).frame;
+      stream = (take_hears decoder bytes piece used heard takes).stream;
       heard = heard;
-      said = (take_hears decoder bytes piece used heard takes).said;
-      end = (take_hears decoder bytes piece used heard takes).end;
+      says = (take_hears decoder bytes piece used heard takes).says;
       asked = hears.asked;
       serves = subst (λ h. Serves MayLack old place h hears.asked new) is hears.serves;
     }
     go (inr lacks) =
-        let serves = subst (λ h. Serves MayLack old place h hears.asked new) lacks hears.serves in
+        let serves = subst (λ h. Serves MayLack old place h hears.asked new) lacks.0 hears.serves in
         let ended = fault_finishes MayLack place old new NoMemory hears.asked serves in
         let no : true ≡ false = ap has_finished (sym ended) ∙ lives in
         absurd cc
@@ -130,15 +142,13 @@ feeds_both old between new place bytes piece used decoder first later = record {
   hears = go later.hears;
   asked = first.asked ++ later.asked;
   serves = (first.asked, later.asked, between, refl, first.serves, later.serves);
-  holds = subst (λ (end : End). HoldsFor (line_at new.lines place).stage decoder (left_in end)) (sym first.end) later.holds;
+  holds = subst (λ (s : Stream). HoldsFor (line_at new.lines place).stage decoder (left_in s.end)) (sym first.stream) later.holds;
 }
   where
-    Rests : Type 0
-    Rests = (front : List (Result Heard FrameFault)) × (rest : List (Result Heard FrameFault)) × (heard_in (stream_of Server (drop used piece)) ≡ front ++ rest) × (later.heard ≡ front ++ Err NoMemory ∷ [])
-
-    go : (later.heard ≡ heard_in (stream_of Server (drop used piece))) ⊎ Rests → Hears MayLack (heard_in (stream_of Server (bytes ++ piece))) (Ok first.heard ∷ later.heard)
-    go (inl whole) = inl (ap (λ l. Ok first.heard ∷ l) whole ∙ sym first.said)
-    go (inr (front, rest, said, cut)) = inr (Ok first.heard ∷ front, rest, first.said ∙ ap (λ l. Ok first.heard ∷ l) said, ap (λ l. Ok first.heard ∷ l) cut)
+    go : Hears MayLack (stream_of Server (drop used piece)) later.heard → Hears MayLack (stream_of Server (bytes ++ piece)) (Ok first.heard ∷ later.heard)
+    go (inl whole) = inl (ap (λ l. Ok first.heard ∷ l) whole ∙ sym (said_first first.frame first.heard _ (stream_of Server (drop used piece)) first.stream first.says))
+    go (inr cut) =
+        inr (subst (λ s. IsCut MayWant s (Ok first.heard ∷ later.heard)) (sym first.stream) (cut_cons MayWant first.frame first.heard (stream_of Server (drop used piece)) later.heard first.says cut))
 
 -- what was answered, as it is named
 pub taken_as : (bytes piece : List ℕ) (new : Decoding) (used : ℕ) (o p : Option Heard) (r : Result (ℕ × Option Heard) FrameFault) → r ≡ Ok (used, o) → o ≡ p → Takes bytes piece new r → Takes bytes piece new (Ok (used, p))

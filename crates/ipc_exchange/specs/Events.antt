@@ -8,7 +8,7 @@ use Rattle.ipc_core.specs.declared.command.Answer.{Answer}
 use Rattle.ipc_core.specs.declared.command.Command.{Command}
 use Rattle.ipc_core.specs.declared.command.Command.TheVariants as command
 use Rattle.ipc_connection.specs.Chain.{Chain}
-use Rattle.ipc_calls.specs.Hearing.{heard_in, heard_at_end, left_in}
+use Rattle.ipc_calls.specs.Hearing.{heard_at_end, left_in}
 use Rattle.ipc_connection.specs.declared.stage.Stage.{Stage}
 use Rattle.ipc_connection.specs.declared.stage.Stage.TheVariants.{Greeting, Serving, Finished}
 use Rattle.ipc_calls.specs.declared.heard.Heard.{Heard}
@@ -47,7 +47,7 @@ holding old service place bytes = record {
 pub record Feeds (memory : Memory) (old : ExchangeParts) (place : ℕ) (piece : List ℕ)
     (asked : List Asked) (new : ExchangeParts) : Type 0 where
   pub heard : List (Result Heard FrameFault)
-  pub hears : Hears memory (heard_in (stream_of Server (held_at old place ++ piece))) heard
+  pub hears : Hears memory (stream_of Server (held_at old place ++ piece)) heard
   pub service : ServiceParts
   pub serves : ServesAll memory old.service place heard asked service
   pub new_is : new ≡ holding old service place (left_in (stream_of Server (held_at old place ++ piece)).end)

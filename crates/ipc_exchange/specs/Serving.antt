@@ -1,7 +1,8 @@
 -- How what is heard on a connection is served.
-use Rattle.std.specs.Prelude.{◌≡◌, ℕ, List, [], ◌∷◌, ◌++◌, Option, Some, None, Result, Err, slice_set, ◌⊎◌}
+use Rattle.std.specs.Prelude.{◌≡◌, ℕ, List, [], ◌∷◌, ◌++◌, Option, Some, None, Result, slice_set, ◌⊎◌}
 use Rattle.ipc_frame.specs.declared.fault.FrameFault.{FrameFault}
-use Rattle.ipc_frame.specs.declared.fault.FrameFault.TheVariants as fault
+use Rattle.ipc_frame.specs.declared.frame.Frame.{Frame}
+use Rattle.ipc_frame.specs.Stream.{Stream}
 use Rattle.ipc_core.specs.KernelParts.{KernelParts}
 use Rattle.ipc_core.specs.Obeying.{Obeys, MayObey}
 use Rattle.ipc_core.specs.RefusalNumbers.{refusal_number}
@@ -14,10 +15,13 @@ use Rattle.ipc_connection.specs.Chain.{Chain}
 use Rattle.ipc_connection.specs.Replying.{next_stage, thread_left}
 use Rattle.ipc_connection.specs.declared.asking.Request.{Request}
 use Rattle.ipc_connection.specs.declared.asking.Request.TheVariants.{Open, Enter, Exreg, Leave, Refuse, Nothing}
+use Rattle.ipc_calls.specs.Hearing.{IsCut, heard_in, heard_of}
+use Rattle.ipc_calls.specs.Taking as taking
 use Rattle.ipc_calls.specs.declared.heard.Heard.{Heard}
 use Rattle.ipc_connection.specs.declared.replying.Told.{Told}
 use Rattle.ipc_connection.specs.declared.replying.Told.TheVariants.{Opened, Entered, Exchanged, Refused, Faulted, Left}
 use Rattle.ipc_exchange.specs.Service.{ServiceParts, at_rest, delivered, line_at, told_line}
+use Rattle.ipc_exchange.specs.Slots.{WantsRoom}
 
 -- whether there is memory for all that is wanted
 pub data Memory : Type 0 where
@@ -102,9 +106,12 @@ abbrev pub ServesAll : Memory → ServiceParts → ℕ → List (Result Heard Fr
 ServesAll memory old place heard asked new =
     Chain (λ before one told after. Serves memory before place one told after) old heard asked new
 
--- what is heard of what a stream says: all; where a growth was refused the first of it, and then that there is no memory
-abbrev pub Hears : Memory → List (Result Heard FrameFault) → List (Result Heard FrameFault) → Type 0
-Hears Ample said heard = heard ≡ said
-Hears MayLack said heard = (heard ≡ said)
-    ⊎ ((front : List (Result Heard FrameFault)) × (rest : List (Result Heard FrameFault))
-    × (said ≡ front ++ rest) × (heard ≡ front ++ Err fault.NoMemory ∷ []))
+-- there may be no memory for what a frame says: for the room that serving it wants, which BYE does not want, or for its call
+abbrev pub MayWant : Frame → Type 0
+MayWant frame = WantsRoom (heard_of frame) ⊎ taking.MayLack frame
+
+-- what is heard of a stream: all that it says; where a growth was refused the first of it, and then, in the place of what such a
+-- frame says, that there is no memory
+abbrev pub Hears : Memory → Stream → List (Result Heard FrameFault) → Type 0
+Hears Ample stream heard = heard ≡ heard_in stream
+Hears MayLack stream heard = (heard ≡ heard_in stream) ⊎ IsCut MayWant stream heard

@@ -1,16 +1,17 @@
-ghost use Rattle.std.specs.Prelude.{◌≡◌, ◌<◌, ◌≤◌, ◌+◌, ℕ, List, [], length, true, Ok, Err, IfSome, IsNone};
+ghost use Rattle.std.specs.Prelude.{◌≡◌, ◌<◌, ◌≤◌, ◌+◌, ℕ, List, [], length, false, true, Ok, Err, IfSome, IsNone};
 ghost use Rattle.ipc_calls.specs.Taking.{Holds};
 ghost use Rattle.ipc_calls.specs.declared.heard.Heard.TheVariants.{Bye};
 ghost use Rattle.ipc_exchange.specs.Exchange.{ClosesLine};
 ghost use Rattle.ipc_exchange.specs.Feeding.{FeedsFirst, FeedsLine, HearsOne, IsHeard};
-ghost use Rattle.ipc_exchange.specs.Slots.{CanServe, Ready, StaysReady, service_of};
+ghost use Rattle.ipc_exchange.specs.Slots.{CanServe, Ready, StaysReady, WantsRoom, service_of};
 
 use crate::service::Service;
 use ipc_calls::{CallDecoder, Heard};
 use ipc_frame::FrameFault;
 
 fn is_bye(heard: &Heard) -> bool
-    ensures { result ≡ true → heard.now ≡ Bye }
+    ensures bye { result ≡ true → heard.now ≡ Bye }
+    ensures other { result ≡ false → WantsRoom (Ok heard.now) }
 {
     matches!(heard, Heard::Bye)
 }

@@ -146,7 +146,11 @@ int l4_read_refusal(struct thread *thread, unsigned kind, size_t body)
 	case FAULT:
 		if (body != 3)
 			return l4_lose(thread, FOUND_HERE, 'F', 3, 0);
-		return l4_take(thread, 2, &bytes) < 0 ? -1 : l4_lose(thread, SERVER_FAULT, (char) bytes[0], bytes[1], 0);
+		if (l4_take(thread, 2, &bytes) < 0)
+			return -1;
+		if (memchr("KFS", bytes[0], 3) == NULL)
+			return l4_lose(thread, FOUND_HERE, 'C', NOT_AN_ANSWER, 0);
+		return l4_lose(thread, SERVER_FAULT, (char) bytes[0], bytes[1], 0);
 	case WELCOME:
 	case IPCR:
 	case EXREGR:
@@ -221,6 +225,7 @@ static int begin(struct thread *thread, int socket)
 	thread->lost = (struct failure) { .source = NOBODY };
 	thread->virtual_sender = L4_nilthread;
 	thread->name_server = L4_nilthread;
+	thread->error_code = 0;
 	thread->br[0] = 0;
 	return error == 0 ? 0 : l4_lose(thread, FOUND_HERE, 'F', 10, error);
 }

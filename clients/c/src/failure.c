@@ -42,6 +42,7 @@ static const struct meaning meanings[] = {
 	{ 'C', NOT_AN_ANSWER, EPROTO, "the server sent what is no answer to the call" },
 	{ 'C', IS_CONNECTED, EISCONN, "the thread is connected already" },
 	{ 'C', NO_PATH, ENAMETOOLONG, "the path of the space is too long for a socket" },
+	{ 'C', NOBODY_THERE, ESRCH, "ExchangeRegisters of what is no live thread of the caller's space" },
 	{ 'N', 1, EPROTO, "no request of a name server" },
 	{ 'N', BAD_NAME, EINVAL, "a name has 1 to 64 bytes of printable ASCII without the space" },
 	{ 'N', 3, EADDRINUSE, "another live thread has the name" },

@@ -54,6 +54,7 @@ enum client_fault {
 	NOT_AN_ANSWER = 4,
 	IS_CONNECTED = 5,
 	NO_PATH = 6,
+	NOBODY_THERE = 7,
 };
 
 /* What the name server answers, and what is found of it: class N. */

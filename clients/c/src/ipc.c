@@ -406,10 +406,14 @@ L4_ThreadId_t L4_ExchangeRegisters(L4_ThreadId_t dest, L4_Word_t control, L4_Wor
 
 	/* the control bits that would give these a meaning are refused */
 	(void) sp, (void) ip, (void) flags, (void) UserDefinedHandle, (void) pager;
-	if (exchange(thread, dest, control, &exchanged) == 0)
+	if (exchange(thread, dest, control, &exchanged) < 0) {
+		exchanged.result = L4_nilthread;
+		exchanged.control = 0;
+	} else {
+		if (L4_IsNilThread(exchanged.result))
+			(void) l4_refuse(thread, FOUND_HERE, 'C', NOBODY_THERE);
 		thread->error_code = exchanged.code;
-	else
-		exchanged.result = L4_nilthread, exchanged.control = 0;
+	}
 	give_word(old_control, exchanged.control);
 	give_word(old_sp, 0);
 	give_word(old_ip, 0);

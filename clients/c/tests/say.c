@@ -1,0 +1,310 @@
+/* Makes the calls that checks/clients_c.py says, one a line, and prints what each of them brought. Words are hexadecimal.
+ *
+ *     connect DIR SPACE NUMBER
+ *     disconnect
+ *     ipc TO FROM TIMEOUTS LABEL VIRTUAL WORDS STRINGS BUFFERS
+ *     exreg DEST CONTROL
+ *     mrs I WORDS, brs I WORDS          loads registers; I is decimal
+ *     send TO, wait                     sends, or accepts, what the registers say
+ *     register NAME, lookup NAME, list NAME
+ *
+ * VIRTUAL is `-` without propagation. Lists are `-` or separated by commas. A string is its substrings, each `x` and bytes,
+ * joined by `+`; a buffer is the decimal lengths of its substrings joined by `+`, and BUFFERS is `s` for strings accepted
+ * without a buffer. */
+#define _DEFAULT_SOURCE
+
+#include <l4.h>
+
+#include <errno.h>
+#include <stdio.h>
+#include <stdlib.h>
+#include <string.h>
+
+enum { LINE_BYTES = 1 << 22, MEMORY_BYTES = 1 << 22, MOST = 64 };
+
+/* Memory of the strings and of the buffers of one call, each piece with a gap behind it that has to stay as it is. */
+static unsigned char memory[MEMORY_BYTES];
+static size_t used;
+enum { GAP = 16, FILLING = 0xaa };
+
+/* The buffers of the call: each is some of the pieces. */
+static struct {
+	unsigned char *at;
+	size_t count;
+} pieces[MOST];
+static struct {
+	size_t begin, end;
+} buffer[MOST];
+static size_t piece_count, buffers;
+
+static void die(const char *what)
+{
+	fprintf(stderr, "say: %s\n", what);
+	exit(3);
+}
+
+static unsigned char *room(size_t count)
+{
+	unsigned char *at = memory + used;
+
+	if (count > MEMORY_BYTES - GAP - used)
+		die("no room");
+	used += count + GAP;
+	memset(at, FILLING, count + GAP);
+	return at;
+}
+
+/* The next part of a text up to one of these bytes; NULL behind the last. */
+static char *part(char **text, const char *ends)
+{
+	return *text == NULL ? NULL : strsep(text, ends);
+}
+
+static L4_Word_t word(const char *text)
+{
+	return text == NULL ? 0 : strtoull(text, NULL, 16);
+}
+
+static L4_ThreadId_t thread(const char *text)
+{
+	return (L4_ThreadId_t) { word(text) };
+}
+
+static size_t words(char *text, L4_Word_t *list)
+{
+	size_t count = 0;
+
+	if (strcmp(text, "-") == 0)
+		return 0;
+	for (char *one; (one = part(&text, ",")) != NULL && count < 2 * MOST;)
+		list[count++] = word(one);
+	return count;
+}
+
+static L4_StringItem_t sent_piece(const char *text)
+{
+	size_t count = strlen(text + 1) / 2;
+	unsigned char *bytes = room(count);
+
+	for (size_t i = 0; i < count; i++) {
+		char pair[] = { text[1 + 2 * i], text[2 + 2 * i], 0 };
+		bytes[i] = (unsigned char) strtoul(pair, NULL, 16);
+	}
+	return L4_StringItem((int) count, bytes);
+}
+
+static void append_strings(L4_Msg_t *msg, char *text)
+{
+	if (strcmp(text, "-") == 0)
+		return;
+	for (char *one; (one = part(&text, ",")) != NULL;) {
+		L4_StringItem_t item = sent_piece(part(&one, "+"));
+		for (char *more; (more = part(&one, "+")) != NULL;)
+			L4_AddSubstringTo(&item, sent_piece(more));
+		L4_MsgAppendStringItem(msg, &item);
+	}
+}
+
+static L4_StringItem_t buffer_piece(const char *text)
+{
+	size_t count = strtoull(text, NULL, 10);
+	unsigned char *at = room(count);
+
+	pieces[piece_count].at = at;
+	pieces[piece_count++].count = count;
+	return L4_StringItem((int) count, at);
+}
+
+static L4_StringItem_t buffer_of(char *text)
+{
+	size_t begin = piece_count;
+	L4_StringItem_t item = buffer_piece(part(&text, "+"));
+
+	for (char *more; (more = part(&text, "+")) != NULL;)
+		L4_AddSubstringTo(&item, buffer_piece(more));
+	buffer[buffers].begin = begin;
+	buffer[buffers++].end = piece_count;
+	return item;
+}
+
+static void accept_buffers(char *text)
+{
+	L4_MsgBuffer_t list;
+
+	buffers = piece_count = 0;
+	L4_MsgBufferClear(&list);
+	if (strcmp(text, "-") == 0) {
+		L4_Accept(L4_UntypedWordsAcceptor);
+		return;
+	}
+	if (strcmp(text, "s") == 0)
+		text = NULL;
+	for (char *one; (one = part(&text, ",")) != NULL;) {
+		L4_StringItem_t item = buffer_of(one);
+		L4_MsgBufferAppendRcvString(&list, &item);
+	}
+	L4_AcceptStrings(L4_StringItemsAcceptor, &list);
+}
+
+/* A string that was received: its bytes, from the pieces of its buffer. */
+static void print_string(size_t k, size_t length)
+{
+	printf("x");
+	for (size_t i = buffer[k].begin; i < buffer[k].end; i++)
+		for (size_t j = 0; j < pieces[i].count && length > 0; j++, length--)
+			printf("%02x", pieces[i].at[j]);
+	if (length > 0)
+		die("a string longer than its buffer");
+}
+
+/* What no string filled is as it was, in the buffers and between them. */
+static void check_rest(size_t k, size_t length)
+{
+	for (size_t i = buffer[k].begin; i < buffer[k].end; i++)
+		for (size_t j = 0; j < pieces[i].count + GAP; j++) {
+			if (j < pieces[i].count && length > 0)
+				length--;
+			else if (pieces[i].at[j] != FILLING)
+				die("a byte outside of the string was written");
+		}
+}
+
+static void print_outcome(L4_MsgTag_t tag, L4_ThreadId_t from)
+{
+	static const L4_Msg_t nothing;
+	L4_ThreadId_t actual = L4_IpcPropagated(tag) ? L4_ActualSender() : L4_nilthread;
+	L4_Msg_t msg = nothing;
+	L4_Word_t u = L4_UntypedWords(tag), t = 0, size;
+	L4_StringItem_t item;
+	size_t count = 0;
+
+	L4_MsgStore(tag, &msg);
+	printf("%llx %llx %llx %llx ", (unsigned long long) tag.raw, (unsigned long long) from.raw,
+	       (unsigned long long) actual.raw, (unsigned long long) L4_ErrorCode());
+	for (L4_Word_t i = 0; i < u; i++)
+		printf("%s%llx", i == 0 ? "" : ",", (unsigned long long) L4_MsgWord(&msg, i));
+	printf(u == 0 ? "- " : " ");
+	for (; (size = L4_MsgGetStringItem(&msg, t, &item)) != 0; t += size, count++) {
+		printf("%s", count == 0 ? "" : ",");
+		print_string(count, item.raw[0] >> 10);
+		check_rest(count, item.raw[0] >> 10);
+		if (L4_Substring(&item, 0) != pieces[buffer[count].begin].at)
+			die("another address than that of the buffer");
+	}
+	for (size_t i = count; i < buffers && L4_IpcSucceeded(tag); i++)
+		check_rest(i, 0);
+	printf(count == 0 ? "-" : "");
+}
+
+static void ipc(char *line)
+{
+	L4_Word_t list[2 * MOST];
+	L4_ThreadId_t to = thread(part(&line, " ")), source = thread(part(&line, " ")), from;
+	L4_Word_t timeouts = word(part(&line, " ")), label = word(part(&line, " "));
+	char *virtual = part(&line, " ");
+	size_t count = words(part(&line, " "), list);
+	L4_MsgTag_t tag;
+	L4_Msg_t msg;
+
+	used = 0;
+	L4_MsgClear(&msg);
+	L4_Set_MsgLabel(&msg, label);
+	for (size_t i = 0; i < count; i++)
+		L4_MsgAppendWord(&msg, list[i]);
+	append_strings(&msg, part(&line, " "));
+	accept_buffers(part(&line, " "));
+	tag = L4_MsgMsgTag(&msg);
+	if (strcmp(virtual, "-") != 0) {
+		L4_Set_Propagation(&tag);
+		L4_Set_VirtualSender(thread(virtual));
+	}
+	L4_Set_MsgMsgTag(&msg, tag);
+	L4_MsgLoad(&msg);
+	tag = L4_Ipc(to, source, timeouts, &from);
+	print_outcome(tag, from);
+}
+
+static void load(char *line, void (*to)(int, int, const L4_Word_t *))
+{
+	L4_Word_t list[2 * MOST];
+	int i = atoi(part(&line, " "));
+
+	to(i, (int) words(part(&line, " "), list), list);
+	printf("-");
+}
+
+static void exchange(char *line)
+{
+	L4_ThreadId_t dest = thread(part(&line, " ")), result, pager = L4_anythread;
+	L4_Word_t old[5] = { 1, 1, 1, 1, 1 };
+
+	result = L4_ExchangeRegisters(dest, word(part(&line, " ")), 0, 0, 0, 0, L4_nilthread, &old[0], &old[1], &old[2],
+				      &old[3], &old[4], &pager);
+	if (old[1] != 0 || old[2] != 0 || old[3] != 0 || old[4] != 0 || !L4_IsNilThread(pager))
+		die("a register of another thread");
+	printf("%llx %llx %llx", (unsigned long long) result.raw, (unsigned long long) old[0],
+	       (unsigned long long) L4_ErrorCode());
+}
+
+static void connect_to(char *line)
+{
+	char *dir = part(&line, " ");
+	unsigned space = (unsigned) atoi(part(&line, " ")), number = (unsigned) atoi(part(&line, " "));
+	int status = l4_connect(dir, space, number);
+
+	printf("%d %llx", status, (unsigned long long) L4_Myself().raw);
+}
+
+static void list(const char *after)
+{
+	char name[L4_NAME_BYTES + 1] = "-";
+	L4_ThreadId_t thread = L4_nilthread;
+	int status = l4_list(strcmp(after, "-") == 0 ? "" : after, name, &thread);
+
+	printf("%d %s %llx", status, name, (unsigned long long) thread.raw);
+}
+
+static void run(char *line)
+{
+	const char *command = part(&line, " ");
+
+	buffers = 0;
+	if (strcmp(command, "connect") == 0)
+		connect_to(line);
+	else if (strcmp(command, "disconnect") == 0)
+		l4_disconnect(), printf("-");
+	else if (strcmp(command, "ipc") == 0)
+		ipc(line);
+	else if (strcmp(command, "exreg") == 0)
+		exchange(line);
+	else if (strcmp(command, "mrs") == 0)
+		load(line, L4_LoadMRs);
+	else if (strcmp(command, "brs") == 0)
+		load(line, L4_LoadBRs);
+	else if (strcmp(command, "send") == 0)
+		print_outcome(L4_Send(thread(line)), L4_nilthread);
+	else if (strcmp(command, "wait") == 0)
+		print_outcome(L4_Wait_Timeout(L4_ZeroTime, NULL), L4_nilthread);
+	else if (strcmp(command, "register") == 0)
+		printf("%d", l4_register(line));
+	else if (strcmp(command, "lookup") == 0)
+		printf("%llx", (unsigned long long) l4_lookup(line).raw);
+	else if (strcmp(command, "list") == 0)
+		list(line);
+	else
+		die(command);
+}
+
+int main(void)
+{
+	static char line[LINE_BYTES];
+
+	while (fgets(line, sizeof line, stdin) != NULL) {
+		line[strcspn(line, "\n")] = 0;
+		errno = 0;
+		run(line);
+		printf(" | %d | %s\n", errno, l4_error());
+		fflush(stdout);
+	}
+	return 0;
+}

@@ -1,0 +1,50 @@
+#!/usr/bin/env python3
+"""A string copy: the bytes go from the sender's string into memory of the receiver.
+
+    copy.py DIR serve          is thread 30: takes a string, and answers how many bytes came and their digest
+    copy.py DIR send COUNT     is thread 31: sends so many bytes, up to 1,048,576, and looks whether they came
+"""
+
+import hashlib
+import sys
+
+from l4ipc import IpcError, Message, Thread
+from l4ipc.names import Names
+
+ROOM = 1_048_576
+
+
+def serve(directory):
+    memory = bytearray(ROOM)
+    with Thread(directory, 30) as thread:
+        Names(thread).register("copy")
+        request = None
+        while True:
+            try:
+                if request is None:
+                    request = thread.wait(buffers=[memory])
+                else:
+                    # the bytes stand in the memory now
+                    came = sum(len(string) for string in request.strings)
+                    digest = hashlib.sha256(memoryview(memory)[:came]).digest()
+                    request = thread.reply_wait(request.sender, Message(0, [came], [digest]), buffers=[memory])
+            except IpcError:
+                request = None
+
+
+def send(directory, count):
+    text = (b"rendezvous " * (count // 11 + 1))[:count]
+    with Thread(directory, 31) as thread:
+        server = Names(thread).wait_for("copy", 10)
+        answer = thread.call(server, Message(0, [], [text]), buffers=[32])
+        same = answer.strings[0] == hashlib.sha256(text).digest()
+        print(f"{answer.words[0]} bytes came, {'the same' if same else 'OTHERS'}")
+
+
+if __name__ == "__main__":
+    if sys.argv[2:] == ["serve"]:
+        serve(sys.argv[1])
+    elif sys.argv[2:3] == ["send"] and len(sys.argv) == 4:
+        send(sys.argv[1], int(sys.argv[3]))
+    else:
+        sys.exit(__doc__)

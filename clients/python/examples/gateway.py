@@ -1,0 +1,44 @@
+#!/usr/bin/env python3
+"""A gateway that propagates: it passes each message on in the name of who sent it, and the server answers that one itself.
+
+    gateway.py DIR serve         is thread 40: passes messages on to the server of pingpong.py
+    gateway.py DIR ask WORD      is thread 41: calls the gateway, and prints who answered, and what
+"""
+
+import sys
+
+from l4ipc import IpcError, Message, Thread
+from l4ipc.names import Names
+
+
+def serve(directory):
+    with Thread(directory, 40) as thread:
+        names = Names(thread)
+        names.register("gateway")
+        while True:
+            request = thread.wait()
+            server = names.lookup("pingpong")
+            if server is None:
+                thread.send(request.sender, Message(1), 0)
+                continue
+            try:
+                # who asked waits for the gateway alone; as the transfer begins that wait is turned to the server
+                thread.send(server, Message(request.label, request.words, originator=request.sender))
+            except IpcError as error:
+                print(f"dropped: {error}", flush=True)
+
+
+def ask(directory, word):
+    with Thread(directory, 41) as thread:
+        gateway = Names(thread).wait_for("gateway", 10)
+        answer = thread.call(gateway, Message(0, [word]))
+        print(f"asked {gateway}, and {answer.sender} answered {answer.words[0] if answer.words else 'nothing'}")
+
+
+if __name__ == "__main__":
+    if sys.argv[2:] == ["serve"]:
+        serve(sys.argv[1])
+    elif sys.argv[2:3] == ["ask"] and len(sys.argv) == 4:
+        ask(sys.argv[1], int(sys.argv[3]))
+    else:
+        sys.exit(__doc__)

@@ -1,0 +1,63 @@
+#!/usr/bin/env python3
+"""A pager-like server: it waits, then answers and waits in one call.
+
+A page fault is a message as the manual has it: a label of the access that failed, the fault address, and the instruction pointer. This
+pager keeps a table of pages, gives a page the next frame at its first fault, and answers with the page and its frame.
+
+    pager.py DIR serve             is thread 20
+    pager.py DIR fault ADDRESS..   is thread 21: faults at each address (as 0x1000), and prints the frame of its page
+"""
+
+import sys
+
+from l4ipc import IpcError, Message, Thread
+from l4ipc.names import Names
+
+PAGE_FAULT = -2 << 4 & 0xFFFF_FFFF_FFFF  # the manual's label: -2 in its upper bits, the access in its lowest three
+READ = 4
+PAGE = 4096
+BAD_FAULT = 1
+
+
+def answer(frames, request):
+    """The answer to a request: the page and its frame, or the label of a bad one."""
+    if request.label & ~7 != PAGE_FAULT or len(request.words) != 2:
+        return Message(BAD_FAULT)
+    page = request.words[0] // PAGE
+    frame = frames.setdefault(page, len(frames))
+    return Message(0, [page * PAGE, frame])
+
+
+def serve(directory):
+    frames = {}
+    with Thread(directory, 20) as thread:
+        Names(thread).register("pager")
+        request = None
+        while True:
+            try:
+                if request is None:
+                    request = thread.wait()
+                else:
+                    request = thread.reply_wait(request.sender, answer(frames, request))
+            except IpcError:
+                request = None  # who asked does not wait for the answer, or the receive was cancelled
+
+
+def fault(directory, addresses):
+    with Thread(directory, 21) as thread:
+        pager = Names(thread).wait_for("pager", 10)
+        for address in addresses:
+            reply = thread.call(pager, Message(PAGE_FAULT | READ, [address, 0x400000]))
+            if reply.label:
+                sys.exit(f"bad fault: {reply.label}")
+            page, frame = reply.words
+            print(f"{address:#x} is in page {page:#x}, frame {frame}")
+
+
+if __name__ == "__main__":
+    if sys.argv[2:] == ["serve"]:
+        serve(sys.argv[1])
+    elif sys.argv[2:3] == ["fault"] and len(sys.argv) > 3:
+        fault(sys.argv[1], [int(word, 0) for word in sys.argv[3:]])
+    else:
+        sys.exit(__doc__)

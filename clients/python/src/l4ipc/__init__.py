@@ -1,0 +1,37 @@
+"""L4 X.2 synchronous IPC between processes: a client of l4d.
+
+A `Thread` is a connection to the server. Its calls are those of the manual: `send`, `receive`, `wait`, `call`, `reply_wait`, `sleep` and
+`exchange_registers`. `names` finds other threads by their names.
+"""
+
+from . import names
+from .errors import Aborted, BadFrame, Cancelled, Closed, Fault, IpcError, L4Error, NoPartner, Overflow, Refused, Timeout
+from .message import Buffer, Message, Received
+from .thread import Exchanged, Thread
+from .words import ANYLOCALTHREAD, ANYTHREAD, NILTHREAD, ThreadId, period, seconds_of
+
+__all__ = [
+    "ANYLOCALTHREAD",
+    "ANYTHREAD",
+    "Aborted",
+    "BadFrame",
+    "Buffer",
+    "Cancelled",
+    "Closed",
+    "Exchanged",
+    "Fault",
+    "IpcError",
+    "L4Error",
+    "Message",
+    "NILTHREAD",
+    "NoPartner",
+    "Overflow",
+    "Received",
+    "Refused",
+    "Thread",
+    "ThreadId",
+    "Timeout",
+    "names",
+    "period",
+    "seconds_of",
+]

@@ -1,0 +1,107 @@
+"""Words of the manual: thread ids, tags, periods, and string items."""
+
+import math
+from typing import Optional
+
+WORD_LIMIT = 1 << 64
+"""One more than the greatest word."""
+
+MAX_MESSAGE_WORDS = 63
+"""How many message registers a message has beside its tag: u + t."""
+
+MAX_BUFFER_WORDS = 32
+"""How many buffer registers a receive has beside its acceptor."""
+
+MAX_STRING_BYTES = 1_048_576
+"""How many bytes the strings of a message have together at most."""
+
+MAX_LABEL = (1 << 48) - 1
+"""The greatest label."""
+
+LONGEST_PERIOD = 2_196_875_771_904
+"""The longest period in microseconds: some 25 days."""
+
+NEVER = 0
+"""The period without an end."""
+
+ZERO_TIME = 0x400
+"""The period of zero time."""
+
+
+class ThreadId(int):
+    """A thread id: a word of 64 bits, the version in bits 0 to 31 and the number in bits 32 to 63."""
+
+    __slots__ = ()
+
+    @classmethod
+    def of(cls, number: int, version: int) -> "ThreadId":
+        """The global id of a number and a version: 2.1 is ``ThreadId.of(2, 1)``."""
+        if not (0 <= number < 1 << 32 and 0 <= version < 1 << 32):
+            raise ValueError("a number and a version have 32 bits")
+        return cls(number << 32 | version)
+
+    @property
+    def number(self) -> int:
+        """The thread number."""
+        return self >> 32
+
+    @property
+    def version(self) -> int:
+        """The version: 1 for the first thread of a number, and greater for each later one."""
+        return self & 0xFFFF_FFFF
+
+    def __str__(self) -> str:
+        special = {0: "nilthread", WORD_LIMIT - 1: "anythread", WORD_LIMIT - 64: "anylocalthread"}
+        return special.get(int(self), f"{self.number}.{self.version}")
+
+    def __repr__(self) -> str:
+        return f"ThreadId({int(self):#x})"
+
+
+NILTHREAD = ThreadId(0)
+"""No thread."""
+
+ANYTHREAD = ThreadId(WORD_LIMIT - 1)
+"""As the FromSpecifier of a receive: any thread."""
+
+ANYLOCALTHREAD = ThreadId(WORD_LIMIT - 64)
+"""As the FromSpecifier of a receive: any thread of the own space."""
+
+
+def period(seconds: Optional[float]) -> int:
+    """The word of a period of so many seconds.
+
+    ``None`` is never, and 0 is zero time. Else it is the shortest period that is not shorter. From 2,196,875.771905 seconds on, which is
+    more than the longest period, it is never.
+    """
+    if seconds is None:
+        return NEVER
+    if not seconds >= 0:
+        raise ValueError(f"a period of {seconds} seconds")
+    if math.isinf(seconds):
+        return NEVER
+    # what is less than a nanosecond comes from the spelling of the number in bits, and is no time
+    microseconds = math.ceil(round(seconds * 1_000_000, 3))
+    if microseconds == 0:
+        return ZERO_TIME
+    if microseconds > LONGEST_PERIOD:
+        return NEVER
+    exponent, mantissa = 0, microseconds
+    while mantissa > 1023:
+        mantissa = (mantissa + 1) // 2
+        exponent += 1
+    return exponent << 10 | mantissa
+
+
+def seconds_of(word: int) -> Optional[float]:
+    """How many seconds a period is worth; ``None`` for never."""
+    if not 0 <= word < 0x8000:
+        raise ValueError(f"{word:#x} is no period")
+    if word == NEVER:
+        return None
+    return (word & 0x3FF) * 2 ** (word >> 10) / 1_000_000
+
+
+def timeouts(send: Optional[float], receive: Optional[float]) -> int:
+    """The word of 32 bits that has the two timeouts of a call, each in seconds."""
+    return period(send) << 16 | period(receive)

@@ -6,6 +6,7 @@ pub mod Opening
 pub mod LiveLemmas
 pub mod OutputLemmas
 pub mod ReadyLemmas
+pub mod MovedLemmas
 pub mod RestedLemmas
 pub mod TellingLemmas
 pub mod DeliverLemmas

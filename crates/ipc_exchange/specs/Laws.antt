@@ -5,6 +5,7 @@ use Rattle.ipc_history.specs.Legal.{Legal}
 use Rattle.ipc_history.specs.declared.entry.Entry.{Entry}
 use Rattle.ipc_history.specs.declared.entry.Entry.TheVariants.{Given}
 use Rattle.ipc_history.specs.declared.entry.Input.TheVariants.{Called}
+use Rattle.ipc_core.specs.KernelParts.{without_room}
 use Rattle.ipc_core.specs.declared.command.Answer.{Answer}
 use Rattle.ipc_core.specs.declared.command.Answer.TheVariants.{Entered}
 use Rattle.ipc_core.specs.declared.command.Command.{Command}
@@ -56,12 +57,20 @@ CallsAreAccepted = (memory : Memory) (old new : ExchangeParts) (events : List Ev
     → calls_in new.service.kernel.history
     ≡ calls_in old.service.kernel.history ++ filter_map accepted asked
 
--- without want of memory each list of events has one end, and one trace of commands and answers
+-- all that is seen of an exchange but the room of its history
+abbrev pub without_history_room : ExchangeParts → ExchangeParts
+without_history_room old = record {
+  service = record { kernel = without_room old.service.kernel; lines = old.service.lines };
+  held = old.held;
+}
+
+-- without want of memory each list of events has one end, in all that is seen but the room of the history, and one trace of commands
+-- and answers
 abbrev pub HappenOnce : Type 0
 HappenOnce = (old one other : ExchangeParts) (events : List Event) (asked others : List Asked)
     → Legal old.service.kernel.history
     → HappenAll Ample old events asked one → HappenAll Ample old events others other
-    → (asked ≡ others) × (one ≡ other)
+    → (asked ≡ others) × (without_history_room one ≡ without_history_room other)
 
 -- bytes, and more behind them
 pub record Begins (front whole : List ℕ) : Type 0 where

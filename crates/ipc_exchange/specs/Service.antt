@@ -7,7 +7,7 @@ use Rattle.ipc_words.specs.ThreadId.{number_of}
 use Rattle.ipc_history.specs.Outcomes.{OutcomeParts}
 use Rattle.ipc_frame.specs.Frames.{spelling}
 use Rattle.ipc_frame.specs.declared.frame.Frame.{Frame}
-use Rattle.ipc_core.specs.KernelParts.{KernelParts, without_room}
+use Rattle.ipc_core.specs.KernelParts.{KernelParts}
 use Rattle.ipc_core.specs.Obeying.{rested}
 use Rattle.ipc_core.specs.Outcomes.{outcome_to_take}
 use Rattle.ipc_core.specs.Steps.{taken_after}
@@ -22,9 +22,9 @@ pub record Line : Type 0 where
   pub stage : Stage
   pub out : List ℕ
 
--- a kernel between commands: neither its room is seen, nor where the last command began
+-- a kernel between commands: where the last command began isn't seen
 abbrev pub at_rest : KernelParts → KernelParts
-at_rest kernel = rested (without_room kernel)
+at_rest kernel = rested kernel
 
 pub record ServiceParts : Type 0 where
   pub kernel : KernelParts

@@ -15,7 +15,8 @@ pub fn legal_stays()
     ensures { LegalStays }
 {}
 
-/// Where no growth is refused, each list of events has one end, and one trace of commands and answers.
+/// Where no growth is refused, each list of events has one end, in all that is seen but the room of the history, and one trace of
+/// commands and answers.
 pub fn happen_once()
     ensures { HappenOnce }
 {}

@@ -412,3 +412,618 @@ def check_plays(program, room):
         for (call, data, cut), line in zip(share, lines):
             check_played(call, data, cut, line)
     return len(cases)
+
+
+# Against l4d ---------------------------------------------------------------------------------------------------------
+
+
+class Server:
+    """l4d with a trace, in a folder of its own; killed at the end."""
+
+    def __init__(self, l4d, room, spaces=1, trace=True):
+        self.dir = tempfile.mkdtemp(dir=room)
+        self.trace = os.path.join(self.dir, "trace")
+        words = [l4d, "--dir", self.dir, "--spaces", str(spaces), *(["--trace", self.trace] if trace else [])]
+        self.process = subprocess.Popen(words, stdout=subprocess.PIPE)
+        assert self.process.stdout.readline() == b"listening %d\n" % spaces
+        self.path = os.path.join(self.dir, "space1")
+
+    def __enter__(self):
+        return self
+
+    def __exit__(self, *_):
+        self.process.kill()
+        self.process.wait()
+
+    def entries(self):
+        """The lines of the trace, when no more come."""
+        size = -1
+        while size != os.path.getsize(self.trace):
+            size = os.path.getsize(self.trace)
+            time.sleep(0.1)
+        return open(self.trace).read().splitlines()
+
+    def is_legal(self, l4sh):
+        lines = self.entries()
+        said = subprocess.run([l4sh, "check", self.trace], capture_output=True, text=True)
+        assert said.stdout.split() == ["yes"], said.stdout + said.stderr
+        return lines
+
+
+class Say:
+    """The program say, which makes the calls that it is told."""
+
+    def __init__(self, program, dir, number=None, space=1):
+        self.process = subprocess.Popen([program], stdin=subprocess.PIPE, stdout=subprocess.PIPE, text=True)
+        self.dir, self.thread = dir, None
+        # what each Ipc that the server was asked brought
+        self.outcomes = []
+        if number is not None:
+            self.connect(number, space)
+
+    def connect(self, number, space=1):
+        result, errno, text = self.ask(f"connect {self.dir} {space} {number}")
+        status, thread = result.split()
+        self.thread = int(thread, 16) or None
+        if status == "0":
+            self.outcomes = []
+        return int(status), errno, text
+
+    def tell(self, line):
+        self.process.stdin.write(line + "\n")
+        self.process.stdin.flush()
+
+    def hear(self):
+        line = self.process.stdout.readline()
+        assert line, "say ended"
+        result, errno, text = line.rstrip("\n").split(" | ", 2)
+        return result.strip(), int(errno), text
+
+    def ask(self, line):
+        self.tell(line)
+        return self.hear()
+
+    def tell_ipc(self, to=NIL, source=NIL, snd=0, rcv=0, label=0, virtual=None, words=(), strings=(), buffers=None):
+        """strings: lists of pieces of bytes; buffers: lists of lengths, None for no strings accepted."""
+        word_list = ",".join(f"{word:x}" for word in words) or "-"
+        string_list = ",".join("+".join("x" + piece.hex() for piece in string) for string in strings) or "-"
+        buffer_list = "-" if buffers is None else ",".join("+".join(map(str, buffer)) for buffer in buffers) or "s"
+        shown = "-" if virtual is None else f"{virtual:x}"
+        self.tell(f"ipc {to:x} {source:x} {snd << 16 | rcv:x} {label:x} {shown} {word_list} {string_list} {buffer_list}")
+
+    def hear_ipc(self):
+        """tag, sender, ActualSender, ErrorCode as words, and the text."""
+        result, _, text = self.hear()
+        tag, sender, actual, code, words, strings = result.split()
+        # with e = 0 no outcome came: the call was refused, or was not made
+        if int(code, 16) == 0 or int(code, 16) >> 1 & 7:
+            self.outcomes.append((int(tag, 16), int(sender, 16), int(actual, 16), int(code, 16), words, strings))
+        return int(tag, 16), int(sender, 16), int(actual, 16), int(code, 16), words, strings, text
+
+    def ipc(self, **parts):
+        self.tell_ipc(**parts)
+        return self.hear_ipc()
+
+    def code(self, **parts):
+        return self.ipc(**parts)[3]
+
+    def exreg(self, target, control):
+        result, errno, text = self.ask(f"exreg {target:x} {control:x}")
+        return tuple(int(word, 16) for word in result.split())
+
+    def end(self):
+        if self.process.poll() is None:
+            self.process.stdin.close()
+            assert self.process.wait(SECONDS) == 0, "say did not end well"
+
+    def kill(self):
+        self.process.kill()
+        self.process.wait()
+
+
+def word_of_id(text):
+    named = {"nil": NIL, "any": ANY, "local": LOCAL}
+    if text in named:
+        return named[text]
+    return int(text, 16) if text.startswith("0x") else thread_id(*map(int, text.split(".")))
+
+
+class Past:
+    """What a trace says that each thread was told: its outcomes in the order of its calls."""
+
+    def __init__(self, lines):
+        self.calls, self.space, self.live, self.told = {}, {}, set(), {}
+        # threads in the order in which they made calls: thread, number
+        self.made = {}
+        for line in lines:
+            word, *fields = line.split(" ")
+            getattr(self, word, lambda *_: None)(*fields)
+
+    def opened(self, thread, space):
+        thread = word_of_id(thread)
+        self.space[thread] = int(space)
+        self.live.add(thread)
+        self.made[thread] = []
+
+    def broke(self, thread):
+        self.live.discard(word_of_id(thread))
+
+    def called(self, number, thread, to, source, _, tag, virtual, words, strings, buffers):
+        thread, to, source, tag, virtual = word_of_id(thread), word_of_id(to), word_of_id(source), int(tag, 16), word_of_id(virtual)
+        is_shown = bool(tag & PROPAGATED) and virtual in self.live and self.space[virtual] == self.space[thread]
+        self.calls[number] = dict(thread=thread, tag=tag, shown=virtual if is_shown else None, words=words, strings=strings, receives=source != NIL)
+        self.made[thread].append(number)
+        if to == NIL and source == NIL:
+            self.told[number] = (0, NIL, NIL, 0, "-", "-")
+
+    def ended(self, n, m):
+        call = self.calls[n]
+        strings = 0 if call["strings"] == "-" else len(call["strings"].split(","))
+        shown = call["shown"]
+        tag = call["tag"] & ~0xFFFF | call["tag"] & 63 | strings * 2 << 6 | (PROPAGATED if shown is not None else 0)
+        words = call["words"].replace("0x", "")
+        sender, actual = (call["thread"], NIL) if shown is None else (shown, call["thread"])
+        self.told[m] = (tag, sender, actual, 0, words, call["strings"])
+        if not call["receives"]:
+            self.told[n] = (0, NIL, NIL, 0, "-", "-")
+
+    def fails(self, number, code):
+        self.told[number] = (FAILED, NIL, NIL, code, "-", "-")
+
+    def failed(self, number, code):
+        self.fails(number, int(code, 16))
+
+    def overflowed(self, n, m, offset):
+        self.fails(n, 0x8 + 16 * int(offset))
+        self.fails(m, 0x9 + 16 * int(offset))
+
+    def aborted(self, n, m, count):
+        self.fails(n, 0xE + 16 * int(count))
+        self.fails(m, 0xF + 16 * int(count))
+
+    def outcomes(self, thread):
+        return [self.told[number] for number in self.made.get(thread, []) if number in self.told]
+
+
+def compare(server, l4sh, sayers):
+    """What each sayer was told is what the trace says. How many outcomes that were."""
+    past, count = Past(server.is_legal(l4sh)), 0
+    for thread, outcomes in sayers:
+        wanted = past.outcomes(thread)
+        assert len(outcomes) == len(wanted), (hex(thread), len(outcomes), len(wanted))
+        for k, (got, want) in enumerate(zip(outcomes, wanted)):
+            assert got == want, f"outcome {k} of thread {thread:x}: {got} in place of {want}"
+        count += len(wanted)
+    return count
+
+
+NEVER, ZERO = 0x0, 0x400
+
+
+def wait_until_waiting(other, thread, bit):
+    """Until ExchangeRegisters without a bit says that the thread is in this phase."""
+    while not other.exreg(thread, 0)[1] & bit:
+        time.sleep(0.002)
+
+
+def check_refusals(programs, l4d, l4sh, room):
+    """Every refusal and ErrorCode that can be had from a server, and all that the library refuses itself."""
+    with Server(l4d, room, spaces=2) as server:
+        one, two, three = (Say(programs["say"], server.dir, number) for number in (1, 2, 3))
+        far = Say(programs["say"], server.dir, 4, space=2)
+        other = Say(programs["say"], server.dir)
+        a, b = one.thread, two.thread
+        assert (a, b) == (thread_id(1), thread_id(2))
+        count = 0
+
+        def want(got, wanted):
+            nonlocal count
+            count += 1
+            assert got == wanted, (got, wanted)
+
+        # HELLO
+        for number, text in ((0, "REFUSED K1"), (256, "REFUSED K1"), (65536, "K1"), (2, "REFUSED K2")):
+            status, errno, said = other.connect(number)
+            want((status, errno, said.split(":")[0]), (-1, 98 if "K2" in text else 22, text))
+        want(other.connect(5, space=3)[:2], (-1, 2))
+        want(other.ask(f"connect {'x' * 200} 1 5")[1], 36)
+        want(one.ask(f"connect {server.dir} 1 5")[1:], (106, "C5: the thread is connected already"))
+        # timeouts, and partners that are not there
+        want(one.code(to=b, snd=ZERO), 0x2)
+        want(one.code(to=b, snd=0x5), 0x2)
+        want(one.code(source=ANY, rcv=0x5), 0x3)
+        want(one.code(source=a, rcv=0x64), 0x3)
+        want(one.code(), 0)
+        for nobody in (thread_id(9), thread_id(2, 2), a, ANY, LOCAL, 0x40):
+            want(one.code(to=nobody), 0x4)
+        want(one.code(source=thread_id(9)), 0x5)
+        # cancels: S and R, of the own space alone
+        one.tell_ipc(to=b)
+        wait_until_waiting(two, a, 0x4)
+        want(far.exreg(a, 0x6), (0, 0, 2))
+        want(two.exreg(a, 0x2), (a, 0x4, 0))
+        want(two.exreg(a, 0x4), (a, 0x4, 0))
+        want(one.hear_ipc()[3], 0x6)
+        want(two.exreg(a, 0x6), (a, 0, 0))
+        one.tell_ipc(source=ANY)
+        wait_until_waiting(two, a, 0x2)
+        want(two.exreg(a, 0x6), (a, 0x2, 0))
+        want(one.hear_ipc()[3], 0x7)
+        want(two.exreg(b, 0), (b, 0, 0))
+        # overflow
+        for buffers, code in (([[3], [4]], 0x38), (None, 0x8), ([], 0x8), ([[2]], 0x8), ([[3], [4], [9]], 0x38)):
+            one.tell_ipc(source=ANY, buffers=buffers)
+            want(two.code(to=a, strings=[[b"abc"], [b"he", b"llo"]]), code)
+            want(one.hear_ipc()[3], code + 1)
+        one.tell_ipc(source=ANY, buffers=[[3], [2, 3]])
+        want(two.code(to=a, label=3, words=(9,), strings=[[b"a", b"bc"], [b"he", b"l", b"lo"]]), 0)
+        want(one.hear_ipc()[:6], (0x30101, b, 0, 0, "9", "x616263,x68656c6c6f"))
+        # propagation, permitted and not
+        one.tell_ipc(source=ANY)
+        want(two.code(to=a, virtual=three.thread, words=(1,)), 0)
+        want(one.hear_ipc()[:5], (0x1001, three.thread, b, 0, "1"))
+        one.tell_ipc(source=ANY)
+        want(two.code(to=a, virtual=far.thread, words=(1,)), 0)
+        want(one.hear_ipc()[:5], (0x1, b, 0, 0, "1"))
+        # anylocalthread accepts the own space alone
+        one.tell_ipc(source=LOCAL)
+        want(far.code(to=a, snd=0x64), 0x2)
+        want(two.code(to=a), 0)
+        want(one.hear_ipc()[:2], (0, b))
+        count += check_aborts(one, two, three)
+        count += check_own_refusals(one, two)
+        # the end of a partner, in both phases
+        two.tell_ipc(to=three.thread)
+        one.tell_ipc(source=three.thread)
+        wait_until_waiting(three, a, 0x2)
+        wait_until_waiting(three, b, 0x4)
+        told = [(three.thread, three.outcomes)]
+        three.kill()
+        want(one.hear_ipc()[3], 0x5)
+        want(two.hear_ipc()[3], 0x4)
+        # the end, and the next version of the number
+        told += [(a, one.outcomes)]
+        want(one.ask("disconnect")[0], "-")
+        want(one.ask("wait")[1:], (107, "C1: the thread is not connected"))
+        want(one.connect(1)[0], 0)
+        want(one.thread, thread_id(1, 2))
+        want(one.exreg(a, 0), (0, 0, 2))
+        told += [(sayer.thread, sayer.outcomes) for sayer in (one, two, far)]
+        for sayer in (one, two, far, other):
+            sayer.end()
+        return count, compare(server, l4sh, told)
+
+
+def check_aborts(one, two, three):
+    """A transfer that a third thread stops, and one whose sender is stopped while it waits; both are met in time."""
+    seen, tries = set(), 0
+    megabyte = bytes(1 << 20)
+    while not {0xE, 0xF} <= seen:
+        tries += 1
+        assert tries < 300, "no transfer was aborted"
+        one.tell_ipc(source=ANY, buffers=[[1 << 20]])
+        wait_until_waiting(three, one.thread, 0x2)
+        two.tell_ipc(to=one.thread, strings=[[megabyte]])
+        while not three.exreg(two.thread, 0x4)[1] and not select.select([two.process.stdout], [], [], 0)[0]:
+            pass
+        sent, code = two.hear_ipc()[3], 0
+        if sent & 0xF == 0x6:
+            # it was stopped before it began: the receiver waits still
+            three.exreg(one.thread, 0x2)
+        code = one.hear_ipc()[3]
+        if sent & 0xF == 0xE:
+            assert code == sent + 1 and sent >> 4 < 1 << 20 and (sent >> 4) % 65536 == 0
+            seen |= {0xE, 0xF}
+    return tries
+
+
+def check_own_refusals(one, two):
+    """What the library refuses before anything is sent: the thread stays, and the next call is made."""
+    rows = [
+        (dict(to=two.thread, words=range(64)), "F4"),
+        (dict(to=two.thread, strings=[[b"x"]] * 32), "F4"),
+        (dict(to=two.thread, strings=[[bytes((1 << 19) + 1), bytes(1 << 19)]]), "F8"),
+        (dict(to=two.thread, snd=0x8000), "F12"),
+        (dict(source=ANY, rcv=0x8000), "F12"),
+        (dict(source=ANY, rcv=0x5, buffers=[[1]] * 17), "F5"),
+        (dict(source=ANY, rcv=0x5, buffers=[[1, 2, 3]] * 6), "F5"),
+    ]
+    count = 0
+    for parts, text in rows:
+        tag, _, _, code, _, _, said = one.ipc(**parts)
+        wanted = code_of("F", int(text[1:])) | (0 if "to" in parts else 1)
+        assert (tag, code, said.split(":")[0]) == (FAILED, wanted, text), (text, hex(code), said)
+        count += 1
+    to = f"{two.thread:x}"
+    # t = 3 of an item of 2 words, a string that goes on with nothing, a map item, and 63 words with one more
+    for words, text in (("c0,c00,0,0", "F5"), ("80,e00,0", "F5"), ("80,8,0", "F6"), ("7f,0", "F4"), ("40,0", "F5")):
+        one.ask("mrs 0 " + words)
+        said = one.ask("send " + to)
+        assert said[2].startswith(text + ":") and said[1] != 0, said
+        count += 1
+    for command in ("mrs 64 0", "mrs -1 0", "mrs 60 0,0,0,0,0", "brs 33 0", "brs -1 0"):
+        one.ask(command)
+        assert one.ask("wait")[1:] == (22, "C2: a register that is not there"), command
+        count += 1
+    for words, text in (("1,e00,0,8", "F6"), ("1,1,0,8", "F6"), ("1,3f0,0", "F5"), ("1,8", "receive phase: timeout"), ("1,1e0,0", "receive phase: timeout")):
+        one.ask("brs 0 " + words)
+        said = one.ask("wait")
+        assert said[2].startswith(text), said
+        if text.startswith("receive"):
+            one.outcomes.append((FAILED, NIL, NIL, 0x3, "-", "-"))
+        count += 1
+    for control in (0x1, 0x8, 0x106, 1 << 63):
+        assert one.exreg(two.thread, control) == (0, 0, code_of("C", LEFT_OUT_CONTROL))
+        count += 1
+    return count
+
+
+class Relay:
+    """Stands between one client and l4d, and puts its own bytes in the place of the client's first call."""
+
+    def __init__(self, room, path, spoil, closes=False):
+        self.dir, self.path, self.spoil, self.closes = tempfile.mkdtemp(dir=room), path, spoil, closes
+        self.listener = socket.socket(socket.AF_UNIX)
+        self.listener.bind(os.path.join(self.dir, "space1"))
+        self.listener.listen(1)
+        threading.Thread(target=self.run, daemon=True).start()
+
+    def run(self):
+        client, server = self.listener.accept()[0], socket.socket(socket.AF_UNIX)
+        server.connect(self.path)
+        server.sendall(client.recv(7, socket.MSG_WAITALL))
+        client.sendall(server.recv(13, socket.MSG_WAITALL))
+        head = client.recv(4, socket.MSG_WAITALL)
+        body = client.recv(struct.unpack(">I", head)[0], socket.MSG_WAITALL)
+        server.sendall(self.spoil(head + body))
+        if self.closes:
+            server.shutdown(socket.SHUT_WR)
+        while data := server.recv(65536):
+            client.sendall(data)
+        client.close()
+
+
+def check_faults(programs, l4d, room):
+    """Each fault that a server tells a client, by frames that a relay spoils on their way."""
+    def with_bytes(at, data):
+        return lambda frame: frame[:at] + data + frame[at + len(data) :]
+
+    # an IPC frame: the tag at 33, the timeouts at 21, the words from 50 on
+    tag, timeouts, words = 33, 21, 50
+    word = lambda value: struct.pack(">Q", value)
+    twice = ipc(1 << 32 | 1, NIL, (600_000 << 10, 0, 600_000 << 10, 0), tag=0x100, payload=bytes(600_000))
+    rows = [
+        ("F1", lambda frame: bytes.fromhex("00200001"), False),
+        ("F2", lambda frame: bytes.fromhex("0000000981"), False),
+        ("F3", lambda frame: bytes.fromhex("0000002d02"), False),
+        ("F3", lambda frame: bytes(4), False),
+        ("F4", with_bytes(tag, word(0x7F)), False),
+        ("F5", with_bytes(words, word(0xE00)), False),
+        ("F6", with_bytes(words, word(0x8)), False),
+        ("F7", with_bytes(words + 8, word(4)), False),
+        ("F8", lambda frame: twice, False),
+        ("F9", lambda frame: frame[:-1], True),
+        ("F12", with_bytes(timeouts, b"\x80\x00"), False),
+        ("K7", lambda frame: ipc(NIL, ANY) + ipc(NIL, ANY), False),
+        ("S1", lambda frame: hello(7), False),
+    ]
+    with Server(l4d, room, trace=False) as server:
+        for number, (fault, spoil, closes) in enumerate(rows):
+            relay = Relay(room, server.path, spoil, closes)
+            sayer = Say(programs["say"], relay.dir, 10 + number)
+            got = sayer.ipc(to=thread_id(9), strings=[[b"abc"]])
+            assert got[0] == FAILED and got[6].startswith(f"FAULT {fault}:"), (fault, got)
+            assert got[3] == code_of(fault[0], int(fault[1:])), (fault, got)
+            again = sayer.ask("wait")
+            assert again[1] == 107 and again[2].startswith("C1:") and f"since FAULT {fault}:" in again[2], again
+            sayer.end()
+        count = len(rows)
+        # the server ends in midst of a wait
+        sayer = Say(programs["say"], server.dir, 1)
+        sayer.tell_ipc(source=ANY)
+        time.sleep(0.05)
+        server.process.kill()
+        got = sayer.hear_ipc()
+        assert got[3] == code_of("F", 9) | 1 and sayer.ask("exreg 100000001 6")[1] == 107, got
+        sayer.end()
+    return count + 1
+
+
+def random_call(sayer, threads, pick):
+    """The parts of a random Ipc of one of these threads; none of them waits for long."""
+    # zero, 100 microseconds, 1, 4 and 8 milliseconds
+    periods = [ZERO, 0x64, 0x3E8, 0xBE8, 0xFE8, 0xFE8]
+    partner = lambda: pick.choice([*threads, *threads, *threads, thread_id(99), sayer.thread])
+    parts = dict(to=pick.choice([NIL, partner(), partner()]), source=pick.choice([NIL, ANY, ANY, ANY, LOCAL, partner()]))
+    if parts["to"] != NIL:
+        parts.update(snd=pick.choice(periods), label=pick.getrandbits(48), words=[pick.getrandbits(64) for _ in range(pick.randrange(6))])
+        length = lambda: pick.choice([0, 1, 3, 7, 100, 100, pick.randrange(3000), pick.choice([9000, 70000])])
+        parts["strings"] = [[pick.randbytes(length()) for _ in range(pick.choice([1, 1, 2, 3]))] for _ in range(pick.choice([0, 0, 1, 2]))]
+        if pick.random() < 0.2:
+            parts["virtual"] = partner()
+    if parts["source"] != NIL:
+        parts["rcv"] = pick.choice(periods)
+        room = lambda: pick.choice([0, 5, 4000, 20000, 70000, 70000])
+        parts["buffers"] = pick.choice([None, [], *2 * [[[room() for _ in range(pick.choice([1, 1, 2]))] for _ in range(count)] for count in (1, 2, 3)]])
+    return parts
+
+
+def check_traffic(programs, l4d, l4sh, room, calls):
+    """Eight processes in two spaces, each with random calls; what they were told is compared with the trace."""
+    with Server(l4d, room, spaces=2) as server:
+        sayers = [Say(programs["say"], server.dir, number, space=1 + (number > 5)) for number in range(1, 9)]
+        threads = [sayer.thread for sayer in sayers]
+        troubles = []
+
+        def run(sayer, pick):
+            try:
+                for _ in range(calls):
+                    if pick.random() < 0.1:
+                        sayer.exreg(pick.choice(threads), pick.choice([0, 2, 4, 6]))
+                    else:
+                        sayer.ipc(**random_call(sayer, threads, pick))
+            except Exception as trouble:
+                troubles.append(trouble)
+
+        runs = [threading.Thread(target=run, args=(sayer, random.Random(random.random()))) for sayer in sayers]
+        for one in runs:
+            one.start()
+        for one in runs:
+            one.join()
+        if troubles:
+            raise troubles[0]
+        for sayer in sayers:
+            sayer.end()
+        count = compare(server, l4sh, [(sayer.thread, sayer.outcomes) for sayer in sayers])
+        received = sum(1 for sayer in sayers for outcome in sayer.outcomes if outcome[1] != NIL)
+        assert received > calls / 4, "too few messages"
+        return count, received
+
+
+def check_names(programs, l4d, l4sh, room):
+    """The calls of l4/names.h, with a name server that follows docs/NAMES.md."""
+    with Server(l4d, room) as server:
+        one, two = (Say(programs["say"], server.dir, number) for number in (1, 2))
+        ask = lambda sayer, line: sayer.ask(line)
+        count = 0
+
+        def want(got, wanted):
+            nonlocal count
+            count += 1
+            assert got == wanted, (got, wanted)
+
+        want(ask(one, "lookup a"), ("0", 3, "N6: there is no name server"))
+        names = NameServer(server.path)
+        want(ask(one, "register echo")[:2], ("0", 0))
+        want(ask(two, "lookup echo")[:2], (f"{one.thread:x}", 0))
+        want(ask(two, "lookup Echo"), ("0", 2, "N7: no live thread has the name"))
+        want(ask(two, "register echo"), ("-1", 98, "REFUSED N3: another live thread has the name"))
+        want(ask(two, "register other")[:2], ("0", 0))
+        want(ask(one, "list -")[0], f"1 echo {one.thread:x}")
+        want(ask(one, "list echo")[0], f"1 other {two.thread:x}")
+        want(ask(one, "list other")[0], "0 - 0")
+        longest = "n" * 64
+        want(ask(one, f"register {longest}")[0], "0")
+        want(ask(two, "list echo")[0], f"1 {longest} {one.thread:x}")
+        for bad in ("n" * 65, "a b", "\u00e9"):
+            want(ask(one, f"register {bad}")[1], 22)
+        # buffers that were accepted before stay
+        one.ask("brs 0 1,c00,7")
+        ask(one, "lookup echo")
+        one.tell("wait")
+        want(one.hear()[2].split(" (")[0], "receive phase: timeout")
+        # a name whose thread has ended is gone, and another one may have it
+        one.ask("disconnect")
+        want(ask(two, "lookup echo")[1], 2)
+        want(ask(two, "register echo")[0], "0")
+        # the name server ends, and comes again without names
+        names.line.shutdown(socket.SHUT_RDWR)
+        names.join()
+        names.line.close()
+        want(ask(two, "lookup echo")[1], 3)
+        again = NameServer(server.path)
+        want(again.thread, thread_id(255, 2))
+        want(ask(two, "lookup echo")[1], 2)
+        want(ask(two, "register echo")[0], "0")
+        one.end()
+        two.end()
+        server.is_legal(l4sh)
+        return count
+
+
+def run_example(room, name, *words, waits=None):
+    """A role that ends: what it printed. One that serves: its process, when it has said who it is."""
+    process = subprocess.Popen([name, *words], stdout=subprocess.PIPE, stderr=subprocess.PIPE, text=True)
+    if waits:
+        line = process.stdout.readline()
+        assert line.startswith(waits), line + process.stderr.read()
+        return process
+    out, errors = process.communicate(timeout=SECONDS)
+    assert process.returncode == 0, (name, words, out, errors)
+    return out
+
+
+def check_examples(programs, l4d, l4sh, room, plain):
+    """Each example, by names or by ids; what it prints is right, and stands so in the trace."""
+    program = lambda name: os.path.join(room, "plain_" + name) if plain else programs[name]
+    with Server(l4d, room) as server:
+        if plain:
+            names = NameServer(server.path)
+        peer = (lambda name, number: name) if plain else (lambda name, number: f"{number}.1")
+        run = lambda name, *words, **rest: run_example(room, program(name), server.dir, *words, **rest)
+        serving = [run("pingpong", "pong", waits="pong is 2.1 " + ("(registered)" if plain else "(no name server)"))]
+        pings = run("pingpong", "ping", peer("pong", 2)).splitlines()
+        assert [re.match(r"IPC \( *(\d+) MRs\): [\d.]+ microseconds$", line)[1] for line in pings] == [str(n) for n in range(0, 61, 4)]
+        assert serving.pop().wait(SECONDS) == 0
+        serving.append(run("pager", "serve", waits="pager is 4.1"))
+        addresses = ["0x1000", "0x2fff", "0x1004", "0xffffffffffffffff"]
+        assert run("pager", "touch", peer("pager", 4), *addresses) == "0x1000: frame 0\n0x2fff: frame 1\n0x1004: frame 0\n0xffffffffffffffff: frame 2\n"
+        taker = run("copy", "take", waits="taker is 6.1")
+        assert run("copy", "give", peer("taker", 6), "Greeting", *"hello from several pieces of memory".split()) == "sent in 12 pieces of memory\n"
+        out, errors = taker.communicate(timeout=SECONDS)
+        assert (taker.returncode, out) == (0, "title: Greeting\nfront: hello fr\nrest: om several pieces of memory\n"), out + errors
+        answerer = run("gateway", "answer", waits="answerer is 8.1")
+        serving += [answerer, run("gateway", "pass", peer("answerer", 8), waits="gateway is 9.1")]
+        assert run("gateway", "ask", peer("gateway", 9), "21") == "from 8.1: 42\n"
+        assert answerer.stdout.readline() == "from 10.1, by 9.1: 21\n"
+        cancelled = sorted(run("cancel").splitlines())
+        assert cancelled == ["caller: receive phase: cancelled by another thread (e=3, offset 0), ErrorCode 0x7",
+                             "canceller: it was in its receive phase", "silent: a request from 12.1, and no answer"], cancelled
+        lines = server.is_legal(l4sh)
+        past = Past(lines)
+        heard = lambda thread: [told for told in past.outcomes(thread) if told[1] != NIL and told[1] >> 32 != 255]
+        pongs = [(told[4].count(",") + 1 if told[4] != "-" else 0) for told in heard(thread_id(3))]
+        assert pongs == [words for words in range(0, 61, 4) for _ in range(1000)] + [0]
+        assert [told[4] for told in heard(thread_id(5))] == ["0", "1", "0", "2"]
+        text = "hello from several pieces of memory".encode().hex()
+        assert [told[5] for told in heard(thread_id(6))] == [f"x{'Greeting'.encode().hex()},x{text}"]
+        assert [told[1:5] for told in heard(thread_id(8))] == [(thread_id(10), thread_id(9), 0, "15")]
+        assert [told[1:5] for told in heard(thread_id(10))] == [(thread_id(8), NIL, 0, "2a")]
+        assert (FAILED, NIL, NIL, 0x7, "-", "-") in past.outcomes(thread_id(12))
+        for process in serving:
+            process.kill()
+            process.wait()
+        return len(lines)
+
+
+def check_full(programs, l4d, room):
+    with Server(l4d, room, trace=False) as server:
+        return int(subprocess.run([programs["fill"], server.dir], check=True, capture_output=True, text=True, timeout=2 * SECONDS).stdout)
+
+
+def main(arguments):
+    seed = int(os.environ.get("SEED", "1"))
+    random.seed(seed)
+    l4d = os.path.abspath(arguments[0] if arguments else os.path.join(ROOT, "l4d"))
+    l4sh = os.path.abspath(arguments[1] if len(arguments) > 1 else os.path.join(ROOT, "l4sh"))
+    room = tempfile.mkdtemp(prefix="l4c")
+    try:
+        programs = build(room)
+        names = check_headers(room)
+        words = int(subprocess.run([programs["words"]], check=True, capture_output=True, text=True).stdout)
+        print(f"headers: {names} names of PROFILE are there or not as it says; words: {words} checks", flush=True)
+        # the long wait for a full history goes on beside the rest
+        filled = []
+        filling = threading.Thread(target=lambda: filled.append(check_full(programs, l4d, room)))
+        filling.start()
+        vectors, plays = check_vectors(programs["play"], room), check_plays(programs["play"], room)
+        print(f"played: {vectors} requests as FORMATS has them, {plays} answers (seed {seed})", flush=True)
+        refusals, told = check_refusals(programs, l4d, l4sh, room)
+        faults = check_faults(programs, l4d, room)
+        print(f"l4d: {refusals} refusals and errors, {told} outcomes as in the trace, {faults} faults", flush=True)
+        outcomes, received = check_traffic(programs, l4d, l4sh, room, 400)
+        print(f"traffic: {outcomes} outcomes as in the trace, {received} of them messages", flush=True)
+        asked = check_names(programs, l4d, l4sh, room)
+        entries = [check_examples(programs, l4d, l4sh, room, plain) for plain in (True, False)]
+        print(f"names: {asked} answers; examples: by name and by id, {sum(entries)} entries", flush=True)
+        filling.join()
+        assert filled, "the history was not filled"
+        print(f"full: K5 after {filled[0]} calls", flush=True)
+    finally:
+        shutil.rmtree(room)
+    total = names + words + vectors + plays + refusals + told + faults + outcomes + asked
+    print(f"clients_c: all right: {total} comparisons, {plays} of them answers that were played, {told + outcomes} outcomes as in a trace")
+
+
+if __name__ == "__main__":
+    main(sys.argv[1:])

@@ -76,6 +76,14 @@ static unsigned put_items(struct request *request, const L4_Word_t *words, size_
 	return goes_on ? 5 : 0;
 }
 
+/* The fault of an item that is none or runs past its words: that of its first descriptor at fault. */
+static unsigned fault_of_item(const L4_Word_t *words, size_t at, size_t limit)
+{
+	while (at < limit && !(words[at] & ITEM_NONE) && item_pointers(words[at]) < limit - at)
+		at += 1 + item_pointers(words[at]);
+	return at < limit && words[at] & ITEM_NONE ? 6 : 5;
+}
+
 /* How many of BR1 on are buffers: as far as C says that another one follows. The number of the fault, 0 for none. */
 static unsigned count_buffers(const L4_Word_t *br, size_t *count)
 {
@@ -87,7 +95,7 @@ static unsigned count_buffers(const L4_Word_t *br, size_t *count)
 		size_t item = l4_item_words(words, *count, BUFFER_WORDS);
 
 		if (item == 0)
-			return *count < BUFFER_WORDS && words[*count] & ITEM_NONE ? 6 : 5;
+			return fault_of_item(words, *count, BUFFER_WORDS);
 		follows = (words[*count] & ITEM_MORE) != 0;
 		*count += item;
 	}

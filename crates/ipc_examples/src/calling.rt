@@ -1,4 +1,5 @@
 //! Callers of the key-value server.
+use crate::finding::{live_thread, look_up};
 use crate::keyvalue::{FOUND, GET, PUT};
 use crate::messages::{Received, message, message_of};
 use crate::trouble::Trouble;
@@ -10,27 +11,58 @@ use std::alloc::Global;
 /// Who is asked.
 #[derive(Clone, Copy, PartialEq, Eq, Debug)]
 pub enum Server {
-    /// Thread 1.1 itself.
+    /// Thread 1 itself.
     KeyValue,
-    /// Thread 2.1, which passes it on.
+    /// Thread 2, which passes it on.
     Gateway,
 }
 
 impl Server {
-    /// The thread, where it is the first of its number.
-    pub fn thread(self) -> ThreadId {
+    /// Its name.
+    pub fn name(self) -> &'static str {
         match self {
-            Server::KeyValue => ThreadId::from_word(0x1_0000_0001),
-            Server::Gateway => ThreadId::from_word(0x2_0000_0001),
+            Server::KeyValue => "keyvalue",
+            Server::Gateway => "gateway",
         }
     }
+
+    /// Its thread number.
+    pub fn number(self) -> u16 {
+        match self {
+            Server::KeyValue => 1,
+            Server::Gateway => 2,
+        }
+    }
+}
+
+/// How a server is looked for.
+#[derive(Clone, Copy, PartialEq, Eq, Debug)]
+pub enum Search {
+    /// By its thread number.
+    Number,
+    /// By its name.
+    Name,
+}
+
+/// The live thread of a server.
+pub fn thread_of<I: PortRead, O: PortWrite>(
+    alloc: Global,
+    client: &mut Client<I, O>,
+    server: Server,
+    search: Search,
+) -> Result<ThreadId, Trouble> {
+    let found = match search {
+        Search::Number => live_thread(alloc, client, server.number())?,
+        Search::Name => look_up(alloc, client, server.name())?,
+    };
+    found.ok_or(Trouble::NoThread)
 }
 
 /// Puts a value under a key.
 pub fn put<I: PortRead, O: PortWrite>(
     alloc: Global,
     client: &mut Client<I, O>,
-    server: Server,
+    server: ThreadId,
     key: u64,
     value: u64,
 ) -> Result<(), Trouble> {
@@ -42,7 +74,7 @@ pub fn put<I: PortRead, O: PortWrite>(
 pub fn get<I: PortRead, O: PortWrite>(
     alloc: Global,
     client: &mut Client<I, O>,
-    server: Server,
+    server: ThreadId,
     key: u64,
 ) -> Result<Option<u64>, Trouble> {
     let answer = ask(alloc, client, server, GET, &[key])?;
@@ -57,13 +89,13 @@ pub fn get<I: PortRead, O: PortWrite>(
 fn ask<I: PortRead, O: PortWrite>(
     alloc: Global,
     client: &mut Client<I, O>,
-    server: Server,
+    server: ThreadId,
     label: u64,
     words: &[u64],
 ) -> Result<Received, Trouble> {
     let request = message(alloc, label, words)?;
     let never = Timeout::never();
-    let answer = client.call(server.thread(), request, never, never, Buffers::none(alloc))?;
+    let answer = client.call(server, request, never, never, Buffers::none(alloc))?;
     match message_of(answer)? {
         Ok(answer) => Ok(answer),
         Err(code) => Err(Trouble::Failed(code)),

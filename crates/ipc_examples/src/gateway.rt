@@ -1,8 +1,8 @@
 //! A gateway before the key-value server: passes each request on in the name of who asked, so that the server answers them itself.
-use crate::calling::Server;
+use crate::calling::{Search, Server, thread_of};
 use crate::messages::{message, message_of};
 use crate::trouble::Trouble;
-use ipc_client::{Buffers, Client, Timeout};
+use ipc_client::{Buffers, Client, Message, Timeout};
 use ipc_ports::{PortRead, PortWrite};
 use ipc_words::ThreadId;
 use std::alloc::Global;
@@ -16,6 +16,7 @@ pub fn serve<I: PortRead, O: PortWrite, R: Wait>(
     rt: &R,
     alloc: Global,
     client: &mut Client<I, O>,
+    search: Search,
 ) -> Result<(), Trouble> {
     for _ in rt.forever() {
         let never = Timeout::never();
@@ -24,9 +25,25 @@ pub fn serve<I: PortRead, O: PortWrite, R: Wait>(
             let mut passed = message(alloc, request.label, &request.words)?;
             passed.tag = passed.tag.with_propagated(true);
             passed.sender = request.sender;
-            // a request that nobody takes is dropped
-            let _ = message_of(client.send(Server::KeyValue.thread(), passed, never)?)?;
+            pass(alloc, client, search, passed)?;
         }
     }
     Ok(())
+}
+
+// Passes a message on to the key-value server. One that nobody takes is dropped.
+fn pass<I: PortRead, O: PortWrite>(
+    alloc: Global,
+    client: &mut Client<I, O>,
+    search: Search,
+    message: Message,
+) -> Result<(), Trouble> {
+    match thread_of(alloc, client, Server::KeyValue, search) {
+        Ok(server) => {
+            let _ = message_of(client.send(server, message, Timeout::never())?)?;
+            Ok(())
+        }
+        Err(Trouble::NoThread) => Ok(()),
+        Err(trouble) => Err(trouble),
+    }
 }

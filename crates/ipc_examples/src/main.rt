@@ -4,18 +4,24 @@
 ghost use Rattle.std.specs.Prelude.{◌≡◌, ◌<◌};
 
 mod calling;
+mod finding;
 mod gateway;
 mod keyvalue;
 mod messages;
+mod names;
+mod naming;
 mod role;
 mod sleeper;
+mod table;
 #[cfg(test)]
 mod tests;
 mod trouble;
 
+use calling::{Search, Server};
 use ipc_client::Client;
 use ipc_ports::{Failures, PortRead, PortWrite, ReadPort, WritePort};
-use role::Role;
+use ipc_words::ThreadId;
+use role::{Role, Task};
 use std::alloc::Global;
 use std::io;
 use std::marker::Brand;
@@ -40,14 +46,14 @@ fn main(rt: HostRuntime) -> io::Result<ExitCode> {
         println!(rt; "{USAGE}")?;
         return Ok(ExitCode::from(0));
     }
-    let Some((dir, role)) = Role::of(words.as_slice()) else {
+    let Some(task) = Task::of(words.as_slice()) else {
         return ended(&rt, &Trouble::Usage);
     };
-    let stream = match connect(&rt, alloc, dir) {
+    let stream = match connect(&rt, alloc, task.dir) {
         Ok(stream) => stream,
         Err(trouble) => return ended(&rt, &trouble),
     };
-    match start::<Brand, Brand, _>(&rt, alloc, &stream, role, Blank::new(1), Blank::new(1)) {
+    match start::<Brand, Brand, _>(&rt, alloc, &stream, task, Blank::new(1), Blank::new(1)) {
         Ok(()) => Ok(ExitCode::from(0)),
         Err(trouble) => ended(&rt, &trouble),
     }
@@ -69,7 +75,7 @@ fn start<L: Ledger, M: Ledger, R: Wait + Print>(
     rt: &R,
     alloc: Global,
     stream: &UnixStream,
-    role: Role,
+    task: Task<'_>,
     reads: Blank,
     writes: Blank,
 ) -> Result<(), Trouble>
@@ -81,7 +87,7 @@ fn start<L: Ledger, M: Ledger, R: Wait + Print>(
     let reader = ReadPort::new(stream, Failures::<L>::new(reads));
     let writer = WritePort::new(stream, Failures::<M>::new(writes));
     let mut client = Client::new(alloc, reader, writer);
-    play(rt, alloc, &mut client, role)
+    play(rt, alloc, &mut client, task)
 }
 
 /// Says HELLO as the thread of the role, plays it, and says BYE.
@@ -89,26 +95,73 @@ fn play<I: PortRead, O: PortWrite, R: Wait + Print>(
     rt: &R,
     alloc: Global,
     client: &mut Client<I, O>,
-    role: Role,
+    task: Task<'_>,
 ) -> Result<(), Trouble> {
+    let Task { role, search, .. } = task;
     let own = messages::greet(client, role.number())?;
     match role {
-        Role::KeyValue => keyvalue::serve(rt, alloc, client)?,
-        Role::Gateway => gateway::serve(rt, alloc, client)?,
-        Role::Put { key, value, server } => calling::put(alloc, client, server, key, value)?,
+        Role::KeyValue => {
+            announce(alloc, client, Server::KeyValue, search)?;
+            keyvalue::serve(rt, alloc, client)?;
+        }
+        Role::Gateway => {
+            announce(alloc, client, Server::Gateway, search)?;
+            gateway::serve(rt, alloc, client, search)?;
+        }
+        Role::Put { key, value, server } => {
+            let server = calling::thread_of(alloc, client, server, search)?;
+            calling::put(alloc, client, server, key, value)?;
+        }
         Role::Get { key, server } => {
-            let text = match calling::get(alloc, client, server, key)? {
-                Some(value) => println!(rt; "{value}"),
-                None => println!(rt; "nothing"),
-            };
-            if text.is_err() {
-                return Err(Trouble::NoOutput);
-            }
+            let server = calling::thread_of(alloc, client, server, search)?;
+            say_word(rt, calling::get(alloc, client, server, key)?)?;
         }
         Role::Sleep(micros) => sleeper::sleep(alloc, client, own, micros)?,
+        Role::Names => {
+            say_names(rt, own)?;
+            names::serve(rt, alloc, client)?;
+        }
+        Role::LookUp(name) => say_thread(rt, finding::look_up(alloc, client, name)?)?,
     }
     client.bye()?;
     Ok(())
+}
+
+/// Registers a server under its name, where servers are looked for by names.
+fn announce<I: PortRead, O: PortWrite>(
+    alloc: Global,
+    client: &mut Client<I, O>,
+    server: Server,
+    search: Search,
+) -> Result<(), Trouble> {
+    match search {
+        Search::Number => Ok(()),
+        Search::Name => finding::register(alloc, client, server.name()),
+    }
+}
+
+/// Prints a word, or `nothing`.
+fn say_word<R: Print>(rt: &R, word: Option<u64>) -> Result<(), Trouble> {
+    let said = match word {
+        Some(word) => println!(rt; "{word}"),
+        None => println!(rt; "nothing"),
+    };
+    said.or(Err(Trouble::NoOutput))
+}
+
+/// Prints a thread, or `nothing`.
+fn say_thread<R: Print>(rt: &R, thread: Option<ThreadId>) -> Result<(), Trouble> {
+    let said = match thread {
+        Some(thread) => println!(rt; "{}.{}", thread.number(), thread.version()),
+        None => println!(rt; "nothing"),
+    };
+    said.or(Err(Trouble::NoOutput))
+}
+
+/// Prints which thread the name server is.
+fn say_names<R: Print>(rt: &R, own: ThreadId) -> Result<(), Trouble> {
+    let said = println!(rt; "names {}.{}", own.number(), own.version());
+    said.or(Err(Trouble::NoOutput))
 }
 
 /// Says on standard error why a role ended.

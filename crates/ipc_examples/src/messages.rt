@@ -1,6 +1,6 @@
 //! What comes back from the server.
 use crate::trouble::Trouble;
-use ipc_client::{Answer, Client, Greeting, Message};
+use ipc_client::{Answer, Client, Failure, Greeting, Message};
 use ipc_items::StringList;
 use ipc_ports::{PortRead, PortWrite};
 use ipc_words::ThreadId;
@@ -46,6 +46,23 @@ pub fn message_of(answer: Answer) -> Result<Result<Received, u64>, Trouble> {
             }))
         }
         Answer::Refused(number) => Err(Trouble::Refused(number)),
+    }
+}
+
+/// The ErrorCode of a call that failed.
+pub fn code_of(answer: &Answer) -> Option<u64> {
+    match answer {
+        Answer::Outcome(outcome) if outcome.tag().has_failed() => Some(outcome.error().to_word()),
+        _ => None,
+    }
+}
+
+/// The message that a call brought, with its strings; none where the call failed.
+pub fn next_of(answer: Answer) -> Result<Option<ipc_client::Received>, Trouble> {
+    match answer.message() {
+        Ok(message) => Ok(Some(message)),
+        Err(Failure::Failed(_)) => Ok(None),
+        Err(Failure::Refused(number)) => Err(Trouble::Refused(number)),
     }
 }
 

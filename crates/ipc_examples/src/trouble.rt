@@ -1,5 +1,6 @@
 //! Why a role ends.
-use ipc_client::{ClientError, MessageFault};
+use crate::naming::NameError;
+use ipc_client::{BufferFault, ClientError, MessageFault};
 use std::fmt;
 
 /// The words that name a role.
@@ -9,7 +10,12 @@ pub const USAGE: &str = "usage: l4x DIR ROLE, where the role is one of
     gateway                    thread 2, which passes requests on to thread 1
     put KEY VALUE [gateway]    thread 3, which puts a value
     get KEY [gateway]          thread 3, which prints the value, or nothing
-    sleep MICROSECONDS         thread 4, which sleeps";
+    sleep MICROSECONDS         thread 4, which sleeps
+    names                      thread 255, a name server
+    lookup NAME                thread 3, which prints the live thread of a name, or nothing
+
+With --names as the last word a server registers as keyvalue or gateway, and who looks for one asks the name server.
+Without it a server is looked for by its thread number.";
 
 /// Why a role ends before its work is done.
 #[derive(Clone, Copy, PartialEq, Eq, Debug)]
@@ -30,6 +36,12 @@ pub enum Trouble {
     Refused(u8),
     /// A call failed with this ErrorCode.
     Failed(u64),
+    /// There is no name server.
+    NoNames,
+    /// There is no such server.
+    NoThread,
+    /// The name server did not do what it was asked for.
+    Name(NameError),
 }
 
 impl Trouble {
@@ -57,6 +69,15 @@ impl From<MessageFault> for Trouble {
     }
 }
 
+impl From<BufferFault> for Trouble {
+    fn from(fault: BufferFault) -> Trouble {
+        match fault {
+            BufferFault::NoMemory => Trouble::NoMemory,
+            _ => Trouble::LongMessage,
+        }
+    }
+}
+
 impl fmt::Display for Trouble {
     fn fmt<W: fmt::Write>(&self, f: &mut fmt::Formatter<W>) -> fmt::Result {
         match self {
@@ -68,6 +89,9 @@ impl fmt::Display for Trouble {
             Trouble::LongMessage => write!(f, "the message is past its limits"),
             Trouble::Refused(number) => write!(f, "refused: K{number}"),
             Trouble::Failed(code) => write!(f, "the call failed: error {code:#x}"),
+            Trouble::NoNames => write!(f, "there is no name server"),
+            Trouble::NoThread => write!(f, "there is no such server"),
+            Trouble::Name(error) => write!(f, "the name server answered: {error}"),
         }
     }
 }

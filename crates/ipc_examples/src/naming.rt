@@ -1,0 +1,136 @@
+//! What is asked of a name server, and what it answers. docs/NAMES.md has the words.
+use crate::table::Name;
+use ipc_client::Received;
+use ipc_words::ThreadId;
+use std::alloc::Global;
+use std::fmt;
+
+/// The thread number of a name server.
+pub const NAMES_NUMBER: u16 = 255;
+
+/// The label of a request to register a name.
+pub const REGISTER: u64 = 1;
+
+/// The label of a request to look a name up.
+pub const LOOK_UP: u64 = 2;
+
+/// The label of a request for the next name.
+pub const LIST: u64 = 3;
+
+/// Why a request is not done.
+#[derive(Clone, Copy, PartialEq, Eq, Debug)]
+pub enum NameError {
+    /// It is none of the requests, or has other words or strings.
+    BadRequest,
+    /// The name is empty, or has a byte that no name has.
+    BadName,
+    /// Another live thread has the name.
+    Taken,
+    /// There are as many names as the server keeps.
+    Full,
+    /// The server has no memory for the name.
+    NoMemory,
+}
+
+impl NameError {
+    /// Its number, which is the label of the answer.
+    pub fn number(self) -> u64 {
+        match self {
+            NameError::BadRequest => 1,
+            NameError::BadName => 2,
+            NameError::Taken => 3,
+            NameError::Full => 4,
+            NameError::NoMemory => 5,
+        }
+    }
+
+    /// The error of an answer that is not done. An answer with another number is no answer of a name server.
+    pub fn of_number(number: u64) -> NameError {
+        match number {
+            2 => NameError::BadName,
+            3 => NameError::Taken,
+            4 => NameError::Full,
+            5 => NameError::NoMemory,
+            _ => NameError::BadRequest,
+        }
+    }
+}
+
+impl fmt::Display for NameError {
+    fn fmt<W: fmt::Write>(&self, f: &mut fmt::Formatter<W>) -> fmt::Result {
+        match self {
+            NameError::BadRequest => write!(f, "bad request"),
+            NameError::BadName => write!(f, "bad name"),
+            NameError::Taken => write!(f, "taken"),
+            NameError::Full => write!(f, "full"),
+            NameError::NoMemory => write!(f, "no memory"),
+        }
+    }
+}
+
+/// A request.
+#[derive(Drop)]
+pub enum Request {
+    /// From now on the name is that of the sender.
+    Register(Name),
+    /// Which thread has the name.
+    LookUp(Name),
+    /// The first name after these bytes, and its thread.
+    List(Vec<u8>),
+}
+
+impl Request {
+    /// The request that a message makes.
+    pub fn of(alloc: Global, message: &Received) -> Result<Request, NameError> {
+        let Ok(mut strings) = message.strings(alloc) else {
+            return Err(NameError::NoMemory);
+        };
+        let (Some(string), true, 0) = (strings.pop(), strings.is_empty(), message.words().len())
+        else {
+            return Err(NameError::BadRequest);
+        };
+        match message.label() {
+            REGISTER => Ok(Request::Register(named(string)?)),
+            LOOK_UP => Ok(Request::LookUp(named(string)?)),
+            LIST if string.is_empty() => Ok(Request::List(string)),
+            LIST => Ok(Request::List(named(string)?.into_bytes())),
+            _ => Err(NameError::BadRequest),
+        }
+    }
+}
+
+// The name of a string.
+fn named(string: Vec<u8>) -> Result<Name, NameError> {
+    Name::of(string).ok_or(NameError::BadName)
+}
+
+/// What a name server answers: the label is 0, or the number of an error.
+#[derive(Drop)]
+pub struct Reply {
+    /// The label.
+    pub label: u64,
+    /// The thread, or nilthread.
+    pub thread: ThreadId,
+    /// The name, for a list that has one.
+    pub name: Option<Vec<u8>>,
+}
+
+impl Reply {
+    /// A thread, or nilthread.
+    pub fn thread(thread: ThreadId) -> Reply {
+        Reply {
+            label: 0,
+            thread,
+            name: None,
+        }
+    }
+
+    /// An error, with the thread that has the name or nilthread.
+    pub fn error(error: NameError, thread: ThreadId) -> Reply {
+        Reply {
+            label: error.number(),
+            thread,
+            name: None,
+        }
+    }
+}

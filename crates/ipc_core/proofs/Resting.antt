@@ -22,10 +22,10 @@ kernel_same entries_limit calls_limit moment old new kernel same more = record {
 }
 
 -- where a command has begun and nothing more
-pub rests : (entries_limit calls_limit moment : ℕ) (old new : CourseParts) → IsWhole entries_limit calls_limit moment old → new.entries ≡ old.entries → new.room ≡ old.room → new.taken ≡ old.taken → new.since ≡ length old.entries → new.places ≡ old.places → IsWhole entries_limit calls_limit moment new
-rests entries_limit calls_limit moment old new whole same room taken since places = record {
+pub rests : (entries_limit calls_limit moment : ℕ) (old new : CourseParts) → IsWhole entries_limit calls_limit moment old → new.entries ≡ old.entries → new.room ≡ old.room → new.taken ≡ old.taken → new.since ≡ length old.entries → IsWhole entries_limit calls_limit moment new
+rests entries_limit calls_limit moment old new whole same room taken since = record {
   kernel = kernel_same entries_limit calls_limit moment old new whole.kernel same (omega (arith, room));
-  books = subst (λ H. AreBooks H new.taken new.since new.places) (sym same) (subst (λ t. AreBooks old.entries t new.since new.places) (sym taken) (subst (λ p. AreBooks old.entries old.taken new.since p) (sym places) (books_rest old.entries old.taken new.since old.since old.places since whole.books)));
+  books = subst (λ H. AreBooks H new.taken new.since) (sym same) (subst (λ t. AreBooks old.entries t new.since) (sym taken) (books_rest old.entries old.taken new.since old.since since whole.books));
 }
 
 -- and what is seen of it then
@@ -37,10 +37,10 @@ pub begins_rested : (seen old : KernelParts) (new : CourseParts) → seen ≡ ol
 begins_rested seen old new same entries taken since room = seen_begun seen old new.entries new.taken new.since new.room same entries taken since room
 
 -- after an outcome was taken, or none
-pub takes_one : (entries_limit calls_limit moment : ℕ) (old new : CourseParts) (outcome : Option OutcomeParts) → IsWhole entries_limit calls_limit moment old → new.entries ≡ old.entries → new.room ≡ old.room → new.taken ≡ taken_after outcome old.taken → new.since ≡ old.since → new.places ≡ old.places → IfSome outcome (λ o. IsTaken old.entries o.call) → IfSome outcome (λ o. is_among o.call old.taken ≡ false) → IsWhole entries_limit calls_limit moment new
-takes_one entries_limit calls_limit moment old new outcome whole same room taken since places done fresh = record {
+pub takes_one : (entries_limit calls_limit moment : ℕ) (old new : CourseParts) (outcome : Option OutcomeParts) → IsWhole entries_limit calls_limit moment old → new.entries ≡ old.entries → new.room ≡ old.room → new.taken ≡ taken_after outcome old.taken → new.since ≡ old.since → IfSome outcome (λ o. IsTaken old.entries o.call) → IfSome outcome (λ o. is_among o.call old.taken ≡ false) → IsWhole entries_limit calls_limit moment new
+takes_one entries_limit calls_limit moment old new outcome whole same room taken since done fresh = record {
   kernel = kernel_same entries_limit calls_limit moment old new whole.kernel same (omega (arith, room));
-  books = subst (λ H. AreBooks H new.taken new.since new.places) (sym same) (subst (λ s. AreBooks old.entries new.taken s new.places) (sym since) (subst (λ p. AreBooks old.entries new.taken old.since p) (sym places) (books_took old.entries old.taken new.taken old.since old.places outcome whole.books taken done fresh)));
+  books = subst (λ H. AreBooks H new.taken new.since) (sym same) (subst (λ s. AreBooks old.entries new.taken s) (sym since) (books_took old.entries old.taken new.taken old.since outcome whole.books taken done fresh));
 }
 
 pub seen_took : (seen old : KernelParts) (new : CourseParts) (outcome : Option OutcomeParts) → seen ≡ old → new.entries ≡ seen.history → new.taken ≡ taken_after outcome seen.taken → new.since ≡ seen.since → new.room ≡ seen.room → record seen { history = new.entries; taken = new.taken; since = new.since; room = new.room } ≡ record old { taken = taken_after outcome old.taken }

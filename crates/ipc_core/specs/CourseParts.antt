@@ -5,21 +5,19 @@ use Rattle.ipc_history.specs.declared.entry.Entry.TheVariants.{Given}
 use Rattle.ipc_history.specs.declared.entry.Input.TheVariants.{Called}
 use Rattle.ipc_desks.specs.Messages.{PreparedParts, prepared}
 
--- the entries and for how many there is room, the calls whose outcome was taken, the length before the last command, the threads
--- whose calls it finished, and for how many taken calls there is room
+-- the entries and for how many there is room, the calls whose outcome was taken, the length before the last command, and the threads
+-- whose calls it finished
 pub record CourseParts : Type 0 where
   pub entries : List Entry
   pub room : ℕ
   pub taken : List ℕ
   pub since : ℕ
   pub finished : List ℕ
-  pub places : ℕ
 
 -- the rest of a course stays as it is
 pub record SameBooks (old new : CourseParts) : Type 0 where
   pub taken : new.taken ≡ old.taken
   pub since : new.since ≡ old.since
-  pub places : new.places ≡ old.places
 
 -- with a call come the copies of its message and of its buffer strings
 abbrev pub HasCopies : Entry → Option PreparedParts → Type 0

@@ -47,4 +47,4 @@ pub record IsKernel (entries_limit calls_limit moment : ℕ) (course : CoursePar
 -- a whole kernel: with its books
 pub record IsWhole (entries_limit calls_limit moment : ℕ) (course : CourseParts) : Type 0 where
   pub kernel : IsKernel entries_limit calls_limit moment course
-  pub books : AreBooks course.entries course.taken course.since course.places
+  pub books : AreBooks course.entries course.taken course.since

@@ -6,7 +6,7 @@ ghost use Rattle.ipc_words.specs.Limits.{last_moment};
 ghost use Rattle.ipc_history.specs.declared.entry.Entry.TheVariants.{Given, Written};
 ghost use Rattle.ipc_history.specs.declared.entry.Input.TheVariants.{At};
 ghost use Rattle.ipc_history.specs.Blocks.{block_of};
-ghost use Rattle.ipc_history.specs.Calls.{calls_made, is_called, numbers};
+ghost use Rattle.ipc_history.specs.Calls.{calls_made, numbers};
 ghost use Rattle.ipc_history.specs.Phases.{open_call};
 ghost use Rattle.ipc_history.specs.Threads.{is_live, is_taken, next_version, now};
 ghost use Rattle.ipc_history.specs.Legal.{Legal, Quiet, Follows, is_admissible, next_moving};
@@ -27,8 +27,10 @@ ghost use Rattle.ipc_core.specs.CommandRoom.{command_need, is_clock};
 ghost use Rattle.ipc_core.specs.ExchangeRegisters.{exreg_answer, phases_of};
 
 use crate::answers::ExregAnswer;
+use crate::taken::Taken;
 use ipc_desks::{Desks, Finished, Prepared};
 use ipc_history::{Call, EnteredCall, Entry, History, Input, Outcome, Output};
+use ipc_past::Past;
 use ipc_slots::Slots;
 use ipc_waits::Waiting;
 use ipc_words::limits::{PLEDGE_OF_THREAD, TABLE_SLOTS};
@@ -42,7 +44,7 @@ pub(crate) struct Course {
     history: History,
     waiting: Waiting,
     desks: Desks,
-    taken: Vec<u64>,
+    taken: Taken,
     since: usize,
     finished: Vec<ThreadId>,
 }
@@ -57,13 +59,12 @@ impl Model for Course {
     ghost view = { λ c. record {
       entries = c.history.entries;
       room = c.history.room;
-      taken = c.taken.items;
+      taken = c.taken;
       since = c.since;
       finished = c.finished.items;
-      places = vec_capacity c.taken;
     } };
 
-    ghost invariant = { λ c. IsCourse c.history.entries c.waiting c.desks c.taken.items c.since c.finished.items
+    ghost invariant = { λ c. IsCourse c.history.entries c.waiting c.desks c.taken c.since c.finished.items
         (vec_capacity c.finished) };
 }
 
@@ -79,7 +80,7 @@ impl Course {
             history: History::new(alloc),
             waiting: Waiting::new(),
             desks: Desks::new(alloc)?,
-            taken: Vec::new(alloc),
+            taken: Taken::none(),
             since: 0,
             finished: Vec::with_capacity(alloc, TABLE_SLOTS)?,
         })
@@ -93,7 +94,7 @@ impl Course {
     }
 
     /// How many outcomes were taken.
-    pub(crate) fn takes(&self) -> usize
+    pub(crate) fn takes(&self) -> u64
         ensures { result ≡ length self.now.taken }
     {
         self.taken.len()
@@ -113,7 +114,8 @@ impl Course {
         requires { IsTrue (is_live self.now.entries thread) }
         ensures { result ≡ made_by self.now.entries thread }
     {
-        self.desks.made(self.history.entries(), &self.taken, thread)
+        self.desks
+            .made(self.history.entries(), self.taken.past(), thread)
     }
 
     /// How many outcomes of calls of a live thread were taken.
@@ -122,7 +124,7 @@ impl Course {
         ensures { result ≡ taken_by self.now.entries self.now.taken thread }
     {
         self.desks
-            .taken(self.history.entries(), &self.taken, thread)
+            .taken(self.history.entries(), self.taken.past(), thread)
     }
 
     /// Whether the outcome of a live thread's last call was not yet taken.
@@ -131,7 +133,7 @@ impl Course {
         ensures { result ≡ is_busy self.now.entries self.now.taken thread }
     {
         self.desks
-            .is_busy(self.history.entries(), &self.taken, thread)
+            .is_busy(self.history.entries(), self.taken.past(), thread)
     }
 
     /// How many threads are live.
@@ -295,46 +297,26 @@ impl Course {
         self.reserve((threads + calls + need) as usize)
     }
 
-    /// Makes room for so many calls whose outcome is taken. Where memory is refused nothing changes.
-    fn reserve_calls(&mut self, calls: u64) -> Result<(), AllocError>
-        ensures entries { self.new.entries ≡ self.old.entries }
-        ensures room { self.new.room ≡ self.old.room }
-        ensures taken { self.new.taken ≡ self.old.taken }
-        ensures since { self.new.since ≡ self.old.since }
-        ensures places { self.old.places ≤ self.new.places }
-        ensures ok { OnOk result (calls ≤ self.new.places) }
-    {
-        let calls = calls as usize;
-        self.taken.reserve(calls.saturating_sub(self.taken.len()))
-    }
-
-    /// Makes what a call needs: room for its number among those taken, its copies, a place for it, and room for entries, in
-    /// this order. Where memory is refused the call is handed back, and what a kernel shows stays as it is.
+    /// Makes what a call needs: its copies, a place for it, and room for entries, in this order. Where memory is refused the call is
+    /// handed back, and what a kernel shows stays as it is.
     pub(crate) fn prepare(
         &mut self,
         alloc: Global,
         more: usize,
         need: u64,
-        number: u64,
         call: Call,
     ) -> Result<(EnteredCall, Prepared), Call>
-        requires few { number < 2 ^ 32 }
-        requires enough { pledged self.old.entries + need ≤ more }
+        requires { pledged self.old.entries + need ≤ more }
         ensures entries { self.new.entries ≡ self.old.entries }
         ensures room { self.old.room ≤ self.new.room }
         ensures taken { self.new.taken ≡ self.old.taken }
         ensures since { self.new.since ≡ self.old.since }
-        ensures places { self.old.places ≤ self.new.places }
         ensures fits { OnOk result (length self.new.entries + (pledged self.new.entries + need) ≤ self.new.room) }
-        ensures place { OnOk result (number + 1 ≤ self.new.places) }
         ensures call { IfOk result (λ made. made.0 ≡ call) }
         ensures copies { IfOk result (λ made. made.1 ≡ prepared call) }
         ensures back { IfErr result (λ refused. refused ≡ call) }
         ensures err { OnErr result (self.new.room ≡ self.old.room) }
     {
-        let Ok(()) = self.reserve_calls(number + 1) else {
-            return Err(call);
-        };
         let Ok(copies) = Prepared::of(alloc, &call) else {
             return Err(call);
         };
@@ -351,7 +333,6 @@ impl Course {
         ensures room { self.new.room ≡ self.old.room }
         ensures taken { self.new.taken ≡ self.old.taken }
         ensures since { self.new.since ≡ length self.old.entries }
-        ensures places { self.new.places ≡ self.old.places }
     {
         self.since = self.history.len();
         self.finished.clear();
@@ -360,8 +341,7 @@ impl Course {
     /// Moves the outcome out that a live thread may take. Takes no memory.
     pub(crate) fn take(&mut self, thread: ThreadId) -> Option<Outcome>
         requires live { IsTrue (is_live self.old.entries thread) }
-        requires room { (n : ℕ) → IsTrue (is_called self.old.entries n) → IsFalse (is_among n self.old.taken)
-            → length self.old.taken < self.old.places }
+        requires few { length self.old.taken + 1 < 2 ^ 64 }
         ensures given { result ≡ outcome_to_take self.old.entries self.old.taken thread }
         ensures call { IfSome result (λ outcome. last_call self.old.entries thread ≡ Some outcome.call) }
         ensures done { IfSome result (λ outcome. IsTaken self.old.entries outcome.call) }
@@ -370,12 +350,11 @@ impl Course {
         ensures entries { self.new.entries ≡ self.old.entries }
         ensures room { self.new.room ≡ self.old.room }
         ensures since { self.new.since ≡ self.old.since }
-        ensures places { self.new.places ≡ self.old.places }
     {
         let outcome = self
             .desks
-            .take(self.history.entries(), &self.taken, thread)?;
-        self.taken.push_reserved(outcome.call);
+            .take(self.history.entries(), self.taken.past(), thread)?;
+        self.taken.add(outcome.call);
         Some(outcome)
     }
 
@@ -393,7 +372,7 @@ impl Course {
         let ended = note(
             &mut self.desks,
             entries,
-            &self.taken,
+            self.taken.past(),
             self.waiting.slots(),
             &entry,
             copies,
@@ -466,7 +445,6 @@ impl Course {
         ensures legal { Legal self.new.entries }
         ensures taken { self.new.taken ≡ self.old.taken }
         ensures since { self.new.since ≡ length self.old.entries }
-        ensures places { self.new.places ≡ self.old.places }
         ensures settled { Settled (with_input self.old.entries moment input) self.new.entries }
         ensures room { self.new.room ≡ self.old.room }
         ensures spent { length self.new.entries + room_owed self.new.entries
@@ -502,7 +480,7 @@ impl Course {
 fn note(
     desks: &mut Desks,
     entries: &[Entry],
-    taken: &[u64],
+    taken: &Past<u64>,
     slots: &Slots,
     entry: &Entry,
     copies: Option<Prepared>,

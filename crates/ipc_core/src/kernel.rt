@@ -135,7 +135,7 @@ impl Kernel {
     pub fn takes(&self) -> u64
         ensures { result ≡ length self.now.taken }
     {
-        self.course.takes() as u64
+        self.course.takes()
     }
 
     /// How many calls a live thread entered, 0 for a thread that is not live.
@@ -369,7 +369,7 @@ impl Kernel {
         let number = made + 1;
         let is_normal = call.is_normal();
         prove!(is_normal);
-        match self.course.prepare(self.alloc, room, need, number, call) {
+        match self.course.prepare(self.alloc, room, need, call) {
             Ok((entered, copies)) => {
                 self.course.take_input(
                     self.moment,

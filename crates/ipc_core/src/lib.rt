@@ -11,6 +11,7 @@ mod refusal;
 mod room;
 #[cfg(test)]
 mod row_tests;
+mod taken;
 #[cfg(test)]
 mod tests;
 

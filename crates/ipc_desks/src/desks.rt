@@ -26,6 +26,7 @@ use crate::finished::Finished;
 use crate::message::{Message, Prepared};
 use ipc_history::{Call, Entry, Input, Outcome, Output};
 use ipc_items::BufferList;
+use ipc_past::Past;
 use ipc_slots::{Slots, Standing};
 use ipc_words::limits::TABLE_SLOTS;
 use ipc_words::{IpcError, Phase as FailedPhase, ThreadId};
@@ -147,41 +148,49 @@ impl Desks {
     }
 
     /// Whether a live thread is busy: it made a call whose outcome was not yet taken.
-    pub fn is_busy(&self, entries: &[Entry], taken: &[u64], thread: ThreadId) -> bool
+    pub fn is_busy(&self, entries: &[Entry], taken: &Past<u64>, thread: ThreadId) -> bool
         requires legal { Legal entries.now }
         requires keeps { Keeps entries.now taken.now self.now }
         requires live { IsTrue (is_live entries.now thread) }
         ensures { result ≡ is_busy entries.now taken.now thread }
     {
-        let _ = (entries.len(), taken.len());
+        let _ = entries;
+        let _ = taken;
         self.desk(self.place_of_thread(entries, thread)).is_busy()
     }
 
     /// How many calls a live thread made.
-    pub fn made(&self, entries: &[Entry], taken: &[u64], thread: ThreadId) -> u64
+    pub fn made(&self, entries: &[Entry], taken: &Past<u64>, thread: ThreadId) -> u64
         requires legal { Legal entries.now }
         requires keeps { Keeps entries.now taken.now self.now }
         requires live { IsTrue (is_live entries.now thread) }
         ensures { result ≡ made_by entries.now thread }
     {
-        let _ = (entries.len(), taken.len());
+        let _ = entries;
+        let _ = taken;
         self.desk(self.place_of_thread(entries, thread)).made
     }
 
     /// How many outcomes of calls of a live thread were taken.
-    pub fn taken(&self, entries: &[Entry], taken: &[u64], thread: ThreadId) -> u64
+    pub fn taken(&self, entries: &[Entry], taken: &Past<u64>, thread: ThreadId) -> u64
         requires legal { Legal entries.now }
         requires keeps { Keeps entries.now taken.now self.now }
         requires live { IsTrue (is_live entries.now thread) }
         ensures { result ≡ taken_by entries.now taken.now thread }
     {
-        let _ = (entries.len(), taken.len());
+        let _ = entries;
+        let _ = taken;
         self.desk(self.place_of_thread(entries, thread)).taken
     }
 
     /// Moves the outcome out that a live thread may take: that of its last call, where it is over and was not taken yet. Takes no
     /// memory. Where there is none nothing changes.
-    pub fn take(&mut self, entries: &[Entry], taken: &[u64], thread: ThreadId) -> Option<Outcome>
+    pub fn take(
+        &mut self,
+        entries: &[Entry],
+        taken: &Past<u64>,
+        thread: ThreadId,
+    ) -> Option<Outcome>
         requires legal { Legal entries.now }
         requires keeps { Keeps entries.now taken.now self.old }
         requires live { IsTrue (is_live entries.now thread) }
@@ -205,7 +214,7 @@ impl Desks {
     fn note_failed(
         &mut self,
         entries: &[Entry],
-        taken: &[u64],
+        taken: &Past<u64>,
         slots: &Slots,
         number: u64,
         error: IpcError,
@@ -217,7 +226,7 @@ impl Desks {
         ensures keeps { Keeps (entries.now ++ Written (Failed number error) ∷ []) taken.now self.new }
         ensures finished { (t : ℕ) → is_named result t ≡ finishes entries.now (Written (Failed number error)) t }
     {
-        let _ = taken.len();
+        let _ = taken;
         let place = slots.place_of(entries, number);
         let call = standing(entries, slots, number, place);
         let alloc = self.alloc;
@@ -232,7 +241,7 @@ impl Desks {
     fn fail_both(
         &mut self,
         entries: &[Entry],
-        taken: &[u64],
+        taken: &Past<u64>,
         slots: &Slots,
         sending: u64,
         receiving: u64,
@@ -251,7 +260,7 @@ impl Desks {
           second = Some (caller_of entries.now receiving);
         } }
     {
-        let _ = taken.len();
+        let _ = taken;
         let from = slots.place_of(entries, sending);
         let to = slots.place_of(entries, receiving);
         let sender = standing(entries, slots, sending, from);
@@ -269,7 +278,7 @@ impl Desks {
     fn note_overflowed(
         &mut self,
         entries: &[Entry],
-        taken: &[u64],
+        taken: &Past<u64>,
         slots: &Slots,
         sending: u64,
         receiving: u64,
@@ -290,7 +299,7 @@ impl Desks {
     fn note_aborted(
         &mut self,
         entries: &[Entry],
-        taken: &[u64],
+        taken: &Past<u64>,
         slots: &Slots,
         sending: u64,
         receiving: u64,
@@ -317,7 +326,7 @@ impl Desks {
     fn hand_over(
         &mut self,
         entries: &[Entry],
-        taken: &[u64],
+        taken: &Past<u64>,
         receiving: u64,
         call: &Standing,
         from: usize,
@@ -334,7 +343,8 @@ impl Desks {
         ensures outcome { result ≡ received entries.now call.now.number receiving }
         ensures desks { Moved from to self.old self.new }
     {
-        let _ = (entries.len(), taken.len());
+        let _ = entries;
+        let _ = taken;
         let Some(message) = self.take_message(from) else {
             unreachable!()
         };
@@ -346,7 +356,7 @@ impl Desks {
     fn note_ended(
         &mut self,
         entries: &[Entry],
-        taken: &[u64],
+        taken: &Past<u64>,
         slots: &Slots,
         sending: u64,
         receiving: u64,
@@ -382,7 +392,7 @@ impl Desks {
     fn note_output(
         &mut self,
         entries: &[Entry],
-        taken: &[u64],
+        taken: &Past<u64>,
         slots: &Slots,
         output: &Output,
     ) -> Finished
@@ -411,20 +421,20 @@ impl Desks {
     }
 
     /// Takes note of a break: nothing is kept for a thread that ended.
-    fn note_broke(&mut self, entries: &[Entry], taken: &[u64], thread: ThreadId)
+    fn note_broke(&mut self, entries: &[Entry], taken: &Past<u64>, thread: ThreadId)
         requires legal { Legal entries.now }
         requires follows { Follows entries.now (Given (Broke thread)) }
         requires keeps { Keeps entries.now taken.now self.old }
         ensures keeps { Keeps (entries.now ++ Given (Broke thread) ∷ []) taken.now self.new }
         ensures finished { (t : ℕ) → finishes entries.now (Given (Broke thread)) t ≡ false }
     {
-        let _ = taken.len();
+        let _ = taken;
         let place = self.place_of_thread(entries, thread);
         self.leave(place);
     }
 
     /// Takes note of an input, any but a call.
-    fn note_input(&mut self, entries: &[Entry], taken: &[u64], input: &Input) -> Finished
+    fn note_input(&mut self, entries: &[Entry], taken: &Past<u64>, input: &Input) -> Finished
         requires legal { Legal entries.now }
         requires follows { Follows entries.now (Given input.now) }
         requires keeps { Keeps entries.now taken.now self.old }
@@ -443,7 +453,7 @@ impl Desks {
     pub fn note(
         &mut self,
         entries: &[Entry],
-        taken: &[u64],
+        taken: &Past<u64>,
         slots: &Slots,
         entry: &Entry,
     ) -> Finished
@@ -466,7 +476,7 @@ impl Desks {
     pub fn note_called(
         &mut self,
         entries: &[Entry],
-        taken: &[u64],
+        taken: &Past<u64>,
         number: u64,
         caller: ThreadId,
         call: &Call,
@@ -479,7 +489,7 @@ impl Desks {
         ensures keeps { Keeps (entries.now ++ Given (Called number caller call.now) ∷ []) taken.now self.new }
         ensures finished { (t : ℕ) → is_named result t ≡ finishes entries.now (Given (Called number caller call.now)) t }
     {
-        let _ = taken.len();
+        let _ = taken;
         let place = self.place_of_thread(entries, caller);
         self.enter(place, number, call, copies);
         Finished::at_once(caller, is_over_at_once(call))

@@ -1,3 +1,4 @@
 pub mod CallLemmas
 pub mod Settling
 pub mod Rows
+pub mod EnteredOnce

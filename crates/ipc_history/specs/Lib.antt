@@ -3,6 +3,7 @@ pub mod Fields
 pub mod Words
 pub mod Entries
 pub mod HistoryParts
+pub mod Holding
 pub mod Calls
 pub mod Threads
 pub mod Phases

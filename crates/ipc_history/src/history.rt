@@ -1,22 +1,27 @@
 ghost use Rattle.std.specs.Prelude.{◌≡◌, ◌≤◌, ◌<◌, ◌+◌, [], ◌∷◌, ◌++◌, ◌==◌, length, OnOk, OnErr};
 
+use crate::entries::Entries;
 use crate::entry::Entry;
+use ipc_past::Past;
 use std::alloc::{AllocError, Global};
 use std::marker::Model;
 
-/// A history: its entries, oldest first, and how many entries it has room for.
+/// A history: the whole past, oldest entry first, and how many entries it has room for. Memory holds all entries of the past.
 #[derive(Drop)]
 pub struct History {
+    past: Past<Entry>,
     entries: Vec<Entry>,
 }
 
 impl Model for History {
-    ghost use Rattle.std.specs.Prelude.{vec_capacity};
+    ghost use Rattle.std.specs.Prelude.{◌≡◌, vec_capacity};
     ghost use Rattle.ipc_history.specs.HistoryParts.{HistoryParts};
 
     ghost Value = { HistoryParts };
 
-    ghost view = { λ h. record { entries = h.entries.items; room = vec_capacity h.entries } };
+    ghost view = { λ h. record { entries = h.past; room = vec_capacity h.entries } };
+
+    ghost invariant = { λ h. h.entries.items ≡ h.past };
 }
 
 impl History {
@@ -26,6 +31,7 @@ impl History {
         ensures room { result.room ≡ 0 }
     {
         History {
+            past: Past::new(),
             entries: Vec::new(alloc),
         }
     }
@@ -35,6 +41,13 @@ impl History {
         ensures { result.now ≡ self.now.entries }
     {
         &self.entries
+    }
+
+    /// The whole past, whose calls can be read.
+    pub fn whole(&self) -> Entries<'_>
+        ensures { result ≡ self.now.entries }
+    {
+        Entries::of(&self.past, &self.entries)
     }
 
     /// How many entries there are.
@@ -68,6 +81,7 @@ impl History {
         ensures entries { self.new.entries ≡ self.old.entries ++ entry ∷ [] }
         ensures room { self.new.room ≡ self.old.room }
     {
+        self.past.add(&entry);
         self.entries.push_reserved(entry);
     }
 }

@@ -3,12 +3,14 @@
 
 mod call;
 mod entered;
+mod entries;
 mod entry;
 mod history;
 mod outcome;
 
 pub use call::{Call, CallFields};
 pub use entered::EnteredCall;
+pub use entries::Entries;
 pub use entry::{Entry, Input, Output};
 pub use history::History;
 pub use outcome::Outcome;

@@ -20,6 +20,6 @@ invariant_of-self c =
     let wider = c.add-2.ensures.capacity in
     course_more _ c.entries-entries.result.now _ c.args.entry _ _ _ _ _ _ c.self.invariant c.self.invariant.begun (rw (ap (λ h. h.entries) c.self.view_is) c.requires.follows) c.entries-entries.ensures c.push.ensures.entries (subst (λ v. IsFresh v c.args.entry) (sym c.self.view_is) c.requires.fresh) c.note-ended.result.first c.note-ended.result.second c.note-ended.ensures.finished
     c.note.new.self c.note-ended.new.desks c.add-2.new.names.items (vec_capacity c.add-2.new.names) c.note.ensures
-    (subst (λ t. Keeps (c.entries-entries.result.now ++ c.args.entry ∷ []) t c.note-ended.new.desks) c.deref.ensures.value c.note-ended.ensures.keeps)
+    (subst (λ t. Keeps (c.entries-entries.result.now ++ c.args.entry ∷ []) t c.note-ended.new.desks) c.past.ensures c.note-ended.ensures.keeps)
     (c.add-2.ensures.items ∙ ap (λ l. with_name l c.note-ended.result.second) c.add.ensures.items)
     (omega (arith, wide, wider))

@@ -4,21 +4,13 @@ use Rattle.ipc_desks.specs.CallsOf.{last_call, outcome_to_take}
 use Rattle.ipc_core.proofs.CourseLemmas.{took}
 use Rattle.ipc_core.proofs.course.Course.take.Goals as goal
 
-pub push_reserved-requires : goal.push_reserved-requires
-push_reserved-requires c =
-    let entries : c.entries.result.now ≡ c.args.self.now.entries = c.entries.ensures ∙ ap (λ v. v.entries) c.self.view_is in
-    let taken : c.deref.result.now ≡ c.args.self.now.taken = c.deref.ensures.value ∙ ap (λ v. v.taken) c.self.view_is in
-    let given = ap₂ (λ l k. outcome_to_take l k c.args.thread) (sym entries) (sym taken) ∙ (sym c.take.ensures.given ∙ c.in_ok-outcome.was) in
-    let last = ap (λ l. last_call l c.args.thread) (sym entries) ∙ c.in_ok-outcome.ensures.call in
-    let done = took c.args.self.now.entries c.args.self.now.taken c.args.thread c.in_ok-outcome.outcome (subst Legal (ap (λ v. v.entries) c.self.view_is) c.self.invariant.legal) given last in
-    let fits = c.requires.room c.in_ok-outcome.outcome.call done.0.called done.1 in
-    let places = ap (λ v. v.places) c.self.view_is in
-    omega (arith, fits, ap (λ v. length v.taken) c.self.view_is, places)
+pub add-requires : goal.add-requires
+add-requires c = let few = c.requires.few in omega (arith, few, ap (λ v. length v.taken) c.self.view_is)
 
 pub returns-clause-done : goal.returns-clause-done
 returns-clause-done c =
     let entries : c.entries.result.now ≡ c.args.self.now.entries = c.entries.ensures ∙ ap (λ v. v.entries) c.self.view_is in
-    let taken : c.deref.result.now ≡ c.args.self.now.taken = c.deref.ensures.value ∙ ap (λ v. v.taken) c.self.view_is in
+    let taken : c.past.result.now ≡ c.args.self.now.taken = c.past.ensures ∙ ap (λ v. v.taken) c.self.view_is in
     let given = ap₂ (λ l k. outcome_to_take l k c.args.thread) (sym entries) (sym taken) ∙ (sym c.take.ensures.given ∙ c.in_ok-outcome.was) in
     let last = ap (λ l. last_call l c.args.thread) (sym entries) ∙ c.in_ok-outcome.ensures.call in
     let done = took c.args.self.now.entries c.args.self.now.taken c.args.thread c.in_ok-outcome.outcome (subst Legal (ap (λ v. v.entries) c.self.view_is) c.self.invariant.legal) given last in
@@ -27,7 +19,7 @@ returns-clause-done c =
 pub returns-clause-fresh : goal.returns-clause-fresh
 returns-clause-fresh c =
     let entries : c.entries.result.now ≡ c.args.self.now.entries = c.entries.ensures ∙ ap (λ v. v.entries) c.self.view_is in
-    let taken : c.deref.result.now ≡ c.args.self.now.taken = c.deref.ensures.value ∙ ap (λ v. v.taken) c.self.view_is in
+    let taken : c.past.result.now ≡ c.args.self.now.taken = c.past.ensures ∙ ap (λ v. v.taken) c.self.view_is in
     let given = ap₂ (λ l k. outcome_to_take l k c.args.thread) (sym entries) (sym taken) ∙ (sym c.take.ensures.given ∙ c.in_ok-outcome.was) in
     let last = ap (λ l. last_call l c.args.thread) (sym entries) ∙ c.in_ok-outcome.ensures.call in
     let done = took c.args.self.now.entries c.args.self.now.taken c.args.thread c.in_ok-outcome.outcome (subst Legal (ap (λ v. v.entries) c.self.view_is) c.self.invariant.legal) given last in

@@ -12,7 +12,7 @@ pub take_input-requires-clause-admissible : goal.take_input-requires-clause-admi
 take_input-requires-clause-admissible c = moved_admissible _ _ _ c.in-Some.ensures.some.0 c.in-Some.ensures.some.1
 
 pub invariant_of-self : goal.invariant_of-self
-invariant_of-self c = rests _ _ _ c.self.inside.course c.begin.new.self c.self.invariant c.begin.ensures.entries c.begin.ensures.room c.begin.ensures.taken c.begin.ensures.since c.begin.ensures.places
+invariant_of-self c = rests _ _ _ c.self.inside.course c.begin.new.self c.self.invariant c.begin.ensures.entries c.begin.ensures.room c.begin.ensures.taken c.begin.ensures.since
 
 pub returns-in_default-clause-idle : goal.returns-in_default-clause-idle
 returns-in_default-clause-idle c = λ is. (
@@ -30,5 +30,5 @@ invariant_of-self-2 c =
     let same = c.take_input.ensures.room in
     record {
       kernel = kernel_after _ _ _ c.self.inside.course _ (Moved c.in-Some.number c.in-Some.block) c.self.invariant.kernel (moved_admissible _ _ _ c.in-Some.ensures.some.0 c.in-Some.ensures.some.1) refl (omega arith) (omega arith) c.take_input.ensures.settled c.take_input.ensures.spent;
-      books = books_grown _ _ _ (takes_grows _ _ _ _ c.take_input.ensures.settled) c.self.inside.course.taken _ c.take_input.ensures.taken _ c.self.inside.course.since c.self.inside.course.places _ c.take_input.ensures.since refl c.take_input.ensures.places c.self.invariant.books;
+      books = books_grown _ _ _ (takes_grows _ _ _ _ c.take_input.ensures.settled) c.self.inside.course.taken _ c.take_input.ensures.taken _ c.self.inside.course.since c.take_input.ensures.since c.self.invariant.books;
     }

@@ -7,7 +7,7 @@ use Rattle.ipc_history.specs.declared.entry.Input.TheVariants.{Called}
 use Rattle.ipc_laws.specs.Counting.{pledged, room_owed}
 use Rattle.ipc_core.specs.Room.{is_full, call_need}
 use Rattle.ipc_core.specs.Steps.{with_input}
-use Rattle.ipc_core.proofs.BookLemmas.{books_entered}
+use Rattle.ipc_core.proofs.BookLemmas.{books_grown}
 use Rattle.ipc_core.proofs.KernelLemmas.{kernel_after}
 use Rattle.ipc_core.proofs.NewCalls.{takes_grows}
 use Rattle.ipc_core.proofs.EnteringLemmas.{no_thread, busy, spent, full, test_moved, passes, passes_entered, passes_may_call, called_room, called_within, enters}
@@ -38,11 +38,8 @@ returns-in_default-clause-cause c =
 pub returns-in-Err-clause-cause : goal.returns-in-Err-clause-cause
 returns-in-Err-clause-cause c = inr (passes_entered _ _ _ _ (passes c.args.self.now c.args.thread c.args.call _ _ _ c.calls_made-made.result _ _ _ refl (ap (λ k. k.history) c.self.view_is) (ap (λ k. k.calls_limit) c.self.view_is) c.is_live.ensures c.if-not-is_live.false c.is_busy.ensures c.if-is_busy.false c.calls_made-made.ensures c.if-made-self.false c.call_need-need.ensures c.in-Some.ensures.full), refl)
 
-pub prepare-requires-clause-few : goal.prepare-requires-clause-few
-prepare-requires-clause-few c = let few = c.self.invariant.kernel.few_calls in omega (arith, few, c.if-made-self.false)
-
-pub prepare-requires-clause-enough : goal.prepare-requires-clause-enough
-prepare-requires-clause-enough c = subst (λ l. pledged l + c.call_need-need.result ≤ c.in-Some.room) (sym (ap (λ k. k.history) c.self.view_is)) c.in-Some.ensures.value
+pub prepare-requires : goal.prepare-requires
+prepare-requires c = subst (λ l. pledged l + c.call_need-need.result ≤ c.in-Some.room) (sym (ap (λ k. k.history) c.self.view_is)) c.in-Some.ensures.value
 
 pub take_input-requires-clause-admissible : goal.take_input-requires-clause-admissible
 take_input-requires-clause-admissible c = subst (λ call. IsTrue (is_admissible c.prepare.new.self.entries (Called (c.calls_made-made.result + 1) c.args.thread call))) (sym c.in-Ok.ensures.call) (passes_may_call _ _ _ _ c.prepare.new.self.entries (passes c.args.self.now c.args.thread c.args.call _ _ _ c.calls_made-made.result _ _ _ refl (ap (λ k. k.history) c.self.view_is) (ap (λ k. k.calls_limit) c.self.view_is) c.is_live.ensures c.if-not-is_live.false c.is_busy.ensures c.if-is_busy.false c.calls_made-made.ensures c.if-made-self.false c.call_need-need.ensures c.in-Some.ensures.full) (c.in-Ok.ensures.entries ∙ ap (λ k. k.history) c.self.view_is) (sym c.is_normal-is_normal.ensures.value ∙ c.is_normal-is_normal.ensures.always))
@@ -64,12 +61,9 @@ invariant_of-self c =
     (subst (λ l. length l + room_owed l + call_need c.args.call ≤ c.take_input.new.self.room) same (subst (λ r. length c.prepare.new.self.entries + room_owed c.prepare.new.self.entries + call_need c.args.call ≤ r) (sym c.take_input.ensures.room) fits))
     settled
     (subst (λ call. length c.take_input.new.self.entries + room_owed c.take_input.new.self.entries ≤ length c.self.inside.course.entries + room_owed c.self.inside.course.entries + call_need call) c.in-Ok.ensures.call (subst (λ l. length c.take_input.new.self.entries + room_owed c.take_input.new.self.entries ≤ length l + room_owed l + call_need c.in-Ok.entered) same c.take_input.ensures.spent)) in
-    let place = c.in-Ok.ensures.place in
-    let wider = c.in-Ok.ensures.places in
-    let same_places = c.take_input.ensures.places in
     record {
       kernel = kernel;
-      books = books_entered _ _ (c.calls_made-made.result + 1) c.args.thread c.args.call (takes_grows _ _ _ _ settled) c.self.inside.course.taken _ (c.take_input.ensures.taken ∙ c.in-Ok.ensures.taken) _ c.self.inside.course.since c.self.inside.course.places _ (c.take_input.ensures.since ∙ ap length same) (omega (arith, wider, same_places)) (omega (arith, place, same_places)) c.self.invariant.books;
+      books = books_grown _ _ (Called (c.calls_made-made.result + 1) c.args.thread c.args.call) (takes_grows _ _ _ _ settled) c.self.inside.course.taken _ (c.take_input.ensures.taken ∙ c.in-Ok.ensures.taken) _ c.self.inside.course.since (c.take_input.ensures.since ∙ ap length same) c.self.invariant.books;
     }
 
 pub returns-in-Ok-clause-ok : goal.returns-in-Ok-clause-ok

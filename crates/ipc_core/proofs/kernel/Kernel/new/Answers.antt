@@ -6,5 +6,5 @@ use Rattle.ipc_core.proofs.kernel.Kernel.new.Goals as goal
 pub invariant_of-result : goal.invariant_of-result
 invariant_of-result c = record {
   kernel = kernel_none _ _ _ c.in-Ok.ensures.entries (let least = c.min.ensures in omega arith) (let least = c.min-2.ensures in omega arith);
-  books = books_none _ _ _ _ c.in-Ok.ensures.entries c.in-Ok.ensures.taken c.in-Ok.ensures.since;
+  books = books_none _ _ _ c.in-Ok.ensures.entries c.in-Ok.ensures.taken c.in-Ok.ensures.since;
 }

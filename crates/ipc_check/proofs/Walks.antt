@@ -12,8 +12,9 @@ use Rattle.ipc_slots.specs.declared.slots.Slots.{Slots}
 use Rattle.ipc_check.specs.Faults.{IsFirstFault}
 use Rattle.ipc_check.specs.declared.checker.Verdict.TheVariants.{Yes, No}
 
--- the entries before a place are legal, and the slots are theirs
-pub record IsWalked (H : List Entry) (i : ℕ) (slots : Slots) : Type 0 where
+-- the entries before a place are the past, they are legal, and the slots are theirs
+pub record IsWalked (H : List Entry) (i : ℕ) (past : List Entry) (slots : Slots) : Type 0 where
+  pub walked : past ≡ take i H
   pub legal : Legal (take i H)
   pub stands : Stands (take i H) slots
 
@@ -22,18 +23,29 @@ unfolding Legal
 nothing_legal [] e rest whole = absurd (cc)
 nothing_legal (f ∷ P) e rest whole = absurd (cc)
 
-pub walk_start : (H : List Entry) (slots : Slots) → Stands [] slots → IsWalked H 0 slots
-walk_start H slots stands = record { legal = nothing_legal; stands = stands }
+pub walk_start : (H past : List Entry) (slots : Slots) → past ≡ [] → Stands [] slots → IsWalked H 0 past slots
+walk_start H past slots none stands = record { walked = none; legal = nothing_legal; stands = stands }
 
-pub walk_on : (H : List Entry) (i : ℕ) (e : Entry) (slots : Slots) → i < length H → e ≡ get_or H i e → Legal (take i H) → Follows (take i H) e → Stands (take i H ++ e ∷ []) slots → IsWalked H (i + 1) slots
-walk_on H i e slots within at legal follows stands =
-    let more : take (i + 1) H ≡ take i H ++ e ∷ [] = take_more H i e within ∙ ap (λ x. take i H ++ x ∷ []) (sym at) in
-    record { legal = rw more (legal_push (take i H) e legal follows); stands = rw more stands }
+module _ (H before : List Entry) (i : ℕ) (e : Entry) (within : i < length H) (at : e ≡ get_or H i e) (same : before ≡ take i H) where
+  more : take (i + 1) H ≡ before ++ e ∷ []
+  more = take_more H i e within ∙ (ap (λ x. take i H ++ x ∷ []) (sym at) ∙ ap (λ l. l ++ e ∷ []) (sym same))
 
-pub fault_at : (H : List Entry) (i : ℕ) (e : Entry) (expected : Option Output) → i < length H → e ≡ get_or H i e → Legal (take i H) → (Follows (take i H) e → ⊥) → expected ≡ next_output (take i H) → IsFirstFault H i expected
-fault_at H i e expected within at legal refused told =
-    let more : take (i + 1) H ≡ take i H ++ e ∷ [] = take_more H i e within ∙ ap (λ x. take i H ++ x ∷ []) (sym at) in
-    record { within = within; before = legal; fault = λ l. refused (follows_last (take i H) e (rw more at l)); told = told }
+  pub walk_on : (past : List Entry) (slots : Slots) → Legal (take i H) → past ≡ before ++ e ∷ [] → Follows before e
+      → Stands (before ++ e ∷ []) slots → IsWalked H (i + 1) past slots
+  walk_on past slots legal added follows stands = record {
+    walked = added ∙ sym more;
+    legal = rw more (legal_push before e (rw same legal) follows);
+    stands = rw more stands;
+  }
+
+  pub fault_at : (expected : Option Output) → Legal (take i H) → (Follows before e → ⊥) → expected ≡ next_output before
+      → IsFirstFault H i expected
+  fault_at expected legal refused told = record {
+    within = within;
+    before = legal;
+    fault = λ l. refused (follows_last before e (rw more at l));
+    told = told ∙ ap next_output same;
+  }
 
 -- so the whole is not legal either
 pub fault_whole : (H : List Entry) (i : ℕ) (expected : Option Output) → IsFirstFault H i expected → Legal H → ⊥
@@ -42,5 +54,5 @@ fault_whole H i expected fault legal = fault.fault (legal_front (take (i + 1) H)
 pub no_is_not_yes : (i : ℕ) (expected : Option Output) → No i expected ≡ Yes → ⊥
 no_is_not_yes i expected e = absurd (cc)
 
-pub walked_whole : (H : List Entry) (i : ℕ) (slots : Slots) → length H ≤ i → IsWalked H i slots → Legal H
-walked_whole H i slots all walked = rw (take_all i H all) at walked.legal
+pub walked_whole : (H past : List Entry) (i : ℕ) (slots : Slots) → length H ≤ i → IsWalked H i past slots → Legal H
+walked_whole H past i slots all walked = rw (take_all i H all) at walked.legal

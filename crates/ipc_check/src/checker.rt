@@ -3,7 +3,8 @@ ghost use Rattle.ipc_history.specs.Legal.{Legal};
 ghost use Rattle.ipc_check.specs.Faults.{IsFirstFault, IfNo};
 ghost use Rattle.ipc_check.specs.declared.checker.Verdict.TheVariants.{Yes};
 
-use ipc_history::{Entry, Output};
+use ipc_history::{Entries, Entry, Output};
+use ipc_past::Past;
 use ipc_slots::Slots;
 
 /// Whether entries are a legal history.
@@ -28,16 +29,18 @@ pub fn check(entries: &[Entry]) -> Verdict
     ensures no { IfNo result (IsFirstFault entries.now) }
 {
     let mut slots = Slots::new();
+    let mut past = Past::new();
     for index in 0..entries.len() {
-        let before = &entries[..index];
+        let before = Entries::of(&past, &entries[..index]);
         let entry = &entries[index];
-        if !slots.follows(before, entry) {
+        if !slots.follows(&before, entry) {
             return Verdict::No {
                 index,
-                expected: slots.next_output(before),
+                expected: slots.next_output(&before),
             };
         }
-        let _ = slots.note(before, entry);
+        let _ = slots.note(&before, entry);
+        past.add(entry);
     }
     Verdict::Yes
 }

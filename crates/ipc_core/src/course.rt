@@ -29,7 +29,7 @@ ghost use Rattle.ipc_core.specs.ExchangeRegisters.{exreg_answer, phases_of};
 use crate::answers::ExregAnswer;
 use crate::taken::Taken;
 use ipc_desks::{Desks, Finished, Prepared};
-use ipc_history::{Call, EnteredCall, Entry, History, Input, Outcome, Output};
+use ipc_history::{Call, EnteredCall, Entries, Entry, History, Input, Outcome, Output};
 use ipc_past::Past;
 use ipc_slots::Slots;
 use ipc_waits::Waiting;
@@ -115,7 +115,7 @@ impl Course {
         ensures { result ≡ made_by self.now.entries thread }
     {
         self.desks
-            .made(self.history.entries(), self.taken.past(), thread)
+            .made(&self.history.whole(), self.taken.past(), thread)
     }
 
     /// How many outcomes of calls of a live thread were taken.
@@ -124,7 +124,7 @@ impl Course {
         ensures { result ≡ taken_by self.now.entries self.now.taken thread }
     {
         self.desks
-            .taken(self.history.entries(), self.taken.past(), thread)
+            .taken(&self.history.whole(), self.taken.past(), thread)
     }
 
     /// Whether the outcome of a live thread's last call was not yet taken.
@@ -133,30 +133,28 @@ impl Course {
         ensures { result ≡ is_busy self.now.entries self.now.taken thread }
     {
         self.desks
-            .is_busy(self.history.entries(), self.taken.past(), thread)
+            .is_busy(&self.history.whole(), self.taken.past(), thread)
     }
 
     /// How many threads are live.
     pub(crate) fn live(&self) -> u64
         ensures { result ≡ live_threads self.now.entries }
     {
-        self.waiting.slots().live_threads(self.history.entries())
+        self.waiting.slots().live_threads(&self.history.whole())
     }
 
     /// Whether a thread is live.
     pub(crate) fn is_live(&self, thread: ThreadId) -> bool
         ensures { result ≡ is_live self.now.entries thread }
     {
-        self.waiting.slots().is_live(self.history.entries(), thread)
+        self.waiting.slots().is_live(&self.history.whole(), thread)
     }
 
     /// Whether a thread of a number is live.
     pub(crate) fn is_taken(&self, number: u32) -> bool
         ensures { result ≡ is_taken self.now.entries number }
     {
-        self.waiting
-            .slots()
-            .is_taken(self.history.entries(), number)
+        self.waiting.slots().is_taken(&self.history.whole(), number)
     }
 
     /// The version that the next thread of a number gets; None where the number is worn out.
@@ -165,7 +163,7 @@ impl Course {
     {
         self.waiting
             .slots()
-            .next_version_of(self.history.entries(), number)
+            .next_version_of(&self.history.whole(), number)
     }
 
     /// The open call of a thread.
@@ -174,28 +172,28 @@ impl Course {
     {
         self.waiting
             .slots()
-            .open_call_of(self.history.entries(), thread)
+            .open_call_of(&self.history.whole(), thread)
     }
 
     /// How many calls are open.
     pub(crate) fn open_calls(&self) -> usize
         ensures { result ≡ open_calls self.now.entries }
     {
-        self.waiting.slots().open_calls(self.history.entries())
+        self.waiting.slots().open_calls(&self.history.whole())
     }
 
     /// How many calls were made.
     pub(crate) fn calls_made(&self) -> u64
         ensures { result ≡ calls_made self.now.entries }
     {
-        self.waiting.slots().calls_made(self.history.entries())
+        self.waiting.slots().calls_made(&self.history.whole())
     }
 
     /// The next output.
     fn next_output(&self) -> Option<Output>
         ensures { result ≡ next_output self.now.entries }
     {
-        self.waiting.next_output(self.history.entries())
+        self.waiting.next_output(&self.history.whole())
     }
 
     /// What is pledged for the open calls: some entries for each, and more for each block of its strings.
@@ -204,7 +202,7 @@ impl Course {
     {
         self.waiting
             .slots()
-            .pledged_for_calls(self.history.entries())
+            .pledged_for_calls(&self.history.whole())
     }
 
     /// Whether a waiting phase is due at a moment. Looks at no thread.
@@ -212,7 +210,7 @@ impl Course {
         requires { moment < last_moment + 1 }
         ensures { result ≡ list_any (is_due_at self.now.entries moment) (numbers self.now.entries) }
     {
-        self.waiting.is_any_due_at(self.history.entries(), moment)
+        self.waiting.is_any_due_at(&self.history.whole(), moment)
     }
 
     /// The least call in transfer, and how many of its bytes are copied next.
@@ -221,7 +219,7 @@ impl Course {
         ensures some { IfSome result (λ next. (next_moving self.now.entries ≡ Some next.0)
             × (next.1 ≡ block_of self.now.entries next.0)) }
     {
-        self.waiting.slots().next_block(self.history.entries())
+        self.waiting.slots().next_block(&self.history.whole())
     }
 
     /// What ExchangeRegisters answers to a live thread about a target.
@@ -230,8 +228,9 @@ impl Course {
         requires { IsTrue (is_live self.now.entries thread) }
         ensures { result ≡ exreg_answer self.now.entries thread target }
     {
-        let entries = self.history.entries();
-        if self.waiting.slots().is_live_beside(entries, target, thread) {
+        let entries = self.history.whole();
+        let slots = self.waiting.slots();
+        if slots.is_live_beside(&entries, target, thread) {
             ExregAnswer {
                 result: target,
                 control: self.phases_of(target),
@@ -251,13 +250,13 @@ impl Course {
     fn phases_of(&self, thread: ThreadId) -> Control
         ensures { result ≡ phases_of self.now.entries thread }
     {
-        let entries = self.history.entries();
-        let receive = if self.waiting.slots().is_in_receive_phase(entries, thread) {
+        let entries = self.history.whole();
+        let receive = if self.waiting.slots().is_in_receive_phase(&entries, thread) {
             2
         } else {
             0
         };
-        let send = if self.waiting.slots().is_in_send_phase(entries, thread) {
+        let send = if self.waiting.slots().is_in_send_phase(&entries, thread) {
             4
         } else {
             0
@@ -353,7 +352,7 @@ impl Course {
     {
         let outcome = self
             .desks
-            .take(self.history.entries(), self.taken.past(), thread)?;
+            .take(&self.history.whole(), self.taken.past(), thread)?;
         self.taken.add(outcome.call);
         Some(outcome)
     }
@@ -368,16 +367,16 @@ impl Course {
         ensures room { self.new.room ≡ self.old.room }
         ensures books { SameBooks self.old self.new }
     {
-        let entries = self.history.entries();
+        let entries = self.history.whole();
         let ended = note(
             &mut self.desks,
-            entries,
+            &entries,
             self.taken.past(),
             self.waiting.slots(),
             &entry,
             copies,
         );
-        self.waiting.note(entries, &entry);
+        self.waiting.note(&entries, &entry);
         add(&mut self.finished, ended.first);
         add(&mut self.finished, ended.second);
         self.history.push(entry);
@@ -406,7 +405,7 @@ impl Course {
         ensures room { self.new.room ≡ self.old.room }
         ensures books { SameBooks self.old self.new }
     {
-        if self.waiting.slots().now(self.history.entries()) < moment {
+        if self.waiting.slots().now(&self.history.whole()) < moment {
             self.append(Entry::Given(Input::At(moment)), None);
         }
     }
@@ -479,7 +478,7 @@ impl Course {
 /// Notes an entry at the desks, and says whose call it ended.
 fn note(
     desks: &mut Desks,
-    entries: &[Entry],
+    entries: &Entries,
     taken: &Past<u64>,
     slots: &Slots,
     entry: &Entry,

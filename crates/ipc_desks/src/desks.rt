@@ -24,7 +24,7 @@ ghost use Rattle.ipc_desks.specs.Messages.{prepared};
 use crate::desk::{Desk, delivered, failure, nothing};
 use crate::finished::Finished;
 use crate::message::{Message, Prepared};
-use ipc_history::{Call, Entry, Input, Outcome, Output};
+use ipc_history::{Call, Entries, Entry, Input, Outcome, Output};
 use ipc_items::BufferList;
 use ipc_past::Past;
 use ipc_slots::{Slots, Standing};
@@ -136,7 +136,7 @@ impl Desks {
 // What is read of a live thread's desk.
 impl Desks {
     /// The place of a live thread's desk.
-    fn place_of_thread(&self, entries: &[Entry], thread: ThreadId) -> usize
+    fn place_of_thread(&self, entries: &Entries, thread: ThreadId) -> usize
         requires legal { Legal entries.now }
         requires live { IsTrue (is_live entries.now thread) }
         ensures place { result ≡ number_of thread }
@@ -148,7 +148,7 @@ impl Desks {
     }
 
     /// Whether a live thread is busy: it made a call whose outcome was not yet taken.
-    pub fn is_busy(&self, entries: &[Entry], taken: &Past<u64>, thread: ThreadId) -> bool
+    pub fn is_busy(&self, entries: &Entries, taken: &Past<u64>, thread: ThreadId) -> bool
         requires legal { Legal entries.now }
         requires keeps { Keeps entries.now taken.now self.now }
         requires live { IsTrue (is_live entries.now thread) }
@@ -160,7 +160,7 @@ impl Desks {
     }
 
     /// How many calls a live thread made.
-    pub fn made(&self, entries: &[Entry], taken: &Past<u64>, thread: ThreadId) -> u64
+    pub fn made(&self, entries: &Entries, taken: &Past<u64>, thread: ThreadId) -> u64
         requires legal { Legal entries.now }
         requires keeps { Keeps entries.now taken.now self.now }
         requires live { IsTrue (is_live entries.now thread) }
@@ -172,7 +172,7 @@ impl Desks {
     }
 
     /// How many outcomes of calls of a live thread were taken.
-    pub fn taken(&self, entries: &[Entry], taken: &Past<u64>, thread: ThreadId) -> u64
+    pub fn taken(&self, entries: &Entries, taken: &Past<u64>, thread: ThreadId) -> u64
         requires legal { Legal entries.now }
         requires keeps { Keeps entries.now taken.now self.now }
         requires live { IsTrue (is_live entries.now thread) }
@@ -187,7 +187,7 @@ impl Desks {
     /// memory. Where there is none nothing changes.
     pub fn take(
         &mut self,
-        entries: &[Entry],
+        entries: &Entries,
         taken: &Past<u64>,
         thread: ThreadId,
     ) -> Option<Outcome>
@@ -213,7 +213,7 @@ impl Desks {
     /// Takes note of the failure of a call.
     fn note_failed(
         &mut self,
-        entries: &[Entry],
+        entries: &Entries,
         taken: &Past<u64>,
         slots: &Slots,
         number: u64,
@@ -240,7 +240,7 @@ impl Desks {
     /// Keeps the failures of a sending and a receiving call, and says whose they are.
     fn fail_both(
         &mut self,
-        entries: &[Entry],
+        entries: &Entries,
         taken: &Past<u64>,
         slots: &Slots,
         sending: u64,
@@ -277,7 +277,7 @@ impl Desks {
     /// Takes note of an overflow.
     fn note_overflowed(
         &mut self,
-        entries: &[Entry],
+        entries: &Entries,
         taken: &Past<u64>,
         slots: &Slots,
         sending: u64,
@@ -298,7 +298,7 @@ impl Desks {
     /// Takes note of an abort.
     fn note_aborted(
         &mut self,
-        entries: &[Entry],
+        entries: &Entries,
         taken: &Past<u64>,
         slots: &Slots,
         sending: u64,
@@ -325,7 +325,7 @@ impl Desks {
     /// Moves the message of a sending call and the buffer strings of a receiving call into the outcome of the receiving one.
     fn hand_over(
         &mut self,
-        entries: &[Entry],
+        entries: &Entries,
         taken: &Past<u64>,
         receiving: u64,
         call: &Standing,
@@ -355,7 +355,7 @@ impl Desks {
     /// Takes note of a transfer that ended well.
     fn note_ended(
         &mut self,
-        entries: &[Entry],
+        entries: &Entries,
         taken: &Past<u64>,
         slots: &Slots,
         sending: u64,
@@ -391,7 +391,7 @@ impl Desks {
     /// Takes note of an output.
     fn note_output(
         &mut self,
-        entries: &[Entry],
+        entries: &Entries,
         taken: &Past<u64>,
         slots: &Slots,
         output: &Output,
@@ -421,7 +421,7 @@ impl Desks {
     }
 
     /// Takes note of a break: nothing is kept for a thread that ended.
-    fn note_broke(&mut self, entries: &[Entry], taken: &Past<u64>, thread: ThreadId)
+    fn note_broke(&mut self, entries: &Entries, taken: &Past<u64>, thread: ThreadId)
         requires legal { Legal entries.now }
         requires follows { Follows entries.now (Given (Broke thread)) }
         requires keeps { Keeps entries.now taken.now self.old }
@@ -434,7 +434,7 @@ impl Desks {
     }
 
     /// Takes note of an input, any but a call.
-    fn note_input(&mut self, entries: &[Entry], taken: &Past<u64>, input: &Input) -> Finished
+    fn note_input(&mut self, entries: &Entries, taken: &Past<u64>, input: &Input) -> Finished
         requires legal { Legal entries.now }
         requires follows { Follows entries.now (Given input.now) }
         requires keeps { Keeps entries.now taken.now self.old }
@@ -452,7 +452,7 @@ impl Desks {
     /// Takes note of the next entry of a legal history, any but a call, and says whose call it ended. Takes no memory.
     pub fn note(
         &mut self,
-        entries: &[Entry],
+        entries: &Entries,
         taken: &Past<u64>,
         slots: &Slots,
         entry: &Entry,
@@ -475,7 +475,7 @@ impl Desks {
     /// memory.
     pub fn note_called(
         &mut self,
-        entries: &[Entry],
+        entries: &Entries,
         taken: &Past<u64>,
         number: u64,
         caller: ThreadId,
@@ -504,7 +504,7 @@ fn is_over_at_once(call: &Call) -> bool
 }
 
 /// What the slot at the place of an open call's caller says of the call.
-fn standing(entries: &[Entry], slots: &Slots, number: u64, place: usize) -> Standing
+fn standing(entries: &Entries, slots: &Slots, number: u64, place: usize) -> Standing
     requires legal { Legal entries.now }
     requires stands { Stands entries.now slots.now }
     requires open { IsFalse (is_over entries.now number) }
@@ -512,7 +512,8 @@ fn standing(entries: &[Entry], slots: &Slots, number: u64, place: usize) -> Stan
     requires place { place ≡ number_of (caller_of entries.now number) }
     ensures { result ≡ standing_of entries.now number }
 {
-    let _ = (entries.len(), number);
+    let _ = entries;
+    let _ = number;
     let Some(call) = slots.call_at(place) else {
         unreachable!()
     };

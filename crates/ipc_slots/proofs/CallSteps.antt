@@ -27,6 +27,8 @@ use Rattle.ipc_laws.proofs.Settling.{legal_push}
 use Rattle.ipc_laws.proofs.Tests.{not_both}
 use Rattle.ipc_laws.proofs.ThreadChanges.{live_threads_push, has_broken_push, is_live_push}
 use Rattle.ipc_laws.proofs.WordLemmas.{first_some_push, option_or_none}
+use Rattle.ipc_slots.specs.declared.last.Last.TheVariants.{Nothing}
+use Rattle.ipc_slots.proofs.LastEntries.{ends_with}
 use Rattle.ipc_slots.proofs.LiveSlots.{live_calling}
 use Rattle.ipc_slots.proofs.Silent.{Before, unnamed_front}
 use Rattle.ipc_slots.specs.Standings.{standing_of, since_of, phase_of, entered, entered_standing}
@@ -209,7 +211,7 @@ module _ (P : List Entry) (n t : ℕ) (call : CallParts) (legal : Legal P) (foll
   unfolding Follows
   numbered = (entered_free P n t call follows.1).1
 
-  pub noted_called : (slots : Slots) → Stands P slots → number_of t < 256 → Stands Q (record slots { table = slice_set slots.table (number_of t) (calling (entered P n t call) (slot_at slots.table (number_of t))); calls_made = n })
+  pub noted_called : (slots : Slots) → Stands P slots → number_of t < 256 → Stands Q (record slots { table = slice_set slots.table (number_of t) (calling (entered P n t call) (slot_at slots.table (number_of t))); calls_made = n; last = Nothing })
   noted_called slots stands within = record {
     size = length-set slots.table (number_of t) _ ∙ stands.size;
     moment = stands.moment ∙ sym ((changes P e).moment);
@@ -218,4 +220,5 @@ module _ (P : List Entry) (n t : ℕ) (call : CallParts) (legal : Legal P) (foll
     top = stands.top;
     above = λ k h. last_kept P e k refl ∙ stands.above k h;
     table = λ k. elim (cases_eq k (number_of t)) [ inl is ↦ rw is (get_or-set_same slots.table (number_of t) (calling (entered P n t call) (slot_at slots.table (number_of t))) blank (rw stands.size within) ∙ (ap (calling (entered P n t call)) (stands.table (number_of t)) ∙ sym slot_called)) | inr p ↦ get_or-set_other slots.table (number_of t) k (calling (entered P n t call) (slot_at slots.table (number_of t))) blank p ∙ (stands.table k ∙ sym (slot_beside k (λ g. p (sym g)))) ];
+    last = ends_with P e;
   }

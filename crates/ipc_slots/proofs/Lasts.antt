@@ -1,6 +1,6 @@
 -- What the last entry of a history says, and what it makes come.
 use Rattle.std.proofs.lemmas.Option.{none-some, same_Some}
-use Rattle.std.proofs.Common.{◌≡◌, refl, sym, ap, ◌∙◌, suc, ℕ, ◌-◌, ◌==◌, ◌&&◌, ◌||◌, eq-eqb, if◌then◌else◌, Bool, true, false, List, [], ◌∷◌, ◌++◌, length, Option, Some, None, option_map, option_and_then, slice_get, arith}
+use Rattle.std.proofs.Common.{◌≡◌, refl, sym, ap, ◌∙◌, subst, ℕ, ◌==◌, ◌&&◌, ◌||◌, eq-eqb, if◌then◌else◌, Bool, true, false, List, [], ◌∷◌, ◌++◌, Option, Some, None, option_map, option_and_then, arith}
 use Rattle.std.specs.Option.{option_or}
 use Rattle.ipc_history.specs.Words.{last}
 use Rattle.ipc_history.specs.Calls.{caller_of, to_of}
@@ -19,6 +19,10 @@ use Rattle.ipc_laws.proofs.Histories.{follows_last, named_open}
 use Rattle.ipc_laws.proofs.OneOpen.{free_parts}
 use Rattle.ipc_laws.proofs.Tests.{left}
 use Rattle.ipc_laws.proofs.ThreadChanges.{is_live_push}
+use Rattle.ipc_laws.proofs.WordLemmas.{option_or_none}
+use Rattle.ipc_slots.specs.Last.{IsLast}
+use Rattle.ipc_slots.specs.Outputs.{last_output}
+use Rattle.ipc_slots.specs.declared.last.Last.{Last}
 use Rattle.ipc_slots.specs.Steps.{holds, standing_in}
 use Rattle.ipc_slots.specs.Slots.{Stands, slot_at}
 use Rattle.ipc_slots.specs.Rules.{IsStanding, turn_by, turn_of, turned_by}
@@ -36,11 +40,6 @@ last_kept x y ys = go (last ys)
     go : (o : Option _) → option_or (option_or o (Some y)) (Some x) ≡ option_or o (Some y)
     go None = refl
     go (Some z) = refl
-
-pub last_is_got : {X : Type 0} (xs : List X) → slice_get xs (length xs - 1) ≡ last xs
-last_is_got [] = refl
-last_is_got (x ∷ []) = refl
-last_is_got (x ∷ y ∷ ys) = let places : length (x ∷ y ∷ ys) - 1 ≡ suc (length (y ∷ ys) - 1) = omega arith in rw places (last_is_got (y ∷ ys) ∙ sym (last_kept x y ys))
 
 -- what stands before the last
 pub front_of : (P : List Entry) (e : Entry) → last P ≡ Some e → (F : List Entry) × (P ≡ F ++ e ∷ [])
@@ -127,3 +126,16 @@ slot_call P slots stands k n h s e =
 
 pub slot_full : (P : List Entry) (slots : Slots) (k n : ℕ) → holds (slot_at slots.table k) n ≡ true → standing_in (slot_at slots.table k) ≡ None → ⊥
 slot_full P slots k n h e = let x = held (slot_at slots.table k) n h in none-some x.0 (sym e ∙ x.1)
+
+-- what comes of the last entry, by what the slots keep of it
+pub last_at : (P : List Entry) (slots : Slots) → Stands P slots → (l : Last) → slots.last ≡ l → IsLast P l
+last_at P slots stands l is = subst (IsLast P) is stands.last
+
+pub exreg_told : (P : List Entry) (thread target control : ℕ) → last P ≡ Some (Given (Exreg thread target control))
+    → last_output P ≡ stop_after P (Given (Exreg thread target control))
+unfolding turn_after
+exreg_told P thread target control h = rw h (option_or_none (stop_after P (Given (Exreg thread target control))))
+
+pub began_told : (P : List Entry) (n m : ℕ) → last P ≡ Some (Written (Began n m)) → last_output P ≡ turn_after P (Written (Began n m))
+unfolding stop_after
+began_told P n m h = rw h refl

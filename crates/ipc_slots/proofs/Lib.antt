@@ -8,6 +8,7 @@ pub mod Tables
 pub mod SlotTables
 pub mod LiveSlots
 pub mod Starting
+pub mod LastEntries
 pub mod Recents
 pub mod Holders
 pub mod OutputSteps
@@ -22,7 +23,6 @@ pub mod Betters
 pub mod MovedSteps
 pub mod Spaces
 pub mod Meets
-pub mod Placed
 pub mod Stops
 pub mod Lasts
 pub mod Answering

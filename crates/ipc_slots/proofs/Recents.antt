@@ -13,4 +13,5 @@ looks P slots place stands = record {
   top = stands.top;
   above = stands.above;
   table = stands.table;
+  last = stands.last;
 }

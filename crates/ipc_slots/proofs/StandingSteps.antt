@@ -8,7 +8,7 @@ use Rattle.ipc_history.specs.Threads.{now}
 use Rattle.ipc_history.specs.Phases.{is_over, moved_bytes, open_call}
 use Rattle.ipc_history.specs.Legal.{Legal, Follows}
 use Rattle.ipc_history.specs.declared.entry.Entry.{Entry}
-use Rattle.ipc_laws.proofs.Befores.{before_call_kept, shown_kept}
+use Rattle.ipc_laws.proofs.Befores.{shown_kept}
 use Rattle.ipc_laws.proofs.CallOrder.{is_open_call}
 use Rattle.ipc_laws.proofs.Changing.{changes}
 use Rattle.ipc_laws.proofs.Growth.{call_at_kept, caller_of_kept, from_of_kept, open_is_called, size_kept, to_of_kept, was_open}
@@ -29,7 +29,7 @@ module _ (P : List Entry) (e : Entry) (legal : Legal P) (follows : Follows P e) 
   unfolding standing_of send_period_of receive_period_of
   standing_step caller moved from n o =
       let c = open_is_called P n o in
-      rw (before_call_kept P (e ∷ []) n c, caller_of_kept P (e ∷ []) n c, to_of_kept P (e ∷ []) n c, from_of_kept P (e ∷ []) n c, (changes P e).wanted n c, shown_kept P (e ∷ []) n c, since_after P e legal follows n o, call_at_kept P (e ∷ []) n c, size_kept P (e ∷ []) n c, (changes P e).bytes n, phase_after P e legal follows n o caller moved (from n)) refl
+      rw (caller_of_kept P (e ∷ []) n c, to_of_kept P (e ∷ []) n c, from_of_kept P (e ∷ []) n c, (changes P e).wanted n c, shown_kept P (e ∷ []) n c, since_after P e legal follows n o, call_at_kept P (e ∷ []) n c, size_kept P (e ∷ []) n c, (changes P e).bytes n, phase_after P e legal follows n o caller moved (from n)) refl
 
 -- The open call of a thread
 

@@ -5,7 +5,7 @@ ghost use Rattle.ipc_history.specs.Legal.{Legal, is_free, may_open, may_move, is
 ghost use Rattle.ipc_slots.specs.Slots.{Stands};
 
 use crate::slots::Slots;
-use ipc_history::{Entry, Input};
+use ipc_history::{Entries, Entry, Input};
 use ipc_words::limits::{LAST_MOMENT, MAX_SPACE, MAX_THREAD_NUMBER};
 use ipc_words::{MaskedControl, ThreadId};
 
@@ -21,7 +21,7 @@ fn is_masked(control: MaskedControl) -> bool
 impl Slots {
     /// Whether a thread is live and has no open call.
     #[tactic(auto, unfolding(ipc_history::specs::Legal::is_free))]
-    pub fn is_free(&self, entries: &[Entry], thread: ThreadId) -> bool
+    pub fn is_free(&self, entries: &Entries, thread: ThreadId) -> bool
         requires legal { Legal entries.now }
         requires stands { Stands entries.now self.now }
         ensures { result ≡ is_free entries.now thread }
@@ -32,7 +32,7 @@ impl Slots {
     /// Whether a thread may be opened in a space: a number of 1 to [`MAX_THREAD_NUMBER`] that is not
     /// taken, with its next version, in a space of 1 to [`MAX_SPACE`].
     #[tactic(auto, unfolding(ipc_history::specs::Legal::may_open))]
-    pub fn may_open(&self, entries: &[Entry], thread: ThreadId, space: u64) -> bool
+    pub fn may_open(&self, entries: &Entries, thread: ThreadId, space: u64) -> bool
         requires legal { Legal entries.now }
         requires stands { Stands entries.now self.now }
         ensures { result ≡ may_open entries.now thread space }
@@ -48,7 +48,7 @@ impl Slots {
 
     /// Whether so many bytes may be copied for a call: a block or the rest, of the least call in transfer.
     #[tactic(auto, unfolding(ipc_history::specs::Legal::may_move))]
-    pub fn may_move(&self, entries: &[Entry], number: u64, count: u64) -> bool
+    pub fn may_move(&self, entries: &Entries, number: u64, count: u64) -> bool
         requires legal { Legal entries.now }
         requires stands { Stands entries.now self.now }
         ensures { result ≡ may_move entries.now number count }
@@ -58,7 +58,7 @@ impl Slots {
 
     /// Whether an input may follow a quiet history.
     #[tactic(auto, unfolding(ipc_history::specs::Legal::is_admissible))]
-    pub fn is_admissible(&self, entries: &[Entry], input: &Input) -> bool
+    pub fn is_admissible(&self, entries: &Entries, input: &Input) -> bool
         requires legal { Legal entries.now }
         requires stands { Stands entries.now self.now }
         ensures { result ≡ is_admissible entries.now input.now }
@@ -81,7 +81,7 @@ impl Slots {
 
     /// Whether an entry may stand after the entries.
     #[tactic(auto, unfolding(ipc_history::specs::Legal::Follows))]
-    pub fn follows(&self, entries: &[Entry], entry: &Entry) -> bool
+    pub fn follows(&self, entries: &Entries, entry: &Entry) -> bool
         requires legal { Legal entries.now }
         requires stands { Stands entries.now self.now }
         ensures yes { OnTrue result (Follows entries.now entry.now) }

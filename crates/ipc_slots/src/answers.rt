@@ -15,7 +15,7 @@ ghost use Rattle.ipc_slots.specs.Rules.{in_receive_by, in_send_by, first_number}
 use crate::rules::Rule;
 use crate::slot::{Phase, Standing};
 use crate::slots::Slots;
-use ipc_history::{Entry, Output};
+use ipc_history::{Entries, Output};
 use ipc_words::ThreadId;
 use ipc_words::limits::BLOCK_BYTES;
 
@@ -67,7 +67,7 @@ impl Standing {
 
 impl Slots {
     /// The timeout of the least call that is due.
-    fn first_timeout(&self, entries: &[Entry]) -> Option<Output>
+    fn first_timeout(&self, entries: &Entries) -> Option<Output>
         requires legal { Legal entries.now }
         requires stands { Stands entries.now self.now }
         ensures { result ≡ least_of timeout_of entries.now }
@@ -76,7 +76,7 @@ impl Slots {
     }
 
     /// The output of the open calls: of the rules in their order the first that applies, for the least call.
-    fn waiting_output(&self, entries: &[Entry]) -> Option<Output>
+    fn waiting_output(&self, entries: &Entries) -> Option<Output>
         requires legal { Legal entries.now }
         requires stands { Stands entries.now self.now }
         ensures { result ≡ waiting_output entries.now }
@@ -95,7 +95,7 @@ impl Slots {
 
     /// The next output. Reads of the entries the last one and the two calls that meet.
     #[tactic(auto, unfolding(ipc_history::specs::NextOutput::next_output))]
-    pub fn next_output(&self, entries: &[Entry]) -> Option<Output>
+    pub fn next_output(&self, entries: &Entries) -> Option<Output>
         requires legal { Legal entries.now }
         requires stands { Stands entries.now self.now }
         ensures { result ≡ next_output entries.now }
@@ -107,7 +107,7 @@ impl Slots {
     }
 
     /// The least call in transfer.
-    pub fn next_moving(&self, entries: &[Entry]) -> Option<u64>
+    pub fn next_moving(&self, entries: &Entries) -> Option<u64>
         requires legal { Legal entries.now }
         requires stands { Stands entries.now self.now }
         ensures { result ≡ next_moving entries.now }
@@ -119,7 +119,7 @@ impl Slots {
     }
 
     /// How many of the bytes of a call are copied next, where it is in transfer.
-    pub(crate) fn block_of(&self, entries: &[Entry], number: u64) -> u64
+    pub(crate) fn block_of(&self, entries: &Entries, number: u64) -> u64
         requires legal { Legal entries.now }
         requires stands { Stands entries.now self.now }
         requires moving { next_moving entries.now ≡ Some number }
@@ -133,7 +133,7 @@ impl Slots {
     }
 
     /// The least call in transfer, and how many of its bytes are copied next.
-    pub fn next_block(&self, entries: &[Entry]) -> Option<(u64, u64)>
+    pub fn next_block(&self, entries: &Entries) -> Option<(u64, u64)>
         requires legal { Legal entries.now }
         requires stands { Stands entries.now self.now }
         ensures none { IsNone result ↔ (next_moving entries.now ≡ None) }
@@ -147,7 +147,7 @@ impl Slots {
     }
 
     /// Whether a thread waits to send, or is the sender of a transfer.
-    pub fn is_in_send_phase(&self, entries: &[Entry], thread: ThreadId) -> bool
+    pub fn is_in_send_phase(&self, entries: &Entries, thread: ThreadId) -> bool
         requires legal { Legal entries.now }
         requires stands { Stands entries.now self.now }
         ensures { result ≡ in_send_phase entries.now thread }
@@ -159,7 +159,7 @@ impl Slots {
     }
 
     /// Whether a thread waits to receive, or is the receiver of a transfer.
-    pub fn is_in_receive_phase(&self, entries: &[Entry], thread: ThreadId) -> bool
+    pub fn is_in_receive_phase(&self, entries: &Entries, thread: ThreadId) -> bool
         requires legal { Legal entries.now }
         requires stands { Stands entries.now self.now }
         ensures { result ≡ in_receive_phase entries.now thread }
@@ -171,7 +171,7 @@ impl Slots {
     }
 
     /// The open call of a thread.
-    pub fn open_call_of(&self, entries: &[Entry], thread: ThreadId) -> Option<u64>
+    pub fn open_call_of(&self, entries: &Entries, thread: ThreadId) -> Option<u64>
         requires legal { Legal entries.now }
         requires stands { Stands entries.now self.now }
         ensures { result ≡ open_call entries.now thread }
@@ -183,7 +183,7 @@ impl Slots {
     }
 
     /// The version that the next thread of a number gets; None where the number is worn out.
-    pub fn next_version_of(&self, entries: &[Entry], number: u32) -> Option<u32>
+    pub fn next_version_of(&self, entries: &Entries, number: u32) -> Option<u32>
         requires legal { Legal entries.now }
         requires stands { Stands entries.now self.now }
         ensures { result ≡ next_version entries.now number }
@@ -193,7 +193,7 @@ impl Slots {
     }
 
     /// Whether a thread of the number is live.
-    pub fn is_taken(&self, entries: &[Entry], number: u32) -> bool
+    pub fn is_taken(&self, entries: &Entries, number: u32) -> bool
         requires legal { Legal entries.now }
         requires stands { Stands entries.now self.now }
         ensures { result ≡ is_taken entries.now number }
@@ -203,7 +203,7 @@ impl Slots {
     }
 
     /// How many calls were made.
-    pub fn calls_made(&self, entries: &[Entry]) -> u64
+    pub fn calls_made(&self, entries: &Entries) -> u64
         requires { Stands entries.now self.now }
         ensures { result ≡ calls_made entries.now }
     {
@@ -212,7 +212,7 @@ impl Slots {
     }
 
     /// The moment of the history, in microseconds.
-    pub fn now(&self, entries: &[Entry]) -> u64
+    pub fn now(&self, entries: &Entries) -> u64
         requires { Stands entries.now self.now }
         ensures { result ≡ now entries.now }
     {
@@ -221,7 +221,7 @@ impl Slots {
     }
 
     /// How many threads are live.
-    pub fn live_threads(&self, entries: &[Entry]) -> u64
+    pub fn live_threads(&self, entries: &Entries) -> u64
         requires { Stands entries.now self.now }
         ensures { result ≡ live_threads entries.now }
     {

@@ -8,13 +8,37 @@ ghost use Rattle.ipc_history.specs.declared.entry.Entry.TheVariants.{Given, Writ
 ghost use Rattle.ipc_history.specs.declared.entry.Input.TheVariants.{Exreg};
 ghost use Rattle.ipc_history.specs.declared.entry.Output.TheVariants.{Began};
 ghost use Rattle.ipc_slots.specs.Outputs.{last_output};
+ghost use Rattle.ipc_slots.specs.Last.{last_of};
 ghost use Rattle.ipc_slots.specs.Slots.{Stands};
 ghost use Rattle.ipc_slots.specs.Rules.{IsStanding, IsSmall, stop_by, turn_by, turn_of};
 
 use crate::slot::{Phase, Standing};
 use crate::slots::Slots;
-use ipc_history::{Entry, Input, Output};
+use ipc_history::{Entries, Output};
 use ipc_words::{IpcError, MaskedControl, Phase as FailedPhase, ThreadId};
+
+/// The last entry of a history, where an output may come of it alone.
+#[derive(Clone, Copy)]
+pub(crate) enum Last {
+    /// Nothing comes of it, or there is none.
+    Nothing,
+    /// An ExchangeRegisters: the thread that asks for it, its target, and what is to be stopped.
+    ExchangeRegisters(ThreadId, ThreadId, MaskedControl),
+    /// A transfer began: its sending and its receiving call.
+    Began(u64, u64),
+}
+
+impl Last {
+    /// As the last entry, an output.
+    pub(crate) fn of(output: &Output) -> Last
+        ensures { result ≡ last_of (Written output.now) }
+    {
+        match *output {
+            Output::Began(sending, receiving) => Last::Began(sending, receiving),
+            _ => Last::Nothing,
+        }
+    }
+}
 
 impl Standing {
     /// What ExchangeRegisters stops of it: by S its send phase, by R its receive phase.
@@ -56,7 +80,7 @@ impl Slots {
     /// What S and R stop of an open call.
     fn stop_call(
         &self,
-        entries: &[Entry],
+        entries: &Entries,
         call: &Standing,
         control: MaskedControl,
     ) -> Option<Output>
@@ -74,7 +98,7 @@ impl Slots {
     }
 
     /// What S and R stop of the open call of a thread.
-    fn stop_of(&self, entries: &[Entry], thread: ThreadId, control: MaskedControl) -> Option<Output>
+    fn stop_of(&self, entries: &Entries, thread: ThreadId, control: MaskedControl) -> Option<Output>
         requires legal { Legal entries.now }
         requires stands { Stands entries.now self.now }
         ensures { result ≡ option_and_then (stop entries.now control) (open_call entries.now thread) }
@@ -86,7 +110,7 @@ impl Slots {
     }
 
     /// What comes of the message of an open call that begins to pass, where it is propagated.
-    fn turn_of(&self, entries: &[Entry], call: &Standing) -> Option<Output>
+    fn turn_of(&self, entries: &Entries, call: &Standing) -> Option<Output>
         requires legal { Legal entries.now }
         requires stands { Stands entries.now self.now }
         requires call { IsStanding entries.now call.now }
@@ -102,7 +126,7 @@ impl Slots {
     /// What an ExchangeRegisters stops that is the last entry.
     fn stop_exreg(
         &self,
-        entries: &[Entry],
+        entries: &Entries,
         thread: ThreadId,
         target: ThreadId,
         control: MaskedControl,
@@ -120,7 +144,7 @@ impl Slots {
     }
 
     /// What a Began makes come that is the last entry.
-    fn turn_began(&self, entries: &[Entry], sending: u64, receiving: u64) -> Option<Output>
+    fn turn_began(&self, entries: &Entries, sending: u64, receiving: u64) -> Option<Output>
         requires legal { Legal entries.now }
         requires stands { Stands entries.now self.now }
         requires last { last entries.now ≡ Some (Written (Began sending receiving)) }
@@ -134,49 +158,18 @@ impl Slots {
         self.turn_of(entries, &call)
     }
 
-    /// What the last entry stops.
-    #[tactic(auto, unfolding(ipc_history::specs::NextOutput::stop_after))]
-    fn stop_after(&self, entries: &[Entry], entry: &Entry) -> Option<Output>
-        requires legal { Legal entries.now }
-        requires stands { Stands entries.now self.now }
-        requires last { last entries.now ≡ Some entry.now }
-        ensures { result ≡ stop_after entries.now entry.now }
-    {
-        match entry {
-            Entry::Given(Input::Exreg(thread, target, control)) => {
-                self.stop_exreg(entries, *thread, *target, *control)
-            }
-            _ => None,
-        }
-    }
-
-    /// What the last entry turns.
-    #[tactic(auto, unfolding(ipc_history::specs::NextOutput::turn_after))]
-    fn turn_after(&self, entries: &[Entry], entry: &Entry) -> Option<Output>
-        requires legal { Legal entries.now }
-        requires stands { Stands entries.now self.now }
-        requires last { last entries.now ≡ Some entry.now }
-        ensures { result ≡ turn_after entries.now entry.now }
-    {
-        match entry {
-            Entry::Written(Output::Began(sending, receiving)) => {
-                self.turn_began(entries, *sending, *receiving)
-            }
-            _ => None,
-        }
-    }
-
     /// What the last entry makes come.
-    #[tactic(auto, using(crate::proofs::Lasts::last_is_got))]
-    pub fn after_last(&self, entries: &[Entry]) -> Option<Output>
+    pub fn after_last(&self, entries: &Entries) -> Option<Output>
         requires legal { Legal entries.now }
         requires stands { Stands entries.now self.now }
         ensures { result ≡ last_output entries.now }
     {
-        let entry = entries.last()?;
-        match self.stop_after(entries, entry) {
-            Some(output) => Some(output),
-            None => self.turn_after(entries, entry),
+        match self.last {
+            Last::Nothing => None,
+            Last::ExchangeRegisters(thread, target, control) => {
+                self.stop_exreg(entries, thread, target, control)
+            }
+            Last::Began(sending, receiving) => self.turn_began(entries, sending, receiving),
         }
     }
 }

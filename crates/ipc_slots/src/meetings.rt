@@ -6,38 +6,12 @@ ghost use Rattle.ipc_history.specs.NextOutput.{meeting, meeting_of};
 ghost use Rattle.ipc_history.specs.Legal.{Legal};
 ghost use Rattle.ipc_slots.specs.Slots.{Stands};
 ghost use Rattle.ipc_slots.specs.Standings.{standing_of};
-ghost use Rattle.ipc_slots.specs.Rules.{IsStanding, IsAt, may_meet_by, awaits_by};
+ghost use Rattle.ipc_slots.specs.Rules.{IsStanding, may_meet_by, awaits_by};
 
 use crate::slot::{Phase, Standing};
 use crate::slots::Slots;
-use ipc_history::{Call, Entry, Output};
+use ipc_history::{Call, Entries, Output};
 use ipc_words::ThreadId;
-
-/// The caller and the call that stand at the place of a call.
-fn call_in_place(entries: &[Entry], number: u64, place: usize) -> (ThreadId, &Call)
-    requires { IsAt entries.now number place }
-    ensures { call_at entries.now number ≡ Some (result.0, result.1.now) }
-{
-    match entries[place].call(number) {
-        Some(found) => found,
-        None => unreachable!(),
-    }
-}
-
-/// What comes of the meeting of two open calls.
-#[tactic(auto, unfolding(ipc_history::specs::NextOutput::meeting, ipc_history::specs::Calls::strings_of, ipc_history::specs::Calls::buffers_of))]
-fn meeting(entries: &[Entry], sending: &Standing, receiving: &Standing) -> Output
-    requires sending { IsStanding entries.now sending.now }
-    requires receiving { IsStanding entries.now receiving.now }
-    ensures { result ≡ meeting entries.now sending.now.number receiving.now.number }
-{
-    let (_, sent) = call_in_place(entries, sending.number, sending.place);
-    let (_, received) = call_in_place(entries, receiving.number, receiving.place);
-    match sent.strings().overflow(received.buffers()) {
-        Some(offset) => Output::Overflowed(sending.number, receiving.number, offset),
-        None => Output::Began(sending.number, receiving.number),
-    }
-}
 
 impl Standing {
     /// Whether it waits to send to another thread.
@@ -64,8 +38,33 @@ impl Standing {
 }
 
 impl Slots {
+    /// The caller and the parts of an open call, as they were entered.
+    fn entered_call<'a>(&self, entries: &'a Entries, call: &Standing) -> (ThreadId, &'a Call)
+        requires legal { Legal entries.now }
+        requires call { IsStanding entries.now call.now }
+        ensures { call_at entries.now call.now.number ≡ Some (result.0, result.1.now) }
+    {
+        entries.call(call.number, self.table.hint_of(call.caller))
+    }
+
+    /// What comes of the meeting of two open calls.
+    #[tactic(auto, unfolding(ipc_history::specs::NextOutput::meeting, ipc_history::specs::Calls::strings_of, ipc_history::specs::Calls::buffers_of))]
+    fn meeting(&self, entries: &Entries, sending: &Standing, receiving: &Standing) -> Output
+        requires legal { Legal entries.now }
+        requires sending { IsStanding entries.now sending.now }
+        requires receiving { IsStanding entries.now receiving.now }
+        ensures { result ≡ meeting entries.now sending.now.number receiving.now.number }
+    {
+        let (_, sent) = self.entered_call(entries, sending);
+        let (_, received) = self.entered_call(entries, receiving);
+        match sent.strings().overflow(received.buffers()) {
+            Some(offset) => Output::Overflowed(sending.number, receiving.number, offset),
+            None => Output::Began(sending.number, receiving.number),
+        }
+    }
+
     /// What is kept of the open call of a thread.
-    pub fn call_of(&self, entries: &[Entry], thread: ThreadId) -> Option<Standing>
+    pub fn call_of(&self, entries: &Entries, thread: ThreadId) -> Option<Standing>
         requires legal { Legal entries.now }
         requires stands { Stands entries.now self.now }
         ensures { result ≡ option_map (standing_of entries.now) (open_call entries.now thread) }
@@ -78,7 +77,7 @@ impl Slots {
     }
 
     /// The receiving call that an open call meets.
-    fn met_by(&self, entries: &[Entry], call: &Standing) -> Option<Standing>
+    fn met_by(&self, entries: &Entries, call: &Standing) -> Option<Standing>
         requires legal { Legal entries.now }
         requires stands { Stands entries.now self.now }
         requires call { IsStanding entries.now call.now }
@@ -96,14 +95,14 @@ impl Slots {
     }
 
     /// What comes of an open call that meets a receiving call.
-    pub fn meeting_of(&self, entries: &[Entry], call: &Standing) -> Option<Output>
+    pub fn meeting_of(&self, entries: &Entries, call: &Standing) -> Option<Output>
         requires legal { Legal entries.now }
         requires stands { Stands entries.now self.now }
         requires call { IsStanding entries.now call.now }
         ensures { result ≡ meeting_of entries.now call.now.number }
     {
         match self.met_by(entries, call) {
-            Some(receiving) => Some(meeting(entries, call, &receiving)),
+            Some(receiving) => Some(self.meeting(entries, call, &receiving)),
             None => None,
         }
     }

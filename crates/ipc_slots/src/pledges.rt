@@ -8,7 +8,7 @@ ghost use Rattle.ipc_slots.specs.Pledges.{open_in, pledge_by, pledge_in};
 
 use crate::slot::Standing;
 use crate::slots::Slots;
-use ipc_history::Entry;
+use ipc_history::Entries;
 use ipc_words::ThreadId;
 use ipc_words::limits::{BLOCK_BYTES, PLEDGE_OF_BLOCK, PLEDGE_OF_OPEN_CALL};
 
@@ -49,7 +49,7 @@ impl Slots {
     }
 
     /// How many calls are open.
-    pub fn open_calls(&self, entries: &[Entry]) -> usize
+    pub fn open_calls(&self, entries: &Entries) -> usize
         requires legal { Legal entries.now }
         requires stands { Stands entries.now self.now }
         ensures { result ≡ open_calls entries.now }
@@ -63,7 +63,7 @@ impl Slots {
     }
 
     /// The entries that are pledged for the open calls.
-    pub fn pledged_for_calls(&self, entries: &[Entry]) -> u128
+    pub fn pledged_for_calls(&self, entries: &Entries) -> u128
         requires legal { Legal entries.now }
         requires stands { Stands entries.now self.now }
         ensures { result ≡ sum_by (pledge_of entries.now) (numbers entries.now) }

@@ -16,6 +16,8 @@ pub(crate) struct SlotTable {
     threads: ThreadTable,
     /// The open call of the live thread of each number. Nothing is said where none is live.
     calls: [Option<Standing>; TABLE_SLOTS],
+    /// Where the entry of the open call of each number is looked for first. Nothing is said of it.
+    hints: [usize; TABLE_SLOTS],
 }
 
 impl Model for SlotTable {
@@ -39,6 +41,7 @@ impl SlotTable {
         SlotTable {
             threads: ThreadTable::new(),
             calls: [None; TABLE_SLOTS],
+            hints: [0; TABLE_SLOTS],
         }
     }
 
@@ -102,6 +105,21 @@ impl SlotTable {
         ensures { self.new ≡ slice_set self.old place (calling call (slot_at self.old place)) }
     {
         self.calls[place] = call;
+    }
+
+    /// Where the entry of the open call of a thread is looked for first.
+    pub(crate) fn hint_of(&self, thread: ThreadId) -> usize {
+        let place = thread.number() as usize;
+        self.hints.get(place).copied().unwrap_or(0)
+    }
+
+    /// Has the entry of the open call of a place looked for first at this place among the entries.
+    pub(crate) fn set_hint(&mut self, place: usize, hint: usize)
+        ensures { self.new ≡ self.old }
+    {
+        if let Some(known) = self.hints.get_mut(place) {
+            *known = hint;
+        }
     }
 
     /// Opens a thread, with no open call.

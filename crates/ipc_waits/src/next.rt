@@ -13,11 +13,11 @@ ghost use Rattle.ipc_waits.specs.Waiting.{IsWaiting};
 
 use crate::queue::Wait;
 use crate::waiting::Waiting;
-use ipc_history::{Entry, Output};
+use ipc_history::{Entries, Output};
 use ipc_slots::{Phase, Rule, Slots, Standing, earlier};
 
 /// Of what a rule gives for the calls at some places the first in call order.
-fn best_at(slots: &Slots, entries: &[Entry], rule: &Rule, places: &[usize]) -> Option<(u64, Output)>
+fn best_at(slots: &Slots, entries: &Entries, rule: &Rule, places: &[usize]) -> Option<(u64, Output)>
     requires legal { Legal entries.now }
     requires stands { Stands entries.now slots.now }
     ensures { IsBest (rule_of rule.now entries.now) slots.now.table places.now result }
@@ -30,7 +30,7 @@ fn best_at(slots: &Slots, entries: &[Entry], rule: &Rule, places: &[usize]) -> O
 }
 
 /// An open call that meets its receiver, and what comes of it.
-fn own_meeting(slots: &Slots, entries: &[Entry], call: &Standing) -> Option<(u64, Output)>
+fn own_meeting(slots: &Slots, entries: &Entries, call: &Standing) -> Option<(u64, Output)>
     requires legal { Legal entries.now }
     requires stands { Stands entries.now slots.now }
     requires call { IsStanding entries.now call.now }
@@ -41,7 +41,7 @@ fn own_meeting(slots: &Slots, entries: &[Entry], call: &Standing) -> Option<(u64
 }
 
 /// A waiting send that meets its receiver, and what comes of it.
-fn meeting_by(slots: &Slots, entries: &[Entry], sender: &Wait) -> Option<(u64, Output)>
+fn meeting_by(slots: &Slots, entries: &Entries, sender: &Wait) -> Option<(u64, Output)>
     requires legal { Legal entries.now }
     requires stands { Stands entries.now slots.now }
     requires open { IsOpenAt entries.now sender.now }
@@ -52,7 +52,7 @@ fn meeting_by(slots: &Slots, entries: &[Entry], sender: &Wait) -> Option<(u64, O
 }
 
 /// The first of some waiting sends that meets its receiver, and what comes of it.
-fn first_meeting(slots: &Slots, entries: &[Entry], senders: &[Wait]) -> Option<(u64, Output)>
+fn first_meeting(slots: &Slots, entries: &Entries, senders: &[Wait]) -> Option<(u64, Output)>
     requires legal { Legal entries.now }
     requires stands { Stands entries.now slots.now }
     requires open { All (IsOpenAt entries.now) senders.now }
@@ -69,7 +69,7 @@ fn first_meeting(slots: &Slots, entries: &[Entry], senders: &[Wait]) -> Option<(
 
 impl Waiting {
     /// What a rule gives for the least call, where it gives something at the candidates alone.
-    fn least(&self, entries: &[Entry], rule: &Rule) -> Option<Output>
+    fn least(&self, entries: &Entries, rule: &Rule) -> Option<Output>
         requires legal { Legal entries.now }
         requires waiting { IsWaiting entries.now self.now }
         requires asks { AsksOnly entries.now self.now.candidates (rule_of rule.now entries.now) }
@@ -80,7 +80,7 @@ impl Waiting {
     }
 
     /// The meeting under an open call: where it receives, that of the first of the waiting sends to its caller which it accepts.
-    fn meeting_under(&self, entries: &[Entry], call: &Standing) -> Option<(u64, Output)>
+    fn meeting_under(&self, entries: &Entries, call: &Standing) -> Option<(u64, Output)>
         requires legal { Legal entries.now }
         requires waiting { IsWaiting entries.now self.now }
         requires call { IsStanding entries.now call.now }
@@ -98,7 +98,7 @@ impl Waiting {
     /// Of the best so far and the meeting under the call at a place the first in call order.
     fn better_meeting(
         &self,
-        entries: &[Entry],
+        entries: &Entries,
         place: usize,
         best: Option<(u64, Output)>,
     ) -> Option<(u64, Output)>
@@ -116,7 +116,7 @@ impl Waiting {
     }
 
     /// Of the meetings under the calls at some places the first in call order.
-    fn best_meeting(&self, entries: &[Entry], places: &[usize]) -> Option<(u64, Output)>
+    fn best_meeting(&self, entries: &Entries, places: &[usize]) -> Option<(u64, Output)>
         requires legal { Legal entries.now }
         requires waiting { IsWaiting entries.now self.now }
         ensures { IsLeastMeeting entries.now (slots_at self.now.slots.table places.now) (length places.now) result }
@@ -129,7 +129,7 @@ impl Waiting {
     }
 
     /// The meeting of the least sending call.
-    fn least_meeting(&self, entries: &[Entry]) -> Option<Output>
+    fn least_meeting(&self, entries: &Entries) -> Option<Output>
         requires legal { Legal entries.now }
         requires waiting { IsWaiting entries.now self.now }
         ensures { result ≡ first_some (meeting_of entries.now) (numbers entries.now) }
@@ -139,7 +139,7 @@ impl Waiting {
     }
 
     /// The timeout of the least call that is due.
-    fn first_timeout(&self, entries: &[Entry]) -> Option<Output>
+    fn first_timeout(&self, entries: &Entries) -> Option<Output>
         requires legal { Legal entries.now }
         requires waiting { IsWaiting entries.now self.now }
         ensures { result ≡ first_some (timeout_of entries.now) (numbers entries.now) }
@@ -151,7 +151,7 @@ impl Waiting {
     }
 
     /// The output of the open calls: of the rules in their order the first that applies, for the least call.
-    fn waiting_output(&self, entries: &[Entry]) -> Option<Output>
+    fn waiting_output(&self, entries: &Entries) -> Option<Output>
         requires legal { Legal entries.now }
         requires waiting { IsWaiting entries.now self.now }
         ensures { result ≡ waiting_output entries.now }
@@ -170,7 +170,7 @@ impl Waiting {
 
     /// The next output, found under the calls that the last entries touched.
     #[tactic(auto, unfolding(ipc_history::specs::NextOutput::next_output))]
-    pub fn next_output(&self, entries: &[Entry]) -> Option<Output>
+    pub fn next_output(&self, entries: &Entries) -> Option<Output>
         requires legal { Legal entries.now }
         requires waiting { IsWaiting entries.now self.now }
         ensures { result ≡ next_output entries.now }

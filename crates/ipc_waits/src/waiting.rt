@@ -9,7 +9,7 @@ ghost use Rattle.ipc_waits.specs.Waiting.{IsTouched, IsWaiting};
 
 use crate::candidates::Candidates;
 use crate::waits::Waits;
-use ipc_history::Entry;
+use ipc_history::{Entries, Entry};
 use ipc_slots::{Change, Slots};
 
 /// The threads of a history by their slots, who waits for whom, and under which calls the next output is found.
@@ -41,7 +41,7 @@ impl Waiting {
 
     /// Before an entry, finds the calls that it touches without naming them: those whose partner ends, and those that are due.
     /// An input comes where nothing more is possible, so that what was looked at before is forgotten.
-    fn touch(&mut self, entries: &[Entry], entry: &Entry)
+    fn touch(&mut self, entries: &Entries, entry: &Entry)
         requires legal { Legal entries.now }
         requires follows { Follows entries.now entry.now }
         requires waiting { IsWaiting entries.now self.old }
@@ -49,7 +49,7 @@ impl Waiting {
         ensures waits { self.new.waits ≡ self.old.waits }
         ensures touched { IsTouched entries.now entry.now self.new.candidates }
     {
-        let _ = entries.len();
+        let _ = entries;
         if let Entry::Given(_) = entry {
             self.candidates.clear();
         }
@@ -71,7 +71,7 @@ impl Waiting {
     }
 
     /// Takes note of the next entry of a legal history, whose entries before it these are. Takes no memory.
-    pub fn note(&mut self, entries: &[Entry], entry: &Entry)
+    pub fn note(&mut self, entries: &Entries, entry: &Entry)
         requires legal { Legal entries.now }
         requires follows { Follows entries.now entry.now }
         requires waiting { IsWaiting entries.now self.old }
@@ -84,13 +84,13 @@ impl Waiting {
     }
 
     /// Whether a waiting phase is due at a moment. Looks at the least deadline alone.
-    pub fn is_any_due_at(&self, entries: &[Entry], moment: u64) -> bool
+    pub fn is_any_due_at(&self, entries: &Entries, moment: u64) -> bool
         requires legal { Legal entries.now }
         requires waiting { IsWaiting entries.now self.now }
         requires in_range { moment < last_moment + 1 }
         ensures { result ≡ list_any (is_due_at entries.now moment) (numbers entries.now) }
     {
-        let _ = entries.len();
+        let _ = entries;
         self.waits.deadlines().is_any_due(moment)
     }
 }

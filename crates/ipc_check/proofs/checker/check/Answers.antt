@@ -1,16 +1,33 @@
+use Rattle.std.proofs.Common.{sym, ap, ◌∙◌, ◌++◌, ◌∷◌, []}
 use Rattle.ipc_check.proofs.Walks.{fault_at, fault_whole, no_is_not_yes, walk_on, walk_start}
 use Rattle.ipc_check.proofs.checker.check.Goals as goal
 
 pub loop-index-init : goal.loop-index-init
-loop-index-init c = walk_start c.args.entries.now c.new-slots.result c.new-slots.ensures
+loop-index-init c = walk_start c.args.entries.now c.new-past.result c.new-slots.result c.new-past.ensures c.new-slots.ensures
 
 pub returns-then-not-follows-clause-no : goal.returns-then-not-follows-clause-no
-returns-then-not-follows-clause-no c = fault_at c.args.entries.now c.loop-index.index c.index-entries-index.result c.next_output.result c.loop-index-test.true c.index-entries-index.is c.loop-index.invariant.legal c.if-not-follows.ensures.no c.next_output.ensures
+returns-then-not-follows-clause-no c =
+    let l = c.loop-index in
+    let e = c.index-entries-index in
+    let same = c.of-before.ensures ∙ l.invariant.walked in
+    fault_at c.args.entries.now c.of-before.result l.index e.result c.loop-index-test.true e.is same
+    c.next_output.result l.invariant.legal c.if-not-follows.ensures.no c.next_output.ensures
 
 pub returns-then-not-follows-clause-yes : goal.returns-then-not-follows-clause-yes
 returns-then-not-follows-clause-yes c =
-    let fault = fault_at c.args.entries.now c.loop-index.index c.index-entries-index.result c.next_output.result c.loop-index-test.true c.index-entries-index.is c.loop-index.invariant.legal c.if-not-follows.ensures.no c.next_output.ensures in
-    ((λ yes. absurd (no_is_not_yes c.loop-index.index c.next_output.result yes)), (λ legal. absurd (fault_whole c.args.entries.now c.loop-index.index c.next_output.result fault legal)))
+    let l = c.loop-index in
+    let e = c.index-entries-index in
+    let same = c.of-before.ensures ∙ l.invariant.walked in
+    let fault = fault_at c.args.entries.now c.of-before.result l.index e.result c.loop-index-test.true e.is same
+    c.next_output.result l.invariant.legal c.if-not-follows.ensures.no c.next_output.ensures in
+    let expected = c.next_output.result in
+    ((λ yes. absurd (no_is_not_yes l.index expected yes)), (λ legal. absurd (fault_whole c.args.entries.now l.index expected fault legal)))
 
 pub loop-index-preserved : goal.loop-index-preserved
-loop-index-preserved c = walk_on c.args.entries.now c.loop-index.index c.index-entries-index.result c.note.new.self c.loop-index-test.true c.index-entries-index.is c.loop-index.invariant.legal c.if-not-follows.ensures.yes c.note.ensures.stands
+loop-index-preserved c =
+    let l = c.loop-index in
+    let e = c.index-entries-index in
+    let same = c.of-before.ensures ∙ l.invariant.walked in
+    let added = c.add.ensures ∙ ap (λ p. p ++ e.result ∷ []) (sym c.of-before.ensures) in
+    walk_on c.args.entries.now c.of-before.result l.index e.result c.loop-index-test.true e.is same
+    c.add.new.self c.note.new.self l.invariant.legal added c.if-not-follows.ensures.yes c.note.ensures.stands

@@ -2,4 +2,4 @@ use Rattle.ipc_check.proofs.Walks.{IsWalked}
 use Rattle.ipc_check.proofs.checker.check.Given as goal
 
 abbrev pub invariant-loop-index : goal.invariant-loop-index
-invariant-loop-index l = IsWalked l.entries l.index l.slots
+invariant-loop-index l = IsWalked l.entries l.index l.past l.slots

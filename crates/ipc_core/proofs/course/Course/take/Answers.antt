@@ -9,7 +9,7 @@ add-requires c = let few = c.requires.few in omega (arith, few, ap (λ v. length
 
 pub returns-clause-done : goal.returns-clause-done
 returns-clause-done c =
-    let entries : c.entries.result.now ≡ c.args.self.now.entries = c.entries.ensures ∙ ap (λ v. v.entries) c.self.view_is in
+    let entries : c.whole.result ≡ c.args.self.now.entries = c.whole.ensures ∙ ap (λ v. v.entries) c.self.view_is in
     let taken : c.past.result.now ≡ c.args.self.now.taken = c.past.ensures ∙ ap (λ v. v.taken) c.self.view_is in
     let given = ap₂ (λ l k. outcome_to_take l k c.args.thread) (sym entries) (sym taken) ∙ (sym c.take.ensures.given ∙ c.in_ok-outcome.was) in
     let last = ap (λ l. last_call l c.args.thread) (sym entries) ∙ c.in_ok-outcome.ensures.call in
@@ -18,7 +18,7 @@ returns-clause-done c =
 
 pub returns-clause-fresh : goal.returns-clause-fresh
 returns-clause-fresh c =
-    let entries : c.entries.result.now ≡ c.args.self.now.entries = c.entries.ensures ∙ ap (λ v. v.entries) c.self.view_is in
+    let entries : c.whole.result ≡ c.args.self.now.entries = c.whole.ensures ∙ ap (λ v. v.entries) c.self.view_is in
     let taken : c.past.result.now ≡ c.args.self.now.taken = c.past.ensures ∙ ap (λ v. v.taken) c.self.view_is in
     let given = ap₂ (λ l k. outcome_to_take l k c.args.thread) (sym entries) (sym taken) ∙ (sym c.take.ensures.given ∙ c.in_ok-outcome.was) in
     let last = ap (λ l. last_call l c.args.thread) (sym entries) ∙ c.in_ok-outcome.ensures.call in

@@ -3,8 +3,8 @@
  *
  *     roundtrip DIR [BLOCKS]
  *
- * A block is so many calls one way and then the other; the one that begins changes from block to block. For each block the
- * quotient of the medians is taken. Printed are the medians of all calls, and the median and quartiles of the quotients. */
+ * The two ways take turns call by call. For each block of calls the quotient of the medians is taken. Printed are the medians of
+ * all calls, and the median and quartiles of the quotients. */
 #define _GNU_SOURCE
 
 #include <l4.h>
@@ -20,7 +20,7 @@
 #include <time.h>
 #include <unistd.h>
 
-enum { BLOCK = 200, BLOCKS = 60, MOST_BLOCKS = 200, WARMING = 500, FRAME_BYTES = 58, ANSWER_BYTES = 46 };
+enum { BLOCK = 200, BLOCKS = 60, MOST_BLOCKS = 200, WARMING = 3, FRAME_BYTES = 58, ANSWER_BYTES = 46 };
 
 static void fail(const char *what)
 {
@@ -136,18 +136,28 @@ static double at_part(double *values, size_t count, double part)
 	return values[(size_t) ((double) (count - 1) * part)];
 }
 
-/* Makes calls, and keeps how long each of them took. */
-static void measure(L4_Word_t (*call)(L4_ThreadId_t, L4_Word_t), L4_ThreadId_t to, double *took, int count)
+/* How long one call took. */
+static double measure(L4_Word_t (*call)(L4_ThreadId_t, L4_Word_t), L4_ThreadId_t to)
 {
 	static L4_Word_t word;
+	double began = microseconds(), took;
+	L4_Word_t answer = call(to, ++word);
 
-	for (int i = 0; i < count; i++) {
-		double began = microseconds();
-		L4_Word_t answer = call(to, ++word);
+	took = microseconds() - began;
+	if (answer != word + 1)
+		fail("another word came back");
+	return took;
+}
 
-		took[i] = microseconds() - began;
-		if (answer != word + 1)
-			fail("another word came back");
+/* Calls both ways in turn, each as often before the other as behind it, and keeps how long each took. */
+static void measure_block(L4_ThreadId_t to, double *by_library, double *by_hand)
+{
+	for (int i = 0; i < BLOCK; i++) {
+		if (i % 2 == 0)
+			by_library[i] = measure(call_by_library, to);
+		by_hand[i] = measure(call_by_hand, to);
+		if (i % 2 != 0)
+			by_library[i] = measure(call_by_library, to);
 	}
 }
 
@@ -172,16 +182,13 @@ int main(int argc, char **argv)
 	do
 		L4_Set_MsgTag((L4_MsgTag_t) { 1 });
 	while (L4_IpcFailed(L4_Call(server)) && L4_ErrorCode() == 0x4);
-	measure(call_by_library, server, library, WARMING);
-	measure(call_by_hand, server, hand, WARMING);
+	/* the first blocks warm up, and are written over */
+	for (int block = 0; block < WARMING; block++)
+		measure_block(server, library, hand);
 	for (int block = 0; block < blocks; block++) {
 		double *ours = library + block * BLOCK, *theirs = hand + block * BLOCK;
 
-		if (block % 2 == 0)
-			measure(call_by_library, server, ours, BLOCK);
-		measure(call_by_hand, server, theirs, BLOCK);
-		if (block % 2 != 0)
-			measure(call_by_library, server, ours, BLOCK);
+		measure_block(server, ours, theirs);
 		quotients[block] = at_part(ours, BLOCK, 0.5) / at_part(theirs, BLOCK, 0.5);
 	}
 	printf("library %.2f us, by hand %.2f us, quotient %.3f (%.3f to %.3f)\n", at_part(library, (size_t) blocks * BLOCK, 0.5),

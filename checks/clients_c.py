@@ -59,7 +59,7 @@ def build(room):
         jobs.append(subprocess.Popen(["cc", *STRICT, *SANITIZED, "-c", source, "-o", objects[-1]]))
     assert all(job.wait() == 0 for job in jobs)
     jobs = []
-    for folder, names in (("tests", ["words", "play", "say"]), ("examples", EXAMPLES)):
+    for folder, names in (("tests", ["words", "play", "say", "threads"]), ("examples", EXAMPLES)):
         for name in names:
             programs[name] = os.path.join(room, name)
             source = os.path.join(CLIENT, folder, name + ".c")
@@ -986,6 +986,14 @@ def check_examples(programs, l4d, l4sh, room, plain):
         return len(lines)
 
 
+def check_threads(programs, l4d, l4sh, room):
+    """Eight threads of one process, which end without saying so."""
+    with Server(l4d, room) as server:
+        words = int(subprocess.run([programs["threads"], server.dir], check=True, capture_output=True, text=True, timeout=SECONDS).stdout)
+        server.is_legal(l4sh)
+        return words
+
+
 def check_full(programs, l4d, room):
     with Server(l4d, room, trace=False) as server:
         return int(subprocess.run([programs["fill"], server.dir], check=True, capture_output=True, text=True, timeout=2 * SECONDS).stdout)
@@ -1016,12 +1024,14 @@ def main(arguments):
         asked = check_names(programs, l4d, l4sh, room)
         entries = [check_examples(programs, l4d, l4sh, room, plain) for plain in (True, False)]
         print(f"names: {asked} answers; examples: by name and by id, {sum(entries)} entries", flush=True)
+        passed = check_threads(programs, l4d, l4sh, room)
+        print(f"threads: {passed} words between threads of one process", flush=True)
         filling.join()
         assert filled, "the history was not filled"
         print(f"full: K5 after {filled[0]} calls", flush=True)
     finally:
         shutil.rmtree(room)
-    total = names + words + vectors + plays + refusals + told + faults + outcomes + asked
+    total = names + words + vectors + plays + refusals + told + faults + outcomes + asked + passed
     print(f"clients_c: all right: {total} comparisons, {plays} of them answers that were played, {told + outcomes} outcomes as in a trace")
 
 

@@ -77,13 +77,16 @@ def build(room):
 
 
 def check_headers(room):
-    """Each header stands alone, and PROFILE's table says the truth: what is there is declared, what is not there is not."""
+    """Each header stands alone, README's program compiles, and of each name PROFILE's table says whether it is declared."""
     source = os.path.join(room, "header.c")
     headers = ["l4.h"] + ["l4/" + name for name in sorted(os.listdir(os.path.join(INCLUDE, "l4")))]
     for header in headers:
         with open(source, "w") as file:
             file.write(f"#include <{header}>\n#include <{header}>\nextern int nothing;\n")
         cc(*STRICT, "-pedantic", "-fsyntax-only", source)
+    with open(source, "w") as file:
+        file.write(re.search(r"^```c\n(.*?)^```$", open(os.path.join(CLIENT, "README.md")).read(), re.M | re.S)[1])
+    cc(*STRICT, "-fsyntax-only", source)
     text = open(os.path.join(ROOT, "docs", "PROFILE.md")).read()
     rows = re.findall(r"^\| (`.*`) \| (there|not there)", text.split("## The C interface, name by name")[1].split("\n## ")[0], re.M)
     there = [name for names, where in rows if where == "there" for name in re.findall(r"`(\w+)`", names)]

@@ -954,8 +954,8 @@ def check_examples(programs, l4d, l4sh, room, plain):
             names = NameServer(server.path)
         peer = (lambda name, number: name) if plain else (lambda name, number: f"{number}.1")
         run = lambda name, *words, **rest: run_example(room, program(name), server.dir, *words, **rest)
-        serving = [run("pingpong", "pong", waits="pong is 2.1 " + ("(registered)" if plain else "(no name server)"))]
-        pings = run("pingpong", "ping", peer("pong", 2)).splitlines()
+        serving = [run("pingpong", "pong", waits="pingpong is 2.1 " + ("(registered)" if plain else "(no name server)"))]
+        pings = run("pingpong", "ping", peer("pingpong", 2)).splitlines()
         assert [re.match(r"IPC \( *(\d+) MRs\): [\d.]+ microseconds$", line)[1] for line in pings] == [str(n) for n in range(0, 61, 4)]
         assert serving.pop().wait(SECONDS) == 0
         serving.append(run("pager", "serve", waits="pager is 4.1"))
@@ -968,7 +968,7 @@ def check_examples(programs, l4d, l4sh, room, plain):
         answerer = run("gateway", "answer", waits="answerer is 8.1")
         serving += [answerer, run("gateway", "pass", peer("answerer", 8), waits="gateway is 9.1")]
         assert run("gateway", "ask", peer("gateway", 9), "21") == "from 8.1: 42\n"
-        assert answerer.stdout.readline() == "from 10.1, by 9.1: 21\n"
+        assert answerer.stdout.readline() == "from 14.1, by 9.1: 21\n"
         cancelled = sorted(run("cancel").splitlines())
         assert cancelled == ["caller: receive phase: cancelled by another thread (e=3, offset 0), ErrorCode 0x7",
                              "canceller: it was in its receive phase", "silent: a request from 12.1, and no answer"], cancelled
@@ -977,16 +977,56 @@ def check_examples(programs, l4d, l4sh, room, plain):
         heard = lambda thread: [told for told in past.outcomes(thread) if told[1] != NIL and told[1] >> 32 != 255]
         pongs = [(told[4].count(",") + 1 if told[4] != "-" else 0) for told in heard(thread_id(3))]
         assert pongs == [words for words in range(0, 61, 4) for _ in range(1000)] + [0]
-        assert [told[4] for told in heard(thread_id(5))] == ["0", "1", "0", "2"]
+        assert [told[4] for told in heard(thread_id(5))] == ["1000,0", "2000,1", "1000,0", "fffffffffffff000,2"]
         text = "hello from several pieces of memory".encode().hex()
         assert [told[5] for told in heard(thread_id(6))] == [f"x{'Greeting'.encode().hex()},x{text}"]
-        assert [told[1:5] for told in heard(thread_id(8))] == [(thread_id(10), thread_id(9), 0, "15")]
-        assert [told[1:5] for told in heard(thread_id(10))] == [(thread_id(8), NIL, 0, "2a")]
+        assert [told[1:5] for told in heard(thread_id(8))] == [(thread_id(14), thread_id(9), 0, "15")]
+        assert [told[1:5] for told in heard(thread_id(14))] == [(thread_id(8), NIL, 0, "2a")]
         assert (FAILED, NIL, NIL, 0x7, "-", "-") in past.outcomes(thread_id(12))
         for process in serving:
             process.kill()
             process.wait()
         return len(lines)
+
+
+def check_python(programs, l4d, l4sh, room):
+    """C and Python examples with each other: servers of the one, found by name, and clients of the other. How many pairs."""
+    python = os.path.join(ROOT, "clients", "python")
+    if not os.path.isdir(python):
+        return 0
+    environment = {**os.environ, "PYTHONPATH": os.path.join(python, "src")}
+    example = lambda name: [sys.executable, os.path.join(python, "examples", name + ".py")]
+
+    def ask(words, wanted):
+        got = subprocess.run(words, capture_output=True, text=True, timeout=SECONDS, env=environment)
+        assert got.returncode == 0 and re.search(wanted, got.stdout), (words, got.stdout, got.stderr)
+
+    def serve(name, words):
+        """Starts a server, and waits until its name is known."""
+        serving.append(subprocess.Popen(words, stdout=subprocess.DEVNULL, env=environment))
+        end = time.time() + SECONDS
+        while name not in names.names and time.time() < end:
+            time.sleep(0.01)
+
+    for is_c in (True, False):
+        with Server(l4d, room) as server:
+            names, serving, at = NameServer(server.path), [], server.dir
+            serve(b"pingpong", [programs["pingpong"], at, "pong"] if is_c else [*example("pingpong"), at, "serve"])
+            serve(b"gateway", [programs["gateway"], at, "pass", "pingpong"] if is_c else [*example("gateway"), at, "serve"])
+            serve(b"pager", [programs["pager"], at, "serve"] if is_c else [*example("pager"), at, "serve"])
+            if is_c:
+                ask([*example("pager"), at, "fault", "0x2fff", "0x1000"], r"0x2fff .*0x2000, frame 0\n0x1000 .*0x1000, frame 1\n")
+                ask([*example("gateway"), at, "ask", "21"], r"asked .*9.*, and .*2.* answered 21")
+                ask([*example("pingpong"), at, "ask", "200"], "200 calls of ")
+            else:
+                ask([programs["pager"], at, "touch", "pager", "0x2fff", "0x1000"], "^0x2fff: frame 0\n0x1000: frame 1\n$")
+                ask([programs["gateway"], at, "ask", "gateway", "21"], "^from 10.1: 21\n$")
+                ask([programs["pingpong"], at, "ping"], r"IPC \(60 MRs\)")
+            server.is_legal(l4sh)
+            for process in serving:
+                process.kill()
+                process.wait()
+    return 6
 
 
 def check_threads(programs, l4d, l4sh, room):
@@ -1027,6 +1067,8 @@ def main(arguments):
         asked = check_names(programs, l4d, l4sh, room)
         entries = [check_examples(programs, l4d, l4sh, room, plain) for plain in (True, False)]
         print(f"names: {asked} answers; examples: by name and by id, {sum(entries)} entries", flush=True)
+        pairs = check_python(programs, l4d, l4sh, room)
+        print(f"python: {pairs} pairs with examples of clients/python" if pairs else "python: no clients/python, so nothing was tried", flush=True)
         passed = check_threads(programs, l4d, l4sh, room)
         print(f"threads: {passed} words between threads of one process", flush=True)
         filling.join()
@@ -1034,7 +1076,7 @@ def main(arguments):
         print(f"full: K5 after {filled[0]} calls", flush=True)
     finally:
         shutil.rmtree(room)
-    total = names + words + vectors + plays + refusals + told + faults + outcomes + asked + passed
+    total = names + words + vectors + plays + refusals + told + faults + outcomes + asked + passed + pairs
     print(f"clients_c: all right: {total} comparisons, {plays} of them answers that were played, {told + outcomes} outcomes as in a trace")
 
 

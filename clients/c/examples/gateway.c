@@ -2,7 +2,7 @@
  *
  *     gateway DIR answer                thread 8: doubles each word
  *     gateway DIR pass ANSWERER         thread 9: the gateway; ANSWERER is answerer or an id
- *     gateway DIR ask GATEWAY WORD      thread 10: GATEWAY is gateway or an id */
+ *     gateway DIR ask GATEWAY WORD      thread 14: GATEWAY is gateway or an id */
 #include "common.h"
 
 #include <string.h>
@@ -84,7 +84,7 @@ int main(int argc, char **argv)
 		connect_as(argv[1], 9);
 		pass(thread_of(argv[3]));
 	} else if (argc == 5 && strcmp(argv[2], "ask") == 0) {
-		connect_as(argv[1], 10);
+		connect_as(argv[1], 14);
 		ask(thread_of(argv[3]), strtoull(argv[4], NULL, 0));
 		l4_disconnect();
 	} else {

@@ -1,5 +1,5 @@
 /* A server's loop as that of a pager: Wait for the first fault, and then ReplyWait, which answers one and waits for the
- * next. No memory is mapped here: the answer is the number of the frame that backs the page.
+ * next. No memory is mapped here: the answer is the address of the page and the number of the frame that backs it.
  *
  *     pager DIR serve                     thread 4
  *     pager DIR touch PAGER ADDRESS..     thread 5: tells a fault at each address, and prints the frame; PAGER is pager or an id */
@@ -7,7 +7,7 @@
 
 #include <string.h>
 
-enum { PAGE_BITS = 12, PAGES = 1024, READ = 4 };
+enum { PAGE_BITS = 12, PAGES = 1024, READ = 4, BAD_FAULT = 1 };
 
 /* The label of a page fault in the manual's protocol: -2 in the upper bits, then the access, then four zero bits. */
 static const L4_Word_t FAULT_LABEL = 0xffffffffffe0;
@@ -29,17 +29,24 @@ static size_t frame_of(struct pages *pages, L4_Word_t address)
 	return frame;
 }
 
-/* Loads the answer to a fault: a word, or a message with label 1 where the request is no fault or memory is used up. */
+/* Loads the answer to a fault: the page and its frame, or label 1 alone where the request is no fault or memory is used up. */
 static void answer(struct pages *pages, L4_MsgTag_t tag)
 {
 	L4_Word_t address;
 	size_t frame = PAGES;
+	L4_Msg_t msg;
 
 	L4_StoreMR(1, &address);
 	if (L4_UntypedWords(tag) == 2 && (L4_Label(tag) & ~(L4_Word_t) 0x7) == FAULT_LABEL)
 		frame = frame_of(pages, address);
-	L4_Set_MsgTag(L4_MsgTagAddLabel((L4_MsgTag_t) { 1 }, frame == PAGES));
-	L4_LoadMR(1, frame);
+	L4_MsgClear(&msg);
+	if (frame == PAGES) {
+		L4_Set_MsgLabel(&msg, BAD_FAULT);
+	} else {
+		L4_MsgAppendWord(&msg, address >> PAGE_BITS << PAGE_BITS);
+		L4_MsgAppendWord(&msg, frame);
+	}
+	L4_MsgLoad(&msg);
 }
 
 static void serve(void)
@@ -80,7 +87,7 @@ static void touch(L4_ThreadId_t pager, L4_Word_t address)
 	if (L4_Label(tag) != 0)
 		printf("0x%llx: no frame\n", (unsigned long long) address);
 	else
-		printf("0x%llx: frame %llu\n", (unsigned long long) address, (unsigned long long) L4_MsgWord(&msg, 0));
+		printf("0x%llx: frame %llu\n", (unsigned long long) address, (unsigned long long) L4_MsgWord(&msg, 1));
 }
 
 int main(int argc, char **argv)

@@ -1,7 +1,7 @@
 /* The ping-pong of L4 kernels: how many microseconds a message takes, for messages of 0, 4, .. 60 words.
  *
  *     pingpong DIR pong              thread 2: answers each message with its words
- *     pingpong DIR ping [PONG]       thread 3: measures, with the thread of this name or id (default: pong) */
+ *     pingpong DIR ping [PONG]       thread 3: measures, with the thread of this name or id (default: pingpong) */
 #define _POSIX_C_SOURCE 200809L
 
 #include "common.h"
@@ -9,15 +9,14 @@
 #include <string.h>
 #include <time.h>
 
-enum { ROUNDS = 1000, MOST_WORDS = 60, LAST = 1 };
+enum { ROUNDS = 1000, MOST_WORDS = 60, LAST = 2 };
 
 static void pong(void)
 {
 	L4_ThreadId_t from;
 	L4_MsgTag_t tag;
-	L4_Msg_t msg;
 
-	announce("pong");
+	announce("pingpong");
 	tag = L4_Wait(&from);
 	for (;;) {
 		if (L4_IpcFailed(tag)) {
@@ -27,9 +26,9 @@ static void pong(void)
 		}
 		if (L4_Label(tag) == LAST)
 			break;
-		/* what came stands in the message registers, and goes back as it is */
-		L4_MsgStore(tag, &msg);
-		L4_MsgLoad(&msg);
+		/* The words stand in the message registers, and go back from there. The tag is made anew: with the flag p of a
+		 * message that a gateway passed on, the answer would be propagated too. */
+		L4_Set_MsgTag(L4_MsgTagAddLabel((L4_MsgTag_t) { L4_UntypedWords(tag) }, L4_Label(tag)));
 		tag = L4_ReplyWait(from, &from);
 	}
 	L4_Set_MsgTag(L4_Niltag);
@@ -84,7 +83,7 @@ int main(int argc, char **argv)
 		pong();
 	} else if ((argc == 3 || argc == 4) && strcmp(argv[2], "ping") == 0) {
 		connect_as(argv[1], 3);
-		ping(thread_of(argc == 4 ? argv[3] : "pong"));
+		ping(thread_of(argc == 4 ? argv[3] : "pingpong"));
 	} else {
 		fprintf(stderr, "usage: pingpong DIR pong | pingpong DIR ping [PONG]\n");
 		return 2;

@@ -1073,7 +1073,7 @@ def main(arguments):
         print(f"threads: {passed} words between threads of one process", flush=True)
         filling.join()
         assert filled, "the history was not filled"
-        print(f"full: K5 after {filled[0]} calls", flush=True)
+        print(f"full: K5 after {filled[0]} calls" if filled[0] else "full: no K5 came, so it was only played", flush=True)
     finally:
         shutil.rmtree(room)
     total = names + words + vectors + plays + refusals + told + faults + outcomes + asked + passed + pairs

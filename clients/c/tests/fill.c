@@ -1,11 +1,13 @@
 /* Calls until the server's history has no room: then every call, and every new thread, is refused with K5. Prints after how
- * many calls that came. */
+ * many calls that came, or 0 where it did not come in MOST of them, which fill a history of 1,048,576 entries. */
 #include <l4.h>
 
 #include <errno.h>
 #include <stdio.h>
 #include <stdlib.h>
 #include <string.h>
+
+enum { MOST = 400000 };
 
 static void want(bool holds, const char *what)
 {
@@ -32,7 +34,11 @@ int main(int argc, char **argv)
 	do {
 		L4_Set_MsgTag(L4_Niltag);
 		calls++;
-	} while (L4_IpcFailed(L4_Send(nobody)) && L4_ErrorCode() == 0x4);
+	} while (calls < MOST && L4_IpcFailed(L4_Send(nobody)) && L4_ErrorCode() == 0x4);
+	if (calls == MOST) {
+		printf("0\n");
+		return 0;
+	}
 	want(is_full(), "the last call");
 	want(!L4_IsNilThread(L4_Myself()), "the thread is still there");
 	/* ExchangeRegisters wants less room than a call, and is refused a little later */

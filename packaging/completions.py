@@ -1,0 +1,84 @@
+#!/usr/bin/env python3
+"""The completions of l4d and l4sh for bash and zsh, made from the help that the programs print.
+
+packaging/completions.py NAME PROGRAM bash|zsh      writes them to standard output
+"""
+import re, subprocess, sys
+
+OPTION = re.compile(r"^ +(?:(-\w), +)?(--[\w-]+)(?: <(\w+)>)? +(.*)$")
+COMMAND = re.compile(r"^  ([a-z]\w*) +(\S.*)$")
+# the words that stand for a file or a folder
+PLACES = {"FILE": "file", "DIR": "folder"}
+
+
+class Words:
+    """A command's options and subcommands, as its help lists them."""
+
+    def __init__(self, program, path=()):
+        told = subprocess.run([program, *path, "--help"], capture_output=True, text=True, stdin=subprocess.DEVNULL)
+        text = told.stdout + told.stderr
+        self.options = [match.groups() for match in map(OPTION.match, text.splitlines()) if match]
+        under = text.partition("\nCommands:\n")[2].partition("\n\n")[0]
+        names = [match.groups() for match in map(COMMAND.match, under.splitlines()) if match]
+        self.commands = {name: (what, Words(program, (*path, name))) for name, what in names if name != "help"}
+        self.takes_file = "<FILE>" in text.partition("Usage:")[2].partition("\n")[0]
+        if not self.options:
+            raise SystemExit(f"completions: {program} {' '.join(path)} --help lists no option")
+
+    def long(self):
+        return [long for _, long, _, _ in self.options]
+
+
+def bash(name, words):
+    lines = [f"# bash completion of {name}, made from its help.", f"_{name}() {{",
+             "    local word=${COMP_WORDS[COMP_CWORD]} before=${COMP_WORDS[COMP_CWORD-1]} command=${COMP_WORDS[1]}",
+             "    COMPREPLY=()"]
+    every = [words, *(below for _, below in words.commands.values())]
+    for kind, made in (("FILE", "-f"), ("DIR", "-d")):
+        wanted = sorted({long for each in every for _, long, value, _ in each.options if value == kind})
+        if wanted:
+            lines += [f"    case $before in {'|'.join(wanted)})",
+                      f"        COMPREPLY=($(compgen {made} -- \"$word\")); return;;", "    esac"]
+    if words.commands:
+        lines += ["    if [ \"$COMP_CWORD\" -eq 1 ]; then",
+                  f"        COMPREPLY=($(compgen -W \"{' '.join([*words.commands, *words.long()])}\" -- \"$word\")); return",
+                  "    fi", "    case $command in"]
+        for command, (_, below) in words.commands.items():
+            files = "; [[ $word == -* ]] || COMPREPLY+=($(compgen -f -- \"$word\"))" if below.takes_file else ""
+            lines += [f"    {command}) COMPREPLY=($(compgen -W \"{' '.join(below.long())}\" -- \"$word\")){files};;"]
+        lines += ["    esac"]
+    else:
+        lines += [f"    COMPREPLY=($(compgen -W \"{' '.join(words.long())}\" -- \"$word\"))"]
+    return "\n".join([*lines, "}", f"complete -F _{name} {name}", ""])
+
+
+def zsh_options(words, indent):
+    for short, long, value, what in words.options:
+        what = re.sub(r" \[default: .*\]$", "", what).replace("[", "(").replace("]", ")").replace(":", "\\:").replace("'", "'\\''")
+        place = {"FILE": ":file:_files", "DIR": ":folder:_files -/", None: ""}.get(value, f":{value}:")
+        yield f"{indent}'{long}[{what}]{place}' \\"
+
+
+def zsh(name, words):
+    lines = [f"#compdef {name}", f"# zsh completion of {name}, made from its help."]
+    if not words.commands:
+        return "\n".join([*lines, "_arguments \\", *zsh_options(words, "    "), "    && return 0", ""])
+    lines += ["if (( CURRENT == 2 )); then", "    local -a commands=("]
+    for command, (what, _) in words.commands.items():
+        escaped = what.replace("'", "'\\''").replace(":", "\\:")
+        lines += [f"        '{command}:{escaped}'"]
+    lines += ["    )", "    _describe command commands", "    return", "fi", "local command=$words[2]", "shift words", "(( CURRENT-- ))",
+              "case $command in"]
+    for command, (_, below) in words.commands.items():
+        file = ["        '*:file:_files' \\"] if below.takes_file else []
+        lines += [f"({command})", "    _arguments \\", *zsh_options(below, "        "), *file, "        && return 0;;"]
+    return "\n".join([*lines, "esac", ""])
+
+
+def main():
+    name, program, shell = sys.argv[1:]
+    print({"bash": bash, "zsh": zsh}[shell](name, Words(program)), end="")
+
+
+if __name__ == "__main__":
+    main()

@@ -23,7 +23,7 @@ use Rattle.ipc_exchange.specs.Service.{Line, ServiceParts, at_rest, delivered, d
 use Rattle.ipc_exchange.specs.Due.{NothingDue}
 use Rattle.ipc_exchange.specs.Slots.{HasRoom, IsPlaced, LineSlots, Ready, ServiceSlots, StaysReady, lines_of, service_of, slot_at, stage_at}
 use Rattle.ipc_core.proofs.IdleLaws.{idle_has_nothing}
-use Rattle.ipc_exchange.proofs.KernelLaws.{taken_is_idle}
+use Rattle.ipc_core.proofs.BusyLaws.{taken_is_idle}
 use Rattle.ipc_exchange.proofs.ReadyLemmas.{at_each, command_ready, same_place}
 use Rattle.ipc_exchange.proofs.RestedLemmas.{same_outcome}
 use Rattle.ipc_exchange.proofs.TellingLemmas.{at_line, line_there, slot_self}

@@ -19,7 +19,7 @@ use Rattle.ipc_core.specs.declared.command.Command.{Command}
 use Rattle.ipc_core.specs.declared.command.Command.TheVariants.{Take}
 use Rattle.ipc_core.proofs.IdleLaws.{idle_has_nothing}
 use Rattle.ipc_core.proofs.UnfinishedLaws.{unfinished_keeps}
-use Rattle.ipc_exchange.proofs.KernelLaws.{taken_is_idle}
+use Rattle.ipc_core.proofs.BusyLaws.{taken_is_idle}
 use Rattle.ipc_exchange.specs.Due.{AreDue, is_marked}
 
 -- a thread that is not live has nothing to take

@@ -1,7 +1,5 @@
 pub mod DueLemmas
 pub mod LinesLemmas
-pub mod OutcomeCall
-pub mod KernelLaws
 pub mod Opening
 pub mod LiveLemmas
 pub mod OutputLemmas

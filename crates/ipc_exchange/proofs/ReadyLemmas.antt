@@ -21,7 +21,7 @@ use Rattle.ipc_connection.specs.declared.replying.Told.{Told}
 use Rattle.ipc_connection.specs.declared.replying.Told.TheVariants as tells
 use Rattle.ipc_words.specs.Limits.{table_slots}
 use Rattle.ipc_exchange.specs.Slots.{is_call_of, ArePlaced, HasRoom, MayGet, IsFresh, IsPlaced, LineSlots, NoneServes, Ready, ReadyBut, ServiceSlots, SuitsStage, no_slots, slot_at, stage_at, table_told}
-use Rattle.ipc_exchange.proofs.KernelLaws.{idle_stays}
+use Rattle.ipc_core.proofs.BusyLaws.{idle_stays}
 use Rattle.ipc_exchange.proofs.LiveLemmas.{has_opened, is_break_of, live_stays}
 
 -- two lines with threads of one number are one line

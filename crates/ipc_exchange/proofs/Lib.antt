@@ -5,6 +5,7 @@ pub mod LiveLemmas
 pub mod OutputLemmas
 pub mod ReadyLemmas
 pub mod MovedLemmas
+pub mod FrontLemmas
 pub mod RestedLemmas
 pub mod TellingLemmas
 pub mod DeliverLemmas

@@ -1,18 +1,19 @@
 -- A list of events, one after the other, and how each is answered.
-use Rattle.std.specs.Prelude.{◌≡◌, zero, suc, ◌+◌, List, [], ◌∷◌, ◌++◌, map, filter_map, length, nat_le, if◌then◌else◌, ⊤}
+use Rattle.std.specs.Prelude.{◌≡◌, ℕ, zero, suc, ◌+◌, List, [], ◌∷◌, ◌++◌, map, filter_map, length, nat_le, take, if◌then◌else◌, ⊤}
 use Rattle.std.specs.List.{flat_map}
 use Rattle.ipc_connection.specs.Chain.{Chain}
 use Rattle.ipc_exchange.specs.Service.{line_at}
 use Rattle.ipc_exchange.specs.Serving.{Asked, MayLack}
 use Rattle.ipc_exchange.specs.Events.{ExchangeParts, HappenAll}
 use Rattle.ipc_exchange.specs.Events as events
+use Rattle.ipc_exchange.specs.Apart.{IsApart, bytes_at, put_out}
 use Rattle.ipc_exchange.specs.Exchange.{ExchangeSlots, Shows, progress_of}
 use Rattle.ipc_words.specs.Limits.{max_connections}
 use Rattle.ipc_exchange.specs.Laws.{accepted, calls_in}
 use Rattle.ipc_exchange.specs.declared.event.Event.{Event}
-use Rattle.ipc_exchange.specs.declared.event.Event.TheVariants.{Connect, Piece, Finish, Reading, Copy}
+use Rattle.ipc_exchange.specs.declared.event.Event.TheVariants.{Connect, Piece, Finish, Reading, Copy, Output}
 use Rattle.ipc_exchange.specs.declared.event.Reply.{Reply}
-use Rattle.ipc_exchange.specs.declared.event.Reply.TheVariants.{Connected, Refused, Fed, Done}
+use Rattle.ipc_exchange.specs.declared.event.Reply.TheVariants.{Connected, Refused, Fed, Put, Done}
 use Rattle.ipc_exchange.specs.declared.progress.ConnectRefused.TheVariants.{TooMany, NoMemory}
 use Rattle.ipc_exchange.specs.declared.progress.Progress.TheVariants as progress
 
@@ -21,12 +22,13 @@ pub record Turn : Type 0 where
   pub event : Event
   pub reply : Reply
 
--- what happens by an event with this answer: nothing where a connection is refused, or for the number
--- 0, which no connection has
+-- what happens by an event with this answer: nothing where a connection is refused, where bytes go out, or
+-- for the number 0, which no connection has
 abbrev pub happening : Event → Reply → List events.Event
 happening (Connect space) (Connected number) = events.Connect space ∷ []
 happening (Connect space) (Refused why) = []
 happening (Connect space) (Fed done) = []
+happening (Connect space) (Put bytes) = []
 happening (Connect space) Done = []
 happening (Piece zero bytes) reply = []
 happening (Piece (suc place) bytes) reply = events.Piece place bytes.items ∷ []
@@ -34,8 +36,21 @@ happening (Finish zero) reply = []
 happening (Finish (suc place)) reply = events.Finish place ∷ []
 happening (Reading reading) reply = events.Reading reading ∷ []
 happening Copy reply = events.Copy ∷ []
+happening (Output connection room) reply = []
 
--- the answer: a new connection's number, or why it was refused; whether the connection of a piece goes on
+-- what goes out by it on the connection in each place
+abbrev pub puts : Event → Reply → ℕ → List ℕ
+puts (Output (suc place) room) (Put bytes) other = bytes_at place bytes.items other
+puts event reply other = []
+
+-- that happens, with the commands that the kernel was given for it; or bytes go out, and nothing else happens
+abbrev pub Goes : ExchangeParts → Event → Reply → List Asked → ExchangeParts → Type 0
+Goes old (Output (suc place) room) (Put bytes) asked new =
+    (asked ≡ []) × (new ≡ put_out place (length bytes.items) old)
+Goes old event reply asked new = HappenAll MayLack old (happening event reply) asked new
+
+-- the answer: a new connection's number, or why it was refused; whether the connection of a piece goes on;
+-- the bytes that went out, as many as there were and had room
 abbrev pub RepliesTo : ExchangeParts → Event → Reply → ExchangeParts → Type 0
 RepliesTo old (Connect space) (Connected number) new = number ≡ length old.service.lines + 1
 RepliesTo old (Connect space) (Refused why) new =
@@ -46,13 +61,15 @@ RepliesTo old (Piece (suc place) bytes) (Fed done) new =
 RepliesTo old (Finish connection) Done new = ⊤
 RepliesTo old (Reading reading) Done new = ⊤
 RepliesTo old Copy Done new = ⊤
+RepliesTo old (Output zero room) (Put bytes) new = bytes.items ≡ []
+RepliesTo old (Output (suc place) room) (Put bytes) new =
+    bytes.items ≡ take (length room.items) (line_at old.service.lines place).out
 RepliesTo old _ _ new = ⊥
 
 -- an event happens, and is answered, with the commands that the kernel was given for it
 abbrev pub Turns : ExchangeParts → Turn → List Asked → ExchangeParts → Type 0
 Turns old turn asked new =
-    HappenAll MayLack old (happening turn.event turn.reply) asked new
-    × RepliesTo old turn.event turn.reply new
+    Goes old turn.event turn.reply asked new × RepliesTo old turn.event turn.reply new
 
 -- so of an exchange, whatever parts it stood for
 abbrev pub Replied : ExchangeSlots → Event → Reply → ExchangeSlots → Type 0
@@ -64,8 +81,14 @@ Replied old event reply new = (parts : ExchangeParts) → Shows old parts
 abbrev pub happened : List Turn → List events.Event
 happened turns = flat_map (λ (turn : Turn). happening turn.event turn.reply) turns
 
+-- what went out on the connection in a place, in order
+abbrev pub went_out : List Turn → ℕ → List ℕ
+went_out turns place = flat_map (λ (turn : Turn). puts turn.event turn.reply place) turns
+
 -- events happened from these parts on, one after the other, each with its answer, and the exchange stands
--- for what came of it. What was asked of the kernel, and answered, gave the calls of the history
+-- for what came of it. By the rules alone, with no output, those events give `all`: and so what went out on
+-- a connection, followed by what waits, is its bytes by the rules (`apart`). What was asked of the kernel,
+-- and answered, gave the calls of the history
 pub record Ran (first : ExchangeParts) (events : List Event) (replies : List Reply)
     (exchange : ExchangeSlots) : Type 0 where
   pub turns : List Turn
@@ -75,6 +98,8 @@ pub record Ran (first : ExchangeParts) (events : List Event) (replies : List Rep
   pub parts : ExchangeParts
   pub chain : Chain Turns first turns asked parts
   pub shows : Shows exchange parts
-  pub happens : HappenAll MayLack first (happened turns) asked parts
+  pub all : ExchangeParts
+  pub happens : HappenAll MayLack first (happened turns) asked all
+  pub apart : IsApart (went_out turns) parts all
   pub calls : calls_in parts.service.kernel.history
       ≡ calls_in first.service.kernel.history ++ filter_map accepted asked

@@ -13,10 +13,12 @@ pub enum Event {
     Reading(u64),
     /// A block of the least call in transfer is copied.
     Copy,
+    /// Bytes of a connection go out: as many as wait on it, and as the buffer has room for.
+    Output(usize, Vec<u8>),
 }
 
 /// How an event is answered.
-#[derive(Clone, Copy, PartialEq, Eq, Debug)]
+#[derive(Drop)]
 pub enum Reply {
     /// The connection came, and has this number.
     Connected(usize),
@@ -24,6 +26,8 @@ pub enum Reply {
     Refused(ConnectRefused),
     /// The piece came; whether its connection goes on.
     Fed(Progress),
+    /// These bytes went out, in the buffer that the event brought.
+    Put(Vec<u8>),
     /// It happened.
     Done,
 }

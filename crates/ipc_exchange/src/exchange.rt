@@ -136,6 +136,7 @@ impl Exchange {
             → Shows self.old parts
             → Shows self.new (record parts { service = without_bytes place result parts.service }) }
         ensures zero { connection ≡ 0 → self.new ≡ self.old }
+        ensures none { connection ≡ 0 → result ≡ 0 }
     {
         if connection == 0 || connection > self.service.len() {
             return 0;

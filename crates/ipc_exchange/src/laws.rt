@@ -1,4 +1,5 @@
 ghost use Rattle.ipc_exchange.specs.Laws.{CallsAreAccepted, HappenOnce, LegalStays, OutGrows, PiecesJoin};
+ghost use Rattle.ipc_exchange.specs.Apart.{OutputApart};
 
 /// Where no growth is refused, a piece and then another are the two joined.
 pub fn pieces_join()
@@ -24,4 +25,9 @@ pub fn happen_once()
 /// What waits on a connection gets more at its end alone, whatever happens.
 pub fn out_grows()
     ensures { OutGrows }
+{}
+
+/// An output and then an event are the event and then the output: bytes that went out change nothing that happens.
+pub fn output_apart()
+    ensures { OutputApart }
 {}

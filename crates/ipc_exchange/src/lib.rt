@@ -19,5 +19,7 @@ mod told;
 
 pub use event::{Event, Reply};
 pub use exchange::Exchange;
-pub use laws::{calls_are_accepted, happen_once, legal_stays, out_grows, pieces_join};
+pub use laws::{
+    calls_are_accepted, happen_once, legal_stays, out_grows, output_apart, pieces_join,
+};
 pub use progress::{ConnectRefused, Progress};

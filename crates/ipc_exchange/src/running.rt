@@ -33,6 +33,11 @@ impl Exchange {
                 self.advance();
                 Reply::Done
             }
+            Event::Output(connection, mut bytes) => {
+                let count = self.output(connection, &mut bytes);
+                bytes.truncate(count);
+                Reply::Put(bytes)
+            }
         }
     }
 
@@ -40,7 +45,8 @@ impl Exchange {
     /// memory for the exchange or for the answers.
     ///
     /// Whatever the events are, the history has the promise (`paired`), and its calls are those that the
-    /// kernel accepted, in order (`ran`). Nothing was put out: all bytes of each connection wait.
+    /// kernel accepted, in order (`ran`). What went out on a connection, followed by what waits on it, is its
+    /// bytes by the rules (`ran`, field `apart`).
     pub fn run(
         alloc: Global,
         limits: Limits,

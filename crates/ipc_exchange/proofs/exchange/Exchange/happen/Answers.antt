@@ -1,4 +1,8 @@
-use Rattle.ipc_exchange.proofs.RunningLemmas.{connected_replied, copy_replied, finish_replied, piece_replied, reading_replied, refused_replied}
+use Rattle.std.proofs.Common.{List, ℕ, ap, length, min, take, ◌∙◌, arith}
+use Rattle.std.proofs.lemmas.List.{with_items_is}
+use Rattle.ipc_exchange.specs.Service.{line_at}
+use Rattle.ipc_exchange.specs.Slots.{service_of}
+use Rattle.ipc_exchange.proofs.RunningLemmas.{connected_replied, copy_replied, finish_replied, output_replied, piece_replied, reading_replied, refused_replied}
 use Rattle.ipc_exchange.proofs.exchange.Exchange.happen.Goals as goal
 
 pub returns-in-Ok : goal.returns-in-Ok
@@ -18,3 +22,12 @@ returns-in-Reading c = reading_replied c.args.self.now c.at.new.self c.args.even
 
 pub returns-in-Copy : goal.returns-in-Copy
 returns-in-Copy c = copy_replied c.args.self.now c.advance.new.self c.args.event c.in-Copy.is c.advance.ensures
+
+pub returns-in-Output : goal.returns-in-Output
+returns-in-Output c =
+    let same = ap length c.deref_mut.ensures.value in
+    let whole = with_items_is c.in-Output.bytes c.output-count.new.out (omega (arith, c.output-count.auto.out, same, c.in-Output.bytes.ok)) in
+    output_replied c.args.self.now c.output-count.new.self c.args.event _ c.output-count.result c.in-Output.bytes c.truncate.new.self c.output-count.new.out c.in-Output.is
+    (c.truncate.ensures.items ∙ ap (take c.output-count.result) whole)
+    (λ place at. c.output-count.ensures.count place at ∙ ap (λ (l : List ℕ). min (length l) (length (line_at (service_of c.args.self.now.service).lines place).out)) c.deref_mut.ensures.value)
+    c.output-count.ensures.bytes c.output-count.ensures.left c.output-count.ensures.zero c.output-count.ensures.none

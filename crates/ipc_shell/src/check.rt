@@ -20,13 +20,17 @@ use std::alloc::{AllocError, Global};
 /// the rules ask for there or `input`. Behind the verdict over the whole lines `torn` tells of a last
 /// line without newline. Nothing is printed of a trace with a bad line.
 ///
-/// It ends as `DeviceFailed` only where a call of the reader or of the writer failed in this run.
+/// It ends as `DeviceFailed` only where a call of the reader or of the writer failed in this run, and
+/// where it ends otherwise none failed.
 pub fn check_trace<R: PortRead, W: PortWrite>(alloc: Global, reader: &mut R, writer: &mut W) -> Exit
     ensures checks { ChecksTrace (R.remaining reader.old)
         (W.written writer.old) (W.written writer.new) result }
     ensures device { result ≡ Exit.DeviceFailed
         → R.failures reader.old + W.failures writer.old
         < R.failures reader.new + W.failures writer.new }
+    ensures kept { result ≢ Exit.DeviceFailed
+        → (R.failures reader.new ≡ R.failures reader.old)
+        × (W.failures writer.new ≡ W.failures writer.old) }
     ensures flushed { result ≢ Exit.DeviceFailed
         → W.flushed writer.old ≡ true → W.flushed writer.new ≡ true }
 {
@@ -44,6 +48,7 @@ pub fn check_trace<R: PortRead, W: PortWrite>(alloc: Global, reader: &mut R, wri
 fn judge<W: PortWrite>(alloc: Global, entries: &[Entry], is_torn: bool, writer: &mut W) -> Exit
     ensures prints { PrintsVerdict entries.now is_torn (W.written writer.old) (W.written writer.new) result }
     ensures failed { result ≡ Exit.DeviceFailed → W.failures writer.old < W.failures writer.new }
+    ensures kept { result ≢ Exit.DeviceFailed → W.failures writer.new ≡ W.failures writer.old }
     ensures flushed { result ≢ Exit.DeviceFailed
         → W.flushed writer.old ≡ true → W.flushed writer.new ≡ true }
 {

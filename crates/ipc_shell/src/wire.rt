@@ -48,7 +48,7 @@ enum Obeyed {
 /// `NoMemory` and `DeviceFailed`, where the last may be cut off.
 ///
 /// It ends as `DeviceFailed` only where a call of the reader or of the writer failed in this run, or
-/// behind 2^64 - 2 lines.
+/// behind 2^64 - 2 lines. Where it ends otherwise, none failed.
 pub fn wire_script<R: PortRead, W: PortWrite>(
     alloc: Global,
     limits: Limits,
@@ -60,6 +60,9 @@ pub fn wire_script<R: PortRead, W: PortWrite>(
     ensures device { result ≡ Exit.DeviceFailed
         → HasFailed (R.failures reader.old + W.failures writer.old)
         (R.failures reader.new + W.failures writer.new) (R.remaining reader.old) }
+    ensures kept { result ≢ Exit.DeviceFailed
+        → (R.failures reader.new ≡ R.failures reader.old)
+        × (W.failures writer.new ≡ W.failures writer.old) }
     ensures flushed { result ≢ Exit.DeviceFailed
         → W.flushed writer.old ≡ true → W.flushed writer.new ≡ true }
 {
@@ -101,7 +104,8 @@ fn wire_line<W: PortWrite>(
         (W.written writer.new) line.now number result }
     ensures failed { result ≡ Some Exit.DeviceFailed
         → W.failures writer.old < W.failures writer.new }
-    ensures kept { IsNone result → W.failures writer.new ≡ W.failures writer.old }
+    ensures kept { result ≢ Some Exit.DeviceFailed
+        → W.failures writer.new ≡ W.failures writer.old }
     ensures flushed { result ≢ Some Exit.DeviceFailed
         → W.flushed writer.old ≡ true → W.flushed writer.new ≡ true }
 {

@@ -73,7 +73,7 @@ lines-preserved g c =
     elim c.if-is_empty.branch [
       | then-is_empty w ↦ ap g.W.PortWrite.failures w.writer-is ∙ c.lines.invariant.written
       | in-Line-2+in_default-run_line w ↦
-          ap g.W.PortWrite.failures w.writer-is ∙ w.run_line.ensures.kept (subst IsNone (sym w.in_default-run_line.is) refl) ∙ c.lines.invariant.written
+          ap g.W.PortWrite.failures w.writer-is ∙ w.run_line.ensures.kept (none_is_not_some w.run_line.result w.in_default-run_line.is) ∙ c.lines.invariant.written
     ]
     in
     let flushed : g.W.PortWrite.flushed c.args.writer.now ≡ true → g.W.PortWrite.flushed c.if-is_empty.writer ≡ true =
@@ -102,6 +102,12 @@ returns-in-Some-clause-device g c = λ is. inl (omega (
   c.in-Line-2.ensures.kept line_is_no_failure,
   c.in-Some.ensures.failed (ap Some is),
 ))
+
+pub returns-in-Some-clause-kept : goal.returns-in-Some-clause-kept
+returns-in-Some-clause-kept g c = λ is_not. (
+  c.in-Line-2.ensures.kept line_is_no_failure ∙ c.lines.invariant.read,
+  c.in-Some.ensures.kept (λ is. is_not (some_injective is)) ∙ c.lines.invariant.written,
+)
 
 pub returns-in-Some-clause-flushed : goal.returns-in-Some-clause-flushed
 returns-in-Some-clause-flushed g c = λ is_not before. c.in-Some.ensures.flushed (λ is. is_not (some_injective is)) (c.lines.invariant.flushed before)

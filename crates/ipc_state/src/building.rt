@@ -1,7 +1,8 @@
-ghost use Rattle.std.specs.Prelude.{IfOk, IfErr};
+ghost use Rattle.std.specs.Prelude.{◌≡◌, IfOk, IfErr};
 ghost use Rattle.ipc_state.specs.States.{IsBuilt, IsFaultAt};
 
-use ipc_history::Entry;
+use ipc_history::{Entries, Entry};
+use ipc_past::Past;
 use ipc_slots::Slots;
 
 /// The slots of a history, as the checker builds them. An `Err` is the place of the first entry that does
@@ -12,13 +13,26 @@ pub fn slots_of(entries: &[Entry]) -> Result<Slots, usize>
     ensures fault { IfErr result (IsFaultAt entries.now) }
 {
     let mut slots = Slots::new();
+    let mut past = Past::new();
     for index in 0..entries.len() {
-        let before = &entries[..index];
+        let before = Entries::of(&past, &entries[..index]);
         let entry = &entries[index];
-        if !slots.follows(before, entry) {
+        if !slots.follows(&before, entry) {
             return Err(index);
         }
-        let _ = slots.note(before, entry);
+        let _ = slots.note(&before, entry);
+        past.add(entry);
     }
     Ok(slots)
+}
+
+/// A history as a past, which costs nothing to make.
+pub(crate) fn past_of(entries: &[Entry]) -> Past<Entry>
+    ensures { result ≡ entries.now }
+{
+    let mut past = Past::new();
+    for index in 0..entries.len() {
+        past.add(&entries[index]);
+    }
+    past
 }

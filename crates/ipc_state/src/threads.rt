@@ -7,7 +7,7 @@ ghost use Rattle.ipc_slots.specs.Slots.{Stands, slot_of};
 ghost use Rattle.ipc_state.specs.States.{HasOpened, HasThreads};
 ghost use Rattle.ipc_state.specs.WaitsFor.{awaited_by};
 
-use ipc_history::Entry;
+use ipc_history::Entries;
 use ipc_slots::{Live, Phase, Slots, Standing};
 use ipc_words::ThreadId;
 use ipc_words::limits::TABLE_SLOTS;
@@ -15,7 +15,7 @@ use ipc_words::limits::TABLE_SLOTS;
 /// The live threads by their numbers, of which these were opened last.
 pub(crate) fn threads_of(
     slots: &Slots,
-    entries: &[Entry],
+    entries: &Entries,
     opened: &[Option<ThreadId>],
 ) -> [Option<Live>; TABLE_SLOTS]
     requires legal { Legal entries.now }
@@ -32,7 +32,7 @@ pub(crate) fn threads_of(
 }
 
 // The live thread of a number, of which this one was opened last.
-fn live_of(slots: &Slots, entries: &[Entry], place: usize, opened: Option<ThreadId>) -> Option<Live>
+fn live_of(slots: &Slots, entries: &Entries, place: usize, opened: Option<ThreadId>) -> Option<Live>
     requires legal { Legal entries.now }
     requires stands { Stands entries.now slots.now }
     requires opened { opened ≡ last_some (thread_in place) entries.now }

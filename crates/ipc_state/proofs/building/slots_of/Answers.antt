@@ -1,15 +1,22 @@
+use Rattle.std.proofs.Common.{sym, ap, ◌∙◌, ◌++◌, ◌∷◌, []}
 use Rattle.ipc_state.proofs.Walks.{fault_at, walk_on, walk_start}
 use Rattle.ipc_state.proofs.building.slots_of.Goals as goal
 
 pub loop-index-init : goal.loop-index-init
-loop-index-init c = walk_start c.args.entries.now c.new-slots.result c.new-slots.ensures
+loop-index-init c = walk_start c.args.entries.now c.new-past.result c.new-slots.result c.new-past.ensures c.new-slots.ensures
 
 pub returns-then-not-follows-clause-fault : goal.returns-then-not-follows-clause-fault
 returns-then-not-follows-clause-fault c =
-    fault_at c.args.entries.now c.loop-index.index c.index-entries-index.result c.loop-index-test.true c.index-entries-index.is
-    c.loop-index.invariant.legal c.if-not-follows.ensures.no
+    let l = c.loop-index in
+    let e = c.index-entries-index in
+    let same = c.of-before.ensures ∙ l.invariant.walked in
+    fault_at c.args.entries.now c.of-before.result l.index e.result c.loop-index-test.true e.is same l.invariant.legal c.if-not-follows.ensures.no
 
 pub loop-index-preserved : goal.loop-index-preserved
 loop-index-preserved c =
-    walk_on c.args.entries.now c.loop-index.index c.index-entries-index.result c.note.new.self c.loop-index-test.true c.index-entries-index.is
-    c.loop-index.invariant.legal c.if-not-follows.ensures.yes c.note.ensures.stands
+    let l = c.loop-index in
+    let e = c.index-entries-index in
+    let same = c.of-before.ensures ∙ l.invariant.walked in
+    let added = c.add.ensures ∙ ap (λ p. p ++ e.result ∷ []) (sym c.of-before.ensures) in
+    walk_on c.args.entries.now c.of-before.result l.index e.result c.loop-index-test.true e.is same
+    c.add.new.self c.note.new.self l.invariant.legal added c.if-not-follows.ensures.yes c.note.ensures.stands

@@ -132,6 +132,7 @@ class Names:
 
     def _ask(self, label: int, name: bytes, originator: Optional[int] = None) -> Received:
         request = Message(label, strings=[name], originator=originator)
+        buffers = [MAX_NAME_BYTES] if label == LIST else []
         first = 1
         while True:
             if self._server is None:
@@ -139,7 +140,7 @@ class Names:
                 if self._server is None:
                     raise NoNames
             try:
-                answer = self._thread.call(self._server, request, self._timeout, self._timeout, [MAX_NAME_BYTES])
+                answer = self._thread.call(self._server, request, self._timeout, self._timeout, buffers)
                 break
             except NoPartner:
                 first, self._server = self._server.version + 1, None

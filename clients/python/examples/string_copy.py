@@ -1,8 +1,8 @@
 #!/usr/bin/env python3
 """A string copy: the bytes go from the sender's string into memory of the receiver.
 
-    copy.py DIR serve          is thread 30: takes a string, and answers how many bytes came and their digest
-    copy.py DIR send COUNT     is thread 31: sends so many bytes, up to 1,048,576, and looks whether they came
+    string_copy.py DIR serve          is thread 30: takes a string, and answers how many bytes came and their digest
+    string_copy.py DIR send COUNT     is thread 31: sends so many bytes, up to 1,048,576, and looks whether they came
 """
 
 import hashlib

@@ -112,6 +112,9 @@ def outcome_text(received):
     )
 
 
+servers = []
+
+
 class Server:
     """A server of its own: l4d in a folder that only its owner may enter."""
 
@@ -119,6 +122,7 @@ class Server:
         self.folder = tempfile.mkdtemp(prefix="clients-python-")
         self.trace = f"{self.folder}/trace"
         self.started = []
+        servers.append(self)
         more = ["--trace", self.trace] if trace else []
         self.process = self.start([l4d, "--dir", self.folder, "--spaces", str(spaces), *more])
         same("l4d listens", self.process.stdout.readline(), f"listening {spaces}\n")
@@ -149,7 +153,8 @@ class Server:
     def stop(self):
         for process in reversed(self.started):
             end(process)
-        shutil.rmtree(self.folder)
+        shutil.rmtree(self.folder, ignore_errors=True)
+        servers.remove(self)
 
 
 def end(process):
@@ -264,6 +269,18 @@ def first_program(l4d):
         while names.live_thread(thread, 1) is None:
             time.sleep(0.01)
     same("the first program", output(server.start([sys.executable, "-c", programs[1], server.folder])), ("42\n", 0))
+    text = output(server.start([sys.executable, f"{ROOT}/examples/echo.py", server.folder, "ask", "41"]))
+    same("examples/echo.py asks it, too", text, ("42\n", 0))
+    end(server.started[1])
+    with server.next_thread(1) as thread:
+        same("the next version", str(thread.id), "1.2")
+    server.stop()
+    server = Server(l4d, trace=False)
+    server.start([sys.executable, f"{ROOT}/examples/echo.py", server.folder, "serve"])
+    with l4ipc.Thread(server.folder, 3) as thread:
+        while names.live_thread(thread, 1) is None:
+            time.sleep(0.01)
+        same("examples/echo.py", thread.call(ThreadId.of(1, 1), Message(0, [41, words.WORD_LIMIT - 1])).words, (42, 0))
     server.stop()
 
 
@@ -709,9 +726,9 @@ def documented_frames(l4d, l4x):
 
     server = Server(l4d, trace=False)
     relay = relayed_names(server, l4x)
-    server.folder, folder = relay.folder, server.folder
-    for name, role in (("pingpong", "serve"), ("gateway", "serve")):
-        server.example(name, role)
+    folder, server.folder = server.folder, relay.folder
+    for name in ("pingpong", "gateway"):
+        server.example(name, "serve")
         with l4ipc.Thread(folder, 9 if name == "pingpong" else 8) as thread:
             names.Names(thread).wait_for(name, 10)
     same("a gateway of the README", output(server.example("gateway", "ask", 7)), ("asked 40.1, and 10.1 answered 7\n", 0))
@@ -776,31 +793,37 @@ def trace(server, l4sh):
     print(f"trace: {size} bytes; {count} calls of {len(seen)} threads are in it as they were seen", flush=True)
 
 
-def main(l4d="./l4d", l4sh="./l4sh", l4x="./l4x"):
-    l4d, l4sh, l4x = (os.path.abspath(it) for it in (l4d, l4sh, l4x))
+def run(l4d, l4sh, l4x):
     own_tests()
     installed()
     first_program(l4d)
     server = Server(l4d, spaces=2)
-    try:
-        process = name_server(server, l4x, 1)
-        examples(server)
-        refusals(server)
-        faults(server)
-        errors(server)
-        strings(server)
-        propagation(server)
-        server_restarts(server)
-        bad_names(server)
-        propagated_names(server)
-        busy_names(server)
-        full_names(server)
-        name_server_restarts(server, l4x, process)
-        trace(server, l4sh)
-    finally:
-        server.stop()
+    process = name_server(server, l4x, 1)
+    examples(server)
+    refusals(server)
+    faults(server)
+    errors(server)
+    strings(server)
+    propagation(server)
+    server_restarts(server)
+    bad_names(server)
+    propagated_names(server)
+    busy_names(server)
+    full_names(server)
+    name_server_restarts(server, l4x, process)
+    trace(server, l4sh)
+    server.stop()
     documented_frames(l4d, l4x)
     k5(l4d)
+
+
+def main(l4d="./l4d", l4sh="./l4sh", l4x="./l4x"):
+    l4d, l4sh, l4x = (os.path.abspath(it) for it in (l4d, l4sh, l4x))
+    try:
+        run(l4d, l4sh, l4x)
+    finally:
+        for server in list(servers):
+            server.stop()
     print(f"{checked} checked, {failed} failed")
     return 1 if failed else 0
 

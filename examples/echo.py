@@ -1,10 +1,10 @@
 #!/usr/bin/env python3
-"""Two processes that call each other through l4d, in plain Python: a server that adds 1 to each word, and a client of it.
+"""Two processes that call each other through l4d by frames made by hand: a server that adds 1 to each word, and a client of it.
 
     echo.py DIR serve        is thread 1: receives from anythread, replies, and waits for the next
     echo.py DIR ask WORD     is thread 2: calls thread 1.1 with a word, and prints the word that comes back
 
-Frames are those of docs/FORMATS.md. What this needs of them stands below.
+Frames are those of docs/FORMATS.md. What this needs of them stands below. A program that is to be used takes the package of clients/python.
 """
 
 import os

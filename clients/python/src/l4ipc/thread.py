@@ -3,7 +3,7 @@
 import os
 import socket
 import threading
-from typing import NoReturn, Optional, Sequence, Type, Union
+from typing import NoReturn, Optional, Sequence, Type, TypeVar, Union
 
 from . import frames
 from .errors import RECEIVE, BadFrame, Closed, L4Error, Refused, Timeout, fault, ipc_error
@@ -16,6 +16,7 @@ CANCEL_RECEIVE = 0x2
 CANCEL_SEND = 0x4
 """S of the control of ExchangeRegisters."""
 
+_Kind = TypeVar("_Kind", frames.Welcome, frames.Outcome, frames.Exchanged)
 _NO_MESSAGE = Message()
 _MOST_READ = 65_536
 
@@ -207,7 +208,7 @@ class Thread:
 
     # The connection.
 
-    def _ask(self, frame: bytes, kind: Type["frames.Answer"]):  # type: ignore[no-untyped-def,type-arg]
+    def _ask(self, frame: bytes, kind: Type[_Kind]) -> _Kind:
         """Sends a frame, and answers the next one, which has to be of this kind."""
         if not self._call.acquire(blocking=False):
             raise RuntimeError("another call of this thread is open")

@@ -269,7 +269,7 @@ def first_program(l4d):
         while names.live_thread(thread, 1) is None:
             time.sleep(0.01)
     same("the first program", output(server.start([sys.executable, "-c", programs[1], server.folder])), ("42\n", 0))
-    text = output(server.start([sys.executable, f"{ROOT}/examples/echo.py", server.folder, "ask", "41"]))
+    text = output(server.start([sys.executable, f"{ROOT}/examples/echo.py", server.folder, "ask", "42"]))
     same("examples/echo.py asks it, too", text, ("42\n", 0))
     end(server.started[1])
     with server.next_thread(1) as thread:

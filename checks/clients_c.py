@@ -1,7 +1,7 @@
 #!/usr/bin/env python3
 """The C client: its tests, under sanitizers, and its examples against l4d.
 
-checks/clients_c.py [L4D [L4SH]]      default: ./l4d and ./l4sh of the tree
+checks/clients_c.py [L4D [L4SH [L4X]]]      default: ./l4d and ./l4sh of the tree; without L4X no program of it is tried
 
 Builds clients/c with cc and -Wall -Wextra -Werror. Words and composed messages are looked at alone. Then a server in the same
 process plays right and wrong answers to the library, each made wrong at each byte and cut at each byte, and frames made up at random;
@@ -609,6 +609,12 @@ def wait_until_waiting(other, thread, bit):
         time.sleep(0.002)
 
 
+def wait_until_gone(other, thread):
+    """Until ExchangeRegisters says that no such thread is live."""
+    while other.exreg(thread, 0)[2] != 2:
+        time.sleep(0.002)
+
+
 def check_refusals(programs, l4d, l4sh, room):
     """Every refusal and ErrorCode that can be had from a server, and all that the library refuses itself."""
     with Server(l4d, room, spaces=2) as server:
@@ -883,8 +889,43 @@ def check_traffic(programs, l4d, l4sh, room, calls):
         return count, received
 
 
-def check_names(programs, l4d, l4sh, room):
-    """The calls of l4/names.h, with a name server that follows docs/NAMES.md."""
+class L4xNames:
+    """The name server of l4x, with the look of the one beside this file."""
+
+    def __init__(self, l4x, path):
+        self.process = subprocess.Popen([l4x, os.path.dirname(path), "names"], stdout=subprocess.PIPE, text=True)
+        word, thread = self.process.stdout.readline().split()
+        assert word == "names"
+        self.thread = word_of_id(thread)
+
+    def end(self):
+        self.process.kill()
+        self.process.wait()
+
+
+def check_l4x(programs, l4d, l4sh, l4x, room):
+    """A C client of the key-value server of l4x, through its gateway too: label 2 asks for a key, label 3 answers it."""
+    with Server(l4d, room) as server:
+        serving = [subprocess.Popen([l4x, server.dir, role], stdout=subprocess.DEVNULL) for role in ("keyvalue", "gateway")]
+        sayer = Say(programs["say"], server.dir, 7)
+        for number in (1, 2):
+            wait_until_waiting(sayer, thread_id(number), 0x2)
+        subprocess.run([l4x, server.dir, "put", "7", "70"], check=True, stdout=subprocess.DEVNULL)
+        for number in (1, 2):
+            to = thread_id(number)
+            # the gateway's request is answered by the server itself, for which the wait is turned
+            got = sayer.ipc(to=to, source=to, label=2, words=(7,))
+            assert got[:5] == (3 << 16 | 1, thread_id(1), 0, 0, "46"), got
+        told = [(sayer.thread, sayer.outcomes)]
+        sayer.end()
+        for process in serving:
+            process.kill()
+            process.wait()
+        return compare(server, l4sh, told)
+
+
+def check_names(programs, l4d, l4sh, room, start):
+    """The calls of l4/names.h, with a name server that follows docs/NAMES.md: start makes one for a path."""
     with Server(l4d, room) as server:
         one, two = (Say(programs["say"], server.dir, number) for number in (1, 2))
         ask = lambda sayer, line: sayer.ask(line)
@@ -896,7 +937,7 @@ def check_names(programs, l4d, l4sh, room):
             assert got == wanted, (got, wanted)
 
         want(ask(one, "lookup a"), ("0", 3, "N6: there is no name server"))
-        names = NameServer(server.path)
+        names = start(server.path)
         want(ask(one, "register echo")[:2], ("0", 0))
         want(ask(two, "lookup echo")[:2], (f"{one.thread:x}", 0))
         want(ask(two, "lookup Echo"), ("0", 2, "N7: no live thread has the name"))
@@ -920,16 +961,16 @@ def check_names(programs, l4d, l4sh, room):
         want(ask(two, "lookup echo")[1], 2)
         want(ask(two, "register echo")[0], "0")
         # the name server ends, and comes again without names
-        names.line.shutdown(socket.SHUT_RDWR)
-        names.join()
-        names.line.close()
+        names.end()
+        wait_until_gone(two, names.thread)
         want(ask(two, "lookup echo")[1], 3)
-        again = NameServer(server.path)
+        again = start(server.path)
         want(again.thread, thread_id(255, 2))
         want(ask(two, "lookup echo")[1], 2)
         want(ask(two, "register echo")[0], "0")
         one.end()
         two.end()
+        again.end()
         server.is_legal(l4sh)
         return count
 
@@ -1047,6 +1088,7 @@ def main(arguments):
     random.seed(seed)
     l4d = os.path.abspath(arguments[0] if arguments else os.path.join(ROOT, "l4d"))
     l4sh = os.path.abspath(arguments[1] if len(arguments) > 1 else os.path.join(ROOT, "l4sh"))
+    l4x = os.path.abspath(arguments[2]) if len(arguments) > 2 else None
     room = tempfile.mkdtemp(prefix="l4c")
     try:
         programs = build(room)
@@ -1064,7 +1106,9 @@ def main(arguments):
         print(f"l4d: {refusals} refusals and errors, {told} outcomes as in the trace, {faults} faults", flush=True)
         outcomes, received = check_traffic(programs, l4d, l4sh, room, 400)
         print(f"traffic: {outcomes} outcomes as in the trace, {received} of them messages", flush=True)
-        asked = check_names(programs, l4d, l4sh, room)
+        asked = check_names(programs, l4d, l4sh, room, NameServer)
+        if l4x:
+            asked += check_names(programs, l4d, l4sh, room, lambda path: L4xNames(l4x, path)) + check_l4x(programs, l4d, l4sh, l4x, room)
         entries = [check_examples(programs, l4d, l4sh, room, plain) for plain in (True, False)]
         print(f"names: {asked} answers; examples: by name and by id, {sum(entries)} entries", flush=True)
         pairs = check_python(programs, l4d, l4sh, room)

@@ -27,6 +27,12 @@ class NameServer(threading.Thread):
         self.early = None
         self.start()
 
+    def end(self):
+        """Ends the thread; what it knew is forgotten."""
+        self.line.shutdown(socket.SHUT_RDWR)
+        self.join()
+        self.line.close()
+
     def frame(self):
         data = self.exactly(4)
         return self.exactly(struct.unpack(">I", data)[0])

@@ -93,6 +93,45 @@ const GONE: &[u8] = &[
     0, 0, 0, 0, 0, 0, 0, 0x04, 0,
 ];
 
+// all of it but the last byte
+const SEND_PART: &[u8] = &[
+    0, 0, 0, 0x36, 2, 0, 0, 0, 1, 0, 0, 0, 1, 0, 0, 0, 0, 0, 0, 0, 0, 0, 0, 0, 0, 0, 0, 0, 0, 0, 0,
+    0, 0, 0, 0, 0, 0, 0, 0, 0, 1, 0, 0, 0, 0, 0, 0, 0, 0, 0, 0, 0, 0, 0, 0, 0, 0,
+];
+
+// to 1.1, with more words than there may be
+const FEW_WORDS: [u8; 50] = [
+    0, 0, 0, 0x2e, 2, 0, 0, 0, 1, 0, 0, 0, 1, 0, 0, 0, 0, 0, 0, 0, 0, 0, 0, 0, 0, 0, 0, 0, 0, 0, 0,
+    0, 0, 0, 0, 0, 0, 0, 0, 0, 0x7f, 0, 0, 0, 0, 0, 0, 0, 0, 0,
+];
+
+// to 1.1, an item that goes on behind its words
+const ITEM_PAST_ITS_WORDS: [u8; 66] = [
+    0, 0, 0, 0x3e, 2, 0, 0, 0, 1, 0, 0, 0, 1, 0, 0, 0, 0, 0, 0, 0, 0, 0, 0, 0, 0, 0, 0, 0, 0, 0, 0,
+    0, 0, 0, 0, 0, 0, 0, 0, 0, 0x80, 0, 0, 0, 0, 0, 0, 0, 0, 0, 0, 0, 0, 0, 0, 0, 0xe, 0, 0, 0, 0,
+    0, 0, 0, 0, 0,
+];
+
+// to 1.1, an item that is no string
+const ITEM_WITH_BIT_3: [u8; 66] = [
+    0, 0, 0, 0x3e, 2, 0, 0, 0, 1, 0, 0, 0, 1, 0, 0, 0, 0, 0, 0, 0, 0, 0, 0, 0, 0, 0, 0, 0, 0, 0, 0,
+    0, 0, 0, 0, 0, 0, 0, 0, 0, 0x80, 0, 0, 0, 0, 0, 0, 0, 0, 0, 0, 0, 0, 0, 0, 0, 0, 8, 0, 0, 0, 0,
+    0, 0, 0, 0,
+];
+
+// to 1.1, five bytes from the fourth on of a payload of eight
+const ITEM_PAST_THE_PAYLOAD: [u8; 74] = [
+    0, 0, 0, 0x46, 2, 0, 0, 0, 1, 0, 0, 0, 1, 0, 0, 0, 0, 0, 0, 0, 0, 0, 0, 0, 0, 0, 0, 0, 0, 0, 0,
+    0, 0, 0, 0, 0, 0, 0, 0, 0, 0x80, 0, 0, 0, 0, 0, 0, 0, 0, 0, 0, 0, 0, 0, 0, 0, 0x14, 0, 0, 0, 0,
+    0, 0, 0, 0, 4, 0x61, 0x62, 0x63, 0x68, 0x65, 0x6c, 0x6c, 0x6f,
+];
+
+// to 1.1, by a time point
+const TIME_POINT: [u8; 58] = [
+    0, 0, 0, 0x36, 2, 0, 0, 0, 1, 0, 0, 0, 1, 0, 0, 0, 0, 0, 0, 0, 0, 0x80, 0, 0, 0, 0, 0, 0, 0, 0,
+    0, 0, 0, 0, 0, 0, 0, 0, 0, 0, 1, 0, 0, 0, 0, 0, 0, 0, 0, 0, 0, 0, 0, 0, 0, 0, 0, 7,
+];
+
 // HELLO 1, a frame without a body, and HELLO 1 again
 const GOOD_AND_BAD: &[u8] =
     b"\x00\x00\x00\x03\x01\x00\x01\x00\x00\x00\x00\x00\x00\x00\x03\x01\x00\x01";
@@ -313,6 +352,94 @@ fn a_partner_that_ends_is_told(rt: HostRuntime) -> Result<(), Fail> {
         &[WELCOME_1, ABORTED],
         &[WELCOME_2],
     )
+}
+
+// What comes on a connection alone: HELLO 2 and the frames of the formats, cut off or not; and what is answered.
+const ALONE: [([&[u8]; 2], [&[u8]; 2]); 2] = [
+    ([HELLO_2, SEND], [WELCOME_2, GONE]),
+    ([HELLO_2, SEND_PART], [WELCOME_2, F9]),
+];
+
+#[test]
+fn a_frame_that_breaks_off_is_a_fault(rt: HostRuntime) -> Result<(), Fail> {
+    for (pieces, want) in &ALONE {
+        let steps = [
+            Step::Connect,
+            Step::Piece(1, pieces[0]),
+            Step::Piece(1, pieces[1]),
+            Step::Finish(1),
+        ];
+        assert_dialogue(&rt, rt.alloc(), &steps, want, &[])?;
+    }
+    Ok(())
+}
+
+// Bytes that a client sends first, and the number of the fault that they show.
+const FAULTY: [(&[u8], u8); 10] = [
+    // a body of 2,097,153 bytes
+    (&[0, 0x20, 0, 1], 1),
+    // the kind of WELCOME, and one that is none
+    (&[0, 0, 0, 9, 0x81], 2),
+    (&[0, 0, 0, 9, 9], 2),
+    // a HELLO of 2 bytes, an IPC of 45
+    (&[0, 0, 0, 2, 1], 3),
+    (&[0, 0, 0, 0x2d, 2], 3),
+    // 64 words
+    (&FEW_WORDS, 4),
+    // items: one runs past its words, one has bit 3, one lies outside the payload
+    (&ITEM_PAST_ITS_WORDS, 5),
+    (&ITEM_WITH_BIT_3, 6),
+    (&ITEM_PAST_THE_PAYLOAD, 7),
+    // a send timeout that is a time point
+    (&TIME_POINT, 12),
+];
+
+#[test]
+fn each_fault_of_a_frame_is_answered(rt: HostRuntime) -> Result<(), Fail> {
+    for (bytes, fault) in &FAULTY {
+        let answer = [0, 0, 0, 3, 0x85, 0x46, *fault];
+        let steps = [
+            Step::Connect,
+            Step::Piece(1, bytes),
+            Step::Piece(1, HELLO_1),
+        ];
+        assert_dialogue(&rt, rt.alloc(), &steps, &[&answer], &[])?;
+    }
+    Ok(())
+}
+
+#[test]
+fn what_went_out_and_what_waits_is_all(rt: HostRuntime) -> Result<(), Fail> {
+    let alloc = rt.alloc();
+    let steps = [
+        Step::Connect,
+        Step::Connect,
+        Step::Piece(1, HELLO_1),
+        Step::Piece(2, HELLO_2),
+        Step::Piece(1, RECEIVE),
+        Step::Piece(2, SEND),
+    ];
+    let mut events = Vec::new(alloc);
+    for event in events_of(alloc, &steps, Cut::Pieces(7))? {
+        events.push(event)?;
+        events.push(Event::Output(1, vec![in alloc; 0; 5]?))?;
+    }
+    let (mut exchange, replies) = Exchange::run(alloc, LIMITS, events)?;
+    let mut bytes = Vec::new(alloc);
+    for reply in replies {
+        if let Reply::Put(piece) = reply {
+            bytes.extend_from_slice(&piece)?;
+        }
+    }
+    // WELCOME, and 5 bytes of what was received
+    assert_eq!(rt; bytes.len(), 18);
+    let mut rest = [0u8; 256];
+    let count = exchange.output(1, &mut rest);
+    bytes.extend_from_slice(&rest[..count.min(256)])?;
+    let (welcome, received) = bytes.as_slice().split_at(13.min(bytes.len()));
+    assert_eq!(rt; welcome, WELCOME_1);
+    assert_eq!(rt; received, RECEIVED);
+    Ok(())
 }
 
 #[test]

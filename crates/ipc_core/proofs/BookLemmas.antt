@@ -19,12 +19,14 @@ use Rattle.ipc_history.specs.declared.entry.Input.TheVariants.{Called}
 use Rattle.ipc_laws.proofs.Growth.{is_called_kept, over_kept}
 use Rattle.ipc_laws.proofs.Numbering.{called_below}
 use Rattle.ipc_waits.proofs.Numbers.{eqb_equivalence, eqb_sym}
-use Rattle.ipc_core.specs.Books.{AreBooks}
+use Rattle.ipc_core.specs.Books.{AreBooks, TookOthers}
 use Rattle.ipc_core.specs.KernelParts.{KernelParts}
 use Rattle.ipc_core.specs.Obeying.{rested}
 use Rattle.ipc_core.specs.Outcomes.{IsTaken, is_among}
 use Rattle.ipc_core.specs.Steps.{taken_after}
+use Rattle.ipc_core.proofs.BusyLaws.{still_among}
 use Rattle.ipc_core.proofs.NewCalls.{Grows}
+use Rattle.ipc_core.proofs.OtherCalls.{IsIdleFor, others_grown, others_more, others_none}
 
 pub none_twice : IsDistinct (λ (a b : ℕ). a == b) []
 unfolding IsDistinct
@@ -36,14 +38,16 @@ books_none H taken since empty none start = rw empty (record {
   taken_are = subst (All (IsTaken [])) (sym none) (All-nil (IsTaken []));
   once = subst (IsDistinct (λ a b. a == b)) (sym none) none_twice;
   begun = omega (arith, start);
+  others = subst (TookOthers []) (sym none) others_none;
 })
 
 -- the books after a command, which begins where the history ended
-pub books_grown : (H K : List Entry) (input : Input) → Grows H K input → (old new : List ℕ) → new ≡ old → (since begun : ℕ) → since ≡ length H → AreBooks H old begun → AreBooks K new since
-books_grown H K input grows old new same since begun start books = record {
+pub books_grown : (H K : List Entry) (input : Input) → Grows H K input → (old new : List ℕ) → new ≡ old → (since begun : ℕ) → since ≡ length H → AreBooks H old begun → IsIdleFor H old input → AreBooks K new since
+books_grown H K input grows old new same since begun start books idle = record {
   taken_are = subst (All (IsTaken K)) (sym same) (All-weaker (IsTaken H) (IsTaken K) stays old books.taken_are);
   once = subst (IsDistinct (λ a b. a == b)) (sym same) books.once;
   begun = omega (arith, start, ap length grows.whole, length-append H grows.more);
+  others = others_grown H K input grows old new same books.others idle;
 }
   where
     stays : (n : ℕ) → IsTaken H n → IsTaken K n
@@ -51,7 +55,7 @@ books_grown H K input grows old new same since begun start books = record {
 
 -- where nothing was written
 pub books_rest : (H : List Entry) (taken : List ℕ) (since begun : ℕ) → since ≡ length H → AreBooks H taken begun → AreBooks H taken since
-books_rest H taken since begun start books = record { taken_are = books.taken_are; once = books.once; begun = omega (arith, start) }
+books_rest H taken since begun start books = record { taken_are = books.taken_are; once = books.once; begun = omega (arith, start); others = books.others }
 
 -- Taking
 
@@ -97,6 +101,7 @@ books_taken H old new since books n done fresh taken = record {
   taken_are = subst (All (IsTaken H)) (sym taken) (All-push (IsTaken H) old n books.taken_are done);
   once = subst (IsDistinct (λ a b. a == b)) (sym taken) (taken_once old n books.once fresh);
   begun = books.begun;
+  others = others_more H old new books.others (λ k among. ap (is_among k) taken ∙ still_among k old (n ∷ []) among);
 }
 
 -- what is seen of a kernel after a command that wrote nothing

@@ -1,5 +1,5 @@
 -- Which threads are busy after a command.
-use Rattle.std.proofs.Common.{◌≡◌, ℕ, suc, ◌≤◌, List, [], ◌∷◌, ◌++◌, map, Bool, true, false, not, ◌&&◌, ◌||◌, ◌==◌, eq-eqb, eqb-true, cond, count_by, refl, sym, ap, subst, ◌∙◌, append_assoc, Option, Some, None, is_some, inl, inr, arith}
+use Rattle.std.proofs.Common.{◌≡◌, ℕ, suc, ◌+◌, ◌≤◌, List, [], ◌∷◌, ◌++◌, map, Bool, true, false, not, ◌&&◌, ◌||◌, ◌==◌, eq-eqb, eqb-true, cond, count_by, refl, sym, ap, subst, ◌∙◌, append_assoc, Option, Some, None, is_some, inl, inr, arith}
 use Rattle.std.specs.Prelude.{All, MatchBool, nat_lt, option_and_then, if◌then◌else◌}
 use Rattle.std.specs.List.{list_any}
 use Rattle.std.specs.Option.{option_map_or, option_or}
@@ -30,11 +30,12 @@ use Rattle.ipc_laws.proofs.OneLive.{opened_once}
 use Rattle.ipc_laws.proofs.Places.{any_place}
 use Rattle.ipc_laws.proofs.Tests.{left, not_both, refuted, right}
 use Rattle.ipc_slots.proofs.Finds.{find_passes}
+use Rattle.ipc_laws.specs.Laws.{one_if}
 use Rattle.ipc_core.specs.Effects.{Ticks}
 use Rattle.ipc_core.specs.KernelParts.{KernelParts}
 use Rattle.ipc_core.specs.Laws.{EnteredIsBusy, IsSound, StaysIdle, TakenIsIdle, is_call_of}
 use Rattle.ipc_core.specs.Obeying.{Does, MayObey, Obeys, ObeysOr, cause_of}
-use Rattle.ipc_core.specs.Outcomes.{IsTaken, has_untaken, is_among, is_busy, outcome_to_take}
+use Rattle.ipc_core.specs.Outcomes.{IsTaken, has_untaken, is_among, is_busy, made_by, outcome_to_take, taken_by}
 use Rattle.ipc_core.specs.Steps.{Takes, at_if_later, at_moment, taken_after, with_input}
 use Rattle.ipc_core.specs.declared.answers.Advance.TheVariants.{Moved, Idle}
 use Rattle.ipc_core.specs.declared.command.Answer.{Answer}
@@ -42,7 +43,7 @@ use Rattle.ipc_core.specs.declared.command.Answer.TheVariants.{Opened, Entered, 
 use Rattle.ipc_core.specs.declared.command.Command.{Command}
 use Rattle.ipc_core.specs.declared.command.Command.TheVariants.{Open, Enter, Exreg, Broke, At, Advance, Take}
 use Rattle.ipc_core.specs.declared.refusal.Refusal.{Refusal}
-use Rattle.ipc_desks.specs.CallsOf.{is_busy as waits, last_call, number_by, outcome_to_take as waiting}
+use Rattle.ipc_desks.specs.CallsOf.{is_busy as waits, made_by as made_of, taken_by as taken_of, last_call, number_by, outcome_to_take as waiting}
 use Rattle.ipc_desks.proofs.LastCalls.{last_is, last_push, open_is_last}
 use Rattle.ipc_core.proofs.OutcomeCall.{outcome_call}
 
@@ -89,19 +90,44 @@ busy_is kernel thread sound = go (open_call kernel.history thread) refl
     go None e = rw e refl
     go (Some n) e = rw e (sym (open_untaken kernel thread n sound e))
 
+-- so every call of a thread that is not busy was taken, if it made one
+pub last_taken : (kernel : KernelParts) (thread m : ℕ) → is_live kernel.history thread ≡ true → is_busy kernel thread ≡ false → last_call kernel.history thread ≡ Some m → is_among m kernel.taken ≡ true
+unfolding is_busy has_untaken waits
+last_taken kernel thread m live idle last = go (is_some (open_call kernel.history thread)) (is_among m kernel.taken) (rw (live, last) at idle)
+  where
+    go : (a b : Bool) → (a || not b) ≡ false → b ≡ true
+    go a b h = grind arith
+
+-- who lives and is not busy has nothing that was not taken
+pub not_waiting : (kernel : KernelParts) (thread : ℕ) → is_live kernel.history thread ≡ true → is_busy kernel thread ≡ false → waits kernel.history kernel.taken thread ≡ false
+unfolding is_busy has_untaken
+not_waiting kernel thread live idle = go (is_some (open_call kernel.history thread)) (waits kernel.history kernel.taken thread) (rw live at idle)
+  where
+    go : (a b : Bool) → (a || b) ≡ false → b ≡ false
+    go a b h = grind arith
+
+-- how many of its calls a thread has taken
+pub counted_live : (kernel : KernelParts) → ((t : ℕ) → taken_of kernel.history kernel.taken t + one_if (waits kernel.history kernel.taken t) ≡ made_of kernel.history t) → (t : ℕ) → taken_by kernel t + one_if (has_untaken kernel t) ≡ made_by kernel.history t
+unfolding made_by taken_by has_untaken
+counted_live kernel counted t = go (is_live kernel.history t) refl
+  where
+    go : (b : Bool) → is_live kernel.history t ≡ b → (if is_live kernel.history t then taken_of kernel.history kernel.taken t else 0) + one_if (is_live kernel.history t && waits kernel.history kernel.taken t) ≡ (if is_live kernel.history t then made_of kernel.history t else 0)
+    go true is = rw is (counted t)
+    go false is = rw is refl
+
 -- What a command adds
 
 -- entries behind which a thread has the last call that it had before
-no_call : (P Q : List Entry) (t : ℕ) → last_some (number_by t) Q ≡ None → last_call (P ++ Q) t ≡ last_call P t
+pub no_call : (P Q : List Entry) (t : ℕ) → last_some (number_by t) Q ≡ None → last_call (P ++ Q) t ≡ last_call P t
 unfolding last_call
 no_call [] Q t none = none
 no_call (e ∷ P) Q t none = ap (λ o. option_or o (number_by t e)) (no_call P Q t none)
 
-outputs_call : (outputs : List Output) (t : ℕ) → last_some (number_by t) (map Written outputs) ≡ None
+pub outputs_call : (outputs : List Output) (t : ℕ) → last_some (number_by t) (map Written outputs) ≡ None
 outputs_call [] t = refl
 outputs_call (output ∷ outputs) t = ap (λ o. option_or o None) (outputs_call outputs t)
 
-clock_call : (H : List Entry) (moment t : ℕ) → last_some (number_by t) (at_if_later H moment) ≡ None
+pub clock_call : (H : List Entry) (moment t : ℕ) → last_some (number_by t) (at_if_later H moment) ≡ None
 clock_call H moment t = go (nat_lt (now H) moment) refl
   where
     go : (b : Bool) → nat_lt (now H) moment ≡ b → last_some (number_by t) (at_if_later H moment) ≡ None
@@ -212,7 +238,7 @@ ticks_keeps old new reading t ticks = go (list_any (is_due_at old.history (at_mo
     }
 
 -- the outcomes that were taken stay taken
-still_among : (n : ℕ) (taken more : List ℕ) → is_among n taken ≡ true → is_among n (taken ++ more) ≡ true
+pub still_among : (n : ℕ) (taken more : List ℕ) → is_among n taken ≡ true → is_among n (taken ++ more) ≡ true
 still_among n taken more among = list_any-append (λ k. k == n) taken more ∙ rw among refl
 
 gives_taken : (n : ℕ) (taken : List ℕ) (outcome : Option OutcomeParts) → is_among n taken ≡ true → is_among n (taken_after outcome taken) ≡ true

@@ -8,17 +8,18 @@ use Rattle.ipc_history.specs.Timing.{is_due_at}
 use Rattle.ipc_history.specs.Legal.{Legal, Quiet, Follows, is_admissible}
 use Rattle.ipc_history.specs.declared.entry.Entry.{Entry}
 use Rattle.ipc_history.specs.declared.entry.Entry.TheVariants.{Given, Written}
-use Rattle.ipc_core.specs.CourseParts.{CourseParts, SameBooks}
+use Rattle.ipc_core.specs.CourseParts.{ComesIdle, CourseParts, SameBooks}
 use Rattle.ipc_core.specs.Finished.{is_of, with_name}
 use Rattle.ipc_history.specs.Calls.{caller_of}
 use Rattle.ipc_history.specs.Outcomes.{OutcomeParts, nothing, outcome_in, outcome_of}
 use Rattle.ipc_history.specs.Phases.{is_over}
 use Rattle.ipc_history.specs.Words.{first_some}
-use Rattle.ipc_desks.specs.CallsOf.{last_call, outcome_to_take, untaken_outcome}
+use Rattle.ipc_desks.specs.CallsOf.{is_busy, last_call, outcome_to_take, untaken_outcome}
 use Rattle.ipc_desks.proofs.LastCalls.{last_is}
 use Rattle.std.proofs.lemmas.Option.{none-some}
 use Rattle.ipc_core.specs.Outcomes.{IsTaken, finished_from, is_among}
 use Rattle.ipc_core.proofs.BookLemmas.{none_twice}
+use Rattle.ipc_core.proofs.BusyLaws.{clock_call, no_call}
 use Rattle.ipc_core.proofs.FinishedLaws.{finished_clock, finished_live, finished_more, finished_none, named_more, named_once, names_few}
 use Rattle.ipc_desks.specs.Desks.{Keeps as DesksKeep}
 use Rattle.ipc_desks.specs.Finishes.{finishes}
@@ -30,7 +31,7 @@ use Rattle.ipc_history.specs.NextOutput.{next_output}
 use Rattle.ipc_history.specs.Settled.{Continued, Settled}
 use Rattle.ipc_history.specs.declared.entry.Output.{Output}
 use Rattle.ipc_history.specs.declared.entry.Input.{Input}
-use Rattle.ipc_history.specs.declared.entry.Input.TheVariants.{At}
+use Rattle.ipc_history.specs.declared.entry.Input.TheVariants.{At, Opened, Called, Exreg, Broke, Moved}
 use Rattle.ipc_laws.specs.Counting.{all_steps_left, room_owed}
 use Rattle.std.proofs.lemmas.Bool.{lt-ltb, or_left, or_right}
 use Rattle.ipc_laws.proofs.Tests.{both}
@@ -241,3 +242,16 @@ module _ (H : List Entry) (moment room : ℕ) (legal : Legal H) (quiet : Quiet H
 
   pub tick_spends : (Q R : List Entry) (output : Output) → Q ≡ H ++ Given (At moment) ∷ [] → next_output Q ≡ Some output → R ≡ Q ++ Written output ∷ [] → length R + room_owed R ≤ length H + room_owed H
   tick_spends Q R output longer next more = rw (more, longer) (tick_spent output (sym (ap next_output longer) ∙ next))
+
+-- who is not busy is not busy after an At
+busy_clocked : (H : List Entry) (moment : ℕ) (taken : List ℕ) (thread : ℕ) → is_busy (H ++ at_if_later H moment) taken thread ≡ is_busy H taken thread
+unfolding is_busy
+busy_clocked H moment taken thread = ap (λ o. option_map_or (λ n. not (is_among n taken)) o false) (no_call H (at_if_later H moment) thread (clock_call H moment thread))
+
+pub clocked_idle : (H : List Entry) (moment : ℕ) (taken : List ℕ) (input : Input) → ComesIdle H taken (Given input) → ComesIdle (H ++ at_if_later H moment) taken (Given input)
+clocked_idle H moment taken (Called n thread call) idle = busy_clocked H moment taken thread ∙ idle
+clocked_idle H moment taken (At reading) idle = idle
+clocked_idle H moment taken (Opened thread space) idle = idle
+clocked_idle H moment taken (Exreg thread target control) idle = idle
+clocked_idle H moment taken (Broke thread) idle = idle
+clocked_idle H moment taken (Moved k count) idle = idle

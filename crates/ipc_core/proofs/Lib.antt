@@ -11,6 +11,7 @@ pub mod EnteringLemmas
 pub mod Running
 pub mod Obeyed
 pub mod Few
+pub mod OtherCalls
 pub mod BookLemmas
 pub mod FinishedLaws
 pub mod Resting

@@ -1,11 +1,11 @@
 -- Which calls a command enters: of a Called its own, of every other command none.
 use Rattle.std.proofs.lemmas.Bool.{false≢true, or_cases}
-use Rattle.std.proofs.Common.{◌≡◌, refl, sym, ap, ap₂, ◌∙◌, ℕ, Bool, true, false, ◌||◌, ◌==◌, if◌then◌else◌, List, [], ◌∷◌, ◌++◌, append_assoc, map, eq-eqb, Option, Some, None, is_some, inl, inr}
+use Rattle.std.proofs.Common.{◌≡◌, refl, sym, ap, ap₂, ◌∙◌, ℕ, Bool, true, false, ◌||◌, ◌==◌, if◌then◌else◌, List, [], ◌∷◌, ◌++◌, append_assoc, map, eq-eqb, eqb-true, subst, Option, Some, None, is_some, inl, inr}
 use Rattle.std.specs.Prelude.{nat_lt}
 use Rattle.std.specs.Option.{option_or}
 use Rattle.ipc_history.specs.CallParts.{CallParts}
 use Rattle.ipc_history.specs.Entries.{call_in, calls}
-use Rattle.ipc_history.specs.Calls.{call_at, is_called}
+use Rattle.ipc_history.specs.Calls.{call_at, caller_of, is_called}
 use Rattle.ipc_history.specs.Threads.{now}
 use Rattle.ipc_history.specs.Settled.{Settled}
 use Rattle.ipc_history.specs.declared.entry.Entry.{Entry}
@@ -16,7 +16,10 @@ use Rattle.ipc_history.specs.declared.entry.Output.{Output}
 use Rattle.ipc_laws.proofs.Growth.{call_at_kept}
 use Rattle.ipc_laws.proofs.Tests.{not_both}
 use Rattle.ipc_laws.proofs.WordLemmas.{first_some_append, first_some_push}
+use Rattle.ipc_desks.specs.CallsOf.{last_call, number_by}
+use Rattle.ipc_desks.proofs.LastCalls.{last_push}
 use Rattle.ipc_core.specs.Steps.{at_if_later, with_input}
+use Rattle.ipc_core.proofs.BusyLaws.{clock_call, no_call, outputs_call}
 
 either_some : {X : Type 0} (a b : Option X) → is_some (option_or a b) ≡ (is_some a || is_some b)
 either_some None b = refl
@@ -94,12 +97,37 @@ pub record Grows (H K : List Entry) (input : Input) : Type 0 where
   pub more : List Entry
   pub whole : K ≡ H ++ more
   pub called : (n : ℕ) → is_called K n ≡ (is_called H n || calls n (Given input))
+  pub last : (t : ℕ) → last_call K t ≡ option_or (number_by t (Given input)) (last_call H t)
+  pub entered : (n : ℕ) → is_called H n ≡ false → calls n (Given input) ≡ true → last_call K (caller_of K n) ≡ Some n
+
+-- the last calls after a command
+settled_last : (P K : List Entry) → Settled P K → (t : ℕ) → last_call K t ≡ last_call P t
+settled_last P K settled t = ap (λ l. last_call l t) settled.appended ∙ no_call P (map Written settled.outputs) t (outputs_call settled.outputs t)
+
+with_last : (H : List Entry) (moment : ℕ) (input : Input) (t : ℕ) → last_call (with_input H moment input) t ≡ option_or (number_by t (Given input)) (last_call H t)
+with_last H moment input t = last_push (H ++ at_if_later H moment) (Given input) t ∙ ap (option_or (number_by t (Given input))) (no_call H (at_if_later H moment) t (clock_call H moment t))
+
+-- a call that was entered is the last one of its thread
+is_last : (H K : List Entry) (moment : ℕ) (input : Input) → Settled (with_input H moment input) K → (n : ℕ) → is_called H n ≡ false → calls n (Given input) ≡ true → last_call K (caller_of K n) ≡ Some n
+unfolding caller_of
+is_last H K moment (Called k thread call) settled n absent here =
+    let same : k ≡ n = eqb-true k n here in
+    let at : call_at K n ≡ Some (thread, call) = call_entered H K moment n thread call (subst (λ j. Settled (with_input H moment (Called j thread call)) K) same settled) absent in
+    let last : last_call K thread ≡ Some n = settled_last (with_input H moment (Called k thread call)) K settled thread ∙ (with_last H moment (Called k thread call) thread ∙ rw (eq-eqb thread thread refl) (ap Some same)) in
+    rw at last
+is_last H K moment (At reading) settled n absent here = absurd (false≢true here)
+is_last H K moment (Opened thread space) settled n absent here = absurd (false≢true here)
+is_last H K moment (Exreg thread target control) settled n absent here = absurd (false≢true here)
+is_last H K moment (Broke thread) settled n absent here = absurd (false≢true here)
+is_last H K moment (Moved k count) settled n absent here = absurd (false≢true here)
 
 pub takes_grows : (H K : List Entry) (moment : ℕ) (input : Input) → Settled (with_input H moment input) K → Grows H K input
 takes_grows H K moment input settled = record {
   more = at_if_later H moment ++ (Given input ∷ map Written settled.outputs);
   whole = settled.appended ∙ (append_assoc (H ++ at_if_later H moment) (Given input ∷ []) (map Written settled.outputs) ∙ append_assoc H (at_if_later H moment) (Given input ∷ map Written settled.outputs));
   called = λ n. called_settled (with_input H moment input) K settled n ∙ called_with H moment input n;
+  last = λ t. settled_last (with_input H moment input) K settled t ∙ with_last H moment input t;
+  entered = is_last H K moment input settled;
 }
 
 pub ticks_grows : (H K : List Entry) (moment : ℕ) → Settled (H ++ Given (At moment) ∷ []) K → Grows H K (At moment)
@@ -107,6 +135,8 @@ ticks_grows H K moment settled = record {
   more = Given (At moment) ∷ map Written settled.outputs;
   whole = settled.appended ∙ append_assoc H (Given (At moment) ∷ []) (map Written settled.outputs);
   called = λ n. called_settled (H ++ Given (At moment) ∷ []) K settled n ∙ (called_append H (Given (At moment) ∷ []) n ∙ ap (λ b. is_called H n || b) (called_given (At moment) n));
+  last = λ t. settled_last (H ++ Given (At moment) ∷ []) K settled t ∙ last_push H (Given (At moment)) t;
+  entered = λ n absent here. absurd (false≢true here);
 }
 
 -- the input is a call

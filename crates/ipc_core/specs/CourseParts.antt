@@ -1,8 +1,9 @@
 -- What contracts see of a course.
-use Rattle.std.specs.Prelude.{◌≡◌, ℕ, List, Option, Some}
+use Rattle.std.specs.Prelude.{◌≡◌, ℕ, List, Option, Some, IsFalse}
 use Rattle.ipc_history.specs.declared.entry.Entry.{Entry}
 use Rattle.ipc_history.specs.declared.entry.Entry.TheVariants.{Given}
 use Rattle.ipc_history.specs.declared.entry.Input.TheVariants.{Called}
+use Rattle.ipc_desks.specs.CallsOf.{is_busy}
 use Rattle.ipc_desks.specs.Messages.{PreparedParts, prepared}
 
 -- the entries and for how many there is room, the calls whose outcome was taken, the length before the last command, and the threads
@@ -23,3 +24,8 @@ pub record SameBooks (old new : CourseParts) : Type 0 where
 abbrev pub HasCopies : Entry → Option PreparedParts → Type 0
 HasCopies (Given (Called n thread call)) copies = copies ≡ Some (prepared call)
 HasCopies _ copies = Unit {0}
+
+-- a call is entered of a thread that is not busy
+abbrev pub ComesIdle : List Entry → List ℕ → Entry → Type 0
+ComesIdle H taken (Given (Called n thread call)) = IsFalse (is_busy H taken thread)
+ComesIdle H taken _ = Unit {0}

@@ -5,6 +5,7 @@ use Rattle.ipc_words.specs.Limits.{table_slots, last_moment, max_entries, max_ca
 use Rattle.ipc_history.specs.Calls.{numbers}
 use Rattle.ipc_history.specs.Threads.{now}
 use Rattle.ipc_history.specs.Timing.{is_due_at}
+use Rattle.ipc_history.specs.HistoryParts.{HistoryParts}
 use Rattle.ipc_history.specs.Legal.{Legal, Quiet}
 use Rattle.ipc_history.specs.declared.entry.Entry.{Entry}
 use Rattle.ipc_laws.specs.Counting.{room_owed}
@@ -26,6 +27,12 @@ pub record IsCourse (H : List Entry) (waiting : Waiting) (desks : List Desk) (ta
   pub once : IsDistinct (λ a b. a == b) finished
   pub begun : since ≤ length H
   pub wide : table_slots ≤ width
+
+-- a course of which memory holds all entries
+pub record IsHeldCourse (history : HistoryParts) (waiting : Waiting) (desks : List Desk) (taken : List ℕ) (since : ℕ)
+    (finished : List ℕ) (width : ℕ) : Type 0 where
+  pub course : IsCourse history.entries waiting desks taken since finished width
+  pub whole : history.held.whole_from ≡ 0
 
 -- a kernel's history is legal and quiet, within its limit with all that is owed; its moment is not before
 -- the history's, and no phase is due then

@@ -5,6 +5,7 @@ use Rattle.ipc_history.specs.CallParts.{CallParts}
 use Rattle.ipc_history.specs.Legal.{Legal, Quiet}
 use Rattle.ipc_history.specs.Outcomes.{OutcomeParts}
 use Rattle.ipc_history.specs.Threads.{is_live}
+use Rattle.ipc_core.specs.Books.{TookOthers}
 use Rattle.ipc_core.specs.KernelParts.{KernelParts, without_room}
 use Rattle.ipc_core.specs.Obeying.{MayObey, Runs}
 use Rattle.ipc_core.specs.Outcomes.{IsTaken, is_busy, is_finished, outcome_to_take}
@@ -14,12 +15,13 @@ use Rattle.ipc_core.specs.declared.command.Command.{Command}
 use Rattle.ipc_core.specs.declared.command.Command.TheVariants.{Enter, Take}
 
 -- what is true of a kernel between commands: its history is legal and quiet; each call that was taken was made and is over, and
--- none was taken twice; and the history has not become shorter
+-- none was taken twice; of each thread every call but its last was taken; and the history has not become shorter
 pub record IsSound (kernel : KernelParts) : Type 0 where
   pub legal : Legal kernel.history
   pub quiet : Quiet kernel.history
   pub taken : All (IsTaken kernel.history) kernel.taken
   pub once : IsDistinct (λ a b. a == b) kernel.taken
+  pub others : TookOthers kernel.history kernel.taken
   pub since : kernel.since ≤ length kernel.history
 
 -- a command keeps it true

@@ -15,11 +15,11 @@ ghost use Rattle.ipc_history.specs.Settled.{Continued, Settled};
 ghost use Rattle.ipc_history.specs.Timing.{is_due_at};
 ghost use Rattle.ipc_laws.specs.Counting.{open_calls, pledged, room_owed, live_threads, pledge_of};
 ghost use Rattle.ipc_desks.specs.CallsOf.{is_busy, last_call, made_by, outcome_to_take, taken_by};
-ghost use Rattle.ipc_desks.specs.Desks.{Keeps};
+ghost use Rattle.ipc_desks.specs.Desks.{Keeps, one_if};
 ghost use Rattle.ipc_desks.specs.Messages.{prepared};
 ghost use Rattle.ipc_desks.specs.Finishes.{finishes, is_named};
 ghost use Rattle.ipc_slots.specs.Slots.{Stands};
-ghost use Rattle.ipc_core.specs.CourseParts.{HasCopies, SameBooks};
+ghost use Rattle.ipc_core.specs.CourseParts.{ComesIdle, HasCopies, SameBooks};
 ghost use Rattle.ipc_core.specs.Finished.{IsFresh, with_name};
 ghost use Rattle.ipc_core.specs.Outcomes.{IsTaken, finished_from, is_among};
 ghost use Rattle.ipc_core.specs.Steps.{at_if_later, taken_after, with_input};
@@ -52,7 +52,7 @@ pub(crate) struct Course {
 impl Model for Course {
     ghost use Rattle.std.specs.Prelude.{vec_capacity};
     ghost use Rattle.ipc_core.specs.CourseParts.{CourseParts};
-    ghost use Rattle.ipc_core.specs.Invariants.{IsCourse};
+    ghost use Rattle.ipc_core.specs.Invariants.{IsHeldCourse};
 
     ghost Value = { CourseParts };
 
@@ -64,7 +64,7 @@ impl Model for Course {
       finished = c.finished.items;
     } };
 
-    ghost invariant = { λ c. IsCourse c.history.entries c.waiting c.desks c.taken c.since c.finished.items
+    ghost invariant = { λ c. IsHeldCourse c.history c.waiting c.desks c.taken c.since c.finished.items
         (vec_capacity c.finished) };
 }
 
@@ -89,8 +89,10 @@ impl Course {
     pub(crate) fn entries(&self) -> &[Entry]
         ensures entries { result.now ≡ self.now.entries }
         ensures legal { Legal self.now.entries }
+        ensures counted { (thread : ℕ) → taken_by self.now.entries self.now.taken thread
+            + one_if (is_busy self.now.entries self.now.taken thread) ≡ made_by self.now.entries thread }
     {
-        self.history.entries()
+        self.history.entries_from(0)
     }
 
     /// How many outcomes were taken.
@@ -360,6 +362,7 @@ impl Course {
     /// Appends an entry that may follow, with the copies that a call brings. Takes no memory.
     fn append(&mut self, entry: Entry, copies: Option<Prepared>)
         requires follows { Follows self.old.entries entry }
+        requires idle { ComesIdle self.old.entries self.old.taken entry }
         requires copies { HasCopies entry copies }
         requires room { length self.old.entries < self.old.room }
         requires fresh { IsFresh self.old entry }
@@ -419,6 +422,7 @@ impl Course {
         requires admissible { IsTrue (is_admissible self.old.entries input) }
         requires no_clock { is_clock input ≡ false }
         requires room { length self.old.entries + room_owed self.old.entries + command_need input ≤ self.old.room }
+        requires idle { ComesIdle self.old.entries self.old.taken (Given input) }
         requires copies { HasCopies (Given input) copies }
         requires begun { self.old.since ≡ length self.old.entries }
         ensures books { SameBooks self.old self.new }
@@ -440,6 +444,7 @@ impl Course {
         requires admissible { IsTrue (is_admissible self.old.entries input) }
         requires no_clock { is_clock input ≡ false }
         requires room { length self.old.entries + room_owed self.old.entries + command_need input ≤ self.old.room }
+        requires idle { ComesIdle self.old.entries self.old.taken (Given input) }
         requires copies { HasCopies (Given input) copies }
         ensures legal { Legal self.new.entries }
         ensures taken { self.new.taken ≡ self.old.taken }
@@ -488,6 +493,7 @@ fn note(
     requires follows { Follows entries.now entry.now }
     requires stands { Stands entries.now slots.now }
     requires keeps { Keeps entries.now taken.now desks.old }
+    requires idle { ComesIdle entries.now taken.now entry.now }
     requires copies { HasCopies entry.now copies }
     ensures keeps { Keeps (entries.now ++ entry.now ∷ []) taken.now desks.new }
     ensures finished { (t : ℕ) → is_named result t ≡ finishes entries.now entry.now t }

@@ -13,6 +13,7 @@ ghost use Rattle.ipc_history.specs.Settled.{Settled};
 ghost use Rattle.ipc_history.specs.Threads.{is_live, now};
 ghost use Rattle.ipc_history.specs.Timing.{is_due_at};
 ghost use Rattle.ipc_laws.specs.Counting.{open_calls, pledged};
+ghost use Rattle.ipc_laws.specs.Laws.{one_if};
 ghost use Rattle.ipc_core.specs.Effects.{Breaks, Exchanges, Gives, Ticks};
 ghost use Rattle.ipc_core.specs.ExchangeRegisters.{exreg_answer};
 ghost use Rattle.ipc_core.specs.KernelParts.{KernelParts};
@@ -113,6 +114,8 @@ impl Kernel {
         ensures paired { Paired self.now.history }
         ensures within { length self.now.history ≤ self.now.entries_limit }
         ensures sound { IsSound self.now }
+        ensures counted { (thread : ℕ) → taken_by self.now thread + one_if (has_untaken self.now thread)
+            ≡ made_by self.now.history thread }
     {
         self.course.entries()
     }

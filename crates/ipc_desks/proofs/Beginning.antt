@@ -24,5 +24,5 @@ kept_none desks n is all = record {
   table = λ k. rw is (desk_at-replicate n k ∙ sym (desk_none k));
   called = λ n among. absurd (false≢true among);
   over = λ n among. absurd (false≢true among);
-  counted = λ t. zero-le;
+  counted = λ t. refl;
 }

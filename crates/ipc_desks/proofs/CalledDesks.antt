@@ -158,20 +158,23 @@ module _ (P : List Entry) (n t : ℕ) (call : CallParts) (legal : Legal P) (foll
             let other : t ≢ u = λ same. apart (ap number_of same ∙ is.number) in
             thread_desk_same P e legal follows taken u is.live refl (last_other u other) (made_other u other) (took u) (λ k l. (refl, refl))
 
-    counted_now : ((u : ℕ) → taken_by P taken u + one_if (is_busy P taken u) ≤ made_by P u) → (u : ℕ) → taken_by Q taken u + one_if (is_busy Q taken u) ≤ made_by Q u
+    none_busy : is_busy P taken t ≡ false → one_if (is_busy P taken t) ≡ 0
+    none_busy idle = rw idle refl
+
+    counted_now : is_busy P taken t ≡ false → ((u : ℕ) → taken_by P taken u + one_if (is_busy P taken u) ≡ made_by P u) → (u : ℕ) → taken_by Q taken u + one_if (is_busy Q taken u) ≡ made_by Q u
     unfolding is_busy
-    counted_now counted u = elim (cases_eq t u) [
-      | inl same ↦ rw (← same) (rw (took t, last_now, made_now, untaken taken called) (omega (arith, counted t)))
+    counted_now idle counted u = elim (cases_eq t u) [
+      | inl same ↦ rw (← same) (rw (took t, last_now, made_now, untaken taken called) (omega (arith, counted t, none_busy idle)))
       | inr other ↦ rw (took u, last_other u other, made_other u other) (counted u)
     ]
 
-    pub called_keeps : (old new : List Desk) → Keeps P taken old → Changed (number_of t) (entered n call (prepared call)) old new → Keeps Q taken new
-    called_keeps old new keeps changed = record {
+    pub called_keeps : is_busy P taken t ≡ false → (old new : List Desk) → Keeps P taken old → Changed (number_of t) (entered n call (prepared call)) old new → Keeps Q taken new
+    called_keeps idle old new keeps changed = record {
       size = changed.size ∙ keeps.size;
       table = λ k. elim (cases_eq k (number_of t)) [ inl is ↦ rw is (changed.here ∙ (ap (entered n call (prepared call)) (keeps.table (number_of t)) ∙ sym desk_called)) | inr p ↦ changed.beside k p ∙ (keeps.table k ∙ sym (desk_beside k (λ g. p (sym g)))) ];
       called = λ k among. is_called_kept P (e ∷ []) k (keeps.called k among);
       over = λ k among. over_kept P (e ∷ []) k (keeps.called k among) (keeps.over k among);
-      counted = counted_now keeps.counted;
+      counted = counted_now idle keeps.counted;
     }
 
   -- what it ends

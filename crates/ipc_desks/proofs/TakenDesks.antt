@@ -262,7 +262,7 @@ module _ (P : List Entry) (legal : Legal P) (taken : List ℕ) (desks : List Des
     which : (k : ℕ) → is_among k more ≡ true → (is_among k taken ≡ true) ⊎ (n ≡ k)
     which k among = elim (or_cases _ _ (sym (among_more k) ∙ among)) [ inl a ↦ inl a | inr b ↦ inr (eqb-true n k b) ]
 
-    counted_now : (u : ℕ) → taken_by P more u + one_if (is_busy P more u) ≤ made_by P u
+    counted_now : (u : ℕ) → taken_by P more u + one_if (is_busy P more u) ≡ made_by P u
     counted_now u = elim (cases_eq t u) [
       | inl same ↦ rw (← same) (rw (taken_itself, busy_itself) (omega (arith, keeps.counted t, one_busy busy_before)))
       | inr apart ↦ rw (taken_other u apart, busy_other u apart) (keeps.counted u)

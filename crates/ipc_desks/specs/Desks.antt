@@ -49,10 +49,10 @@ abbrev pub desk_at : List Desk → ℕ → Desk
 desk_at desks k = slice_index_or desks k blank_desk
 
 -- the desks are those of the history, where the outcomes of these calls were taken; only outcomes of calls that were over were
--- taken, and of each thread no more than it made calls
+-- taken, and of each thread as many as it made calls, but for the last one where the thread is busy
 pub record Keeps (H : List Entry) (taken : List ℕ) (desks : List Desk) : Type 0 where
   pub size : length desks ≡ table_slots
   pub table : (k : ℕ) → desk_at desks k ≡ desk_of H taken k
   pub called : (n : ℕ) → IsTrue (is_among n taken) → IsTrue (is_called H n)
   pub over : (n : ℕ) → IsTrue (is_among n taken) → IsTrue (is_over H n)
-  pub counted : (thread : ℕ) → taken_by H taken thread + one_if (is_busy H taken thread) ≤ made_by H thread
+  pub counted : (thread : ℕ) → taken_by H taken thread + one_if (is_busy H taken thread) ≡ made_by H thread

@@ -485,6 +485,7 @@ impl Desks {
         requires legal { Legal entries.now }
         requires follows { Follows entries.now (Given (Called number caller call.now)) }
         requires keeps { Keeps entries.now taken.now self.old }
+        requires idle { IsFalse (is_busy entries.now taken.now caller) }
         requires copies { copies ≡ prepared call.now }
         ensures keeps { Keeps (entries.now ++ Given (Called number caller call.now) ∷ []) taken.now self.new }
         ensures finished { (t : ℕ) → is_named result t ≡ finishes entries.now (Given (Called number caller call.now)) t }

@@ -22,7 +22,7 @@ left a b h = grind arith
 right : (a b : Bool) → (a && b) ≡ true → b ≡ true
 right a b h = grind arith
 
-silent_call : (number : ℕ) (e : Entry) → calls number e ≡ false → call_in number e ≡ None
+pub silent_call : (number : ℕ) (e : Entry) → calls number e ≡ false → call_in number e ≡ None
 silent_call number (Given (Called k t c)) h = rw h refl
 silent_call number (Given (At moment)) h = refl
 silent_call number (Given (Opened thread space)) h = refl

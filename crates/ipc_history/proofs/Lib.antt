@@ -2,3 +2,4 @@ pub mod CallLemmas
 pub mod Settling
 pub mod Rows
 pub mod EnteredOnce
+pub mod HoldingLemmas

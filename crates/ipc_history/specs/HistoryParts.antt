@@ -2,7 +2,13 @@
 use Rattle.std.specs.Prelude.{ℕ, List}
 use Rattle.ipc_history.specs.declared.entry.Entry.{Entry}
 
--- its entries, oldest first, and how many it has room for
+-- what memory holds of a history: some of the entries before a place, oldest first, and from that place on all
+pub record HeldParts : Type 0 where
+  pub front : List Entry
+  pub whole_from : ℕ
+
+-- its entries, oldest first; which of them are held; and how many it has room for, with those that were let go
 pub record HistoryParts : Type 0 where
   pub entries : List Entry
+  pub held : HeldParts
   pub room : ℕ

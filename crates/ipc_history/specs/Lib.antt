@@ -3,10 +3,10 @@ pub mod Fields
 pub mod Words
 pub mod Entries
 pub mod HistoryParts
-pub mod Holding
 pub mod Calls
 pub mod Threads
 pub mod Phases
+pub mod Holding
 pub mod ExchangeRegisters
 pub mod Matching
 pub mod Timing

@@ -1,7 +1,7 @@
 ghost use Rattle.std.specs.Prelude.{◌≡◌, Some, IsFalse, IsTrue};
 ghost use Rattle.ipc_history.specs.Calls.{call_at, is_called};
 ghost use Rattle.ipc_history.specs.Entries.{call_in, calls};
-ghost use Rattle.ipc_history.specs.Holding.{HasCall};
+ghost use Rattle.ipc_history.specs.Holding.{HasCall, Holds};
 ghost use Rattle.ipc_history.specs.Legal.{Legal};
 ghost use Rattle.ipc_history.specs.Phases.{is_over};
 
@@ -11,7 +11,8 @@ use ipc_past::Past;
 use ipc_words::ThreadId;
 use std::marker::Model;
 
-/// The entries of a history: seen as the whole past, of which a program reads the calls that are open. Memory holds all of them.
+/// The entries of a history: seen as the whole past, of which a program reads the calls that are open. Memory holds the
+/// entries of these, and may hold others.
 #[derive(Drop)]
 pub struct Entries<'a> {
     past: &'a Past<Entry>,
@@ -19,14 +20,15 @@ pub struct Entries<'a> {
 }
 
 impl<'a> Model for Entries<'a> {
-    ghost use Rattle.std.specs.Prelude.{◌≡◌, List};
+    ghost use Rattle.std.specs.Prelude.{List};
+    ghost use Rattle.ipc_history.specs.Holding.{Holds};
     ghost use Rattle.ipc_history.specs.declared.entry.Entry.{Entry};
 
     ghost Value = { List Entry };
 
     ghost view = { λ e. e.past.now };
 
-    ghost invariant = { λ e. e.held.now ≡ e.past.now };
+    ghost invariant = { λ e. Holds e.past.now e.held.now };
 }
 
 /// The place of the entry that enters a call, by a walk.
@@ -68,6 +70,14 @@ impl<'a> Entries<'a> {
     /// A past, and all its entries in memory.
     pub fn of(past: &'a Past<Entry>, held: &'a [Entry]) -> Entries<'a>
         requires { held.now ≡ past.now }
+        ensures { result ≡ past.now }
+    {
+        Entries { past, held }
+    }
+
+    /// A past, and what memory holds of it.
+    pub(crate) fn held(past: &'a Past<Entry>, held: &'a [Entry]) -> Entries<'a>
+        requires { Holds past.now held.now }
         ensures { result ≡ past.now }
     {
         Entries { past, held }

@@ -1,72 +1,105 @@
-ghost use Rattle.std.specs.Prelude.{◌≡◌, ◌≤◌, ◌<◌, ◌+◌, [], ◌∷◌, ◌++◌, ◌==◌, length, OnOk, OnErr};
+ghost use Rattle.std.specs.Prelude.{◌≡◌, ◌≤◌, ◌<◌, ◌+◌, ◌^◌, [], ◌∷◌, ◌++◌, ◌==◌, drop, length, Contains, IsFalse, IsTrue, OnOk, OnErr};
+ghost use Rattle.ipc_history.specs.Entries.{calls};
+ghost use Rattle.ipc_history.specs.Holding.{compacted, held_of, reached};
+ghost use Rattle.ipc_history.specs.Phases.{is_over};
+ghost use Rattle.ipc_history.specs.declared.entry.Entry.{Entry};
 
 use crate::entries::Entries;
 use crate::entry::Entry;
+use crate::keeping::{Keeps, keep_before};
 use ipc_past::Past;
 use std::alloc::{AllocError, Global};
 use std::marker::Model;
 
-/// A history: the whole past, oldest entry first, and how many entries it has room for. Memory holds all entries of the past.
+/// A history: the whole past, oldest entry first, and how many entries it has room for. Memory holds the entries of the open calls,
+/// and from a place on all.
 #[derive(Drop)]
 pub struct History {
     past: Past<Entry>,
     entries: Vec<Entry>,
+    kept: usize,
+    gone: usize,
 }
 
 impl Model for History {
-    ghost use Rattle.std.specs.Prelude.{◌≡◌, vec_capacity};
+    ghost use Rattle.std.specs.Prelude.{◌+◌, take, vec_capacity};
     ghost use Rattle.ipc_history.specs.HistoryParts.{HistoryParts};
+    ghost use Rattle.ipc_history.specs.Holding.{IsHeld};
 
     ghost Value = { HistoryParts };
 
-    ghost view = { λ h. record { entries = h.past; room = vec_capacity h.entries } };
+    ghost view = { λ h. record {
+      entries = h.past;
+      held = record { front = take h.kept h.entries.items; whole_from = h.kept + h.gone };
+      room = vec_capacity h.entries + h.gone;
+    } };
 
-    ghost invariant = { λ h. h.entries.items ≡ h.past };
+    ghost invariant = { λ h. IsHeld h.past h.entries.items h.kept h.gone };
 }
 
 impl History {
     /// An empty history. Takes no memory.
     pub fn new(alloc: Global) -> History
         ensures entries { result.entries ≡ [] }
+        ensures held { result.held ≡ record { front = []; whole_from = 0 } }
         ensures room { result.room ≡ 0 }
     {
         History {
             past: Past::new(),
             entries: Vec::new(alloc),
+            kept: 0,
+            gone: 0,
         }
     }
 
-    /// The entries, oldest first.
-    pub fn entries(&self) -> &[Entry]
-        ensures { result.now ≡ self.now.entries }
+    /// The entries from a place on, oldest first.
+    pub fn entries_from(&self, place: usize) -> &[Entry]
+        requires { self.now.held.whole_from ≤ place }
+        ensures { result.now ≡ drop place self.now.entries }
     {
-        &self.entries
+        let behind = (place - self.gone).min(self.entries.len());
+        &self.entries[behind..]
+    }
+
+    /// The place from which on all entries are held.
+    pub fn whole_from(&self) -> usize
+        ensures { result ≡ self.now.held.whole_from }
+    {
+        self.kept + self.gone
     }
 
     /// The whole past, whose calls can be read.
     pub fn whole(&self) -> Entries<'_>
         ensures { result ≡ self.now.entries }
     {
-        Entries::of(&self.past, &self.entries)
+        Entries::held(&self.past, &self.entries)
     }
 
     /// How many entries there are.
     pub fn len(&self) -> usize
         ensures { result ≡ length self.now.entries }
     {
-        self.entries.len()
+        self.entries.len() + self.gone
     }
 
     /// Whether there is no entry.
     pub fn is_empty(&self) -> bool
         ensures { result ≡ (length self.now.entries == 0) }
     {
-        self.entries.is_empty()
+        self.len() == 0
+    }
+
+    /// How many entries are held.
+    pub fn held_len(&self) -> usize
+        ensures { result ≡ length (held_of self.now) }
+    {
+        self.entries.len()
     }
 
     /// Makes room for so many more entries. The room grows by doubling. Where memory is refused nothing changes.
     pub fn reserve(&mut self, more: usize) -> Result<(), AllocError>
         ensures entries { self.new.entries ≡ self.old.entries }
+        ensures held { self.new.held ≡ self.old.held }
         ensures ok { OnOk result (length self.new.entries + more ≤ self.new.room) }
         ensures room { self.old.room ≤ self.new.room }
         ensures err { OnErr result (self.new.room ≡ self.old.room) }
@@ -79,9 +112,38 @@ impl History {
     pub fn push(&mut self, entry: Entry)
         requires { length self.old.entries < self.old.room }
         ensures entries { self.new.entries ≡ self.old.entries ++ entry ∷ [] }
+        ensures held { self.new.held ≡ self.old.held }
         ensures room { self.new.room ≡ self.old.room }
     {
         self.past.add(&entry);
         self.entries.push_reserved(entry);
+    }
+
+    /// Where compacting up to a place ends.
+    fn reached(&self, upto: usize) -> usize
+        ensures { result ≡ reached upto self.now }
+    {
+        if upto < self.whole_from() {
+            self.whole_from()
+        } else if upto < self.len() {
+            upto
+        } else {
+            self.len()
+        }
+    }
+
+    /// Lets go of the entries before a place that are not to be kept. Takes no memory.
+    pub fn compact<K: Keeps>(&mut self, upto: usize, keeps: &K)
+        requires called { (n : _) (e : Entry) → IsFalse (is_over self.old.entries n) → Contains self.old.entries e
+            → IsTrue (calls n e) → IsTrue (K.test keeps.now e) }
+        requires few { length self.old.entries < 2 ^ 63 }
+        ensures entries { self.new.entries ≡ self.old.entries }
+        ensures held { self.new.held ≡ compacted (K.test keeps.now) upto self.old }
+        ensures room { self.new.room + length (held_of self.new) ≡ self.old.room + length (held_of self.old) }
+    {
+        let behind = self.reached(upto) - self.gone;
+        let kept = keep_before(&mut self.entries, behind, keeps);
+        self.kept = kept;
+        self.gone += behind - kept;
     }
 }

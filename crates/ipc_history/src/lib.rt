@@ -6,6 +6,7 @@ mod entered;
 mod entries;
 mod entry;
 mod history;
+mod keeping;
 mod outcome;
 
 pub use call::{Call, CallFields};
@@ -13,4 +14,5 @@ pub use entered::EnteredCall;
 pub use entries::Entries;
 pub use entry::{Entry, Input, Output};
 pub use history::History;
+pub use keeping::Keeps;
 pub use outcome::Outcome;

@@ -6,20 +6,23 @@ use Rattle.ipc_core.proofs.CourseLemmas.{course_more, each_some, first_place, se
 use Rattle.ipc_core.proofs.course.Course.append.Goals as goal
 
 pub add-requires : goal.add-requires
-add-requires c = each_some c.note-ended.result.first (λ t. is_among t c.self.inside.finished.items ≡ false → vec_len c.self.inside.finished < vec_capacity c.self.inside.finished) (λ t is absent. (let few = first_place _ c.whole-entries.result _ c.args.entry _ _ _ _ _ _ c.self.invariant c.self.invariant.begun (rw (ap (λ h. h.entries) c.self.view_is) c.requires.follows) c.whole-entries.ensures refl (subst (λ v. IsFresh v c.args.entry) (sym c.self.view_is) c.requires.fresh) c.note-ended.result.first c.note-ended.result.second c.note-ended.ensures.finished t is absent in omega (arith, few)))
+add-requires c = each_some c.note-ended.result.first (λ t. is_among t c.self.inside.finished.items ≡ false → vec_len c.self.inside.finished < vec_capacity c.self.inside.finished) (λ t is absent. (let few = first_place _ c.whole-entries.result _ c.args.entry _ _ _ _ _ _ c.self.invariant.course c.self.invariant.course.begun (rw (ap (λ h. h.entries) c.self.view_is) c.requires.follows) c.whole-entries.ensures refl (subst (λ v. IsFresh v c.args.entry) (sym c.self.view_is) c.requires.fresh) c.note-ended.result.first c.note-ended.result.second c.note-ended.ensures.finished t is absent in omega (arith, few)))
 
 pub add-requires-2 : goal.add-requires-2
 add-requires-2 c = each_some c.note-ended.result.second (λ t. is_among t c.add.new.names.items ≡ false → vec_len c.add.new.names < vec_capacity c.add.new.names) (λ t is absent. (
     let wide = c.add.ensures.capacity in
-    let few = second_place _ c.whole-entries.result _ c.args.entry _ _ _ _ _ _ c.self.invariant c.self.invariant.begun (rw (ap (λ h. h.entries) c.self.view_is) c.requires.follows) c.whole-entries.ensures refl (subst (λ v. IsFresh v c.args.entry) (sym c.self.view_is) c.requires.fresh) c.note-ended.result.first c.note-ended.result.second c.note-ended.ensures.finished t (vec_capacity c.add.new.names) (omega (arith, wide)) is (ap (is_among t) (sym c.add.ensures.items) ∙ absent) in
+    let few = second_place _ c.whole-entries.result _ c.args.entry _ _ _ _ _ _ c.self.invariant.course c.self.invariant.course.begun (rw (ap (λ h. h.entries) c.self.view_is) c.requires.follows) c.whole-entries.ensures refl (subst (λ v. IsFresh v c.args.entry) (sym c.self.view_is) c.requires.fresh) c.note-ended.result.first c.note-ended.result.second c.note-ended.ensures.finished t (vec_capacity c.add.new.names) (omega (arith, wide)) is (ap (is_among t) (sym c.add.ensures.items) ∙ absent) in
     omega (arith, few, ap length c.add.ensures.items)))
 
 pub invariant_of-self : goal.invariant_of-self
 invariant_of-self c =
     let wide = c.add.ensures.capacity in
     let wider = c.add-2.ensures.capacity in
-    course_more _ c.whole-entries.result _ c.args.entry _ _ _ _ _ _ c.self.invariant c.self.invariant.begun (rw (ap (λ h. h.entries) c.self.view_is) c.requires.follows) c.whole-entries.ensures c.push.ensures.entries (subst (λ v. IsFresh v c.args.entry) (sym c.self.view_is) c.requires.fresh) c.note-ended.result.first c.note-ended.result.second c.note-ended.ensures.finished
-    c.note.new.self c.note-ended.new.desks c.add-2.new.names.items (vec_capacity c.add-2.new.names) c.note.ensures
-    (subst (λ t. Keeps (c.whole-entries.result ++ c.args.entry ∷ []) t c.note-ended.new.desks) c.past.ensures c.note-ended.ensures.keeps)
-    (c.add-2.ensures.items ∙ ap (λ l. with_name l c.note-ended.result.second) c.add.ensures.items)
-    (omega (arith, wide, wider))
+    record {
+      whole = ap (λ h. h.whole_from) c.push.ensures.held ∙ c.self.invariant.whole;
+      course = course_more _ c.whole-entries.result _ c.args.entry _ _ _ _ _ _ c.self.invariant.course c.self.invariant.course.begun (rw (ap (λ h. h.entries) c.self.view_is) c.requires.follows) c.whole-entries.ensures c.push.ensures.entries (subst (λ v. IsFresh v c.args.entry) (sym c.self.view_is) c.requires.fresh) c.note-ended.result.first c.note-ended.result.second c.note-ended.ensures.finished
+          c.note.new.self c.note-ended.new.desks c.add-2.new.names.items (vec_capacity c.add-2.new.names) c.note.ensures
+          (subst (λ t. Keeps (c.whole-entries.result ++ c.args.entry ∷ []) t c.note-ended.new.desks) c.past.ensures c.note-ended.ensures.keeps)
+          (c.add-2.ensures.items ∙ ap (λ l. with_name l c.note-ended.result.second) c.add.ensures.items)
+          (omega (arith, wide, wider));
+    }

@@ -1,5 +1,8 @@
 use Rattle.ipc_core.proofs.CourseLemmas.{input_fresh, more_books, clock_follows, command_follows, command_places, command_spent}
-use Rattle.std.proofs.Common.{◌∙◌}
+use Rattle.std.proofs.Common.{◌∙◌, ◌++◌, subst, sym}
+use Rattle.ipc_core.specs.CourseParts.{ComesIdle}
+use Rattle.ipc_core.specs.Steps.{at_if_later}
+use Rattle.ipc_core.proofs.CourseLemmas.{clocked_idle}
 use Rattle.ipc_history.specs.declared.entry.Entry.TheVariants.{Given}
 use Rattle.ipc_core.proofs.course.Course.give.Goals as goal
 
@@ -23,3 +26,9 @@ append-requires-clause-fresh c = input_fresh _ _ c.args.moment _ (Given c.args.i
 
 pub returns-clause-books : goal.returns-clause-books
 returns-clause-books c = more_books _ _ _ c.clock.ensures.books c.append.ensures.books
+
+pub append-requires-clause-idle : goal.append-requires-clause-idle
+append-requires-clause-idle c =
+    let front = c.args.self.now.entries ++ at_if_later c.args.self.now.entries c.args.moment in
+    subst (λ l. ComesIdle l c.clock.new.self.taken (Given c.args.input)) (sym c.clock.ensures.entries)
+    (subst (λ t. ComesIdle front t (Given c.args.input)) (sym c.clock.ensures.books.taken) (clocked_idle _ _ _ c.args.input c.requires.idle))

@@ -13,7 +13,7 @@ returns-clause-done c =
     let taken : c.past.result.now ≡ c.args.self.now.taken = c.past.ensures ∙ ap (λ v. v.taken) c.self.view_is in
     let given = ap₂ (λ l k. outcome_to_take l k c.args.thread) (sym entries) (sym taken) ∙ (sym c.take.ensures.given ∙ c.in_ok-outcome.was) in
     let last = ap (λ l. last_call l c.args.thread) (sym entries) ∙ c.in_ok-outcome.ensures.call in
-    let done = took c.args.self.now.entries c.args.self.now.taken c.args.thread c.in_ok-outcome.outcome (subst Legal (ap (λ v. v.entries) c.self.view_is) c.self.invariant.legal) given last in
+    let done = took c.args.self.now.entries c.args.self.now.taken c.args.thread c.in_ok-outcome.outcome (subst Legal (ap (λ v. v.entries) c.self.view_is) c.self.invariant.course.legal) given last in
     done.0
 
 pub returns-clause-fresh : goal.returns-clause-fresh
@@ -22,5 +22,5 @@ returns-clause-fresh c =
     let taken : c.past.result.now ≡ c.args.self.now.taken = c.past.ensures ∙ ap (λ v. v.taken) c.self.view_is in
     let given = ap₂ (λ l k. outcome_to_take l k c.args.thread) (sym entries) (sym taken) ∙ (sym c.take.ensures.given ∙ c.in_ok-outcome.was) in
     let last = ap (λ l. last_call l c.args.thread) (sym entries) ∙ c.in_ok-outcome.ensures.call in
-    let done = took c.args.self.now.entries c.args.self.now.taken c.args.thread c.in_ok-outcome.outcome (subst Legal (ap (λ v. v.entries) c.self.view_is) c.self.invariant.legal) given last in
+    let done = took c.args.self.now.entries c.args.self.now.taken c.args.thread c.in_ok-outcome.outcome (subst Legal (ap (λ v. v.entries) c.self.view_is) c.self.invariant.course.legal) given last in
     done.1

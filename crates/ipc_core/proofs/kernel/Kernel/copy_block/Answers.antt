@@ -30,5 +30,5 @@ invariant_of-self-2 c =
     let same = c.take_input.ensures.room in
     record {
       kernel = kernel_after _ _ _ c.self.inside.course _ (Moved c.in-Some.number c.in-Some.block) c.self.invariant.kernel (moved_admissible _ _ _ c.in-Some.ensures.some.0 c.in-Some.ensures.some.1) refl (omega arith) (omega arith) c.take_input.ensures.settled c.take_input.ensures.spent;
-      books = books_grown _ _ _ (takes_grows _ _ _ _ c.take_input.ensures.settled) c.self.inside.course.taken _ c.take_input.ensures.taken _ c.self.inside.course.since c.take_input.ensures.since c.self.invariant.books;
+      books = books_grown _ _ _ (takes_grows _ _ _ _ c.take_input.ensures.settled) c.self.inside.course.taken _ c.take_input.ensures.taken _ c.self.inside.course.since c.take_input.ensures.since c.self.invariant.books tt;
     }

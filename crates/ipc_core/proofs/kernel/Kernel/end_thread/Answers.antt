@@ -17,7 +17,7 @@ invariant_of-self c =
     let same = c.take_input.ensures.room in
     record {
       kernel = kernel_after _ _ _ c.self.inside.course _ (Broke c.args.thread) c.self.invariant.kernel (broke_admissible _ _ live) refl (omega arith) (omega arith) c.take_input.ensures.settled c.take_input.ensures.spent;
-      books = books_grown _ _ _ (takes_grows _ _ _ _ c.take_input.ensures.settled) c.self.inside.course.taken _ c.take_input.ensures.taken _ c.self.inside.course.since c.take_input.ensures.since c.self.invariant.books;
+      books = books_grown _ _ _ (takes_grows _ _ _ _ c.take_input.ensures.settled) c.self.inside.course.taken _ c.take_input.ensures.taken _ c.self.inside.course.since c.take_input.ensures.since c.self.invariant.books tt;
     }
 
 pub returns-clause-ok : goal.returns-clause-ok

@@ -1,4 +1,4 @@
-use Rattle.std.proofs.Common.{◌≡◌, ◌+◌, ◌≤◌, IsTrue, length, ap, sym, subst, inl, inr, refl, ◌∙◌, arith}
+use Rattle.std.proofs.Common.{◌≡◌, ◌+◌, ◌≤◌, ℕ, Some, true, IsTrue, length, ap, sym, subst, inl, inr, refl, ◌∙◌, arith}
 use Rattle.ipc_history.specs.Threads.{is_live}
 use Rattle.ipc_history.specs.Calls.{calls_made}
 use Rattle.ipc_history.specs.Legal.{Legal, is_admissible}
@@ -7,7 +7,10 @@ use Rattle.ipc_history.specs.declared.entry.Input.TheVariants.{Called}
 use Rattle.ipc_laws.specs.Counting.{pledged, room_owed}
 use Rattle.ipc_core.specs.Room.{is_full, call_need}
 use Rattle.ipc_core.specs.Steps.{with_input}
+use Rattle.ipc_desks.specs.CallsOf.{is_busy, last_call}
+use Rattle.ipc_core.specs.Outcomes.{is_among}
 use Rattle.ipc_core.proofs.BookLemmas.{books_grown}
+use Rattle.ipc_core.proofs.BusyLaws.{last_taken, not_waiting}
 use Rattle.ipc_core.proofs.KernelLemmas.{kernel_after}
 use Rattle.ipc_core.proofs.NewCalls.{takes_grows}
 use Rattle.ipc_core.proofs.EnteringLemmas.{no_thread, busy, spent, full, test_moved, passes, passes_entered, passes_may_call, called_room, called_within, enters}
@@ -61,9 +64,10 @@ invariant_of-self c =
     (subst (λ l. length l + room_owed l + call_need c.args.call ≤ c.take_input.new.self.room) same (subst (λ r. length c.prepare.new.self.entries + room_owed c.prepare.new.self.entries + call_need c.args.call ≤ r) (sym c.take_input.ensures.room) fits))
     settled
     (subst (λ call. length c.take_input.new.self.entries + room_owed c.take_input.new.self.entries ≤ length c.self.inside.course.entries + room_owed c.self.inside.course.entries + call_need call) c.in-Ok.ensures.call (subst (λ l. length c.take_input.new.self.entries + room_owed c.take_input.new.self.entries ≤ length l + room_owed l + call_need c.in-Ok.entered) same c.take_input.ensures.spent)) in
+    let idle : (m : ℕ) → last_call c.self.inside.course.entries c.args.thread ≡ Some m → is_among m c.self.inside.course.taken ≡ true = λ m last. ap (λ k. is_among m k.taken) c.self.view_is ∙ last_taken c.args.self.now c.args.thread m (test_moved (λ l. is_live l c.args.thread) _ _ _ _ _ refl view c.is_live.ensures c.if-not-is_live.false) (sym c.is_busy.ensures ∙ c.if-is_busy.false) (ap (λ l. last_call l c.args.thread) (sym view) ∙ last) in
     record {
       kernel = kernel;
-      books = books_grown _ _ (Called (c.calls_made-made.result + 1) c.args.thread c.args.call) (takes_grows _ _ _ _ settled) c.self.inside.course.taken _ (c.take_input.ensures.taken ∙ c.in-Ok.ensures.taken) _ c.self.inside.course.since (c.take_input.ensures.since ∙ ap length same) c.self.invariant.books;
+      books = books_grown _ _ (Called (c.calls_made-made.result + 1) c.args.thread c.args.call) (takes_grows _ _ _ _ settled) c.self.inside.course.taken _ (c.take_input.ensures.taken ∙ c.in-Ok.ensures.taken) _ c.self.inside.course.since (c.take_input.ensures.since ∙ ap length same) c.self.invariant.books idle;
     }
 
 pub returns-in-Ok-clause-ok : goal.returns-in-Ok-clause-ok
@@ -76,3 +80,6 @@ returns-in-Ok-clause-ok c =
           c.take_input.ensures.legal (c.take_input.ensures.since ∙ ap length same)
           refl refl refl (omega (arith, c.in-Ok.ensures.room, c.take_input.ensures.room)) (c.take_input.ensures.taken ∙ c.in-Ok.ensures.taken),
     )
+
+pub take_input-requires-clause-idle : goal.take_input-requires-clause-idle
+take_input-requires-clause-idle c = rw (c.in-Ok.ensures.entries, c.in-Ok.ensures.taken) (ap (λ k. is_busy k.history k.taken c.args.thread) c.self.view_is ∙ not_waiting c.args.self.now c.args.thread (test_moved (λ l. is_live l c.args.thread) _ _ _ _ _ refl (ap (λ k. k.history) c.self.view_is) c.is_live.ensures c.if-not-is_live.false) (sym c.is_busy.ensures ∙ c.if-is_busy.false))

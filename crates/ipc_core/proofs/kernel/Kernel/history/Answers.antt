@@ -1,7 +1,10 @@
-use Rattle.std.proofs.Common.{ap, subst, ◌≤◌, length, arith}
+use Rattle.std.proofs.Common.{◌≡◌, ℕ, ◌+◌, ap, subst, ◌≤◌, length, arith}
 use Rattle.ipc_history.specs.Paired.{Paired}
 use Rattle.ipc_laws.proofs.Promise.{paired}
+use Rattle.ipc_laws.specs.Laws.{one_if}
 use Rattle.ipc_core.specs.Laws.{IsSound}
+use Rattle.ipc_core.specs.Outcomes.{has_untaken, made_by, taken_by}
+use Rattle.ipc_core.proofs.BusyLaws.{counted_live}
 use Rattle.ipc_core.proofs.kernel.Kernel.history.Goals as goal
 
 pub returns-clause-paired : goal.returns-clause-paired
@@ -16,5 +19,9 @@ returns-clause-sound c = subst IsSound c.self.view_is (record {
   quiet = c.self.invariant.kernel.stands.quiet;
   taken = c.self.invariant.books.taken_are;
   once = c.self.invariant.books.once;
+  others = c.self.invariant.books.others;
   since = c.self.invariant.books.begun;
 })
+
+pub returns-clause-counted : goal.returns-clause-counted
+returns-clause-counted c = subst (λ k. (t : ℕ) → taken_by k t + one_if (has_untaken k t) ≡ made_by k.history t) c.self.view_is (counted_live _ c.entries.ensures.counted)

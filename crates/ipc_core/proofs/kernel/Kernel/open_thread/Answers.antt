@@ -75,7 +75,7 @@ invariant_of-self-2 c =
     let kernel = kernel_took _ _ _ c.make_room.new.self c.take_input.new.self (Opened c.thread_id-thread.result c.args.space) had admissible refl c.take_input.ensures.settled c.take_input.ensures.room c.take_input.ensures.spent in
     record {
       kernel = kernel;
-      books = books_grown _ _ _ (takes_grows _ _ _ _ c.take_input.ensures.settled) c.self.inside.course.taken _ (c.take_input.ensures.taken ∙ c.make_room.ensures.books.taken) _ c.self.inside.course.since c.take_input.ensures.since (subst (λ l. AreBooks l c.self.inside.course.taken c.self.inside.course.since) (sym c.make_room.ensures.entries) c.self.invariant.books);
+      books = books_grown _ _ _ (takes_grows _ _ _ _ c.take_input.ensures.settled) c.self.inside.course.taken _ (c.take_input.ensures.taken ∙ c.make_room.ensures.books.taken) _ c.self.inside.course.since c.take_input.ensures.since (subst (λ l. AreBooks l c.self.inside.course.taken c.self.inside.course.since) (sym c.make_room.ensures.entries) c.self.invariant.books) tt;
     }
 
 pub returns-clause-ok : goal.returns-clause-ok

@@ -29,7 +29,7 @@ invariant_of-self c =
           let books = more_books _ _ _ w.tick.ensures.books w.settle.ensures.books in
           record {
             kernel = kernel_ticks _ _ _ c.max-moment.result c.begin.new.self whole.kernel (omega arith) (omega arith) (sym c.is_any_due_at.ensures ∙ w.if-is_any_due_at.true) w.settle.new.self settled (w.settle.ensures.room ∙ w.tick.ensures.room) (omega arith);
-            books = books_grown _ _ (At c.max-moment.result) (ticks_grows _ _ _ settled) c.begin.new.self.taken _ books.taken _ c.begin.new.self.since (books.since ∙ (c.begin.ensures.since ∙ sym (ap length c.begin.ensures.entries))) whole.books;
+            books = books_grown _ _ (At c.max-moment.result) (ticks_grows _ _ _ settled) c.begin.new.self.taken _ books.taken _ c.begin.new.self.since (books.since ∙ (c.begin.ensures.since ∙ sym (ap length c.begin.ensures.entries))) whole.books tt;
           })
       | else-is_any_due_at w ↦ rw w.self-inside-is (record {
         kernel = kernel_waits _ _ _ c.max-moment.result c.begin.new.self whole.kernel (omega arith) (omega arith) (sym c.is_any_due_at.ensures ∙ w.if-is_any_due_at.false);

@@ -1,0 +1,34 @@
+use Rattle.std.proofs.Common.{◌≡◌, ◌∙◌, ◌+◌, ◌-◌, ◌≤◌, ◌<◌, ◌++◌, ap, sym, subst, drop, take, filter, length, arith}
+use Rattle.ipc_history.specs.Holding.{held_before, reached}
+use Rattle.ipc_history.specs.HistoryParts.{HeldParts, HistoryParts}
+use Rattle.ipc_history.proofs.HoldingLemmas.{held_fields, reached_least, reached_most, still_held, take_at}
+use Rattle.ipc_history.proofs.history.History.compact.Goals as goal
+
+pub invariant_of-self : goal.invariant_of-self
+invariant_of-self g c =
+    let past = c.self.inside.past in
+    let same : past ≡ c.args.self.now.entries = ap (λ h. h.entries) c.self.view_is in
+    let size = c.self.invariant.size in
+    let within = c.self.invariant.within in
+    let view : HistoryParts = record { entries = past; held = record { front = take c.self.inside.kept c.self.inside.entries.items; whole_from = c.self.inside.kept + c.self.inside.gone }; room = c.self.inside.entries.cap + c.self.inside.gone } in
+    let least = reached_least view c.args.upto (omega (arith, size, within)) in
+    let most = reached_most view c.args.upto (omega (arith, size, within)) in
+    let at : c.reached.result ≡ reached c.args.upto view = c.reached.ensures ∙ ap (reached c.args.upto) (sym c.self.view_is) in
+    let ok = c.self.inside.entries.ok in
+    let ok2 = c.keep_before-kept.new.entries.ok in
+    let long = c.keep_before-kept.ensures.len in
+    let few = c.requires.few in
+    still_held _ _ _ _ c.self.invariant c.keep_before-kept.new.entries.items (g.K.Keeps.test c.args.keeps.now) c.reached.result c.keep_before-kept.result
+    (omega (arith, at, least)) (omega (arith, at, most)) (omega (arith, few, ap length same)) (λ n e o inside h. c.requires.called n e (rw (sym same) o) (rw (sym same) inside) h)
+    c.keep_before-kept.ensures.few c.keep_before-kept.ensures.kept c.keep_before-kept.ensures.rest (omega (arith, long, ok, ok2))
+
+pub returns-clause-held : goal.returns-clause-held
+returns-clause-held g c =
+    let size = c.self.invariant.size in
+    let within = c.self.invariant.within in
+    let view : HistoryParts = record { entries = c.self.inside.past; held = record { front = take c.self.inside.kept c.self.inside.entries.items; whole_from = c.self.inside.kept + c.self.inside.gone }; room = c.self.inside.entries.cap + c.self.inside.gone } in
+    let least = reached_least view c.args.upto (omega (arith, size, within)) in
+    let at : c.reached.result ≡ reached c.args.upto view = c.reached.ensures ∙ ap (reached c.args.upto) (sym c.self.view_is) in
+    let less = c.keep_before-kept.ensures.few in
+    let front = c.keep_before-kept.ensures.kept ∙ ap (filter (g.K.Keeps.test c.args.keeps.now)) (take_at _ _ _ _ c.self.invariant c.reached.result (omega (arith, at, least)) ∙ ap (λ k. take c.self.inside.kept c.self.inside.entries.items ++ take (k - (c.self.inside.kept + c.self.inside.gone)) (drop (c.self.inside.kept + c.self.inside.gone) c.self.inside.past)) at) in
+    rw (← c.self.view_is) (held_fields _ _ _ _ front (omega (arith, at, least, less)))

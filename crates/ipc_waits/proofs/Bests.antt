@@ -8,8 +8,8 @@ use Rattle.ipc_history.specs.Phases.{is_over}
 use Rattle.ipc_history.specs.Legal.{Legal}
 use Rattle.ipc_history.specs.declared.entry.Entry.{Entry}
 use Rattle.ipc_history.specs.declared.entry.Output.{Output}
-use Rattle.ipc_candidates.specs.Candidates.{is_among}
-use Rattle.ipc_candidates.specs.Laws.{AsksOnly}
+use Rattle.ipc_waits.specs.Finding.{is_among}
+use Rattle.ipc_waits.specs.FindingLaws.{AsksOnly}
 use Rattle.ipc_slots.specs.Least.{IsFound, IsLeast, better_of}
 use Rattle.ipc_slots.specs.Rules.{rule_of}
 use Rattle.ipc_slots.specs.Slots.{Stands, slot_at}

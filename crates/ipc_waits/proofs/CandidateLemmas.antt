@@ -8,7 +8,7 @@ use Rattle.std.proofs.lemmas.Map.Steps.{length-le_from_distinct_below}
 use Rattle.std.proofs.Common.{◌≡◌, refl, sym, ap, ap₂, ◌∙◌, subst, ℕ, ◌+◌, ◌<◌, ◌≤◌, ◌||◌, ◌==◌, eqb-true, Bool, true, false, List, [], ◌∷◌, ◌++◌, length, take, map, get_or, if◌then◌else◌, inl, inr, arith}
 use Rattle.std.specs.Prelude.{All}
 use Rattle.std.specs.List.{IsDistinct, list_any}
-use Rattle.ipc_candidates.specs.Candidates.{is_among}
+use Rattle.ipc_waits.specs.Finding.{is_among}
 use Rattle.ipc_words.specs.Limits.{table_slots}
 use Rattle.ipc_waits.specs.Candidates.{ArePlaces, with_place}
 use Rattle.ipc_waits.specs.declared.queue.Wait.{Wait}

@@ -5,7 +5,7 @@ use Rattle.std.proofs.Common.{◌≡◌, refl, sym, ap, ◌∙◌, subst, ℕ, s
 use Rattle.std.specs.List.{AllByRecursion, IsDistinct, list_any, position, position_from}
 use Rattle.std.proofs.lemmas.Iterator.Adapters.{position_from-zero}
 use Rattle.std.specs.Prelude.{IfNone}
-use Rattle.ipc_candidates.specs.Candidates.{is_among}
+use Rattle.ipc_waits.specs.Finding.{is_among}
 use Rattle.ipc_words.specs.Limits.{table_slots}
 use Rattle.ipc_waits.specs.Candidates.{ArePlaces, FollowsPlace}
 use Rattle.ipc_waits.proofs.Numbers.{eqb_sym}

@@ -8,8 +8,8 @@ use Rattle.ipc_history.specs.Legal.{Follows, Legal}
 use Rattle.ipc_history.specs.Phases.{is_over}
 use Rattle.ipc_history.specs.declared.entry.Entry.{Entry}
 use Rattle.ipc_laws.proofs.Growth.{caller_of_kept, open_is_called}
-use Rattle.ipc_candidates.specs.Candidates.{CoversAt, is_among, touched as touched_by}
-use Rattle.ipc_candidates.proofs.AtPlaces.{entry_covers_at}
+use Rattle.ipc_waits.specs.Finding.{CoversAt, is_among, touched as touched_by}
+use Rattle.ipc_waits.proofs.AtPlaces.{entry_covers_at}
 use Rattle.ipc_slots.specs.Changes.{HasNamed, HaveChanged, changes_at, names_place}
 use Rattle.ipc_slots.specs.Slots.{Stands, slot_at}
 use Rattle.ipc_slots.specs.Steps.{standing_in}

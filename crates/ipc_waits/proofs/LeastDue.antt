@@ -17,9 +17,9 @@ use Rattle.ipc_history.specs.declared.entry.Output.TheVariants.{Failed}
 use Rattle.ipc_laws.specs.Laws.{timeout_at}
 use Rattle.ipc_laws.proofs.Tests.{left, right}
 use Rattle.ipc_laws.proofs.Changing.{changes}
-use Rattle.ipc_candidates.specs.Candidates.{IsRising, is_among}
-use Rattle.ipc_candidates.proofs.Among.{numbers_rise, open_among}
-use Rattle.ipc_candidates.proofs.Kept.{due_at_open}
+use Rattle.ipc_waits.specs.Finding.{IsRising, is_among}
+use Rattle.ipc_waits.proofs.Among.{numbers_rise, open_among}
+use Rattle.ipc_waits.proofs.Kept.{due_at_open}
 use Rattle.ipc_slots.specs.Rules.{rule_of}
 use Rattle.ipc_slots.specs.declared.rules.Rule.TheVariants.{Expires}
 use Rattle.ipc_slots.specs.Slots.{Stands}

@@ -7,6 +7,11 @@ pub mod Edits
 pub mod Here
 pub mod Leasts
 pub mod Laws
+pub mod Lists
+pub mod Under
+pub mod Among
+pub mod Kept
+pub mod AtPlaces
 pub mod CandidateLemmas
 pub mod Dropped
 pub mod Following

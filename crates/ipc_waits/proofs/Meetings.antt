@@ -15,10 +15,10 @@ use Rattle.ipc_history.specs.declared.entry.Entry.{Entry}
 use Rattle.ipc_history.specs.declared.entry.Output.{Output}
 use Rattle.ipc_laws.proofs.CallOrder.{is_open_call}
 use Rattle.ipc_laws.proofs.Tests.{left, right}
-use Rattle.ipc_candidates.specs.Candidates.{CoversAt, senders, sends_to, source_of}
-use Rattle.ipc_candidates.proofs.Among.{numbers_rise}
-use Rattle.ipc_candidates.proofs.AtPlaces.{found_at, source_is_sender}
-use Rattle.ipc_candidates.proofs.Lists.{rising_filter}
+use Rattle.ipc_waits.specs.Finding.{CoversAt, senders, sends_to, source_of}
+use Rattle.ipc_waits.proofs.Among.{numbers_rise}
+use Rattle.ipc_waits.proofs.AtPlaces.{found_at, source_is_sender}
+use Rattle.ipc_waits.proofs.Lists.{rising_filter}
 use Rattle.ipc_slots.specs.Least.{IsFound, earlier}
 use Rattle.ipc_slots.specs.Rules.{IsStanding, waits_to_receive}
 use Rattle.ipc_slots.specs.Slots.{Stands, slot_at}

@@ -14,10 +14,10 @@ use Rattle.ipc_history.specs.declared.entry.Entry.TheVariants.{Given}
 use Rattle.ipc_history.specs.declared.entry.Input.{Input}
 use Rattle.ipc_history.specs.declared.entry.Input.TheVariants.{At, Broke}
 use Rattle.ipc_laws.proofs.Tests.{not_both}
-use Rattle.ipc_candidates.specs.Candidates.{CoversAt, is_among, touched, watches}
-use Rattle.ipc_candidates.proofs.AtPlaces.{IsTouched as Touching, touched_is}
-use Rattle.ipc_candidates.proofs.AtPlaces.IsTouched.{Due, Named, Watching}
-use Rattle.ipc_candidates.proofs.Kept.{due_at_open}
+use Rattle.ipc_waits.specs.Finding.{CoversAt, is_among, touched, watches}
+use Rattle.ipc_waits.proofs.AtPlaces.{IsTouched as Touching, touched_is}
+use Rattle.ipc_waits.proofs.AtPlaces.IsTouched.{Due, Named, Watching}
+use Rattle.ipc_waits.proofs.Kept.{due_at_open}
 use Rattle.ipc_slots.specs.Slots.{Stands, live_of, slot_of}
 use Rattle.ipc_slots.specs.Steps.{standing_in}
 use Rattle.ipc_slots.specs.declared.slots.Slots.{Slots}

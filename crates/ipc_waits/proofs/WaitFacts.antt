@@ -15,10 +15,10 @@ use Rattle.ipc_laws.proofs.Places.{any_at, any_place}
 use Rattle.ipc_laws.proofs.PhaseParts.{sends_parts}
 use Rattle.ipc_laws.proofs.Steps.{number_of_open}
 use Rattle.ipc_laws.proofs.Tests.{both, left, right}
-use Rattle.ipc_candidates.specs.Candidates.{is_among, senders, sends_to, watches}
-use Rattle.ipc_candidates.proofs.Among.{open_among}
-use Rattle.ipc_candidates.proofs.Kept.{due_at_open}
-use Rattle.ipc_candidates.proofs.Lists.{among_filtered}
+use Rattle.ipc_waits.specs.Finding.{is_among, senders, sends_to, watches}
+use Rattle.ipc_waits.proofs.Among.{open_among}
+use Rattle.ipc_waits.proofs.Kept.{due_at_open}
+use Rattle.ipc_waits.proofs.Lists.{among_filtered}
 use Rattle.ipc_slots.specs.Slots.{Stands, slot_at}
 use Rattle.ipc_slots.specs.Standings.{standing_of}
 use Rattle.ipc_slots.specs.Steps.{standing_in}

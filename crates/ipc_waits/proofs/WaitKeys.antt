@@ -16,7 +16,7 @@ use Rattle.ipc_history.specs.declared.entry.Entry.{Entry}
 use Rattle.ipc_laws.proofs.Moving.{paired_to}
 use Rattle.ipc_laws.proofs.PhaseParts.{passes_parts, receives_parts, sends_parts}
 use Rattle.ipc_laws.proofs.Tests.{left, not_both, right}
-use Rattle.ipc_candidates.specs.Candidates.{passes_to, sends_to, takes_from, waits_for, watches}
+use Rattle.ipc_waits.specs.Finding.{passes_to, sends_to, takes_from, waits_for, watches}
 use Rattle.ipc_slots.specs.Standings.{phase_of, standing_of}
 use Rattle.ipc_slots.specs.declared.slot.Phase.{Phase}
 use Rattle.ipc_slots.specs.declared.slot.Phase.TheVariants.{Sending, Passing, Receiving, Taking}

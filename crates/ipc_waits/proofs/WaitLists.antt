@@ -6,8 +6,8 @@ use Rattle.std.proofs.lemmas.Option.{none-some, same_Some}
 use Rattle.std.proofs.Common.{All, ◌≡◌, refl, sym, ap, ◌∙◌, subst, ℕ, ◌≤◌, ◌==◌, ◌&&◌, ◌||◌, eq-eqb, eqb-true, nat_lt, nat_le, Bool, true, false, List, [], ◌∷◌, Option, Some, None, option_map, find, filter, map, cond, inl, inr, arith}
 use Rattle.std.specs.List.{list_any}
 use Rattle.ipc_laws.proofs.Tests.{left, right}
-use Rattle.ipc_candidates.specs.Candidates.{IsRising, is_among}
-use Rattle.ipc_candidates.proofs.Among.{find_least}
+use Rattle.ipc_waits.specs.Finding.{IsRising, is_among}
+use Rattle.ipc_waits.proofs.Among.{find_least}
 use Rattle.ipc_waits.specs.Queues.{IsOrdered, comes_before, is_in, is_same, under}
 use Rattle.ipc_waits.specs.declared.queue.Wait.{Wait}
 use Rattle.ipc_waits.proofs.Sames.{same_is, same_itself}

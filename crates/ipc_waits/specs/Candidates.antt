@@ -2,7 +2,7 @@
 use Rattle.std.specs.Prelude.{◌≡◌, ℕ, List, [], ◌∷◌, ◌++◌, ◌==◌, ◌<◌, All, Bool, if◌then◌else◌}
 use Rattle.std.specs.List.{IsDistinct}
 use Rattle.ipc_words.specs.Limits.{table_slots}
-use Rattle.ipc_candidates.specs.Candidates.{is_among}
+use Rattle.ipc_waits.specs.Finding.{is_among}
 
 -- places of a table, each once
 pub record ArePlaces (places : List ℕ) : Type 0 where

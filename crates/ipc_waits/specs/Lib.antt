@@ -1,5 +1,7 @@
 pub mod Queues
 pub mod Keys
+pub mod Finding
+pub mod FindingLaws
 pub mod Places
 pub mod Touching
 pub mod Candidates

@@ -7,7 +7,7 @@ use Rattle.ipc_history.specs.NextOutput.{meeting_of}
 use Rattle.ipc_history.specs.Phases.{is_over}
 use Rattle.ipc_history.specs.declared.entry.Entry.{Entry}
 use Rattle.ipc_history.specs.declared.entry.Output.{Output}
-use Rattle.ipc_candidates.specs.Candidates.{source_of}
+use Rattle.ipc_waits.specs.Finding.{source_of}
 use Rattle.ipc_slots.specs.Least.{IsFound, IsLeast, earlier}
 use Rattle.ipc_slots.specs.Slots.{slot_at}
 use Rattle.ipc_slots.specs.Steps.{standing_in}

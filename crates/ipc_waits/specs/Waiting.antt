@@ -5,7 +5,7 @@ use Rattle.ipc_history.specs.Calls.{caller_of}
 use Rattle.ipc_history.specs.Entries.{names}
 use Rattle.ipc_history.specs.Phases.{is_over}
 use Rattle.ipc_history.specs.declared.entry.Entry.{Entry}
-use Rattle.ipc_candidates.specs.Candidates.{CoversAt, is_among, touched}
+use Rattle.ipc_waits.specs.Finding.{CoversAt, is_among, touched}
 use Rattle.ipc_slots.specs.Slots.{Stands}
 use Rattle.ipc_waits.specs.Keys.{AreWaits}
 use Rattle.ipc_waits.specs.declared.waiting.Waiting.{Waiting}

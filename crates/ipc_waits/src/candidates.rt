@@ -1,5 +1,5 @@
 ghost use Rattle.std.specs.Prelude.{◌≡◌, ℕ, ◌<◌, ◌||◌, [], All, IfNone, IfSome, false, length, map, slice_index_or};
-ghost use Rattle.ipc_candidates.specs.Candidates.{is_among};
+ghost use Rattle.ipc_waits.specs.Finding.{is_among};
 ghost use Rattle.ipc_words.specs.Limits.{table_slots};
 ghost use Rattle.ipc_waits.specs.Candidates.{FollowsPlace, with_place};
 

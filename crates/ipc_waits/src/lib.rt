@@ -3,18 +3,13 @@
 #![tactic(auto)]
 
 mod candidates;
-mod deadlines;
+pub mod finding;
 mod keys;
 mod next;
 mod queue;
-mod send_queues;
 mod waiting;
 mod waits;
-mod watchers;
 
-pub use deadlines::Deadlines;
-pub use queue::Wait;
-pub use send_queues::SendQueues;
+pub use queue::{Queue, Wait};
 pub use waiting::Waiting;
 pub use waits::Waits;
-pub use watchers::Watchers;

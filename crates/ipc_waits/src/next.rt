@@ -1,5 +1,5 @@
 ghost use Rattle.std.specs.Prelude.{◌≡◌, All, length, map};
-ghost use Rattle.ipc_candidates.specs.Laws.{AsksOnly};
+ghost use Rattle.ipc_waits.specs.FindingLaws.{AsksOnly};
 ghost use Rattle.ipc_history.specs.Calls.{numbers};
 ghost use Rattle.ipc_history.specs.Legal.{Legal};
 ghost use Rattle.ipc_history.specs.NextOutput.{meeting_of, next_output, timeout_of};
@@ -88,7 +88,7 @@ impl Waiting {
     {
         match call.phase {
             Phase::Receiving => {
-                let senders = self.waits.senders().of(call.caller);
+                let senders = self.waits.senders().under(call.caller.to_word());
                 first_meeting(&self.slots, entries, senders)
             }
             _ => own_meeting(&self.slots, entries, call),
@@ -145,7 +145,7 @@ impl Waiting {
         ensures { result ≡ first_some (timeout_of entries.now) (numbers entries.now) }
     {
         let now = self.slots.moment();
-        let wait = self.waits.deadlines().least_due(now)?;
+        let wait = self.waits.deadlines().least_until(now)?;
         let call = self.slots.held(wait.place)?;
         self.slots.apply(entries, &Rule::Expires(now), call)
     }

@@ -3,7 +3,7 @@ ghost use Rattle.std.specs.Prelude.{All, IfSome, IfNone, length, take, drop, sli
 ghost use Rattle.std.specs.List.{list_any};
 ghost use Rattle.std.specs.List.Sorted.{IsPartitionPoint};
 ghost use Rattle.ipc_words.specs.Limits.{table_slots};
-ghost use Rattle.ipc_waits.specs.Queues.{IsOrdered, comes_before, is_in, is_placed, is_same, under, until};
+ghost use Rattle.ipc_waits.specs.Queues.{IsLeastWait, IsOrdered, comes_before, is_in, is_placed, is_same, lesser, under, until};
 ghost use Rattle.ipc_waits.specs.Keys.{HasAt, IsSameElsewhere};
 ghost use Rattle.ipc_waits.specs.Places.{IsAt, HasHere};
 ghost use Rattle.ipc_waits.specs.declared.queue.Wait.{Wait};
@@ -74,9 +74,30 @@ fn place_of(waits: &[Wait], wait: &Wait) -> Option<usize>
     None
 }
 
+/// Of the least so far and another wait the one of the lesser number.
+fn lesser(least: Option<Wait>, wait: Wait) -> Option<Wait>
+    ensures { result ≡ lesser least wait }
+{
+    match least {
+        Some(known) if known.number <= wait.number => Some(known),
+        _ => Some(wait),
+    }
+}
+
+/// The one of these waits that has the least number.
+fn least_wait(waits: &[Wait]) -> Option<Wait>
+    ensures { IsLeastWait waits.now result }
+{
+    let mut least = None;
+    for wait in waits {
+        least = lesser(least, *wait);
+    }
+    least
+}
+
 /// Calls that wait under keys, by rising keys and under one key by rising numbers; of each place at most one.
 #[derive(Drop)]
-pub(crate) struct Queue {
+pub struct Queue {
     waits: ArrayVec<Wait, TABLE_SLOTS>,
 }
 
@@ -161,7 +182,7 @@ impl Queue {
     }
 
     /// The waits under a key, by rising numbers.
-    pub(crate) fn under(&self, key: u64) -> &[Wait]
+    pub fn under(&self, key: u64) -> &[Wait]
         ensures value { result.now ≡ under key self.now }
         ensures order { IsOrdered result.now }
         ensures within { All (λ w. w.place < table_slots) result.now }
@@ -171,7 +192,7 @@ impl Queue {
     }
 
     /// The waits whose key is no greater than a moment.
-    pub(crate) fn until(&self, moment: u64) -> &[Wait]
+    pub fn until(&self, moment: u64) -> &[Wait]
         ensures value { result.now ≡ until moment self.now }
         ensures order { IsOrdered result.now }
         ensures within { All (λ w. w.place < table_slots) result.now }
@@ -181,12 +202,19 @@ impl Queue {
     }
 
     /// Whether a wait has a key that is no greater than a moment.
-    pub(crate) fn is_any_until(&self, moment: u64) -> bool
+    pub fn is_any_until(&self, moment: u64) -> bool
         ensures { result ≡ list_any (λ w. nat_le w.key moment) self.now }
     {
         match self.waits.as_slice().first() {
             Some(wait) => wait.key <= moment,
             None => false,
         }
+    }
+
+    /// The wait of the least call whose key is no greater than a moment.
+    pub fn least_until(&self, moment: u64) -> Option<Wait>
+        ensures { IsLeastWait (until moment self.now) result }
+    {
+        least_wait(self.until(moment))
     }
 }

@@ -91,6 +91,6 @@ impl Waiting {
         ensures { result ≡ list_any (is_due_at entries.now moment) (numbers entries.now) }
     {
         let _ = entries;
-        self.waits.deadlines().is_any_due(moment)
+        self.waits.deadlines().is_any_until(moment)
     }
 }

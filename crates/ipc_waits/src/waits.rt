@@ -3,10 +3,8 @@ ghost use Rattle.ipc_words.specs.Limits.{table_slots};
 ghost use Rattle.ipc_waits.specs.Keys.{HaveAt, SameElsewhere};
 ghost use Rattle.ipc_waits.specs.Touching.{waits_touched};
 
-use crate::deadlines::Deadlines;
-use crate::queue::Wait;
-use crate::send_queues::SendQueues;
-use crate::watchers::Watchers;
+use crate::keys::{Due, Partner, Receiver};
+use crate::queue::{Queue, Wait};
 use ipc_history::{Entry, Input};
 use ipc_slots::Standing;
 
@@ -14,9 +12,9 @@ use ipc_slots::Standing;
 /// they are due.
 #[derive(Drop)]
 pub struct Waits {
-    pub(crate) senders: SendQueues,
-    pub(crate) watchers: Watchers,
-    pub(crate) deadlines: Deadlines,
+    pub(crate) senders: Queue,
+    pub(crate) watchers: Queue,
+    pub(crate) deadlines: Queue,
 }
 
 impl Waits {
@@ -27,25 +25,28 @@ impl Waits {
         ensures deadlines { result.deadlines ≡ [] }
     {
         Waits {
-            senders: SendQueues::new(),
-            watchers: Watchers::new(),
-            deadlines: Deadlines::new(),
+            senders: Queue::new(),
+            watchers: Queue::new(),
+            deadlines: Queue::new(),
         }
     }
 
-    pub fn senders(&self) -> &SendQueues
+    /// The waiting send phases, under their receivers.
+    pub fn senders(&self) -> &Queue
         ensures { result.now ≡ self.now.senders }
     {
         &self.senders
     }
 
-    pub fn watchers(&self) -> &Watchers
+    /// The waits and transfers, under the thread whose end fails them.
+    pub fn watchers(&self) -> &Queue
         ensures { result.now ≡ self.now.watchers }
     {
         &self.watchers
     }
 
-    pub fn deadlines(&self) -> &Deadlines
+    /// The waiting phases, under the moment from which they are due, in microseconds.
+    pub fn deadlines(&self) -> &Queue
         ensures { result.now ≡ self.now.deadlines }
     {
         &self.deadlines
@@ -57,7 +58,7 @@ impl Waits {
         ensures within { All (λ w. w.place < table_slots) result.now }
     {
         match entry {
-            Entry::Given(Input::Broke(thread)) => self.watchers.of(*thread),
+            Entry::Given(Input::Broke(thread)) => self.watchers.under(thread.to_word()),
             Entry::Given(Input::At(moment)) => self.deadlines.until(*moment),
             _ => &[],
         }
@@ -70,8 +71,8 @@ impl Waits {
         ensures after { HaveAt self.new place (option_copied after.entry) }
         ensures elsewhere { SameElsewhere self.old self.new place }
     {
-        self.senders.change(place, before, after);
-        self.watchers.change(place, before, after);
-        self.deadlines.change(place, before, after);
+        self.senders.change::<Receiver>(place, before, after);
+        self.watchers.change::<Partner>(place, before, after);
+        self.deadlines.change::<Due>(place, before, after);
     }
 }

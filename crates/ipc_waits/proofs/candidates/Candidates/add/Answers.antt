@@ -1,5 +1,5 @@
 use Rattle.std.proofs.Common.{sym, subst, ◌∙◌, ap, arith}
-use Rattle.ipc_candidates.specs.Candidates.{is_among}
+use Rattle.ipc_waits.specs.Finding.{is_among}
 use Rattle.ipc_waits.specs.Candidates.{ArePlaces}
 use Rattle.ipc_waits.proofs.CandidateLemmas.{places_few, places_more}
 use Rattle.ipc_waits.proofs.candidates.Candidates.add.Goals as goal

@@ -1,5 +1,5 @@
 use Rattle.std.proofs.Common.{ap, ◌∙◌}
-use Rattle.ipc_candidates.specs.Candidates.{is_among}
+use Rattle.ipc_waits.specs.Finding.{is_among}
 use Rattle.ipc_waits.proofs.CandidateLemmas.{among_with}
 use Rattle.ipc_waits.proofs.Dropped.{added}
 use Rattle.ipc_waits.proofs.candidates.Candidates.follow.Goals as goal

@@ -2,7 +2,7 @@ use Rattle.std.proofs.Common.{◌≡◌, ◌==◌, false, sym, subst, ◌∙◌,
 use Rattle.std.specs.Prelude.{IfNone}
 use Rattle.std.proofs.lemmas.Iterator.{YieldsList-from_slice}
 use Rattle.std.proofs.lemmas.Iterator.Search.{position_from_yields_List}
-use Rattle.ipc_candidates.specs.Candidates.{is_among}
+use Rattle.ipc_waits.specs.Finding.{is_among}
 use Rattle.ipc_waits.proofs.Dropped.{absent_from_position}
 use Rattle.ipc_waits.proofs.candidates.Candidates.index_of.Goals as goal
 

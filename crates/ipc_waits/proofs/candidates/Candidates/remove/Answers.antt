@@ -1,5 +1,5 @@
 use Rattle.std.proofs.Common.{◌≡◌, ◌<◌, ap, ◌∙◌, subst, sym, length, get_or, if◌then◌else◌, false, ◌==◌}
-use Rattle.ipc_candidates.specs.Candidates.{is_among}
+use Rattle.ipc_waits.specs.Finding.{is_among}
 use Rattle.ipc_waits.specs.Candidates.{ArePlaces}
 use Rattle.ipc_waits.proofs.Dropped.{places_less, removed}
 use Rattle.ipc_waits.proofs.candidates.Candidates.remove.Goals as goal

@@ -14,14 +14,14 @@ returns-in_err-wait c =
     let waiting = c.requires.waiting in
     let moment : c.moment-now.result ≡ now P = c.moment-now.ensures ∙ waiting.slots.moment in
     let early = now_in_range P c.requires.legal in
-    let least = subst (λ l. IsLeastWait (until c.moment-now.result l) c.least_due.result) c.deadlines.ensures c.least_due.ensures in
+    let least = subst (λ l. IsLeastWait (until c.moment-now.result l) c.least_until.result) c.deadlines.ensures c.least_until.ensures in
     c.from_residual.ensures ∙ sym (sym (first_due P c.moment-now.result moment) ∙ none_is_due P c.args.self.now.slots c.requires.legal waiting.slots c.args.self.now.waits.deadlines waiting.waits.deadlines c.moment-now.result (omega (arith, moment, early)) (subst (IsLeastWait (until c.moment-now.result c.args.self.now.waits.deadlines)) c.in_err-wait.was least))
 
 pub returns-in_err-call : goal.returns-in_err-call
 returns-in_err-call c =
     let P = c.args.entries.now in
     let waiting = c.requires.waiting in
-    let least = subst (IsLeastWait (until c.moment-now.result c.args.self.now.waits.deadlines)) c.in_ok-wait.was (subst (λ l. IsLeastWait (until c.moment-now.result l) c.least_due.result) c.deadlines.ensures c.least_due.ensures) in
+    let least = subst (IsLeastWait (until c.moment-now.result c.args.self.now.waits.deadlines)) c.in_ok-wait.was (subst (λ l. IsLeastWait (until c.moment-now.result l) c.least_until.result) c.deadlines.ensures c.least_until.ensures) in
     let waits = due_is_open P c.args.self.now.slots c.requires.legal waiting.slots c.args.self.now.waits.deadlines waiting.waits.deadlines c.moment-now.result c.in_ok-wait.wait least.0 in
     absurd (none_there P c.args.self.now.slots c.requires.legal waiting.slots c.in_ok-wait.wait waits (sym c.held.ensures ∙ ap option_copied c.in_err-call.was))
 
@@ -29,7 +29,7 @@ pub apply-requires-clause-call : goal.apply-requires-clause-call
 apply-requires-clause-call c =
     let P = c.args.entries.now in
     let waiting = c.requires.waiting in
-    let least = subst (IsLeastWait (until c.moment-now.result c.args.self.now.waits.deadlines)) c.in_ok-wait.was (subst (λ l. IsLeastWait (until c.moment-now.result l) c.least_due.result) c.deadlines.ensures c.least_due.ensures) in
+    let least = subst (IsLeastWait (until c.moment-now.result c.args.self.now.waits.deadlines)) c.in_ok-wait.was (subst (λ l. IsLeastWait (until c.moment-now.result l) c.least_until.result) c.deadlines.ensures c.least_until.ensures) in
     let waits = due_is_open P c.args.self.now.slots c.requires.legal waiting.slots c.args.self.now.waits.deadlines waiting.waits.deadlines c.moment-now.result c.in_ok-wait.wait least.0 in
     (call_there P c.args.self.now.slots c.requires.legal waiting.slots c.in_ok-wait.wait waits c.in_ok-call.call.now (sym c.held.ensures ∙ ap option_copied c.in_ok-call.was)).1
 
@@ -39,7 +39,7 @@ returns c =
     let waiting = c.requires.waiting in
     let moment : c.moment-now.result ≡ now P = c.moment-now.ensures ∙ waiting.slots.moment in
     let early = now_in_range P c.requires.legal in
-    let least = subst (IsLeastWait (until c.moment-now.result c.args.self.now.waits.deadlines)) c.in_ok-wait.was (subst (λ l. IsLeastWait (until c.moment-now.result l) c.least_due.result) c.deadlines.ensures c.least_due.ensures) in
+    let least = subst (IsLeastWait (until c.moment-now.result c.args.self.now.waits.deadlines)) c.in_ok-wait.was (subst (λ l. IsLeastWait (until c.moment-now.result l) c.least_until.result) c.deadlines.ensures c.least_until.ensures) in
     let waits = due_is_open P c.args.self.now.slots c.requires.legal waiting.slots c.args.self.now.waits.deadlines waiting.waits.deadlines c.moment-now.result c.in_ok-wait.wait least.0 in
     let number = (call_there P c.args.self.now.slots c.requires.legal waiting.slots c.in_ok-wait.wait waits c.in_ok-call.call.now (sym c.held.ensures ∙ ap option_copied c.in_ok-call.was)).0 in
     let due = least_is_due P c.args.self.now.slots c.requires.legal waiting.slots c.args.self.now.waits.deadlines waiting.waits.deadlines c.moment-now.result (omega (arith, moment, early)) c.in_ok-wait.wait least in

@@ -1,6 +1,6 @@
 use Rattle.std.proofs.Common.{◌∙◌, ap, ap₂, [], ◌||◌, map}
-use Rattle.ipc_candidates.specs.Candidates.{is_among}
-use Rattle.ipc_candidates.proofs.AtPlaces.{quiet_covers_at}
+use Rattle.ipc_waits.specs.Finding.{is_among}
+use Rattle.ipc_waits.proofs.AtPlaces.{quiet_covers_at}
 use Rattle.ipc_waits.specs.Touching.{waits_touched}
 use Rattle.ipc_waits.proofs.Touches.{is_touched, quiet_before}
 use Rattle.ipc_waits.proofs.waiting.Waiting.touch.Goals.{in-Given, in_default}

@@ -1,4 +1,4 @@
-use Rattle.ipc_candidates.proofs.AtPlaces.{found_at}
+use Rattle.ipc_waits.proofs.AtPlaces.{found_at}
 use Rattle.ipc_waits.proofs.waiting.Waiting.waiting_output.Goals as goal
 
 pub least-requires-clause-asks : goal.least-requires-clause-asks

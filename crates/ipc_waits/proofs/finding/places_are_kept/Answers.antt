@@ -1,5 +1,5 @@
-use Rattle.ipc_candidates.proofs.AtPlaces.{entry_covers_at, quiet_covers_at}
-use Rattle.ipc_candidates.proofs.laws.places_are_kept.Goals as goal
+use Rattle.ipc_waits.proofs.AtPlaces.{entry_covers_at, quiet_covers_at}
+use Rattle.ipc_waits.proofs.finding.places_are_kept.Goals as goal
 
 pub returns-clause-quiet : goal.returns-clause-quiet
 returns-clause-quiet c = quiet_covers_at

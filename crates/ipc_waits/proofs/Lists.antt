@@ -3,7 +3,7 @@ use Rattle.std.proofs.lemmas.Bool.{false≢true, or_cases, or_left, or_right}
 use Rattle.std.proofs.lemmas.Map.Views.{any-filter_same}
 use Rattle.std.proofs.Common.{◌≡◌, refl, sym, ap, ◌∙◌, ℕ, ◌<◌, ◌==◌, eq-eqb, eqb-true, Bool, true, false, ◌||◌, List, [], ◌∷◌, ◌++◌, Some, inl, inr, arith, if◌then◌else◌, nat_lt, filter, cond, find, ◌&&◌}
 use Rattle.ipc_laws.proofs.Tests.{right}
-use Rattle.ipc_candidates.specs.Candidates.{IsRising, insert, is_among}
+use Rattle.ipc_waits.specs.Finding.{IsRising, insert, is_among}
 
 -- a number put in its place
 pub among_insert : (n : ℕ) (xs : List ℕ) (k : ℕ) → is_among (insert n xs) k ≡ ((n == k) || is_among xs k)

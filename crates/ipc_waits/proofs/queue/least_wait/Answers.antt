@@ -1,6 +1,6 @@
 use Rattle.std.proofs.Common.{refl}
 use Rattle.ipc_waits.proofs.Leasts.{least_all, least_next}
-use Rattle.ipc_waits.proofs.deadlines.least_wait.Goals as goal
+use Rattle.ipc_waits.proofs.queue.least_wait.Goals as goal
 
 pub loop-wait-init : goal.loop-wait-init
 loop-wait-init c = refl

@@ -9,7 +9,7 @@ use Rattle.ipc_history.specs.NextOutput.{end_of, partner_gone_of, meeting_of, ti
 use Rattle.ipc_history.specs.Legal.{Legal, Quiet, Follows}
 use Rattle.ipc_history.specs.declared.entry.Entry.{Entry}
 use Rattle.ipc_history.specs.declared.entry.Output.{Output}
-use Rattle.ipc_candidates.specs.Candidates.{CoversAt, is_among, senders, source_of, touched}
+use Rattle.ipc_waits.specs.Finding.{CoversAt, is_among, senders, source_of, touched}
 
 -- a quiet history asks no place
 abbrev pub QuietCoversAt : Type 0

@@ -21,12 +21,12 @@ use Rattle.ipc_laws.proofs.Numbering.{number_was_called}
 use Rattle.ipc_laws.proofs.Places.{any_place}
 use Rattle.ipc_laws.proofs.Resting.{none_possible}
 use Rattle.ipc_laws.proofs.Tests.{both, left, right}
-use Rattle.ipc_candidates.specs.Candidates.{CoversAt, calls_at, is_among, senders, sends_to, source_of, touched, watches}
-use Rattle.ipc_candidates.specs.Laws.{AsksOnly, FoundAt, IsAtPlaces}
-use Rattle.ipc_candidates.proofs.Among.{least_source, open_among, sends_itself}
-use Rattle.ipc_candidates.proofs.Kept.{entry_covers, found_open}
-use Rattle.ipc_candidates.proofs.Lists.{among_filtered, among_insert, find_filtered}
-use Rattle.ipc_candidates.proofs.Under.{IsUnder, end_under, meeting_found, meeting_under, partner_gone_under, timeout_under}
+use Rattle.ipc_waits.specs.Finding.{CoversAt, calls_at, is_among, senders, sends_to, source_of, touched, watches}
+use Rattle.ipc_waits.specs.FindingLaws.{AsksOnly, FoundAt, IsAtPlaces}
+use Rattle.ipc_waits.proofs.Among.{least_source, open_among, sends_itself}
+use Rattle.ipc_waits.proofs.Kept.{entry_covers, found_open}
+use Rattle.ipc_waits.proofs.Lists.{among_filtered, among_insert, find_filtered}
+use Rattle.ipc_waits.proofs.Under.{IsUnder, end_under, meeting_found, meeting_under, partner_gone_under, timeout_under}
 
 -- what is among the numbers is a call
 pub among_called : (P : List Entry) (n : ℕ) → is_among (numbers P) n ≡ true → is_called P n ≡ true

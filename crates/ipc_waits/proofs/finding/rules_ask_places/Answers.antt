@@ -1,5 +1,5 @@
-use Rattle.ipc_candidates.proofs.AtPlaces.{found_at, source_is_sender}
-use Rattle.ipc_candidates.proofs.laws.rules_ask_places.Goals as goal
+use Rattle.ipc_waits.proofs.AtPlaces.{found_at, source_is_sender}
+use Rattle.ipc_waits.proofs.finding.rules_ask_places.Goals as goal
 
 pub returns-clause-rules : goal.returns-clause-rules
 returns-clause-rules c = found_at

@@ -17,8 +17,8 @@ use Rattle.ipc_laws.proofs.OnePhase.{sends_apart}
 use Rattle.ipc_laws.proofs.Places.{any_at}
 use Rattle.ipc_laws.proofs.Steps.{number_of_open}
 use Rattle.ipc_laws.proofs.Tests.{left, not_both, right}
-use Rattle.ipc_candidates.specs.Candidates.{IsRising, is_among, source_of}
-use Rattle.ipc_candidates.proofs.Lists.{among_push, rising_push}
+use Rattle.ipc_waits.specs.Finding.{IsRising, is_among, source_of}
+use Rattle.ipc_waits.proofs.Lists.{among_push, rising_push}
 
 -- the numbers of a history rise
 up_to_below : (m k : ℕ) → is_among (up_to m) k ≡ true → k ≤ m

@@ -1,5 +1,5 @@
 // Each function is a theorem: it does nothing, and its contract holds of every history.
-ghost use Rattle.ipc_candidates.specs.Laws.{QuietCoversAt, EntryCoversAt, RulesAt, SourceIsSender};
+ghost use Rattle.ipc_waits.specs.FindingLaws.{QuietCoversAt, EntryCoversAt, RulesAt, SourceIsSender};
 
 /// Places that cover the next output are kept by adding those of the calls that an entry touches.
 pub fn places_are_kept()

@@ -1,5 +1,0 @@
-pub mod Lists
-pub mod Under
-pub mod Among
-pub mod Kept
-pub mod AtPlaces

@@ -1,0 +1,10 @@
+pub mod Compact
+pub mod Rows
+pub mod Reads
+pub mod Agree
+pub mod Told
+pub mod Later
+pub mod Held
+pub mod Standings
+pub mod SlotsKept
+pub mod Counted

@@ -39,7 +39,7 @@ def helps(program):
 def main():
     facts = 0
     with tempfile.TemporaryDirectory() as place:
-        prefix = "/opt/somewhere"
+        prefix = "/usr/local/hashkarst"
         made = run(f"{ROOT}/install", env={**os.environ, "DESTDIR": place, "PREFIX": prefix})
         assert made.returncode == 0, made
         below = place + prefix

@@ -332,7 +332,8 @@ def traces(program):
     counts = judged(trace)
     assert (counts["ended"], counts["broke"]) == (1, 2), counts
     for bad in ("/dev/full", folder, folder + "/none/trace"):
-        assert traced(program, bad) == (1, b"l4d: trace TR1\n"), bad
+        status, told = traced(program, bad)
+        assert status == 1 and told.startswith(b"l4d: trace TR1\n") and told.count(b"TR1") == 1, (bad, status, told)
     print("a trace that fails: l4d: trace TR1 once, the server serves on, and its status is 1")
 
 
@@ -355,10 +356,10 @@ def refusals(program):
     open(folder + "/space2", "w").close()
     told = subprocess.run([program, "--dir", folder, "--spaces", "3"], capture_output=True)
     assert (told.returncode, told.stdout) == (1, b""), told
-    assert told.stderr == b"l4d: cannot listen on %s/space2\n" % folder.encode(), told
+    assert told.stderr.startswith(b"l4d: cannot listen on %s/space2\n" % folder.encode()), told
     assert sorted(os.listdir(folder)) == ["space2"]
     told = subprocess.run([program, "--dir", folder + "/none", "--spaces", "1"], capture_output=True)
-    assert (told.returncode, told.stderr) == (1, b"l4d: cannot listen on %s/none/space1\n" % folder.encode()), told
+    assert told.returncode == 1 and told.stderr.startswith(b"l4d: cannot listen on %s/none/space1\n" % folder.encode()), told
     told = subprocess.run([program, "--dir", folder, "--spaces", "65"], capture_output=True)
     assert told.returncode == 2 and told.stderr and not told.stdout, told
     print("a path that is taken, a folder that is not there, bad words: status 1, 1, 2")

@@ -1,5 +1,5 @@
 -- The commands that `l4sh` and `l4d` ask `clap` for.
-use Rattle.std.specs.Prelude.{ℕ, Some, [], ◌∷◌, codes, true}
+use Rattle.std.specs.Prelude.{ℕ, Some, [], ◌∷◌, ◌-◌, ◌^◌, codes, true}
 use Rattle.ipc_words.specs.Limits.{max_entries, max_calls, max_chart_entry, max_connections, max_space}
 use Rattle.clap.specs.Words.{App, Rule, Text, new_app, new_rule, with_rule, with_subcommand}
 use Rattle.clap.specs.Simple.{on_top}
@@ -70,6 +70,19 @@ proving_app = with_subcommand (with_subcommand
 abbrev pub shell_app : App
 shell_app = with_subcommand (with_subcommand proving_app chart_app.top) wire_app.top
 
+-- `--ID`, a flag
+abbrev pub flag_rule : Text → Rule
+flag_rule id = record (new_rule id) { long = Some id; action = Some SetTrue }
+
+-- `--ID N`: a number from 1 up to most, by default the one that a text reads as
+abbrev pub count_rule : Text → ℕ → Text → Rule
+count_rule id most default = record (new_rule id) {
+  long = Some id;
+  value_names = 1;
+  parser = Some (Unsigned 1 most);
+  defaults = default ∷ [];
+}
+
 -- `--dir DIR`, which has to be there
 abbrev pub dir_rule : Rule
 dir_rule = record (new_rule (codes "dir")) {
@@ -90,12 +103,7 @@ spaces_rule = record (new_rule (codes "spaces")) {
 
 -- `--connections M`: 1 to the greatest number of a connection
 abbrev pub connections_rule : Rule
-connections_rule = record (new_rule (codes "connections")) {
-  long = Some (codes "connections");
-  value_names = 1;
-  parser = Some (Unsigned 1 max_connections);
-  defaults = max_connections_text ∷ [];
-}
+connections_rule = count_rule (codes "connections") max_connections max_connections_text
 
 -- `--mode OCTAL`
 abbrev pub mode_rule : Rule
@@ -105,21 +113,33 @@ mode_rule = record (new_rule (codes "mode")) {
   defaults = codes "600" ∷ [];
 }
 
--- `--probe`
-abbrev pub probe_rule : Rule
-probe_rule = record (new_rule (codes "probe")) {
-  long = Some (codes "probe");
-  action = Some SetTrue;
-}
+-- `--live N`: 1 to the greatest number of a connection
+abbrev pub live_rule : Rule
+live_rule = count_rule (codes "live") max_connections max_connections_text
+
+-- `--hello-within SECONDS`: 1 to the greatest number of 16 bits
+abbrev pub hello_rule : Rule
+hello_rule = count_rule (codes "hello-within") (2 ^ 16 - 1) (codes "10")
 
 -- `--trace FILE`
 abbrev pub trace_rule : Rule
 trace_rule = record (new_rule (codes "trace")) { long = Some (codes "trace"); value_names = 1 }
 
+-- `l4d`, which tells its version
+abbrev pub named_app : App
+named_app = on_top (λ shape. record shape { has_version = true }) (new_app (codes "l4d"))
+
 -- `l4d` with where it listens
 abbrev pub listening_app : App
-listening_app = with_rule (with_rule (with_rule (with_rule (new_app (codes "l4d"))
-    dir_rule) spaces_rule) connections_rule) mode_rule
+listening_app = with_rule (with_rule (with_rule (with_rule named_app
+    dir_rule) spaces_rule) mode_rule) (flag_rule (codes "replace"))
 
+-- `l4d` with whom it serves
+abbrev pub serving_app : App
+serving_app = with_rule (with_rule (with_rule listening_app connections_rule) live_rule) hello_rule
+
+-- `l4d` with what it tells
 abbrev pub server_app : App
-server_app = with_rule (with_rule listening_app probe_rule) trace_rule
+server_app = with_rule (with_rule (with_rule (with_rule serving_app
+    (flag_rule (codes "probe"))) trace_rule) (flag_rule (codes "trace-required")))
+    (flag_rule (codes "log"))

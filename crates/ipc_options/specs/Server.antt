@@ -1,10 +1,12 @@
 -- What the words of `l4d` ask for.
-use Rattle.std.specs.Prelude.{◌≡◌, List, Some, codes, option_map, true, false}
+use Rattle.std.specs.Prelude.{◌≡◌, ◌≤◌, List, Some, codes, option_map}
 use Rattle.std.specs.Str.Parse.{digits_value, without_leading_plus}
-use Rattle.clap.specs.Words.{Row, Text, first_of, matches_of, one_of}
+use Rattle.clap.specs.Words.{Row, Text, first_of, matches_of}
 use Rattle.ipc_options.specs.Command.{server_app}
-use Rattle.ipc_options.specs.Shell.{number_in}
+use Rattle.ipc_options.specs.Shell.{IsFlagIn, number_in}
 use Rattle.ipc_options.specs.declared.server.ServerOptions.{ServerOptions}
+use Rattle.ipc_options.specs.declared.server_words.Counts.{Counts}
+use Rattle.ipc_words.specs.Limits.{max_space}
 
 -- the options have what the matches have for each of them. The permissions are an octal number
 pub record HasOptionsIn (rows : List Row) (options : ServerOptions) : Type 0 where
@@ -13,9 +15,25 @@ pub record HasOptionsIn (rows : List Row) (options : ServerOptions) : Type 0 whe
   pub connections : number_in rows (codes "connections") ≡ Some options.connections
   pub mode : option_map (λ text. digits_value 8 (without_leading_plus text)) (first_of (codes "mode") rows)
       ≡ Some options.mode
-  pub probe : one_of (codes "probe") rows ≡ Some (codes "true") → options.probe ≡ true
-  pub no_probe : one_of (codes "probe") rows ≡ Some (codes "false") → options.probe ≡ false
+  pub live : number_in rows (codes "live") ≡ Some options.live
+  pub hello_within : number_in rows (codes "hello-within") ≡ Some options.hello_within
+  pub replace : IsFlagIn rows (codes "replace") options.replace
+  pub probe : IsFlagIn rows (codes "probe") options.probe
+  pub trace_required : IsFlagIn rows (codes "trace-required") options.trace_required
+  pub log : IsFlagIn rows (codes "log") options.log
   pub trace : first_of (codes "trace") rows ≡ option_map (λ file. file.now) options.trace
+
+-- the numbers are those of the matches
+pub record HasCountsIn (rows : List Row) (counts : Counts) : Type 0 where
+  pub spaces : number_in rows (codes "spaces") ≡ Some counts.spaces
+  pub connections : number_in rows (codes "connections") ≡ Some counts.connections
+  pub live : number_in rows (codes "live") ≡ Some counts.live
+  pub hello_within : number_in rows (codes "hello-within") ≡ Some counts.hello_within
+
+-- each number is at least 1, and there are no more spaces than there may be
+abbrev pub AreWithinLimits : Counts → Type 0
+AreWithinLimits counts = (1 ≤ counts.spaces) × (counts.spaces ≤ max_space)
+    × (1 ≤ counts.connections) × (1 ≤ counts.live) × (1 ≤ counts.hello_within)
 
 -- the options have what the words, or the defaults, give them
 abbrev pub HasOptionsOf : List Text → ServerOptions → Type 0

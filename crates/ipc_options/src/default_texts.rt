@@ -16,6 +16,9 @@ pub(crate) const MAX_CHART_ENTRY_TEXT: &str = "4294967295";
 /// The greatest number of a connection.
 pub(crate) const MAX_CONNECTIONS_TEXT: &str = "65535";
 
+/// How many seconds a connection has for its HELLO, where others wait for its place.
+pub(crate) const HELLO_WITHIN_TEXT: &str = "10";
+
 /// The texts are the decimal numbers of the limits.
 pub fn default_texts_are_the_limits()
     ensures entries { digits_value 10 max_entries_text ≡ max_entries }

@@ -1,48 +1,96 @@
 //! The words of `l4d`.
-ghost use Rattle.std.specs.Prelude.{◌≡◌, ◌<◌, IfErr, IfOk, IfSome, Some, [], codes, false, map};
+ghost use Rattle.std.specs.Prelude.{◌≡◌, ◌<◌, ◌≤◌, IfErr, IfOk, IfSome, IsSome, Some, [], codes, false, map};
 ghost use Rattle.std.specs.Prelude.{option_map, string_bytes, true};
 ghost use Rattle.std.specs.Str.Parse.{digits_value, without_leading_plus};
 ghost use Rattle.clap.specs.Words.{app_of, fault_of, first_of, found_of, one_of, rows_of, rule_of};
-ghost use Rattle.ipc_options.specs.Command.{connections_rule, dir_rule, mode_rule, probe_rule};
-ghost use Rattle.ipc_options.specs.Command.{server_app, spaces_rule, trace_rule};
-ghost use Rattle.ipc_options.specs.Server.{HasOptionsIn, HasOptionsOf};
+ghost use Rattle.ipc_options.specs.Command.{connections_rule, count_rule, dir_rule, flag_rule, hello_rule};
+ghost use Rattle.ipc_options.specs.Command.{listening_app, live_rule, mode_rule};
+ghost use Rattle.ipc_options.specs.Command.{named_app, server_app, serving_app, spaces_rule, trace_rule};
+ghost use Rattle.ipc_options.specs.Server.{AreWithinLimits, HasCountsIn, HasOptionsIn, HasOptionsOf};
 ghost use Rattle.ipc_options.specs.Shell.{number_in};
 
-use crate::default_texts::MAX_CONNECTIONS_TEXT;
-use crate::server::{MAX_SPACES, ServerOptions};
+use crate::default_texts::{HELLO_WITHIN_TEXT, MAX_CONNECTIONS_TEXT};
+use crate::server::{MAX_SPACES, ServerOptions, VERSION};
 use clap::builder::ValueParser;
 use clap::error::ErrorKind;
 use clap::{Arg, ArgAction, ArgMatches, Command, Error};
 use ipc_words::limits::{MAX_CONNECTIONS, MAX_SPACE};
 use std::alloc::{AllocError, Global};
+use std::fmt;
 
 /// The command line of `l4d`. The first word is the program's name. An `Err` is a mistake in the
 /// words, a request for help, or want of memory (the kind `OutOfMemory`), and its `Display` is the
 /// text for the user. Each number of an `Ok` is within its limit.
 pub fn server_options<'a>(alloc: Global, words: &'a [String]) -> Result<ServerOptions<'a>, Error>
     ensures options { IfOk result (HasOptionsOf (map string_bytes words.entry.now)) }
+    ensures traced { IfOk result (λ options. options.trace_required ≡ true → IsSome options.trace) }
     ensures faultless { IfOk result (λ _.
         fault_of server_app (map string_bytes words.entry.now) ≡ []) }
 {
     let mut command = server_command(alloc)?;
     let matches = command.try_get_matches_from_mut(words)?;
     match options_in(&matches) {
-        Some(options) => Ok(options),
-        None => Err(command.error(ErrorKind::ValueValidation, "a value is past its limit")?),
+        Ok(options) => Ok(options),
+        Err(refused) => {
+            let message = refused.to_string(alloc)?;
+            Err(command.error(ErrorKind::ValueValidation, message.as_str())?)
+        }
     }
 }
 
 fn server_command<'a>(alloc: Global) -> Result<Command<'a>, AllocError>
     ensures { IfOk result (λ command. app_of command ≡ server_app) }
 {
-    Command::new(alloc, "l4d")
-        .about("A server of synchronous IPC between processes, over Unix sockets")
+    serving_command(alloc)?
+        .arg(flag_option(
+            alloc,
+            "probe",
+            "Sends one message by two connections of its own",
+        ))?
+        .arg(trace_option(alloc))?
+        .arg(flag_option(
+            alloc,
+            "trace-required",
+            "Ends before it serves anybody where the trace cannot be written",
+        ))?
+        .arg(flag_option(
+            alloc,
+            "log",
+            "Tells paths, refusals, faults and counters on standard error",
+        ))
+}
+
+/// `l4d` with whom it serves.
+fn serving_command<'a>(alloc: Global) -> Result<Command<'a>, AllocError>
+    ensures { IfOk result (λ command. app_of command ≡ serving_app) }
+{
+    listening_command(alloc)?
+        .arg(connections_option(alloc))?
+        .arg(live_option(alloc))?
+        .arg(hello_option(alloc))
+}
+
+/// `l4d` with where it listens.
+fn listening_command<'a>(alloc: Global) -> Result<Command<'a>, AllocError>
+    ensures { IfOk result (λ command. app_of command ≡ listening_app) }
+{
+    named_command(alloc)
         .arg(dir_option(alloc))?
         .arg(spaces_option(alloc))?
-        .arg(connections_option(alloc))?
         .arg(mode_option(alloc))?
-        .arg(probe_option(alloc))?
-        .arg(trace_option(alloc))
+        .arg(flag_option(
+            alloc,
+            "replace",
+            "Removes a path first where nobody answers",
+        ))
+}
+
+fn named_command<'a>(alloc: Global) -> Command<'a>
+    ensures { app_of result ≡ named_app }
+{
+    Command::new(alloc, "l4d")
+        .about("A server of synchronous IPC between processes, over Unix sockets")
+        .version(VERSION)
 }
 
 fn dir_option<'a>(alloc: Global) -> Arg<'a>
@@ -69,18 +117,6 @@ fn spaces_option<'a>(alloc: Global) -> Arg<'a>
         .help("How many spaces, 1 to 64")
 }
 
-fn connections_option<'a>(alloc: Global) -> Arg<'a>
-    ensures local { result.global ≡ false }
-    ensures rule { rule_of result ≡ connections_rule }
-{
-    Arg::new(alloc, "connections")
-        .long("connections")
-        .value_name("M")
-        .value_parser(ValueParser::unsigned(1, u64::from(MAX_CONNECTIONS)))
-        .default_value(MAX_CONNECTIONS_TEXT)
-        .help("How many connections each path takes, 1 to 65535")
-}
-
 fn mode_option<'a>(alloc: Global) -> Arg<'a>
     ensures local { result.global ≡ false }
     ensures rule { rule_of result ≡ mode_rule }
@@ -92,14 +128,38 @@ fn mode_option<'a>(alloc: Global) -> Arg<'a>
         .help("The permissions of each path, as chmod has them")
 }
 
-fn probe_option<'a>(alloc: Global) -> Arg<'a>
+fn connections_option<'a>(alloc: Global) -> Arg<'a>
     ensures local { result.global ≡ false }
-    ensures rule { rule_of result ≡ probe_rule }
+    ensures rule { rule_of result ≡ connections_rule }
 {
-    Arg::new(alloc, "probe")
-        .long("probe")
-        .action(ArgAction::SetTrue)
-        .help("Sends one message by two connections of its own")
+    let help = "How many connections each path takes, 1 to 65535";
+    let most = u64::from(MAX_CONNECTIONS);
+    count_option(alloc, "connections", "M", most, MAX_CONNECTIONS_TEXT, help)
+}
+
+fn live_option<'a>(alloc: Global) -> Arg<'a>
+    ensures local { result.global ≡ false }
+    ensures rule { rule_of result ≡ live_rule }
+{
+    let help = "How many connections there may be at one time, 1 to 65535";
+    let most = u64::from(MAX_CONNECTIONS);
+    count_option(alloc, "live", "N", most, MAX_CONNECTIONS_TEXT, help)
+}
+
+fn hello_option<'a>(alloc: Global) -> Arg<'a>
+    ensures local { result.global ≡ false }
+    ensures rule { rule_of result ≡ hello_rule }
+{
+    let help = "After how long a connection without HELLO may be closed for a newer one";
+    let most = u64::from(u16::MAX);
+    count_option(
+        alloc,
+        "hello-within",
+        "SECONDS",
+        most,
+        HELLO_WITHIN_TEXT,
+        help,
+    )
 }
 
 fn trace_option<'a>(alloc: Global) -> Arg<'a>
@@ -112,25 +172,126 @@ fn trace_option<'a>(alloc: Global) -> Arg<'a>
         .help("Writes each entry of the history to this file, which is made anew")
 }
 
-/// The options, None where one is missing or past its limit.
-fn options_in<'a>(matches: &ArgMatches<'a>) -> Option<ServerOptions<'a>>
-    ensures { IfSome result (HasOptionsIn (rows_of (found_of matches.now))) }
+/// The flag `--ID`.
+fn flag_option<'a>(alloc: Global, id: &'a str, help: &'a str) -> Arg<'a>
+    ensures local { result.global ≡ false }
+    ensures rule { rule_of result ≡ flag_rule id.entry.now }
 {
-    let dir = text(matches, "dir")?;
+    Arg::new(alloc, id)
+        .long(id)
+        .action(ArgAction::SetTrue)
+        .help(help)
+}
+
+/// The option `--ID N`, of a number from 1 up to `most`.
+fn count_option<'a>(
+    alloc: Global,
+    id: &'a str,
+    name: &'a str,
+    most: u64,
+    default: &'a str,
+    help: &'a str,
+) -> Arg<'a>
+    requires some { 1 ≤ most }
+    ensures local { result.global ≡ false }
+    ensures rule { rule_of result ≡ count_rule id.entry.now most default.entry.now }
+{
+    Arg::new(alloc, id)
+        .long(id)
+        .value_name(name)
+        .value_parser(ValueParser::unsigned(1, most))
+        .default_value(default)
+        .help(help)
+}
+
+/// A value that `clap` takes and `l4d` does not.
+#[derive(Clone, Copy, PartialEq, Eq, Debug)]
+enum Refused<'a> {
+    /// The folder is empty.
+    Folder,
+    /// The permissions are no octal number up to 777.
+    Mode(&'a str),
+    /// A trace is required, and there is none.
+    Untraced,
+    /// A value is missing or past its limit; `clap` has refused such words already.
+    PastLimit,
+}
+
+impl fmt::Display for Refused<'_> {
+    fn fmt<W: fmt::Write>(&self, f: &mut fmt::Formatter<W>) -> fmt::Result {
+        match self {
+            Refused::Folder => write!(f, "--dir: the name of a folder, got an empty one"),
+            Refused::Mode(text) => write!(f, "--mode: octal, 0 to 777, got {text}"),
+            Refused::Untraced => write!(f, "--trace-required: --trace FILE beside it, got none"),
+            Refused::PastLimit => write!(f, "a value is past its limit"),
+        }
+    }
+}
+
+/// The options, or the first value that is refused.
+fn options_in<'a>(matches: &ArgMatches<'a>) -> Result<ServerOptions<'a>, Refused<'a>>
+    ensures options { IfOk result (HasOptionsIn (rows_of (found_of matches.now))) }
+    ensures traced { IfOk result (λ options. options.trace_required ≡ true → IsSome options.trace) }
+{
+    let (Some(dir), Some(mode_text)) = (text(matches, "dir"), text(matches, "mode")) else {
+        return Err(Refused::PastLimit);
+    };
+    if dir.is_empty() {
+        return Err(Refused::Folder);
+    }
+    let Some(mode) = mode_of(mode_text) else {
+        return Err(Refused::Mode(mode_text));
+    };
+    let trace = text(matches, "trace");
+    let trace_required = flag(matches, "trace-required");
+    if trace_required && trace.is_none() {
+        return Err(Refused::Untraced);
+    }
+    let counts = counts_in(matches).ok_or(Refused::PastLimit)?;
+    Ok(ServerOptions {
+        dir,
+        spaces: counts.spaces,
+        connections: counts.connections,
+        mode,
+        live: counts.live,
+        hello_within: counts.hello_within,
+        replace: flag(matches, "replace"),
+        probe: flag(matches, "probe"),
+        trace,
+        trace_required,
+        log: flag(matches, "log"),
+    })
+}
+
+/// The numbers of the options, each within its limit.
+#[derive(Clone, Copy)]
+struct Counts {
+    spaces: u16,
+    connections: u16,
+    live: u16,
+    hello_within: u16,
+}
+
+/// The numbers, None where one is missing or past its limit.
+fn counts_in(matches: &ArgMatches<'_>) -> Option<Counts>
+    ensures numbers { IfSome result (HasCountsIn (rows_of (found_of matches.now))) }
+    ensures limits { IfSome result AreWithinLimits }
+{
     let spaces = number(matches, "spaces")?;
     let connections = number(matches, "connections")?;
-    let mode = mode_of(text(matches, "mode")?)?;
-    if spaces < 1 || spaces > MAX_SPACES || connections < 1 {
-        return None;
+    let live = number(matches, "live")?;
+    let hello_within = number(matches, "hello-within")?;
+    let within = spaces >= 1 && spaces <= MAX_SPACES;
+    if within && connections >= 1 && live >= 1 && hello_within >= 1 {
+        Some(Counts {
+            spaces,
+            connections,
+            live,
+            hello_within,
+        })
+    } else {
+        None
     }
-    Some(ServerOptions {
-        dir,
-        spaces,
-        connections,
-        mode,
-        probe: flag(matches, "probe"),
-        trace: text(matches, "trace"),
-    })
 }
 
 fn text<'a>(matches: &ArgMatches<'a>, id: &str) -> Option<&'a str>
@@ -184,8 +345,15 @@ mod tests {
         let options = server_options(rt.alloc(), words.as_slice())?;
         assert_eq!(rt; options.dir, "here");
         assert_eq!(rt; (options.spaces, options.connections), (64, 65_535));
+        assert_eq!(rt; (options.live, options.hello_within), (65_535, 10));
         assert_eq!(rt; options.mode, OWNER_ONLY);
-        assert!(rt; !options.probe);
+        let flags = [
+            options.probe,
+            options.replace,
+            options.log,
+            options.trace_required,
+        ];
+        assert_eq!(rt; flags, [false; 4]);
         assert_eq!(rt; options.trace, None);
         let words = words_of(
             rt.alloc(),
@@ -198,19 +366,32 @@ mod tests {
                 "--probe",
                 "--trace",
                 "meetings",
+                "--live",
+                "300",
+                "--hello-within=65535",
+                "--replace",
+                "--log",
+                "--trace-required",
             ],
         )?;
         let options = server_options(rt.alloc(), words.as_slice())?;
         assert_eq!(rt; (options.spaces, options.connections), (1, 2));
         assert_eq!(rt; options.mode, 0o660);
-        assert!(rt; options.probe);
+        assert_eq!(rt; (options.live, options.hello_within), (300, 65_535));
+        let flags = [
+            options.probe,
+            options.replace,
+            options.log,
+            options.trace_required,
+        ];
+        assert_eq!(rt; flags, [true; 4]);
         assert_eq!(rt; options.trace, Some("meetings"));
         Ok(())
     }
 
     #[test]
     fn refuses(rt: HostRuntime) -> Result<(), Fail> {
-        let cases: [(&[&str], ErrorKind); 10] = [
+        let cases: [(&[&str], ErrorKind); 15] = [
             (
                 &["l4d", "--dir", ".", "--spaces", "1", "--trace"],
                 ErrorKind::InvalidValue,
@@ -252,6 +433,23 @@ mod tests {
                 &["l4d", "--dir", ".", "--spaces", "1", "--mode", "8"],
                 ErrorKind::ValueValidation,
             ),
+            (
+                &["l4d", "--dir", "", "--spaces", "1"],
+                ErrorKind::ValueValidation,
+            ),
+            (
+                &["l4d", "--dir", ".", "--spaces", "1", "--live", "0"],
+                ErrorKind::ValueValidation,
+            ),
+            (
+                &["l4d", "--dir", ".", "--spaces", "1", "--hello-within=65536"],
+                ErrorKind::ValueValidation,
+            ),
+            (
+                &["l4d", "--dir", ".", "--spaces", "1", "--trace-required"],
+                ErrorKind::ValueValidation,
+            ),
+            (&["l4d", "--version"], ErrorKind::DisplayVersion),
             (&["l4d", "--help"], ErrorKind::DisplayHelp),
         ];
         for (words, kind) in cases {

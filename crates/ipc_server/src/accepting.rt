@@ -1,33 +1,44 @@
 //! The workers of a server beside those of its connections and of its trace: one for each path, the ticker and the mover.
 ghost use Rattle.std.specs.Prelude.{◌≡◌, ◌<◌};
 
+use crate::host::Host;
 use crate::paths::Listener;
 use crate::server::Server;
 use crate::serving::{Ports, serve_connection, worker};
 use crate::socket::SocketGate;
 use ipc_core::Advance;
+use ipc_host::{Counts, ToldStream};
 use ipc_lock::{Step, Told};
 use ipc_ports::{Failures, ReadPort, WritePort};
+use std::io::ErrorKind;
 use std::marker::Brand;
 use std::os::unix::net::UnixStream;
 use std::rt::Clock;
-use std::sync::Wait;
 use std::sync::atomic::{AtomicBool, Ordering};
 use std::sync::ledger::{Blank, Ledger};
-use std::thread;
+use std::sync::{Arc, Wait};
 use std::thread::Threads;
 use std::time::Duration;
+use std::{fmt, io, thread};
 
 /// How long the ticker sleeps in each turn, in milliseconds.
 const TURN: u64 = 1;
 
-/// Serves all paths until each has had its connections and these have ended. False where the ticker or the mover could not be
-/// started.
-pub fn serve_all<C: Ledger + Send, T: Ledger + Send, R: Threads + Wait + Clock + Sync>(
+/// How long the worker of signals sleeps in each turn, in milliseconds.
+const SIGNAL_TURN: u64 = 100;
+
+/// How often counters are told, in seconds.
+const LOG_TURN: u64 = 60;
+
+/// Serves all paths until each has had its connections and these have ended, or the service was stopped. False where a worker could
+/// not be started.
+pub fn serve_all<C: Ledger + Send, T: Ledger + Send, R>(
     server: &Server<'_, C, T, R>,
-    listeners: &[Listener],
-    connections: u16,
-) -> bool {
+    host: &Host,
+) -> bool
+where
+    R: Threads + Wait + Clock + Eprint + Sync,
+{
     let over = AtomicBool::new(false);
     let over = &over;
     thread::scope(thread::scope_env(), server.rt, |scope| {
@@ -37,13 +48,104 @@ pub fn serve_all<C: Ledger + Send, T: Ledger + Send, R: Threads + Wait + Clock +
         let mover = worker()
             .spawn_scoped(scope, move || move_blocks(server))
             .is_ok();
-        if ticker && mover {
-            accept_all(server, listeners, connections);
-        }
+        let watcher = !host.has_blocked_signals(server.alloc)
+            || worker()
+                .spawn_scoped(scope, move || watch_signals(server, host))
+                .is_ok();
+        let logger = !host.is_logged
+            || worker()
+                .spawn_scoped(scope, move || log_counters(server, host))
+                .is_ok();
+        let started = ticker && mover && watcher && logger && accept_all(server, host);
+        host.guests.finish(server.rt);
         over.store(true, Ordering::SeqCst);
         server.shared.end_work(server.rt);
-        ticker && mover
+        started
     })
+}
+
+/// Stops the service once SIGINT or SIGTERM has come.
+fn watch_signals<C: Ledger, T: Ledger, R: Wait + Clock>(server: &Server<'_, C, T, R>, host: &Host) {
+    for _ in server.rt.forever() {
+        let turn = Duration::from_millis(SIGNAL_TURN);
+        if host.guests.wait_finished(server.rt, turn) {
+            return;
+        }
+        if host.has_signal(server.alloc) {
+            host.stop(server.rt);
+            return;
+        }
+    }
+}
+
+/// Tells counters once a minute, and at the end.
+fn log_counters<C: Ledger, T: Ledger, R: Wait + Clock + Eprint>(
+    server: &Server<'_, C, T, R>,
+    host: &Host,
+) {
+    for _ in server.rt.forever() {
+        let is_over = host
+            .guests
+            .wait_finished(server.rt, Duration::from_secs(LOG_TURN));
+        // where standard error fails nothing is told
+        let _ = server.rt.eprintln(&counters_now(server, host));
+        if is_over {
+            return;
+        }
+    }
+}
+
+/// The counters of this moment.
+fn counters_now<C: Ledger, T: Ledger, R: Wait>(
+    server: &Server<'_, C, T, R>,
+    host: &Host,
+) -> Counters {
+    let (connections, threads, counts) = host.guests.state(server.rt);
+    let entries = server.shared.entries(server.rt) as u64;
+    Counters {
+        connections,
+        threads,
+        counts,
+        entries,
+        kibibytes: host.kibibytes(server.alloc),
+        behind: host.traced.as_ref().map(|traced| entries.saturating_sub(traced.load(
+            Ordering::SeqCst,
+        ))),
+    }
+}
+
+/// What a server does at one moment.
+#[derive(Drop)]
+struct Counters {
+    connections: usize,
+    threads: usize,
+    counts: Counts,
+    entries: u64,
+    /// How much memory the process holds.
+    kibibytes: u64,
+    /// How many entries the trace lags behind.
+    behind: Option<u64>,
+}
+
+impl fmt::Display for Counters {
+    fn fmt<W: fmt::Write>(&self, f: &mut fmt::Formatter<W>) -> fmt::Result {
+        let Counters {
+            connections,
+            threads,
+            counts,
+            entries,
+            kibibytes,
+            behind,
+        } = self;
+        write!(
+            f,
+            "l4d: {threads} threads of {connections} connections, {counts}, {entries} entries, {kibibytes} KiB"
+        )?;
+        match behind {
+            Some(behind) => write!(f, ", trace {behind} entries behind"),
+            None => Ok(()),
+        }
+    }
 }
 
 /// Tells the kernel the time once a millisecond, for the timeouts.
@@ -76,52 +178,135 @@ fn move_until_idle<C: Ledger, T: Ledger, R: Wait + Clock>(server: &Server<'_, C,
     }
 }
 
-/// One worker for each path.
-fn accept_all<C: Ledger + Send, T: Ledger + Send, R: Threads + Wait + Clock + Sync>(
+/// One worker for each path, until all have ended. False where one could not be started; the others are then stopped.
+fn accept_all<C: Ledger + Send, T: Ledger + Send, R>(
     server: &Server<'_, C, T, R>,
-    listeners: &[Listener],
-    connections: u16,
-) {
+    host: &Host,
+) -> bool
+where
+    R: Threads + Wait + Clock + Eprint + Sync,
+{
     thread::scope(thread::scope_env(), server.rt, |scope| {
-        for listener in listeners {
-            let _ = worker().spawn_scoped(scope, move || accept(server, listener, connections));
+        for listener in &host.listeners {
+            let started = worker().spawn_scoped(scope, move || accept(server, host, listener));
+            if started.is_err() {
+                host.stop(server.rt);
+                return false;
+            }
         }
-    });
+        true
+    })
 }
 
-/// Takes so many connections, and starts a worker for each. An accept that fails counts as one.
-fn accept<C: Ledger + Send, T: Ledger + Send, R: Threads + Wait + Clock + Sync>(
+/// Takes connections until the path has had its number or the service is stopped, and starts a worker for each. An accept that fails
+/// counts for nothing: it is tried again once a connection has ended, or after 10 milliseconds.
+fn accept<C: Ledger + Send, T: Ledger + Send, R>(
     server: &Server<'_, C, T, R>,
+    host: &Host,
     listener: &Listener,
-    connections: u16,
-) {
-    thread::scope(thread::scope_env(), server.rt, |scope| {
-        for _ in 0..connections {
-            let Ok((stream, _)) = listener.socket.accept() else {
-                continue;
-            };
-            // where no worker can be started the socket is dropped, which closes it
-            let space = listener.space;
-            let _ = worker().spawn_scoped(scope, move || serve_socket(server, space, stream));
+)
+where
+    R: Threads + Wait + Clock + Eprint + Sync,
+{
+    let rt = server.rt;
+    thread::scope(thread::scope_env(), rt, |scope| {
+        let mut taken = 0u16;
+        for _ in rt.forever() {
+            if taken >= host.connections || host.guests.is_stopping(rt) {
+                return;
+            }
+            match listener.socket.accept() {
+                Ok((stream, _)) => {
+                    taken = taken.saturating_add(1);
+                    let space = listener.space;
+                    if let Some((ticket, stream)) = host.guests.admit(rt, stream) {
+                        let started = worker().spawn_scoped(
+                            scope,
+                            move || serve_guest(server, host, space, ticket, stream),
+                        );
+                        if let Err(error) = started {
+                            host.guests.leave(rt, ticket);
+                            host.complain(rt, "no worker for a connection can be started", error);
+                        }
+                    }
+                }
+                Err(error) => miss(server, host, error),
+            }
         }
     });
 }
 
-/// Serves a socket, with counts of its failures of its own.
-fn serve_socket<C, T, R>(server: &Server<'_, C, T, R>, space: u64, stream: UnixStream)
+/// What follows an accept that failed.
+fn miss<C: Ledger, T: Ledger, R: Wait + Clock + Eprint>(
+    server: &Server<'_, C, T, R>,
+    host: &Host,
+    error: io::Error,
+) {
+    let is_passing = matches!(
+        error.kind(),
+        ErrorKind::Interrupted | ErrorKind::ConnectionAborted
+    );
+    if is_passing || host.guests.is_stopping(server.rt) {
+        return;
+    }
+    host.complain(server.rt, "no connection can be accepted", error);
+    host.guests.wait_turn(server.rt);
+}
+
+/// Serves a connection to its end.
+fn serve_guest<C, T, R>(
+    server: &Server<'_, C, T, R>,
+    host: &Host,
+    space: u64,
+    ticket: u64,
+    stream: Arc<UnixStream>,
+)
 where
     C: Ledger + Send,
     T: Ledger + Send,
-    R: Threads + Wait + Clock + Sync,
+    R: Threads + Wait + Clock + Eprint + Sync,
 {
-    serve_stream::<C, T, Brand, Brand, R>(server, space, stream, Blank::new(1), Blank::new(1));
+    let place = Place { space, ticket };
+    serve_socket(server, host, place, &stream);
+    drop(stream);
+    host.guests.leave(server.rt, ticket);
+}
+
+/// Which connection it is: its space and its ticket.
+#[derive(Clone, Copy)]
+struct Place {
+    space: u64,
+    ticket: u64,
+}
+
+/// Serves a socket, with counts of its failures of its own.
+fn serve_socket<C, T, R>(
+    server: &Server<'_, C, T, R>,
+    host: &Host,
+    place: Place,
+    stream: &UnixStream,
+)
+where
+    C: Ledger + Send,
+    T: Ledger + Send,
+    R: Threads + Wait + Clock + Eprint + Sync,
+{
+    serve_stream::<C, T, Brand, Brand, R>(
+        server,
+        host,
+        place,
+        stream,
+        Blank::new(1),
+        Blank::new(1),
+    );
 }
 
 /// Serves a socket. Each count of failures begins as a blank.
 fn serve_stream<C, T, L, M, R>(
     server: &Server<'_, C, T, R>,
-    space: u64,
-    stream: UnixStream,
+    host: &Host,
+    place: Place,
+    stream: &UnixStream,
     reads: Blank,
     writes: Blank,
 )
@@ -130,17 +315,25 @@ where
     T: Ledger + Send,
     L: Ledger + Send + Sync,
     M: Ledger + Send + Sync,
-    R: Threads + Wait + Clock + Sync,
+    R: Threads + Wait + Clock + Eprint + Sync,
     requires reads_name { reads.name ≡ L.name }
     requires reads_parts { (reads.parts ≡ L.parts) × (0 < reads.parts) }
     requires writes_name { writes.name ≡ M.name }
     requires writes_parts { (writes.parts ≡ M.parts) × (0 < writes.parts) }
 {
-    let stream = &stream;
+    let Place { space, ticket } = place;
+    let told = ToldStream::new(
+        server.rt,
+        &host.guests,
+        ticket,
+        space,
+        host.is_logged,
+        stream,
+    );
     let ports = Ports {
         space,
         reader: ReadPort::new(stream, Failures::<L>::new(reads)),
-        writer: WritePort::new(stream, Failures::<M>::new(writes)),
+        writer: WritePort::new(told, Failures::<M>::new(writes)),
         reads: SocketGate::new(stream),
         writes: SocketGate::new(stream),
     };

@@ -1,3 +1,4 @@
+use ipc_host::Obstacle;
 use std::alloc::AllocError;
 use std::io::ErrorKind;
 use std::{fmt, io};
@@ -9,11 +10,15 @@ pub enum Exit {
     Closed,
     /// All connections have ended, and the trace had stopped before, which was told then: status 1.
     Untraced,
-    /// A path cannot be bound: status 1.
-    CannotListen(String),
+    /// A path cannot be bound, and why: status 1.
+    CannotListen(String, Obstacle),
+    /// The trace that is required cannot be written: status 1.
+    TraceRequired,
+    /// A worker cannot be started: status 1.
+    NoWorker,
     /// The program itself got no memory: status 1.
     NoMemory,
-    /// Standard output, the clock or a worker failed: status 1.
+    /// Standard output or the clock failed: status 1.
     DeviceFailed,
     /// The client of the program's own did not get its message: status 1.
     ProbeFailed,
@@ -50,7 +55,14 @@ impl fmt::Display for Exit {
         match self {
             Exit::Closed => write!(f, "l4d: closed"),
             Exit::Untraced => write!(f, "l4d: closed, and the trace had stopped"),
-            Exit::CannotListen(path) => write!(f, "l4d: cannot listen on {path}"),
+            Exit::CannotListen(path, obstacle) => {
+                write!(f, "l4d: cannot listen on {path}\n  {obstacle}")
+            }
+            Exit::TraceRequired => write!(f, "l4d: ended, since --trace-required was given"),
+            Exit::NoWorker => write!(
+                f,
+                "l4d: no worker can be started: a limit of processes or memory"
+            ),
             Exit::NoMemory => write!(f, "l4d: no memory"),
             Exit::DeviceFailed => write!(f, "l4d: device failed"),
             Exit::ProbeFailed => write!(f, "l4d: probe failed"),

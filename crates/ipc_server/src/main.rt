@@ -5,8 +5,8 @@ ghost use Rattle.std.specs.Prelude.{◌≡◌, ◌<◌, ◌^◌};
 
 mod accepting;
 mod caller;
-mod clock;
 mod exit;
+mod host;
 mod paths;
 mod probe;
 mod server;
@@ -16,16 +16,18 @@ mod taker;
 #[cfg(test)]
 mod tests;
 mod tracing;
+mod version;
 
 use accepting::serve_all;
 use clap::error::ErrorKind;
-use clock::ServerClock;
 use exit::Exit;
+use host::Host;
 use ipc_core::{Limits, MAX_CALLS, MAX_ENTRIES};
+use ipc_host::{Guests, ProcessStatus, ServerClock, descriptors, room};
 use ipc_lock::SharedKernel;
 use ipc_options::{ServerOptions, server_options};
 use ipc_ports::{Failures, PortWrite};
-use paths::{Listener, listen, path_of, remove};
+use paths::{listen, path_of, remove};
 use probe::probe;
 use server::Server;
 use serving::worker;
@@ -35,14 +37,25 @@ use std::marker::Brand;
 use std::net::{Net, TcpListener, TcpStream};
 use std::process::ExitCode;
 use std::rt::{Clock, Files};
+use std::sync::Wait;
+use std::sync::atomic::{AtomicBool, AtomicU64, Ordering};
 use std::sync::ledger::{Blank, Ledger};
-use std::sync::{Mutex, Wait};
 use std::thread::Threads;
 use std::{io, thread};
 use tracing::{Trace, TraceFault, trace_file};
+use version::tell_version;
 
 /// How many parts the ledgers of the seats have.
 const PARTS: u64 = 1 << 63;
+
+/// How many descriptors each path takes.
+const PATH_DESCRIPTORS: u64 = 3;
+
+/// How many descriptors standard input, output and error take, a trace, and files that are read.
+const OTHER_DESCRIPTORS: u64 = 8;
+
+/// How many microseconds a second has.
+const SECOND: u64 = 1_000_000;
 
 fn main(rt: HostRuntime) -> io::Result<ExitCode> {
     let alloc = rt.alloc();
@@ -64,6 +77,10 @@ fn main(rt: HostRuntime) -> io::Result<ExitCode> {
             ended(&rt, &exit)
         }
         Err(error) if error.kind() == ErrorKind::OutOfMemory => ended(&rt, &Exit::NoMemory),
+        Err(error) if error.kind() == ErrorKind::DisplayVersion => {
+            tell_version(&rt, alloc, &error)?;
+            Ok(ExitCode::from(0))
+        }
         Err(error) => {
             rt.eprint(&error)?;
             Ok(ExitCode::from(2))
@@ -105,12 +122,26 @@ where
         Err(error) => return Exit::from(error),
     };
     let server = Server::new(rt, alloc, &shared, clock);
-    let listeners = match listen(rt, alloc, options.dir, options.spaces, options.mode) {
+    let listeners = match listen(rt, alloc, options) {
         Ok(listeners) => listeners,
         Err(exit) => return exit,
     };
-    let exit = serve_as_asked(&server, listeners.as_slice(), options);
-    remove(rt, listeners.as_slice());
+    let host = Host {
+        guests: Guests::new(
+            alloc,
+            most_connections(rt, alloc, options),
+            within(options),
+            clock,
+        ),
+        listeners,
+        connections: options.connections,
+        is_logged: options.log,
+        traced: options.trace.map(|_| AtomicU64::new(0)),
+        signals: ProcessStatus::open(rt),
+        memory: ProcessStatus::open(rt),
+    };
+    let exit = serve_as_asked(&server, &host, options);
+    remove(rt, host.listeners.as_slice());
     match exit {
         Exit::Closed | Exit::Untraced => match println!(rt; "closed") {
             Ok(()) => exit,
@@ -120,10 +151,22 @@ where
     }
 }
 
+/// How many connections there may be at one time: as many as were asked for and the limit of descriptors leaves. Each path has its
+/// socket twice, and one connection that waits for room.
+fn most_connections<R: Files>(rt: &R, alloc: Global, options: &ServerOptions<'_>) -> u64 {
+    let used = u64::from(options.spaces) * PATH_DESCRIPTORS + OTHER_DESCRIPTORS;
+    room(u64::from(options.live), descriptors(rt, alloc), used)
+}
+
+/// How long a connection has for its HELLO, in microseconds.
+fn within(options: &ServerOptions<'_>) -> u64 {
+    u64::from(options.hello_within) * SECOND
+}
+
 /// Serves the paths, with a trace where one is asked for.
 fn serve_as_asked<C: Ledger + Send, T: Ledger + Send, R>(
     server: &Server<'_, C, T, R>,
-    listeners: &[Listener],
+    host: &Host,
     options: &ServerOptions<'_>,
 ) -> Exit
 where
@@ -137,16 +180,16 @@ where
         + Sync,
 {
     if options.trace.is_some() {
-        serve_traced::<C, T, Brand, R>(server, listeners, options, Blank::new(1))
+        serve_traced::<C, T, Brand, R>(server, host, options, Blank::new(1))
     } else {
-        exit_of(serve_and_close(server, listeners, options), true)
+        exit_of(serve_and_close(server, host, options), true)
     }
 }
 
 /// Opens the file of the trace, and serves the paths while a worker writes it. The count of the file's failures begins as a blank.
 fn serve_traced<C: Ledger + Send, T: Ledger + Send, L: Ledger + Send, R>(
     server: &Server<'_, C, T, R>,
-    listeners: &[Listener],
+    host: &Host,
     options: &ServerOptions<'_>,
     writes: Blank,
 ) -> Exit
@@ -164,10 +207,15 @@ where
 {
     let path = options.trace.unwrap_or("");
     match trace_file(server.rt, server.alloc, path, Failures::<L>::new(writes)) {
-        Ok(trace) => serve_beside(server, listeners, options, trace),
+        Ok(trace) => serve_beside(server, host, options, trace),
+        Err(fault) if options.trace_required => {
+            tell(server.rt, fault);
+            server.shared.close(server.rt);
+            Exit::TraceRequired
+        }
         Err(fault) => {
             tell(server.rt, fault);
-            exit_of(serve_and_close(server, listeners, options), false)
+            exit_of(serve_and_close(server, host, options), false)
         }
     }
 }
@@ -175,7 +223,7 @@ where
 /// Serves the paths while a worker writes the trace. Where the worker cannot be started the trace is written at the end.
 fn serve_beside<C: Ledger + Send, T: Ledger + Send, R, P: PortWrite + Drop + Send>(
     server: &Server<'_, C, T, R>,
-    listeners: &[Listener],
+    host: &Host,
     options: &ServerOptions<'_>,
     trace: Trace<P>,
 ) -> Exit
@@ -190,21 +238,30 @@ where
 {
     let (is_whole, served) = thread::join(
         server.rt,
-        move || write_trace(server, trace),
-        move || serve_and_close(server, listeners, options),
+        move || write_trace(server, host, options.trace_required, trace),
+        move || serve_and_close(server, host, options),
     );
+    if options.trace_required && !is_whole {
+        return Exit::TraceRequired;
+    }
     exit_of(served, is_whole)
 }
 
-/// Writes the trace to its end, and tells where it stopped before. False where it did.
+/// Writes the trace to its end, and tells where it stopped before. False where it did; where the trace is required the service is then
+/// stopped.
 fn write_trace<C: Ledger, T: Ledger, R: Wait + Clock + Eprint, P: PortWrite + Drop>(
     server: &Server<'_, C, T, R>,
+    host: &Host,
+    is_required: bool,
     trace: Trace<P>,
 ) -> bool {
-    match trace.follow(server) {
+    match trace.follow(server, host) {
         Ok(()) => true,
         Err(fault) => {
             tell(server.rt, fault);
+            if is_required {
+                host.stop(server.rt);
+            }
             false
         }
     }
@@ -228,13 +285,19 @@ fn exit_of(served: Result<(), Exit>, is_whole: bool) -> Exit {
 /// Serves the paths, and closes the kernel once all workers but the trace's were joined.
 fn serve_and_close<C: Ledger + Send, T: Ledger + Send, R>(
     server: &Server<'_, C, T, R>,
-    listeners: &[Listener],
+    host: &Host,
     options: &ServerOptions<'_>,
 ) -> Result<(), Exit>
 where
-    R: Threads + Wait + Clock + Net<Listener = TcpListener, Stream = TcpStream> + Print + Sync,
+    R: Threads
+        + Wait
+        + Clock
+        + Net<Listener = TcpListener, Stream = TcpStream>
+        + Print
+        + Eprint
+        + Sync,
 {
-    let served = serve(server, listeners, options);
+    let served = serve(server, host, options);
     server.shared.close(server.rt);
     served
 }
@@ -242,54 +305,72 @@ where
 /// Serves the paths until all connections have ended, with the client of the program's own where it is asked for.
 fn serve<C: Ledger + Send, T: Ledger + Send, R>(
     server: &Server<'_, C, T, R>,
-    listeners: &[Listener],
+    host: &Host,
     options: &ServerOptions<'_>,
 ) -> Result<(), Exit>
 where
-    R: Threads + Wait + Clock + Net<Listener = TcpListener, Stream = TcpStream> + Print + Sync,
+    R: Threads
+        + Wait
+        + Clock
+        + Net<Listener = TcpListener, Stream = TcpStream>
+        + Print
+        + Eprint
+        + Sync,
 {
     let rt = server.rt;
     println!(rt; "listening {}", options.spaces)?;
+    if host.is_logged {
+        for listener in &host.listeners {
+            let path = &listener.path;
+            // where standard error fails nothing is told
+            let _ = eprintln!(rt; "l4d: listens on {path}");
+        }
+    }
     if !options.probe {
-        return served(serve_all(server, listeners, options.connections));
+        return served(serve_all(server, host));
     }
     let path = path_of(server.alloc, options.dir, 1)?;
-    match serve_probed(server, listeners, options.connections, path.as_str()) {
+    match serve_probed(server, host, path.as_str()) {
         (false, _) => served(false),
-        (true, None) => Err(Exit::ProbeFailed),
-        (true, Some(word)) => {
-            println!(rt; "probe {word:#x}")?;
-            Ok(())
-        }
+        (true, false) => Err(Exit::ProbeFailed),
+        (true, true) => Ok(()),
     }
 }
 
 fn served(started: bool) -> Result<(), Exit> {
-    if started { Ok(()) } else { Err(Exit::NoMemory) }
+    if started { Ok(()) } else { Err(Exit::NoWorker) }
 }
 
-/// Serves beside a client that sends one word, and answers whether the workers could be started, and the word that came.
+/// Serves beside a client that sends one word and prints it as soon as it has come. Answers whether the workers could be started, and
+/// whether the word was printed.
 fn serve_probed<C: Ledger + Send, T: Ledger + Send, R>(
     server: &Server<'_, C, T, R>,
-    listeners: &[Listener],
-    connections: u16,
+    host: &Host,
     path: &str,
-) -> (bool, Option<u64>)
+) -> (bool, bool)
 where
-    R: Threads + Wait + Clock + Net<Listener = TcpListener, Stream = TcpStream> + Sync,
+    R: Threads
+        + Wait
+        + Clock
+        + Net<Listener = TcpListener, Stream = TcpStream>
+        + Print
+        + Eprint
+        + Sync,
 {
     let rt = server.rt;
     let alloc = server.alloc;
-    let answer = Mutex::new(None);
-    let told = &answer;
+    let is_told = AtomicBool::new(false);
+    let told = &is_told;
     let started = thread::scope(thread::scope_env(), rt, |scope| {
         let client = worker().spawn_scoped(scope, move || {
-            let word = probe(rt, alloc, path);
-            *told.lock(rt) = word;
+            if let Some(word) = probe(rt, alloc, path) {
+                let printed = println!(rt; "probe {word:#x}").is_ok();
+                told.store(printed, Ordering::SeqCst);
+            }
         });
-        client.is_ok() && serve_all(server, listeners, connections)
+        client.is_ok() && serve_all(server, host)
     });
-    (started, answer.into_inner())
+    (started, is_told.load(Ordering::SeqCst))
 }
 
 /// Says on standard error why the server ended, where it did not end well, and answers its status.

@@ -1,36 +1,46 @@
 //! The paths of the spaces, and the sockets that listen on them.
 use crate::exit::Exit;
+use ipc_host::{Obstacle, obstacle_at};
+use ipc_options::ServerOptions;
 use std::alloc::{AllocError, Global};
-use std::fs;
 use std::fs::Permissions;
-use std::net::Net;
+use std::net::{Net, Shutdown};
+use std::os::fd::OwnedFd;
 use std::os::unix::fs::PermissionsExt;
-use std::os::unix::net::UnixListener;
+use std::os::unix::net::{UnixListener, UnixStream};
 use std::rt::Files;
+use std::{fs, io};
 
 /// A space, 1 to 64, and the socket that listens for its clients.
 #[derive(Drop)]
 pub struct Listener {
     pub(crate) space: u64,
     pub(crate) socket: UnixListener,
-    path: String,
+    pub(crate) path: String,
+    /// The same socket once more, by which an accept that waits is ended.
+    closer: UnixStream,
 }
 
-/// Listens on DIR/space1 to DIR/spaceN, each with these permissions as soon as it is bound.
+impl Listener {
+    /// Ends an accept that waits, and each later one.
+    pub(crate) fn close(&self) {
+        let _ = self.closer.shutdown(Shutdown::Both);
+    }
+}
+
+/// Listens on DIR/space1 to DIR/spaceN, each with the permissions that were asked for as soon as it is bound.
 ///
 /// # Errors
 ///
-/// CannotListen with the path that cannot be bound, one already there too; the paths bound before it are removed.
+/// CannotListen with the path that cannot be bound and why, one already there too; the paths bound before it are removed.
 pub fn listen<R: Files + Net>(
     rt: &R,
     alloc: Global,
-    dir: &str,
-    spaces: u16,
-    mode: u32,
+    options: &ServerOptions<'_>,
 ) -> Result<Vec<Listener>, Exit> {
     let mut listeners = Vec::new(alloc);
-    for space in 1..=spaces {
-        if let Err(exit) = add(rt, alloc, &mut listeners, dir, space, mode) {
+    for space in 1..=options.spaces {
+        if let Err(exit) = add(rt, alloc, &mut listeners, options, space) {
             remove(rt, listeners.as_slice());
             return Err(exit);
         }
@@ -42,27 +52,54 @@ fn add<R: Files + Net>(
     rt: &R,
     alloc: Global,
     listeners: &mut Vec<Listener>,
-    dir: &str,
+    options: &ServerOptions<'_>,
     space: u16,
-    mode: u32,
 ) -> Result<(), Exit> {
     listeners.reserve(1)?;
-    let path = path_of(alloc, dir, space)?;
-    let Ok(socket) = UnixListener::bind(rt, path.as_str()) else {
-        return Err(Exit::CannotListen(path));
+    let path = path_of(alloc, options.dir, space)?;
+    let socket = match bind(rt, path.as_str(), options.replace) {
+        Ok(socket) => socket,
+        Err(obstacle) => return Err(Exit::CannotListen(path, obstacle)),
     };
-    let guarded = fs::set_permissions(rt, path.as_str(), Permissions::from_mode(mode));
-    if guarded.is_err() {
-        let _ = fs::remove_file(rt, path.as_str());
-        return Err(Exit::CannotListen(path));
-    }
+    let closer = match guard(rt, path.as_str(), &socket, options.mode) {
+        Ok(closer) => closer,
+        Err(error) => {
+            let _ = fs::remove_file(rt, path.as_str());
+            return Err(Exit::CannotListen(path, Obstacle::Other(error)));
+        }
+    };
     let listener = Listener {
         space: u64::from(space),
         socket,
         path,
+        closer,
     };
     listeners.push(listener).map_err(AllocError::from)?;
     Ok(())
+}
+
+/// Binds a path. Where nobody answers at a socket that stands there it is removed first, if that was asked for.
+fn bind<R: Files + Net>(rt: &R, path: &str, replace: bool) -> Result<UnixListener, Obstacle> {
+    let first = match UnixListener::bind(rt, path) {
+        Ok(socket) => return Ok(socket),
+        Err(error) => obstacle_at(rt, path, error),
+    };
+    if !replace || !matches!(&first, Obstacle::Stale) {
+        return Err(first);
+    }
+    if let Err(error) = fs::remove_file(rt, path) {
+        return Err(Obstacle::Other(error));
+    }
+    match UnixListener::bind(rt, path) {
+        Ok(socket) => Ok(socket),
+        Err(error) => Err(obstacle_at(rt, path, error)),
+    }
+}
+
+/// Gives a path that was bound its permissions, and answers its socket once more.
+fn guard<R: Files>(rt: &R, path: &str, socket: &UnixListener, mode: u32) -> io::Result<UnixStream> {
+    fs::set_permissions(rt, path, Permissions::from_mode(mode))?;
+    Ok(UnixStream::from(OwnedFd::from(socket.try_clone()?)))
 }
 
 /// The path of a space.

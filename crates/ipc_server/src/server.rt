@@ -1,4 +1,4 @@
-use crate::clock::ServerClock;
+use ipc_host::ServerClock;
 use ipc_lock::{SharedKernel, Step, Told};
 use ipc_words::ThreadId;
 use std::alloc::Global;

@@ -1,9 +1,9 @@
 ghost use Rattle.std.specs.Prelude.{◌≡◌, ◌<◌, ◌^◌, None, true};
 
-use crate::clock::ServerClock;
 use crate::server::Server;
 use crate::serving::{Line, Ports, serve_ports};
 use ipc_core::{Limits, MAX_CALLS, MAX_ENTRIES};
+use ipc_host::ServerClock;
 use ipc_lock::SharedKernel;
 use ipc_ports::{PortFault, PortRead, PortWrite};
 use ipc_session::Gate;

@@ -1,17 +1,20 @@
 //! The trace worker: each entry of the history goes to a file.
 ghost use Rattle.std.specs.Prelude.{◌≡◌, ◌<◌};
 
+use crate::host::Host;
 use crate::server::Server;
 use ipc_ports::{Failures, PortWrite, WritePort};
 use ipc_trace::{PutFault, TraceWriter};
 use std::alloc::Global;
-use std::fs::File;
+use std::fs::{File, OpenOptions};
 use std::io::BufWriter;
+use std::os::unix::fs::OpenOptionsExt;
 use std::rt::{Clock, Files};
 use std::sync::Wait;
+use std::sync::atomic::Ordering;
 use std::sync::ledger::{Blank, Ledger};
 use std::time::Duration;
-use std::{fmt, thread};
+use std::{fmt, io, thread};
 
 /// How many bytes of lines are written at once where more come, at most.
 const BUFFER: usize = 65_536;
@@ -20,13 +23,30 @@ const BUFFER: usize = 65_536;
 const PAUSE: u64 = 1;
 
 /// Why a trace stopped, told as `l4d: trace TR1`.
-#[derive(Clone, Copy, PartialEq, Eq, Debug)]
-pub struct TraceFault(PutFault);
+#[derive(Clone, Copy)]
+pub struct TraceFault {
+    fault: PutFault,
+    /// Why its file cannot be opened.
+    reason: Option<io::Error>,
+}
 
 impl fmt::Display for TraceFault {
     fn fmt<W: fmt::Write>(&self, f: &mut fmt::Formatter<W>) -> fmt::Result {
-        let number = self.0.number();
-        write!(f, "l4d: trace TR{number}")
+        let number = self.fault.number();
+        write!(f, "l4d: trace TR{number}")?;
+        match self.reason {
+            Some(reason) => write!(f, "\n  its file cannot be opened: {reason}"),
+            None => Ok(()),
+        }
+    }
+}
+
+impl From<PutFault> for TraceFault {
+    fn from(fault: PutFault) -> TraceFault {
+        TraceFault {
+            fault,
+            reason: None,
+        }
     }
 }
 
@@ -37,7 +57,10 @@ pub struct Trace<P: PortWrite> {
     count: usize,
 }
 
-/// The file of a trace, which is made anew.
+/// The permissions of a trace that is made: its owner alone.
+const OWNER_ONLY: u32 = 0o600;
+
+/// The file of a trace, which is made anew. Where it was not there only its owner may read it.
 ///
 /// # Errors
 ///
@@ -48,13 +71,29 @@ pub fn trace_file<R: Files<File = File>, L: Ledger>(
     path: &str,
     failures: Failures<L>,
 ) -> Result<Trace<WritePort<BufWriter<File>, L>>, TraceFault> {
-    let Ok(file) = File::create(rt, path) else {
-        return Err(TraceFault(PutFault::DeviceFailed));
+    let file = match made(rt, path) {
+        Ok(file) => file,
+        Err(error) => {
+            return Err(TraceFault {
+                fault: PutFault::DeviceFailed,
+                reason: Some(error),
+            });
+        }
     };
     let Ok(file) = BufWriter::with_capacity(alloc, BUFFER, file) else {
-        return Err(TraceFault(PutFault::NoMemory));
+        return Err(TraceFault::from(PutFault::NoMemory));
     };
     Ok(Trace::new(alloc, WritePort::new(file, failures)))
+}
+
+fn made<R: Files<File = File>>(rt: &R, path: &str) -> io::Result<File> {
+    let mut options = OpenOptions::new();
+    options
+        .write(true)
+        .create(true)
+        .truncate(true)
+        .mode(OWNER_ONLY);
+    options.open(rt, path)
 }
 
 impl<P: PortWrite> Trace<P> {
@@ -66,8 +105,8 @@ impl<P: PortWrite> Trace<P> {
         }
     }
 
-    /// Puts the entries of the history, as they come, until the kernel was closed and all are put. Where no entry is
-    /// left, all lines are handed on before it waits for the next one.
+    /// Puts the entries of the history, as they come, until the kernel was closed and all are put, and notes how many stand. Where no
+    /// entry is left, all lines are handed on before it waits for the next one.
     ///
     /// # Errors
     ///
@@ -75,6 +114,7 @@ impl<P: PortWrite> Trace<P> {
     pub fn follow<C: Ledger, T: Ledger, R: Wait + Clock>(
         self,
         server: &Server<'_, C, T, R>,
+        host: &Host,
     ) -> Result<(), TraceFault>
     where
         P: Drop,
@@ -84,7 +124,10 @@ impl<P: PortWrite> Trace<P> {
             match trace.put_group(server) {
                 Ok(0) => return Ok(()),
                 Ok(_) => {}
-                Err(fault) => return Err(TraceFault(fault)),
+                Err(fault) => return Err(TraceFault::from(fault)),
+            }
+            if let Some(traced) = &host.traced {
+                traced.store(trace.count as u64, Ordering::SeqCst);
             }
         }
         Ok(())

@@ -20,7 +20,7 @@ impl ServerClock {
         })
     }
 
-    /// The moment, in microseconds; 0 where the clock cannot be read, which moves no kernel's moment.
+    /// The moment, in microseconds; 0 where the clock cannot be read.
     pub fn now(&self, rt: &impl Clock) -> u64 {
         match self.start.elapsed(rt) {
             Ok(spent) => u64::try_from(spent.as_micros()).unwrap_or(u64::MAX),

@@ -1,0 +1,82 @@
+//! What the workers of a server share beside the kernel.
+use crate::paths::Listener;
+use ipc_host::{Guests, ProcessStatus, are_blocked, have_come, resident};
+use std::alloc::Global;
+use std::rt::Clock;
+use std::sync::Wait;
+use std::sync::atomic::AtomicU64;
+use std::{fmt, io};
+
+/// The connections, the paths that they come by, and what is told of them.
+#[derive(Drop)]
+pub struct Host {
+    pub(crate) guests: Guests,
+    pub(crate) listeners: Vec<Listener>,
+    /// How many connections each path takes.
+    pub(crate) connections: u16,
+    pub(crate) is_logged: bool,
+    /// How many entries stand in the trace; None without one.
+    pub(crate) traced: Option<AtomicU64>,
+    /// Where the worker of signals reads which have come.
+    pub(crate) signals: Option<ProcessStatus>,
+    /// Where the worker of counters reads how much memory there is.
+    pub(crate) memory: Option<ProcessStatus>,
+}
+
+impl Host {
+    /// Ends the service: no connection is taken any more, and each that is there is shut down.
+    pub(crate) fn stop<R: Wait>(&self, rt: &R) {
+        self.guests.stop(rt);
+        for listener in &self.listeners {
+            listener.close();
+        }
+    }
+
+    /// Whether SIGINT and SIGTERM were blocked where the program was started, so that they end the service.
+    pub(crate) fn has_blocked_signals(&self, alloc: Global) -> bool {
+        match &self.signals {
+            Some(status) => are_blocked(status, alloc),
+            None => false,
+        }
+    }
+
+    /// Whether one of them has come.
+    pub(crate) fn has_signal(&self, alloc: Global) -> bool {
+        match &self.signals {
+            Some(status) => have_come(status, alloc),
+            None => false,
+        }
+    }
+
+    /// How many KiB of memory the process holds; 0 where the system does not tell it.
+    pub(crate) fn kibibytes(&self, alloc: Global) -> u64 {
+        match &self.memory {
+            Some(status) => resident(status, alloc).unwrap_or(0),
+            None => 0,
+        }
+    }
+
+    /// Tells what failed, once a minute at most, with the number of connections that are there.
+    pub(crate) fn complain<R: Wait + Clock + Eprint>(&self, rt: &R, what: &str, error: io::Error) {
+        let (may, live) = self.guests.may_tell(rt);
+        if may {
+            // where standard error fails nothing is told
+            let _ = rt.eprintln(&Complaint { what, error, live });
+        }
+    }
+}
+
+/// What failed, as it is told.
+#[derive(Drop)]
+struct Complaint<'a> {
+    what: &'a str,
+    error: io::Error,
+    live: usize,
+}
+
+impl fmt::Display for Complaint<'_> {
+    fn fmt<W: fmt::Write>(&self, f: &mut fmt::Formatter<W>) -> fmt::Result {
+        let Complaint { what, error, live } = self;
+        write!(f, "l4d: {what}: {error}; {live} connections are there")
+    }
+}

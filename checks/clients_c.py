@@ -439,11 +439,12 @@ class Server:
         self.process.wait()
 
     def entries(self):
-        """The lines of the trace, when no more come."""
-        size = -1
-        while size != os.path.getsize(self.trace):
-            size = os.path.getsize(self.trace)
+        """The lines of the trace, when no more have come for a second."""
+        size, still = -1, 0
+        while still < 10:
             time.sleep(0.1)
+            still = still + 1 if size == os.path.getsize(self.trace) else 0
+            size = os.path.getsize(self.trace)
         return open(self.trace).read().splitlines()
 
     def is_legal(self, l4sh):
@@ -1080,7 +1081,7 @@ def check_threads(programs, l4d, l4sh, room):
 
 def check_full(programs, l4d, room):
     with Server(l4d, room, trace=False) as server:
-        return int(subprocess.run([programs["fill"], server.dir], check=True, capture_output=True, text=True, timeout=2 * SECONDS).stdout)
+        return int(subprocess.run([programs["fill"], server.dir], check=True, capture_output=True, text=True, timeout=8 * SECONDS).stdout)
 
 
 def main(arguments):

@@ -775,10 +775,11 @@ def received_in(call):
 
 def trace(server, l4sh):
     """The trace is legal, and has each call that this process made, with what came of it."""
-    size = -1
-    while size != os.path.getsize(server.trace):
+    size, still = -1, 0
+    while still < 10:
+        time.sleep(0.1)
+        still = still + 1 if size == os.path.getsize(server.trace) else 0
         size = os.path.getsize(server.trace)
-        time.sleep(0.3)
     ran = subprocess.run([l4sh, "check", server.trace], capture_output=True, text=True)
     same("l4sh check", (ran.returncode, ran.stdout), (0, "yes\n"))
     with open(server.trace, encoding="ascii") as file:

@@ -16,7 +16,7 @@ import tempfile
 import rules
 
 ROOT = os.path.dirname(os.path.dirname(os.path.abspath(__file__)))
-PROGRAM = f"{ROOT}/crates/ipc_shell/out/ipc_shell"
+PROGRAM = f"{ROOT}/crates/ipc_shell/out/l4sh"
 # so many scripts are made, of so many commands
 SCRIPTS, COMMANDS = 120, 40
 # so many traces are made of each, of each kind

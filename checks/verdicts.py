@@ -12,11 +12,12 @@ import sys
 import tempfile
 
 ROOT = os.path.dirname(os.path.dirname(os.path.abspath(__file__)))
+PROGRAM = f"{ROOT}/crates/ipc_shell/out/l4sh"
 OUTPUTS = (b"began ", b"turned ", b"ended ", b"overflowed ", b"aborted ", b"failed ")
 
 
 def l4sh(words, given=b""):
-    done = subprocess.run([f"{ROOT}/l4sh", *words], input=given, capture_output=True)
+    done = subprocess.run([PROGRAM, *words], input=given, capture_output=True)
     return done.returncode, done.stdout
 
 
@@ -51,6 +52,8 @@ def wrongs_of(lines, room):
 
 def main():
     count = failed = 0
+    # The first run builds it where that is needed.
+    subprocess.run([f"{ROOT}/l4sh", "run"], stdin=subprocess.DEVNULL, check=True)
     with tempfile.TemporaryDirectory() as room:
         for path in sys.argv[1:]:
             with open(path, "rb") as file:

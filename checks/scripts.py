@@ -1,9 +1,14 @@
 #!/usr/bin/env python3
-"""checks/scripts.py [L4SH]: the worked scripts of the rules, of frames and of traces.
+"""checks/scripts.py [L4SH]: the worked scripts of the rules, of frames, of traces and of words.
 
-Each stands in checks/scripts, below the command that reads it: run, wire or check. NAME.in is what is read, NAME.out what is printed, NAME.args
-further words, and NAME.end the exit status and the first line on standard error where they are not 0 and none. They were worked out by hand from
-the rules. A long run of one byte stands as `{61*65537}`: its two digits, and how often. Its last line is `N passed, M failed`."""
+Each stands in checks/scripts, below the command that reads it. `run` and `wire` read it from standard input; `check`, `state` and `script` are given
+it as a file; `explain`, `tag` and `period` are asked each of its lines as a word. NAME.in is what is read, NAME.out what is printed, NAME.args
+further words, and NAME.end the exit status and all of standard error where they are not 0 and nothing. A word that is asked has to end so alone.
+They were worked out by hand from the rules. A long run of one byte stands as `{61*65537}`: its two digits, and how often. Those of the name
+`mistake_..` are what people type first, and end with the reason.
+
+Then each example of examples/ prints what is stored beside it. And the script that `l4sh script` makes of a trace gives the trace back when it is run:
+of each example, and of each script in checks/scripts/run. The last line is `N passed, M failed`."""
 
 import glob
 import os
@@ -13,46 +18,104 @@ import sys
 import tempfile
 
 HERE = os.path.dirname(os.path.abspath(__file__))
+EXAMPLES = os.path.join(HERE, "..", "examples")
+OF_A_FILE = ("check", "state", "script")
+OF_A_WORD = ("explain", "tag", "period")
+RUN = re.compile(rb"\{([0-9a-f]{2})\*(\d+)\}")
 
 
-def text(path, default=""):
-    return open(path).read() if os.path.exists(path) else default
-
-
-def whole(path):
+def stored(path, default=b""):
     """The bytes of a file, its long runs written out."""
-    return re.sub(r"\{([0-9a-f]{2})\*(\d+)\}", lambda run: run[1] * int(run[2]), text(path)).encode()
+    if not os.path.exists(path):
+        return default
+    with open(path, "rb") as file:
+        return RUN.sub(lambda run: run[1] * int(run[2]), file.read())
+
+
+def ended(words, given=b""):
+    """What a run prints, its exit status, and all that it says on standard error."""
+    ran = subprocess.run(words, input=given, capture_output=True)
+    return ran.stdout, ran.returncode, ran.stderr
+
+
+def of_file(words, trace, options=()):
+    with tempfile.NamedTemporaryFile() as file:
+        file.write(trace)
+        file.flush()
+        return ended([*words, *options, file.name])
+
+
+def of_words(words, asked):
+    """What is printed for all of these words together, and how each of them ends, where they all end alike."""
+    runs = [ended([*words, word]) for word in asked]
+    ends = {(status, told) for _, status, told in runs}
+    printed = b"".join(printed for printed, _, _ in runs)
+    return (printed, *ends.pop()) if len(ends) == 1 else (printed, None, sorted(ends))
 
 
 def wanted(base):
-    status, _, words = text(f"{base}.end", "0\n").partition("\n")
-    return whole(f"{base}.out"), int(status), words.split("\n")[0]
+    status, _, told = stored(f"{base}.end", b"0\n").partition(b"\n")
+    return stored(f"{base}.out"), int(status), told
 
 
 def found(l4sh, base):
     command = os.path.basename(os.path.dirname(base))
-    words = [l4sh, command, *text(f"{base}.args").split()]
-    given = whole(f"{base}.in")
-    if command == "check":
-        with tempfile.NamedTemporaryFile() as trace:
-            trace.write(given)
-            trace.flush()
-            ran = subprocess.run([*words, trace.name], stdin=subprocess.DEVNULL, capture_output=True)
-    else:
-        ran = subprocess.run(words, input=given, capture_output=True)
-    return ran.stdout, ran.returncode, ran.stderr.decode().split("\n")[0]
+    options = stored(f"{base}.args").decode().split()
+    given = stored(f"{base}.in")
+    if command in OF_A_FILE:
+        return of_file([l4sh, command], given, options)
+    if command in OF_A_WORD:
+        return of_words([l4sh, command, *options], given.removesuffix(b"\n").split(b"\n"))
+    return ended([l4sh, command, *options], given)
+
+
+def trace_of(printed):
+    """The entry lines that a script printed."""
+    return b"".join(line for line in printed.splitlines(keepends=True) if not line.startswith((b"=", b"!")))
+
+
+def given_back(l4sh, trace):
+    """Where the script of a trace does not give the trace back, what comes in its place."""
+    script, status, told = of_file([l4sh, "script"], trace)
+    if status:
+        return told
+    back = trace_of(ended([l4sh, "run"], script)[0])
+    return None if back == trace else b"another trace: " + back
+
+
+def faults_of_stored(l4sh, base):
+    if found(l4sh, base) != wanted(base):
+        yield f"{found(l4sh, base)} is not {wanted(base)}"
+
+
+def faults_of_example(l4sh, path):
+    ran = ended([l4sh, "run"], stored(path))
+    if ran != (stored(f"{path[:-3]}.out"), 0, b""):
+        yield f"it prints {ran}"
+
+
+def faults_of_script(l4sh, path):
+    options = stored(f"{path[:-3]}.args").decode().split()
+    there = given_back(l4sh, trace_of(ended([l4sh, "run", *options], stored(path))[0]))
+    if there is not None:
+        yield f"its trace is not given back: {there}"
 
 
 def main():
     l4sh = sys.argv[1] if len(sys.argv) > 1 else os.path.join(HERE, "..", "l4sh")
-    bases = sorted(path[: -len(".in")] for path in glob.glob(f"{HERE}/scripts/*/*.in"))
+    examples = sorted(glob.glob(f"{EXAMPLES}/*.l4"))
+    scripts = sorted(glob.glob(f"{HERE}/scripts/run/*.in"))
+    looks = [(path[: -len(".in")], faults_of_stored) for path in sorted(glob.glob(f"{HERE}/scripts/*/*.in"))]
+    looks += [(path, faults_of_example) for path in examples]
+    looks += [(path, faults_of_script) for path in [*examples, *scripts]]
     failed = 0
-    for base in bases:
-        if found(l4sh, base) != wanted(base):
-            failed += 1
-            print(f"{os.path.relpath(base, HERE)}: {found(l4sh, base)} is not {wanted(base)}"[:600])
-    print(f"{len(bases) - failed} passed, {failed} failed")
-    return 1 if failed or not bases else 0
+    for path, faults_of in looks:
+        faults = list(faults_of(l4sh, path))
+        failed += bool(faults)
+        for fault in faults:
+            print(f"{os.path.relpath(path, HERE)}: {fault}"[:600])
+    print(f"{len(looks) - failed} passed, {failed} failed")
+    return 1 if failed or not (examples and scripts) else 0
 
 
 if __name__ == "__main__":

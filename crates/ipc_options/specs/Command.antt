@@ -32,6 +32,14 @@ number_rule id most default = record (new_rule id) {
 abbrev pub file_rule : Rule
 file_rule = record (new_rule (codes "file")) { value_names = 1; required = true }
 
+-- `--ID`, a flag
+abbrev pub flag_rule : Text → Rule
+flag_rule id = record (new_rule id) { long = Some id; action = Some SetTrue }
+
+-- WORD, which has to be there
+abbrev pub word_rule : Rule
+word_rule = record (new_rule (codes "word")) { value_names = 1; required = true }
+
 -- `--threads LIST`
 abbrev pub threads_rule : Rule
 threads_rule = record (new_rule (codes "threads")) { long = Some (codes "threads"); value_names = 1 }
@@ -60,19 +68,40 @@ chart_places_app = with_rule (with_rule (with_rule (new_app (codes "chart")) fil
 abbrev pub chart_app : App
 chart_app = with_rule (with_rule chart_places_app threads_rule) text_rule
 
+abbrev pub script_app : App
+script_app = with_rule (new_app (codes "script")) file_rule
+
+-- `state` with its file and the entry after which it is
+abbrev pub state_app : App
+state_app = with_rule (with_rule (new_app (codes "state")) file_rule)
+    (number_rule (codes "at") max_chart_entry max_chart_entry_text)
+
+-- a subcommand of one word
+abbrev pub word_app : Text → App
+word_app name = with_rule (new_app name) word_rule
+
 -- `l4sh` with `run` and `check`
 abbrev pub proving_app : App
 proving_app = with_subcommand (with_subcommand
     (on_top (λ shape. record shape { subcommand_required = true }) (new_app (codes "l4sh")))
     run_app.top) check_app.top
 
+-- `l4sh` with `chart` and `wire` too
+abbrev pub drawing_app : App
+drawing_app = with_subcommand (with_subcommand proving_app chart_app.top) wire_app.top
+
+-- `l4sh` with `script` and `state` too
+abbrev pub tracing_app : App
+tracing_app = with_subcommand (with_subcommand drawing_app script_app.top) state_app.top
+
+-- `l4sh` with `explain` and `tag` too
+abbrev pub explaining_app : App
+explaining_app = with_subcommand (with_subcommand tracing_app (word_app (codes "explain")).top)
+    (word_app (codes "tag")).top
+
 -- `l4sh` with its subcommands, of which one has to be there
 abbrev pub shell_app : App
-shell_app = with_subcommand (with_subcommand proving_app chart_app.top) wire_app.top
-
--- `--ID`, a flag
-abbrev pub flag_rule : Text → Rule
-flag_rule id = record (new_rule id) { long = Some id; action = Some SetTrue }
+shell_app = with_subcommand explaining_app (word_app (codes "period")).top
 
 -- `--ID N`: a number from 1 up to most, by default the one that a text reads as
 abbrev pub count_rule : Text → ℕ → Text → Rule

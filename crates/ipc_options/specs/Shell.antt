@@ -7,7 +7,9 @@ use Rattle.ipc_options.specs.Command.{shell_app}
 use Rattle.ipc_options.specs.declared.shell.ChartOptions.{ChartOptions}
 use Rattle.ipc_options.specs.declared.shell.ScriptLimits.{ScriptLimits}
 use Rattle.ipc_options.specs.declared.shell.ShellOptions.{ShellOptions}
-use Rattle.ipc_options.specs.declared.shell.ShellOptions.TheVariants.{Run, Wire, Check, Chart}
+use Rattle.ipc_options.specs.declared.shell.ShellOptions.TheVariants.{Run, Wire, Check, Chart, State}
+use Rattle.ipc_options.specs.declared.shell.ShellOptions.TheVariants.{Script, Explain, Tag, Period}
+use Rattle.ipc_options.specs.declared.shell.StateOptions.{StateOptions}
 
 -- each number is within its limit
 abbrev pub AreWithinLimits : ScriptLimits → Type 0
@@ -19,6 +21,11 @@ IsWithinLimits (Run limits) = AreWithinLimits limits
 IsWithinLimits Wire = ⊤
 IsWithinLimits (Check file) = ⊤
 IsWithinLimits (Chart chart) = ⊤
+IsWithinLimits (State state) = ⊤
+IsWithinLimits (Script file) = ⊤
+IsWithinLimits (Explain word) = ⊤
+IsWithinLimits (Tag word) = ⊤
+IsWithinLimits (Period word) = ⊤
 
 -- the number that an option has among the matches of a subcommand
 abbrev pub number_in : List Row → Text → Option ℕ
@@ -37,6 +44,11 @@ HasChartIn rows chart = (first_of (codes "file") rows ≡ Some chart.file.now)
     × (first_of (codes "threads") rows ≡ option_map (λ list. list.now) chart.threads)
     × IsFlagIn rows (codes "text") chart.is_text
 
+-- the options of `state` are those of its matches
+abbrev pub HasStateIn : List Row → StateOptions → Type 0
+HasStateIn rows state = (first_of (codes "file") rows ≡ Some state.file.now)
+    × (number_in rows (codes "at") ≡ Some state.at)
+
 -- the limits are those of the matches
 abbrev pub HasLimitsIn : List Row → ScriptLimits → Type 0
 HasLimitsIn rows limits = (number_in rows (codes "entries") ≡ Some limits.entries)
@@ -49,13 +61,22 @@ HasMatchesIn name rows Wire = name ≡ codes "wire"
 HasMatchesIn name rows (Check file) = (name ≡ codes "check")
     × (first_of (codes "file") rows ≡ Some file.now)
 HasMatchesIn name rows (Chart chart) = (name ≡ codes "chart") × HasChartIn rows chart
+HasMatchesIn name rows (State state) = (name ≡ codes "state") × HasStateIn rows state
+HasMatchesIn name rows (Script file) = (name ≡ codes "script")
+    × (first_of (codes "file") rows ≡ Some file.now)
+HasMatchesIn name rows (Explain word) = (name ≡ codes "explain")
+    × (first_of (codes "word") rows ≡ Some word.now)
+HasMatchesIn name rows (Tag word) = (name ≡ codes "tag")
+    × (first_of (codes "word") rows ≡ Some word.now)
+HasMatchesIn name rows (Period word) = (name ≡ codes "period")
+    × (first_of (codes "word") rows ≡ Some word.now)
 
 -- the matches have a decimal number within its limit for each limit of a script
 abbrev pub ReadsAsRun : List Row → Type 0
 ReadsAsRun rows = IsSomeAnd (one_of (codes "entries") rows) (IsUnsignedIn 0 max_entries)
     × IsSomeAnd (one_of (codes "calls") rows) (IsUnsignedIn 0 max_calls)
 
--- the matches have a file
+-- the matches have a file, which is all that `check` and `script` need
 abbrev pub ReadsAsCheck : List Row → Type 0
 ReadsAsCheck rows = IsSome (first_of (codes "file") rows)
 
@@ -65,12 +86,28 @@ ReadsAsChart rows = ReadsAsCheck rows
     × IsSomeAnd (one_of (codes "from") rows) (IsUnsignedIn 0 max_chart_entry)
     × IsSomeAnd (one_of (codes "to") rows) (IsUnsignedIn 0 max_chart_entry)
 
+-- the matches of `state` have a file, and a decimal number of 32 bits for the entry
+abbrev pub ReadsAsState : List Row → Type 0
+ReadsAsState rows = ReadsAsCheck rows
+    × IsSomeAnd (one_of (codes "at") rows) (IsUnsignedIn 0 max_chart_entry)
+
+-- the matches have a word
+abbrev pub ReadsAsWord : List Row → Type 0
+ReadsAsWord rows = IsSome (first_of (codes "word") rows)
+
+-- the subcommand of this name takes one word
+abbrev pub TakesWord : Text → Type 0
+TakesWord name = (name ≡ codes "explain") ⊎ (name ≡ codes "tag") ⊎ (name ≡ codes "period")
+
 -- the matches of the subcommand of this name have what it needs
 unfoldable pub Reads : Text → List Row → Type 0
 Reads name rows = ((name ≡ codes "run") × ReadsAsRun rows)
     ⊎ (name ≡ codes "wire")
     ⊎ ((name ≡ codes "check") × ReadsAsCheck rows)
     ⊎ ((name ≡ codes "chart") × ReadsAsChart rows)
+    ⊎ ((name ≡ codes "state") × ReadsAsState rows)
+    ⊎ ((name ≡ codes "script") × ReadsAsCheck rows)
+    ⊎ (TakesWord name × ReadsAsWord rows)
 
 -- the options are those that the words, or the defaults, give the subcommand that they name
 abbrev pub IsAskedBy : List Text → ShellOptions → Type 0

@@ -9,4 +9,4 @@ mod shell;
 pub use default_texts::default_texts_are_the_limits;
 pub use server::{MAX_SPACES, OWNER_ONLY, ServerOptions, VERSION};
 pub use server_words::server_options;
-pub use shell::{ChartOptions, ScriptLimits, ShellOptions, shell_options};
+pub use shell::{ChartOptions, ScriptLimits, ShellOptions, StateOptions, shell_options};

@@ -2,12 +2,15 @@
 ghost use Rattle.std.specs.Prelude.{◌≡◌, IfErr, IfOk, IfSome, IsSome, IsSomeAnd, Some, [], codes, false, option_map};
 ghost use Rattle.std.specs.Prelude.{map, string_bytes};
 ghost use Rattle.clap.specs.Words.{IsUnsignedIn, app_of, fault_of, first_of, found_of, kind_of, one_of, rows_of, rule_of};
+ghost use Rattle.clap.specs.Words.{subcommand_rows_of};
 ghost use Rattle.clap.specs.declared.builder.command.Command.TheViews.{out-Command as fields_of};
-ghost use Rattle.ipc_options.specs.Command.{chart_app, chart_places_app, check_app, file_rule, number_rule};
-ghost use Rattle.ipc_options.specs.Command.{proving_app, run_app, shell_app, text_rule, threads_rule, wire_app};
+ghost use Rattle.ipc_options.specs.Command.{chart_app, chart_places_app, check_app, drawing_app};
+ghost use Rattle.ipc_options.specs.Command.{explaining_app, file_rule, number_rule, proving_app, run_app};
+ghost use Rattle.ipc_options.specs.Command.{script_app, shell_app, state_app, text_rule, threads_rule, tracing_app};
+ghost use Rattle.ipc_options.specs.Command.{wire_app, word_app, word_rule};
 ghost use Rattle.ipc_options.specs.Shell.{AreWithinLimits, HasLimitsIn, HasMatchesIn, IsAskedBy, IsFlagIn};
-ghost use Rattle.ipc_options.specs.Shell.{IsTaken, IsWithinLimits, Reads, ReadsAsChart, ReadsAsCheck};
-ghost use Rattle.ipc_options.specs.Shell.{ReadsAsRun, number_in};
+ghost use Rattle.ipc_options.specs.Shell.{IsTaken, IsWithinLimits, Reads, ReadsAsChart, ReadsAsCheck, ReadsAsRun};
+ghost use Rattle.ipc_options.specs.Shell.{ReadsAsState, ReadsAsWord, TakesWord, number_in};
 
 use crate::default_texts::{MAX_CALLS_TEXT, MAX_CHART_ENTRY_TEXT, MAX_ENTRIES_TEXT};
 use clap::builder::ValueParser;
@@ -27,6 +30,16 @@ pub enum ShellOptions<'a> {
     Check { file: &'a str },
     /// `l4sh chart`.
     Chart(ChartOptions<'a>),
+    /// `l4sh state`.
+    State(StateOptions<'a>),
+    /// `l4sh script`, with the path of a trace.
+    Script { file: &'a str },
+    /// `l4sh explain`, with a number of a refusal, a word or an id.
+    Explain { word: &'a str },
+    /// `l4sh tag`, with the fields of a tag or its word.
+    Tag { word: &'a str },
+    /// `l4sh period`, with a time or the word of a period.
+    Period { word: &'a str },
 }
 
 /// The limits of the kernel under a script.
@@ -53,6 +66,15 @@ pub struct ChartOptions<'a> {
     pub is_text: bool,
 }
 
+/// What `l4sh state` was asked for.
+#[derive(Clone, Copy, PartialEq, Eq, Debug)]
+pub struct StateOptions<'a> {
+    /// The path of a trace.
+    pub file: &'a str,
+    /// The entry after which the state is, counted from 1; 0: before the first.
+    pub at: u32,
+}
+
 /// The command line of `l4sh`. The first word is the program's name. An `Err` is a mistake in the
 /// words, a request for help, or want of memory (the kind `OutOfMemory`), and its `Display` is the
 /// text for the user.
@@ -66,11 +88,7 @@ pub fn shell_options<'a>(alloc: Global, words: &'a [String]) -> Result<ShellOpti
 {
     let mut command = shell_command(alloc)?;
     let matches = command.try_get_matches_from_mut(words)?;
-    let chosen = match matches.subcommand() {
-        Some((name, found)) => options_in(name, found),
-        None => None,
-    };
-    match chosen {
+    match options_of(&matches) {
         Some(options) => Ok(options),
         // `clap` has refused such a number already.
         None => Err(command.error(ErrorKind::ValueValidation, "a number is past its limit")?),
@@ -79,6 +97,31 @@ pub fn shell_options<'a>(alloc: Global, words: &'a [String]) -> Result<ShellOpti
 
 fn shell_command<'a>(alloc: Global) -> Result<Command<'a>, AllocError>
     ensures { IfOk result (λ command. app_of command ≡ shell_app) }
+{
+    explaining_command(alloc)?.subcommand(period_command(alloc)?)
+}
+
+/// `l4sh` with what it explains: words and tags.
+fn explaining_command<'a>(alloc: Global) -> Result<Command<'a>, AllocError>
+    ensures { IfOk result (λ command. app_of command ≡ explaining_app) }
+{
+    tracing_command(alloc)?
+        .subcommand(explain_command(alloc)?)?
+        .subcommand(tag_command(alloc)?)
+}
+
+/// `l4sh` with what it tells of a trace: its script and its states.
+fn tracing_command<'a>(alloc: Global) -> Result<Command<'a>, AllocError>
+    ensures { IfOk result (λ command. app_of command ≡ tracing_app) }
+{
+    drawing_command(alloc)?
+        .subcommand(script_command(alloc)?)?
+        .subcommand(state_command(alloc)?)
+}
+
+/// `l4sh` with what it draws and serves.
+fn drawing_command<'a>(alloc: Global) -> Result<Command<'a>, AllocError>
+    ensures { IfOk result (λ command. app_of command ≡ drawing_app) }
 {
     proving_command(alloc)?
         .subcommand(chart_command(alloc)?)?
@@ -168,6 +211,73 @@ fn wire_command<'a>(alloc: Global) -> Result<Command<'a>, AllocError>
     Ok(Command::new(alloc, "wire").about(about))
 }
 
+fn script_command<'a>(alloc: Global) -> Result<Command<'a>, AllocError>
+    ensures local { IfOk result (λ command. (fields_of command).has_globals ≡ false) }
+    ensures app { IfOk result (λ command. app_of command ≡ script_app) }
+{
+    Command::new(alloc, "script")
+        .about("Writes the script for run whose history a trace is")
+        .arg(trace_file(alloc))
+}
+
+fn state_command<'a>(alloc: Global) -> Result<Command<'a>, AllocError>
+    ensures local { IfOk result (λ command. (fields_of command).has_globals ≡ false) }
+    ensures app { IfOk result (λ command. app_of command ≡ state_app) }
+{
+    Command::new(alloc, "state")
+        .about("Says what each thread does after an entry of a trace, and each deadlock")
+        .arg(trace_file(alloc))?
+        .arg(number_option(
+            alloc,
+            "at",
+            MAX_CHART_ENTRY,
+            MAX_CHART_ENTRY_TEXT,
+            "The entry after which it is, counted from 1; 0: before the first; without it the last",
+        ))
+}
+
+fn explain_command<'a>(alloc: Global) -> Result<Command<'a>, AllocError>
+    ensures local { IfOk result (λ command. (fields_of command).has_globals ≡ false) }
+    ensures app { IfOk result (λ command. app_of command ≡ word_app (codes "explain")) }
+{
+    let about = "Says what a number of a refusal, a word or an id means";
+    let help = "A number as K6, F4 or TR3, a word in hexadecimal, or an id";
+    word_command(alloc, "explain", about, help)
+}
+
+fn tag_command<'a>(alloc: Global) -> Result<Command<'a>, AllocError>
+    ensures local { IfOk result (λ command. (fields_of command).has_globals ≡ false) }
+    ensures app { IfOk result (λ command. app_of command ≡ word_app (codes "tag")) }
+{
+    let about = "Makes a tag of its fields, or says the fields of a tag";
+    let help = "Fields as label=3,words=1,strings=1,p, or a tag in hexadecimal";
+    word_command(alloc, "tag", about, help)
+}
+
+fn period_command<'a>(alloc: Global) -> Result<Command<'a>, AllocError>
+    ensures local { IfOk result (λ command. (fields_of command).has_globals ≡ false) }
+    ensures app { IfOk result (λ command. app_of command ≡ word_app (codes "period")) }
+{
+    let about = "Makes a period of a time, or says what a period is worth";
+    let help = "A time as 20us, 2ms or 1s, never, or a period in hexadecimal";
+    word_command(alloc, "period", about, help)
+}
+
+/// A subcommand of one word.
+fn word_command<'a>(
+    alloc: Global,
+    name: &'a str,
+    about: &'a str,
+    help: &'a str,
+) -> Result<Command<'a>, AllocError>
+    ensures local { IfOk result (λ command. (fields_of command).has_globals ≡ false) }
+    ensures app { IfOk result (λ command. app_of command ≡ word_app name.entry.now) }
+{
+    Command::new(alloc, name)
+        .about(about)
+        .arg(word_argument(alloc, help))
+}
+
 /// FILE.
 fn trace_file<'a>(alloc: Global) -> Arg<'a>
     ensures local { result.global ≡ false }
@@ -177,6 +287,17 @@ fn trace_file<'a>(alloc: Global) -> Arg<'a>
         .value_name("FILE")
         .required(true)
         .help("A trace: the lines of the entries of a history")
+}
+
+/// WORD.
+fn word_argument<'a>(alloc: Global, help: &'a str) -> Arg<'a>
+    ensures local { result.global ≡ false }
+    ensures rule { rule_of result ≡ word_rule }
+{
+    Arg::new(alloc, "word")
+        .value_name("WORD")
+        .required(true)
+        .help(help)
 }
 
 /// The option `--threads LIST`.
@@ -220,6 +341,20 @@ fn number_option<'a>(
         .help(help)
 }
 
+/// The options of the subcommand that was entered.
+fn options_of<'a>(matches: &ArgMatches<'a>) -> Option<ShellOptions<'a>>
+    ensures limits { IfSome result IsWithinLimits }
+    ensures asked { IfSome result (λ options. IsSomeAnd (subcommand_rows_of matches.now)
+        (λ named. HasMatchesIn named.0 named.1 options)) }
+    ensures found { IsSomeAnd (subcommand_rows_of matches.now) (λ named. Reads named.0 named.1)
+        → IsSome result }
+{
+    match matches.subcommand() {
+        Some((name, found)) => options_in(name, found),
+        None => None,
+    }
+}
+
 /// The options of the subcommand of this name.
 #[tactic(auto, unfolding(crate::specs::Shell::Reads, crate::specs::Shell::HasMatchesIn))]
 fn options_in<'a>(name: &str, found: &ArgMatches<'a>) -> Option<ShellOptions<'a>>
@@ -232,7 +367,9 @@ fn options_in<'a>(name: &str, found: &ArgMatches<'a>) -> Option<ShellOptions<'a>
         "check" => check_options(found),
         "chart" => chart_options(found),
         "wire" => Some(ShellOptions::Wire),
-        _ => None,
+        "state" => state_options(found),
+        "script" => script_options(found),
+        _ => word_options(name, found),
     }
 }
 
@@ -289,6 +426,43 @@ fn chart_options<'a>(chart: &ArgMatches<'a>) -> Option<ShellOptions<'a>>
     }))
 }
 
+#[tactic(auto, unfolding(crate::specs::Shell::HasMatchesIn))]
+fn state_options<'a>(state: &ArgMatches<'a>) -> Option<ShellOptions<'a>>
+    ensures limits { IfSome result IsWithinLimits }
+    ensures matches { IfSome result (HasMatchesIn (codes "state") (rows_of (found_of state.now))) }
+    ensures found { ReadsAsState (rows_of (found_of state.now)) → IsSome result }
+{
+    let file = text(state, "file")?;
+    let at = number(state, "at")?;
+    Some(ShellOptions::State(StateOptions { file, at }))
+}
+
+#[tactic(auto, unfolding(crate::specs::Shell::HasMatchesIn))]
+fn script_options<'a>(script: &ArgMatches<'a>) -> Option<ShellOptions<'a>>
+    ensures limits { IfSome result IsWithinLimits }
+    ensures matches { IfSome result (HasMatchesIn (codes "script") (rows_of (found_of script.now))) }
+    ensures found { ReadsAsCheck (rows_of (found_of script.now)) → IsSome result }
+{
+    let file = text(script, "file")?;
+    Some(ShellOptions::Script { file })
+}
+
+/// The options of the subcommand of this name, of those that take one word.
+#[tactic(auto, unfolding(crate::specs::Shell::HasMatchesIn))]
+fn word_options<'a>(name: &str, found: &ArgMatches<'a>) -> Option<ShellOptions<'a>>
+    ensures limits { IfSome result IsWithinLimits }
+    ensures matches { IfSome result (HasMatchesIn name.now (rows_of (found_of found.now))) }
+    ensures found { TakesWord name.now → ReadsAsWord (rows_of (found_of found.now)) → IsSome result }
+{
+    let word = text(found, "word")?;
+    match name {
+        "explain" => Some(ShellOptions::Explain { word }),
+        "tag" => Some(ShellOptions::Tag { word }),
+        "period" => Some(ShellOptions::Period { word }),
+        _ => None,
+    }
+}
+
 fn flag(found: &ArgMatches<'_>, id: &str) -> bool
     ensures { IsFlagIn (rows_of (found_of found.now)) id.now result }
 {
@@ -312,6 +486,7 @@ fn number(found: &ArgMatches<'_>, id: &str) -> Option<u32>
 #[cfg(test)]
 mod tests {
     use super::*;
+    use std::process::Abort;
     use std::test::Fail;
 
     fn words_of(alloc: Global, words: &[&str]) -> Result<Vec<String>, AllocError> {
@@ -320,6 +495,34 @@ mod tests {
             strings.push(String::from_str(alloc, word)?)?;
         }
         Ok(strings)
+    }
+
+    fn assert_asked(
+        rt: &impl Abort,
+        alloc: Global,
+        cases: &[(&[&str], ShellOptions<'_>)],
+    ) -> Result<(), Fail> {
+        for (words, wanted) in cases {
+            let strings = words_of(alloc, words)?;
+            let options = shell_options(alloc, &strings)?;
+            assert_eq!(rt; options, *wanted, "at {words:?}");
+        }
+        Ok(())
+    }
+
+    fn assert_refused(
+        rt: &impl Abort,
+        alloc: Global,
+        cases: &[(&[&str], ErrorKind)],
+    ) -> Result<(), Fail> {
+        for (words, kind) in cases {
+            let strings = words_of(alloc, words)?;
+            match shell_options(alloc, &strings) {
+                Ok(options) => assert!(rt; false, "{options:?} at {words:?}"),
+                Err(error) => assert_eq!(rt; error.kind(), *kind, "at {words:?}"),
+            }
+        }
+        Ok(())
     }
 
     #[test]
@@ -406,6 +609,106 @@ mod tests {
     }
 
     #[test]
+    fn tells_of_the_trace_that_is_named(rt: HostRuntime) -> Result<(), Fail> {
+        let file = "trace";
+        let cases: [(&[&str], ShellOptions); 6] = [
+            (
+                &["l4sh", "state", "trace"],
+                ShellOptions::State(StateOptions {
+                    file,
+                    at: 4_294_967_295,
+                }),
+            ),
+            (
+                &["l4sh", "state", "trace", "--at", "7"],
+                ShellOptions::State(StateOptions { file, at: 7 }),
+            ),
+            (
+                &["l4sh", "state", "--at=0", "trace"],
+                ShellOptions::State(StateOptions { file, at: 0 }),
+            ),
+            (
+                &["l4sh", "state", "--at", "4294967295", "trace"],
+                ShellOptions::State(StateOptions {
+                    file,
+                    at: 4_294_967_295,
+                }),
+            ),
+            (&["l4sh", "script", "trace"], ShellOptions::Script { file }),
+            (
+                &["l4sh", "script", "--", "--at"],
+                ShellOptions::Script { file: "--at" },
+            ),
+        ];
+        assert_asked(&rt, rt.alloc(), &cases)
+    }
+
+    #[test]
+    fn explains_the_word_that_is_given(rt: HostRuntime) -> Result<(), Fail> {
+        let cases: [(&[&str], ShellOptions); 4] = [
+            (
+                &["l4sh", "explain", "K6"],
+                ShellOptions::Explain { word: "K6" },
+            ),
+            (
+                &["l4sh", "tag", "label=3,words=1,p"],
+                ShellOptions::Tag {
+                    word: "label=3,words=1,p",
+                },
+            ),
+            (
+                &["l4sh", "period", "2ms"],
+                ShellOptions::Period { word: "2ms" },
+            ),
+            (
+                &["l4sh", "period", "tag"],
+                ShellOptions::Period { word: "tag" },
+            ),
+        ];
+        assert_asked(&rt, rt.alloc(), &cases)
+    }
+
+    #[test]
+    fn refuses_words_of_a_trace_or_a_word(rt: HostRuntime) -> Result<(), Fail> {
+        let cases: [(&[&str], ErrorKind); 15] = [
+            (&["l4sh", "state"], ErrorKind::MissingRequiredArgument),
+            (
+                &["l4sh", "state", "--at", "7"],
+                ErrorKind::MissingRequiredArgument,
+            ),
+            (
+                &["l4sh", "state", "trace", "--at", "seven"],
+                ErrorKind::ValueValidation,
+            ),
+            (
+                &["l4sh", "state", "trace", "--at", "4294967296"],
+                ErrorKind::ValueValidation,
+            ),
+            (&["l4sh", "state", "trace", "--at"], ErrorKind::InvalidValue),
+            (
+                &["l4sh", "state", "trace", "--to", "7"],
+                ErrorKind::UnknownArgument,
+            ),
+            (&["l4sh", "state", "one", "two"], ErrorKind::UnknownArgument),
+            (&["l4sh", "script"], ErrorKind::MissingRequiredArgument),
+            (
+                &["l4sh", "script", "trace", "--at", "7"],
+                ErrorKind::UnknownArgument,
+            ),
+            (
+                &["l4sh", "script", "one", "two"],
+                ErrorKind::UnknownArgument,
+            ),
+            (&["l4sh", "explain"], ErrorKind::MissingRequiredArgument),
+            (&["l4sh", "explain", "K6", "K7"], ErrorKind::UnknownArgument),
+            (&["l4sh", "tag", "0x1", "--at"], ErrorKind::UnknownArgument),
+            (&["l4sh", "period"], ErrorKind::MissingRequiredArgument),
+            (&["l4sh", "period", "--help"], ErrorKind::DisplayHelp),
+        ];
+        assert_refused(&rt, rt.alloc(), &cases)
+    }
+
+    #[test]
     fn refuses(rt: HostRuntime) -> Result<(), Fail> {
         let cases: [(&[&str], ErrorKind); 16] = [
             (
@@ -440,13 +743,6 @@ mod tests {
             (&["l4sh", "--help"], ErrorKind::DisplayHelp),
             (&["l4sh", "help"], ErrorKind::DisplayHelp),
         ];
-        for (words, kind) in cases {
-            let strings = words_of(rt.alloc(), words)?;
-            match shell_options(rt.alloc(), &strings) {
-                Ok(options) => assert!(rt; false, "{options:?} at {words:?}"),
-                Err(error) => assert_eq!(rt; error.kind(), kind, "at {words:?}"),
-            }
-        }
-        Ok(())
+        assert_refused(&rt, rt.alloc(), &cases)
     }
 }

@@ -24,8 +24,8 @@ struct Writer {
 }
 
 /// The commands whose history these entries are, a line for each: an input is the command that gives it, and
-/// before a call the outcome of the last one of that thread is taken. At the end the outcomes are taken that
-/// are left.
+/// before a call or an ExchangeRegisters the outcome of the last call of that thread is taken. At the end the
+/// outcomes are taken that are left.
 pub fn script_of(alloc: Global, entries: &[Entry]) -> Result<String, AllocError> {
     let mut writer = Writer {
         alloc,
@@ -65,6 +65,7 @@ impl Writer {
                 self.enter(*number, *caller, receives, !receives && !sends)
             }
             Input::Exreg(thread, target, control) => {
+                self.take(*thread)?;
                 let control = HexText(control.to_word());
                 write!(
                     self.text,
@@ -81,11 +82,14 @@ impl Writer {
         }
     }
 
-    // Takes the outcome of the last call of a thread, if there is one.
+    // Takes the outcome of the last call of a thread, if there is one that was not taken.
     fn take(&mut self, thread: ThreadId) -> Result<(), AllocError> {
         match self.calls.get(&thread.to_word()) {
-            Some(_) => write!(self.text, "take {}\n", IdText(thread)),
-            None => Ok(()),
+            Some(call) if call.is_over => {
+                self.calls.remove(&thread.to_word());
+                write!(self.text, "take {}\n", IdText(thread))
+            }
+            _ => Ok(()),
         }
     }
 
@@ -176,8 +180,8 @@ called 3 2.1 1.1 nil 0x0 0x80 nil - x0102 -
 began 3 2
 moved 3 2
 ended 3 2
-called 4 2.1 1.1 nil 0x0 0x0 nil - - -
 exreg 2.1 1.1 0x0
+called 4 2.1 1.1 nil 0x0 0x0 nil - - -
 broke 1.1
 failed 4 0x4";
 
@@ -190,8 +194,8 @@ call 1.1 nil any 0x0 0x0 nil - - 2@0x1000
 call 2.1 1.1 nil 0x0 0x80 nil - x0102 -
 advance
 take 2.1
-call 2.1 1.1 nil 0x0 0x0 nil - - -
 exreg 2.1 1.1 0x0
+call 2.1 1.1 nil 0x0 0x0 nil - - -
 broke 1.1
 take 2.1
 ";

@@ -4,6 +4,7 @@ pub mod PieceLemmas
 pub mod PutLemmas
 pub mod RunLemmas
 pub mod CheckLemmas
+pub mod LookLemmas
 pub mod ScriptLemmas
 pub mod WireLemmas
 pub mod Examples

@@ -11,3 +11,4 @@ pub mod Putting
 pub mod Failing
 pub mod Exits
 pub mod Checking
+pub mod Looking

@@ -1,5 +1,5 @@
 -- What is read of a script, where a reader tells its bytes.
-use Rattle.std.specs.Prelude.{◌≡◌, ℕ, ◌+◌, ◌<◌, ◌≤◌, [], ◌∷◌, ◌++◌}
+use Rattle.std.specs.Prelude.{◌≡◌, ℕ, ◌<◌, ◌≤◌, [], ◌∷◌, ◌++◌}
 use Rattle.std.specs.Prelude.{List, Option, length, take, IfSome}
 use Rattle.std.specs.Option.{IsSomeAnd}
 use Rattle.ipc_ports.specs.Lines.{IsOneLine}

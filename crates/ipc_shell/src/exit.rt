@@ -1,6 +1,6 @@
 use std::fmt;
 
-/// How the run of a script, or the check or the chart of a trace, ended.
+/// How a run ended.
 #[derive(Clone, Copy, PartialEq, Eq, Debug)]
 pub enum Exit {
     /// At the end of the script, or with a legal trace: status 0.
@@ -15,6 +15,10 @@ pub enum Exit {
     Illegal,
     /// The list of the threads of a chart has a word that is no thread id: status 2.
     BadThreads,
+    /// A word that was to be explained, or made a tag or a period of, is none: status 2.
+    BadWord,
+    /// The line of this number, from 1, of a trace does not follow those before it: status 3.
+    IllegalLine(u64),
 }
 
 impl Exit {
@@ -27,9 +31,9 @@ impl Exit {
     {
         match self {
             Exit::Done => 0,
-            Exit::BadLine(_) | Exit::BadThreads => 2,
+            Exit::BadLine(_) | Exit::BadThreads | Exit::BadWord => 2,
             Exit::NoMemory | Exit::DeviceFailed => 1,
-            Exit::Illegal => 3,
+            Exit::Illegal | Exit::IllegalLine(_) => 3,
         }
     }
 }
@@ -48,6 +52,10 @@ impl fmt::Display for Exit {
             Exit::DeviceFailed => write!(f, "l4sh: device failed"),
             Exit::Illegal => write!(f, "l4sh: illegal"),
             Exit::BadThreads => write!(f, "l4sh: bad list of threads"),
+            Exit::BadWord => write!(f, "l4sh: this word says nothing"),
+            Exit::IllegalLine(number) => {
+                write!(f, "l4sh: line {number} does not follow those before it")
+            }
         }
     }
 }

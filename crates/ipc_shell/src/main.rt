@@ -1,6 +1,7 @@
 //! The program `l4sh`: runs scripts of opens, calls, clock readings, cancels and breaks, and prints
-//! what happens; serves connections whose bytes a script gives; checks the trace of a history; draws it
-//! as a chart.
+//! what happens; serves connections whose bytes a script gives; checks the trace of a history, draws it
+//! as a chart, tells the state of its threads, and gives back its script; explains numbers and words,
+//! and makes tags and periods.
 #![tactic(auto)]
 
 ghost use Rattle.std.specs.Prelude.{◌≡◌, ◌<◌};
@@ -8,7 +9,9 @@ ghost use Rattle.std.specs.Prelude.{◌≡◌, ◌<◌};
 mod chart;
 mod check;
 mod exit;
+mod kept;
 mod lines;
+mod looking;
 mod output;
 mod run;
 mod wire;
@@ -18,10 +21,15 @@ use check::check_trace;
 use clap::error::ErrorKind;
 use exit::Exit;
 use ipc_core::{Limits, MAX_CALLS, MAX_ENTRIES};
-use ipc_options::{ScriptLimits, ShellOptions, shell_options};
-use ipc_ports::{Failures, ReadPort, WritePort};
+use ipc_explain::{answer_period, answer_tag, explain};
+use ipc_options::{ChartOptions, ScriptLimits, ShellOptions, shell_options};
+use ipc_ports::{Failures, PortWrite, ReadPort, WritePort};
+use ipc_reasons::{Grammar, reason_of};
+use ipc_words::limits::{MAX_LINE_BYTES, MAX_SPACE};
+use kept::{KeptPort, Tail};
+use looking::{Look, look_at_trace, print_answer};
 use run::run_script;
-use std::alloc::Global;
+use std::alloc::{AllocError, Global};
 use std::fs::File;
 use std::io;
 use std::marker::Brand;
@@ -30,20 +38,49 @@ use std::rt::Files;
 use std::sync::ledger::{Blank, Ledger};
 use wire::wire_script;
 
+/// How the program ended, and of a bad line the reason, where one is known.
+#[derive(Drop)]
+struct Ending {
+    exit: Exit,
+    reason: Option<String>,
+}
+
+impl From<Exit> for Ending {
+    fn from(exit: Exit) -> Ending {
+        Ending { exit, reason: None }
+    }
+}
+
+/// What is done with the trace in a file.
+#[derive(Clone, Copy)]
+enum Trace<'a> {
+    Check,
+    Chart(ChartOptions<'a>),
+    Look(Look),
+}
+
 fn main(rt: HostRuntime) -> io::Result<ExitCode> {
     let alloc = rt.alloc();
     let Ok(words) = std::env::args(&rt) else {
-        return ended(&rt, &Exit::NoMemory);
+        return ended(&rt, &Ending::from(Exit::NoMemory));
     };
     let Ok(words) = words.collect::<Vec<String>>(alloc) else {
-        return ended(&rt, &Exit::NoMemory);
+        return ended(&rt, &Ending::from(Exit::NoMemory));
     };
     match shell_options(alloc, &words) {
         Ok(options) => {
-            let exit = obey::<Brand, Brand, _>(&rt, alloc, &options, Blank::new(1), Blank::new(1));
-            ended(&rt, &exit)
+            let ending = obey::<Brand, Brand, _>(
+                &rt,
+                alloc,
+                &options,
+                Blank::new(1),
+                Blank::new(1),
+            );
+            ended(&rt, &ending)
         }
-        Err(error) if error.kind() == ErrorKind::OutOfMemory => ended(&rt, &Exit::NoMemory),
+        Err(error) if error.kind() == ErrorKind::OutOfMemory => {
+            ended(&rt, &Ending::from(Exit::NoMemory))
+        }
         Err(error) => {
             rt.eprint(&error)?;
             Ok(ExitCode::from(2))
@@ -58,7 +95,7 @@ fn obey<L: Ledger, M: Ledger, R: Files + Input + Print>(
     options: &ShellOptions<'_>,
     reads: Blank,
     writes: Blank,
-) -> Exit
+) -> Ending
     requires reads_name { reads.name ≡ L.name }
     requires reads_parts { (reads.parts ≡ L.parts) × (0 < reads.parts) }
     requires writes_name { writes.name ≡ M.name }
@@ -68,27 +105,106 @@ fn obey<L: Ledger, M: Ledger, R: Files + Input + Print>(
     let mut writer = WritePort::new(io::writer(rt), Failures::<M>::new(writes));
     match options {
         ShellOptions::Run(limits) => {
-            let mut reader = ReadPort::new(rt.reader(), reads);
-            run_script(alloc, kernel_limits(limits), &mut reader, &mut writer)
+            let mut reader = KeptPort::new(alloc, ReadPort::new(rt.reader(), reads));
+            let exit = run_script(alloc, kernel_limits(limits), &mut reader, &mut writer);
+            with_reason(alloc, exit, Grammar::Script, reader.tail())
         }
         ShellOptions::Wire => {
             let limits = Limits {
                 entries: MAX_ENTRIES,
                 calls: MAX_CALLS,
             };
-            let mut reader = ReadPort::new(rt.reader(), reads);
-            wire_script(alloc, limits, &mut reader, &mut writer)
+            let mut reader = KeptPort::new(alloc, ReadPort::new(rt.reader(), reads));
+            let exit = wire_script(alloc, limits, &mut reader, &mut writer);
+            with_reason(alloc, exit, Grammar::Wire, reader.tail())
         }
-        ShellOptions::Check { file } => match File::open(rt, *file) {
-            Ok(trace) => check_trace(alloc, &mut ReadPort::new(trace, reads), &mut writer),
-            Err(_) => Exit::DeviceFailed,
-        },
-        ShellOptions::Chart(chart) => match File::open(rt, chart.file) {
-            Ok(trace) => {
-                chart_trace(alloc, chart, &mut ReadPort::new(trace, reads), &mut writer)
-            }
-            Err(_) => Exit::DeviceFailed,
-        },
+        ShellOptions::Check { file } => {
+            look(rt, alloc, *file, &Trace::Check, reads, &mut writer)
+        }
+        ShellOptions::Chart(chart) => {
+            let trace = Trace::Chart(*chart);
+            look(rt, alloc, chart.file, &trace, reads, &mut writer)
+        }
+        ShellOptions::State(state) => {
+            let trace = Trace::Look(Look::StateAt(state.at as usize));
+            look(rt, alloc, state.file, &trace, reads, &mut writer)
+        }
+        ShellOptions::Script { file } => {
+            let trace = Trace::Look(Look::Script);
+            look(rt, alloc, *file, &trace, reads, &mut writer)
+        }
+        ShellOptions::Explain { word } => {
+            Ending::from(print_answer(explain(alloc, *word), &mut writer))
+        }
+        ShellOptions::Tag { word } => {
+            Ending::from(print_answer(answer_tag(alloc, *word), &mut writer))
+        }
+        ShellOptions::Period { word } => {
+            Ending::from(print_answer(answer_period(alloc, *word), &mut writer))
+        }
+    }
+}
+
+/// Opens the file of a trace, and does this with it.
+fn look<L: Ledger, R: Files, W: PortWrite>(
+    rt: &R,
+    alloc: Global,
+    file: &str,
+    trace: &Trace<'_>,
+    reads: Failures<L>,
+    writer: &mut W,
+) -> Ending {
+    let Ok(opened) = File::open(rt, file) else {
+        return Ending::from(Exit::DeviceFailed);
+    };
+    let mut reader = KeptPort::new(alloc, ReadPort::new(opened, reads));
+    let exit = match trace {
+        Trace::Check => check_trace(alloc, &mut reader, writer),
+        Trace::Chart(options) => chart_trace(alloc, options, &mut reader, writer),
+        Trace::Look(look) => look_at_trace(alloc, *look, &mut reader, writer),
+    };
+    with_reason(alloc, exit, Grammar::Trace, reader.tail())
+}
+
+/// An exit with the reason of a bad line, which is among the last that were read. Without memory there is
+/// no reason.
+fn with_reason(alloc: Global, exit: Exit, grammar: Grammar, tail: &Tail) -> Ending {
+    let Exit::BadLine(number) = exit else {
+        return Ending::from(exit);
+    };
+    let Some(line) = tail.line(number) else {
+        return Ending::from(exit);
+    };
+    match bad_line_reason(alloc, grammar, line) {
+        Ok(reason) => Ending { exit, reason },
+        Err(_) => Ending::from(exit),
+    }
+}
+
+fn bad_line_reason(
+    alloc: Global,
+    grammar: Grammar,
+    line: &[u8],
+) -> Result<Option<String>, AllocError> {
+    if line.len() > MAX_LINE_BYTES {
+        let text = format!(in alloc; "a line of more than {MAX_LINE_BYTES} bytes")?;
+        return Ok(Some(text));
+    }
+    match reason_of(alloc, grammar, line)? {
+        None if grammar == Grammar::Wire => Ok(Some(wire_reason(alloc, line)?)),
+        reason => Ok(reason),
+    }
+}
+
+/// Why a line of a wire script is bad whose fields are well formed.
+fn wire_reason(alloc: Global, line: &[u8]) -> Result<String, AllocError> {
+    if line.starts_with(b"connect ") {
+        format!(in alloc; "field 2, space: wanted is a decimal from 1 to {MAX_SPACE}")
+    } else {
+        String::from_str(
+            alloc,
+            "field 2, connection: no connection has come with this number",
+        )
     }
 }
 
@@ -102,10 +218,13 @@ fn kernel_limits(limits: &ScriptLimits) -> Limits
 }
 
 /// Says on standard error why a run ended, where it did not end well, and answers its status.
-fn ended<R: Eprint>(rt: &R, exit: &Exit) -> io::Result<ExitCode> {
-    match exit {
+fn ended<R: Eprint>(rt: &R, ending: &Ending) -> io::Result<ExitCode> {
+    match ending.exit {
         Exit::Done | Exit::Illegal => {}
-        _ => rt.eprintln(exit)?,
+        _ => rt.eprintln(&ending.exit)?,
     }
-    Ok(ExitCode::from(exit.status()))
+    if let Some(reason) = &ending.reason {
+        rt.eprintln(reason)?;
+    }
+    Ok(ExitCode::from(ending.exit.status()))
 }

@@ -137,6 +137,14 @@ fn an_end_is_told_by_its_status_and_words(rt: HostRuntime) -> Result<(), Fail> {
         (Exit::BadLine(7), 2, "l4sh: bad line 7"),
         (Exit::NoMemory, 1, "l4sh: no memory"),
         (Exit::DeviceFailed, 1, "l4sh: device failed"),
+        (Exit::Illegal, 3, "l4sh: illegal"),
+        (Exit::BadThreads, 2, "l4sh: bad list of threads"),
+        (Exit::BadWord, 2, "l4sh: this word says nothing"),
+        (
+            Exit::IllegalLine(7),
+            3,
+            "l4sh: line 7 does not follow those before it",
+        ),
     ] {
         assert_eq!(rt; exit.status(), status);
         assert_eq!(rt; exit.to_string(alloc)?.as_str(), words);

@@ -1,8 +1,20 @@
-use Rattle.std.proofs.Common.{◌∙◌, ap, map, sym}
+use Rattle.std.proofs.Common.{◌≡◌, ◌∙◌, List, Option, ap, map, refl, subst, sym, true}
 use Rattle.std.proofs.lemmas.Result.{err_from_is_err_and}
-use Rattle.std.specs.Prelude.{string_bytes}
-use Rattle.clap.specs.Words.{App, fault_of, is_simple_and_free, takes}
+use Rattle.std.specs.Prelude.{IsSomeAnd, string_bytes}
+use Rattle.clap.specs.Words.{App, HasMatchesOf, Row, Text, fault_of, is_simple, is_simple_and_free}
+use Rattle.clap.specs.Words.{subcommand_of, subcommand_rows_of, takes}
+use Rattle.clap.specs.declared.parser.matches.ArgMatches.{ArgMatches}
+use Rattle.ipc_options.specs.Command.{shell_app}
+use Rattle.ipc_options.specs.Shell.{HasMatchesIn, Reads}
 use Rattle.ipc_options.proofs.shell.shell_options.Goals as goal
+
+-- the subcommand that a parse of `l4sh` entered is the one that the words name
+shell_is_simple : is_simple shell_app ≡ true
+shell_is_simple = refl
+
+entered : (app : App) (words : List Text) (m : ArgMatches) → app ≡ shell_app → HasMatchesOf app words m
+    → subcommand_rows_of m ≡ subcommand_of shell_app words
+entered app words m same has = (subst (λ (a : App). HasMatchesOf a words m) same has shell_is_simple).1
 
 -- an error of the parse is returned as it is
 pub returns-in_err-matches-clause-taken : goal.returns-in_err-matches-clause-taken
@@ -12,7 +24,23 @@ returns-in_err-matches-clause-taken c =
     (ap (λ (app : App). takes app (map string_bytes c.args.words.now)) c.in_ok-command.ensures ∙ taken.0))
 
 -- an `Ok` of the parse comes where the words have no fault
-pub returns-in-Some-chosen-clause-faultless : goal.returns-in-Some-chosen-clause-faultless
-returns-in-Some-chosen-clause-faultless c =
+pub returns-in-Some-clause-faultless : goal.returns-in-Some-clause-faultless
+returns-in-Some-clause-faultless c =
     ap (λ (app : App). fault_of app (map string_bytes c.args.words.now)) (sym c.in_ok-command.ensures)
     ∙ c.in_ok-matches.ensures.kinds (ap is_simple_and_free c.in_ok-command.ensures)
+
+-- the options are those of the subcommand that the parse entered, and so of the one that the words name
+pub returns-in-Some-clause-asked : goal.returns-in-Some-clause-asked
+returns-in-Some-clause-asked c =
+    let named = entered _ _ c.in_ok-matches.matches c.in_ok-command.ensures c.in_ok-matches.ensures.ok.2 in
+    subst (λ (named : Option (Text × List Row)). IsSomeAnd named (λ p. HasMatchesIn p.0 p.1 c.in-Some.options))
+    named c.in-Some.ensures.asked
+
+-- words that are taken name a subcommand with what it needs, and that gives options
+pub returns-clause-taken : goal.returns-clause-taken
+returns-clause-taken c =
+    let named = entered _ _ c.in_ok-matches.matches c.in_ok-command.ensures c.in_ok-matches.ensures.ok.2 in
+    λ taken.
+    let reads = subst (λ (named : Option (Text × List Row)). IsSomeAnd named (λ p. Reads p.0 p.1)) (sym named) taken.1 in
+    let bad = c.in-None.ensures.found reads in
+    cc

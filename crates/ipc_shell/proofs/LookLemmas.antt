@@ -1,0 +1,38 @@
+-- From a trace that is read to what is said of it.
+use Rattle.std.proofs.Common.{◌≡◌, ◌≢◌, ℕ, Bool, true, false, refl, Option, Some, None, IfSome, List, [], ◌++◌, ap, ◌∙◌}
+use Rattle.std.proofs.lemmas.List.Elements.{All-nil}
+use Rattle.ipc_history.specs.declared.entry.Entry.{Entry}
+use Rattle.ipc_trace.specs.Traces.{IsRead, trace_text}
+use Rattle.ipc_trace.specs.declared.fault.TraceEnd.TheVariants as end
+use Rattle.ipc_shell.specs.Checking.{HasLines}
+use Rattle.ipc_shell.specs.Looking.{IsSaidOf, LooksAt, shown_of}
+use Rattle.ipc_shell.specs.declared.looking.Look.{Look}
+use Rattle.ipc_shell.specs.declared.exit.Exit.{Exit}
+use Rattle.ipc_shell.specs.declared.exit.Exit.TheVariants.{Done, BadLine, NoMemory, DeviceFailed, Illegal, BadThreads, BadWord, IllegalLine}
+
+pub whole_lines : (bytes left : Option (List ℕ)) (entries : List Entry) → IsRead bytes left entries end.Whole → IfSome bytes (λ bytes. HasLines bytes entries false)
+whole_lines None left entries read = tt
+whole_lines (Some bytes) None entries (taken, at_end) = absurd taken
+whole_lines (Some bytes) (Some rest) entries (taken, at_end) = record {
+  torn = [];
+  one = All-nil (λ byte. byte ≢ 10);
+  bytes_are = taken ∙ ap (λ (t : List ℕ). trace_text entries ++ t) at_end;
+  is_there = λ is. absurd (false_is_not_true is);
+  is_none = λ _. refl;
+}
+  where
+    false_is_not_true : false ≡ true → ⊥
+    false_is_not_true is = cc
+
+-- this was said of the whole lines
+pub looked : (look : Look) (bytes : Option (List ℕ)) (entries : List Entry) (is_torn : Bool) (exit : Exit) → IfSome bytes (λ bytes. HasLines bytes entries is_torn)
+    → IsSaidOf (shown_of look entries) exit → LooksAt look bytes exit
+looked look None entries is_torn exit lines said = tt
+looked look (Some bytes) entries is_torn Done lines said = (entries, (is_torn, lines, said))
+looked look (Some bytes) entries is_torn (IllegalLine number) lines said = (entries, (is_torn, lines, said))
+looked look (Some bytes) entries is_torn (BadLine number) lines said = absurd said
+looked look (Some bytes) entries is_torn NoMemory lines said = tt
+looked look (Some bytes) entries is_torn DeviceFailed lines said = tt
+looked look (Some bytes) entries is_torn Illegal lines said = absurd said
+looked look (Some bytes) entries is_torn BadThreads lines said = absurd said
+looked look (Some bytes) entries is_torn BadWord lines said = absurd said

@@ -1,0 +1,148 @@
+ghost use Rattle.std.specs.Prelude.{◌≡◌, ◌≢◌, ◌+◌, ◌^◌, ◌<◌, IfOk, IfSome, None, OnErr, Ok, take};
+ghost use Rattle.std.specs.Io.KnownBytes.{Appends};
+ghost use Rattle.std.specs.String.{string_bytes};
+ghost use Rattle.ipc_shell.specs.Looking.{IsSaidOf, LooksAt, MayEnd, shown_of};
+
+#[cfg(test)]
+mod tests;
+
+use crate::exit::Exit;
+use crate::output::put;
+use ipc_check::{Verdict, check};
+use ipc_history::Entry;
+use ipc_ports::{PortRead, PortWrite};
+use ipc_script::script_of;
+use ipc_state::{state_of, tell_state};
+use ipc_trace::{TraceEnd, read_trace};
+use std::alloc::{AllocError, Global};
+
+/// What is asked of a trace.
+#[derive(Clone, Copy, PartialEq, Eq, Debug)]
+pub enum Look {
+    /// The commands whose history it is.
+    Script,
+    /// The state of its threads after so many entries, or after all where there are fewer.
+    StateAt(usize),
+}
+
+/// Prints what is asked of the trace of a reader, over the whole lines where the last one is torn.
+/// Nothing is printed of a trace with a bad line, nor of one with a line that does not follow those
+/// before it; for a state only the lines before it are looked at.
+///
+/// It ends as `DeviceFailed` only where a call of the reader or of the writer failed in this run.
+pub fn look_at_trace<R: PortRead, W: PortWrite>(
+    alloc: Global,
+    look: Look,
+    reader: &mut R,
+    writer: &mut W,
+) -> Exit
+    ensures looks { LooksAt look (R.remaining reader.old) result }
+    ensures device { result ≡ Exit.DeviceFailed
+        → R.failures reader.old + W.failures writer.old
+        < R.failures reader.new + W.failures writer.new }
+    ensures silent { result ≢ Exit.Done → result ≢ Exit.DeviceFailed
+        → W.written writer.new ≡ W.written writer.old }
+{
+    let read = read_trace(alloc, reader);
+    match read.end {
+        TraceEnd::Whole => tell(alloc, look, &read.entries, writer),
+        TraceEnd::Torn => tell(alloc, look, &read.entries, writer),
+        TraceEnd::BadLine(number) => Exit::BadLine(number),
+        TraceEnd::DeviceFailed => Exit::DeviceFailed,
+        TraceEnd::NoMemory => Exit::NoMemory,
+    }
+}
+
+/// Prints the answer to a word. `BadWord` where there is none.
+pub fn print_answer<W: PortWrite>(
+    answer: Result<Option<String>, AllocError>,
+    writer: &mut W,
+) -> Exit
+    ensures whole { IfOk answer (λ told. IfSome told (λ text. result ≡ Exit.Done
+        → Appends (W.written writer.old) (W.written writer.new) (string_bytes text))) }
+    ensures none { answer ≡ Ok None → result ≡ Exit.BadWord }
+    ensures failed { result ≡ Exit.DeviceFailed → W.failures writer.old < W.failures writer.new }
+    ensures silent { result ≢ Exit.Done → result ≢ Exit.DeviceFailed
+        → W.written writer.new ≡ W.written writer.old }
+{
+    match answer {
+        Ok(Some(text)) => print(Ok(text), writer),
+        Ok(None) => Exit::BadWord,
+        Err(_) => Exit::NoMemory,
+    }
+}
+
+// Prints what is asked of these entries.
+fn tell<W: PortWrite>(alloc: Global, look: Look, entries: &[Entry], writer: &mut W) -> Exit
+    ensures said { IsSaidOf (shown_of look entries.now) result }
+    ensures failed { result ≡ Exit.DeviceFailed → W.failures writer.old < W.failures writer.new }
+    ensures silent { result ≢ Exit.Done → result ≢ Exit.DeviceFailed
+        → W.written writer.new ≡ W.written writer.old }
+{
+    match look {
+        Look::Script => print_script(alloc, entries, writer),
+        Look::StateAt(count) => print_state(alloc, front(entries, count), writer),
+    }
+}
+
+// Prints the commands whose history these entries are.
+fn print_script<W: PortWrite>(alloc: Global, entries: &[Entry], writer: &mut W) -> Exit
+    ensures said { IsSaidOf entries.now result }
+    ensures failed { result ≡ Exit.DeviceFailed → W.failures writer.old < W.failures writer.new }
+    ensures silent { result ≢ Exit.Done → result ≢ Exit.DeviceFailed
+        → W.written writer.new ≡ W.written writer.old }
+{
+    match check(entries) {
+        Verdict::Yes => print(script_of(alloc, entries), writer),
+        Verdict::No { index, .. } => Exit::IllegalLine(line_of(index)),
+    }
+}
+
+// Prints the state of the threads after these entries.
+fn print_state<W: PortWrite>(alloc: Global, entries: &[Entry], writer: &mut W) -> Exit
+    ensures said { IsSaidOf entries.now result }
+    ensures failed { result ≡ Exit.DeviceFailed → W.failures writer.old < W.failures writer.new }
+    ensures silent { result ≢ Exit.Done → result ≢ Exit.DeviceFailed
+        → W.written writer.new ≡ W.written writer.old }
+{
+    match state_of(entries) {
+        Ok(state) => print(tell_state(alloc, &state), writer),
+        Err(index) => Exit::IllegalLine(line_of(index)),
+    }
+}
+
+// The first entries, so many, or all where there are fewer.
+fn front(entries: &[Entry], count: usize) -> &[Entry]
+    ensures { result.now ≡ take count entries.now }
+{
+    if count < entries.len() {
+        &entries[..count]
+    } else {
+        entries
+    }
+}
+
+// The number of the line of the entry in a place.
+fn line_of(place: usize) -> u64
+    ensures { place + 1 < 2 ^ 64 → result ≡ place + 1 }
+{
+    (place as u64).saturating_add(1)
+}
+
+// Prints a text, where there was memory for it.
+fn print<W: PortWrite>(text: Result<String, AllocError>, writer: &mut W) -> Exit
+    ensures whole { IfOk text (λ text. result ≡ Exit.Done
+        → Appends (W.written writer.old) (W.written writer.new) (string_bytes text)) }
+    ensures ends { MayEnd result }
+    ensures failed { result ≡ Exit.DeviceFailed → W.failures writer.old < W.failures writer.new }
+    ensures silent { result ≢ Exit.Done → result ≢ Exit.DeviceFailed
+        → W.written writer.new ≡ W.written writer.old }
+{
+    let Ok(text) = text else {
+        return Exit::NoMemory;
+    };
+    match put(writer, text.as_bytes()) {
+        Ok(()) => Exit::Done,
+        Err(_) => Exit::DeviceFailed,
+    }
+}

@@ -68,8 +68,8 @@ def build(room):
         source = os.path.join(CLIENT, "examples", name + ".c")
         command = ["cc", "-std=c11", "-pthread", "-I", INCLUDE, source, *sources(), "-o", os.path.join(room, "plain_" + name)]
         jobs.append(subprocess.Popen(command))
-    programs["fill"] = os.path.join(room, "fill")
-    jobs.append(subprocess.Popen(["cc", *STRICT, "-O2", os.path.join(CLIENT, "tests", "fill.c"), *sources(), "-o", programs["fill"]]))
+    programs["long_life"] = os.path.join(room, "long_life")
+    jobs.append(subprocess.Popen(["cc", *STRICT, "-O2", os.path.join(CLIENT, "tests", "long_life.c"), *sources(), "-o", programs["long_life"]]))
     bench = os.path.join(CLIENT, "bench", "roundtrip.c")
     jobs.append(subprocess.Popen(["cc", *STRICT, "-O2", bench, *sources(), "-o", os.path.join(room, "roundtrip")]))
     assert all(job.wait() == 0 for job in jobs)
@@ -1079,9 +1079,26 @@ def check_threads(programs, l4d, l4sh, room):
         return words
 
 
-def check_full(programs, l4d, room):
+def kibibytes(process):
+    """The memory that a process holds."""
+    with open(f"/proc/{process.pid}/status") as status:
+        return int(next(line.split()[1] for line in status if line.startswith("VmRSS:")))
+
+
+def check_long_life(programs, l4d, room):
+    """A server that has answered many calls holds no more memory than one that has answered few, and takes calls as before."""
     with Server(l4d, room, trace=False) as server:
-        return int(subprocess.run([programs["fill"], server.dir], check=True, capture_output=True, text=True, timeout=8 * SECONDS).stdout)
+        def calls(count):
+            ran = subprocess.run([programs["long_life"], server.dir, str(count)], check=True, capture_output=True, text=True, timeout=8 * SECONDS)
+            assert int(ran.stdout) == count, ran
+            return count
+        made = calls(50_000)
+        before = kibibytes(server.process)
+        # two entries each: without compaction a history of 1,048,576 entries is full before their end
+        made += calls(550_000)
+        more = kibibytes(server.process) - before
+        assert more <= 8 * 1024, f"{more} KiB more after {made} calls"
+        return made, more
 
 
 def main(arguments):
@@ -1096,10 +1113,10 @@ def main(arguments):
         names = check_headers(room)
         words = int(subprocess.run([programs["words"]], check=True, capture_output=True, text=True).stdout)
         print(f"headers: {names} names of PROFILE are there or not as it says; words: {words} checks", flush=True)
-        # the long wait for a full history goes on beside the rest
-        filled = []
-        filling = threading.Thread(target=lambda: filled.append(check_full(programs, l4d, room)))
-        filling.start()
+        # the many calls go on beside the rest
+        lived = []
+        living = threading.Thread(target=lambda: lived.append(check_long_life(programs, l4d, room)))
+        living.start()
         vectors, plays = check_vectors(programs["play"], room), check_plays(programs["play"], room)
         print(f"played: {vectors} requests as FORMATS has them, {plays} answers (seed {seed})", flush=True)
         refusals, told = check_refusals(programs, l4d, l4sh, room)
@@ -1116,9 +1133,9 @@ def main(arguments):
         print(f"python: {pairs} pairs with examples of clients/python" if pairs else "python: no clients/python, so nothing was tried", flush=True)
         passed = check_threads(programs, l4d, l4sh, room)
         print(f"threads: {passed} words between threads of one process", flush=True)
-        filling.join()
-        assert filled, "the history was not filled"
-        print(f"full: K5 after {filled[0]} calls" if filled[0] else "full: no K5 came, so it was only played", flush=True)
+        living.join()
+        assert lived, "the server did not live on"
+        print(f"long life: {lived[0][0]} calls, {lived[0][1]} KiB more than after the first 50,000", flush=True)
     finally:
         shutil.rmtree(room)
     total = names + words + vectors + plays + refusals + told + faults + outcomes + asked + passed + pairs

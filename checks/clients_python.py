@@ -295,37 +295,27 @@ def refusals(server):
         check("the thread goes on", raised(lambda: thread.sleep(0)) is None)
 
 
-def k5(l4d):
-    """A history that is full. Each failed receive adds two entries, and 1,048,576 fit."""
+def long_life(l4d):
+    """Many calls of four threads at a time. Each failed send adds two entries, of which the server lets go."""
     server = Server(l4d, trace=False)
     threads = [l4ipc.Thread(server.folder, number) for number in range(1, 5)]
-    counts = [0] * len(threads)
 
-    def fill(place):
+    def call(place, count):
         frame = frames.ipc(0, ThreadId.of(200, 1), 0x400, 0, 0, 0, [], [], b"")
-        while True:
+        for _ in range(count):
             threads[place]._ask(frame, frames.Outcome)
-            counts[place] += 1
 
-    began = time.time()
-    for joined in [beside(lambda place=place: fill(place)) for place in range(len(threads))]:
-        told("K5 of a call", lambda: (_ for _ in ()).throw(joined(90)), l4ipc.Refused, number=5)
-    # these bring about less than a call may, so a few of them still fit
-    told("K5 of ExchangeRegisters", lambda: again(lambda: threads[0].exchange_registers(threads[1].id, send=True)), l4ipc.Refused, number=5)
-    told("K5 of HELLO", lambda: again(lambda: l4ipc.Thread(server.folder, 9).close()), l4ipc.Refused, number=5)
-    print(f"K5 came after {sum(counts)} calls and {time.time() - began:.1f} seconds", flush=True)
+    def calls(count):
+        for joined in [beside(lambda place=place: call(place, count)) for place in range(len(threads))]:
+            check("the calls are over", raised(lambda joined=joined: joined(90)) is None)
+        with open(f"/proc/{server.process.pid}/status") as status:
+            return int(next(line.split()[1] for line in status if line.startswith("VmRSS:")))
+
+    before = calls(5_000)
+    more = calls(20_000) - before
+    check("no more memory is held", more <= 8 * 1024, f"{more} KiB")
+    print(f"long life: 100,000 calls, {more} KiB more than after the first 20,000", flush=True)
     server.stop()
-
-
-def again(does):
-    """Does something again and again, up to a thousand times; a thread that has just ended (K2) is waited for."""
-    for _ in range(1000):
-        try:
-            does()
-        except l4ipc.Refused as error:
-            if error.number != 2:
-                raise
-            time.sleep(0.002)
 
 
 def ipc_frame(tag=0, items=(), payload=b"", timeouts=0, to=ThreadId.of(1, 1), buffer_words=(), from_specifier=0, acceptor=0):
@@ -815,7 +805,7 @@ def run(l4d, l4sh, l4x):
     trace(server, l4sh)
     server.stop()
     documented_frames(l4d, l4x)
-    k5(l4d)
+    long_life(l4d)
 
 
 def main(l4d="./l4d", l4sh="./l4sh", l4x="./l4x"):

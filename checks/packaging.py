@@ -36,6 +36,14 @@ def helps(program):
     return words | set(names)
 
 
+def commit():
+    """The commit of this tree, where it is as committed; else None."""
+    if not shutil.which("git"):
+        return None
+    head, status = run("git", "-C", ROOT, "rev-parse", "HEAD"), run("git", "-C", ROOT, "status", "--porcelain")
+    return head.stdout if head.returncode == status.returncode == 0 and not status.stdout else None
+
+
 def main():
     facts = 0
     with tempfile.TemporaryDirectory() as place:
@@ -44,8 +52,12 @@ def main():
         assert made.returncode == 0, made
         below = place + prefix
         found = {os.path.relpath(os.path.join(at, name), below) for at, _, names in os.walk(below) for name in names}
-        assert found == set(FILES), found ^ set(FILES)
-        for name, mode in FILES.items():
+        made_of = commit()
+        files = {**FILES, "lib/hashkarst/commit": 0o644} if made_of else FILES
+        assert found == set(files), found ^ set(files)
+        version = run(f"{below}/bin/l4d", "--version").stdout
+        assert (f"commit {made_of}" in version) if made_of else "commit" not in version, version
+        for name, mode in files.items():
             assert stat.S_IMODE(os.stat(f"{below}/{name}").st_mode) == mode, name
             facts += 1
         for name in ("l4d", "l4sh"):
@@ -83,7 +95,7 @@ def main():
         refused = run(f"{ROOT}/install", env={**os.environ, "DESTDIR": place, "PREFIX": "usr"})
         assert refused.returncode == 2 and "PREFIX" in refused.stderr, refused
         facts += 4
-    print(f"packaging: {len(FILES)} files, {facts} facts")
+    print(f"packaging: {len(files)} files, {facts} facts")
 
 
 if __name__ == "__main__":

@@ -88,7 +88,10 @@ def main():
             missing = [head for head in chosen if f"\n## {head}\n" not in text]
             if missing:
                 raise SystemExit(f"manpages: {source} has no section {missing}")
-        page = [f'.TH {name.upper()} {section} "" Hashkarst', ".SH NAME", f"{name} \\- {what}", *roff(text, chosen),
+        body = roff(text, chosen)
+        # what stands before the first heading is no part of NAME
+        head = [] if body[0].startswith(".SH") else [".SH DESCRIPTION"]
+        page = [f'.TH {name.upper()} {section} "" Hashkarst', ".SH NAME", f"{name} \\- {what}", *head, *body,
                 ".SH SEE ALSO", ", ".join(f"\\fB{other}\\fR({number})" for other, number, *_ in PAGES if other != name)]
         with open(os.path.join(folder, f"{name}.{section}"), "w") as file:
             file.write("\n".join(page) + "\n")

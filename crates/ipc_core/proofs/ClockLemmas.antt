@@ -101,22 +101,22 @@ pub sets_undue : (H : List Entry) (moment : ℕ) (new : List Entry) → list_any
 sets_undue H moment new undue same = rw undue same
 
 -- what the break of a thread does, said of a kernel's view
-pub thread_ended : (seen old new : KernelParts) (thread : ℕ) → seen ≡ old → is_live seen.history thread ≡ true → Settled (with_input seen.history seen.moment (Broke thread)) new.history → Legal new.history → new.since ≡ length seen.history → new.moment ≡ seen.moment → new.entries_limit ≡ seen.entries_limit → new.calls_limit ≡ seen.calls_limit → new.room ≡ seen.room → new.taken ≡ seen.taken → IsTrue (is_live old.history thread) × Breaks old new thread
-thread_ended seen old new thread same live settled legal since moment entries_limit calls_limit room taken = subst (λ k. IsTrue (is_live k.history thread) × Breaks k new thread) same (
+pub thread_ended : (seen old new : KernelParts) (thread : ℕ) → seen ≡ old → is_live seen.history thread ≡ true → Settled (with_input seen.history seen.moment (Broke thread)) new.history → Legal new.history → new.since ≡ length seen.history → new.moment ≡ seen.moment → new.entries_limit ≡ seen.entries_limit → new.calls_limit ≡ seen.calls_limit → new.held ≡ seen.held → new.room ≡ seen.room → new.taken ≡ seen.taken → IsTrue (is_live old.history thread) × Breaks old new thread
+thread_ended seen old new thread same live settled legal since moment entries_limit calls_limit held room taken = subst (λ k. IsTrue (is_live k.history thread) × Breaks k new thread) same (
   live,
   record {
-    takes = record { history = settled; legal = λ was. legal; since = since; moment = moment; entries_limit = entries_limit; calls_limit = calls_limit; room = omega (arith, room) };
+    takes = record { history = settled; legal = λ was. legal; since = since; moment = moment; entries_limit = entries_limit; calls_limit = calls_limit; held = held; room = omega (arith, room) };
     taken = taken;
     room = room;
   },
 )
 
 -- and what a copy does
-pub advanced : (seen old new : KernelParts) (n count : ℕ) → seen ≡ old → next_moving seen.history ≡ Some n → count ≡ block_of seen.history n → Settled (with_input seen.history seen.moment (Moved n count)) new.history → Legal new.history → new.since ≡ length seen.history → new.moment ≡ seen.moment → new.entries_limit ≡ seen.entries_limit → new.calls_limit ≡ seen.calls_limit → new.room ≡ seen.room → new.taken ≡ seen.taken → Advances old new
-advanced seen old new n count same next least settled legal since moment entries_limit calls_limit room taken = subst (λ k. Advances k new) same (record {
+pub advanced : (seen old new : KernelParts) (n count : ℕ) → seen ≡ old → next_moving seen.history ≡ Some n → count ≡ block_of seen.history n → Settled (with_input seen.history seen.moment (Moved n count)) new.history → Legal new.history → new.since ≡ length seen.history → new.moment ≡ seen.moment → new.entries_limit ≡ seen.entries_limit → new.calls_limit ≡ seen.calls_limit → new.held ≡ seen.held → new.room ≡ seen.room → new.taken ≡ seen.taken → Advances old new
+advanced seen old new n count same next least settled legal since moment entries_limit calls_limit held room taken = subst (λ k. Advances k new) same (record {
   number = n;
   is_next = next;
-  takes = record { history = subst (λ c. Settled (with_input seen.history seen.moment (Moved n c)) new.history) least settled; legal = λ was. legal; since = since; moment = moment; entries_limit = entries_limit; calls_limit = calls_limit; room = omega (arith, room) };
+  takes = record { history = subst (λ c. Settled (with_input seen.history seen.moment (Moved n c)) new.history) least settled; legal = λ was. legal; since = since; moment = moment; entries_limit = entries_limit; calls_limit = calls_limit; held = held; room = omega (arith, room) };
   taken = taken;
   room = room;
 })

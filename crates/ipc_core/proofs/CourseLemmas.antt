@@ -173,10 +173,10 @@ pub record Goes (old new : CourseParts) : Type 0 where
   pub books : SameBooks old new
 
 pub same_books : (course : CourseParts) → SameBooks course course
-same_books course = record { taken = refl; since = refl }
+same_books course = record { taken = refl; since = refl; held = refl }
 
 pub more_books : (a b c : CourseParts) → SameBooks a b → SameBooks b c → SameBooks a c
-more_books a b c x y = record { taken = y.taken ∙ x.taken; since = y.since ∙ x.since }
+more_books a b c x y = record { taken = y.taken ∙ x.taken; since = y.since ∙ x.since; held = y.held ∙ x.held }
 
 pub goes_none : (old : CourseParts) → Legal old.entries → length old.entries + room_owed old.entries ≤ old.room → Goes old old
 goes_none old legal fits = record { continued = continued_none old.entries; legal = legal; room = refl; spent = omega arith; fits = fits; books = same_books old }

@@ -100,9 +100,9 @@ called_within kernel thread made limit call Q pass same same_limit legal =
     let moved : length Q + pledged Q + call_need call ≤ limit = rw (same, same_limit) within in
     owed_fits Q (call_need call) limit legal moved
 
-pub enters : (inside kernel new : KernelParts) (thread number : ℕ) (call : CallParts) → inside ≡ kernel → number ≡ calls_made kernel.history + 1 → Settled (with_input inside.history inside.moment (Called number thread call)) new.history → Legal new.history → new.since ≡ length inside.history → new.moment ≡ inside.moment → new.entries_limit ≡ inside.entries_limit → new.calls_limit ≡ inside.calls_limit → inside.room ≤ new.room → new.taken ≡ inside.taken → Enters kernel new number thread call
-enters inside kernel new thread number call same next settled legal since moment entries_limit calls_limit room taken = subst (λ old. Enters old new number thread call) same (record {
+pub enters : (inside kernel new : KernelParts) (thread number : ℕ) (call : CallParts) → inside ≡ kernel → number ≡ calls_made kernel.history + 1 → Settled (with_input inside.history inside.moment (Called number thread call)) new.history → Legal new.history → new.since ≡ length inside.history → new.moment ≡ inside.moment → new.entries_limit ≡ inside.entries_limit → new.calls_limit ≡ inside.calls_limit → new.held ≡ inside.held → inside.room ≤ new.room → new.taken ≡ inside.taken → Enters kernel new number thread call
+enters inside kernel new thread number call same next settled legal since moment entries_limit calls_limit held room taken = subst (λ old. Enters old new number thread call) same (record {
   number_is = next ∙ ap (λ k. calls_made k.history + 1) (sym same);
-  takes = record { history = settled; legal = λ was. legal; since = since; moment = moment; entries_limit = entries_limit; calls_limit = calls_limit; room = room };
+  takes = record { history = settled; legal = λ was. legal; since = since; moment = moment; entries_limit = entries_limit; calls_limit = calls_limit; held = held; room = room };
   taken = taken;
 })

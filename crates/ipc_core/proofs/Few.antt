@@ -68,3 +68,27 @@ obeys_few old command answer new may legal = elim may [
     go : (cause : Option Refusal) → ObeysOr cause old command answer new → length new.history ≤ length old.history + 1022
     go (Some refusal) refused = same_few old new refused.1
     go None does = does_few old command answer new does legal
+
+-- no command lets go of an entry
+does_held : (old : KernelParts) (command : Command) (answer : Answer) (new : KernelParts) → Does old command answer new → new.held ≡ old.held
+unfolding Does
+does_held old (Open number space) (Opened thread) new does = does.takes.held
+does_held old (Enter thread call) (Entered number) new does = does.takes.held
+does_held old (Exreg thread target control) (Exchanged answer) new does = does.takes.held
+does_held old (Broke thread) Done new does = does.takes.held
+does_held old (At reading) Done new does = does.held
+does_held old Advance (Advanced Moved) new does = does.takes.held
+does_held old Advance (Advanced Idle) new does = ap (λ (k : KernelParts). k.held) does.1
+does_held old (Take thread) (Taken outcome) new does = ap (λ (k : KernelParts). k.held) does.taken
+does_held old _ _ new does = absurd does
+
+pub obeys_held : (old : KernelParts) (command : Command) (answer : Answer) (new : KernelParts) → MayObey old command answer new → new.held ≡ old.held
+unfolding Obeys
+obeys_held old command answer new may = elim may [
+  | inl obeys ↦ go (cause_of old command) obeys
+  | inr lacks ↦ ap (λ (k : KernelParts). k.held) lacks.stays
+]
+  where
+    go : (cause : Option Refusal) → ObeysOr cause old command answer new → new.held ≡ old.held
+    go (Some refusal) refused = ap (λ (k : KernelParts). k.held) refused.1
+    go None does = does_held old command answer new does

@@ -28,7 +28,7 @@ kernel_none entries_limit calls_limit course empty few_entries few_calls = recor
     undue = refl;
   });
   room = subst (λ H. length H + room_owed H ≤ course.room) (sym empty) (rw nothing_owed (omega arith));
-  few_entries = few_entries;
+  few_entries = omega (arith, few_entries);
   few_calls = few_calls;
 }
 

@@ -22,3 +22,4 @@ pub mod OutcomeCall
 pub mod BusyLaws
 pub mod UnfinishedLaws
 pub mod SoundLaws
+pub mod CompactLemmas

@@ -101,13 +101,14 @@ pub kernel_took : (entries_limit calls_limit moment : ℕ) (old new : CoursePart
 kernel_took entries_limit calls_limit moment old new input had admissible no_clock settled same spent = kernel_after entries_limit calls_limit moment old new input had.kernel admissible no_clock had.within (let fits = had.fits in omega arith) settled spent
 
 -- and what it did
-pub takes_input : (view old new : KernelParts) (kept : CourseParts) (given input : Input) → view ≡ old → kept.entries ≡ view.history → given ≡ input → Settled (with_input kept.entries view.moment given) new.history → Legal new.history → new.since ≡ length kept.entries → new.moment ≡ view.moment → new.entries_limit ≡ view.entries_limit → new.calls_limit ≡ view.calls_limit → view.room ≤ new.room → Takes old new input
-takes_input view old new kept given input view_is same is_input settled legal since moment entries_limit calls_limit room = subst (λ k. Takes k new input) view_is (record {
+pub takes_input : (view old new : KernelParts) (kept : CourseParts) (given input : Input) → view ≡ old → kept.entries ≡ view.history → given ≡ input → Settled (with_input kept.entries view.moment given) new.history → Legal new.history → new.since ≡ length kept.entries → new.moment ≡ view.moment → new.entries_limit ≡ view.entries_limit → new.calls_limit ≡ view.calls_limit → new.held ≡ view.held → view.room ≤ new.room → Takes old new input
+takes_input view old new kept given input view_is same is_input settled legal since moment entries_limit calls_limit held room = subst (λ k. Takes k new input) view_is (record {
   history = subst (λ i. Settled (with_input view.history view.moment i) new.history) is_input (subst (λ H. Settled (with_input H view.moment given) new.history) same settled);
   legal = λ was. legal;
   since = since ∙ ap length same;
   moment = moment;
   entries_limit = entries_limit;
   calls_limit = calls_limit;
+  held = held;
   room = room;
 })

@@ -36,8 +36,8 @@ same_thread t u number version a b v w =
     omega (arith, a, b, a', b')
 
 -- kernels whose parts are the same but for the room are the same but for it
-same_kernel : (a b : KernelParts) → a.entries_limit ≡ b.entries_limit → a.calls_limit ≡ b.calls_limit → a.moment ≡ b.moment → a.history ≡ b.history → a.taken ≡ b.taken → a.since ≡ b.since → without_room a ≡ without_room b
-same_kernel a b e c m h t s = λ i. record { entries_limit = e i; calls_limit = c i; moment = m i; history = h i; taken = t i; since = s i; room = 0 }
+same_kernel : (a b : KernelParts) → a.entries_limit ≡ b.entries_limit → a.calls_limit ≡ b.calls_limit → a.moment ≡ b.moment → a.history ≡ b.history → a.held ≡ b.held → a.taken ≡ b.taken → a.since ≡ b.since → without_room a ≡ without_room b
+same_kernel a b e c m h k t s = λ i. record { entries_limit = e i; calls_limit = c i; moment = m i; history = h i; held = k i; taken = t i; since = s i; room = 0 }
 
 -- a legal end has a legal beginning
 begun : (P Q : List Entry) → Settled P Q → Legal Q → Legal P
@@ -46,7 +46,7 @@ begun P Q settled legal = legal_front P (map Written settled.outputs) (subst Leg
 took_once : (old one other : KernelParts) (given : Input) → Legal old.history → Takes old one given → Takes old other given → one.taken ≡ old.taken → other.taken ≡ old.taken → without_room one ≡ without_room other
 took_once old one other given legal a b t u =
     let start = begun _ _ a.history (a.legal legal) in
-    same_kernel one other (a.entries_limit ∙ sym b.entries_limit) (a.calls_limit ∙ sym b.calls_limit) (a.moment ∙ sym b.moment) (settles_once _ _ _ start a.history b.history) (t ∙ sym u) (a.since ∙ sym b.since)
+    same_kernel one other (a.entries_limit ∙ sym b.entries_limit) (a.calls_limit ∙ sym b.calls_limit) (a.moment ∙ sym b.moment) (settles_once _ _ _ start a.history b.history) (a.held ∙ sym b.held) (t ∙ sym u) (a.since ∙ sym b.since)
 
 -- under two names of one input
 took_one : (old one other : KernelParts) (given named : Input) → given ≡ named → Legal old.history → Takes old one given → Takes old other named → one.taken ≡ old.taken → other.taken ≡ old.taken → without_room one ≡ without_room other
@@ -57,7 +57,7 @@ ticked_history true H K L moment legal a b = settles_once _ _ _ (begun _ _ a leg
 ticked_history false H K L moment legal a b = a ∙ sym b
 
 ticked_once : (old one other : KernelParts) (reading : ℕ) → Legal old.history → Ticks old one reading → Ticks old other reading → without_room one ≡ without_room other
-ticked_once old one other reading legal a b = same_kernel one other (a.entries_limit ∙ sym b.entries_limit) (a.calls_limit ∙ sym b.calls_limit) (a.moment ∙ sym b.moment) (ticked_history _ old.history one.history other.history (at_moment old reading) (a.legal legal) a.history b.history) (a.taken ∙ sym b.taken) (a.since ∙ sym b.since)
+ticked_once old one other reading legal a b = same_kernel one other (a.entries_limit ∙ sym b.entries_limit) (a.calls_limit ∙ sym b.calls_limit) (a.moment ∙ sym b.moment) (ticked_history _ old.history one.history other.history (at_moment old reading) (a.legal legal) a.history b.history) (a.held ∙ sym b.held) (a.taken ∙ sym b.taken) (a.since ∙ sym b.since)
 
 -- a version that is there
 known : {version : ℕ} {o : Option ℕ} → o ≡ Some version → Some version ≡ Some (unwrap_or o 0)

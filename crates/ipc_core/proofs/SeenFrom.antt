@@ -19,7 +19,7 @@ module _ (since : ℕ) where
   seen_from kernel = record kernel { since = since; room = 0 }
 
   takes_seen : (old new : KernelParts) (given : Input) → Takes old new given → Takes (seen_from old) (without_room new) given
-  takes_seen old new given takes = record { history = takes.history; legal = takes.legal; since = takes.since; moment = takes.moment; entries_limit = takes.entries_limit; calls_limit = takes.calls_limit; room = omega arith }
+  takes_seen old new given takes = record { history = takes.history; legal = takes.legal; since = takes.since; moment = takes.moment; entries_limit = takes.entries_limit; calls_limit = takes.calls_limit; held = takes.held; room = omega arith }
 
   pub does_seen : (old new : KernelParts) (command : Command) (answer : Answer) → Does old command answer new → Does (seen_from old) command answer (without_room new)
   unfolding Does outcome_to_take
@@ -27,7 +27,7 @@ module _ (since : ℕ) where
   does_seen old new (Enter thread call) (Entered n) a = record { number_is = a.number_is; takes = takes_seen old new _ a.takes; taken = a.taken }
   does_seen old new (Exreg thread target control) (Exchanged x) a = record { answer_is = a.answer_is; takes = takes_seen old new _ a.takes; taken = a.taken }
   does_seen old new (Broke thread) Done a = record { takes = takes_seen old new _ a.takes; taken = a.taken; room = refl }
-  does_seen old new (At reading) Done a = record { moment = a.moment; history = a.history; legal = a.legal; since = a.since; taken = a.taken; entries_limit = a.entries_limit; calls_limit = a.calls_limit; room = refl }
+  does_seen old new (At reading) Done a = record { moment = a.moment; history = a.history; legal = a.legal; since = a.since; taken = a.taken; entries_limit = a.entries_limit; calls_limit = a.calls_limit; held = a.held; room = refl }
   does_seen old new Advance (Advanced Moved) a = record { number = a.number; is_next = a.is_next; takes = takes_seen old new _ a.takes; taken = a.taken; room = refl }
   does_seen old new Advance (Advanced Idle) a = (a.0, ap without_room a.1)
   does_seen old new (Take thread) (Taken outcome) a = record { outcome_is = a.outcome_is; taken = ap without_room a.taken }

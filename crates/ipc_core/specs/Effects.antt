@@ -38,6 +38,7 @@ pub record Ticks (old new : KernelParts) (reading : ℕ) : Type 0 where
   pub taken : new.taken ≡ old.taken
   pub entries_limit : new.entries_limit ≡ old.entries_limit
   pub calls_limit : new.calls_limit ≡ old.calls_limit
+  pub held : new.held ≡ old.held
   pub room : new.room ≡ old.room
 
 -- a taking: the outcome of the thread's last call, once, and the history stays

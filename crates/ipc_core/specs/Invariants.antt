@@ -1,7 +1,7 @@
 -- What a kernel keeps.
-use Rattle.std.specs.Prelude.{◌≡◌, ℕ, ◌+◌, ◌≤◌, ◌<◌, List, ◌==◌, length, take, false}
+use Rattle.std.specs.Prelude.{◌≡◌, ℕ, ◌+◌, ◌^◌, ◌≤◌, ◌<◌, List, ◌==◌, length, take, false}
 use Rattle.std.specs.List.{IsDistinct, list_any}
-use Rattle.ipc_words.specs.Limits.{table_slots, last_moment, max_entries, max_calls}
+use Rattle.ipc_words.specs.Limits.{table_slots, last_moment, max_calls}
 use Rattle.ipc_history.specs.Calls.{numbers}
 use Rattle.ipc_history.specs.Threads.{now}
 use Rattle.ipc_history.specs.Timing.{is_due_at}
@@ -28,11 +28,11 @@ pub record IsCourse (H : List Entry) (waiting : Waiting) (desks : List Desk) (ta
   pub begun : since ≤ length H
   pub wide : table_slots ≤ width
 
--- a course of which memory holds all entries
+-- a course, and memory holds all entries of the last command
 pub record IsHeldCourse (history : HistoryParts) (waiting : Waiting) (desks : List Desk) (taken : List ℕ) (since : ℕ)
     (finished : List ℕ) (width : ℕ) : Type 0 where
   pub course : IsCourse history.entries waiting desks taken since finished width
-  pub whole : history.held.whole_from ≡ 0
+  pub front : history.held.whole_from ≤ since
 
 -- a kernel's history is legal and quiet, within its limit with all that is owed; its moment is not before
 -- the history's, and no phase is due then
@@ -44,11 +44,12 @@ pub record Stands (H : List Entry) (limit moment : ℕ) : Type 0 where
   pub in_range : moment < last_moment + 1
   pub undue : list_any (is_due_at H moment) (numbers H) ≡ false
 
--- a kernel stands, has room for all that is owed, and its limits are within the greatest
+-- a kernel stands, has room for all that is owed, and its limits are within the greatest: that of entries counts with those that were
+-- let go
 pub record IsKernel (entries_limit calls_limit moment : ℕ) (course : CourseParts) : Type 0 where
   pub stands : Stands course.entries entries_limit moment
   pub room : length course.entries + room_owed course.entries ≤ course.room
-  pub few_entries : entries_limit ≤ max_entries
+  pub few_entries : entries_limit < 2 ^ 63
   pub few_calls : calls_limit ≤ max_calls
 
 -- a whole kernel: with its books

@@ -13,3 +13,4 @@ pub mod CourseParts
 pub mod Finished
 pub mod Books
 pub mod Laws
+pub mod Compacting

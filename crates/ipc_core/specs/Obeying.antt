@@ -4,7 +4,7 @@ use Rattle.std.specs.Prelude.{Bool, true, false, IsTrue, length, Result, Ok, Err
 use Rattle.ipc_history.specs.Legal.{next_moving}
 use Rattle.ipc_history.specs.Threads.{is_live}
 use Rattle.ipc_core.specs.Effects.{Breaks, Exchanges, Gives, Ticks}
-use Rattle.ipc_core.specs.KernelParts.{KernelParts}
+use Rattle.ipc_core.specs.KernelParts.{KernelParts, nothing_held}
 use Rattle.ipc_core.specs.Refusals.{enter_refusal, exreg_refusal, open_refusal}
 use Rattle.ipc_core.specs.Room.{LacksRoomFor, exreg_need, open_need}
 use Rattle.ipc_core.specs.Steps.{Advances, Enters, Opens}
@@ -108,5 +108,13 @@ Runs old _ _ new = ⊥
 
 -- a kernel with an empty history at the moment 0
 abbrev pub empty_kernel : ℕ → ℕ → KernelParts
-empty_kernel entries_limit calls_limit =
-    record { entries_limit = entries_limit; calls_limit = calls_limit; moment = 0; history = []; taken = []; since = 0; room = 0 }
+empty_kernel entries_limit calls_limit = record {
+  entries_limit = entries_limit;
+  calls_limit = calls_limit;
+  moment = 0;
+  history = [];
+  held = nothing_held;
+  taken = [];
+  since = 0;
+  room = 0;
+}

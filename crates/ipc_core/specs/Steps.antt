@@ -27,7 +27,8 @@ abbrev pub with_input : List Entry → ℕ → Input → List Entry
 with_input H moment input = H ++ at_if_later H moment ++ Given input ∷ []
 
 -- the kernel took an input: after the old history come the At of the moment where that is later, the input, the outputs until none
--- applies, and nothing else; a legal history stays legal; limits and moment stay; its room does not shrink
+-- applies, and nothing else; a legal history stays legal; limits and moment stay, and memory lets go of no
+-- entry; its room does not shrink
 pub record Takes (old new : KernelParts) (input : Input) : Type 0 where
   pub history : Settled (with_input old.history old.moment input) new.history
   pub legal : Legal old.history → Legal new.history
@@ -35,6 +36,7 @@ pub record Takes (old new : KernelParts) (input : Input) : Type 0 where
   pub moment : new.moment ≡ old.moment
   pub entries_limit : new.entries_limit ≡ old.entries_limit
   pub calls_limit : new.calls_limit ≡ old.calls_limit
+  pub held : new.held ≡ old.held
   pub room : old.room ≤ new.room
 
 -- the moment after a clock reading: it never goes back, and stops at the last one

@@ -34,3 +34,12 @@ pub struct EnterRefused {
 /// K6: the thread is not live.
 #[derive(Clone, Copy, PartialEq, Eq, Debug)]
 pub struct NoThread;
+
+/// What a compaction did.
+#[derive(Clone, Copy, PartialEq, Eq, Debug)]
+pub struct Compacted {
+    /// How many entries were let go.
+    pub dropped: usize,
+    /// How many entries memory holds.
+    pub left: usize,
+}

@@ -1,4 +1,4 @@
-ghost use Rattle.std.specs.Prelude.{◌≡◌, ◌+◌, ◌^◌, ◌≤◌, ◌<◌, [], ◌∷◌, ◌++◌, ◌==◌, ℕ, length, take, vec_len, vec_capacity};
+ghost use Rattle.std.specs.Prelude.{◌≡◌, ◌+◌, ◌^◌, ◌≤◌, ◌<◌, [], ◌∷◌, ◌++◌, ◌==◌, ℕ, length, take, drop, vec_len, vec_capacity};
 ghost use Rattle.std.specs.Prelude.{◌↔◌, Some, None, IsNone, IfSome, IsTrue, IsFalse, true, false, nat_lt, sum_by};
 ghost use Rattle.std.specs.Prelude.{IfErr, IfOk, OnErr, OnOk};
 ghost use Rattle.std.specs.List.{IsDistinct, list_any};
@@ -6,6 +6,7 @@ ghost use Rattle.ipc_words.specs.Limits.{last_moment};
 ghost use Rattle.ipc_history.specs.declared.entry.Entry.TheVariants.{Given, Written};
 ghost use Rattle.ipc_history.specs.declared.entry.Input.TheVariants.{At};
 ghost use Rattle.ipc_history.specs.Blocks.{block_of};
+ghost use Rattle.ipc_history.specs.Holding.{compacted, held_of};
 ghost use Rattle.ipc_history.specs.Calls.{calls_made, numbers};
 ghost use Rattle.ipc_history.specs.Phases.{open_call};
 ghost use Rattle.ipc_history.specs.Threads.{is_live, is_taken, next_version, now};
@@ -19,7 +20,9 @@ ghost use Rattle.ipc_desks.specs.Desks.{Keeps, one_if};
 ghost use Rattle.ipc_desks.specs.Messages.{prepared};
 ghost use Rattle.ipc_desks.specs.Finishes.{finishes, is_named};
 ghost use Rattle.ipc_slots.specs.Slots.{Stands};
-ghost use Rattle.ipc_core.specs.CourseParts.{ComesIdle, HasCopies, SameBooks};
+ghost use Rattle.ipc_core.specs.CourseParts.{ComesIdle, HasCopies, SameBooks, history_of};
+ghost use Rattle.ipc_core.specs.Compacting.{enters_open};
+ghost use Rattle.ipc_core.specs.KernelParts.{nothing_held};
 ghost use Rattle.ipc_core.specs.Finished.{IsFresh, with_name};
 ghost use Rattle.ipc_core.specs.Outcomes.{IsTaken, finished_from, is_among};
 ghost use Rattle.ipc_core.specs.Steps.{at_if_later, taken_after, with_input};
@@ -27,6 +30,7 @@ ghost use Rattle.ipc_core.specs.CommandRoom.{command_need, is_clock};
 ghost use Rattle.ipc_core.specs.ExchangeRegisters.{exreg_answer, phases_of};
 
 use crate::answers::ExregAnswer;
+use crate::open_calls::OpenCalls;
 use crate::taken::Taken;
 use ipc_desks::{Desks, Finished, Prepared};
 use ipc_history::{Call, EnteredCall, Entries, Entry, History, Input, Outcome, Output};
@@ -58,6 +62,7 @@ impl Model for Course {
 
     ghost view = { λ c. record {
       entries = c.history.entries;
+      held = c.history.held;
       room = c.history.room;
       taken = c.taken;
       since = c.since;
@@ -72,6 +77,7 @@ impl Course {
     /// The course of the empty history.
     pub(crate) fn new(alloc: Global) -> Result<Course, AllocError>
         ensures entries { IfOk result (λ course. course.entries ≡ []) }
+        ensures held { IfOk result (λ course. course.held ≡ nothing_held) }
         ensures room { IfOk result (λ course. course.room ≡ 0) }
         ensures taken { IfOk result (λ course. course.taken ≡ []) }
         ensures since { IfOk result (λ course. course.since ≡ 0) }
@@ -86,13 +92,44 @@ impl Course {
         })
     }
 
-    pub(crate) fn entries(&self) -> &[Entry]
-        ensures entries { result.now ≡ self.now.entries }
+    /// The whole history, whose open calls can be read.
+    pub(crate) fn whole(&self) -> Entries<'_>
+        ensures entries { result ≡ self.now.entries }
         ensures legal { Legal self.now.entries }
         ensures counted { (thread : ℕ) → taken_by self.now.entries self.now.taken thread
             + one_if (is_busy self.now.entries self.now.taken thread) ≡ made_by self.now.entries thread }
     {
-        self.history.entries_from(0)
+        self.history.whole()
+    }
+
+    /// How many entries the history has.
+    pub(crate) fn len(&self) -> usize
+        ensures { result ≡ length self.now.entries }
+    {
+        self.history.len()
+    }
+
+    /// How many entries memory holds.
+    pub(crate) fn held_len(&self) -> usize
+        ensures { result ≡ length (held_of (history_of self.now)) }
+    {
+        self.history.held_len()
+    }
+
+    /// The place from which on memory holds all entries.
+    pub(crate) fn whole_from(&self) -> usize
+        ensures place { result ≡ self.now.held.whole_from }
+        ensures front { result ≤ self.now.since }
+    {
+        self.history.whole_from()
+    }
+
+    /// The entries from a place on, oldest first.
+    pub(crate) fn entries_from(&self, place: usize) -> &[Entry]
+        requires { self.now.held.whole_from ≤ place }
+        ensures { result.now ≡ drop place self.now.entries }
+    {
+        self.history.entries_from(place)
     }
 
     /// How many outcomes were taken.
@@ -312,6 +349,7 @@ impl Course {
         ensures room { self.old.room ≤ self.new.room }
         ensures taken { self.new.taken ≡ self.old.taken }
         ensures since { self.new.since ≡ self.old.since }
+        ensures held { self.new.held ≡ self.old.held }
         ensures fits { OnOk result (length self.new.entries + (pledged self.new.entries + need) ≤ self.new.room) }
         ensures call { IfOk result (λ made. made.0 ≡ call) }
         ensures copies { IfOk result (λ made. made.1 ≡ prepared call) }
@@ -334,9 +372,25 @@ impl Course {
         ensures room { self.new.room ≡ self.old.room }
         ensures taken { self.new.taken ≡ self.old.taken }
         ensures since { self.new.since ≡ length self.old.entries }
+        ensures held { self.new.held ≡ self.old.held }
     {
         self.since = self.history.len();
         self.finished.clear();
+    }
+
+    /// Lets go of the entries before a place, but of those that entered the open calls, where a command has begun. Takes no memory.
+    pub(crate) fn compact(&mut self, upto: usize)
+        requires begun { self.old.since ≡ length self.old.entries }
+        requires few { length self.old.entries < 2 ^ 63 }
+        ensures entries { self.new.entries ≡ self.old.entries }
+        ensures held { self.new.held ≡ compacted (enters_open self.old.entries) upto (history_of self.old) }
+        ensures room { self.new.room + length (held_of (history_of self.new))
+            ≡ self.old.room + length (held_of (history_of self.old)) }
+        ensures taken { self.new.taken ≡ self.old.taken }
+        ensures since { self.new.since ≡ self.old.since }
+    {
+        self.history
+            .compact(upto, &OpenCalls::of(self.waiting.slots()));
     }
 
     /// Moves the outcome out that a live thread may take. Takes no memory.
@@ -351,6 +405,7 @@ impl Course {
         ensures entries { self.new.entries ≡ self.old.entries }
         ensures room { self.new.room ≡ self.old.room }
         ensures since { self.new.since ≡ self.old.since }
+        ensures held { self.new.held ≡ self.old.held }
     {
         let outcome = self
             .desks
@@ -449,6 +504,7 @@ impl Course {
         ensures legal { Legal self.new.entries }
         ensures taken { self.new.taken ≡ self.old.taken }
         ensures since { self.new.since ≡ length self.old.entries }
+        ensures held { self.new.held ≡ self.old.held }
         ensures settled { Settled (with_input self.old.entries moment input) self.new.entries }
         ensures room { self.new.room ≡ self.old.room }
         ensures spent { length self.new.entries + room_owed self.new.entries

@@ -1,4 +1,4 @@
-ghost use Rattle.std.specs.Prelude.{◌≡◌, ◌==◌, ◌<◌, ◌+◌, ◌*◌, ◌-◌, ◌^◌, ◌≤◌, [], ◌∷◌, ◌++◌, ℕ, length, max, min, false};
+ghost use Rattle.std.specs.Prelude.{◌≡◌, ◌==◌, ◌<◌, ◌+◌, ◌*◌, ◌-◌, ◌^◌, ◌≤◌, [], ◌∷◌, ◌++◌, ℕ, length, drop, max, min, false};
 ghost use Rattle.std.specs.Prelude.{◌↔◌, Some, None, IsNone, IsTrue, IfOk, IfErr, IfSome, OnOk, OnErr, MatchBool};
 ghost use Rattle.std.specs.List.{IsDistinct, list_any};
 ghost use Rattle.ipc_history.specs.declared.entry.Entry.TheVariants.{Given};
@@ -7,6 +7,7 @@ ghost use Rattle.ipc_words.specs.Limits.{max_calls, max_entries, pledge_of_threa
 ghost use Rattle.ipc_words.specs.ThreadId.{number_of, version_of};
 ghost use Rattle.ipc_words.specs.Control.{masked_of};
 ghost use Rattle.ipc_history.specs.Calls.{calls_made, numbers};
+ghost use Rattle.ipc_history.specs.Holding.{held_of};
 ghost use Rattle.ipc_history.specs.Legal.{Legal, Quiet, next_moving};
 ghost use Rattle.ipc_history.specs.Paired.{Paired};
 ghost use Rattle.ipc_history.specs.Settled.{Settled};
@@ -16,7 +17,8 @@ ghost use Rattle.ipc_laws.specs.Counting.{open_calls, pledged};
 ghost use Rattle.ipc_laws.specs.Laws.{one_if};
 ghost use Rattle.ipc_core.specs.Effects.{Breaks, Exchanges, Gives, Ticks};
 ghost use Rattle.ipc_core.specs.ExchangeRegisters.{exreg_answer};
-ghost use Rattle.ipc_core.specs.KernelParts.{KernelParts};
+ghost use Rattle.ipc_core.specs.Compacting.{Compacts, most_entries};
+ghost use Rattle.ipc_core.specs.KernelParts.{KernelParts, history_of};
 ghost use Rattle.ipc_core.specs.Laws.{IsSound};
 ghost use Rattle.ipc_core.specs.Obeying.{MayObey, broke_answer, empty_kernel, enter_answer, exreg_result, open_answer, rested};
 ghost use Rattle.ipc_core.specs.Outcomes.{has_untaken, is_among, is_busy, is_finished, made_by, outcome_to_take, taken_by};
@@ -26,11 +28,11 @@ ghost use Rattle.ipc_core.specs.Steps.{Advances, Enters, MayRefuse, Opens, at_mo
 ghost use Rattle.ipc_core.specs.declared.command.Answer.TheVariants.{Advanced, Done, Taken};
 ghost use Rattle.ipc_core.specs.declared.command.Command.TheVariants as command;
 
-use crate::answers::{Advance, EnterRefused, ExregAnswer, NoThread};
+use crate::answers::{Advance, Compacted, EnterRefused, ExregAnswer, NoThread};
 use crate::course::Course;
 use crate::refusal::Refusal;
 use crate::room::call_need;
-use ipc_history::{Call, Entry, Input, Outcome};
+use ipc_history::{Call, Entries, Entry, Input, Outcome};
 use ipc_words::limits::{
     BLOCK_BYTES, LAST_MOMENT, MAX_CALLS, MAX_ENTRIES, MAX_SPACE, MAX_STRING_BYTES,
     MAX_THREAD_NUMBER, NEED_OF_EXCHANGE, NEED_OF_OPEN, PLEDGE_OF_BLOCK, PLEDGE_OF_OPEN_CALL,
@@ -70,6 +72,7 @@ impl Model for Kernel {
       calls_limit = k.calls_limit;
       moment = k.moment;
       history = k.course.entries;
+      held = k.course.held;
       taken = k.course.taken;
       since = k.course.since;
       room = k.course.room;
@@ -106,18 +109,50 @@ impl Kernel {
         self.moment
     }
 
-    /// The history, oldest entry first.
-    pub fn history(&self) -> &[Entry]
-        ensures entries { result.now ≡ self.now.history }
+    /// The history, oldest entry first. Memory holds what [`Kernel::entries_from`] gives, and the entries of the open calls.
+    pub fn history(&self) -> Entries<'_>
+        ensures entries { result ≡ self.now.history }
         ensures legal { Legal self.now.history }
         ensures quiet { Quiet self.now.history }
         ensures paired { Paired self.now.history }
         ensures within { length self.now.history ≤ self.now.entries_limit }
+        ensures few { length self.now.history < 2 ^ 63 }
         ensures sound { IsSound self.now }
         ensures counted { (thread : ℕ) → taken_by self.now thread + one_if (has_untaken self.now thread)
             ≡ made_by self.now.history thread }
     {
-        self.course.entries()
+        self.course.whole()
+    }
+
+    /// How many entries the history has, with those that were let go.
+    pub fn total(&self) -> usize
+        ensures { result ≡ length self.now.history }
+    {
+        self.course.len()
+    }
+
+    /// How many entries memory holds.
+    pub fn held(&self) -> usize
+        ensures { result ≡ length (held_of (history_of self.now)) }
+    {
+        self.course.held_len()
+    }
+
+    /// The place, counted from 0, from which on memory holds all entries: at most the length of the history before the last command.
+    pub fn whole_from(&self) -> usize
+        ensures place { result ≡ self.now.held.whole_from }
+        ensures front { result ≤ self.now.since }
+        ensures within { result ≤ length self.now.history }
+    {
+        self.course.whole_from()
+    }
+
+    /// The entries from a place on, counted from 0, oldest first. Memory holds them from [`Kernel::whole_from`] on.
+    pub fn entries_from(&self, place: usize) -> &[Entry]
+        requires { self.now.held.whole_from ≤ place }
+        ensures { result.now ≡ drop place self.now.history }
+    {
+        self.course.entries_from(place)
     }
 
     /// How many calls are open.
@@ -188,7 +223,7 @@ impl Kernel {
         ensures full { IsNone result ↔ IsTrue (is_full self.now need) }
         ensures value { IfSome result (λ more. pledged self.now.history + need ≤ more) }
     {
-        let left = self.entries_limit - self.course.entries().len() as u64;
+        let left = self.entries_limit - self.course.len() as u64;
         let live = self.course.live();
         let most = MOST_PLEDGED * live;
         if need <= left && most <= left - need {
@@ -283,6 +318,7 @@ impl Kernel {
         ensures since { self.new.since ≡ length self.old.history }
         ensures entries_limit { self.new.entries_limit ≡ self.old.entries_limit }
         ensures calls_limit { self.new.calls_limit ≡ self.old.calls_limit }
+        ensures held { self.new.held ≡ self.old.held }
         ensures room { self.new.room ≡ self.old.room }
     {
         let moment = self.moment.max(now.min(LAST_MOMENT));
@@ -294,6 +330,37 @@ impl Kernel {
         self.moment = moment;
     }
 }
+
+impl Kernel {
+    /// Lets go of the entries before a place, counted from 0, but of those that entered the calls that are open. The history stays what it
+    /// was: each later command is answered as without it, but that the entries that were let go no longer count for K5. Takes no memory.
+    pub fn compact(&mut self, upto: usize) -> Compacted
+        ensures { Compacts self.old self.new upto result }
+    {
+        let before = self.course.held_len();
+        // its contract says that memory holds all entries of the last command
+        let _ = self.course.whole_from();
+        self.course.begin();
+        self.course.compact(upto);
+        let left = self.course.held_len();
+        let dropped = before - left;
+        self.entries_limit = raised(self.entries_limit, dropped as u64);
+        Compacted { dropped, left }
+    }
+}
+
+/// A limit of entries where so many more were let go: at most 2^63 - 1.
+fn raised(limit: u64, dropped: u64) -> u64
+    requires { limit < 2 ^ 63 }
+    ensures value { result ≡ min (limit + dropped) most_entries }
+    ensures least { limit ≤ result }
+    ensures most { result < 2 ^ 63 }
+{
+    limit.saturating_add(dropped).min(MOST_ENTRIES)
+}
+
+/// The greatest number of entries of a history, with those that were let go.
+const MOST_ENTRIES: u64 = i64::MAX as u64;
 
 /// The most entries that are pledged for a live thread: its own, those of its call, and those of the blocks of its strings.
 const MOST_PLEDGED: u64 = PLEDGE_OF_THREAD

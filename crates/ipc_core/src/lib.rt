@@ -7,6 +7,7 @@ mod course;
 mod kernel;
 pub mod laws;
 mod obeying;
+mod open_calls;
 mod refusal;
 mod room;
 #[cfg(test)]
@@ -15,7 +16,7 @@ mod taken;
 #[cfg(test)]
 mod tests;
 
-pub use answers::{Advance, EnterRefused, ExregAnswer, NoThread};
+pub use answers::{Advance, Compacted, EnterRefused, ExregAnswer, NoThread};
 pub use command::{Answer, Command};
 pub use ipc_words::limits::{LAST_MOMENT, MAX_CALLS, MAX_ENTRIES};
 pub use kernel::{Kernel, Limits};

@@ -16,10 +16,12 @@ use ipc_words::{Control, ThreadId};
 use std::alloc::Global;
 
 impl Kernel {
-    /// Obeys a command and answers it. A command that is refused changes nothing; one that is not writes at most 1,022 entries.
+    /// Obeys a command and answers it. A command that is refused changes nothing; one that is not writes at most 1,022 entries. Memory
+    /// lets go of none.
     pub fn obey(&mut self, command: Command) -> Answer
         ensures obeys { MayObey self.old command result self.new }
         ensures few { length self.new.history ≤ length self.old.history + max_command_entries }
+        ensures held { self.new.held ≡ self.old.held }
     {
         let answer = self.answer(command);
         // its contract says that the history is legal

@@ -141,7 +141,7 @@ fn take_step(alloc: Global, kernel: &mut Kernel, step: Step) -> Result<(), Fail>
 
 pub(crate) fn outputs(alloc: Global, kernel: &Kernel) -> Result<Vec<Output>, Fail> {
     let mut outputs = Vec::new(alloc);
-    for entry in kernel.history() {
+    for entry in kernel.entries_from(kernel.whole_from()) {
         if let Entry::Written(output) = entry {
             outputs.push(*output)?;
         }

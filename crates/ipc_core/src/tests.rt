@@ -1,6 +1,6 @@
 use super::*;
 use crate::row_tests::{failed, outputs};
-use ipc_history::{Call, CallFields};
+use ipc_history::{Call, CallFields, Outcome};
 use ipc_items::StringList;
 use ipc_words::{Control, MsgTag, Period, ThreadId};
 use std::alloc::Global;
@@ -92,7 +92,7 @@ fn a_live_number_is_taken(rt: HostRuntime) -> Result<(), Fail> {
 fn limits_of_nothing_refuse_all(rt: HostRuntime) -> Result<(), Fail> {
     let mut kernel = kernel(rt.alloc(), 0, 0)?;
     assert_eq!(rt; kernel.open(1, 1), Err(Refusal::HistoryFull));
-    assert_eq!(rt; kernel.history().len(), 0);
+    assert_eq!(rt; kernel.total(), 0);
     Ok(())
 }
 
@@ -151,7 +151,7 @@ fn a_full_history_takes_no_call(rt: HostRuntime) -> Result<(), Fail> {
         refusal_of(&mut kernel, first(1), call),
         Some(Refusal::HistoryFull)
     );
-    assert_eq!(rt; kernel.history().len(), 1);
+    assert_eq!(rt; kernel.total(), 1);
     Ok(())
 }
 
@@ -165,7 +165,7 @@ fn a_message_is_received(rt: HostRuntime) -> Result<(), Fail> {
     let send = sends(rt.alloc(), first(1), 7, 0)?;
     assert_eq!(rt; refusal_of(&mut kernel, first(2), send), None);
     // two opens, two calls, began and ended
-    assert_eq!(rt; kernel.history().len(), 6);
+    assert_eq!(rt; kernel.total(), 6);
     assert_eq!(rt; kernel.open_calls(), 0);
     Ok(())
 }
@@ -178,9 +178,9 @@ fn a_deadline_fails_a_receive(rt: HostRuntime) -> Result<(), Fail> {
     let receive = receives(rt.alloc(), ThreadId::ANYTHREAD, 5)?;
     assert_eq!(rt; refusal_of(&mut kernel, first(1), receive), None);
     kernel.at(4);
-    assert_eq!(rt; kernel.history().len(), 2);
+    assert_eq!(rt; kernel.total(), 2);
     kernel.at(5);
-    assert_eq!(rt; kernel.history().len(), 4);
+    assert_eq!(rt; kernel.total(), 4);
     assert_eq!(rt; kernel.now(), 5);
     Ok(())
 }
@@ -254,7 +254,7 @@ fn commands_are_run(rt: HostRuntime) -> Result<(), Fail> {
     let (kernel, answers) = Kernel::run(rt.alloc(), limits, commands).ok().ok_or("run")?;
     assert_eq!(rt; answers.len(), 4);
     // opened, at and broke
-    assert_eq!(rt; kernel.history().len(), 3);
+    assert_eq!(rt; kernel.total(), 3);
     Ok(())
 }
 
@@ -274,7 +274,7 @@ fn senders(alloc: Global, send_period: u16) -> Result<Kernel, Fail> {
 #[test]
 fn waiting_senders_are_received_in_turn(rt: HostRuntime) -> Result<(), Fail> {
     let mut kernel = senders(rt.alloc(), 0)?;
-    assert_eq!(rt; kernel.history().len(), 509);
+    assert_eq!(rt; kernel.total(), 509);
     assert_eq!(rt; kernel.open_calls(), 254);
     for number in 2..=255_u32 {
         let receive = receives(rt.alloc(), ThreadId::ANYTHREAD, 0)?;
@@ -283,7 +283,7 @@ fn waiting_senders_are_received_in_turn(rt: HostRuntime) -> Result<(), Fail> {
         assert_eq!(rt; outcome.call, 253 + u64::from(number));
         assert_eq!(rt; outcome.sender, first(number));
     }
-    assert_eq!(rt; kernel.history().len(), 1271);
+    assert_eq!(rt; kernel.total(), 1271);
     Ok(())
 }
 
@@ -292,9 +292,9 @@ fn deadlines_come_together(rt: HostRuntime) -> Result<(), Fail> {
     let mut kernel = senders(rt.alloc(), 5)?;
     kernel.at(3);
     kernel.at(4);
-    assert_eq!(rt; kernel.history().len(), 509);
+    assert_eq!(rt; kernel.total(), 509);
     kernel.at(5);
-    assert_eq!(rt; kernel.history().len(), 764);
+    assert_eq!(rt; kernel.total(), 764);
     let outputs = outputs(rt.alloc(), &kernel)?;
     assert_eq!(rt; outputs.len(), 254);
     for (output, number) in outputs.iter().zip(1..=254_u64) {
@@ -302,5 +302,67 @@ fn deadlines_come_together(rt: HostRuntime) -> Result<(), Fail> {
     }
     assert_eq!(rt; kernel.finished().len(), 254);
     assert_eq!(rt; kernel.open_calls(), 0);
+    Ok(())
+}
+
+// One message of a word from thread 2 to thread 1, and the outcomes of both.
+fn message(alloc: Global, kernel: &mut Kernel, word: u64) -> Result<(Outcome, Outcome), Fail> {
+    let receive = receives(alloc, ThreadId::ANYTHREAD, 0)?;
+    let _ = kernel.enter(first(1), receive).ok().ok_or("a receive")?;
+    let send = sends(alloc, first(1), word, 0)?;
+    let _ = kernel.enter(first(2), send).ok().ok_or("a send")?;
+    let received = kernel.take(first(1)).ok_or("what was received")?;
+    let sent = kernel.take(first(2)).ok_or("what was sent")?;
+    Ok((received, sent))
+}
+
+#[test]
+fn a_kernel_that_is_compacted_is_never_full(rt: HostRuntime) -> Result<(), Fail> {
+    let mut kernel = kernel(rt.alloc(), 64, MAX_CALLS)?;
+    let _ = kernel.open(1, 1);
+    let _ = kernel.open(2, 1);
+    for word in 0..100_u64 {
+        let (received, sent) = message(rt.alloc(), &mut kernel, word)?;
+        assert_eq!(rt; received.words.first(), Some(&word));
+        assert_eq!(rt; sent.call, 2 * word + 2);
+        let done = kernel.compact(usize::MAX);
+        assert_eq!(rt; done.left, 0);
+    }
+    // two opens, and two calls, began and ended of each message
+    assert_eq!(rt; kernel.total(), 402);
+    assert_eq!(rt; kernel.held(), 0);
+    Ok(())
+}
+
+#[test]
+fn an_open_call_is_held(rt: HostRuntime) -> Result<(), Fail> {
+    let mut kernel = kernel(rt.alloc(), MAX_ENTRIES, MAX_CALLS)?;
+    let _ = kernel.open(1, 1);
+    let _ = kernel.open(2, 1);
+    let receive = receives(rt.alloc(), ThreadId::ANYTHREAD, 0)?;
+    assert_eq!(rt; refusal_of(&mut kernel, first(1), receive), None);
+    let done = kernel.compact(usize::MAX);
+    assert_eq!(rt;
+        done,
+        Compacted {
+            dropped: 2,
+            left: 1
+        }
+    );
+    let send = sends(rt.alloc(), first(1), 7, 0)?;
+    assert_eq!(rt; refusal_of(&mut kernel, first(2), send), None);
+    let received = kernel.take(first(1)).ok_or("what was received")?;
+    assert_eq!(rt; received.words.first(), Some(&7));
+    // both calls are over: of the entries before the fifth nothing is held
+    let done = kernel.compact(4);
+    assert_eq!(rt;
+        done,
+        Compacted {
+            dropped: 2,
+            left: 2
+        }
+    );
+    assert_eq!(rt; kernel.whole_from(), 4);
+    assert_eq!(rt; kernel.entries_from(kernel.whole_from()).len(), 2);
     Ok(())
 }

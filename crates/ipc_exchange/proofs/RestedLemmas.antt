@@ -25,7 +25,7 @@ unfolding outcome_to_take
 same_outcome kernel thread = refl
 
 takes_rested : (old new : KernelParts) (given : Input) → Takes old new given → Takes (at_rest old) new given
-takes_rested old new given takes = record { history = takes.history; legal = takes.legal; since = takes.since; moment = takes.moment; entries_limit = takes.entries_limit; calls_limit = takes.calls_limit; room = takes.room }
+takes_rested old new given takes = record { history = takes.history; legal = takes.legal; since = takes.since; moment = takes.moment; entries_limit = takes.entries_limit; calls_limit = takes.calls_limit; held = takes.held; room = takes.room }
 
 does_rested : (old new : KernelParts) (command : Command) (answer : Answer) → Does old command answer new → Does (at_rest old) command answer new
 unfolding Does outcome_to_take
@@ -33,7 +33,7 @@ does_rested old new (Open number space) (Opened t) a = record { number_is = a.nu
 does_rested old new (Enter thread call) (Entered n) a = record { number_is = a.number_is; takes = takes_rested old new _ a.takes; taken = a.taken }
 does_rested old new (Exreg thread target control) (Exchanged x) a = record { answer_is = a.answer_is; takes = takes_rested old new _ a.takes; taken = a.taken }
 does_rested old new (Broke thread) Done a = record { takes = takes_rested old new _ a.takes; taken = a.taken; room = a.room }
-does_rested old new (At reading) Done a = record { moment = a.moment; history = a.history; legal = a.legal; since = a.since; taken = a.taken; entries_limit = a.entries_limit; calls_limit = a.calls_limit; room = a.room }
+does_rested old new (At reading) Done a = record { moment = a.moment; history = a.history; legal = a.legal; since = a.since; taken = a.taken; entries_limit = a.entries_limit; calls_limit = a.calls_limit; held = a.held; room = a.room }
 does_rested old new Advance (Advanced Moved) a = record { number = a.number; is_next = a.is_next; takes = takes_rested old new _ a.takes; taken = a.taken; room = a.room }
 does_rested old new Advance (Advanced Idle) a = (a.0, a.1)
 does_rested old new (Take thread) (Taken outcome) a = record { outcome_is = a.outcome_is; taken = a.taken }

@@ -12,7 +12,7 @@ ghost use Rattle.ipc_exchange.specs.Due.{NothingDue};
 
 use crate::due::{mark_all, mark_one, own_thread};
 use ipc_core::{Advance, Answer, Command, Kernel, Limits, NoThread};
-use ipc_history::{Entry, Outcome};
+use ipc_history::{Entries, Outcome};
 use ipc_words::ThreadId;
 use ipc_words::limits::TABLE_SLOTS;
 use std::alloc::{AllocError, Global};
@@ -52,8 +52,8 @@ impl Desk {
     }
 
     /// The history, oldest entry first.
-    pub(crate) fn history(&self) -> &[Entry]
-        ensures entries { result.now ≡ self.now.history }
+    pub(crate) fn history(&self) -> Entries<'_>
+        ensures entries { result ≡ self.now.history }
         ensures legal { Legal self.now.history }
         ensures quiet { Quiet self.now.history }
         ensures paired { Paired self.now.history }

@@ -13,7 +13,7 @@ use crate::progress::{ConnectRefused, Progress};
 use crate::service::Service;
 use ipc_calls::CallDecoder;
 use ipc_core::Limits;
-use ipc_history::Entry;
+use ipc_history::Entries;
 use ipc_words::limits::MAX_CONNECTIONS;
 use std::alloc::{AllocError, Global};
 use std::marker::Model;
@@ -159,8 +159,8 @@ impl Exchange {
     }
 
     /// The history, oldest entry first.
-    pub fn history(&self) -> &[Entry]
-        ensures entries { result.now ≡ self.now.service.kernel.history }
+    pub fn history(&self) -> Entries<'_>
+        ensures entries { result ≡ self.now.service.kernel.history }
         ensures legal { Legal self.now.service.kernel.history }
         ensures quiet { Quiet self.now.service.kernel.history }
         ensures paired { Paired self.now.service.kernel.history }

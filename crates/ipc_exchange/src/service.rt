@@ -25,7 +25,7 @@ use ipc_calls::Heard;
 use ipc_connection::{Request, Stage, Told, asks, next_stage, thread_left};
 use ipc_core::{Advance, Command, Limits, NoThread};
 use ipc_frame::FrameFault;
-use ipc_history::Entry;
+use ipc_history::Entries;
 use ipc_words::ThreadId;
 use ipc_words::limits::TABLE_SLOTS;
 use std::alloc::{AllocError, Global};
@@ -70,8 +70,8 @@ impl Service {
     }
 
     /// The history, oldest entry first.
-    pub(crate) fn history(&self) -> &[Entry]
-        ensures entries { result.now ≡ self.now.kernel.history }
+    pub(crate) fn history(&self) -> Entries<'_>
+        ensures entries { result ≡ self.now.kernel.history }
         ensures legal { Legal self.now.kernel.history }
         ensures quiet { Quiet self.now.kernel.history }
         ensures paired { Paired self.now.kernel.history }

@@ -1,7 +1,9 @@
 -- What a step does to the kernel, and how it is answered.
-use Rattle.std.specs.Prelude.{◌≡◌, ℕ, ◌+◌, None, Bool, true, false, ⊤}
+use Rattle.std.specs.Prelude.{◌≡◌, ℕ, ◌+◌, None, Bool, true, false, ⊤, ◌⊎◌}
 use Rattle.ipc_words.specs.ThreadId.{number_of}
 use Rattle.ipc_history.specs.Threads.{is_live}
+use Rattle.ipc_core.specs.Compacting.{Compacts}
+use Rattle.ipc_core.specs.declared.answers.Compacted.{Compacted}
 use Rattle.ipc_core.specs.Effects.{Breaks, Exchanges, Ticks}
 use Rattle.ipc_core.specs.KernelParts.{KernelParts}
 use Rattle.ipc_core.specs.Obeying.{MayObey}
@@ -90,6 +92,20 @@ pub record Acts {C T : Type 0} (old new : KernelParts) (now : ℕ) (step : Step 
   pub between : KernelParts
   pub ticks : Ticks old between now
   pub does : StepDoes between step told new
+
+-- before a step memory may let go of entries, which changes no answer
+pub record LetGo (old new : KernelParts) : Type 0 where
+  pub upto : ℕ
+  pub done : Compacted
+  pub compacts : Compacts old new upto done
+
+abbrev pub MayLetGo : KernelParts → KernelParts → Type 0
+MayLetGo old new = (new ≡ old) ⊎ LetGo old new
+
+pub record ActsOn {C T : Type 0} (old new : KernelParts) (now : ℕ) (step : Step C) (told : Told C T) : Type 0 where
+  pub before : KernelParts
+  pub lets_go : MayLetGo old before
+  pub acts : Acts before new now step told
 
 -- the two seats of a thread of this number, which made and took nothing
 pub record SeatsOf {C T : Type 0} (number thread : ℕ) (calls : CallSeat C) (takes : TakeSeat T) : Type 0 where

@@ -9,16 +9,11 @@ use std::alloc::{AllocError, Global};
 /// The most entries of a group.
 const MOST_OF_A_GROUP: usize = 64;
 
-/// Copies of the entries from this place on, as many as one group has: at most 64, and none behind a call with strings. So whoever
-/// waits for the lock meanwhile waits for one long message at most.
-pub(crate) fn copy_group(
-    alloc: Global,
-    entries: &[Entry],
-    index: usize,
-) -> Result<Vec<Entry>, AllocError>
-    ensures { IfOk result (λ group. IsGroupAt entries.now index group.items) }
+/// Copies of the first of these entries, as many as one group has: at most 64, and none behind a call with strings. So whoever waits
+/// for the lock meanwhile waits for one long message at most.
+pub(crate) fn copy_group(alloc: Global, rest: &[Entry]) -> Result<Vec<Entry>, AllocError>
+    ensures { IfOk result (λ group. IsGroupAt rest.now 0 group.items) }
 {
-    let (_, rest) = entries.split_at(index.min(entries.len()));
     let (group, _) = rest.split_at(group_len(rest));
     copy_entries(alloc, group)
 }

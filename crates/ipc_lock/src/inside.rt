@@ -3,14 +3,16 @@ ghost use Rattle.std.specs.Prelude.{◌≡◌, ◌+◌, ◌*◌, ◌≤◌, IfSo
 ghost use Rattle.ipc_core.specs.Effects.{Gives};
 ghost use Rattle.ipc_history.specs.Paired.{Paired};
 ghost use Rattle.ipc_history.specs.Threads.{is_live};
-ghost use Rattle.ipc_lock.specs.Acting.{Acts, AnswersStep};
+ghost use Rattle.ipc_lock.specs.Acting.{ActsOn, AnswersStep, MayLetGo};
 ghost use Rattle.ipc_lock.specs.Next.{ComesOut, LooksFirst, MayGiveNext};
 ghost use Rattle.ipc_lock.specs.Seats.{TakesNothing};
 ghost use Rattle.ipc_words.specs.Limits.{max_command_entries};
 
+use crate::not_given::NotGiven;
 use crate::post_box::{PostBox, Posted};
 use crate::seated::{Answer, Locked, TakeSeat, Taken};
 use crate::step::Step;
+use crate::upkeep::Upkeep;
 use ipc_history::Entry;
 use ipc_words::ThreadId;
 use ipc_words::limits::TABLE_SLOTS;
@@ -51,6 +53,7 @@ pub(crate) struct Inside<C: Ledger, T: Ledger> {
     // whether the last step added entries, and whether the trace waits for one
     has_grown: bool,
     is_awaited: bool,
+    upkeep: Upkeep,
     alloc: Global,
 }
 
@@ -77,7 +80,7 @@ impl Bells {
 
 impl<C: Ledger, T: Ledger> Inside<C, T> {
     /// Without boxes.
-    pub(crate) fn new(alloc: Global, locked: Locked<C, T>) -> Result<Self, AllocError> {
+    pub(crate) fn new(alloc: Global, locked: Locked<C, T>, limit: u64) -> Result<Self, AllocError> {
         Ok(Inside {
             locked,
             boxes: Vec::new(alloc),
@@ -89,18 +92,21 @@ impl<C: Ledger, T: Ledger> Inside<C, T> {
             closed: false,
             has_grown: false,
             is_awaited: false,
+            upkeep: Upkeep::new(limit),
             alloc,
         })
     }
 
     /// Makes one step, and answers whom it concerns.
     pub(crate) fn act(&mut self, now: u64, step: Step<C>) -> (Answer<C, T>, Bells)
-        ensures acts { Acts self.old.locked.kernel self.new.locked.kernel now step result.0.told }
+        ensures acts { ActsOn self.old.locked.kernel self.new.locked.kernel now step result.0.told }
         ensures answers { AnswersStep step result.0.told }
         ensures few { length self.new.locked.kernel.history
             ≤ length self.old.locked.kernel.history + 2 * max_command_entries }
         ensures paired { Paired self.new.locked.kernel.history }
     {
+        self.upkeep.note(&step);
+        self.let_go();
         let before = self.locked.entries();
         let ends_a_thread = matches!(&step, Step::Broke(_));
         self.finished.clear();
@@ -111,6 +117,23 @@ impl<C: Ledger, T: Ledger> Inside<C, T> {
         // whoever waits for an outcome of the thread waits in vain
         bells.strays = bells.strays || ends_a_thread;
         (answer, bells)
+    }
+
+    /// Lets go of entries where it is time.
+    fn let_go(&mut self)
+        ensures lets_go { MayLetGo self.old.locked.kernel self.new.locked.kernel }
+    {
+        if self.upkeep.is_due(self.locked.held()) {
+            let done = self.locked.compact(self.upkeep.marked());
+            self.upkeep.restart(done.left, self.locked.entries());
+        }
+    }
+
+    /// The entries before a place of the history, counted from 0, are not read any more.
+    pub(crate) fn mark(&mut self, upto: usize)
+        ensures { self.new.locked ≡ self.old.locked }
+    {
+        self.upkeep.mark(upto);
     }
 
     /// The bells of the writers whose threads' calls the last step finished, or that it ended.
@@ -283,19 +306,25 @@ impl<C: Ledger, T: Ledger> Inside<C, T> {
         self.closed = true;
     }
 
+    /// How many entries the history has, with those that were let go.
     pub(crate) fn entries(&self) -> usize
         ensures { result ≡ length self.now.locked.kernel.history }
     {
         self.locked.entries()
     }
 
+    /// How many entries memory holds.
+    pub(crate) fn held(&self) -> usize {
+        self.locked.held()
+    }
+
     /// A copy of the entry of this place.
-    pub(crate) fn entry(&self, index: usize) -> Result<Option<Entry>, AllocError> {
+    pub(crate) fn entry(&self, index: usize) -> Result<Option<Entry>, NotGiven> {
         self.locked.entry(self.alloc, index)
     }
 
     /// Copies of the entries from this place on, as many as one group has.
-    pub(crate) fn group(&self, index: usize) -> Result<Vec<Entry>, AllocError> {
+    pub(crate) fn group(&self, index: usize) -> Result<Vec<Entry>, NotGiven> {
         self.locked.group(self.alloc, index)
     }
 

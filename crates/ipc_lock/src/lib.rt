@@ -3,6 +3,7 @@
 
 mod copying;
 mod inside;
+mod not_given;
 mod post_box;
 mod seated;
 mod shared_kernel;
@@ -10,8 +11,10 @@ mod step;
 #[cfg(test)]
 mod tests;
 mod told;
+mod upkeep;
 
 pub use inside::Next;
+pub use not_given::NotGiven;
 pub use post_box::{PostBox, Posted};
 pub use seated::{Answer, CallSeat, Locked, TakeSeat, Taken};
 pub use shared_kernel::SharedKernel;

@@ -1,10 +1,13 @@
 //! What the lock keeps, and the calls that change it. Nobody else makes an [`Answer`] or a [`Taken`].
-ghost use Rattle.std.specs.Prelude.{◌≡◌, ◌+◌, ◌*◌, ◌≤◌, ◌^◌, [], ◌∷◌, false, None, Some, length, min, slice_get};
+ghost use Rattle.std.specs.Prelude.{◌≡◌, ◌+◌, ◌*◌, ◌≤◌, ◌<◌, ◌^◌, [], ◌∷◌, false, None, Some, length, min, slice_get};
 ghost use Rattle.std.specs.Prelude.{IfOk, IfErr, IfSome, OnOk, OnErr, IfNone};
 ghost use Rattle.ipc_history.specs.Calls.{calls_made};
+ghost use Rattle.ipc_history.specs.Holding.{held_of};
 ghost use Rattle.ipc_history.specs.Legal.{Legal, Quiet};
 ghost use Rattle.ipc_history.specs.Paired.{Paired};
 ghost use Rattle.ipc_history.specs.Threads.{is_live};
+ghost use Rattle.ipc_core.specs.Compacting.{Compacts};
+ghost use Rattle.ipc_core.specs.KernelParts.{history_of};
 ghost use Rattle.ipc_core.specs.Effects.{Breaks, Exchanges, Gives, Ticks};
 ghost use Rattle.ipc_words.specs.Limits.{max_calls, max_command_entries, max_entries};
 ghost use Rattle.ipc_core.specs.Obeying.{MayObey, empty_kernel};
@@ -23,13 +26,14 @@ ghost use Rattle.ipc_lock.specs.Seats.{SeatRefuses, TakesNothing};
 mod seats;
 
 use crate::copying::{copy_entry, copy_group};
+use crate::not_given::NotGiven;
 use crate::step::Step;
 use crate::told::Told;
-use ipc_core::{Advance, EnterRefused, ExregAnswer, Kernel, Limits, NoThread, Refusal};
-use ipc_history::{Call, Entry, Outcome, Output};
+use ipc_core::{Advance, Compacted, EnterRefused, ExregAnswer, Kernel, Limits, NoThread, Refusal};
+use ipc_history::{Call, Entries, Entry, Outcome, Output};
 use ipc_words::{Control, ThreadId};
 pub use seats::{CallSeat, TakeSeat};
-use std::alloc::{AllocError, Global};
+use std::alloc::Global;
 use std::marker::PhantomData;
 use std::sync::ledger::{Blank, Book, Ledger, Share};
 
@@ -137,7 +141,7 @@ impl<C: Ledger, T: Ledger> Locked<C, T> {
             ..
         } = self;
         // a history has fewer entries than a ledger has parts
-        let _ = kernel.history().len();
+        let _ = kernel.history();
         let thread = kernel.open(number, space)?;
         let _ = kernel.history();
         let made = calls_left.split_off(1, 0);
@@ -182,7 +186,7 @@ impl<C: Ledger, T: Ledger> Locked<C, T> {
             share,
         } = seat;
         // a thread made fewer calls than there are entries
-        let _ = kernel.history().len();
+        let _ = kernel.history();
         if kernel.made(*thread) != *made {
             return Err(EnterRefused {
                 refusal: Refusal::NoThread,
@@ -411,9 +415,9 @@ impl<C: Ledger, T: Ledger> Locked<C, T> {
         }
     }
 
-    /// The history, oldest entry first. Each time the lock is held it is legal, and has the promise.
-    pub fn history(&self) -> &[Entry]
-        ensures entries { result.now ≡ self.now.kernel.history }
+    /// The history. Each time the lock is held it is legal, and has the promise.
+    pub fn history(&self) -> Entries<'_>
+        ensures entries { result ≡ self.now.kernel.history }
         ensures legal { Legal self.now.kernel.history }
         ensures quiet { Quiet self.now.kernel.history }
         ensures paired { Paired self.now.kernel.history }
@@ -425,9 +429,8 @@ impl<C: Ledger, T: Ledger> Locked<C, T> {
     pub(crate) fn has_begun_since(&self, before: usize) -> bool {
         let mut begun = 0u64;
         let mut ended = 0u64;
-        let history = self.history();
-        let (_, added) = history.split_at(before.min(history.len()));
-        for entry in added {
+        let place = before.max(self.kernel.whole_from());
+        for entry in self.kernel.entries_from(place) {
             match entry {
                 Entry::Written(Output::Began(_, _)) => begun = begun.saturating_add(1),
                 Entry::Written(Output::Ended(_, _)) => ended = ended.saturating_add(1),
@@ -444,18 +447,42 @@ impl<C: Ledger, T: Ledger> Locked<C, T> {
         self.kernel.is_live(thread)
     }
 
-    /// How many entries the history has.
+    /// How many entries the history has, with those that were let go.
     pub(crate) fn entries(&self) -> usize
         ensures { result ≡ length self.now.kernel.history }
     {
-        self.history().len()
+        self.kernel.total()
     }
 
-    /// A copy of the entry of this place of the history, counted from 0.
-    pub fn entry(&self, alloc: Global, index: usize) -> Result<Option<Entry>, AllocError>
-        ensures { IfOk result (λ entry. entry ≡ slice_get self.now.kernel.history index) }
+    /// How many entries memory holds.
+    pub(crate) fn held(&self) -> usize
+        ensures { result ≡ length (held_of (history_of self.now.kernel)) }
     {
-        match self.history().get(index) {
+        self.kernel.held()
+    }
+
+    /// Lets go of the entries before a place of the history, counted from 0, but of those that entered the calls that are open. No
+    /// later answer changes. Takes no memory.
+    pub fn compact(&mut self, upto: usize) -> Compacted
+        ensures { Compacts self.old.kernel self.new.kernel upto result }
+    {
+        let Locked { kernel, .. } = self;
+        kernel.compact(upto)
+    }
+
+    /// A copy of the entry of this place of the history, counted from 0. None where the history has none there.
+    ///
+    /// # Errors
+    ///
+    /// Memory let go of it, or there is none for the copy.
+    pub fn entry(&self, alloc: Global, index: usize) -> Result<Option<Entry>, NotGiven>
+        ensures entry { IfOk result (λ entry. entry ≡ slice_get self.now.kernel.history index) }
+        ensures gone { result ≡ Err NotGiven.LetGo → index < self.now.kernel.held.whole_from }
+    {
+        if index < self.kernel.whole_from() {
+            return Err(NotGiven::LetGo);
+        }
+        match self.kernel.entries_from(index).first() {
             Some(entry) => Ok(Some(copy_entry(alloc, entry)?)),
             None => Ok(None),
         }
@@ -463,9 +490,17 @@ impl<C: Ledger, T: Ledger> Locked<C, T> {
 
     /// Copies of the entries from this place of the history on, counted from 0, as many as one group has: at most 64, and none
     /// behind a call with strings. No entry where the history has none there.
-    pub fn group(&self, alloc: Global, index: usize) -> Result<Vec<Entry>, AllocError>
-        ensures { IfOk result (λ group. IsGroupAt self.now.kernel.history index group.items) }
+    ///
+    /// # Errors
+    ///
+    /// Memory let go of the first one, or there is none for the copies.
+    pub fn group(&self, alloc: Global, index: usize) -> Result<Vec<Entry>, NotGiven>
+        ensures group { IfOk result (λ group. IsGroupAt self.now.kernel.history index group.items) }
+        ensures gone { result ≡ Err NotGiven.LetGo → index < self.now.kernel.held.whole_from }
     {
-        copy_group(alloc, self.history(), index)
+        if index < self.kernel.whole_from() {
+            return Err(NotGiven::LetGo);
+        }
+        Ok(copy_group(alloc, self.kernel.entries_from(index))?)
     }
 }

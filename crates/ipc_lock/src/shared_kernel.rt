@@ -4,14 +4,15 @@ ghost use Rattle.ipc_lock.specs.Acting.{AnswersStep};
 ghost use Rattle.ipc_lock.specs.Next.{GivesNext};
 
 use crate::inside::{Bells, Inside, Next};
+use crate::not_given::NotGiven;
 use crate::post_box::Posted;
 use crate::seated::{Answer, Locked, TakeSeat, Taken};
 use crate::step::Step;
-use ipc_core::{Advance, Limits, Refusal};
+use ipc_core::{Advance, Limits, MAX_ENTRIES, Refusal};
 use ipc_history::Entry;
 use ipc_lines::entry_line;
 use ipc_words::ThreadId;
-use std::alloc::{AllocError, Global};
+use std::alloc::Global;
 use std::sync::ledger::{Blank, Ledger};
 use std::sync::{Condvar, Mutex, Wait};
 
@@ -26,7 +27,7 @@ pub struct SharedKernel<C: Ledger, T: Ledger> {
 }
 
 impl<C: Ledger, T: Ledger> SharedKernel<C, T> {
-    /// An empty kernel without boxes. The only refusal is K4.
+    /// An empty kernel without boxes, whose entries are all held until [`SharedKernel::mark`] is called. The only refusal is K4.
     pub fn new(alloc: Global, limits: Limits, calls: Blank, takes: Blank) -> Result<Self, Refusal>
         requires calls_name { calls.name ≡ C.name }
         requires calls_parts { calls.parts ≡ C.parts }
@@ -37,7 +38,8 @@ impl<C: Ledger, T: Ledger> SharedKernel<C, T> {
         ensures { IfErr result (λ refusal. refusal ≡ Refusal.NoMemory) }
     {
         let locked = Locked::new(alloc, limits, calls, takes)?;
-        let Ok(inside) = Inside::new(alloc, locked) else {
+        let limit = limits.entries.min(MAX_ENTRIES);
+        let Ok(inside) = Inside::new(alloc, locked, limit) else {
             return Err(Refusal::NoMemory);
         };
         Ok(SharedKernel {
@@ -217,15 +219,15 @@ impl<C: Ledger, T: Ledger> SharedKernel<C, T> {
     ///
     /// # Errors
     ///
-    /// TR5: no memory for the copy or the line.
-    pub fn wait_line<R: Wait>(&self, rt: &R, index: usize) -> Result<Option<String>, AllocError> {
+    /// TR5: no memory for the copy or the line, or memory let go of the entry, which was marked.
+    pub fn wait_line<R: Wait>(&self, rt: &R, index: usize) -> Result<Option<String>, NotGiven> {
         match self.wait_entry(rt, index)? {
             Some(entry) => Ok(Some(entry_line(self.alloc, &entry)?)),
             None => Ok(None),
         }
     }
 
-    fn wait_entry<R: Wait>(&self, rt: &R, index: usize) -> Result<Option<Entry>, AllocError> {
+    fn wait_entry<R: Wait>(&self, rt: &R, index: usize) -> Result<Option<Entry>, NotGiven> {
         let mut inside = self.inside.lock(rt);
         for _ in rt.forever() {
             let entry = inside.entry(index)?;
@@ -244,8 +246,8 @@ impl<C: Ledger, T: Ledger> SharedKernel<C, T> {
     ///
     /// # Errors
     ///
-    /// TR5: no memory for the copies.
-    pub fn wait_entries<R: Wait>(&self, rt: &R, index: usize) -> Result<Vec<Entry>, AllocError> {
+    /// TR5: no memory for the copies, or memory let go of the first entry, which was marked.
+    pub fn wait_entries<R: Wait>(&self, rt: &R, index: usize) -> Result<Vec<Entry>, NotGiven> {
         let mut inside = self.inside.lock(rt);
         for _ in rt.forever() {
             let group = inside.group(index)?;
@@ -258,7 +260,18 @@ impl<C: Ledger, T: Ledger> SharedKernel<C, T> {
         Ok(Vec::new(self.alloc))
     }
 
-    /// How many entries the history has, to say when it is near its limit.
+    /// The entries before a place of the history, counted from 0, are not read any more: a later step may let go of them, and of their
+    /// strings. Until then all are held.
+    pub fn mark<R: Wait>(&self, rt: &R, upto: usize) {
+        self.inside.lock(rt).mark(upto);
+    }
+
+    /// How many entries memory holds, to say when it is near its limit.
+    pub fn held<R: Wait>(&self, rt: &R) -> usize {
+        self.inside.lock(rt).held()
+    }
+
+    /// How many entries the history has, with those that were let go.
     pub fn entries<R: Wait>(&self, rt: &R) -> usize {
         self.inside.lock(rt).entries()
     }

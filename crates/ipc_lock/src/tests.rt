@@ -576,6 +576,7 @@ fn meetings<C: Ledger + Send + Sync, T: Ledger + Send + Sync, R: Threads + Wait 
         .ok_or("a kernel")?;
     let one = Party::open(rt, kernel, 1)?;
     let two = Party::open(rt, kernel, 2)?;
+    kernel.mark(rt, usize::MAX);
     let mut receive_calls = Vec::new(alloc);
     let mut send_calls = Vec::new(alloc);
     for word in 0..MEETINGS {
@@ -599,6 +600,9 @@ fn meetings<C: Ledger + Send + Sync, T: Ledger + Send + Sync, R: Threads + Wait 
     assert!(rt; sent.iter().all(|word| word.is_none()));
     // two opens, and for each message two calls, began and ended
     assert_eq!(rt; kernel.entries(rt), 40_002);
+    // of which the kernel has let go of most
+    assert!(rt; kernel.held(rt) <= 5_000);
+    assert_eq!(rt; kernel.wait_entries(rt, 0).err(), Some(NotGiven::LetGo));
     Ok(())
 }
 

@@ -107,6 +107,7 @@ fn counters_now<C: Ledger, T: Ledger, R: Wait>(
         threads,
         counts,
         entries,
+        held: server.shared.held(server.rt) as u64,
         kibibytes: host.kibibytes(server.alloc),
         behind: host.traced.as_ref().map(|traced| entries.saturating_sub(traced.load(
             Ordering::SeqCst,
@@ -121,6 +122,8 @@ struct Counters {
     threads: usize,
     counts: Counts,
     entries: u64,
+    /// How many of them memory holds.
+    held: u64,
     /// How much memory the process holds.
     kibibytes: u64,
     /// How many entries the trace lags behind.
@@ -134,12 +137,13 @@ impl fmt::Display for Counters {
             threads,
             counts,
             entries,
+            held,
             kibibytes,
             behind,
         } = self;
         write!(
             f,
-            "l4d: {threads} threads of {connections} connections, {counts}, {entries} entries, {kibibytes} KiB"
+            "l4d: {threads} threads of {connections} connections, {counts}, {entries} entries, {held} held, {kibibytes} KiB"
         )?;
         match behind {
             Some(behind) => write!(f, ", trace {behind} entries behind"),

@@ -182,6 +182,7 @@ where
     if options.trace.is_some() {
         serve_traced::<C, T, Brand, R>(server, host, options, Blank::new(1))
     } else {
+        server.keep_nothing();
         exit_of(serve_and_close(server, host, options), true)
     }
 }
@@ -215,6 +216,7 @@ where
         }
         Err(fault) => {
             tell(server.rt, fault);
+            server.keep_nothing();
             exit_of(serve_and_close(server, host, options), false)
         }
     }
@@ -259,6 +261,7 @@ fn write_trace<C: Ledger, T: Ledger, R: Wait + Clock + Eprint, P: PortWrite + Dr
         Ok(()) => true,
         Err(fault) => {
             tell(server.rt, fault);
+            server.keep_nothing();
             if is_required {
                 host.stop(server.rt);
             }

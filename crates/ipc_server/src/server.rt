@@ -37,6 +37,11 @@ impl<'a, C: Ledger, T: Ledger, R: Wait + Clock> Server<'a, C, T, R> {
         self.shared.submit(self.rt, now, step).into_told()
     }
 
+    /// No entry is read any more by a trace: memory may let go of each.
+    pub(crate) fn keep_nothing(&self) {
+        self.shared.mark(self.rt, usize::MAX);
+    }
+
     /// Ends a thread, if there is one, and shuts the box of its connection.
     pub(crate) fn hang_up(&self, place: usize, thread: Option<ThreadId>) {
         if let Some(thread) = thread {

@@ -123,7 +123,7 @@ impl<P: PortWrite> Trace<P> {
         for _ in server.rt.forever() {
             match trace.put_group(server) {
                 Ok(0) => return Ok(()),
-                Ok(_) => {}
+                Ok(_) => server.shared.mark(server.rt, trace.count),
                 Err(fault) => return Err(TraceFault::from(fault)),
             }
             if let Some(traced) = &host.traced {

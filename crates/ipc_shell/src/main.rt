@@ -154,8 +154,9 @@ fn look<L: Ledger, R: Files, W: PortWrite>(
     reads: Failures<L>,
     writer: &mut W,
 ) -> Ending {
-    let Ok(opened) = File::open(rt, file) else {
-        return Ending::from(Exit::DeviceFailed);
+    let opened = match File::open(rt, file) {
+        Ok(opened) => opened,
+        Err(error) => return not_opened(alloc, file, &error),
     };
     let mut reader = KeptPort::new(alloc, ReadPort::new(opened, reads));
     let exit = match trace {
@@ -164,6 +165,15 @@ fn look<L: Ledger, R: Files, W: PortWrite>(
         Trace::Look(look) => look_at_trace(alloc, *look, &mut reader, writer),
     };
     with_reason(alloc, exit, Grammar::Trace, reader.tail())
+}
+
+/// A file that cannot be opened is a device that failed, and the reason names it. Without memory there is no reason.
+fn not_opened(alloc: Global, file: &str, error: &io::Error) -> Ending {
+    let reason = format!(in alloc; "{file}: {error}");
+    Ending {
+        exit: Exit::DeviceFailed,
+        reason: reason.ok(),
+    }
 }
 
 /// An exit with the reason of a bad line, which is among the last that were read. Without memory there is

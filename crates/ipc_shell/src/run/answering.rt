@@ -14,27 +14,16 @@ use std::alloc::{AllocError, Global};
 pub fn answer(alloc: Global, kernel: &mut Kernel, command: Command) -> Result<String, AllocError>
     ensures { IfOk result (λ text. Answers kernel.old command (string_bytes text) kernel.new) }
 {
-    let before = kernel.history().len();
+    let before = kernel.total();
+    // memory holds the entries that the command will write
+    let _ = kernel.whole_from();
     command_is_readable(&command);
     let answer = kernel.obey(command);
     let mut text = String::new(alloc);
-    write_entries_from(alloc, &mut text, kernel.history(), before)?;
+    write_entries(alloc, &mut text, kernel.entries_from(before))?;
     write_answer(alloc, &mut text, &answer)?;
     text.push_str("\n")?;
     Ok(text)
-}
-
-// Appends the lines of the entries from a place on.
-fn write_entries_from(
-    alloc: Global,
-    out: &mut String,
-    entries: &[Entry],
-    place: usize,
-) -> Result<(), AllocError>
-    ensures { OnOk result (string_bytes out.new
-        ≡ string_bytes out.old ++ entries_text (drop place entries.now)) }
-{
-    write_entries(alloc, out, &entries[place.min(entries.len())..])
 }
 
 // Appends the lines of entries.

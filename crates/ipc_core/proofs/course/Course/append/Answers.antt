@@ -19,7 +19,7 @@ invariant_of-self c =
     let wide = c.add.ensures.capacity in
     let wider = c.add-2.ensures.capacity in
     record {
-      whole = ap (λ h. h.whole_from) c.push.ensures.held ∙ c.self.invariant.whole;
+      front = (let front = c.self.invariant.front in omega (arith, front, ap (λ h. h.whole_from) c.push.ensures.held));
       course = course_more _ c.whole-entries.result _ c.args.entry _ _ _ _ _ _ c.self.invariant.course c.self.invariant.course.begun (rw (ap (λ h. h.entries) c.self.view_is) c.requires.follows) c.whole-entries.ensures c.push.ensures.entries (subst (λ v. IsFresh v c.args.entry) (sym c.self.view_is) c.requires.fresh) c.note-ended.result.first c.note-ended.result.second c.note-ended.ensures.finished
           c.note.new.self c.note-ended.new.desks c.add-2.new.names.items (vec_capacity c.add-2.new.names) c.note.ensures
           (subst (λ t. Keeps (c.whole-entries.result ++ c.args.entry ∷ []) t c.note-ended.new.desks) c.past.ensures c.note-ended.ensures.keeps)

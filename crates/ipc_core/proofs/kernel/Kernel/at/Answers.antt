@@ -10,6 +10,7 @@ returns-clause-obeys c = at_obeys _ _ c.args.now (record {
   taken = c.set_clock.ensures.taken;
   entries_limit = c.set_clock.ensures.entries_limit;
   calls_limit = c.set_clock.ensures.calls_limit;
+  held = c.set_clock.ensures.held;
   room = c.set_clock.ensures.room;
 })
 
@@ -22,5 +23,6 @@ returns-clause-ticks c = record {
   taken = c.set_clock.ensures.taken;
   entries_limit = c.set_clock.ensures.entries_limit;
   calls_limit = c.set_clock.ensures.calls_limit;
+  held = c.set_clock.ensures.held;
   room = c.set_clock.ensures.room;
 }

@@ -17,11 +17,11 @@ invariant_of-self c = rests _ _ _ c.self.inside.course c.begin.new.self c.self.i
 pub returns-in_default-clause-idle : goal.returns-in_default-clause-idle
 returns-in_default-clause-idle c = λ is. (
   ap (λ k. next_moving k.history) (sym c.self.view_is) ∙ c.in_default.ensures.none.0 refl,
-  begins_rested _ _ c.begin.new.self c.self.view_is c.begin.ensures.entries c.begin.ensures.taken c.begin.ensures.since c.begin.ensures.room,
+  begins_rested _ _ c.begin.new.self c.self.view_is c.begin.ensures.entries c.begin.ensures.held c.begin.ensures.taken c.begin.ensures.since c.begin.ensures.room,
 )
 
 pub returns-clause-moved : goal.returns-clause-moved
-returns-clause-moved c = λ is. advanced _ _ _ c.in-Some.number c.in-Some.block c.self.view_is c.in-Some.ensures.some.0 c.in-Some.ensures.some.1 c.take_input.ensures.settled c.take_input.ensures.legal c.take_input.ensures.since refl refl refl c.take_input.ensures.room c.take_input.ensures.taken
+returns-clause-moved c = λ is. advanced _ _ _ c.in-Some.number c.in-Some.block c.self.view_is c.in-Some.ensures.some.0 c.in-Some.ensures.some.1 c.take_input.ensures.settled c.take_input.ensures.legal c.take_input.ensures.since refl refl refl c.take_input.ensures.held c.take_input.ensures.room c.take_input.ensures.taken
 
 pub invariant_of-self-2 : goal.invariant_of-self-2
 invariant_of-self-2 c =

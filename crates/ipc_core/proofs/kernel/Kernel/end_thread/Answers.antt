@@ -21,4 +21,4 @@ invariant_of-self c =
     }
 
 pub returns-clause-ok : goal.returns-clause-ok
-returns-clause-ok c = thread_ended _ _ _ c.args.thread c.self.view_is (sym c.is_live.ensures ∙ c.if-not-is_live.false) c.take_input.ensures.settled c.take_input.ensures.legal c.take_input.ensures.since refl refl refl c.take_input.ensures.room c.take_input.ensures.taken
+returns-clause-ok c = thread_ended _ _ _ c.args.thread c.self.view_is (sym c.is_live.ensures ∙ c.if-not-is_live.false) c.take_input.ensures.settled c.take_input.ensures.legal c.take_input.ensures.since refl refl refl c.take_input.ensures.held c.take_input.ensures.room c.take_input.ensures.taken

@@ -78,7 +78,7 @@ returns-in-Ok-clause-ok c =
       enters _ c.args.self.now _ c.args.thread (c.calls_made-made.result + 1) c.args.call c.self.view_is (ap (λ n. n + 1) pass.made_is)
           (subst (λ call. Settled (with_input c.self.inside.course.entries c.self.inside.moment (Called (c.calls_made-made.result + 1) c.args.thread call)) c.take_input.new.self.entries) c.in-Ok.ensures.call (subst (λ l. Settled (with_input l c.self.inside.moment (Called (c.calls_made-made.result + 1) c.args.thread c.in-Ok.entered)) c.take_input.new.self.entries) same c.take_input.ensures.settled))
           c.take_input.ensures.legal (c.take_input.ensures.since ∙ ap length same)
-          refl refl refl (omega (arith, c.in-Ok.ensures.room, c.take_input.ensures.room)) (c.take_input.ensures.taken ∙ c.in-Ok.ensures.taken),
+          refl refl refl (c.take_input.ensures.held ∙ c.in-Ok.ensures.held) (omega (arith, c.in-Ok.ensures.room, c.take_input.ensures.room)) (c.take_input.ensures.taken ∙ c.in-Ok.ensures.taken),
     )
 
 pub take_input-requires-clause-idle : goal.take_input-requires-clause-idle

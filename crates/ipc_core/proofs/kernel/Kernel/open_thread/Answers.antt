@@ -85,5 +85,5 @@ returns-clause-ok c =
     let free : is_taken c.args.self.now.history c.args.number ≡ false = cc in
     let next : next_version c.args.self.now.history c.args.number ≡ Some c.in-Some.version = cc in
     let allowed = open_allowed c.args.self.now c.args.number c.args.space range free c.in-Some.version next (not_since _ c.in-Some-room_for.ensures.full.1) in
-    let takes = takes_input _ c.args.self.now _ c.make_room.new.self (Opened c.thread_id-thread.result c.args.space) (Opened c.thread_id-thread.result c.args.space) c.self.view_is c.make_room.ensures.entries refl c.take_input.ensures.settled c.take_input.ensures.legal c.take_input.ensures.since refl refl refl (omega (arith, c.make_room.ensures.room, c.take_input.ensures.room)) in
+    let takes = takes_input _ c.args.self.now _ c.make_room.new.self (Opened c.thread_id-thread.result c.args.space) (Opened c.thread_id-thread.result c.args.space) c.self.view_is c.make_room.ensures.entries refl c.take_input.ensures.settled c.take_input.ensures.legal c.take_input.ensures.since refl refl refl (c.take_input.ensures.held ∙ c.make_room.ensures.books.held) (omega (arith, c.make_room.ensures.room, c.take_input.ensures.room)) in
     (allowed, record { number_is = c.thread_id-thread.ensures.number; version_is = next ∙ ap Some (sym c.thread_id-thread.ensures.version); takes = takes; taken = c.take_input.ensures.taken ∙ (c.make_room.ensures.books.taken ∙ ap (λ k. k.taken) c.self.view_is) })

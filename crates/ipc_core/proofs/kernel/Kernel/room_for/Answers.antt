@@ -12,7 +12,7 @@ room_within-requires c = let few = live_bound c.self.inside.course.entries c.sel
 
 pub returns-clause-full : goal.returns-clause-full
 returns-clause-full c =
-    let count : length c.entries.result.now ≡ length c.self.inside.course.entries = ap length c.entries.ensures.entries in
+    let count = c.len.ensures in
     let within = c.self.invariant.kernel.stands.within in
     subst (λ k. IsNone c.room_within.result ↔ IsTrue (is_full k c.args.need)) c.self.view_is (full_where _ c.args.need _ c.live-live.result c.pledged_for_calls.result (IsNone c.room_within.result) (omega arith) c.live-live.ensures c.pledged_for_calls.ensures c.room_within.ensures.full)
 
@@ -24,7 +24,7 @@ overflow_mul-most c = let few = live_bound c.self.inside.course.entries c.self.i
 
 pub returns-then-most-left-clause-full : goal.returns-then-most-left-clause-full
 returns-then-most-left-clause-full c =
-    let count : length c.entries.result.now ≡ length c.self.inside.course.entries = ap length c.entries.ensures.entries in
+    let count = c.len.ensures in
     let within = c.self.invariant.kernel.stands.within in
     let room : is_full c.args.self.now c.args.need ≡ false = subst (λ k. is_full k c.args.need ≡ false) c.self.view_is (room_most _ c.args.need _ c.live-live.result c.self.invariant.kernel.stands.legal (omega arith) c.live-live.ensures c.if-need-left.true c.if-most-left.true) in
     (λ none. absurd (false≢true (sym none)), λ full. absurd (false≢true (sym room ∙ full)))

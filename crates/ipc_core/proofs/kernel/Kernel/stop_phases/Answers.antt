@@ -70,7 +70,7 @@ returns-clause-ok c =
     let history : c.self.inside.course.entries ≡ c.args.self.now.history = ap (λ k. k.history) c.self.view_is in
     let allowed = exreg_allowed c.args.self.now c.args.thread (cc) (cc) (not_since _ c.in-Some.ensures.full.1) in
     let same = ap (λ m. Exreg c.args.thread c.args.target m) c.masked.ensures in
-    let takes = takes_input _ c.args.self.now _ c.make_room.new.self (Exreg c.args.thread c.args.target c.masked.result) (Exreg c.args.thread c.args.target (masked_of c.args.control)) c.self.view_is c.make_room.ensures.entries same c.take_input.ensures.settled c.take_input.ensures.legal c.take_input.ensures.since refl refl refl (omega (arith, c.make_room.ensures.room, c.take_input.ensures.room)) in
+    let takes = takes_input _ c.args.self.now _ c.make_room.new.self (Exreg c.args.thread c.args.target c.masked.result) (Exreg c.args.thread c.args.target (masked_of c.args.control)) c.self.view_is c.make_room.ensures.entries same c.take_input.ensures.settled c.take_input.ensures.legal c.take_input.ensures.since refl refl refl (c.take_input.ensures.held ∙ c.make_room.ensures.books.held) (omega (arith, c.make_room.ensures.room, c.take_input.ensures.room)) in
     (allowed, record { answer_is = c.exreg_answer-answer.ensures ∙ ap (λ l. exreg_answer l c.args.thread c.args.target) (c.make_room.ensures.entries ∙ history); takes = takes; taken = c.take_input.ensures.taken ∙ (c.make_room.ensures.books.taken ∙ ap (λ k. k.taken) c.self.view_is) })
 
 pub exreg_answer-answer-requires : goal.exreg_answer-answer-requires

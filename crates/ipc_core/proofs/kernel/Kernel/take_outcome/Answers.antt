@@ -14,4 +14,4 @@ pub invariant_of-self : goal.invariant_of-self
 invariant_of-self c = takes_one _ _ _ c.self.inside.course c.take.new.self c.take.result c.self.invariant c.take.ensures.entries c.take.ensures.room c.take.ensures.taken c.take.ensures.since c.take.ensures.done c.take.ensures.fresh
 
 pub returns-clause-taken : goal.returns-clause-taken
-returns-clause-taken c = seen_took _ _ c.take.new.self c.take.result c.self.view_is c.take.ensures.entries c.take.ensures.taken c.take.ensures.since c.take.ensures.room
+returns-clause-taken c = seen_took _ _ c.take.new.self c.take.result c.self.view_is c.take.ensures.entries c.take.ensures.held c.take.ensures.taken c.take.ensures.since c.take.ensures.room

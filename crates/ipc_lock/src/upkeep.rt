@@ -1,0 +1,75 @@
+//! When memory lets go of entries of the history.
+ghost use Rattle.std.specs.Prelude.{◌≡◌};
+
+use crate::step::Step;
+use std::sync::ledger::Ledger;
+
+/// So many entries are held before any is let go.
+const FEW_ENTRIES: usize = 4_096;
+
+/// So many bytes of strings come before any entry is let go, where the entries are few.
+const FEW_BYTES: usize = 16 * 1_048_576;
+
+/// What the greatest number of threads may have pledged, and a step may need, with room to spare.
+const NEAR_THE_LIMIT: usize = 16_384;
+
+/// When entries are let go: where as many are held as were left the last time, and as many again; where 16 MiB of strings came since;
+/// or near the limit, where many more may be let go than before.
+#[derive(Drop)]
+pub(crate) struct Upkeep {
+    // the entries before this place of the history may be let go
+    marked: usize,
+    // the mark of the last time
+    reached: usize,
+    // so many entries are held the next time
+    next: usize,
+    // how many bytes of strings came since
+    bytes: usize,
+    // from so many entries held on the limit is near
+    near: usize,
+}
+
+impl Upkeep {
+    /// Nothing may be let go yet.
+    pub(crate) fn new(limit: u64) -> Upkeep {
+        Upkeep {
+            marked: 0,
+            reached: 0,
+            next: FEW_ENTRIES,
+            bytes: 0,
+            near: (limit as usize).saturating_sub(NEAR_THE_LIMIT),
+        }
+    }
+
+    /// The entries before a place of the history may be let go. The place never goes back.
+    pub(crate) fn mark(&mut self, upto: usize) {
+        self.marked = self.marked.max(upto);
+    }
+
+    /// The entries before this place may be let go.
+    pub(crate) fn marked(&self) -> usize
+        ensures { result ≡ self.now.marked }
+    {
+        self.marked
+    }
+
+    /// Counts the strings of a step.
+    pub(crate) fn note<C: Ledger>(&mut self, step: &Step<C>) {
+        if let Step::Enter(_, call) = step {
+            self.bytes = self.bytes.saturating_add(call.strings().size() as usize);
+        }
+    }
+
+    /// Whether entries are to be let go now, where so many are held.
+    pub(crate) fn is_due(&self, held: usize) -> bool {
+        let more = self.marked.saturating_sub(self.reached);
+        held >= self.next || self.bytes >= FEW_BYTES || held >= self.near && more >= FEW_ENTRIES
+    }
+
+    /// Begins anew, where so many entries were left of so many.
+    pub(crate) fn restart(&mut self, left: usize, total: usize) {
+        self.reached = self.marked.min(total);
+        self.next = left.saturating_mul(2).max(FEW_ENTRIES);
+        self.bytes = 0;
+    }
+}

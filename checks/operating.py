@@ -274,6 +274,26 @@ def denied():
         return told.stderr.strip().replace("\n", ";")
 
 
+def guarded():
+    """A path where another user's server answers: this user may not connect to it."""
+    if os.getuid() != 0 or not shutil.which("setpriv"):
+        return "left out: root and setpriv are wanted"
+    with tempfile.TemporaryDirectory() as folder:
+        os.chmod(folder, 0o777)
+        place = f"{folder}/l4d"
+        shutil.copy(PROGRAM, place)
+        os.chmod(place, 0o755)
+        line = socket.socket(socket.AF_UNIX)
+        line.bind(f"{folder}/space1")
+        os.chmod(f"{folder}/space1", 0o600)
+        line.listen()
+        told = subprocess.run(["setpriv", "--reuid=65534", "--regid=65534", "--clear-groups", place, "--dir", folder, "--spaces", "1"],
+                              capture_output=True, text=True, timeout=20)
+        line.close()
+        assert told.returncode == 1 and "  a socket stands there to which this user may not connect" in told.stderr, told
+        return told.stderr.strip().replace("\n", ";")
+
+
 def words():
     """Each refusal of words names the option, the value and the limit; --version is told on standard output."""
     here = ["--dir", ".", "--spaces", "1"]
@@ -297,7 +317,11 @@ def words():
 
 
 def probe():
-    """The line of --probe comes as soon as its message came, while the server goes on."""
+    """The line of --probe comes as soon as its message came, while the server goes on. Without room for its two connections there is no probe."""
+    with tempfile.TemporaryDirectory() as folder:
+        for room in ("--live", "--connections"):
+            told = run("--dir", folder, "--spaces", "1", "--probe", room, "1")
+            assert told == (1, "", "l4d: --probe makes two connections, and there is room for fewer\n"), told
     with Server("--probe") as server:
         begin = time.time()
         assert server.process.stdout.readline() == b"probe 0x7\n"
@@ -351,6 +375,11 @@ def signals():
                 assert not os.path.exists(server.path)
                 text = open(f"{place}/trace").read()
                 assert text.endswith("\n") and "opened 1.1 1" in text and "broke 2.1\n" in text, text
+    # one that is blocked alone ends it too
+    alone = lambda: signal.pthread_sigmask(signal.SIG_BLOCK, (signal.SIGTERM,))
+    with Server(preexec_fn=alone) as server:
+        server.process.send_signal(signal.SIGTERM)
+        assert server.end()[:2] == (0, "closed\n") and not os.path.exists(server.path)
     with Server() as server:
         server.process.send_signal(signal.SIGTERM)
         assert server.end()[0] == -signal.SIGTERM and os.path.exists(server.path)
@@ -380,7 +409,7 @@ def log():
     return last
 
 
-CASES = [words, paths, denied, probe, traces, log, signals, few_connections, no_descriptor, few_tasks, strangers]
+CASES = [words, paths, denied, guarded, probe, traces, log, signals, few_connections, no_descriptor, few_tasks, strangers]
 
 
 def main():

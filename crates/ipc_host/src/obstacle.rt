@@ -20,6 +20,8 @@ pub enum Obstacle {
     NotAFolder,
     /// This user may not make a path there.
     Denied,
+    /// A socket stands there to which this user may not connect.
+    Guarded,
     /// A server answers there.
     InUse,
     /// A socket stands there, and nobody answers.
@@ -43,6 +45,10 @@ impl fmt::Display for Obstacle {
             ),
             Obstacle::NotAFolder => write!(f, "not a folder: name one by --dir"),
             Obstacle::Denied => write!(f, "denied: this user may not make a path there"),
+            Obstacle::Guarded => write!(
+                f,
+                "a socket stands there to which this user may not connect: name another folder by --dir"
+            ),
             Obstacle::InUse => write!(
                 f,
                 "in use: a server answers there; end it, or name another folder by --dir"
@@ -85,7 +91,7 @@ fn occupant<R: Files + Net>(rt: &R, path: &str) -> Obstacle {
         Ok(_) => Obstacle::InUse,
         Err(error) => match error.kind() {
             ErrorKind::ConnectionRefused => Obstacle::Stale,
-            ErrorKind::PermissionDenied => Obstacle::Denied,
+            ErrorKind::PermissionDenied => Obstacle::Guarded,
             ErrorKind::WouldBlock => Obstacle::InUse,
             _ => Obstacle::Other(error),
         },

@@ -7,9 +7,9 @@ use std::alloc::Global;
 /// SIGINT (2) and SIGTERM (15) in a mask of signals, where bit 0 stands for signal 1.
 const ENDING: u64 = (1 << 1) | (1 << 14);
 
-/// Whether SIGINT and SIGTERM are blocked.
+/// Whether SIGINT or SIGTERM is blocked: one that is not ends the process by itself.
 pub fn are_blocked(status: &ProcessStatus, alloc: Global) -> bool {
-    mask(status, alloc, "SigBlk:") & ENDING == ENDING
+    mask(status, alloc, "SigBlk:") & ENDING != 0
 }
 
 /// Whether SIGINT or SIGTERM has come while it was blocked.

@@ -20,6 +20,8 @@ pub enum Exit {
     NoMemory,
     /// Standard output or the clock failed: status 1.
     DeviceFailed,
+    /// There is no room for the two connections of the program's own client: status 1.
+    NoRoomForProbe,
     /// The client of the program's own did not get its message: status 1.
     ProbeFailed,
 }
@@ -65,6 +67,10 @@ impl fmt::Display for Exit {
             ),
             Exit::NoMemory => write!(f, "l4d: no memory"),
             Exit::DeviceFailed => write!(f, "l4d: device failed"),
+            Exit::NoRoomForProbe => write!(
+                f,
+                "l4d: --probe makes two connections, and there is room for fewer"
+            ),
             Exit::ProbeFailed => write!(f, "l4d: probe failed"),
         }
     }

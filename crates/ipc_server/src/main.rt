@@ -51,6 +51,9 @@ const PARTS: u64 = 1 << 63;
 /// How many descriptors each path takes.
 const PATH_DESCRIPTORS: u64 = 3;
 
+/// How many connections the program's own client makes.
+const PROBE_CONNECTIONS: u64 = 2;
+
 /// How many descriptors standard input, output and error take, a trace, and files that are read.
 const OTHER_DESCRIPTORS: u64 = 8;
 
@@ -121,18 +124,17 @@ where
         Ok(clock) => clock,
         Err(error) => return Exit::from(error),
     };
+    let most = most_connections(rt, alloc, options);
+    if options.probe && most.min(u64::from(options.connections)) < PROBE_CONNECTIONS {
+        return Exit::NoRoomForProbe;
+    }
     let server = Server::new(rt, alloc, &shared, clock);
     let listeners = match listen(rt, alloc, options) {
         Ok(listeners) => listeners,
         Err(exit) => return exit,
     };
     let host = Host {
-        guests: Guests::new(
-            alloc,
-            most_connections(rt, alloc, options),
-            within(options),
-            clock,
-        ),
+        guests: Guests::new(alloc, most, within(options), clock),
         listeners,
         connections: options.connections,
         is_logged: options.log,

@@ -20,10 +20,12 @@ use std::time::Duration;
 // How many turns the ports wait in all, of a millisecond each.
 const TURNS: u64 = 10_000;
 
-// How many bytes WELCOME has, and an IPCR without words after it.
+// How many bytes WELCOME has, and after it an IPCR without words, or with one.
 const WELCOMED: usize = 13;
 
 const ANSWERED: usize = WELCOMED + 38;
+
+const TOLD: usize = WELCOMED + 46;
 
 // HELLO 1, and a call that receives from anythread
 const RECEIVER: [u8; 57] = [
@@ -200,7 +202,7 @@ fn gate() -> CountedGate {
     }
 }
 
-// The receiver's next read does not return before the sender was answered: a server that serves connections one after the other
+// The receiver's next read does not return before its message was written to it: a server that serves connections one after the other
 // fails it.
 #[test]
 fn held_receive(rt: HostRuntime) -> Result<(), Fail> {
@@ -244,6 +246,10 @@ fn serve_both<C: Ledger + Send, T: Ledger + Send, R: Threads + Wait + Clock + Sy
         party: Party::Sender,
         bytes: ANSWERED,
     };
+    let told = Cue {
+        party: Party::Receiver,
+        bytes: TOLD,
+    };
     let welcomed = Cue {
         party: Party::Receiver,
         bytes: WELCOMED,
@@ -256,7 +262,7 @@ fn serve_both<C: Ledger + Send, T: Ledger + Send, R: Threads + Wait + Clock + Sy
             front: &RECEIVER,
             cue: welcomed,
             back: &[],
-            end: answered,
+            end: told,
         },
         writer: TellingPort {
             rt,

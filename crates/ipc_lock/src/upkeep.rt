@@ -8,12 +8,12 @@ use std::sync::ledger::Ledger;
 const FEW_ENTRIES: usize = 4_096;
 
 /// So many bytes of strings come before any entry is let go, where the entries are few.
-const FEW_BYTES: usize = 16 * 1_048_576;
+const FEW_BYTES: usize = 8 * 1_048_576;
 
 /// What the greatest number of threads may have pledged, and a step may need, with room to spare.
 const NEAR_THE_LIMIT: usize = 16_384;
 
-/// When entries are let go: where as many are held as were left the last time, and as many again; where 16 MiB of strings came since;
+/// When entries are let go: where as many are held as were left the last time, and as many again; where 8 MiB of strings came since;
 /// or near the limit, where many more may be let go than before.
 #[derive(Drop)]
 pub(crate) struct Upkeep {

@@ -259,39 +259,38 @@ def paths():
         return "in use, stale, replaced, no socket, no folder, a file as folder, too long, empty"
 
 
+def as_nobody(folder):
+    """What a start by the user nobody says who is to listen in this folder, which it may enter; None where it cannot be tried."""
+    if os.getuid() != 0 or not shutil.which("setpriv"):
+        return None
+    place = f"{folder}/l4d"
+    shutil.copy(PROGRAM, place)
+    os.chmod(place, 0o755)
+    told = subprocess.run(["setpriv", "--reuid=65534", "--regid=65534", "--clear-groups", place, "--dir", folder, "--spaces", "1"],
+                          capture_output=True, text=True, timeout=20)
+    assert told.returncode == 1 and f"cannot listen on {folder}/space1\n" in told.stderr, told
+    return told.stderr.strip().replace("\n", ";")
+
+
 def denied():
     """A folder where this user may make nothing."""
-    if os.getuid() != 0 or not shutil.which("setpriv"):
-        return "left out: root and setpriv are wanted"
     with tempfile.TemporaryDirectory() as folder:
         os.chmod(folder, 0o755)
-        place = f"{folder}/l4d"
-        shutil.copy(PROGRAM, place)
-        os.chmod(place, 0o755)
-        told = subprocess.run(["setpriv", "--reuid=65534", "--regid=65534", "--clear-groups", place, "--dir", folder, "--spaces", "1"],
-                              capture_output=True, text=True, timeout=20)
-        assert told.returncode == 1 and f"cannot listen on {folder}/space1\n  denied: " in told.stderr, told
-        return told.stderr.strip().replace("\n", ";")
+        told = as_nobody(folder)
+        assert told is None or ";  denied: " in told, told
+        return told or "left out: root and setpriv are wanted"
 
 
 def guarded():
     """A path where another user's server answers: this user may not connect to it."""
-    if os.getuid() != 0 or not shutil.which("setpriv"):
-        return "left out: root and setpriv are wanted"
-    with tempfile.TemporaryDirectory() as folder:
+    with tempfile.TemporaryDirectory() as folder, socket.socket(socket.AF_UNIX) as line:
         os.chmod(folder, 0o777)
-        place = f"{folder}/l4d"
-        shutil.copy(PROGRAM, place)
-        os.chmod(place, 0o755)
-        line = socket.socket(socket.AF_UNIX)
         line.bind(f"{folder}/space1")
         os.chmod(f"{folder}/space1", 0o600)
         line.listen()
-        told = subprocess.run(["setpriv", "--reuid=65534", "--regid=65534", "--clear-groups", place, "--dir", folder, "--spaces", "1"],
-                              capture_output=True, text=True, timeout=20)
-        line.close()
-        assert told.returncode == 1 and "  a socket stands there to which this user may not connect" in told.stderr, told
-        return told.stderr.strip().replace("\n", ";")
+        told = as_nobody(folder)
+        assert told is None or ";  a socket stands there to which this user may not connect" in told, told
+        return told or "left out: root and setpriv are wanted"
 
 
 def words():

@@ -18,7 +18,7 @@ pub use counts::Counts;
 pub use guests::{Guests, is_overdue};
 pub use limit::{SPARE, descriptors, room};
 pub use obstacle::{Obstacle, obstacle_at};
-pub use signals::{are_blocked, have_come};
+pub use signals::{have_come, may_be_blocked};
 pub use status::{ProcessStatus, field, resident};
 pub use told::ToldStream;
 pub use watch::{FrameWatch, Told};

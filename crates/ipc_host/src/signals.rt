@@ -7,25 +7,20 @@ use std::alloc::Global;
 /// SIGINT (2) and SIGTERM (15) in a mask of signals, where bit 0 stands for signal 1.
 const ENDING: u64 = (1 << 1) | (1 << 14);
 
-/// Whether SIGINT or SIGTERM is blocked: one that is not ends the process by itself.
-pub fn are_blocked(status: &ProcessStatus, alloc: Global) -> bool {
-    mask(status, alloc, "SigBlk:") & ENDING != 0
+/// Whether SIGINT or SIGTERM may be blocked: one that is not ends the process by itself. Where it cannot be read, both may be.
+pub fn may_be_blocked(status: &ProcessStatus, alloc: Global) -> bool {
+    mask(status, alloc, "SigBlk:").map_or(true, |blocked| blocked & ENDING != 0)
 }
 
 /// Whether SIGINT or SIGTERM has come while it was blocked.
 pub fn have_come(status: &ProcessStatus, alloc: Global) -> bool {
-    let whole_process = mask(status, alloc, "ShdPnd:");
-    let first_thread = mask(status, alloc, "SigPnd:");
+    let whole_process = mask(status, alloc, "ShdPnd:").unwrap_or(0);
+    let first_thread = mask(status, alloc, "SigPnd:").unwrap_or(0);
     (whole_process | first_thread) & ENDING != 0
 }
 
-/// A mask of signals, 0 where it cannot be read.
-fn mask(status: &ProcessStatus, alloc: Global, name: &str) -> u64 {
-    let Some(text) = status.text(alloc) else {
-        return 0;
-    };
-    match field(text.as_str(), name) {
-        Some(text) => u64::from_str_radix(text, 16).unwrap_or(0),
-        None => 0,
-    }
+/// A mask of signals, where it can be read.
+fn mask(status: &ProcessStatus, alloc: Global, name: &str) -> Option<u64> {
+    let text = status.text(alloc)?;
+    u64::from_str_radix(field(text.as_str(), name)?, 16).ok()
 }

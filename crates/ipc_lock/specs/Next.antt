@@ -1,5 +1,7 @@
 -- What a box's writer is given to write, and what becomes of its seat.
-use Rattle.std.specs.Prelude.{◌≡◌, ◌+◌, Option, Some, None, Bool, true, ⊤}
+use Rattle.std.specs.Prelude.{◌≡◌, ◌+◌, ℕ, List, Option, Some, None, Bool, true, false, ⊤}
+use Rattle.ipc_history.specs.Threads.{is_live}
+use Rattle.ipc_history.specs.declared.entry.Entry.{Entry}
 use Rattle.ipc_core.specs.KernelParts.{KernelParts}
 use Rattle.ipc_core.specs.Effects.{Gives}
 use Rattle.ipc_lock.specs.Seats.{TakesNothing}
@@ -56,3 +58,8 @@ ComesOut (Some box) (Some next.Gone) = (box.posted ≡ None) × (box.shut ≡ tr
 ComesOut None (Some (next.Posted posted)) = ⊥
 ComesOut None (Some next.Gone) = ⊥
 ComesOut box given = ⊤
+
+-- a writer whose thread has ended owns no number: it may be that of a live thread by now
+abbrev pub KeepsOwners : {T : Type 0} → List Entry → Option (TakeSeat T) → List (Option ℕ) → List (Option ℕ) → Type 0
+KeepsOwners H (Some seat) old new = is_live H seat.thread ≡ false → new ≡ old
+KeepsOwners H None old new = new ≡ old

@@ -1,10 +1,11 @@
 //! What stands under the lock: the kernel with its books, and the post boxes.
 ghost use Rattle.std.specs.Prelude.{◌≡◌, ◌+◌, ◌*◌, ◌≤◌, IfSome, IfNone, IfErr, Some, length, slice_get};
 ghost use Rattle.ipc_core.specs.Effects.{Gives};
+ghost use Rattle.ipc_core.specs.Outcomes.{made_by};
 ghost use Rattle.ipc_history.specs.Paired.{Paired};
 ghost use Rattle.ipc_history.specs.Threads.{is_live};
 ghost use Rattle.ipc_lock.specs.Acting.{ActsOn, AnswersStep, MayLetGo};
-ghost use Rattle.ipc_lock.specs.Next.{ComesOut, LooksFirst, MayGiveNext};
+ghost use Rattle.ipc_lock.specs.Next.{ComesOut, KeepsOwners, LooksFirst, MayGiveNext};
 ghost use Rattle.ipc_lock.specs.Seats.{TakesNothing};
 ghost use Rattle.ipc_words.specs.Limits.{max_command_entries};
 
@@ -161,6 +162,8 @@ impl<C: Ledger, T: Ledger> Inside<C, T> {
         ensures nothing { IfNone result (TakesNothing self.old.locked.kernel self.new.locked.kernel
             seat.old.thread seat.old.taken) }
         ensures boxes { self.new.boxes ≡ self.old.boxes }
+        ensures owners { self.new.owners ≡ self.old.owners }
+        ensures numbered { IfSome result (λ taken. made_by self.old.locked.kernel.history seat.old.thread ≡ taken.amount) }
         ensures thread { seat.new.thread ≡ seat.old.thread }
         ensures named { IfSome result (λ taken. (taken.thread ≡ seat.old.thread) × (taken.amount ≡ seat.new.taken)) }
         ensures taken { IfSome result (λ _. seat.new.taken ≡ seat.old.taken + 1) }
@@ -181,9 +184,15 @@ impl<C: Ledger, T: Ledger> Inside<C, T> {
         ensures seat { MayGiveNext seat.old result seat.new }
         ensures first { LooksFirst self.old.locked.kernel self.new.locked.kernel seat.old result }
         ensures out { ComesOut (slice_get self.old.boxes.items place) result }
+        ensures owners { KeepsOwners self.old.locked.kernel.history seat.old
+            self.old.owners.items self.new.owners.items }
     {
         if let Some(seat) = seat {
-            self.own(seat.thread().number(), place);
+            let thread = seat.thread();
+            // once a thread has ended its number may be another's, while its writer still ends
+            if self.locked.is_live(thread) {
+                self.own(thread.number(), place);
+            }
             if let Some(taken) = self.take_for(seat) {
                 return Some(Next::Outcome(taken));
             }

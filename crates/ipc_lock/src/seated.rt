@@ -235,6 +235,7 @@ impl<C: Ledger, T: Ledger> Locked<C, T> {
         ensures some { IfSome result (λ taken. Gives self.old.kernel self.new.kernel seat.old.thread (Some taken.outcome)) }
         ensures named { IfSome result (λ taken. (taken.thread ≡ seat.old.thread) × (taken.amount ≡ seat.new.taken)) }
         ensures counted { IfSome result (λ _. seat.old.taken ≡ taken_by self.old.kernel seat.old.thread) }
+        ensures numbered { IfSome result (λ taken. made_by self.old.kernel.history seat.old.thread ≡ taken.amount) }
         ensures taken { IfSome result (λ _. seat.new.taken ≡ seat.old.taken + 1) }
         ensures book { IfSome result (λ _. self.new.takes.total ≡ self.old.takes.total + 1) }
         ensures thread { seat.new.thread ≡ seat.old.thread }
@@ -251,6 +252,8 @@ impl<C: Ledger, T: Ledger> Locked<C, T> {
         if kernel.taken(*thread) != *taken {
             return None;
         }
+        // all calls of a live thread but its last were taken
+        let _ = kernel.history();
         let outcome = kernel.take(*thread)?;
         // a count of outcomes fits
         let _ = kernel.takes();

@@ -1,6 +1,6 @@
 //! What the workers of a server share beside the kernel.
 use crate::paths::Listener;
-use ipc_host::{Guests, ProcessStatus, are_blocked, have_come, resident};
+use ipc_host::{Guests, ProcessStatus, have_come, may_be_blocked, resident};
 use std::alloc::Global;
 use std::rt::Clock;
 use std::sync::Wait;
@@ -32,10 +32,10 @@ impl Host {
         }
     }
 
-    /// Whether SIGINT and SIGTERM were blocked where the program was started, so that they end the service.
+    /// Whether SIGINT and SIGTERM may have been blocked where the program was started, so that they end the service.
     pub(crate) fn has_blocked_signals(&self, alloc: Global) -> bool {
         match &self.signals {
-            Some(status) => are_blocked(status, alloc),
+            Some(status) => may_be_blocked(status, alloc),
             None => false,
         }
     }

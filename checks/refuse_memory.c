@@ -6,6 +6,8 @@
 #include <stddef.h>
 #include <stdio.h>
 #include <stdlib.h>
+#include <sys/syscall.h>
+#include <unistd.h>
 
 static long count, refused = -1;
 static void *(*next_malloc)(size_t);
@@ -20,8 +22,7 @@ static int is_refused(void) {
             refused = atol(at);
         }
     }
-    count++;
-    if (count == refused) {
+    if (__atomic_add_fetch(&count, 1, __ATOMIC_SEQ_CST) == refused) {
         errno = ENOMEM;
         return 1;
     }
@@ -38,9 +39,16 @@ void *realloc(void *old, size_t size) {
 
 __attribute__((destructor)) static void tell(void) {
     const char *path = getenv("COUNT_TO");
-    FILE *file = path ? fopen(path, "w") : NULL;
+    FILE *file = path && *path ? fopen(path, "w") : NULL;
     if (file) {
         fprintf(file, "%ld\n", count);
         fclose(file);
     }
+}
+
+/* A program that ends at once ends without destructors. */
+void _exit(int status) {
+    tell();
+    syscall(SYS_exit_group, status);
+    __builtin_unreachable();
 }

@@ -1,0 +1,195 @@
+#!/usr/bin/env python3
+"""Lets each read, write and open of l4sh and of l4d's trace fail in turn, and looks at what comes of it.
+
+    checks/failing_devices.py L4SH [L4D] [--every N]
+
+The commands read what lies in the tree: `run` the scripts of checks/scripts/run and of examples/, `wire` those of
+checks/scripts/wire, and `check`, `state`, `script` and `chart` the traces of the examples. With --every N only each N-th script
+is taken.
+
+- Where read, write or open number k fails, the status is 1, standard error says `l4sh: device failed`, of an open with the file
+  and the reason in a second line, and what was printed is a front of the usual output. No verdict or answer is printed that is
+  not the usual one.
+- A write that takes nothing counts as failed.
+- Where each call moves one byte, and where 999 calls in a row are interrupted, all is as usual. 1,000 count as a failed device.
+
+For the trace of `l4d` the same is so of its writes and of its open: `l4d: trace TR1` is told once, the server serves on and ends
+with status 1, and what stands in the file is a front of a legal history. Where l4d cannot write to standard output it ends with
+`l4d: device failed`, or `l4d: probe failed` where the line of the probe is lost. Anything else is told, and the status is then 1.
+It needs a C compiler (cc). The last line is `N runs, M failed`.
+"""
+
+import errno
+import glob
+import os
+import subprocess
+import sys
+import tempfile
+
+ROOT = os.path.dirname(os.path.dirname(os.path.abspath(__file__)))
+FAILED = b"l4sh: device failed\n"
+TORN = b"l4d: trace TR1\n"
+# So many interrupted calls in a row count as a failed device.
+MANY = 1000
+# So many places of a long run are tried, at its begin and at its end each.
+PLACES = 24
+SECONDS = 120
+
+
+class Shim:
+    """The library that lets calls fail, built in a room of its own."""
+
+    def __init__(self, room):
+        self.room, self.path = room, f"{room}/failing_calls.so"
+        subprocess.run(["cc", "-shared", "-fPIC", "-O1", "-o", self.path, f"{ROOT}/checks/failing_calls.c", "-ldl"], check=True)
+
+    def run(self, words, given=b"", **wishes):
+        """Status, standard output and standard error of a run with calls that fail as `wishes` says."""
+        env = {**os.environ, "LD_PRELOAD": self.path, **{name.upper(): str(value) for name, value in wishes.items()}}
+        ran = subprocess.run(words, input=given, capture_output=True, env=env, check=False, timeout=SECONDS)
+        return ran.returncode, ran.stdout, ran.stderr
+
+    def count(self, words, given, **wishes):
+        """How many calls of a kind the run makes."""
+        self.run(words, given, count_to=f"{self.room}/count", **wishes)
+        with open(f"{self.room}/count", encoding="ascii") as file:
+            return int(file.read())
+
+
+def places(count):
+    """All places of a run of so many calls, or the first and the last ones."""
+    return range(1, count + 1) if count <= 2 * PLACES else [*range(1, PLACES + 1), *range(count - PLACES + 1, count + 1)]
+
+
+def is_as_failed(ran, usual, command, path=None):
+    """What is wrong with a run whose device failed."""
+    status, out, told = ran
+    lines = told.splitlines(keepends=True)
+    if status != 1 or lines[:1] != [FAILED]:
+        return f"status {status}, {told[:100]!r}"
+    if len(lines) != (2 if path else 1) or path and path.encode() not in lines[1]:
+        return f"standard error says {told[:200]!r}"
+    if not usual[1].startswith(out):
+        return "what is printed is no front of the usual output"
+    return None
+
+
+def wrongs_of(shim, words, given, path=None):
+    """What was tried of one command, and what is wrong with it."""
+    usual = shim.run(words, given)
+    command = words[1]
+    for kind in ("read", "write", "open"):
+        count = shim.count(words, given, fail_kind=kind)
+        opens_file = lambda place: path if kind == "open" else None
+        for place in places(count):
+            for number in (errno.EIO,) if kind != "write" else (errno.EIO, errno.ENOSPC, 0):
+                ran = shim.run(words, given, fail_kind=kind, fail_at=place, fail_errno=number)
+                yield f"{kind} {place} of {count} fails with {number}", is_as_failed(ran, usual, command, opens_file(place))
+        if kind == "open":
+            continue
+        for place in sorted({1, (count + 1) // 2, count} - {0}):
+            ran = shim.run(words, given, fail_kind=kind, fail_at=place, fail_errno=errno.EINTR, fail_times=MANY - 1)
+            yield f"{kind} {place} of {count} is interrupted {MANY - 1} times", None if ran == usual else f"it is not as usual: {ran}"
+            ran = shim.run(words, given, fail_kind=kind, fail_at=place, fail_errno=errno.EINTR, fail_times=MANY)
+            yield f"{kind} {place} of {count} is interrupted {MANY} times", is_as_failed(ran, usual, command)
+        ran = shim.run(words, given, fail_kind=kind, one_byte=1)
+        yield f"each {kind} moves one byte", None if ran == usual else f"it is not as usual: {ran}"
+
+
+def is_front_of_legal(l4sh, file):
+    """What is wrong with the trace in a file, which may end inside a line."""
+    if not os.path.exists(file):
+        return None
+    ran = subprocess.run([l4sh, "check", file], capture_output=True, check=False, timeout=SECONDS)
+    return None if (ran.returncode, ran.stderr) == (0, b"") and ran.stdout.startswith(b"yes\n") else f"the trace: {ran}"
+
+
+def trace_wrongs(shim, l4sh, l4d):
+    """What was tried of the trace and of the standard output of a server whose own client sends one message."""
+
+    def serve(trace=True, **wishes):
+        with tempfile.TemporaryDirectory() as folder:
+            words = [l4d, "--dir", folder, "--spaces", "1", "--connections", "2", "--probe"]
+            ran = shim.run(words + (["--trace", f"{folder}/trace"] if trace else []), **wishes)
+            wrong = is_front_of_legal(l4sh, f"{folder}/trace")
+            size = os.path.getsize(f"{folder}/trace") if os.path.exists(f"{folder}/trace") else 0
+            left = os.path.exists(f"{folder}/space1")
+        return ran, wrong or ("the path is left" if left else None), size
+
+    good = (0, b"listening 1\nprobe 0x7\nclosed\n", b"")
+    ran, wrong, whole = serve()
+    yield "nothing fails", wrong or (None if ran == good and whole else f"{ran}, a trace of {whole} bytes")
+
+    def is_told(ran, wrong):
+        status, out, told = ran
+        is_so = (status, out) == (1, good[1]) and told.startswith(TORN) and told.count(b"TR1") == 1
+        return wrong or (None if is_so else f"{ran}")
+
+    on = {"fail_kind": "write", "fail_on": "file"}
+    # how many writes come depends on the moments at which the trace's worker looks; one write comes at least
+    for number in (errno.EIO, errno.ENOSPC, 0):
+        for place in (1, 2, 3):
+            ran, wrong, size = serve(fail_at=place, fail_errno=number, **on)
+            # where so many writes did not come the trace is whole
+            yield f"write {place} of the trace fails with {number}", wrong if place > 1 and ran == good else is_told(ran, wrong)
+    ran, wrong, size = serve(one_byte=1, **on)
+    yield "each write of the trace moves one byte", wrong or (None if ran == good and size else f"{ran}")
+    # between the trace and its file is a buffer of std, which tries again however often it is interrupted
+    for times in (MANY - 1, 2 * MANY):
+        ran, wrong, size = serve(fail_at=1, fail_errno=errno.EINTR, fail_times=times, **on)
+        yield f"a write of the trace is interrupted {times} times", wrong or (None if ran == good and size else f"{ran}")
+    for place in (1, 2, 3):
+        (status, out, told), wrong, size = serve(trace=False, fail_kind="write", fail_on=1, fail_at=place)
+        # the second line is that of the probe
+        said = b"l4d: probe failed\n" if place == 2 else b"l4d: device failed\n"
+        is_so = (status, told) == (1, said) and good[1].startswith(out)
+        yield f"line {place} of standard output fails", wrong or (None if is_so else f"{status}, {out}, {told}")
+
+
+def commands(l4sh, every, room):
+    """The name of each command that is looked at, its words, what it reads, and the file that it opens."""
+    examples = sorted(glob.glob(f"{ROOT}/examples/*.l4"))
+    scripts = [(path, "run") for path in examples + sorted(glob.glob(f"{ROOT}/checks/scripts/run/*.in"))]
+    scripts += [(path, "wire") for path in sorted(glob.glob(f"{ROOT}/checks/scripts/wire/*.in"))]
+    for path, command in scripts[::every]:
+        with open(path, "rb") as file:
+            text = file.read()
+        # (a stored run of one byte stands for many, and a mistake has an end of its own)
+        if b"{" not in text and not os.path.exists(f"{path[:-3]}.end"):
+            yield f"{command} {os.path.relpath(path, ROOT)}", [l4sh, command], text, None
+    for path in examples[:: max(1, every // 4)]:
+        with open(path, "rb") as file:
+            printed = subprocess.run([l4sh, "run"], stdin=file, capture_output=True, check=True).stdout
+        trace = f"{room}/{os.path.basename(path)}.trace"
+        with open(trace, "wb") as file:
+            file.write(b"".join(line for line in printed.splitlines(keepends=True) if not line.startswith((b"=", b"!"))))
+        for command in ("check", "state", "script", "chart"):
+            yield f"{command} of {os.path.basename(path)}", [l4sh, command, trace], b"", trace
+
+
+def main(words):
+    every = 1
+    if "--every" in words:
+        at = words.index("--every")
+        every = int(words[at + 1])
+        del words[at : at + 2]
+    if len(words) not in (1, 2):
+        sys.exit(__doc__)
+    l4sh, *others = (os.path.abspath(word) for word in words)
+    runs = failed = 0
+    with tempfile.TemporaryDirectory() as room:
+        shim = Shim(room)
+        looks = [(name, wrongs_of(shim, *more)) for name, *more in commands(l4sh, every, room)]
+        looks += [("l4d", trace_wrongs(shim, l4sh, l4d)) for l4d in others]
+        for name, tried in looks:
+            for what, wrong in tried:
+                runs += 1
+                if wrong:
+                    failed += 1
+                    print(f"{name}: {what}: {wrong}"[:500], flush=True)
+    print(f"{runs} runs, {failed} failed")
+    return 1 if failed or not runs else 0
+
+
+if __name__ == "__main__":
+    sys.exit(main(sys.argv[1:]))

@@ -27,7 +27,7 @@ from serving import Client, Server, pair_works
 
 BIG = 1 << 20
 # How long each slice of round trips is, how many there are of each kind, and how long one round trip may take, in seconds.
-SLICE, SLICES, STANDSTILL = 0.5, 5, 10
+SLICE, SLICES, STANDSTILL = 0.5, 5, 60
 # How many times slower the middle round trip may be beside those who do nothing: a machine that does other work is a reason, too.
 SLOWER = 3
 # How much memory the server may have more at the end, in KiB: stacks and buffers that the allocator keeps are among it.
@@ -87,7 +87,7 @@ class Silent:
     def __init__(self, path):
         self.clients = []
         for number in range(STOPPED):
-            client = Client(path, 40 + number if number % 3 else None)
+            client = Client(path, 40 + number if number % 3 else None, STANDSTILL)
             client.line.sendall(ipc(0, ANY, [1, 2, 3])[: 5 + number % 60] if number % 3 < 2 else ipc(0, ANY, timeouts=0x400))
             self.clients.append(client)
 
@@ -102,7 +102,7 @@ class NeverRead:
     def __init__(self, path):
         self.clients, self.sent = [], 0
         for number in range(READERS):
-            reader, sender = Client(path, 40 + number), Client(path, 80 + number)
+            reader, sender = Client(path, 40 + number, STANDSTILL), Client(path, 80 + number, STANDSTILL)
             wait = ipc(0, sender.thread, buffers=(BIG << 10, 0))
             # the second receive stands behind the first one's outcome, which nobody reads: it may be K7, and the reader ends
             reader.line.sendall(wait)
@@ -207,7 +207,7 @@ def counted(pid):
 
 def keeps_nothing(server, before):
     """Threads and files are as before in the end, and memory within its bound."""
-    limit = time.monotonic() + 30
+    limit = time.monotonic() + STANDSTILL
     while counted(server.process.pid)[:2] != before[:2] and time.monotonic() < limit:
         time.sleep(0.1)
     after = counted(server.process.pid)
@@ -227,7 +227,7 @@ def few_descriptors(l4d):
             files = counted(server.process.pid)[1]
         finally:
             floods.kill()
-        new = Client(server.path, 3, 30)
+        new = Client(server.path, 3, STANDSTILL)
         pair_works((pair.clients[0], new))
         assert files <= DESCRIPTORS and len(times) > 4 and max(times) < STANDSTILL, (files, len(times), max(times))
         return f"{len(times)} round trips, the longest {1000 * max(times):.0f} ms, {files} files; a new client is served"

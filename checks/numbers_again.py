@@ -25,7 +25,7 @@ from frames import ANY, BYE, hello, ipc
 from serving import REFUSED, WELCOME, Client, Server
 
 # How many workers there are, how many rounds of each in the gate, and how long anything may take, in seconds.
-WORKERS, ROUNDS, SECONDS = 6, 400, 30
+WORKERS, ROUNDS, SECONDS = 6, 400, 120
 ECHO = 1
 BIG = 1 << 20
 

@@ -1,17 +1,21 @@
 #!/usr/bin/env python3
 """Runs the built l4sh over scripts with each of its growths of memory refused in turn, and looks at what comes of it.
 
-    checks/refuse_memory.py examples/*.l4
+    checks/refuse_memory.py [--every N] [SCRIPT..]
 
+Without a script it takes those of checks/scripts/run and of examples/. With --every N it refuses each N-th growth, of each script others.
 With one growth refused, a run may
 - print the same, where the program can do without;
 - end with `l4sh: no memory` and status 1, and what it printed is then a front of what it prints otherwise;
 - refuse one command with `! K4`: it prints no entry for that command, and all else is as if the command were not in the script.
 Anything else is told, and the status is then 1. It needs a C compiler (cc), and builds l4sh first by running it."""
+import glob
 import os
 import subprocess
 import sys
 import tempfile
+
+from scripts import stored
 
 ROOT = os.path.dirname(os.path.dirname(os.path.abspath(__file__)))
 PROGRAM = f"{ROOT}/crates/ipc_shell/out/ipc_shell"
@@ -53,21 +57,44 @@ def what_is_wrong(script, shim, usual, refused):
     return "refused", None if is_as_without else "it is not as without the command"
 
 
-def refuse_each(word, paths, kinds_of_runs, what_is_wrong):
+def scripts_of(word, words):
+    """The scripts that are asked for, or all of the tree that end well and take no further words; and each how many growths is refused."""
+    every = 1
+    if "--every" in words:
+        at = words.index("--every")
+        every = int(words[at + 1])
+        del words[at : at + 2]
+    examples = sorted(glob.glob(f"{ROOT}/examples/*.l4")) if word == "run" else []
+    found = examples + sorted(glob.glob(f"{ROOT}/checks/scripts/{word}/*.in"))
+    good = [path for path in found if not any(os.path.exists(f"{path[:-3]}.{it}") for it in ("end", "args"))]
+    return words or good, every
+
+
+def built_shim(room):
+    """The library that refuses growths, built."""
+    shim = f"{room}/refuse_memory.so"
+    subprocess.run(["cc", "-shared", "-fPIC", "-O1", "-o", shim, f"{ROOT}/checks/refuse_memory.c", "-ldl"], check=True)
+    return shim
+
+
+def growths_of(script, shim, room, word):
+    """What a run does with no growth refused, and how many growths it has."""
+    usual = run(script, shim, count_to=f"{room}/count", word=word)
+    with open(f"{room}/count", encoding="ascii") as file:
+        return usual, int(file.read())
+
+
+def refuse_each(word, paths, every, kinds_of_runs, what_is_wrong):
     """Runs each script with each of its growths refused in turn, tells what came of it, and answers the status of the check."""
     subprocess.run([f"{ROOT}/l4sh", word], stdin=subprocess.DEVNULL, check=True)
     faults = runs = 0
     with tempfile.TemporaryDirectory() as room:
-        shim = f"{room}/refuse_memory.so"
-        subprocess.run(["cc", "-shared", "-fPIC", "-O1", "-o", shim, f"{ROOT}/checks/refuse_memory.c", "-ldl"], check=True)
-        for path in paths:
-            with open(path, "rb") as file:
-                script = file.read()
-            usual = run(script, shim, count_to=f"{room}/count", word=word)
-            with open(f"{room}/count", encoding="ascii") as file:
-                growths = int(file.read())
+        shim = built_shim(room)
+        for number, path in enumerate(paths):
+            script = stored(path)
+            usual, growths = growths_of(script, shim, room, word)
             kinds = dict.fromkeys(kinds_of_runs, 0)
-            for refused in range(1, growths + 1):
+            for refused in range(1 + number % every, growths + 1, every):
                 kind, fault = what_is_wrong(script, shim, usual, refused)
                 kinds[kind] += 1
                 runs += 1
@@ -75,9 +102,10 @@ def refuse_each(word, paths, kinds_of_runs, what_is_wrong):
                     faults += 1
                     print(f"{path}: growth {refused}: {fault}")
             told = ", ".join(f"{count} {kind}" for kind, count in kinds.items())
-            print(f"{path}: {growths} growths: {told}")
+            print(f"{os.path.relpath(path, ROOT)}: {growths} growths: {told}")
+    print(f"{len(paths)} scripts, {runs} runs, {faults} wrong")
     return 1 if faults or not runs else 0
 
 
 if __name__ == "__main__":
-    sys.exit(refuse_each("run", sys.argv[1:], ("same", "ended", "refused", "wrong"), what_is_wrong))
+    sys.exit(refuse_each("run", *scripts_of("run", sys.argv[1:]), ("same", "ended", "refused", "wrong"), what_is_wrong))

@@ -34,7 +34,7 @@ from frames import ANY, BYE, exreg, frame, hello, ipc
 ROOT = os.path.dirname(os.path.dirname(os.path.abspath(__file__)))
 PAIRS = 5
 # How long a client waits for an answer, and a run for the end of its server, in seconds.
-SECONDS = 30
+SECONDS = 120
 REFUSED_K4, FAULT_F14 = frame(0x84, b"\x04"), frame(0x85, b"F\x0e")
 # The codes of a call whose partner is gone: by the low four bits.
 GONE = (0x4, 0x5, 0xE, 0xF)
@@ -157,8 +157,11 @@ class Pair:
         limit = time.monotonic() + SECONDS
         stood = frame(0x83, struct.pack(">QQQ", two.thread, 2, 0))
         early = frame(0x83, struct.pack(">QQQ", two.thread, 0, 0))
+        gone = frame(0x83, struct.pack(">QQQ", 0, 0, 2))
         while time.monotonic() < limit:
-            got = self.step(one, exreg(two.thread, 2), {one: (stood, early)}, {two: ipcr(error=7)})
+            got = self.step(one, exreg(two.thread, 2), {one: (stood, early, gone)}, {two: ipcr(error=7)})
+            if got[one] == gone:
+                raise Over(two)
             if got[one] == stood:
                 if two not in got:
                     self.step(None, b"", {two: ipcr(error=7)})
@@ -239,7 +242,8 @@ class Pair:
                 got = side.whole()
                 if got is None and select.select([side.line], [], [], 1)[0]:
                     side.read()
-                elif got is not None and got[4] == 0x82 and error_of(got) is not None and error_of(got) & 0xF not in GONE:
+                elif got is not None and error_of(got) is not None and error_of(got) & 0xF not in (*GONE, 7):
+                    # (7: the one that ended had stopped it before)
                     raise Wrong(f"{side.number} was told {got.hex()[:120]}")
             if side.is_calling and not side.has_ended:
                 raise Wrong(f"{side.number} is not told that {ended.number} is gone: {side.last.hex()[:120]}, {ended.last.hex()[:120]}")

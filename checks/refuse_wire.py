@@ -1,21 +1,25 @@
 #!/usr/bin/env python3
 """Runs the built l4sh wire over scripts with each of its growths of memory refused in turn, and looks at what comes of it.
 
-    checks/refuse_wire.py SCRIPT..
+    checks/refuse_wire.py [--every N] [SCRIPT..]
 
+Without a script it takes those of checks/scripts/wire. With --every N it refuses each N-th growth, of each script others.
 With one growth refused, a run may
 - print the same, where the program can do without;
 - end with `l4sh: no memory` and status 1, and what it printed is then a front of what it prints otherwise;
 - refuse a connection with `! F14`, which then uses up no number;
 - put out REFUSED K4 in an answer's place: what was printed before is as otherwise;
 - put out FAULT F14 as the last frame of a connection, which ends by that command; what was printed before is as otherwise.
-Behind one of the last three the dialogue is another one, so it is looked at for whole frames and nothing more. Anything else is told, and
-the status is then 1. It needs a C compiler (cc), and builds l4sh first by running it."""
+Behind one of the last three the dialogue is another one, so it is looked at for whole frames and nothing more. But an IPC behind a HELLO that
+was refused is FAULT S1, which a dialogue of its own shows for each of its growths. Anything else is told, and the status is then 1. It needs a C compiler (cc), and builds l4sh first by running it."""
+import subprocess
 import sys
+import tempfile
 
-from refuse_memory import refuse_each, run
+from frames import hello, ipc
+from refuse_memory import ROOT, built_shim, growths_of, refuse_each, run, scripts_of
 
-REFUSED_K4, FAULT_F14 = bytes.fromhex("000000028404"), bytes.fromhex("0000000385460e")
+REFUSED_K4, FAULT_F14, FAULT_S1 = bytes.fromhex("000000028404"), bytes.fromhex("0000000385460e"), bytes.fromhex("00000003855301")
 
 
 def frames(text):
@@ -62,6 +66,28 @@ def what_is_wrong(script, shim, usual, refused):
     return (kind, None) if kind else ("wrong", f"line {place + 1}: {lines[place][:80]}")
 
 
+def behind_a_refused_hello():
+    """Whether an IPC behind a HELLO that was refused K4 is FAULT S1; tells how often, and answers the status."""
+    script = f"connect 1\nfeed 1 {hello(1).hex()}\nfeed 1 {ipc(2 << 32 | 1, 0, [7]).hex()}\n".encode()
+    wanted = ["= 1", f"out 1 {REFUSED_K4.hex()}", f"out 1 {FAULT_S1.hex()}", "ended 1"]
+    refused = faults = 0
+    subprocess.run([f"{ROOT}/l4sh", "wire"], stdin=subprocess.DEVNULL, check=True)
+    with tempfile.TemporaryDirectory() as room:
+        shim = built_shim(room)
+        _, growths = growths_of(script, shim, room, "wire")
+        for growth in range(1, growths + 1):
+            status, output, told = run(script, shim, growth, word="wire")
+            lines = output.decode().splitlines()
+            if lines[1:2] == wanted[1:2]:
+                refused += 1
+                if (status, lines, told) != (0, wanted, b""):
+                    faults += 1
+                    print(f"an IPC behind a refused HELLO, growth {growth}: status {status}, {lines}, {told}")
+    print(f"an IPC behind a HELLO that was refused K4: {refused} of {growths} growths refuse it, {faults} wrong")
+    return 1 if faults or not refused else 0
+
+
 if __name__ == "__main__":
     kinds = ("same", "ended", "no connection", "refused", "faults", "wrong")
-    sys.exit(refuse_each("wire", sys.argv[1:], kinds, what_is_wrong))
+    behind = behind_a_refused_hello()
+    sys.exit(refuse_each("wire", *scripts_of("wire", sys.argv[1:]), kinds, what_is_wrong) or behind)

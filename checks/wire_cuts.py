@@ -1,8 +1,9 @@
 #!/usr/bin/env python3
 """Runs the built l4sh wire over scripts whose pieces of bytes are cut otherwise, and looks at what comes of it.
 
-    checks/wire_cuts.py SCRIPT..
+    checks/wire_cuts.py [--every N] [SCRIPT..]
 
+Without a script it takes those of checks/scripts/wire. With --every N it takes each N-th place of a cut in two, of each script others.
 Each `feed C HEXBYTES` is given again as pieces of one byte, of 7 bytes, and in two at each place, on its own and in all lines at once.
 The bytes that go out on each connection, the connections that end, in their order, and the answers of `connect` have to be the same.
 Scripts that end in a bad line are left out. It builds l4sh first by running it."""
@@ -10,6 +11,9 @@ import collections
 import os
 import subprocess
 import sys
+
+from refuse_memory import scripts_of
+from scripts import stored
 
 ROOT = os.path.dirname(os.path.dirname(os.path.abspath(__file__)))
 PROGRAM = f"{ROOT}/crates/ipc_shell/out/ipc_shell"
@@ -39,13 +43,13 @@ def pieces(line, size, first=None):
     return [f"{word} {connection} {part}" for part in parts]
 
 
-def cuts(lines):
-    """The same script, cut otherwise; each with a name."""
+def cuts(lines, begin, every):
+    """The same script, cut otherwise; each with a name. Of the cuts in two it takes each so many, from there on."""
     for size in (1, 7):
         yield f"pieces of {size}", [part for line in lines for part in (pieces(line, size) if is_feed(line) else [line])]
     for number, line in enumerate(lines):
         if is_feed(line):
-            for first in range(1, len(line.split(" ")[2]) // 2):
+            for first in range(1 + begin, len(line.split(" ")[2]) // 2, every):
                 yield f"line {number + 1} in two at {first}", lines[:number] + pieces(line, 0, first) + lines[number + 1 :]
 
 
@@ -53,15 +57,15 @@ def is_feed(line):
     return line.startswith("feed ")
 
 
-def main(scripts):
+def main(scripts, every):
     subprocess.run([f"{ROOT}/l4sh", "wire"], stdin=subprocess.DEVNULL, check=True)
     runs = failed = 0
-    for script in scripts:
-        lines = [line for line in open(script).read().split("\n") if line]
+    for number, script in enumerate(scripts):
+        lines = [line for line in stored(script).decode().split("\n") if line]
         want = run(lines)
         if want[0] != 0:
             continue
-        for name, cut in cuts(lines):
+        for name, cut in cuts(lines, number % every, every):
             runs += 1
             got = run(cut)
             if got != want:
@@ -72,4 +76,4 @@ def main(scripts):
 
 
 if __name__ == "__main__":
-    sys.exit(main(sys.argv[1:]))
+    sys.exit(main(*scripts_of("wire", sys.argv[1:])))

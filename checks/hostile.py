@@ -23,7 +23,7 @@ import time
 import traceback
 
 from frames import ANY, BYE, exreg, frame, hello, ipc
-from serving import Client, Server, pair_works
+from serving import Client, Server, opened, pair_works
 
 BIG = 1 << 20
 # How long each slice of round trips is, how many there are of each kind, and how long one round trip may take, in seconds.
@@ -40,7 +40,7 @@ class Pair:
     """Two clients whose round trips are measured."""
 
     def __init__(self, path):
-        self.clients = Client(path, 1, STANDSTILL), Client(path, 2, STANDSTILL)
+        self.clients = opened(path, 1), opened(path, 2)
 
     def slice(self):
         """The times of round trips for a while, in seconds."""
@@ -87,7 +87,7 @@ class Silent:
     def __init__(self, path):
         self.clients = []
         for number in range(STOPPED):
-            client = Client(path, 40 + number if number % 3 else None, STANDSTILL)
+            client = opened(path, 40 + number) if number % 3 else Client(path, seconds=STANDSTILL)
             client.line.sendall(ipc(0, ANY, [1, 2, 3])[: 5 + number % 60] if number % 3 < 2 else ipc(0, ANY, timeouts=0x400))
             self.clients.append(client)
 
@@ -102,7 +102,7 @@ class NeverRead:
     def __init__(self, path):
         self.clients, self.sent = [], 0
         for number in range(READERS):
-            reader, sender = Client(path, 40 + number, STANDSTILL), Client(path, 80 + number, STANDSTILL)
+            reader, sender = opened(path, 40 + number), opened(path, 80 + number)
             wait = ipc(0, sender.thread, buffers=(BIG << 10, 0))
             # the second receive stands behind the first one's outcome, which nobody reads: it may be K7, and the reader ends
             reader.line.sendall(wait)
@@ -227,7 +227,7 @@ def few_descriptors(l4d):
             files = counted(server.process.pid)[1]
         finally:
             floods.kill()
-        new = Client(server.path, 3, STANDSTILL)
+        new = opened(server.path, 3)
         pair_works((pair.clients[0], new))
         assert files <= DESCRIPTORS and len(times) > 4 and max(times) < STANDSTILL, (files, len(times), max(times))
         return f"{len(times)} round trips, the longest {1000 * max(times):.0f} ms, {files} files; a new client is served"

@@ -3,14 +3,14 @@
 
     checks/hostile_bytes.py L4D L4SH
 
-Each row has bytes of a client, what is answered, and behind how many of the bytes. Where a fault shows, it is told as soon as these
-bytes are there and not before, however they are cut. The connection ends with it. Of what comes behind it nothing is told, which is
-F13 to the one who asks the decoder again. `l4sh wire` gets each row whole, byte by byte and in pieces of 7, as the first bytes of a
-connection and behind a WELCOME. `l4d` gets it whole and byte by byte, with more bytes behind, beside a pair of clients whose
-messages have to go on.
+Each row has bytes of a client, what is answered, and behind how many of the bytes. Where a fault shows, it is told as soon as
+these bytes are there and not before, however they are cut. The connection ends with it. Of what comes behind it nothing is told,
+which is F13 to the one who asks the decoder again. `l4sh wire` gets each row whole, byte by byte and in pieces of 7, as the first
+bytes of a connection and behind a WELCOME. `l4d` gets it whole and byte by byte, with more bytes behind, beside a pair of clients
+whose messages have to go on.
 
-Then come frames that have no place (S1), also behind a HELLO that was refused, a call while one is open (K7), and each front of the
-frames of FORMATS, after which the input ends (F9). F10, F11 and F14 are of devices and of memory: `failing_devices.py`,
+Then come frames that have no place (S1), also behind a HELLO that was refused, a call while one is open (K7), and each front of
+the frames of FORMATS, after which the input ends (F9). F10, F11 and F14 are of devices and of memory: `failing_devices.py`,
 `refuse_wire.py` and `refuse_server.py` have them. The last line is `N rows, M failed`.
 """
 
@@ -19,10 +19,9 @@ import re
 import struct
 import subprocess
 import sys
-import time
 
 from frames import ANY, BYE, exreg, frame, hello, ipc
-from serving import Client, Server, pair_works
+from serving import Client, Server, opened, pair_works
 
 ROOT = os.path.dirname(os.path.dirname(os.path.abspath(__file__)))
 MOST = 2_097_152
@@ -198,18 +197,11 @@ class Service:
 
     def free_number(self, number):
         """Waits until a number is free again: its thread ends soon behind its connection."""
-        for _ in range(2000):
-            client = Client(self.server.path)
-            kind, _ = client.ask(hello(number))
-            if kind == 0x81:
-                return client.bye()
-            client.line.close()
-            time.sleep(0.005)
-        raise AssertionError(f"number {number} stays taken")
+        opened(self.server.path, number).bye()
 
     def fault(self, greets, data, wanted, by_byte):
         """What is wrong with a fault on a connection of its own, with more bytes behind it."""
-        client = Client(self.server.path, 9 if greets else None)
+        client = opened(self.server.path, 9) if greets else Client(self.server.path)
         try:
             for piece in ([data[n : n + 1] for n in range(len(data))] if by_byte else [data]) + [BEHIND]:
                 client.line.sendall(piece)
@@ -221,8 +213,6 @@ class Service:
         except TimeoutError:
             return "the connection does not end"
         client.line.close()
-        if greets:
-            self.free_number(9)
         return None if came == wanted else f"wanted {wanted.hex()}, came {came.hex()}"
 
 
@@ -289,13 +279,11 @@ def fronts_over_wire(l4sh):
 
 
 def front_over_sockets(service, data, cut, greets):
-    client = Client(service.server.path, 9 if greets else None)
+    client = opened(service.server.path, 9) if greets else Client(service.server.path)
     client.line.sendall(data[:cut])
     client.line.shutdown(1)
     came = client.to_the_end()
     client.line.close()
-    if greets:
-        service.free_number(9)
     wanted = fault(9) if cut else b""
     return None if came == wanted else f"over sockets: wanted {wanted.hex()}, came {came.hex()}"
 

@@ -21,8 +21,8 @@ import threading
 import time
 import traceback
 
-from frames import ANY, BYE, hello, ipc
-from serving import REFUSED, WELCOME, Client, Server
+from frames import ANY, BYE, ipc
+from serving import Client, Server, opened
 
 # How many workers there are, how many rounds of each in the gate, and how long anything may take, in seconds.
 WORKERS, ROUNDS, SECONDS = 6, 400, 120
@@ -48,20 +48,6 @@ class Echo(threading.Thread):
                 got = self.client.call(0, ANY) if got.has_failed else self.client.call(got.sender, ANY, [got.words[0] + 1], 0x400 << 16)
         except (EOFError, OSError):
             pass
-
-
-def opened(path, number, version):
-    """A thread of this number, whose version is later than that; K2 may be told meanwhile."""
-    limit = time.monotonic() + SECONDS
-    client = Client(path, seconds=SECONDS)
-    while time.monotonic() < limit:
-        kind, body = client.ask(hello(number))
-        if kind == WELCOME:
-            client.thread = struct.unpack(">Q", body)[0]
-            assert client.thread >> 32 == number and client.thread & 0xFFFFFFFF > version, hex(client.thread)
-            return client
-        assert (kind, body) == (REFUSED, b"\2"), (hex(kind), body)
-    raise AssertionError(f"number {number} stays taken")
 
 
 def asks(client, echo, some):

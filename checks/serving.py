@@ -5,6 +5,7 @@ import socket
 import struct
 import subprocess
 import tempfile
+import time
 
 from frames import ANY, BYE, hello, ipc
 
@@ -15,7 +16,7 @@ FAILED = 0x8000
 class Client:
     """A connection to a path; with a number it is a thread."""
 
-    def __init__(self, path, number=None, seconds=20):
+    def __init__(self, path, number=None, seconds=120):
         self.line = socket.socket(socket.AF_UNIX, socket.SOCK_STREAM)
         self.line.settimeout(seconds)
         self.line.connect(path)
@@ -81,6 +82,20 @@ class Client:
             return False
 
 
+def opened(path, number, version=0, seconds=120):
+    """A client whose thread has this number and a later version than that; K2 may be told as long as the thread before has not ended."""
+    limit = time.monotonic() + seconds
+    client = Client(path, seconds=seconds)
+    while time.monotonic() < limit:
+        kind, body = client.ask(hello(number))
+        if kind == WELCOME:
+            client.thread = struct.unpack(">Q", body)[0]
+            assert client.thread >> 32 == number and client.thread & 0xFFFFFFFF > version, hex(client.thread)
+            return client
+        assert (kind, body) == (REFUSED, b"\2"), (hex(kind), body)
+    raise AssertionError(f"number {number} stays taken")
+
+
 class Outcome:
     """What an IPCR says."""
 
@@ -106,7 +121,7 @@ class Server:
                                         stdout=subprocess.PIPE, stderr=subprocess.PIPE, **more)
         assert self.process.stdout.readline() == b"listening 1\n", self.process.communicate()
 
-    def end(self, seconds=20):
+    def end(self, seconds=120):
         """Its status, and what it said on standard output and error."""
         out, err = self.process.communicate(timeout=seconds)
         return self.process.returncode, out.decode(), err.decode()

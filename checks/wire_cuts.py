@@ -4,7 +4,8 @@
     checks/wire_cuts.py [--every N] [SCRIPT..]
 
 Without a script it takes those of checks/scripts/wire. With --every N it takes each N-th place of a cut in two, of each script others.
-Each `feed C HEXBYTES` is given again as pieces of one byte, of 7 bytes, and in two at each place, on its own and in all lines at once.
+Each `feed C HEXBYTES` is given again as pieces of one byte, of 7 bytes, and in two at each place, on its own and in all lines at once. Of more than
+1,000 bytes only the first and the last 500 places are tried.
 The bytes that go out on each connection, the connections that end, in their order, and the answers of `connect` have to be the same.
 Scripts that end in a bad line are left out. It builds l4sh first by running it."""
 import collections
@@ -17,6 +18,8 @@ from scripts import stored
 
 ROOT = os.path.dirname(os.path.dirname(os.path.abspath(__file__)))
 PROGRAM = f"{ROOT}/crates/ipc_shell/out/ipc_shell"
+# Of a piece of more bytes than twice that the middle is not cut.
+ENDS = 500
 
 
 def run(lines):
@@ -43,13 +46,18 @@ def pieces(line, size, first=None):
     return [f"{word} {connection} {part}" for part in parts]
 
 
+def places(count):
+    """Where so many bytes are cut in two: at each place, or of many bytes at the first and the last ones."""
+    return [*range(1, count)] if count <= 2 * ENDS else [*range(1, ENDS), *range(count - ENDS, count)]
+
+
 def cuts(lines, begin, every):
     """The same script, cut otherwise; each with a name. Of the cuts in two it takes each so many, from there on."""
     for size in (1, 7):
         yield f"pieces of {size}", [part for line in lines for part in (pieces(line, size) if is_feed(line) else [line])]
     for number, line in enumerate(lines):
         if is_feed(line):
-            for first in range(1 + begin, len(line.split(" ")[2]) // 2, every):
+            for first in places(len(line.split(" ")[2]) // 2)[begin::every]:
                 yield f"line {number + 1} in two at {first}", lines[:number] + pieces(line, 0, first) + lines[number + 1 :]
 
 

@@ -87,7 +87,7 @@ def wrongs_of(shim, words, given, path=None):
                 yield f"{kind} {place} of {count} fails with {number}", is_as_failed(ran, usual, command, opens_file(place))
         if kind == "open":
             continue
-        for place in sorted({1, (count + 1) // 2, count} - {0}):
+        for place in sorted({1, (count + 1) // 2, count} & set(range(1, count + 1))):
             ran = shim.run(words, given, fail_kind=kind, fail_at=place, fail_errno=errno.EINTR, fail_times=MANY - 1)
             yield f"{kind} {place} of {count} is interrupted {MANY - 1} times", None if ran == usual else f"it is not as usual: {ran}"
             ran = shim.run(words, given, fail_kind=kind, fail_at=place, fail_errno=errno.EINTR, fail_times=MANY)

@@ -1,4 +1,5 @@
 /* Loaded before the C library: refuses the growth whose number FAIL_AT gives, counted from 1, and grants all others.
+   FAIL_TIMES says how many are refused in a row, from that one on; 1 where it is not there.
    COUNT_TO names a file that gets the number of all growths. */
 #define _GNU_SOURCE
 #include <dlfcn.h>
@@ -9,7 +10,7 @@
 #include <sys/syscall.h>
 #include <unistd.h>
 
-static long count, refused = -1;
+static long count, refused = -1, last = -1;
 static void *(*next_malloc)(size_t);
 static void *(*next_realloc)(void *, size_t);
 
@@ -19,10 +20,13 @@ static int is_refused(void) {
         next_realloc = dlsym(RTLD_NEXT, "realloc");
         const char *at = getenv("FAIL_AT");
         if (at) {
+            const char *times = getenv("FAIL_TIMES");
             refused = atol(at);
+            last = refused + (times ? atol(times) : 1) - 1;
         }
     }
-    if (__atomic_add_fetch(&count, 1, __ATOMIC_SEQ_CST) == refused) {
+    long now = __atomic_add_fetch(&count, 1, __ATOMIC_SEQ_CST);
+    if (refused > 0 && refused <= now && now <= last) {
         errno = ENOMEM;
         return 1;
     }

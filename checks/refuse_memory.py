@@ -21,8 +21,8 @@ ROOT = os.path.dirname(os.path.dirname(os.path.abspath(__file__)))
 PROGRAM = f"{ROOT}/crates/ipc_shell/out/ipc_shell"
 
 
-def run(script, shim, refused=0, count_to="", word="run"):
-    env = dict(os.environ, LD_PRELOAD=shim, FAIL_AT=str(refused), COUNT_TO=count_to)
+def run(script, shim, refused=0, count_to="", word="run", times=1):
+    env = dict(os.environ, LD_PRELOAD=shim, FAIL_AT=str(refused), FAIL_TIMES=str(times), COUNT_TO=count_to)
     ran = subprocess.run([PROGRAM, word], input=script, capture_output=True, env=env)
     return ran.returncode, ran.stdout, ran.stderr
 

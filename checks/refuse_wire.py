@@ -10,8 +10,9 @@ With one growth refused, a run may
 - refuse a connection with `! F14`, which then uses up no number;
 - put out REFUSED K4 in an answer's place: what was printed before is as otherwise;
 - put out FAULT F14 as the last frame of a connection, which ends by that command; what was printed before is as otherwise.
-Behind one of the last three the dialogue is another one, so it is looked at for whole frames and nothing more. But an IPC behind a HELLO that
-was refused is FAULT S1, which a dialogue of its own shows for each of its growths. Anything else is told, and the status is then 1. It needs a C compiler (cc), and builds l4sh first by running it."""
+Behind one of the last three the dialogue is another one, so it is looked at for whole frames and nothing more. But an IPC behind
+a HELLO that was refused is FAULT S1, which a dialogue of its own shows, with each two of its growths refused. Anything else is
+told, and the status is then 1. It needs a C compiler (cc), and builds l4sh first by running it."""
 import subprocess
 import sys
 import tempfile
@@ -20,6 +21,9 @@ from frames import hello, ipc
 from refuse_memory import ROOT, built_shim, growths_of, refuse_each, run, scripts_of
 
 REFUSED_K4, FAULT_F14, FAULT_S1 = bytes.fromhex("000000028404"), bytes.fromhex("0000000385460e"), bytes.fromhex("00000003855301")
+
+# So many connections say HELLO, and then each sends: a HELLO takes memory now and then.
+CONNECTIONS = 40
 
 
 def frames(text):
@@ -68,22 +72,27 @@ def what_is_wrong(script, shim, usual, refused):
 
 def behind_a_refused_hello():
     """Whether an IPC behind a HELLO that was refused K4 is FAULT S1; tells how often, and answers the status."""
-    script = f"connect 1\nfeed 1 {hello(1).hex()}\nfeed 1 {ipc(2 << 32 | 1, 0, [7]).hex()}\n".encode()
-    wanted = ["= 1", f"out 1 {REFUSED_K4.hex()}", f"out 1 {FAULT_S1.hex()}", "ended 1"]
+    numbers = range(1, CONNECTIONS + 1)
+    sent = ipc(200 << 32 | 1, 0, [7]).hex()
+    hellos = "".join(f"connect 1\nfeed {it} {hello(it).hex()}\n" for it in numbers)
+    script = (hellos + "".join(f"feed {it} {sent}\n" for it in numbers)).encode()
     refused = faults = 0
     subprocess.run([f"{ROOT}/l4sh", "wire"], stdin=subprocess.DEVNULL, check=True)
     with tempfile.TemporaryDirectory() as room:
         shim = built_shim(room)
         _, growths = growths_of(script, shim, room, "wire")
         for growth in range(1, growths + 1):
-            status, output, told = run(script, shim, growth, word="wire")
+            # (one that is refused is asked for once more, for less room)
+            status, output, told = run(script, shim, growth, word="wire", times=2)
             lines = output.decode().splitlines()
-            if lines[1:2] == wanted[1:2]:
-                refused += 1
-                if (status, lines, told) != (0, wanted, b""):
-                    faults += 1
-                    print(f"an IPC behind a refused HELLO, growth {growth}: status {status}, {lines}, {told}")
-    print(f"an IPC behind a HELLO that was refused K4: {refused} of {growths} growths refuse it, {faults} wrong")
+            for number in numbers:
+                came = [line for line in lines if line.split()[1:2] == [str(number)] and line[0] in "oe"]
+                if came[:1] == [f"out {number} {REFUSED_K4.hex()}"]:
+                    refused += 1
+                    if (status, told, came[1:]) != (0, b"", [f"out {number} {FAULT_S1.hex()}", f"ended {number}"]):
+                        faults += 1
+                        print(f"an IPC behind a refused HELLO, growth {growth}: status {status}, {came}, {told}")
+    print(f"an IPC behind a HELLO that was refused K4: {refused} of {growths} pairs of growths refuse one, {faults} wrong")
     return 1 if faults or not refused else 0
 
 

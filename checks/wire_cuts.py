@@ -4,8 +4,8 @@
     checks/wire_cuts.py [--every N] [SCRIPT..]
 
 Without a script it takes those of checks/scripts/wire. With --every N it takes each N-th place of a cut in two, of each script others.
-Each `feed C HEXBYTES` is given again as pieces of one byte, of 7 bytes, and in two at each place, on its own and in all lines at once. Of more than
-1,000 bytes only the first and the last 500 places are tried.
+Each `feed C HEXBYTES` is given again as pieces of one byte, of 7 bytes, and in two at each place, on its own and in all lines at once.
+Of more than 1,000 bytes only the first and the last 500 places are tried.
 The bytes that go out on each connection, the connections that end, in their order, and the answers of `connect` have to be the same.
 Scripts that end in a bad line are left out. It builds l4sh first by running it."""
 import collections

@@ -20,5 +20,6 @@ pub mod WaitLists
 pub mod WaitKeys
 pub mod WaitFacts
 pub mod LeastDue
+pub mod FirstDue
 pub mod Touches
 pub mod Meetings

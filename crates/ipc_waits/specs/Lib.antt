@@ -8,3 +8,4 @@ pub mod Candidates
 pub mod Following
 pub mod Waiting
 pub mod Next
+pub mod FirstDue

@@ -1,7 +1,8 @@
 -- Calls that wait under keys: for a receiver, for a partner, until a moment.
-use Rattle.std.specs.Prelude.{◌≡◌, ℕ, ◌<◌, ◌≤◌, nat_lt, nat_le, Bool, IsTrue, ◌&&◌, ◌||◌, ◌==◌}
+use Rattle.std.specs.Prelude.{◌≡◌, ℕ, ◌<◌, ◌≤◌, nat_lt, nat_le, Bool, false, IsTrue, ◌&&◌, ◌||◌, ◌==◌}
 use Rattle.std.specs.Prelude.{List, [], ◌∷◌, All, filter, map, Option, None, Some, if◌then◌else◌}
 use Rattle.std.specs.List.{list_any, IsDistinct}
+use Rattle.std.specs.Option.{option_map_or}
 use Rattle.ipc_words.specs.Limits.{table_slots}
 use Rattle.ipc_waits.specs.declared.queue.Wait.{Wait}
 
@@ -36,6 +37,10 @@ under key waits = filter (λ w. w.key == key) waits
 
 abbrev pub until : ℕ → List Wait → List Wait
 until moment waits = filter (λ w. nat_le w.key moment) waits
+
+-- a key, if there is one, is no greater than a moment
+abbrev pub is_until : Option ℕ → ℕ → Bool
+is_until key moment = option_map_or (λ k. nat_le k moment) key false
 
 -- the one of the lesser number, and the first where they are equal
 abbrev pub lesser : Option Wait → Wait → Option Wait

@@ -1,9 +1,9 @@
-ghost use Rattle.std.specs.Prelude.{◌≡◌, ◌<◌, ◌≤◌, ◌&&◌, ◌||◌, ◌==◌, not, [], true, false, nat_le};
+ghost use Rattle.std.specs.Prelude.{◌≡◌, ℕ, ◌<◌, ◌≤◌, ◌&&◌, ◌||◌, ◌==◌, not, [], true, false, nat_le};
 ghost use Rattle.std.specs.Prelude.{All, IfSome, IfNone, length, take, drop, slice_index_or, filter, option_copied};
 ghost use Rattle.std.specs.List.{list_any};
 ghost use Rattle.std.specs.List.Sorted.{IsPartitionPoint};
 ghost use Rattle.ipc_words.specs.Limits.{table_slots};
-ghost use Rattle.ipc_waits.specs.Queues.{IsLeastWait, IsOrdered, comes_before, is_in, is_placed, is_same, lesser, under, until};
+ghost use Rattle.ipc_waits.specs.Queues.{IsLeastWait, IsOrdered, comes_before, is_in, is_placed, is_same, is_until, lesser, under, until};
 ghost use Rattle.ipc_waits.specs.Keys.{HasAt, IsSameElsewhere};
 ghost use Rattle.ipc_waits.specs.Places.{IsAt, HasHere};
 ghost use Rattle.ipc_waits.specs.declared.queue.Wait.{Wait};
@@ -208,6 +208,16 @@ impl Queue {
         match self.waits.as_slice().first() {
             Some(wait) => wait.key <= moment,
             None => false,
+        }
+    }
+
+    /// The least key; None where nothing waits.
+    pub fn least_key(&self) -> Option<u64>
+        ensures { (moment : ℕ) → list_any (λ w. nat_le w.key moment) self.now ≡ is_until result moment }
+    {
+        match self.waits.as_slice().first() {
+            Some(wait) => Some(wait.key),
+            None => None,
         }
     }
 

@@ -1,16 +1,31 @@
-ghost use Rattle.std.specs.Prelude.{◌≡◌, ◌+◌, ◌<◌, ◌++◌, ◌∷◌, []};
+ghost use Rattle.std.specs.Prelude.{◌≡◌, ℕ, ◌+◌, ◌<◌, ◌++◌, ◌∷◌, [], IfSome};
 ghost use Rattle.std.specs.List.{list_any};
 ghost use Rattle.ipc_words.specs.Limits.{last_moment};
 ghost use Rattle.ipc_history.specs.Calls.{numbers};
 ghost use Rattle.ipc_history.specs.Legal.{Legal, Follows};
 ghost use Rattle.ipc_history.specs.Timing.{is_due_at};
+ghost use Rattle.ipc_waits.specs.FirstDue.{IsLeastDue};
 ghost use Rattle.ipc_waits.specs.Following.{CanFollow, FollowsChange};
+ghost use Rattle.ipc_waits.specs.Queues.{is_until};
 ghost use Rattle.ipc_waits.specs.Waiting.{IsTouched, IsWaiting};
 
 use crate::candidates::Candidates;
 use crate::waits::Waits;
 use ipc_history::{Entries, Entry};
 use ipc_slots::{Change, Slots};
+use ipc_words::limits::LAST_MOMENT;
+
+/// A moment that the clock reaches: the one that is given, where it is not after the last one.
+fn reached(moment: Option<u64>) -> Option<u64>
+    ensures within { IfSome result (λ m. m < last_moment + 1) }
+    ensures same { (m : ℕ) → m < last_moment + 1 → is_until result m ≡ is_until moment m }
+{
+    let moment = moment?;
+    if moment > LAST_MOMENT {
+        return None;
+    }
+    Some(moment)
+}
 
 /// The threads of a history by their slots, who waits for whom, and under which calls the next output is found.
 #[derive(Drop)]
@@ -92,5 +107,16 @@ impl Waiting {
     {
         let _ = entries;
         self.waits.deadlines().is_any_until(moment)
+    }
+
+    /// The least moment, in microseconds, at which a waiting phase is due; None where no clock reading makes one due. Looks at the least
+    /// deadline alone.
+    pub fn least_due(&self, entries: &Entries) -> Option<u64>
+        requires legal { Legal entries.now }
+        requires waiting { IsWaiting entries.now self.now }
+        ensures { IsLeastDue entries.now result }
+    {
+        let _ = entries;
+        reached(self.waits.deadlines().least_key())
     }
 }

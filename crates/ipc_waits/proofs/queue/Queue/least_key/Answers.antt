@@ -1,0 +1,10 @@
+use Rattle.std.proofs.Common.{◌∙◌, ap, sym, nat_le, slice_get}
+use Rattle.std.specs.List.{list_any}
+use Rattle.ipc_waits.proofs.Parts.{due_first}
+use Rattle.ipc_waits.proofs.queue.Queue.least_key.Goals as goal
+
+pub returns-in-Some : goal.returns-in-Some
+returns-in-Some c moment =
+    let first = c.in-Some.ensures.value ∙ ap (λ l. slice_get l 0) c.as_slice.ensures.value in
+    sym (due_first moment c.self.inside.waits.items c.in-Some.wait.now c.self.invariant.ordered first
+    ∙ ap (list_any (λ w. nat_le w.key moment)) c.self.view_is)

@@ -23,3 +23,5 @@ pub mod BusyLaws
 pub mod UnfinishedLaws
 pub mod SoundLaws
 pub mod CompactLemmas
+pub mod AgainLaws
+pub mod LeastLemmas

@@ -14,3 +14,4 @@ pub mod Finished
 pub mod Books
 pub mod Laws
 pub mod Compacting
+pub mod Again

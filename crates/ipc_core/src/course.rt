@@ -20,6 +20,7 @@ ghost use Rattle.ipc_desks.specs.Desks.{Keeps, one_if};
 ghost use Rattle.ipc_desks.specs.Messages.{prepared};
 ghost use Rattle.ipc_desks.specs.Finishes.{finishes, is_named};
 ghost use Rattle.ipc_slots.specs.Slots.{Stands};
+ghost use Rattle.ipc_waits.specs.FirstDue.{IsLeastDue};
 ghost use Rattle.ipc_core.specs.CourseParts.{ComesIdle, HasCopies, SameBooks, history_of};
 ghost use Rattle.ipc_core.specs.Compacting.{enters_open};
 ghost use Rattle.ipc_core.specs.KernelParts.{nothing_held};
@@ -250,6 +251,13 @@ impl Course {
         ensures { result ≡ list_any (is_due_at self.now.entries moment) (numbers self.now.entries) }
     {
         self.waiting.is_any_due_at(&self.history.whole(), moment)
+    }
+
+    /// The least moment at which a waiting phase is due. Looks at no thread.
+    pub(crate) fn least_due(&self) -> Option<u64>
+        ensures { IsLeastDue self.now.entries result }
+    {
+        self.waiting.least_due(&self.history.whole())
     }
 
     /// The least call in transfer, and how many of its bytes are copied next.

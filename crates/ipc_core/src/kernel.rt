@@ -15,6 +15,7 @@ ghost use Rattle.ipc_history.specs.Threads.{is_live, now};
 ghost use Rattle.ipc_history.specs.Timing.{is_due_at};
 ghost use Rattle.ipc_laws.specs.Counting.{open_calls, pledged};
 ghost use Rattle.ipc_laws.specs.Laws.{one_if};
+ghost use Rattle.ipc_waits.specs.FirstDue.{IsLeastDue};
 ghost use Rattle.ipc_core.specs.Effects.{Breaks, Exchanges, Gives, Ticks};
 ghost use Rattle.ipc_core.specs.ExchangeRegisters.{exreg_answer};
 ghost use Rattle.ipc_core.specs.Compacting.{Compacts, most_entries};
@@ -107,6 +108,15 @@ impl Kernel {
     {
         let _ = &self.course;
         self.moment
+    }
+
+    /// The least moment, in microseconds, at which a phase of an open call is due (L4 X.2 manual, Ipc: timeouts): it is after [`Kernel::now`],
+    /// and a clock reading before it brings nothing. None where no clock reading makes a phase due. Looks at no thread.
+    pub fn least_due(&self) -> Option<u64>
+        ensures least { IsLeastDue self.now.history result }
+        ensures later { IfSome result (λ moment. self.now.moment < moment) }
+    {
+        self.course.least_due()
     }
 
     /// The history, oldest entry first. Memory holds what [`Kernel::entries_from`] gives, and the entries of the open calls.

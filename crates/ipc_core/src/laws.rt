@@ -1,4 +1,5 @@
 // The laws of a kernel. Each function is a theorem: it does nothing, and its contract holds of every kernel.
+ghost use Rattle.ipc_core.specs.Again.{ObeysAgainOnce, StaysSoundAgain};
 ghost use Rattle.ipc_core.specs.Laws.{EnteredIsBusy, IdleHasNothing, RunsOnce, StaysIdle, StaysSound, TakenIsIdle, UnfinishedKeeps};
 
 /// What is true of a kernel between commands stays true over every command, whatever it answers.
@@ -9,6 +10,13 @@ pub fn stays_sound()
 /// The same commands, each obeyed, have one list of answers and one end, in all that is seen but the room.
 pub fn runs_once()
     ensures { RunsOnce }
+{}
+
+/// A command that is obeyed once more after a compaction keeps what is sound, and has one answer and one end, in all that is seen but the
+/// room.
+pub fn obeyed_again()
+    ensures sound { StaysSoundAgain }
+    ensures once { ObeysAgainOnce }
 {}
 
 /// A thread that is not busy has nothing to take.

@@ -4,6 +4,7 @@ ghost use Rattle.ipc_history.specs.Legal.{Legal, Quiet};
 ghost use Rattle.ipc_history.specs.Paired.{Paired};
 ghost use Rattle.ipc_history.specs.declared.entry.Entry.{Entry};
 ghost use Rattle.ipc_laws.specs.Laws.{inputs};
+ghost use Rattle.ipc_core.specs.Again.{MayObeyAgain, says_history_full};
 ghost use Rattle.ipc_core.specs.Obeying.{MayObey, Runs, empty_kernel, is_no_memory};
 ghost use Rattle.ipc_core.specs.declared.command.Command.TheVariants as command;
 
@@ -106,7 +107,92 @@ impl Kernel {
     }
 }
 
+impl Kernel {
+    /// Obeys a command and answers it, as [`Kernel::obey`] does. Where it is refused with K5, memory lets go of the entries before a place,
+    /// counted from 0, but of those that entered the open calls ([`Kernel::compact`]), and the command is obeyed once more. So K5 is answered only
+    /// where there is no room after that either. Each other refusal changes nothing.
+    pub fn obey_again(&mut self, command: Command, upto: usize) -> Answer
+        ensures obeys { MayObeyAgain upto self.old command result self.new }
+        ensures few { length self.new.history ≤ length self.old.history + max_command_entries }
+    {
+        let answer = self.answer_again(command, upto);
+        // its contract says that the history is legal
+        let _ = self.history();
+        answer
+    }
+
+    fn answer_again(&mut self, command: Command, upto: usize) -> Answer
+        ensures { MayObeyAgain upto self.old command result self.new }
+    {
+        match command {
+            Command::Open { number, space } => self.open_again(number, space, upto),
+            Command::Enter(thread, call) => self.enter_again(thread, call, upto),
+            Command::Exreg {
+                thread,
+                target,
+                control,
+            } => self.exreg_again(thread, target, control, upto),
+            Command::Broke(thread) => self.obey_broke(thread),
+            Command::At(reading) => self.obey_at(reading),
+            Command::Advance => self.obey_advance(),
+            Command::Take(thread) => self.obey_take(thread),
+        }
+    }
+
+    fn open_again(&mut self, number: u64, space: u64, upto: usize) -> Answer
+        ensures { MayObeyAgain upto self.old (command.Open number space) result self.new }
+    {
+        let first = self.obey_open(number, space);
+        if !first.is_history_full() {
+            return first;
+        }
+        let _ = self.compact(upto);
+        self.obey_open(number, space)
+    }
+
+    fn enter_again(&mut self, thread: ThreadId, call: Call, upto: usize) -> Answer
+        ensures { MayObeyAgain upto self.old (command.Enter thread call) result self.new }
+    {
+        match self.enter(thread, call) {
+            Ok(number) => Answer::Entered(number),
+            Err(refused) => {
+                let refusal = refused.refusal;
+                let first = Answer::Refused(refusal);
+                if !first.is_history_full() {
+                    return first;
+                }
+                let _ = self.compact(upto);
+                self.obey_enter(thread, refused.call)
+            }
+        }
+    }
+
+    fn exreg_again(
+        &mut self,
+        thread: ThreadId,
+        target: ThreadId,
+        control: Control,
+        upto: usize,
+    ) -> Answer
+        ensures { MayObeyAgain upto self.old (command.Exreg thread target control) result self.new }
+    {
+        let first = self.obey_exreg(thread, target, control);
+        if !first.is_history_full() {
+            return first;
+        }
+        let _ = self.compact(upto);
+        self.obey_exreg(thread, target, control)
+    }
+}
+
 impl Answer {
+    /// Whether the command was refused with K5.
+    fn is_history_full(&self) -> bool
+        ensures { result ≡ says_history_full self.now }
+    {
+        matches!(self, Answer::Refused(Refusal::HistoryFull))
+    }
+
     /// Whether the command was refused for want of memory.
     fn is_no_memory(&self) -> bool
         ensures { result ≡ is_no_memory self.now }

@@ -366,3 +366,101 @@ fn an_open_call_is_held(rt: HostRuntime) -> Result<(), Fail> {
     assert_eq!(rt; kernel.entries_from(kernel.whole_from()).len(), 2);
     Ok(())
 }
+
+// An ExchangeRegisters of thread 1 about itself, which stops nothing.
+fn look() -> Command {
+    Command::Exreg {
+        thread: first(1),
+        target: first(1),
+        control: Control::from_word(0),
+    }
+}
+
+#[test]
+fn a_command_that_finds_no_room_is_obeyed_once_more(rt: HostRuntime) -> Result<(), Fail> {
+    let mut kernel = kernel(rt.alloc(), 16, MAX_CALLS)?;
+    let _ = kernel.open(1, 1);
+    // an entry each, so that 12 fit, with two pledged and two that each needs
+    for _ in 0..12_u64 {
+        let answer = kernel.obey(look());
+        assert!(rt; matches!(answer, Answer::Exchanged(_)));
+    }
+    // none goes where none may be let go of
+    let full = kernel.obey_again(look(), 0);
+    assert!(rt; matches!(full, Answer::Refused(Refusal::HistoryFull)));
+    assert_eq!(rt; kernel.held(), 13);
+    // and none for another refusal
+    let bad = kernel.obey_again(
+        Command::Open {
+            number: 0,
+            space: 1,
+        },
+        usize::MAX,
+    );
+    assert!(rt; matches!(bad, Answer::Refused(Refusal::BadNumber)));
+    assert_eq!(rt; kernel.held(), 13);
+    for _ in 0..100_u64 {
+        let answer = kernel.obey_again(look(), usize::MAX);
+        assert!(rt; matches!(answer, Answer::Exchanged(_)));
+        assert!(rt; kernel.held() <= 13);
+    }
+    let opened = kernel.obey_again(
+        Command::Open {
+            number: 2,
+            space: 1,
+        },
+        usize::MAX,
+    );
+    assert!(rt; matches!(opened, Answer::Opened(_)));
+    assert_eq!(rt; kernel.total(), 114);
+    Ok(())
+}
+
+#[test]
+fn where_no_entry_may_go_a_command_stays_refused(rt: HostRuntime) -> Result<(), Fail> {
+    let mut kernel = kernel(rt.alloc(), 10, MAX_CALLS)?;
+    let _ = kernel.open(1, 1);
+    let receive = receives(rt.alloc(), ThreadId::ANYTHREAD, 0)?;
+    let entered = kernel.obey_again(Command::Enter(first(1), receive), usize::MAX);
+    assert!(rt; matches!(entered, Answer::Entered(1)));
+    assert_eq!(rt; kernel.held(), 2);
+    // the call stays, and is pledged five entries, its thread two
+    let full = kernel.obey_again(
+        Command::Open {
+            number: 2,
+            space: 1,
+        },
+        usize::MAX,
+    );
+    assert!(rt; matches!(full, Answer::Refused(Refusal::HistoryFull)));
+    assert_eq!(rt; kernel.held(), 1);
+    assert_eq!(rt; kernel.total(), 2);
+    Ok(())
+}
+
+#[test]
+fn the_least_deadline_is_told(rt: HostRuntime) -> Result<(), Fail> {
+    let mut kernel = kernel(rt.alloc(), MAX_ENTRIES, MAX_CALLS)?;
+    for number in 1..=4_u64 {
+        let _ = kernel.open(number, 1);
+    }
+    assert_eq!(rt; kernel.least_due(), None);
+    kernel.at(100);
+    // for ever, 7 microseconds, 5 microseconds
+    for (number, word) in [(1_u32, 0_u16), (2, 7), (3, 5)] {
+        let receive = receives(rt.alloc(), ThreadId::ANYTHREAD, word)?;
+        assert_eq!(rt; refusal_of(&mut kernel, first(number), receive), None);
+    }
+    assert_eq!(rt; kernel.least_due(), Some(105));
+    let total = kernel.total();
+    kernel.at(104);
+    assert_eq!(rt; kernel.total(), total);
+    kernel.at(105);
+    assert_eq!(rt; kernel.finished(), [first(3)].as_slice());
+    assert_eq!(rt; kernel.least_due(), Some(107));
+    // the message comes, and only the call for ever waits
+    let send = sends(rt.alloc(), first(2), 7, 0)?;
+    assert_eq!(rt; refusal_of(&mut kernel, first(4), send), None);
+    assert_eq!(rt; kernel.least_due(), None);
+    Ok(())
+}

@@ -17,6 +17,7 @@ use Rattle.ipc_history.specs.declared.entry.Output.{Output}
 use Rattle.ipc_core.specs.KernelParts.{KernelParts}
 use Rattle.ipc_core.specs.Effects.{Ticks}
 use Rattle.ipc_core.specs.Steps.{Takes, at_if_later, at_moment, with_input}
+use Rattle.ipc_core.proofs.AgainLaws.{room_history}
 use Rattle.ipc_core.proofs.RunLaws.{obeys_legal}
 use Rattle.ipc_core.specs.Obeying.{Does, Obeys, ObeysOr, cause_of}
 use Rattle.ipc_core.specs.declared.answers.Advance.TheVariants.{Moved, Idle}
@@ -26,7 +27,7 @@ use Rattle.ipc_core.specs.declared.command.Command.{Command}
 use Rattle.ipc_core.specs.declared.command.Command.TheVariants.{Open, Enter, Exreg, Broke, At, Advance, Take}
 use Rattle.ipc_core.specs.declared.refusal.Refusal.{Refusal}
 use Rattle.ipc_core.specs.declared.refusal.Refusal.TheVariants.{NoMemory}
-use Rattle.ipc_exchange.specs.Serving.{Ample, AnswersIn, MayLack, Memory, ObeysIn}
+use Rattle.ipc_exchange.specs.Serving.{Ample, AnswersIn, MayLack, Memory, ObeysIn, every_entry}
 use Rattle.ipc_exchange.specs.Laws.{CallsAreAccepted, LegalStays, accepted, call_in, calls_in}
 use Rattle.ipc_exchange.proofs.Along.{events_along}
 
@@ -102,7 +103,10 @@ obeyed_calls MayLack old new command answer (inr lacks) = refused_calls old new 
 
 -- a command that is obeyed, and the kernel at rest
 obeys_in_calls : (memory : Memory) (old new : KernelParts) (command : Command) (answer : Answer) → ObeysIn memory old command answer new → Adds old command answer new
-obeys_in_calls memory old new command answer (after, obeys, is) = ap (λ (k : KernelParts). calls_in k.history) is ∙ obeyed_calls memory old after command answer obeys
+obeys_in_calls memory old new command answer obeys =
+    ap (λ (k : KernelParts). calls_in k.history) obeys.new_is
+    ∙ (obeyed_calls memory obeys.roomy obeys.after command answer obeys.answers
+    ∙ ap (λ H. calls_in H ++ filter_map accepted (record { command = command; answer = answer } ∷ [])) (room_history every_entry old obeys.roomy command obeys.makes_room))
 
 pub calls_are_accepted : CallsAreAccepted
 calls_are_accepted memory old new events asked happen =
@@ -119,7 +123,9 @@ obeyed_legal MayLack old new command answer (inl obeys) legal = obeys_legal old 
 obeyed_legal MayLack old new command answer (inr lacks) legal = subst (λ (k : KernelParts). Legal k.history) (sym lacks.stays) legal
 
 pub obeys_in_legal : (memory : Memory) (old new : KernelParts) (command : Command) (answer : Answer) → ObeysIn memory old command answer new → Legal old.history → Legal new.history
-obeys_in_legal memory old new command answer (after, obeys, is) legal = subst (λ (k : KernelParts). Legal k.history) (sym is) (obeyed_legal memory old after command answer obeys legal)
+obeys_in_legal memory old new command answer obeys legal =
+    subst (λ (k : KernelParts). Legal k.history) (sym obeys.new_is)
+    (obeyed_legal memory obeys.roomy obeys.after command answer obeys.answers (subst Legal (sym (room_history every_entry old obeys.roomy command obeys.makes_room)) legal))
 
 pub legal_stays : LegalStays
 legal_stays memory old new events asked happen =

@@ -5,10 +5,12 @@ use Rattle.std.proofs.lemmas.Bool.{false≢true, false_from_ne_true, eqb-false}
 use Rattle.std.proofs.lemmas.List.{get_or-set_other, length-set}
 use Rattle.ipc_words.specs.Limits.{table_slots}
 use Rattle.ipc_words.specs.ThreadId.{number_of}
+use Rattle.ipc_history.specs.HistoryParts.{HeldParts}
 use Rattle.ipc_history.specs.Outcomes.{OutcomeParts}
 use Rattle.ipc_history.specs.Threads.{is_live, was_opened, has_broken}
 use Rattle.ipc_laws.proofs.OneLive.{one_live}
 use Rattle.ipc_laws.proofs.Tests.{not_both}
+use Rattle.ipc_core.specs.Again.{MakesRoom}
 use Rattle.ipc_core.specs.KernelParts.{KernelParts}
 use Rattle.ipc_core.specs.Laws.{IsSound, is_call_of, is_take_of}
 use Rattle.ipc_core.specs.Obeying.{MayObey, empty_kernel}
@@ -17,6 +19,7 @@ use Rattle.ipc_core.specs.Steps.{taken_after}
 use Rattle.ipc_core.specs.declared.command.Answer.{Answer}
 use Rattle.ipc_core.specs.declared.command.Command.{Command}
 use Rattle.ipc_core.specs.declared.command.Command.TheVariants.{Take}
+use Rattle.ipc_core.proofs.AgainLaws.{let_go, made_room, room_sound}
 use Rattle.ipc_core.proofs.IdleLaws.{idle_has_nothing}
 use Rattle.ipc_core.proofs.UnfinishedLaws.{unfinished_keeps}
 use Rattle.ipc_core.proofs.BusyLaws.{taken_is_idle}
@@ -30,6 +33,19 @@ dead_has_nothing kernel thread dead = rw dead refl
 pub nothing_yet : (entries calls : ℕ) (thread : ℕ) → outcome_to_take (empty_kernel entries calls) thread ≡ None
 unfolding outcome_to_take is_live was_opened has_broken
 nothing_yet entries calls thread = refl
+
+-- room that is made changes nothing of it
+stays_due : (old new : KernelParts) (due : List Bool) → IsSound new → ((thread : ℕ) → outcome_to_take new thread ≡ outcome_to_take old thread) → AreDue old due → AreDue new due
+stays_due old new due sound same are = record { sound = sound; long = are.long; rest = λ n within free t number. same t ∙ are.rest n within free t number }
+
+same_taking : (old : KernelParts) (limit room : ℕ) (held : HeldParts) (thread : ℕ) → outcome_to_take (let_go old limit held room) thread ≡ outcome_to_take old thread
+unfolding outcome_to_take
+same_taking old limit room held thread = refl
+
+pub room_due : (upto : ℕ) (old roomy : KernelParts) (command : Command) (due : List Bool) → MakesRoom upto old command roomy → AreDue old due → AreDue roomy due
+room_due upto old roomy command due makes are =
+    stays_due old roomy due (room_sound upto old roomy command makes are.sound)
+    (λ t. made_room (λ (k : KernelParts). outcome_to_take k t ≡ outcome_to_take old t) upto old roomy command (λ limit room held e. same_taking old limit room held t) makes refl) are
 
 -- the numbers that are marked after a command
 module _ (old : KernelParts) (command : Command) (answer : Answer) (new : KernelParts) (before after : List Bool)

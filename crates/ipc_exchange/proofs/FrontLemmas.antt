@@ -11,7 +11,7 @@ use Rattle.ipc_exchange.specs.Service.{Line, line_at, place_of, serves_number}
 use Rattle.ipc_exchange.specs.Serving.{Asked, Memory}
 use Rattle.ipc_exchange.specs.Events.{Event, ExchangeParts, HappenAll, Happens}
 use Rattle.ipc_exchange.specs.Apart.{OutputApart, NoneCame, bytes_at, in_front, put_out, with_front}
-use Rattle.ipc_exchange.proofs.MovedLemmas.{Passes, events_seen, more_told, newcomer, with_more}
+use Rattle.ipc_exchange.proofs.MovedLemmas.{PassesTold, events_seen, more_told, newcomer, with_more}
 
 -- one place further
 abbrev pub next : (ℕ → List ℕ) → ℕ → List ℕ
@@ -54,9 +54,8 @@ front_place front number [] = refl
 front_place front number (line ∷ lines) = ap (λ (n : ℕ). cond (not (serves_number number line.stage)) (1 + n) 0) (front_place (next front) number lines)
 
 -- all happens alike
-pub fronted : (memory : Memory) (front : ℕ → List ℕ) → Passes memory (λ (kernel : KernelParts). kernel) (with_front front) (NoneCame front)
-fronted memory front = record {
-  obeys = λ old new command answer obeys. obeys;
+pub fronted : (front : ℕ → List ℕ) → PassesTold (λ (kernel : KernelParts). kernel) (with_front front) (NoneCame front)
+fronted front = record {
   outcome = λ kernel stage. refl;
   taken = λ kernel outcome. refl;
   stage = front_stage front;
@@ -74,7 +73,7 @@ pub record InFront (memory : Memory) (front : ℕ → List ℕ) (old new : Excha
 
 pub events_in_front : (memory : Memory) (front : ℕ → List ℕ) (events : List Event) (old new : ExchangeParts) (asked : List Asked) → NoneCame front old.service.lines → HappenAll memory old events asked new → InFront memory front old new events asked
 events_in_front memory front events old new asked none happen =
-    let both = events_seen memory (λ (kernel : KernelParts). kernel) (with_front front) (NoneCame front) (fronted memory front) events old new asked none happen in
+    let both = events_seen (λ (kernel : KernelParts). kernel) (with_front front) (NoneCame front) (fronted front) memory (λ old new command answer obeys. obeys) events old new asked none happen in
     record { happen = both.0; none = both.1 }
 
 -- Bytes that go out, and then stand in front

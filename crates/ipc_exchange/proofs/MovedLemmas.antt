@@ -38,9 +38,8 @@ with_more lines place next text = slice_set lines place (more_told next text (li
 abbrev pub newcomer : ℕ → Line
 newcomer space = record { space = space; stage = Greeting; out = [] }
 
--- another view of kernels, and one of lines that fit: what is asked, and told, is the same in it
-pub record Passes (memory : Memory) (kernel_to : KernelParts → KernelParts) (lines_to : List Line → List Line) (Fits : List Line → Type 0) : Type 0 where
-  pub obeys : (old new : KernelParts) (command : Command) (answer : Answer) → ObeysIn memory old command answer new → ObeysIn memory (kernel_to old) command answer (kernel_to new)
+-- another view of kernels, and one of lines that fit: what is told is the same in it
+pub record PassesTold (kernel_to : KernelParts → KernelParts) (lines_to : List Line → List Line) (Fits : List Line → Type 0) : Type 0 where
   pub outcome : (kernel : KernelParts) (stage : Stage) → outcome_at (kernel_to kernel) stage ≡ outcome_at kernel stage
   pub taken : (kernel : KernelParts) (outcome : Option OutcomeParts) → without_outcome (kernel_to kernel) outcome ≡ kernel_to (without_outcome kernel outcome)
   pub stage : (lines : List Line) (place : ℕ) → (line_at (lines_to lines) place).stage ≡ (line_at lines place).stage
@@ -51,7 +50,12 @@ pub record Passes (memory : Memory) (kernel_to : KernelParts → KernelParts) (l
   pub fits_new : (lines : List Line) (space : ℕ) → Fits lines → Fits (lines ++ newcomer space ∷ [])
   pub place : (number : ℕ) (lines : List Line) → place_of number (lines_to lines) ≡ place_of number lines
 
-module _ (memory : Memory) (kernel_to : KernelParts → KernelParts) (lines_to : List Line → List Line) (Fits : List Line → Type 0) (passes : Passes memory kernel_to lines_to Fits) where
+-- and what is asked
+abbrev pub PassesAsked : Memory → (KernelParts → KernelParts) → Type 0
+PassesAsked memory kernel_to =
+    (old new : KernelParts) (command : Command) (answer : Answer) → ObeysIn memory old command answer new → ObeysIn memory (kernel_to old) command answer (kernel_to new)
+
+module _ (kernel_to : KernelParts → KernelParts) (lines_to : List Line → List Line) (Fits : List Line → Type 0) (passes : PassesTold kernel_to lines_to Fits) where
   abbrev pub seen : ServiceParts → ServiceParts
   seen service = record { kernel = kernel_to service.kernel; lines = lines_to service.lines }
 
@@ -86,113 +90,114 @@ module _ (memory : Memory) (kernel_to : KernelParts → KernelParts) (lines_to :
   unfolding delivered
   delivered_seen kernel lines fits = delivered_to_seen table_slots (record { kernel = kernel; lines = lines }) fits
 
-  leaves_seen : (old new : KernelParts) (left : Option ℕ) (asked : List Asked) → Leaves memory old left asked new → Leaves memory (kernel_to old) left asked (kernel_to new)
-  leaves_seen old new None asked l = (l.0, ap kernel_to l.1)
-  leaves_seen old new (Some thread) asked (answer, is, obeys) = (answer, is, passes.obeys old new (command.Broke thread) answer obeys)
+  module _ (memory : Memory) (obeyed : PassesAsked memory kernel_to) where
+    leaves_seen : (old new : KernelParts) (left : Option ℕ) (asked : List Asked) → Leaves memory old left asked new → Leaves memory (kernel_to old) left asked (kernel_to new)
+    leaves_seen old new None asked l = (l.0, ap kernel_to l.1)
+    leaves_seen old new (Some thread) asked (answer, is, obeys) = (answer, is, obeyed old new (command.Broke thread) answer obeys)
 
-  -- what is told in the one view is told in the other, and the lines still fit
-  abbrev TellsSeen : ServiceParts → ℕ → Told → List Asked → ServiceParts → Type 0
-  TellsSeen old place told asked new = Tells memory (seen old) place told asked (seen new) × Fits new.lines
+    -- what is told in the one view is told in the other, and the lines still fit
+    abbrev TellsSeen : ServiceParts → ℕ → Told → List Asked → ServiceParts → Type 0
+    TellsSeen old place told asked new = Tells memory (seen old) place told asked (seen new) × Fits new.lines
 
-  tells_seen : (old new : ServiceParts) (place : ℕ) (told : Told) (asked : List Asked) → Fits old.lines → Tells memory old place told asked new → TellsSeen old place told asked new
-  tells_seen old new place told asked fits tells =
-      let next : Stage → Stage = λ stage. next_stage stage told in
-      let text = text_of (reply told) in
-      let lines : List Line = with_more old.lines place next text in
-      let after = delivered_seen tells.kernel lines (passes.fits_more old.lines place next text fits) in (
-        record {
-          kernel = kernel_to tells.kernel;
-          leaves = subst (λ (stage : Stage). Leaves memory (kernel_to old.kernel) (thread_left stage (next_stage stage told)) asked (kernel_to tells.kernel)) (sym (passes.stage old.lines place)) (leaves_seen old.kernel tells.kernel _ asked tells.leaves);
-          new_is = ap seen tells.new_is ∙ (sym after.is ∙ ap (λ (l : List Line). delivered (kernel_to tells.kernel) l) (sym (passes.more old.lines place next text fits)));
-        },
-        subst (λ (s : ServiceParts). Fits s.lines) (sym tells.new_is) after.fits,
-      )
+    tells_seen : (old new : ServiceParts) (place : ℕ) (told : Told) (asked : List Asked) → Fits old.lines → Tells memory old place told asked new → TellsSeen old place told asked new
+    tells_seen old new place told asked fits tells =
+        let next : Stage → Stage = λ stage. next_stage stage told in
+        let text = text_of (reply told) in
+        let lines : List Line = with_more old.lines place next text in
+        let after = delivered_seen tells.kernel lines (passes.fits_more old.lines place next text fits) in (
+          record {
+            kernel = kernel_to tells.kernel;
+            leaves = subst (λ (stage : Stage). Leaves memory (kernel_to old.kernel) (thread_left stage (next_stage stage told)) asked (kernel_to tells.kernel)) (sym (passes.stage old.lines place)) (leaves_seen old.kernel tells.kernel _ asked tells.leaves);
+            new_is = ap seen tells.new_is ∙ (sym after.is ∙ ap (λ (l : List Line). delivered (kernel_to tells.kernel) l) (sym (passes.more old.lines place next text fits)));
+          },
+          subst (λ (s : ServiceParts). Fits s.lines) (sym tells.new_is) after.fits,
+        )
 
-  does_seen : (old new : ServiceParts) (place : ℕ) (command : Command) (asked : List Asked) → Fits old.lines → Does memory old place command asked new → Does memory (seen old) place command asked (seen new) × Fits new.lines
-  does_seen old new place command asked fits does =
-      let tells = tells_seen (record { kernel = does.between; lines = old.lines }) new place (told_of does.answer) does.rest fits does.tells in (
-        record {
-          answer = does.answer;
-          between = kernel_to does.between;
-          obeys = passes.obeys old.kernel does.between command does.answer does.obeys;
-          rest = does.rest;
-          asked_is = does.asked_is;
-          tells = tells.0;
-        },
-        tells.1,
-      )
+    does_seen : (old new : ServiceParts) (place : ℕ) (command : Command) (asked : List Asked) → Fits old.lines → Does memory old place command asked new → Does memory (seen old) place command asked (seen new) × Fits new.lines
+    does_seen old new place command asked fits does =
+        let tells = tells_seen (record { kernel = does.between; lines = old.lines }) new place (told_of does.answer) does.rest fits does.tells in (
+          record {
+            answer = does.answer;
+            between = kernel_to does.between;
+            obeys = obeyed old.kernel does.between command does.answer does.obeys;
+            rest = does.rest;
+            asked_is = does.asked_is;
+            tells = tells.0;
+          },
+          tells.1,
+        )
 
-  by_seen : (request : Request) (old new : ServiceParts) (place : ℕ) (asked : List Asked) → Fits old.lines → ServesBy memory old place request asked new → ServesBy memory (seen old) place request asked (seen new) × Fits new.lines
-  by_seen Nothing old new place asked fits s = ((s.0, ap seen s.1), subst (λ (x : ServiceParts). Fits x.lines) (sym s.1) fits)
-  by_seen (Open number) old new place asked fits s =
-      let does = does_seen old new place (command.Open number (line_at old.lines place).space) asked fits s in
-      (subst (λ (space : ℕ). Does memory (seen old) place (command.Open number space) asked (seen new)) (sym (passes.space old.lines place)) does.0, does.1)
-  by_seen (Enter thread call) old new place asked fits s = does_seen old new place _ asked fits s
-  by_seen (Exreg thread target control) old new place asked fits s = does_seen old new place _ asked fits s
-  by_seen Leave old new place asked fits s = tells_seen old new place Left asked fits s
-  by_seen (Refuse class number) old new place asked fits s = tells_seen old new place (Faulted class number) asked fits s
+    by_seen : (request : Request) (old new : ServiceParts) (place : ℕ) (asked : List Asked) → Fits old.lines → ServesBy memory old place request asked new → ServesBy memory (seen old) place request asked (seen new) × Fits new.lines
+    by_seen Nothing old new place asked fits s = ((s.0, ap seen s.1), subst (λ (x : ServiceParts). Fits x.lines) (sym s.1) fits)
+    by_seen (Open number) old new place asked fits s =
+        let does = does_seen old new place (command.Open number (line_at old.lines place).space) asked fits s in
+        (subst (λ (space : ℕ). Does memory (seen old) place (command.Open number space) asked (seen new)) (sym (passes.space old.lines place)) does.0, does.1)
+    by_seen (Enter thread call) old new place asked fits s = does_seen old new place _ asked fits s
+    by_seen (Exreg thread target control) old new place asked fits s = does_seen old new place _ asked fits s
+    by_seen Leave old new place asked fits s = tells_seen old new place Left asked fits s
+    by_seen (Refuse class number) old new place asked fits s = tells_seen old new place (Faulted class number) asked fits s
 
-  serves_seen : (old new : ServiceParts) (place : ℕ) (said : Result Heard FrameFault) (asked : List Asked) → Fits old.lines → Serves memory old place said asked new → Serves memory (seen old) place said asked (seen new) × Fits new.lines
-  unfolding Serves
-  serves_seen old new place said asked fits s =
-      let by = by_seen (asks (line_at old.lines place).stage said) old new place asked fits s in
-      (subst (λ (stage : Stage). ServesBy memory (seen old) place (asks stage said) asked (seen new)) (sym (passes.stage old.lines place)) by.0, by.1)
+    serves_seen : (old new : ServiceParts) (place : ℕ) (said : Result Heard FrameFault) (asked : List Asked) → Fits old.lines → Serves memory old place said asked new → Serves memory (seen old) place said asked (seen new) × Fits new.lines
+    unfolding Serves
+    serves_seen old new place said asked fits s =
+        let by = by_seen (asks (line_at old.lines place).stage said) old new place asked fits s in
+        (subst (λ (stage : Stage). ServesBy memory (seen old) place (asks stage said) asked (seen new)) (sym (passes.stage old.lines place)) by.0, by.1)
 
-  all_seen : (said : List (Result Heard FrameFault)) (old new : ServiceParts) (place : ℕ) (asked : List Asked) → Fits old.lines → ServesAll memory old place said asked new → ServesAll memory (seen old) place said asked (seen new) × Fits new.lines
-  unfolding Chain
-  all_seen [] old new place asked fits s = ((s.0, ap seen s.1), subst (λ (x : ServiceParts). Fits x.lines) (sym s.1) fits)
-  all_seen (h ∷ said) old new place asked fits (first, rest, between, is, here, later) =
-      let one = serves_seen old between place h first fits here in
-      let more = all_seen said between new place rest one.1 later in
-      ((first, rest, seen between, is, one.0, more.0), more.1)
+    all_seen : (said : List (Result Heard FrameFault)) (old new : ServiceParts) (place : ℕ) (asked : List Asked) → Fits old.lines → ServesAll memory old place said asked new → ServesAll memory (seen old) place said asked (seen new) × Fits new.lines
+    unfolding Chain
+    all_seen [] old new place asked fits s = ((s.0, ap seen s.1), subst (λ (x : ServiceParts). Fits x.lines) (sym s.1) fits)
+    all_seen (h ∷ said) old new place asked fits (first, rest, between, is, here, later) =
+        let one = serves_seen old between place h first fits here in
+        let more = all_seen said between new place rest one.1 later in
+        ((first, rest, seen between, is, one.0, more.0), more.1)
 
-  command_seen : (command : Command) (old new : ExchangeParts) (asked : List Asked) → Fits old.service.lines → Commands memory old command asked new → Commands memory (seen_exchange old) command asked (seen_exchange new) × Fits new.service.lines
-  command_seen command old new asked fits c =
-      let (between, obeys, is) = c.answers in
-      let after = delivered_seen between old.service.lines fits in (
-        record {
-          answer = c.answer;
-          service = seen c.service;
-          answers = (kernel_to between, passes.obeys old.service.kernel between command c.answer obeys, ap seen is ∙ sym after.is);
-          asked_is = c.asked_is;
-          new_is = ap seen_exchange c.new_is;
-        },
-        subst (λ (x : ExchangeParts). Fits x.service.lines) (sym c.new_is) (subst (λ (s : ServiceParts). Fits s.lines) (sym is) after.fits),
-      )
+    command_seen : (command : Command) (old new : ExchangeParts) (asked : List Asked) → Fits old.service.lines → Commands memory old command asked new → Commands memory (seen_exchange old) command asked (seen_exchange new) × Fits new.service.lines
+    command_seen command old new asked fits c =
+        let (between, obeys, is) = c.answers in
+        let after = delivered_seen between old.service.lines fits in (
+          record {
+            answer = c.answer;
+            service = seen c.service;
+            answers = (kernel_to between, obeyed old.service.kernel between command c.answer obeys, ap seen is ∙ sym after.is);
+            asked_is = c.asked_is;
+            new_is = ap seen_exchange c.new_is;
+          },
+          subst (λ (x : ExchangeParts). Fits x.service.lines) (sym c.new_is) (subst (λ (s : ServiceParts). Fits s.lines) (sym is) after.fits),
+        )
 
-  -- the bytes that are held are the same
-  holding_seen : (old : ExchangeParts) (service : ServiceParts) (place : ℕ) (bytes : List ℕ) → seen_exchange (holding old service place bytes) ≡ holding (seen_exchange old) (seen service) place bytes
-  holding_seen old service place bytes =
-      ap (λ (stage : Stage). record { service = seen service; held = slice_set old.held place (kept stage bytes) }) (sym (passes.stage service.lines place))
+    -- the bytes that are held are the same
+    holding_seen : (old : ExchangeParts) (service : ServiceParts) (place : ℕ) (bytes : List ℕ) → seen_exchange (holding old service place bytes) ≡ holding (seen_exchange old) (seen service) place bytes
+    holding_seen old service place bytes =
+        ap (λ (stage : Stage). record { service = seen service; held = slice_set old.held place (kept stage bytes) }) (sym (passes.stage service.lines place))
 
-  event_seen : (event : Event) (old new : ExchangeParts) (asked : List Asked) → Fits old.service.lines → Happens memory old event asked new → Happens memory (seen_exchange old) event asked (seen_exchange new) × Fits new.service.lines
-  event_seen (Connect space) old new asked fits h = (
-    (h.0, ap seen_exchange h.1 ∙ ap (λ (l : List Line). record { service = record { kernel = kernel_to old.service.kernel; lines = l }; held = old.held ++ [] ∷ [] }) (sym (passes.new old.service.lines space fits))),
-    subst (λ (x : ExchangeParts). Fits x.service.lines) (sym h.1) (passes.fits_new old.service.lines space fits),
-  )
-  event_seen (Piece place piece) old new asked fits h =
-      let all = all_seen h.heard old.service h.service place asked fits h.serves in (
-        record {
-          heard = h.heard;
-          hears = h.hears;
-          service = seen h.service;
-          serves = all.0;
-          new_is = ap seen_exchange h.new_is ∙ holding_seen old h.service place (left_in (stream_of Server (held_at old place ++ piece)).end);
-        },
-        subst (λ (x : ExchangeParts). Fits x.service.lines) (sym h.new_is) all.1,
-      )
-  event_seen (Finish place) old new asked fits h =
-      let one = serves_seen old.service h.service place (heard_at_end (held_at old place)) asked fits h.serves in (
-        record { service = seen h.service; serves = one.0; new_is = ap seen_exchange h.new_is ∙ holding_seen old h.service place [] },
-        subst (λ (x : ExchangeParts). Fits x.service.lines) (sym h.new_is) one.1,
-      )
-  event_seen (Reading reading) old new asked fits h = command_seen _ old new asked fits h
-  event_seen Copy old new asked fits h = command_seen _ old new asked fits h
+    event_seen : (event : Event) (old new : ExchangeParts) (asked : List Asked) → Fits old.service.lines → Happens memory old event asked new → Happens memory (seen_exchange old) event asked (seen_exchange new) × Fits new.service.lines
+    event_seen (Connect space) old new asked fits h = (
+      (h.0, ap seen_exchange h.1 ∙ ap (λ (l : List Line). record { service = record { kernel = kernel_to old.service.kernel; lines = l }; held = old.held ++ [] ∷ [] }) (sym (passes.new old.service.lines space fits))),
+      subst (λ (x : ExchangeParts). Fits x.service.lines) (sym h.1) (passes.fits_new old.service.lines space fits),
+    )
+    event_seen (Piece place piece) old new asked fits h =
+        let all = all_seen h.heard old.service h.service place asked fits h.serves in (
+          record {
+            heard = h.heard;
+            hears = h.hears;
+            service = seen h.service;
+            serves = all.0;
+            new_is = ap seen_exchange h.new_is ∙ holding_seen old h.service place (left_in (stream_of Server (held_at old place ++ piece)).end);
+          },
+          subst (λ (x : ExchangeParts). Fits x.service.lines) (sym h.new_is) all.1,
+        )
+    event_seen (Finish place) old new asked fits h =
+        let one = serves_seen old.service h.service place (heard_at_end (held_at old place)) asked fits h.serves in (
+          record { service = seen h.service; serves = one.0; new_is = ap seen_exchange h.new_is ∙ holding_seen old h.service place [] },
+          subst (λ (x : ExchangeParts). Fits x.service.lines) (sym h.new_is) one.1,
+        )
+    event_seen (Reading reading) old new asked fits h = command_seen _ old new asked fits h
+    event_seen Copy old new asked fits h = command_seen _ old new asked fits h
 
-  pub events_seen : (events : List Event) (old new : ExchangeParts) (asked : List Asked) → Fits old.service.lines → HappenAll memory old events asked new → HappenAll memory (seen_exchange old) events asked (seen_exchange new) × Fits new.service.lines
-  unfolding Chain
-  events_seen [] old new asked fits h = ((h.0, ap seen_exchange h.1), subst (λ (x : ExchangeParts). Fits x.service.lines) (sym h.1) fits)
-  events_seen (event ∷ events) old new asked fits (first, rest, between, is, here, later) =
-      let one = event_seen event old between first fits here in
-      let more = events_seen events between new rest one.1 later in
-      ((first, rest, seen_exchange between, is, one.0, more.0), more.1)
+    pub events_seen : (events : List Event) (old new : ExchangeParts) (asked : List Asked) → Fits old.service.lines → HappenAll memory old events asked new → HappenAll memory (seen_exchange old) events asked (seen_exchange new) × Fits new.service.lines
+    unfolding Chain
+    events_seen [] old new asked fits h = ((h.0, ap seen_exchange h.1), subst (λ (x : ExchangeParts). Fits x.service.lines) (sym h.1) fits)
+    events_seen (event ∷ events) old new asked fits (first, rest, between, is, here, later) =
+        let one = event_seen event old between first fits here in
+        let more = events_seen events between new rest one.1 later in
+        ((first, rest, seen_exchange between, is, one.0, more.0), more.1)

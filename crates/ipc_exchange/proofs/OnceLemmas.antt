@@ -6,11 +6,10 @@ use Rattle.ipc_frame.specs.declared.fault.FrameFault.{FrameFault}
 use Rattle.ipc_frame.specs.Stream.{stream_of}
 use Rattle.ipc_frame.specs.declared.kind.Side.TheVariants.{Server}
 use Rattle.ipc_core.specs.KernelParts.{KernelParts, without_room}
-use Rattle.ipc_core.specs.Obeying.{Runs}
 use Rattle.ipc_core.specs.declared.command.Answer.{Answer}
 use Rattle.ipc_core.specs.declared.command.Command.{Command}
 use Rattle.ipc_core.specs.declared.command.Command.TheVariants.{Broke}
-use Rattle.ipc_core.proofs.RunLaws.{runs_once}
+use Rattle.ipc_core.proofs.AgainLaws.{obeyed_alike, room_history, room_once}
 use Rattle.ipc_calls.specs.Hearing.{heard_at_end, heard_in, left_in}
 use Rattle.ipc_calls.specs.declared.heard.Heard.{Heard}
 use Rattle.ipc_connection.specs.Asking.{asks}
@@ -19,14 +18,14 @@ use Rattle.ipc_connection.specs.declared.asking.Request.{Request}
 use Rattle.ipc_connection.specs.declared.asking.Request.TheVariants.{Open, Enter, Exreg, Leave, Refuse, Nothing}
 use Rattle.ipc_connection.specs.declared.replying.Told.{Told}
 use Rattle.ipc_exchange.specs.Service.{Line, ServiceParts, at_rest, delivered, line_at, told_line}
-use Rattle.ipc_exchange.specs.Serving.{Ample, Asked, Does, Leaves, ObeysIn, Serves, ServesAll, ServesBy, Tells, told_of}
+use Rattle.ipc_exchange.specs.Serving.{Ample, Asked, Does, Leaves, ObeysIn, Serves, ServesAll, ServesBy, Tells, every_entry, told_of}
 use Rattle.ipc_exchange.specs.Events.{Commands, Event, ExchangeParts, Happens, HappenAll, connected, held_at, holding, kept}
 use Rattle.ipc_exchange.specs.Events.{Connect, Piece, Finish, Reading, Copy}
 use Rattle.ipc_exchange.specs.Laws.{HappenOnce, without_history_room}
 use Rattle.ipc_exchange.proofs.Along.{event_along, serves_along}
 use Rattle.ipc_exchange.proofs.CallLemmas.{obeys_in_legal}
 use Rattle.ipc_exchange.proofs.MovedLemmas.{delivered_seen}
-use Rattle.ipc_exchange.proofs.RestedLemmas.{bare_obeys_in, roomless}
+use Rattle.ipc_exchange.proofs.RestedLemmas.{roomless}
 
 -- a service without the room of its history
 abbrev bare : ServiceParts → ServiceParts
@@ -48,19 +47,12 @@ record Obeyed (one other : KernelParts) (a b : Answer) : Type 0 where
   pub answers : a ≡ b
   pub alike : Alike one other
 
-obeys_bare_once : (old one other : KernelParts) (command : Command) (a b : Answer) → Legal old.history → ObeysIn Ample old command a one → ObeysIn Ample old command b other → Obeyed one other a b
-unfolding Runs
-obeys_bare_once old one other command a b legal (first, obeys, is) (second, again, was) =
-    let once = runs_once old first second (command ∷ []) (a ∷ []) (b ∷ []) legal (first, obeys, refl) (second, again, refl) in
-    let answers : a ≡ b = (let both = once.0 in cc) in
-    record { answers = answers; alike = ap without_room is ∙ (ap at_rest once.1 ∙ sym (ap without_room was)) }
-
 obeys_in_once : (old old' one other : KernelParts) (command : Command) (a b : Answer) → Alike old old' → Legal old.history → ObeysIn Ample old command a one → ObeysIn Ample old' command b other → Obeyed one other a b
 obeys_in_once old old' one other command a b alike legal obeys again =
-    let here = bare_obeys_in old one command a obeys in
-    let there : ObeysIn Ample (without_room old) command b (without_room other) = subst (λ (k : KernelParts). ObeysIn Ample k command b (without_room other)) (sym alike) (bare_obeys_in old' other command b again) in
-    let once = obeys_bare_once (without_room old) (without_room one) (without_room other) command a b legal here there in
-    record { answers = once.answers; alike = once.alike }
+    let roomy = room_once every_entry old old' obeys.roomy again.roomy command alike obeys.makes_room again.makes_room in
+    let here = subst Legal (sym (room_history every_entry old obeys.roomy command obeys.makes_room)) legal in
+    let once = obeyed_alike obeys.roomy again.roomy obeys.after again.after command a b roomy here obeys.answers again.answers in
+    record { answers = once.0; alike = ap without_room obeys.new_is ∙ (ap at_rest once.1 ∙ sym (ap without_room again.new_is)) }
 
 record Left (xs ys : List Asked) (one other : KernelParts) : Type 0 where
   pub asked : xs ≡ ys
@@ -75,8 +67,8 @@ leaves_once old old' one other (Some thread) xs ys alike legal (a, is, obeys) (b
 -- outcomes that go out depend on no room
 delivered_once : (k l : KernelParts) (lines : List Line) → Alike k l → bare (delivered k lines) ≡ bare (delivered l lines)
 delivered_once k l lines alike =
-    let one = delivered_seen Ample without_room (λ (ls : List Line). ls) (λ (ls : List Line). Unit {0}) roomless k lines tt in
-    let other = delivered_seen Ample without_room (λ (ls : List Line). ls) (λ (ls : List Line). Unit {0}) roomless l lines tt in
+    let one = delivered_seen without_room (λ (ls : List Line). ls) (λ (ls : List Line). Unit {0}) roomless k lines tt in
+    let other = delivered_seen without_room (λ (ls : List Line). ls) (λ (ls : List Line). Unit {0}) roomless l lines tt in
     sym one.is ∙ (ap (λ (x : KernelParts). delivered x lines) alike ∙ other.is)
 
 tells_once : (k l : KernelParts) (lines : List Line) (one other : ServiceParts) (place : ℕ) (told : Told) (xs ys : List Asked) → Alike k l → Legal k.history → Tells Ample (with_lines k lines) place told xs one → Tells Ample (with_lines l lines) place told ys other → Same xs ys one other

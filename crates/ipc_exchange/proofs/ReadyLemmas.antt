@@ -5,10 +5,13 @@ use Rattle.std.proofs.lemmas.Bool.{false_from_ne_true}
 use Rattle.std.proofs.lemmas.List.{get_or-set_same, get_or-set_other, length-set}
 use Rattle.ipc_words.specs.ThreadId.{number_of}
 use Rattle.ipc_laws.proofs.Tests.{not_both}
+use Rattle.ipc_history.specs.HistoryParts.{HeldParts}
+use Rattle.ipc_history.specs.Threads.{is_live}
+use Rattle.ipc_core.specs.Again.{MakesRoom}
 use Rattle.ipc_core.specs.KernelParts.{KernelParts}
 use Rattle.ipc_core.specs.Laws.{IsSound}
 use Rattle.ipc_core.specs.Obeying.{MayObey}
-use Rattle.ipc_core.specs.Outcomes.{is_busy}
+use Rattle.ipc_core.specs.Outcomes.{has_untaken, is_busy}
 use Rattle.ipc_core.specs.declared.command.Answer.{Answer}
 use Rattle.ipc_core.specs.declared.command.Answer.TheVariants.{Opened}
 use Rattle.ipc_core.specs.declared.command.Command.{Command}
@@ -21,6 +24,7 @@ use Rattle.ipc_connection.specs.declared.replying.Told.{Told}
 use Rattle.ipc_connection.specs.declared.replying.Told.TheVariants as tells
 use Rattle.ipc_words.specs.Limits.{table_slots}
 use Rattle.ipc_exchange.specs.Slots.{is_call_of, ArePlaced, HasRoom, MayGet, IsFresh, IsPlaced, LineSlots, NoneServes, Ready, ReadyBut, ServiceSlots, SuitsStage, no_slots, slot_at, stage_at, table_told}
+use Rattle.ipc_core.proofs.AgainLaws.{let_go, made_room, room_history, room_sound}
 use Rattle.ipc_core.proofs.BusyLaws.{idle_stays}
 use Rattle.ipc_exchange.proofs.LiveLemmas.{has_opened, is_break_of, live_stays}
 
@@ -57,6 +61,25 @@ ended kernel slot e = record { greeting = λ f. (let no = sym e ∙ f in absurd 
 
 not_same : (a b : ℕ) → a ≢ b → (a == b) ≡ false
 not_same a b h = false_from_ne_true (a == b) (λ e. h (eqb-true a b e))
+
+-- room that is made for a command keeps a service ready for it
+same_busy : (old : KernelParts) (limit room : ℕ) (held : HeldParts) (thread : ℕ) → is_busy (let_go old limit held room) thread ≡ is_busy old thread
+unfolding is_busy has_untaken
+same_busy old limit room held thread = refl
+
+pub room_ready : (upto : ℕ) (s : ServiceSlots) (command : Command) (roomy : KernelParts) → MakesRoom upto s.kernel command roomy → Ready s → Ready (record s { kernel = roomy })
+room_ready upto s command roomy makes ready = record {
+  sound = room_sound upto s.kernel roomy command makes ready.sound;
+  placed = λ q t e. (let was = ready.placed q t e in record { live = ap (λ H. is_live H t) same ∙ was.live; within = was.within; found = was.found });
+  table = ready.table;
+  room = λ q. (let room = ready.room q in record { greeting = room.greeting; serving = room.serving; busy = λ t e is. room.busy t e (sym (busy t) ∙ is) });
+}
+  where
+    same : roomy.history ≡ s.kernel.history
+    same = room_history upto s.kernel roomy command makes
+
+    busy : (t : ℕ) → is_busy roomy t ≡ is_busy s.kernel t
+    busy t = made_room (λ (k : KernelParts). is_busy k t ≡ is_busy s.kernel t) upto s.kernel roomy command (λ limit room held e. same_busy s.kernel limit room held t) makes refl
 
 -- a command of the line in a place
 pub obeyed_ready : (s : ServiceSlots) (command : Command) (answer : Answer) (new : KernelParts) (place : ℕ) → Ready s → SuitsStage (stage_at s.slots place) command → IsSound new → MayObey s.kernel command answer new → ReadyBut place (record s { kernel = new })

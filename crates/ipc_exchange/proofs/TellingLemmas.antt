@@ -1,8 +1,9 @@
 -- What is told when a line is served.
-use Rattle.std.proofs.Common.{◌≡◌, ℕ, ◌+◌, ◌<◌, ◌≤◌, List, [], ◌∷◌, ◌++◌, drop, length, refl, sym, ap, ap₂, subst, ◌∙◌, Option, Some, None, inl, inr, arith, zero, suc}
+use Rattle.std.proofs.Common.{false, ◌≡◌, ℕ, ◌+◌, ◌<◌, ◌≤◌, List, [], ◌∷◌, ◌++◌, drop, length, refl, sym, ap, ap₂, subst, ◌∙◌, Option, Some, None, inl, inr, arith, zero, suc}
 use Rattle.std.specs.Prelude.{slice_set, slice_index_or, Result, Ok, Err, IfSome}
 use Rattle.std.proofs.lemmas.List.{length-set, map-set, set-get_or}
 use Rattle.ipc_frame.specs.declared.fault.FrameFault.{FrameFault}
+use Rattle.ipc_core.specs.Again.{MayObeyAgain, lacks_entries}
 use Rattle.ipc_core.specs.KernelParts.{KernelParts}
 use Rattle.ipc_core.specs.Laws.{IsSound}
 use Rattle.ipc_core.specs.Obeying.{Does as KernelDoes, MayObey, Obeys, ObeysOr, cause_of}
@@ -23,10 +24,10 @@ use Rattle.ipc_connection.specs.declared.stage.Stage.TheVariants.{Greeting, Serv
 use Rattle.ipc_connection.specs.declared.replying.Told.{Told}
 use Rattle.ipc_connection.specs.declared.replying.Told.TheVariants as tells
 use Rattle.ipc_exchange.specs.Service.{Line, at_rest, delivered, line_at, nobody, told_line, without_bytes}
-use Rattle.ipc_exchange.specs.Serving.{Asked, Does, DoesAlone, Leaves, MayLack, Serves, ServesBy, Tells, told_of}
+use Rattle.ipc_exchange.specs.Serving.{Asked, Does, DoesAlone, Leaves, MayLack, Serves, ServesBy, Tells, every_entry, told_of}
 use Rattle.ipc_exchange.specs.Slots.{CanAsk, CanDo, CanServe, CanTell, HasRoom, IsPlaced, LineSlots, MayGet, NoneServes, Ready, ServiceSlots, StaysReady, SuitsRequest, SuitsTold, WantsRoom, lines_of, no_slots, service_of, slot_at, stage_at, table_told}
-use Rattle.ipc_exchange.proofs.ReadyLemmas.{ample, ended, left_alone, obeyed_ready, opened_fresh, roomier, told_ready}
-use Rattle.ipc_exchange.proofs.RestedLemmas.{rested_obeys}
+use Rattle.ipc_exchange.proofs.ReadyLemmas.{ample, ended, left_alone, obeyed_ready, opened_fresh, room_ready, roomier, told_ready}
+use Rattle.ipc_exchange.proofs.RestedLemmas.{rested_alone, rested_obeys}
 
 pub at_line : (slots : List LineSlots) (place : ℕ) (slot : LineSlots) → place < length slots → slot ≡ slice_index_or slots place slot → slot_at slots place ≡ slot
 at_line [] place slot h e = absurd (omega arith)
@@ -115,13 +116,16 @@ pub told_free : (s now : ServiceSlots) (place : ℕ) (told : Told) → CanTell s
 told_free s now place told can placed = let one = suits_one _ told can.room in rw placed one
 
 -- a line whose request the kernel obeyed can be told the answer
-pub can_tell : (old middle : ServiceSlots) (place : ℕ) (command : Command) (told : Told) → CanDo old place command → IsSound middle.kernel → ((said : Answer) × MayObey old.kernel command said middle.kernel × (told ≡ told_of said)) → middle.slots ≡ old.slots → middle.table ≡ old.table → CanTell middle place told
+pub can_tell : (old middle : ServiceSlots) (place : ℕ) (command : Command) (told : Told) → CanDo old place command → IsSound middle.kernel → ((said : Answer) × MayObeyAgain every_entry old.kernel command said middle.kernel × (told ≡ told_of said)) → middle.slots ≡ old.slots → middle.table ≡ old.table → CanTell middle place told
 can_tell old middle place command told can after obeyed slots table =
     let there : record old { kernel = middle.kernel } ≡ middle = ap₂ (λ s t. record { kernel = middle.kernel; slots = s; table = t }) (sym slots) (sym table) in
-    let fresh : MayGet middle.kernel old.slots place told = subst (MayGet middle.kernel old.slots place) (sym obeyed.2) (fresh_told old command obeyed.0 middle.kernel place can.ready after obeyed.1) in
+    let again = obeyed.1 in
+    let roomy : ServiceSlots = record old { kernel = again.roomy } in
+    let ready : Ready roomy = room_ready every_entry old command again.roomy again.makes_room can.ready in
+    let fresh : MayGet middle.kernel old.slots place told = subst (MayGet middle.kernel old.slots place) (sym obeyed.2) (fresh_told roomy command obeyed.0 middle.kernel place ready after again.obeys) in
     subst (λ s. CanTell s place told) there (record {
       within = can.within;
-      ready = obeyed_ready old command obeyed.0 middle.kernel place can.ready can.suits after obeyed.1;
+      ready = obeyed_ready roomy command obeyed.0 middle.kernel place ready can.suits after again.obeys;
       room = suits_any _ told can.room;
       fresh = fresh;
     })
@@ -147,7 +151,7 @@ tells_by old told_now left last place told kernel lines leaves slots is = (
 )
 
 -- a command that is obeyed, and told
-pub does_by : (old middle last : ServiceSlots) (place : ℕ) (given : Command) (told : Told) → ((said : Answer) × MayObey old.kernel given said middle.kernel × (told ≡ told_of said)) → middle.slots ≡ old.slots → ((asked : List Asked) × Tells MayLack (service_of middle) place told asked (service_of last)) → (asked : List Asked) × Does MayLack (service_of old) place given asked (service_of last)
+pub does_by : (old middle last : ServiceSlots) (place : ℕ) (given : Command) (told : Told) → ((said : Answer) × MayObeyAgain every_entry old.kernel given said middle.kernel × (told ≡ told_of said)) → middle.slots ≡ old.slots → ((asked : List Asked) × Tells MayLack (service_of middle) place told asked (service_of last)) → (asked : List Asked) × Does MayLack (service_of old) place given asked (service_of last)
 does_by old middle last place given told obeyed slots tells =
     let here : Tells MayLack (record { kernel = at_rest middle.kernel; lines = lines_of old.slots }) place told tells.0 (service_of last) = subst (λ (s : List LineSlots). Tells MayLack (record { kernel = at_rest middle.kernel; lines = lines_of s }) place told tells.0 (service_of last)) slots tells.1 in (
       record { command = given; answer = obeyed.0 } ∷ tells.0,
@@ -244,8 +248,8 @@ pub end_refuse : (s : ServiceSlots) (place class number : ℕ) → CanAsk s plac
 end_refuse s place class number can = can_end s place (tells.Faulted class number) can.within can.ready can.suits tt
 
 -- a command of nobody's
-pub does_alone : (s middle last : ServiceSlots) (command : Command) (said : Answer) → MayObey s.kernel command said middle.kernel → middle.slots ≡ s.slots → service_of last ≡ delivered (at_rest middle.kernel) (lines_of middle.slots) → DoesAlone MayLack (service_of s) command (service_of last)
-does_alone s middle last command said obeys slots is = (said, (at_rest middle.kernel, rested_obeys s.kernel command said middle.kernel obeys, is ∙ ap (λ l. delivered (at_rest middle.kernel) (lines_of l)) slots))
+pub does_alone : (s middle last : ServiceSlots) (command : Command) (said : Answer) → lacks_entries s.kernel command ≡ false → MayObey s.kernel command said middle.kernel → middle.slots ≡ s.slots → service_of last ≡ delivered (at_rest middle.kernel) (lines_of middle.slots) → DoesAlone MayLack (service_of s) command (service_of last)
+does_alone s middle last command said other obeys slots is = (said, (at_rest middle.kernel, rested_alone s.kernel command said middle.kernel other obeys, is ∙ ap (λ l. delivered (at_rest middle.kernel) (lines_of l)) slots))
 
 -- a line that changes in its bytes alone, with no less room
 module _ (s : ServiceSlots) (place : ℕ) (read new : LineSlots) (within : place < length s.slots) (there : read ≡ slice_index_or s.slots place read) where

@@ -1,8 +1,9 @@
 -- How what is heard on a connection is served.
-use Rattle.std.specs.Prelude.{◌≡◌, ℕ, List, [], ◌∷◌, ◌++◌, Option, Some, None, Result, slice_set, ◌⊎◌}
+use Rattle.std.specs.Prelude.{◌≡◌, ℕ, ◌-◌, ◌^◌, List, [], ◌∷◌, ◌++◌, Option, Some, None, Result, slice_set, ◌⊎◌}
 use Rattle.ipc_frame.specs.declared.fault.FrameFault.{FrameFault}
 use Rattle.ipc_frame.specs.declared.frame.Frame.{Frame}
 use Rattle.ipc_frame.specs.Stream.{Stream}
+use Rattle.ipc_core.specs.Again.{MakesRoom}
 use Rattle.ipc_core.specs.KernelParts.{KernelParts}
 use Rattle.ipc_core.specs.Obeying.{Obeys, MayObey}
 use Rattle.ipc_core.specs.RefusalNumbers.{refusal_number}
@@ -37,10 +38,18 @@ abbrev pub AnswersIn : Memory → KernelParts → Command → Answer → KernelP
 AnswersIn Ample old command answer new = Obeys old command answer new
 AnswersIn MayLack old command answer new = MayObey old command answer new
 
--- a command is obeyed; between commands a kernel is seen at rest
-abbrev pub ObeysIn : Memory → KernelParts → Command → Answer → KernelParts → Type 0
-ObeysIn memory old command answer new =
-    (after : KernelParts) × AnswersIn memory old command answer after × (new ≡ at_rest after)
+-- a compaction that an exchange asks for goes up to the last entry
+abbrev pub every_entry : ℕ
+every_entry = 2 ^ 64 - 1
+
+-- a command is obeyed. Where K5 is the first cause to refuse it, memory first lets go of what need not be held; the history stays what
+-- it was. Between commands a kernel is seen at rest
+pub record ObeysIn (memory : Memory) (old : KernelParts) (command : Command) (answer : Answer) (new : KernelParts) : Type 0 where
+  pub roomy : KernelParts
+  pub makes_room : MakesRoom every_entry old command roomy
+  pub after : KernelParts
+  pub answers : AnswersIn memory roomy command answer after
+  pub new_is : new ≡ at_rest after
 
 -- what a kernel's answer tells a connection
 abbrev pub told_of : Answer → Told

@@ -2,6 +2,7 @@ ghost use Rattle.std.specs.Prelude.{◌≡◌, ◌<◌, IfOk, false, length, min
 ghost use Rattle.ipc_words.specs.Limits.{max_calls, max_entries, table_slots};
 ghost use Rattle.ipc_history.specs.Legal.{Legal, Quiet};
 ghost use Rattle.ipc_history.specs.Paired.{Paired};
+ghost use Rattle.ipc_core.specs.Again.{MayObeyAgain};
 ghost use Rattle.ipc_core.specs.Laws.{IsSound};
 ghost use Rattle.ipc_core.specs.Obeying.{MayObey, broke_answer, empty_kernel};
 ghost use Rattle.ipc_core.specs.Outcomes.{outcome_to_take};
@@ -9,6 +10,7 @@ ghost use Rattle.ipc_core.specs.Steps.{taken_after};
 ghost use Rattle.ipc_core.specs.declared.command.Answer.TheVariants.{Advanced, Done, Taken};
 ghost use Rattle.ipc_core.specs.declared.command.Command.TheVariants as command;
 ghost use Rattle.ipc_exchange.specs.Due.{NothingDue};
+ghost use Rattle.ipc_exchange.specs.Serving.{every_entry};
 
 use crate::due::{mark_all, mark_one, own_thread};
 use ipc_core::{Advance, Answer, Command, Kernel, Limits, NoThread};
@@ -17,6 +19,9 @@ use ipc_words::ThreadId;
 use ipc_words::limits::TABLE_SLOTS;
 use std::alloc::{AllocError, Global};
 use std::marker::Model;
+
+/// How far a compaction goes: up to the last entry.
+const EVERY_ENTRY: usize = usize::MAX;
 
 /// A kernel, seen as such, that knows which threads may have an outcome to take.
 #[derive(Drop)]
@@ -70,12 +75,12 @@ impl Desk {
         self.due[number]
     }
 
-    /// Obeys a command, and answers it.
+    /// Obeys a command, and answers it; where it is refused with K5, once more after memory let go of all that need not be held.
     pub(crate) fn obey(&mut self, command: Command) -> Answer
-        ensures obeys { MayObey self.old command result self.new }
+        ensures obeys { MayObeyAgain every_entry self.old command result self.new }
     {
         let own = own_thread(&command);
-        let answer = self.kernel.obey(command);
+        let answer = self.kernel.obey_again(command, EVERY_ENTRY);
         // its contract says that the kernel is sound
         let _ = self.kernel.history();
         mark_one(&mut self.due, own);

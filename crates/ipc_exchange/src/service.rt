@@ -4,6 +4,7 @@ ghost use Rattle.ipc_words.specs.ThreadId.{number_of};
 ghost use Rattle.ipc_words.specs.Limits.{max_calls, max_entries, table_slots};
 ghost use Rattle.ipc_history.specs.Legal.{Legal, Quiet};
 ghost use Rattle.ipc_history.specs.Paired.{Paired};
+ghost use Rattle.ipc_core.specs.Again.{MayObeyAgain};
 ghost use Rattle.ipc_core.specs.Laws.{IsSound};
 ghost use Rattle.ipc_core.specs.Obeying.{MayObey, empty_kernel, broke_answer};
 ghost use Rattle.ipc_core.specs.declared.command.Answer.{Answer};
@@ -13,7 +14,8 @@ ghost use Rattle.ipc_connection.specs.Replying.{next_stage, thread_left};
 ghost use Rattle.ipc_exchange.specs.Feeding.{has_finished};
 ghost use Rattle.ipc_exchange.specs.Service.{at_rest, delivered, line_at, place_of};
 ghost use Rattle.ipc_exchange.specs.Service.{told_line, told_outcome, with_line, without_bytes};
-ghost use Rattle.ipc_exchange.specs.Serving.{Asked, Does, DoesAlone, Leaves, MayLack, Serves, ServesBy, Tells, told_of};
+ghost use Rattle.ipc_exchange.specs.Serving.{Asked, Does, DoesAlone, Leaves, MayLack, Serves, ServesBy, Tells};
+ghost use Rattle.ipc_exchange.specs.Serving.{every_entry, told_of};
 ghost use Rattle.ipc_exchange.specs.Slots.{CanAsk, CanDo, CanServe, CanTell, NoneServes, Ready};
 ghost use Rattle.ipc_exchange.specs.Slots.{StaysReady, lines_of, service_of, slot_at, stage_at};
 ghost use Rattle.ipc_exchange.specs.Slots.{table_told};
@@ -251,7 +253,8 @@ impl Service {
     }
 
     fn obey(&mut self, command: Command) -> Told
-        ensures kernel { (answer : Answer) × MayObey self.old.kernel command answer self.new.kernel × (result ≡ told_of answer) }
+        ensures kernel { (answer : Answer) × MayObeyAgain every_entry self.old.kernel command answer self.new.kernel
+            × (result ≡ told_of answer) }
         ensures slots { self.new.slots ≡ self.old.slots }
         ensures table { self.new.table ≡ self.old.table }
         ensures sound { IsSound self.new.kernel }

@@ -60,6 +60,9 @@ const K1: &[u8] = b"\x00\x00\x00\x02\x84\x01";
 
 const K2: &[u8] = b"\x00\x00\x00\x02\x84\x02";
 
+// the refusal K5
+const K5: &[u8] = b"\x00\x00\x00\x02\x84\x05";
+
 // the faults F3, F9, K7, S1
 const F3: &[u8] = b"\x00\x00\x00\x03\x85\x46\x03";
 
@@ -452,5 +455,66 @@ fn the_last_connection_is_the_65535th(rt: HostRuntime) -> Result<(), Fail> {
     assert_eq!(rt; exchange.connections(), 65_535);
     assert_eq!(rt; exchange.progress(65_535), Progress::Running);
     assert_eq!(rt; exchange.progress(65_536), Progress::Finished);
+    Ok(())
+}
+
+// Two connections with the threads 1.1 and 2.1, over a history of so few entries.
+fn pair(alloc: Global, entries: u64) -> Result<Exchange, Fail> {
+    let mut exchange = Exchange::new(
+        alloc,
+        Limits {
+            entries,
+            calls: MAX_CALLS,
+        },
+    )?;
+    for hello in [HELLO_1, HELLO_2] {
+        let number = exchange.connect(1).ok().ok_or("a connection")?;
+        let _ = exchange.feed(number, hello);
+    }
+    Ok(exchange)
+}
+
+#[test]
+fn little_room_carries_many_messages(rt: HostRuntime) -> Result<(), Fail> {
+    let mut exchange = pair(rt.alloc(), 64)?;
+    assert_out(&rt, &mut exchange, 1, &[WELCOME_1], Cut::Not);
+    assert_out(&rt, &mut exchange, 2, &[WELCOME_2], Cut::Not);
+    for _ in 0..100_u64 {
+        let _ = exchange.feed(1, RECEIVE);
+        let _ = exchange.feed(2, SEND);
+        assert_out(&rt, &mut exchange, 1, &[RECEIVED], Cut::Not);
+        assert_out(&rt, &mut exchange, 2, &[SENT], Cut::Not);
+    }
+    // a connection that comes late gets its thread
+    let number = exchange.connect(1).ok().ok_or("a connection")?;
+    let _ = exchange.feed(number, b"\x00\x00\x00\x03\x01\x00\x03");
+    assert_out(
+        &rt,
+        &mut exchange,
+        number,
+        &[b"\x00\x00\x00\x09\x81\x00\x00\x00\x03\x00\x00\x00\x01"],
+        Cut::Not,
+    );
+    Ok(())
+}
+
+#[test]
+fn what_open_calls_need_is_no_room(rt: HostRuntime) -> Result<(), Fail> {
+    // the first call and what may come of it leave too little for the second thread
+    let mut exchange = Exchange::new(
+        rt.alloc(),
+        Limits {
+            entries: 10,
+            calls: MAX_CALLS,
+        },
+    )?;
+    for _ in 0..2_u64 {
+        let _ = exchange.connect(1);
+    }
+    let _ = exchange.feed(1, HELLO_1);
+    let _ = exchange.feed(1, RECEIVE);
+    let _ = exchange.feed(2, HELLO_2);
+    assert_out(&rt, &mut exchange, 1, &[WELCOME_1], Cut::Not);
+    assert_out(&rt, &mut exchange, 2, &[K5], Cut::Not);
     Ok(())
 }

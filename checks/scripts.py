@@ -8,7 +8,9 @@ They were worked out by hand from the rules. A long run of one byte stands as `{
 `mistake_..` are what people type first, and end with the reason.
 
 Then each example of examples/ prints what is stored beside it. And the script that `l4sh script` makes of a trace gives the trace back when it is run:
-of each example, and of each script in checks/scripts/run. The last line is `N passed, M failed`."""
+of each example, and of each script in checks/scripts/run.
+
+And what no script shows: `--version`, and a folder in place of a trace. The last line is `N passed, M failed`."""
 
 import glob
 import os
@@ -21,6 +23,7 @@ HERE = os.path.dirname(os.path.abspath(__file__))
 EXAMPLES = os.path.join(HERE, "..", "examples")
 OF_A_FILE = ("check", "state", "script")
 OF_A_WORD = ("explain", "tag", "period")
+VERSION = re.compile(rb"l4sh \d+\.\d+ \(rattle-kit-\w+ logic [0-9a-f]{16}\)\n(commit .*\n)?")
 RUN = re.compile(rb"\{([0-9a-f]{2})\*(\d+)\}")
 
 
@@ -101,6 +104,19 @@ def faults_of_script(l4sh, path):
         yield f"its trace is not given back: {there}"
 
 
+def faults_of_version(l4sh, _):
+    printed, status, told = ended([l4sh, "--version"])
+    if status or told or not VERSION.fullmatch(printed):
+        yield f"it ends so: {printed, status, told}"
+
+
+def faults_of_folder(l4sh, path):
+    for command in (*OF_A_FILE, "chart"):
+        there = ended([l4sh, command, path])
+        if there != (b"", 1, f"l4sh: device failed\n{path}: is a folder\n".encode()):
+            yield f"{command} ends so: {there}"
+
+
 def main():
     l4sh = sys.argv[1] if len(sys.argv) > 1 else os.path.join(HERE, "..", "l4sh")
     examples = sorted(glob.glob(f"{EXAMPLES}/*.l4"))
@@ -108,12 +124,13 @@ def main():
     looks = [(path[: -len(".in")], faults_of_stored) for path in sorted(glob.glob(f"{HERE}/scripts/*/*.in"))]
     looks += [(path, faults_of_example) for path in examples]
     looks += [(path, faults_of_script) for path in [*examples, *scripts]]
+    looks += [("--version", faults_of_version), (HERE, faults_of_folder)]
     failed = 0
     for path, faults_of in looks:
         faults = list(faults_of(l4sh, path))
         failed += bool(faults)
         for fault in faults:
-            print(f"{os.path.relpath(path, HERE)}: {fault}"[:600])
+            print(f"{path.removeprefix(f'{HERE}/')}: {fault}"[:600])
     print(f"{len(looks) - failed} passed, {failed} failed")
     return 1 if failed or not (examples and scripts) else 0
 

@@ -80,11 +80,14 @@ state_app = with_rule (with_rule (new_app (codes "state")) file_rule)
 abbrev pub word_app : Text → App
 word_app name = with_rule (new_app name) word_rule
 
+-- `l4sh`, which tells its version, and of whose subcommands one has to be there
+abbrev pub shell_named_app : App
+shell_named_app = on_top (λ shape. record shape { has_version = true; subcommand_required = true })
+    (new_app (codes "l4sh"))
+
 -- `l4sh` with `run` and `check`
 abbrev pub proving_app : App
-proving_app = with_subcommand (with_subcommand
-    (on_top (λ shape. record shape { subcommand_required = true }) (new_app (codes "l4sh")))
-    run_app.top) check_app.top
+proving_app = with_subcommand (with_subcommand shell_named_app run_app.top) check_app.top
 
 -- `l4sh` with `chart` and `wire` too
 abbrev pub drawing_app : App

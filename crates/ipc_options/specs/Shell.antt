@@ -1,8 +1,11 @@
 -- What the words of `l4sh` ask for.
-use Rattle.std.specs.Prelude.{◌≡◌, ◌≤◌, ◌⊎◌, ℕ, Bool, List, Option, Some, codes, option_map, true, false, ⊤, IsSome, IsSomeAnd}
+use Rattle.std.specs.Prelude.{◌≡◌, ◌≤◌, ◌⊎◌, ℕ, Bool, List, [], ◌∷◌, Option, Some, codes, option_map, true, false, ⊤, IsSome, IsSomeAnd}
 use Rattle.std.specs.Str.Parse.{digits_value, without_leading_plus}
 use Rattle.ipc_words.specs.Limits.{max_entries, max_calls, max_chart_entry}
 use Rattle.clap.specs.Words.{IsUnsignedIn, Row, Text, first_of, one_of, subcommand_of, takes}
+use Rattle.clap.specs.Values.{kind_of}
+use Rattle.clap.specs.declared.error.Error.{Error}
+use Rattle.clap.specs.declared.error.kind.ErrorKind.TheVariants.{DisplayVersion, OutOfMemory}
 use Rattle.ipc_options.specs.Command.{shell_app}
 use Rattle.ipc_options.specs.declared.shell.ChartOptions.{ChartOptions}
 use Rattle.ipc_options.specs.declared.shell.ScriptLimits.{ScriptLimits}
@@ -118,3 +121,11 @@ IsAskedBy words options =
 abbrev pub IsTaken : List Text → Type 0
 IsTaken words = (takes shell_app words ≡ true)
     × IsSomeAnd (subcommand_of shell_app words) (λ named. Reads named.0 named.1)
+
+-- the words ask for the version and for nothing else
+abbrev pub AsksVersion : List Text → Type 0
+AsksVersion words = (program : Text) × (words ≡ program ∷ codes "--version" ∷ [])
+
+-- the version is told, or memory ran out
+abbrev pub TellsVersion : Error → Type 0
+TellsVersion error = (kind_of error ≡ DisplayVersion) ⊎ (kind_of error ≡ OutOfMemory)

@@ -10,9 +10,6 @@ pub const MAX_SPACES: u16 = MAX_SPACE as u16;
 /// The permissions of a socket's path without `--mode`: its owner alone.
 pub const OWNER_ONLY: u32 = 0o600;
 
-/// The version of `l4d` and the toolchain that it is proved with.
-pub const VERSION: &str = "1.0 (rattle-kit-13b logic dac8208d650f15bf)";
-
 /// What `l4d` was asked for.
 #[derive(Drop)]
 pub struct ServerOptions<'a> {

@@ -10,7 +10,8 @@ ghost use Rattle.ipc_options.specs.Server.{AreWithinLimits, HasCountsIn, HasOpti
 ghost use Rattle.ipc_options.specs.Shell.{number_in};
 
 use crate::default_texts::{HELLO_WITHIN_TEXT, MAX_CONNECTIONS_TEXT};
-use crate::server::{MAX_SPACES, ServerOptions, VERSION};
+use crate::server::{MAX_SPACES, ServerOptions};
+use crate::version::VERSION;
 use clap::builder::ValueParser;
 use clap::error::ErrorKind;
 use clap::{Arg, ArgAction, ArgMatches, Command, Error};

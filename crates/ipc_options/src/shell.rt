@@ -1,5 +1,5 @@
 //! The options of `l4sh`, read from its words.
-ghost use Rattle.std.specs.Prelude.{◌≡◌, IfErr, IfOk, IfSome, IsSome, IsSomeAnd, Some, [], codes, false, option_map};
+ghost use Rattle.std.specs.Prelude.{◌≡◌, IfErr, IfOk, IfSome, IsErrAnd, IsSome, IsSomeAnd, Some, [], codes, false, option_map};
 ghost use Rattle.std.specs.Prelude.{map, string_bytes};
 ghost use Rattle.clap.specs.Words.{IsUnsignedIn, app_of, fault_of, first_of, found_of, kind_of, one_of, rows_of, rule_of};
 ghost use Rattle.clap.specs.Words.{subcommand_rows_of};
@@ -8,11 +8,12 @@ ghost use Rattle.ipc_options.specs.Command.{chart_app, chart_places_app, check_a
 ghost use Rattle.ipc_options.specs.Command.{explaining_app, file_rule, number_rule, proving_app, run_app};
 ghost use Rattle.ipc_options.specs.Command.{script_app, shell_app, state_app, text_rule, threads_rule, tracing_app};
 ghost use Rattle.ipc_options.specs.Command.{wire_app, word_app, word_rule};
-ghost use Rattle.ipc_options.specs.Shell.{AreWithinLimits, HasLimitsIn, HasMatchesIn, IsAskedBy, IsFlagIn};
+ghost use Rattle.ipc_options.specs.Shell.{AreWithinLimits, AsksVersion, HasLimitsIn, HasMatchesIn, IsAskedBy, IsFlagIn};
 ghost use Rattle.ipc_options.specs.Shell.{IsTaken, IsWithinLimits, Reads, ReadsAsChart, ReadsAsCheck, ReadsAsRun};
-ghost use Rattle.ipc_options.specs.Shell.{ReadsAsState, ReadsAsWord, TakesWord, number_in};
+ghost use Rattle.ipc_options.specs.Shell.{ReadsAsState, ReadsAsWord, TakesWord, TellsVersion, number_in};
 
 use crate::default_texts::{MAX_CALLS_TEXT, MAX_CHART_ENTRY_TEXT, MAX_ENTRIES_TEXT};
+use crate::version::VERSION;
 use clap::builder::ValueParser;
 use clap::error::ErrorKind;
 use clap::{Arg, ArgAction, ArgMatches, Command, Error};
@@ -76,8 +77,8 @@ pub struct StateOptions<'a> {
 }
 
 /// The command line of `l4sh`. The first word is the program's name. An `Err` is a mistake in the
-/// words, a request for help, or want of memory (the kind `OutOfMemory`), and its `Display` is the
-/// text for the user.
+/// words, a request for help or for the version (the kind `DisplayVersion`), or want of memory (the
+/// kind `OutOfMemory`), and its `Display` is the text for the user.
 pub fn shell_options<'a>(alloc: Global, words: &'a [String]) -> Result<ShellOptions<'a>, Error>
     ensures limits { IfOk result IsWithinLimits }
     ensures asked { IfOk result (IsAskedBy (map string_bytes words.entry.now)) }
@@ -85,6 +86,7 @@ pub fn shell_options<'a>(alloc: Global, words: &'a [String]) -> Result<ShellOpti
         fault_of shell_app (map string_bytes words.entry.now) ≡ []) }
     ensures taken { IfErr result (λ error. IsTaken (map string_bytes words.entry.now)
         → kind_of error ≡ ErrorKind.OutOfMemory) }
+    ensures version { AsksVersion (map string_bytes words.entry.now) → IsErrAnd result TellsVersion }
 {
     let mut command = shell_command(alloc)?;
     let matches = command.try_get_matches_from_mut(words)?;
@@ -134,6 +136,7 @@ fn proving_command<'a>(alloc: Global) -> Result<Command<'a>, AllocError>
 {
     Command::new(alloc, "l4sh")
         .about("A shell for synchronous IPC between threads")
+        .version(VERSION)
         .subcommand_required(true)
         .subcommand(run_command(alloc)?)?
         .subcommand(check_command(alloc)?)
@@ -710,7 +713,10 @@ mod tests {
 
     #[test]
     fn refuses(rt: HostRuntime) -> Result<(), Fail> {
-        let cases: [(&[&str], ErrorKind); 16] = [
+        let cases: [(&[&str], ErrorKind); 19] = [
+            (&["l4sh", "--version"], ErrorKind::DisplayVersion),
+            (&["l4sh", "-V"], ErrorKind::DisplayVersion),
+            (&["l4sh", "run", "--version"], ErrorKind::UnknownArgument),
             (
                 &["l4sh", "run", "--entries", "1048577"],
                 ErrorKind::ValueValidation,
@@ -744,5 +750,19 @@ mod tests {
             (&["l4sh", "help"], ErrorKind::DisplayHelp),
         ];
         assert_refused(&rt, rt.alloc(), &cases)
+    }
+
+    #[test]
+    fn the_version_is_that_of_the_program(rt: HostRuntime) -> Result<(), Fail> {
+        let strings = words_of(rt.alloc(), &["l4sh", "--version"])?;
+        match shell_options(rt.alloc(), &strings) {
+            Ok(options) => assert!(rt; false, "{options:?}"),
+            Err(error) => {
+                let text = error.to_string(rt.alloc())?;
+                let expected = format!(in rt.alloc(); "l4sh {VERSION}\n")?;
+                assert_eq!(rt; text.as_str(), expected.as_str());
+            }
+        }
+        Ok(())
     }
 }

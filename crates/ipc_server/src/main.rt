@@ -16,7 +16,6 @@ mod taker;
 #[cfg(test)]
 mod tests;
 mod tracing;
-mod version;
 
 use accepting::serve_all;
 use clap::error::ErrorKind;
@@ -43,7 +42,6 @@ use std::sync::ledger::{Blank, Ledger};
 use std::thread::Threads;
 use std::{io, thread};
 use tracing::{Trace, TraceFault, trace_file};
-use version::tell_version;
 
 /// How many parts the ledgers of the seats have.
 const PARTS: u64 = 1 << 63;

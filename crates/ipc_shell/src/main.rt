@@ -22,7 +22,7 @@ use clap::error::ErrorKind;
 use exit::Exit;
 use ipc_core::{Limits, MAX_CALLS, MAX_ENTRIES};
 use ipc_explain::{answer_period, answer_tag, explain};
-use ipc_options::{ChartOptions, ScriptLimits, ShellOptions, shell_options};
+use ipc_options::{ChartOptions, ScriptLimits, ShellOptions, shell_options, tell_version};
 use ipc_ports::{Failures, PortWrite, ReadPort, WritePort};
 use ipc_reasons::{Grammar, reason_of};
 use ipc_words::limits::{MAX_LINE_BYTES, MAX_SPACE};
@@ -30,7 +30,7 @@ use kept::{KeptPort, Tail};
 use looking::{Look, look_at_trace, print_answer};
 use run::run_script;
 use std::alloc::{AllocError, Global};
-use std::fs::File;
+use std::fs::{self, File};
 use std::io;
 use std::marker::Brand;
 use std::process::ExitCode;
@@ -80,6 +80,10 @@ fn main(rt: HostRuntime) -> io::Result<ExitCode> {
         }
         Err(error) if error.kind() == ErrorKind::OutOfMemory => {
             ended(&rt, &Ending::from(Exit::NoMemory))
+        }
+        Err(error) if error.kind() == ErrorKind::DisplayVersion => {
+            tell_version(&rt, alloc, &error)?;
+            Ok(ExitCode::from(0))
         }
         Err(error) => {
             rt.eprint(&error)?;
@@ -164,7 +168,23 @@ fn look<L: Ledger, R: Files, W: PortWrite>(
         Trace::Chart(options) => chart_trace(alloc, options, &mut reader, writer),
         Trace::Look(look) => look_at_trace(alloc, *look, &mut reader, writer),
     };
+    if exit == Exit::DeviceFailed {
+        return device_failed(rt, alloc, file);
+    }
     with_reason(alloc, exit, Grammar::Trace, reader.tail())
+}
+
+/// A device failed. The reason is the file where that is a folder, which can be opened and not read. Without memory
+/// there is no reason.
+fn device_failed<R: Files>(rt: &R, alloc: Global, file: &str) -> Ending {
+    let exit = Exit::DeviceFailed;
+    match fs::metadata(rt, file) {
+        Ok(found) if found.is_dir() => Ending {
+            exit,
+            reason: format!(in alloc; "{file}: is a folder").ok(),
+        },
+        _ => Ending::from(exit),
+    }
 }
 
 /// A file that cannot be opened is a device that failed, and the reason names it. Without memory there is no reason.

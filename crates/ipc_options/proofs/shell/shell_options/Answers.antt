@@ -6,6 +6,7 @@ use Rattle.clap.specs.Words.{subcommand_of, subcommand_rows_of, takes}
 use Rattle.clap.specs.declared.parser.matches.ArgMatches.{ArgMatches}
 use Rattle.ipc_options.specs.Command.{shell_app}
 use Rattle.ipc_options.specs.Shell.{HasMatchesIn, Reads}
+use Rattle.ipc_options.proofs.Versions.{asked, is_some_fault, told}
 use Rattle.ipc_options.proofs.shell.shell_options.Goals as goal
 
 -- the subcommand that a parse of `l4sh` entered is the one that the words name
@@ -44,3 +45,26 @@ returns-clause-taken c =
     let reads = subst (λ (named : Option (Text × List Row)). IsSomeAnd named (λ p. Reads p.0 p.1)) (sym named) taken.1 in
     let bad = c.in-None.ensures.found reads in
     cc
+
+-- the fault of words that ask for the version, as the parse has it
+pub returns-in_err-matches-clause-version : goal.returns-in_err-matches-clause-version
+returns-in_err-matches-clause-version c =
+    let p = err_from_is_err_and c.from_residual-in_err-matches.result c.from_residual-in_err-matches.ensures.1 in
+    let words = map string_bytes c.args.words.now in
+    let same = ap (λ (app : App). fault_of app words) c.in_ok-command.ensures in
+    rw (p.1, p.2) (λ asks. told _ _ _ c.in_err-matches.was (same ∙ asked words asks)
+    (c.in_err-matches.ensures.kinds (ap is_simple_and_free c.in_ok-command.ensures)))
+
+pub returns-in-Some-clause-version : goal.returns-in-Some-clause-version
+returns-in-Some-clause-version c =
+    let words = map string_bytes c.args.words.now in
+    let same = ap (λ (app : App). fault_of app words) c.in_ok-command.ensures in
+    let none = c.in_ok-matches.ensures.kinds (ap is_simple_and_free c.in_ok-command.ensures) in
+    λ asks. is_some_fault _ none (same ∙ asked words asks)
+
+pub returns-clause-version : goal.returns-clause-version
+returns-clause-version c =
+    let words = map string_bytes c.args.words.now in
+    let same = ap (λ (app : App). fault_of app words) c.in_ok-command.ensures in
+    let none = c.in_ok-matches.ensures.kinds (ap is_simple_and_free c.in_ok-command.ensures) in
+    λ asks. absurd (is_some_fault _ none (same ∙ asked words asks))

@@ -6,10 +6,19 @@ use std::io;
 use std::path::PathBuf;
 use std::rt::Files;
 
+/// The version of `l4d` and `l4sh`, and the toolchain that they are proved with.
+pub const VERSION: &str = "1.0 (rattle-kit-13b logic dac8208d650f15bf)";
+
 /// The file beside an installed program that has the commit that it was made of.
 const COMMIT: &str = "commit";
 
-/// Prints the name and the version, and where it is known the commit.
+/// Prints on standard output the name of a program and its version, which an error of the kind
+/// `DisplayVersion` has, and on a line of its own the commit where a file `commit` stands beside the
+/// program.
+///
+/// # Errors
+///
+/// The system's, where standard output cannot be written.
 pub fn tell_version<R: Files + Alloc + Print>(
     rt: &R,
     alloc: Global,

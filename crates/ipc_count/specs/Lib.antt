@@ -1,0 +1,4 @@
+pub mod Events
+pub mod Groups
+pub mod Rows
+pub mod Walked

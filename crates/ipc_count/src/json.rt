@@ -1,0 +1,55 @@
+use crate::event::Event;
+use crate::groups::Groups;
+use crate::row::{Row, Waits, row_of};
+use ipc_lines::IdText;
+use ipc_words::ThreadId;
+use std::alloc::{AllocError, Global};
+
+/// The counts as a JSON object: `pairs`, an object for each pair of threads in the order of their words,
+/// and `all`, all together. Times are in microseconds; null without a message.
+pub fn json_of(alloc: Global, groups: &Groups, events: &[Event]) -> Result<String, AllocError> {
+    let mut text = String::new(alloc);
+    text.push_str("{\"pairs\": [")?;
+    let mut is_first = true;
+    for (pair, of_pair) in groups {
+        text.push_str(if is_first { "\n" } else { ",\n" })?;
+        is_first = false;
+        let (from, to) = *pair;
+        let from = IdText(ThreadId::from_word(from));
+        let to = IdText(ThreadId::from_word(to));
+        write!(text, "  {{\"from\": \"{from}\", \"to\": \"{to}\", ")?;
+        put_row(&mut text, &row_of(alloc, of_pair)?)?;
+    }
+    text.push_str("\n], \"all\": {")?;
+    put_row(&mut text, &row_of(alloc, events)?)?;
+    text.push_str("}\n")?;
+    Ok(text)
+}
+
+// The members of a row, and the end of its object.
+fn put_row(text: &mut String, row: &Row) -> Result<(), AllocError> {
+    let (calls, messages) = (row.calls, row.messages);
+    let (bytes, failures) = (row.bytes, row.failures);
+    write!(
+        text,
+        "\"calls\": {calls}, \"messages\": {messages}, \"bytes\": {bytes}, \"failures\": {failures}, "
+    )?;
+    text.push_str("\"sends_took\": ")?;
+    put_waits(text, &row.sent)?;
+    text.push_str(", \"receives_took\": ")?;
+    put_waits(text, &row.received)?;
+    text.push_str("}")
+}
+
+fn put_waits(text: &mut String, waits: &Option<Waits>) -> Result<(), AllocError> {
+    match waits {
+        Some(waits) => {
+            let (median, most, longest) = (waits.median, waits.most, waits.longest);
+            write!(
+                text,
+                "{{\"median\": {median}, \"99_of_100\": {most}, \"longest\": {longest}}}"
+            )
+        }
+        None => text.push_str("null"),
+    }
+}

@@ -1,0 +1,91 @@
+use crate::event::Event;
+use crate::groups::Groups;
+use crate::row::{Row, Waits, row_of};
+use ipc_lines::IdText;
+use ipc_words::ThreadId;
+use std::alloc::{AllocError, Global};
+
+// How many places the cells of a line take, but for the last one.
+const WIDTHS: [usize; 7] = [8, 8, 8, 10, 12, 10, 20];
+
+/// The counts in words: what the times are, a line of heads, a line for each pair of threads in the order
+/// of their words, and one for all together. Times are in microseconds.
+pub fn tell_counts(alloc: Global, groups: &Groups, events: &[Event]) -> Result<String, AllocError> {
+    let mut text = String::new(alloc);
+    tell_heads(&mut text)?;
+    for (pair, of_pair) in groups {
+        let (from, to) = *pair;
+        let from = format!(in alloc; "{}", IdText(ThreadId::from_word(from)))?;
+        let to = format!(in alloc; "{}", IdText(ThreadId::from_word(to)))?;
+        let row = row_of(alloc, of_pair)?;
+        tell_row(alloc, &mut text, from.as_str(), to.as_str(), &row)?;
+    }
+    let row = row_of(alloc, events)?;
+    tell_row(alloc, &mut text, "all", "all", &row)?;
+    Ok(text)
+}
+
+// The heads of the columns.
+fn tell_heads(text: &mut String) -> Result<(), AllocError> {
+    let heads = [
+        "from",
+        "to",
+        "calls",
+        "messages",
+        "bytes",
+        "failures",
+        "sends took",
+    ];
+    text.push_str("took: median, 99 of 100 and longest, in µs\n")?;
+    for (head, width) in heads.iter().zip(WIDTHS) {
+        tell_cell(text, head, width)?;
+    }
+    text.push_str("receives took\n")
+}
+
+// The line of a pair.
+fn tell_row(
+    alloc: Global,
+    text: &mut String,
+    from: &str,
+    to: &str,
+    row: &Row,
+) -> Result<(), AllocError> {
+    tell_cell(text, from, WIDTHS[0])?;
+    tell_cell(text, to, WIDTHS[1])?;
+    let numbers = [row.calls, row.messages, row.bytes, row.failures];
+    for (number, width) in numbers
+        .iter()
+        .zip([WIDTHS[2], WIDTHS[3], WIDTHS[4], WIDTHS[5]])
+    {
+        let number = format!(in alloc; "{number}")?;
+        tell_cell(text, number.as_str(), width)?;
+    }
+    let sent = waits_text(alloc, &row.sent)?;
+    tell_cell(text, sent.as_str(), WIDTHS[6])?;
+    let received = waits_text(alloc, &row.received)?;
+    text.push_str(received.as_str())?;
+    text.push_str("\n")
+}
+
+// Median, 99 of 100 and longest.
+fn waits_text(alloc: Global, waits: &Option<Waits>) -> Result<String, AllocError> {
+    match waits {
+        Some(waits) => {
+            let (median, most, longest) = (waits.median, waits.most, waits.longest);
+            format!(in alloc; "{median} {most} {longest}")
+        }
+        None => String::from_str(alloc, "-"),
+    }
+}
+
+// A text, and spaces up to a width; at least two.
+fn tell_cell(text: &mut String, cell: &str, width: usize) -> Result<(), AllocError> {
+    text.push_str(cell)?;
+    let taken = cell.chars().count();
+    text.push_str("  ")?;
+    for _ in 0..width.saturating_sub(taken.saturating_add(2)) {
+        text.push_str(" ")?;
+    }
+    Ok(())
+}

@@ -24,7 +24,7 @@ use host::Host;
 use ipc_core::{Limits, MAX_CALLS, MAX_ENTRIES};
 use ipc_host::{Guests, ProcessStatus, ServerClock, descriptors, room};
 use ipc_lock::SharedKernel;
-use ipc_options::{ServerOptions, server_options};
+use ipc_options::{ServerOptions, server_options, tell_version};
 use ipc_ports::{Failures, PortWrite};
 use paths::{listen, path_of, remove};
 use probe::probe;

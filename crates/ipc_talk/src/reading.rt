@@ -1,0 +1,196 @@
+use crate::calling::call_line;
+use crate::quoting::words_of;
+use crate::spelling::{read_control, read_number, read_thread, read_time};
+use ipc_lines::{HexText, IdText};
+use ipc_reasons::{Grammar, reason_of};
+use std::alloc::{AllocError, Global};
+
+/// What can be typed.
+pub const HELP: &str = "open NUMBER SPACE              a thread; without SPACE in space 1
+call ID to=ID from=ID ..       a call: to= sends, from= receives; any, local, 1.1, or 1 for 1.1
+     send=2ms receive=never    how long each phase may take
+     label=3 words=7,0x8       the message, and \"a text\" for each string
+     as=ID                     in the name of another thread of its space
+     buffers=100,20            for the strings that are received
+take ID                        the outcome of its last call
+exreg ID ID send|receive|both  stops phases of the second thread
+broke ID                       the thread ends
+at TIME                        the clock, as 5, 20us, 2ms or 1s
+advance                        copies the next block of a message
+help, quit                     and # begins a comment. The lines of scripts are taken, too
+";
+
+/// What a typed line stands for.
+#[derive(Drop)]
+pub enum Typed {
+    /// The exact line of a script.
+    Line(String),
+    /// No word, or a comment alone.
+    Nothing,
+    /// A request for help.
+    Help,
+    /// A request to end.
+    Quit,
+    /// A mistake, and why it is one.
+    Mistake(String),
+}
+
+/// What a line that was typed, without its newline, stands for. A line of a script stands for itself.
+pub fn read_typed(alloc: Global, typed: &[u8]) -> Result<Typed, AllocError> {
+    if let Some(line) = exact(alloc, typed)? {
+        return Ok(Typed::Line(line));
+    }
+    let Some(words) = words_of(alloc, typed)? else {
+        return mistake(alloc, "a quotation mark is missing");
+    };
+    let Some(name) = words.first() else {
+        return Ok(Typed::Nothing);
+    };
+    match name.as_slice() {
+        b"help" | b"?" => Ok(Typed::Help),
+        b"quit" | b"exit" => Ok(Typed::Quit),
+        b"open" => read_open(alloc, &words),
+        b"call" => read_call(alloc, &words),
+        b"take" => read_one(alloc, "take", &words),
+        b"broke" => read_one(alloc, "broke", &words),
+        b"exreg" => read_exreg(alloc, &words),
+        b"at" => read_at(alloc, &words),
+        _ => judged(alloc, joined(alloc, &words)?),
+    }
+}
+
+// The line itself, where it is well formed.
+fn exact(alloc: Global, typed: &[u8]) -> Result<Option<String>, AllocError> {
+    let Ok(line) = String::from_utf8(typed.to_vec(alloc)?) else {
+        return Ok(None);
+    };
+    match reason_of(alloc, Grammar::Script, line.as_bytes())? {
+        None if !line.is_empty() => Ok(Some(line)),
+        _ => Ok(None),
+    }
+}
+
+fn mistake(alloc: Global, reason: &str) -> Result<Typed, AllocError> {
+    Ok(Typed::Mistake(String::from_str(alloc, reason)?))
+}
+
+// A line, where it is well formed; else why it is not.
+fn judged(alloc: Global, line: String) -> Result<Typed, AllocError> {
+    match reason_of(alloc, Grammar::Script, line.as_bytes())? {
+        None => Ok(Typed::Line(line)),
+        Some(reason) => Ok(Typed::Mistake(reason)),
+    }
+}
+
+// The words with one space between each two.
+fn joined(alloc: Global, words: &[Vec<u8>]) -> Result<String, AllocError> {
+    let mut line = String::new(alloc);
+    for word in words {
+        if !line.is_empty() {
+            line.push_str(" ")?;
+        }
+        for byte in word {
+            line.push(char::from(*byte))?;
+        }
+    }
+    Ok(line)
+}
+
+fn read_open(alloc: Global, words: &[Vec<u8>]) -> Result<Typed, AllocError> {
+    match words {
+        [_, number] => {
+            let Some(number) = read_number(number) else {
+                return mistake(alloc, "wanted is the number of a thread, as open 1");
+            };
+            Ok(Typed::Line(format!(in alloc; "open {number} 1")?))
+        }
+        [_, number, space] => {
+            let (Some(number), Some(space)) = (read_number(number), read_number(space)) else {
+                return mistake(
+                    alloc,
+                    "wanted are the numbers of a thread and a space, as open 1 1",
+                );
+            };
+            Ok(Typed::Line(format!(in alloc; "open {number} {space}")?))
+        }
+        _ => mistake(
+            alloc,
+            "wanted are the numbers of a thread and a space, as open 1 1",
+        ),
+    }
+}
+
+// A command of one thread.
+fn read_one(alloc: Global, name: &str, words: &[Vec<u8>]) -> Result<Typed, AllocError> {
+    match words {
+        [_, thread] => match read_thread(thread) {
+            Some(thread) => Ok(Typed::Line(format!(in alloc; "{name} {}", IdText(thread))?)),
+            None => mistake(alloc, "wanted is a thread, as 1.1, or 1 for 1.1"),
+        },
+        _ => mistake(alloc, "wanted is one thread, as 1.1, or 1 for 1.1"),
+    }
+}
+
+fn read_exreg(alloc: Global, words: &[Vec<u8>]) -> Result<Typed, AllocError> {
+    let [_, thread, target, control] = words else {
+        return mistake(alloc, "wanted are two threads, and send, receive or both");
+    };
+    match (
+        read_thread(thread),
+        read_thread(target),
+        read_control(control),
+    ) {
+        (Some(thread), Some(target), Some(control)) => Ok(Typed::Line(format!(in alloc;
+            "exreg {} {} {}",
+            IdText(thread),
+            IdText(target),
+            HexText(control)
+        )?)),
+        _ => mistake(alloc, "wanted are two threads, and send, receive or both"),
+    }
+}
+
+fn read_at(alloc: Global, words: &[Vec<u8>]) -> Result<Typed, AllocError> {
+    match words {
+        [_, time] => match read_time(time) {
+            Some(moment) => Ok(Typed::Line(format!(in alloc; "at {moment}")?)),
+            None => mistake(alloc, "wanted is a moment, as 5, 20us, 2ms or 1s"),
+        },
+        _ => mistake(alloc, "wanted is one moment, as 5, 20us, 2ms or 1s"),
+    }
+}
+
+// A call. One that is typed with the nine fields of a script is judged by these.
+fn read_call(alloc: Global, words: &[Vec<u8>]) -> Result<Typed, AllocError> {
+    let is_named = words
+        .iter()
+        .any(|word| word.starts_with(b"\"") || word.contains(&b'='));
+    if !is_named && words.len() > 2 {
+        return judged(alloc, joined(alloc, words)?);
+    }
+    match call_line(alloc, words)? {
+        Ok(line) => judged(alloc, line),
+        Err(0) => mistake(
+            alloc,
+            "a label has 48 bits at most, and a message 63 words, with two for each string",
+        ),
+        Err(place) => call_mistake(alloc, words, place),
+    }
+}
+
+// The word of a call that is none of its fields.
+fn call_mistake(alloc: Global, words: &[Vec<u8>], place: usize) -> Result<Typed, AllocError> {
+    let mut text = String::from_str(
+        alloc,
+        "wanted is call ID to=ID from=ID send=TIME receive=TIME label=N words=N,N as=ID buffers=N \"text\"; not ",
+    )?;
+    match words.get(place) {
+        Some(word) => {
+            for byte in word {
+                text.push(char::from(*byte))?;
+            }
+        }
+        None => text.push_str("nothing")?,
+    }
+    Ok(Typed::Mistake(text))
+}

@@ -1,0 +1,147 @@
+use ipc_explain::period_of;
+use ipc_lines::{HexText, read_decimal, read_hex, read_id};
+use ipc_words::{Period, ThreadId};
+use std::alloc::AllocError;
+
+/// An id as it is typed: as in a script, or a thread number alone for its first version.
+pub(crate) fn read_thread(word: &[u8]) -> Option<ThreadId> {
+    match read_decimal(word) {
+        Some(number) => ThreadId::global(u32::try_from(number).ok()?, 1),
+        None => read_id(word),
+    }
+}
+
+/// A decimal or HEX, in small or capital digits.
+pub(crate) fn read_number(word: &[u8]) -> Option<u64> {
+    match read_decimal(word) {
+        Some(number) => Some(number),
+        None => read_hex(word),
+    }
+}
+
+/// A unit of time.
+#[derive(Clone, Copy, PartialEq, Eq, Debug)]
+pub(crate) enum TimeUnit {
+    Micro,
+    Milli,
+    Second,
+    Minute,
+}
+
+impl TimeUnit {
+    ghost use Rattle.std.specs.Prelude.{◌≡◌};
+    ghost use Rattle.ipc_talk.specs.Units.{micros_of};
+
+    /// How many microseconds it has.
+    pub(crate) fn micros(self) -> u64
+        ensures { result ≡ micros_of self }
+    {
+        match self {
+            TimeUnit::Micro => 1,
+            TimeUnit::Milli => 1_000,
+            TimeUnit::Second => 1_000_000,
+            TimeUnit::Minute => 60_000_000,
+        }
+    }
+}
+
+/// A time in microseconds: `5`, `5us`, `5ms`, `5s` or `5min`.
+pub(crate) fn read_time(word: &[u8]) -> Option<u64> {
+    match word {
+        [count @ .., b'm', b'i', b'n'] => micros(count, TimeUnit::Minute),
+        [count @ .., b'm', b's'] => micros(count, TimeUnit::Milli),
+        [count @ .., b'u', b's'] => micros(count, TimeUnit::Micro),
+        [count @ .., b's'] => micros(count, TimeUnit::Second),
+        _ => micros(word, TimeUnit::Micro),
+    }
+}
+
+// So many of a unit.
+fn micros(count: &[u8], unit: TimeUnit) -> Option<u64> {
+    read_decimal(count)?.checked_mul(unit.micros())
+}
+
+/// A period: `never`, a time, or the word of a period in HEX.
+pub(crate) fn read_period(word: &[u8]) -> Option<Period> {
+    if word == b"never".as_slice() {
+        return Some(Period::NEVER);
+    }
+    match read_hex(word) {
+        Some(word) => Period::from_word(u16::try_from(word).ok()?),
+        None => Some(period_of(read_time(word)?)),
+    }
+}
+
+/// The phases that an ExchangeRegisters stops.
+#[derive(Clone, Copy, PartialEq, Eq, Debug)]
+pub(crate) enum Stop {
+    Nothing,
+    Receive,
+    Send,
+    Both,
+}
+
+impl Stop {
+    ghost use Rattle.std.specs.Prelude.{◌≡◌, IfSome, Some};
+    ghost use Rattle.ipc_talk.specs.Stops.{control_of, stop_name};
+    ghost use Rattle.ipc_talk.specs.declared.spelling.Stop.{Stop};
+
+    /// The phases of a word.
+    pub(crate) fn read(word: &[u8]) -> Option<Stop>
+        ensures found { IfSome result (λ stop. word.now ≡ stop_name stop) }
+        ensures only { (stop : Stop) → word.now ≡ stop_name stop → result ≡ Some stop }
+    {
+        match word {
+            b"nothing" => Some(Stop::Nothing),
+            b"receive" => Some(Stop::Receive),
+            b"send" => Some(Stop::Send),
+            b"both" => Some(Stop::Both),
+            _ => None,
+        }
+    }
+
+    /// The word of the control: R is bit 1, S is bit 2.
+    pub(crate) fn control(self) -> u64
+        ensures { result ≡ control_of self }
+    {
+        match self {
+            Stop::Nothing => 0,
+            Stop::Receive => 2,
+            Stop::Send => 4,
+            Stop::Both => 6,
+        }
+    }
+}
+
+/// The control of a word: phases, or a number.
+pub(crate) fn read_control(word: &[u8]) -> Option<u64> {
+    match Stop::read(word) {
+        Some(stop) => Some(stop.control()),
+        None => read_number(word),
+    }
+}
+
+/// Appends numbers that are typed with commas between them, in HEX. False where one is none.
+pub(crate) fn put_numbers(text: &mut String, list: &[u8]) -> Result<bool, AllocError> {
+    let mut is_first = true;
+    for word in list.split(|byte| *byte == b',') {
+        let Some(number) = read_number(word) else {
+            return Ok(false);
+        };
+        if !is_first {
+            text.push_str(",")?;
+        }
+        is_first = false;
+        write!(text, "{}", HexText(number))?;
+    }
+    Ok(true)
+}
+
+/// Appends a string as a script has it: `x` and its bytes in hexadecimal.
+pub(crate) fn put_string(text: &mut String, bytes: &[u8]) -> Result<(), AllocError> {
+    text.push_str("x")?;
+    for byte in bytes {
+        write!(text, "{byte:02x}")?;
+    }
+    Ok(())
+}

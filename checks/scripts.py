@@ -1,8 +1,8 @@
 #!/usr/bin/env python3
 """checks/scripts.py [L4SH]: the worked scripts of the rules, of frames, of traces and of words.
 
-Each stands in checks/scripts, below the command that reads it. `run` and `wire` read it from standard input; `check`, `state` and `script` are given
-it as a file; `explain`, `tag` and `period` are asked each of its lines as a word. NAME.in is what is read, NAME.out what is printed, NAME.args
+Each stands in checks/scripts, below the command that reads it. `run`, `wire` and `talk` read it from standard input; `check`, `state`, `script`, `count`
+and `follow` are given it as a file; `explain`, `tag` and `period` are asked each of its lines as a word. NAME.in is what is read, NAME.out what is printed, NAME.args
 further words, and NAME.end the exit status and all of standard error where they are not 0 and nothing. A word that is asked has to end so alone.
 They were worked out by hand from the rules. A long run of one byte stands as `{61*65537}`: its two digits, and how often. Those of the name
 `mistake_..` are what people type first, and end with the reason.
@@ -10,7 +10,8 @@ They were worked out by hand from the rules. A long run of one byte stands as `{
 Then each example of examples/ prints what is stored beside it. And the script that `l4sh script` makes of a trace gives the trace back when it is run:
 of each example, and of each script in checks/scripts/run.
 
-And what no script shows: `--version`, and a folder in place of a trace. The last line is `N passed, M failed`."""
+And what no script shows: `--version`, a folder in place of a trace, and that `l4sh follow -` tells an entry before the next one comes. The last line is
+`N passed, M failed`."""
 
 import glob
 import os
@@ -21,7 +22,7 @@ import tempfile
 
 HERE = os.path.dirname(os.path.abspath(__file__))
 EXAMPLES = os.path.join(HERE, "..", "examples")
-OF_A_FILE = ("check", "state", "script")
+OF_A_FILE = ("check", "state", "script", "count", "follow")
 OF_A_WORD = ("explain", "tag", "period")
 VERSION = re.compile(rb"l4sh \d+\.\d+ \(rattle-kit-\w+ logic [0-9a-f]{16}\)\n(commit .*\n)?")
 RUN = re.compile(rb"\{([0-9a-f]{2})\*(\d+)\}")
@@ -117,6 +118,19 @@ def faults_of_folder(l4sh, path):
             yield f"{command} ends so: {there}"
 
 
+def faults_of_following(l4sh, _):
+    with subprocess.Popen([l4sh, "follow", "-"], stdin=subprocess.PIPE, stdout=subprocess.PIPE, stderr=subprocess.STDOUT) as ran:
+        for line, told in ((b"opened 1.1 1\n", "1  0 µs  1.1 is there, in space 1\n"), (b"at 5\nbroke 1.1\n", "3  5 µs  1.1 is gone\n")):
+            ran.stdin.write(line)
+            ran.stdin.flush()
+            there = ran.stdout.readline()
+            if there != told.encode():
+                yield f"it tells {there}"
+        rest = ran.communicate()[0]
+        if rest or ran.returncode:
+            yield f"it ends by {ran.returncode}: {rest}"
+
+
 def main():
     l4sh = sys.argv[1] if len(sys.argv) > 1 else os.path.join(HERE, "..", "l4sh")
     examples = sorted(glob.glob(f"{EXAMPLES}/*.l4"))
@@ -124,7 +138,7 @@ def main():
     looks = [(path[: -len(".in")], faults_of_stored) for path in sorted(glob.glob(f"{HERE}/scripts/*/*.in"))]
     looks += [(path, faults_of_example) for path in examples]
     looks += [(path, faults_of_script) for path in [*examples, *scripts]]
-    looks += [("--version", faults_of_version), (HERE, faults_of_folder)]
+    looks += [("--version", faults_of_version), (HERE, faults_of_folder), ("follow -", faults_of_following)]
     failed = 0
     for path, faults_of in looks:
         faults = list(faults_of(l4sh, path))

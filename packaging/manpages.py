@@ -9,7 +9,7 @@ ROOT = os.path.dirname(os.path.dirname(os.path.abspath(__file__)))
 PAGES = [
     ("l4d", 1, "a server of synchronous IPC between processes, over Unix sockets", "docs/OPERATING.md", None),
     ("l4sh", 1, "a shell for synchronous IPC between threads", "docs/FORMATS.md",
-     ("Text lines", "The script of `l4sh run`", "The script of `l4sh wire`", "Traces", "Questions about words")),
+     ("Text lines", "The script of `l4sh run`", "The script of `l4sh wire`", "Traces", "Talking to a kernel", "Questions about words")),
     ("hashkarst", 7, "words, frames and lines of l4d and l4sh", "docs/FORMATS.md", None),
 ]
 

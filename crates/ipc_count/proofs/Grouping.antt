@@ -1,7 +1,7 @@
 -- One event more in a map of events by their pairs.
 use Rattle.std.proofs.Common.{◌≡◌, refl, sym, ap, ◌∙◌, ℕ, ◌+◌, ◌<◌, List, [], ◌∷◌, ◌++◌, length, take, get_or, Option, Some, None, Bool, true, false, cond, append-nil, arith, unwrap_or}
 use Rattle.std.specs.Prelude.{◌&&◌, ◌==◌, filter, if◌then◌else◌}
-use Rattle.std.specs.BTreeMap.{BTreeMap, Updates, UpdatesBy, get, is_at}
+use Rattle.std.specs.BTreeMap.{BTreeMap, Updates, UpdatesBy, is_at}
 use Rattle.std.specs.Cmp.{tied_then}
 use Rattle.std.specs.Global.{Vec}
 use Rattle.std.specs.Option.{option_map_or}

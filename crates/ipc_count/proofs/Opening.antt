@@ -1,5 +1,5 @@
 -- An open call as the slots have it.
-use Rattle.std.proofs.Common.{◌≡◌, ◌∙◌, sym, ap, ℕ, List, Option, Some, None, false}
+use Rattle.std.proofs.Common.{◌≡◌, ◌∙◌, ap, ℕ, List, Some, false}
 use Rattle.ipc_words.specs.ThreadId.{number_of}
 use Rattle.ipc_history.specs.Calls.{caller_of}
 use Rattle.ipc_history.specs.Legal.{Legal}
@@ -9,7 +9,6 @@ use Rattle.ipc_slots.specs.Slots.{Stands, slot_at}
 use Rattle.ipc_slots.specs.Standings.{standing_of}
 use Rattle.ipc_slots.specs.Steps.{standing_in}
 use Rattle.ipc_slots.specs.declared.slots.Slots.{Slots}
-use Rattle.ipc_slots.specs.declared.slot.Standing.{Standing}
 use Rattle.ipc_slots.proofs.Holders.{slot_of_call}
 
 pub call_there : (P : List Entry) (slots : Slots) (n place : ℕ) → Legal P → Stands P slots → is_over P n ≡ false → place ≡ number_of (caller_of P n)

@@ -1,6 +1,6 @@
 -- `l4sh --version`.
 use Rattle.std.proofs.Common.{◌≡◌, ◌∙◌, ap, inl, inr, refl, subst, sym, List, [], ◌∷◌}
-use Rattle.std.specs.Prelude.{◌⊎◌, Result, Err, codes}
+use Rattle.std.specs.Prelude.{Result, Err, codes}
 use Rattle.clap.proofs.OnLiterals.{clap_on_literals}
 use Rattle.clap.specs.Kinds.{HasKind, Kinds}
 use Rattle.clap.specs.Words.{Text, fault_of}

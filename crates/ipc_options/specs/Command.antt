@@ -76,6 +76,22 @@ abbrev pub state_app : App
 state_app = with_rule (with_rule (new_app (codes "state")) file_rule)
     (number_rule (codes "at") max_chart_entry max_chart_entry_text)
 
+-- `count` with its file
+abbrev pub count_app : App
+count_app = with_rule (with_rule (new_app (codes "count")) file_rule) (flag_rule (codes "json"))
+
+-- `--label LABEL`
+abbrev pub label_rule : Rule
+label_rule = record (new_rule (codes "label")) { long = Some (codes "label"); value_names = 1 }
+
+-- `follow` with its file and what is told
+abbrev pub follow_app : App
+follow_app = with_rule (with_rule (with_rule (with_rule (new_app (codes "follow")) file_rule)
+    threads_rule) label_rule) (flag_rule (codes "failures"))
+
+abbrev pub talk_app : App
+talk_app = new_app (codes "talk")
+
 -- a subcommand of one word
 abbrev pub word_app : Text → App
 word_app name = with_rule (new_app name) word_rule
@@ -102,9 +118,14 @@ abbrev pub explaining_app : App
 explaining_app = with_subcommand (with_subcommand tracing_app (word_app (codes "explain")).top)
     (word_app (codes "tag")).top
 
+-- `l4sh` with `period` and `count` too
+abbrev pub counting_app : App
+counting_app = with_subcommand (with_subcommand explaining_app (word_app (codes "period")).top)
+    count_app.top
+
 -- `l4sh` with its subcommands, of which one has to be there
 abbrev pub shell_app : App
-shell_app = with_subcommand explaining_app (word_app (codes "period")).top
+shell_app = with_subcommand (with_subcommand counting_app follow_app.top) talk_app.top
 
 -- `--ID N`: a number from 1 up to most, by default the one that a text reads as
 abbrev pub count_rule : Text → ℕ → Text → Rule

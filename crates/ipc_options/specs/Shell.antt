@@ -8,10 +8,11 @@ use Rattle.clap.specs.declared.error.Error.{Error}
 use Rattle.clap.specs.declared.error.kind.ErrorKind.TheVariants.{DisplayVersion, OutOfMemory}
 use Rattle.ipc_options.specs.Command.{shell_app}
 use Rattle.ipc_options.specs.declared.shell.ChartOptions.{ChartOptions}
+use Rattle.ipc_options.specs.declared.shell.FollowOptions.{FollowOptions}
 use Rattle.ipc_options.specs.declared.shell.ScriptLimits.{ScriptLimits}
 use Rattle.ipc_options.specs.declared.shell.ShellOptions.{ShellOptions}
 use Rattle.ipc_options.specs.declared.shell.ShellOptions.TheVariants.{Run, Wire, Check, Chart, State}
-use Rattle.ipc_options.specs.declared.shell.ShellOptions.TheVariants.{Script, Explain, Tag, Period}
+use Rattle.ipc_options.specs.declared.shell.ShellOptions.TheVariants.{Script, Explain, Tag, Period, Count, Follow, Talk}
 use Rattle.ipc_options.specs.declared.shell.StateOptions.{StateOptions}
 
 -- each number is within its limit
@@ -29,6 +30,9 @@ IsWithinLimits (Script file) = ⊤
 IsWithinLimits (Explain word) = ⊤
 IsWithinLimits (Tag word) = ⊤
 IsWithinLimits (Period word) = ⊤
+IsWithinLimits (Count file is_json) = ⊤
+IsWithinLimits (Follow follow) = ⊤
+IsWithinLimits Talk = ⊤
 
 -- the number that an option has among the matches of a subcommand
 abbrev pub number_in : List Row → Text → Option ℕ
@@ -52,6 +56,13 @@ abbrev pub HasStateIn : List Row → StateOptions → Type 0
 HasStateIn rows state = (first_of (codes "file") rows ≡ Some state.file.now)
     × (number_in rows (codes "at") ≡ Some state.at)
 
+-- the options of `follow` are those of its matches
+abbrev pub HasFollowIn : List Row → FollowOptions → Type 0
+HasFollowIn rows follow = (first_of (codes "file") rows ≡ Some follow.file.now)
+    × (first_of (codes "threads") rows ≡ option_map (λ list. list.now) follow.threads)
+    × (first_of (codes "label") rows ≡ option_map (λ label. label.now) follow.label)
+    × IsFlagIn rows (codes "failures") follow.failures
+
 -- the limits are those of the matches
 abbrev pub HasLimitsIn : List Row → ScriptLimits → Type 0
 HasLimitsIn rows limits = (number_in rows (codes "entries") ≡ Some limits.entries)
@@ -73,13 +84,17 @@ HasMatchesIn name rows (Tag word) = (name ≡ codes "tag")
     × (first_of (codes "word") rows ≡ Some word.now)
 HasMatchesIn name rows (Period word) = (name ≡ codes "period")
     × (first_of (codes "word") rows ≡ Some word.now)
+HasMatchesIn name rows (Count file is_json) = (name ≡ codes "count")
+    × (first_of (codes "file") rows ≡ Some file.now) × IsFlagIn rows (codes "json") is_json
+HasMatchesIn name rows (Follow follow) = (name ≡ codes "follow") × HasFollowIn rows follow
+HasMatchesIn name rows Talk = name ≡ codes "talk"
 
 -- the matches have a decimal number within its limit for each limit of a script
 abbrev pub ReadsAsRun : List Row → Type 0
 ReadsAsRun rows = IsSomeAnd (one_of (codes "entries") rows) (IsUnsignedIn 0 max_entries)
     × IsSomeAnd (one_of (codes "calls") rows) (IsUnsignedIn 0 max_calls)
 
--- the matches have a file, which is all that `check` and `script` need
+-- the matches have a file, which is all that `check`, `script`, `count` and `follow` need
 abbrev pub ReadsAsCheck : List Row → Type 0
 ReadsAsCheck rows = IsSome (first_of (codes "file") rows)
 
@@ -110,6 +125,9 @@ Reads name rows = ((name ≡ codes "run") × ReadsAsRun rows)
     ⊎ ((name ≡ codes "chart") × ReadsAsChart rows)
     ⊎ ((name ≡ codes "state") × ReadsAsState rows)
     ⊎ ((name ≡ codes "script") × ReadsAsCheck rows)
+    ⊎ ((name ≡ codes "count") × ReadsAsCheck rows)
+    ⊎ ((name ≡ codes "follow") × ReadsAsCheck rows)
+    ⊎ (name ≡ codes "talk")
     ⊎ (TakesWord name × ReadsAsWord rows)
 
 -- the options are those that the words, or the defaults, give the subcommand that they name

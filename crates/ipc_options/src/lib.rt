@@ -10,5 +10,7 @@ mod version;
 pub use default_texts::default_texts_are_the_limits;
 pub use server::{MAX_SPACES, OWNER_ONLY, ServerOptions};
 pub use server_words::server_options;
-pub use shell::{ChartOptions, ScriptLimits, ShellOptions, StateOptions, shell_options};
+pub use shell::{
+    ChartOptions, FollowOptions, ScriptLimits, ShellOptions, StateOptions, shell_options,
+};
 pub use version::{VERSION, tell_version};

@@ -5,6 +5,7 @@ ghost use Rattle.clap.specs.Words.{IsUnsignedIn, app_of, fault_of, first_of, fou
 ghost use Rattle.clap.specs.Words.{subcommand_rows_of};
 ghost use Rattle.clap.specs.declared.builder.command.Command.TheViews.{out-Command as fields_of};
 ghost use Rattle.ipc_options.specs.Command.{chart_app, chart_places_app, check_app, drawing_app};
+ghost use Rattle.ipc_options.specs.Command.{count_app, counting_app, flag_rule, follow_app, label_rule, talk_app};
 ghost use Rattle.ipc_options.specs.Command.{explaining_app, file_rule, number_rule, proving_app, run_app};
 ghost use Rattle.ipc_options.specs.Command.{script_app, shell_app, state_app, text_rule, threads_rule, tracing_app};
 ghost use Rattle.ipc_options.specs.Command.{wire_app, word_app, word_rule};
@@ -41,6 +42,12 @@ pub enum ShellOptions<'a> {
     Tag { word: &'a str },
     /// `l4sh period`, with a time or the word of a period.
     Period { word: &'a str },
+    /// `l4sh count`, with the path of a trace, and whether it answers in JSON.
+    Count { file: &'a str, is_json: bool },
+    /// `l4sh follow`.
+    Follow(FollowOptions<'a>),
+    /// `l4sh talk`.
+    Talk,
 }
 
 /// The limits of the kernel under a script.
@@ -76,6 +83,19 @@ pub struct StateOptions<'a> {
     pub at: u32,
 }
 
+/// What `l4sh follow` was asked for.
+#[derive(Clone, Copy, PartialEq, Eq, Debug)]
+pub struct FollowOptions<'a> {
+    /// The path of a trace, or `-` for standard input.
+    pub file: &'a str,
+    /// The threads that are told of, with commas between them; None: all.
+    pub threads: Option<&'a str>,
+    /// The label of the messages that are told of; None: any.
+    pub label: Option<&'a str>,
+    /// Whether failures alone are told.
+    pub failures: bool,
+}
+
 /// The command line of `l4sh`. The first word is the program's name. An `Err` is a mistake in the
 /// words, a request for help or for the version (the kind `DisplayVersion`), or want of memory (the
 /// kind `OutOfMemory`), and its `Display` is the text for the user.
@@ -100,7 +120,18 @@ pub fn shell_options<'a>(alloc: Global, words: &'a [String]) -> Result<ShellOpti
 fn shell_command<'a>(alloc: Global) -> Result<Command<'a>, AllocError>
     ensures { IfOk result (λ command. app_of command ≡ shell_app) }
 {
-    explaining_command(alloc)?.subcommand(period_command(alloc)?)
+    counting_command(alloc)?
+        .subcommand(follow_command(alloc)?)?
+        .subcommand(talk_command(alloc)?)
+}
+
+/// `l4sh` with what it makes and counts.
+fn counting_command<'a>(alloc: Global) -> Result<Command<'a>, AllocError>
+    ensures { IfOk result (λ command. app_of command ≡ counting_app) }
+{
+    explaining_command(alloc)?
+        .subcommand(period_command(alloc)?)?
+        .subcommand(count_command(alloc)?)
 }
 
 /// `l4sh` with what it explains: words and tags.
@@ -266,6 +297,36 @@ fn period_command<'a>(alloc: Global) -> Result<Command<'a>, AllocError>
     word_command(alloc, "period", about, help)
 }
 
+fn count_command<'a>(alloc: Global) -> Result<Command<'a>, AllocError>
+    ensures local { IfOk result (λ command. (fields_of command).has_globals ≡ false) }
+    ensures app { IfOk result (λ command. app_of command ≡ count_app) }
+{
+    Command::new(alloc, "count")
+        .about("Counts the calls, messages and failures of a trace, and how long they waited")
+        .arg(trace_file(alloc))?
+        .arg(json_flag(alloc))
+}
+
+fn follow_command<'a>(alloc: Global) -> Result<Command<'a>, AllocError>
+    ensures local { IfOk result (λ command. (fields_of command).has_globals ≡ false) }
+    ensures app { IfOk result (λ command. app_of command ≡ follow_app) }
+{
+    Command::new(alloc, "follow")
+        .about("Tells a trace in words as it comes; FILE may be - for standard input")
+        .arg(trace_file(alloc))?
+        .arg(threads_option(alloc))?
+        .arg(label_option(alloc))?
+        .arg(failures_flag(alloc))
+}
+
+fn talk_command<'a>(alloc: Global) -> Result<Command<'a>, AllocError>
+    ensures local { IfOk result (λ command. (fields_of command).has_globals ≡ false) }
+    ensures app { IfOk result (λ command. app_of command ≡ talk_app) }
+{
+    let about = "Runs commands as people type them, and goes on after mistakes";
+    Ok(Command::new(alloc, "talk").about(about))
+}
+
 /// A subcommand of one word.
 fn word_command<'a>(
     alloc: Global,
@@ -325,6 +386,39 @@ fn text_flag<'a>(alloc: Global) -> Arg<'a>
         .help("Draws it as text, for a terminal")
 }
 
+/// The flag `--json`.
+fn json_flag<'a>(alloc: Global) -> Arg<'a>
+    ensures local { result.global ≡ false }
+    ensures rule { rule_of result ≡ flag_rule (codes "json") }
+{
+    Arg::new(alloc, "json")
+        .long("json")
+        .action(ArgAction::SetTrue)
+        .help("Answers in JSON, for programs")
+}
+
+/// The option `--label LABEL`.
+fn label_option<'a>(alloc: Global) -> Arg<'a>
+    ensures local { result.global ≡ false }
+    ensures rule { rule_of result ≡ label_rule }
+{
+    Arg::new(alloc, "label")
+        .long("label")
+        .value_name("LABEL")
+        .help("The label of the messages that are told of, as 3 or 0x3; without it any")
+}
+
+/// The flag `--failures`.
+fn failures_flag<'a>(alloc: Global) -> Arg<'a>
+    ensures local { result.global ≡ false }
+    ensures rule { rule_of result ≡ flag_rule (codes "failures") }
+{
+    Arg::new(alloc, "failures")
+        .long("failures")
+        .action(ArgAction::SetTrue)
+        .help("Tells of failures alone")
+}
+
 /// The option `--ID N`, of a number up to `most`.
 fn number_option<'a>(
     alloc: Global,
@@ -372,6 +466,9 @@ fn options_in<'a>(name: &str, found: &ArgMatches<'a>) -> Option<ShellOptions<'a>
         "wire" => Some(ShellOptions::Wire),
         "state" => state_options(found),
         "script" => script_options(found),
+        "count" => count_options(found),
+        "follow" => follow_options(found),
+        "talk" => Some(ShellOptions::Talk),
         _ => word_options(name, found),
     }
 }
@@ -448,6 +545,35 @@ fn script_options<'a>(script: &ArgMatches<'a>) -> Option<ShellOptions<'a>>
 {
     let file = text(script, "file")?;
     Some(ShellOptions::Script { file })
+}
+
+#[tactic(auto, unfolding(crate::specs::Shell::HasMatchesIn))]
+fn count_options<'a>(count: &ArgMatches<'a>) -> Option<ShellOptions<'a>>
+    ensures limits { IfSome result IsWithinLimits }
+    ensures matches { IfSome result (HasMatchesIn (codes "count") (rows_of (found_of count.now))) }
+    ensures found { ReadsAsCheck (rows_of (found_of count.now)) → IsSome result }
+{
+    let file = text(count, "file")?;
+    let is_json = flag(count, "json");
+    Some(ShellOptions::Count { file, is_json })
+}
+
+#[tactic(auto, unfolding(crate::specs::Shell::HasMatchesIn))]
+fn follow_options<'a>(follow: &ArgMatches<'a>) -> Option<ShellOptions<'a>>
+    ensures limits { IfSome result IsWithinLimits }
+    ensures matches { IfSome result (HasMatchesIn (codes "follow") (rows_of (found_of follow.now))) }
+    ensures found { ReadsAsCheck (rows_of (found_of follow.now)) → IsSome result }
+{
+    let file = text(follow, "file")?;
+    let threads = text(follow, "threads");
+    let label = text(follow, "label");
+    let failures = flag(follow, "failures");
+    Some(ShellOptions::Follow(FollowOptions {
+        file,
+        threads,
+        label,
+        failures,
+    }))
 }
 
 /// The options of the subcommand of this name, of those that take one word.
@@ -564,6 +690,8 @@ mod tests {
     fn serves_connections_without_an_option(rt: HostRuntime) -> Result<(), Fail> {
         let strings = words_of(rt.alloc(), &["l4sh", "wire"])?;
         assert_eq!(rt; shell_options(rt.alloc(), &strings)?, ShellOptions::Wire);
+        let strings = words_of(rt.alloc(), &["l4sh", "talk"])?;
+        assert_eq!(rt; shell_options(rt.alloc(), &strings)?, ShellOptions::Talk);
         Ok(())
     }
 
@@ -614,7 +742,47 @@ mod tests {
     #[test]
     fn tells_of_the_trace_that_is_named(rt: HostRuntime) -> Result<(), Fail> {
         let file = "trace";
-        let cases: [(&[&str], ShellOptions); 6] = [
+        let cases: [(&[&str], ShellOptions); 10] = [
+            (
+                &["l4sh", "follow", "-"],
+                ShellOptions::Follow(FollowOptions {
+                    file: "-",
+                    threads: None,
+                    label: None,
+                    failures: false,
+                }),
+            ),
+            (
+                &[
+                    "l4sh",
+                    "follow",
+                    "trace",
+                    "--threads",
+                    "1.1",
+                    "--label=0x3",
+                    "--failures",
+                ],
+                ShellOptions::Follow(FollowOptions {
+                    file,
+                    threads: Some("1.1"),
+                    label: Some("0x3"),
+                    failures: true,
+                }),
+            ),
+            (
+                &["l4sh", "count", "trace"],
+                ShellOptions::Count {
+                    file,
+                    is_json: false,
+                },
+            ),
+            (
+                &["l4sh", "count", "--json", "trace"],
+                ShellOptions::Count {
+                    file,
+                    is_json: true,
+                },
+            ),
             (
                 &["l4sh", "state", "trace"],
                 ShellOptions::State(StateOptions {
@@ -673,7 +841,18 @@ mod tests {
 
     #[test]
     fn refuses_words_of_a_trace_or_a_word(rt: HostRuntime) -> Result<(), Fail> {
-        let cases: [(&[&str], ErrorKind); 15] = [
+        let cases: [(&[&str], ErrorKind); 20] = [
+            (&["l4sh", "follow"], ErrorKind::MissingRequiredArgument),
+            (
+                &["l4sh", "follow", "trace", "--label"],
+                ErrorKind::InvalidValue,
+            ),
+            (&["l4sh", "talk", "here"], ErrorKind::UnknownArgument),
+            (&["l4sh", "count"], ErrorKind::MissingRequiredArgument),
+            (
+                &["l4sh", "count", "trace", "--text"],
+                ErrorKind::UnknownArgument,
+            ),
             (&["l4sh", "state"], ErrorKind::MissingRequiredArgument),
             (
                 &["l4sh", "state", "--at", "7"],

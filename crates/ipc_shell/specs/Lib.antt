@@ -12,3 +12,4 @@ pub mod Failing
 pub mod Exits
 pub mod Checking
 pub mod Looking
+pub mod Talking

@@ -6,7 +6,7 @@ use Rattle.ipc_shell.specs.Checking.{HasLines, HasBadLine}
 use Rattle.ipc_shell.specs.declared.exit.Exit.{Exit}
 use Rattle.ipc_shell.specs.declared.exit.Exit.TheVariants.{Done, BadLine, NoMemory, DeviceFailed, Illegal, BadThreads, BadWord, IllegalLine}
 use Rattle.ipc_shell.specs.declared.looking.Look.{Look}
-use Rattle.ipc_shell.specs.declared.looking.Look.TheVariants.{Script, StateAt}
+use Rattle.ipc_shell.specs.declared.looking.Look.TheVariants.{Script, StateAt, Counts}
 
 -- the entries before the line of this number, counted from 1, are legal, those up to it are not
 pub record IsFaultLine (entries : List Entry) (number : ℕ) : Type 0 where
@@ -35,6 +35,7 @@ MayEnd exit = (entries : List Entry) → Legal entries → IsSaidOf entries exit
 abbrev pub shown_of : Look → List Entry → List Entry
 shown_of Script entries = entries
 shown_of (StateAt count) entries = take count entries
+shown_of (Counts is_json) entries = entries
 
 -- the entries of the whole lines, of which this is said
 abbrev pub SaysOfTrace : Look → List ℕ → Exit → Type 0

@@ -9,6 +9,7 @@ mod tests;
 use crate::exit::Exit;
 use crate::output::put;
 use ipc_check::{Verdict, check};
+use ipc_count::{CountFault, Event, events_of, grouped, json_of, tell_counts};
 use ipc_history::Entry;
 use ipc_ports::{PortRead, PortWrite};
 use ipc_script::script_of;
@@ -23,6 +24,8 @@ pub enum Look {
     Script,
     /// The state of its threads after so many entries, or after all where there are fewer.
     StateAt(usize),
+    /// The counts of its pairs of threads, in JSON or in words.
+    Counts { is_json: bool },
 }
 
 /// Prints what is asked of the trace of a reader, over the whole lines where the last one is torn.
@@ -82,6 +85,36 @@ fn tell<W: PortWrite>(alloc: Global, look: Look, entries: &[Entry], writer: &mut
     match look {
         Look::Script => print_script(alloc, entries, writer),
         Look::StateAt(count) => print_state(alloc, front(entries, count), writer),
+        Look::Counts { is_json } => print_counts(alloc, entries, is_json, writer),
+    }
+}
+
+// Prints the counts of the pairs of threads of these entries.
+fn print_counts<W: PortWrite>(
+    alloc: Global,
+    entries: &[Entry],
+    is_json: bool,
+    writer: &mut W,
+) -> Exit
+    ensures said { IsSaidOf entries.now result }
+    ensures failed { result ≡ Exit.DeviceFailed → W.failures writer.old < W.failures writer.new }
+    ensures silent { result ≢ Exit.Done → result ≢ Exit.DeviceFailed
+        → W.written writer.new ≡ W.written writer.old }
+{
+    match events_of(alloc, entries) {
+        Ok(events) => print(counts_text(alloc, &events, is_json), writer),
+        Err(CountFault::Illegal(index)) => Exit::IllegalLine(line_of(index)),
+        Err(CountFault::NoMemory) => Exit::NoMemory,
+    }
+}
+
+// The counts of events, in JSON or in words.
+fn counts_text(alloc: Global, events: &[Event], is_json: bool) -> Result<String, AllocError> {
+    let groups = grouped(alloc, events)?;
+    if is_json {
+        json_of(alloc, &groups, events)
+    } else {
+        tell_counts(alloc, &groups, events)
     }
 }
 

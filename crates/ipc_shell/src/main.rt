@@ -9,20 +9,25 @@ ghost use Rattle.std.specs.Prelude.{◌≡◌, ◌<◌};
 mod chart;
 mod check;
 mod exit;
+mod follow;
 mod kept;
 mod lines;
 mod looking;
 mod output;
 mod run;
+mod talk;
 mod wire;
 
 use chart::chart_trace;
 use check::check_trace;
 use clap::error::ErrorKind;
 use exit::Exit;
+use follow::follow_trace;
 use ipc_core::{Limits, MAX_CALLS, MAX_ENTRIES};
 use ipc_explain::{answer_period, answer_tag, explain};
-use ipc_options::{ChartOptions, ScriptLimits, ShellOptions, shell_options, tell_version};
+use ipc_options::{
+    ChartOptions, FollowOptions, ScriptLimits, ShellOptions, shell_options, tell_version,
+};
 use ipc_ports::{Failures, PortWrite, ReadPort, WritePort};
 use ipc_reasons::{Grammar, reason_of};
 use ipc_words::limits::{MAX_LINE_BYTES, MAX_SPACE};
@@ -36,6 +41,7 @@ use std::marker::Brand;
 use std::process::ExitCode;
 use std::rt::Files;
 use std::sync::ledger::{Blank, Ledger};
+use talk::talk_with;
 use wire::wire_script;
 
 /// How the program ended, and of a bad line the reason, where one is known.
@@ -137,6 +143,19 @@ fn obey<L: Ledger, M: Ledger, R: Files + Input + Print>(
             let trace = Trace::Look(Look::Script);
             look(rt, alloc, *file, &trace, reads, &mut writer)
         }
+        ShellOptions::Count { file, is_json } => {
+            let trace = Trace::Look(Look::Counts { is_json: *is_json });
+            look(rt, alloc, *file, &trace, reads, &mut writer)
+        }
+        ShellOptions::Follow(options) => follow_file(rt, alloc, options, reads, &mut writer),
+        ShellOptions::Talk => {
+            let limits = Limits {
+                entries: MAX_ENTRIES,
+                calls: MAX_CALLS,
+            };
+            let mut reader = ReadPort::new(rt.reader(), reads);
+            Ending::from(talk_with(alloc, limits, &mut reader, &mut writer))
+        }
         ShellOptions::Explain { word } => {
             Ending::from(print_answer(explain(alloc, *word), &mut writer))
         }
@@ -170,6 +189,31 @@ fn look<L: Ledger, R: Files, W: PortWrite>(
     };
     if exit == Exit::DeviceFailed {
         return device_failed(rt, alloc, file);
+    }
+    with_reason(alloc, exit, Grammar::Trace, reader.tail())
+}
+
+/// Tells the trace of a file, or of standard input, as it comes.
+fn follow_file<L: Ledger, R: Files + Input, W: PortWrite>(
+    rt: &R,
+    alloc: Global,
+    options: &FollowOptions<'_>,
+    reads: Failures<L>,
+    writer: &mut W,
+) -> Ending {
+    if options.file == "-" {
+        let mut reader = KeptPort::new(alloc, ReadPort::new(rt.reader(), reads));
+        let exit = follow_trace(alloc, options, &mut reader, writer);
+        return with_reason(alloc, exit, Grammar::Trace, reader.tail());
+    }
+    let opened = match File::open(rt, options.file) {
+        Ok(opened) => opened,
+        Err(error) => return not_opened(alloc, options.file, &error),
+    };
+    let mut reader = KeptPort::new(alloc, ReadPort::new(opened, reads));
+    let exit = follow_trace(alloc, options, &mut reader, writer);
+    if exit == Exit::DeviceFailed {
+        return device_failed(rt, alloc, options.file);
     }
     with_reason(alloc, exit, Grammar::Trace, reader.tail())
 }

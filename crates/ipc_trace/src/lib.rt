@@ -9,5 +9,6 @@ mod tests;
 mod writing;
 
 pub use fault::{PutFault, TraceEnd};
+pub use lines::{LineEnd, next_line};
 pub use reading::{TraceRead, read_trace};
 pub use writing::TraceWriter;

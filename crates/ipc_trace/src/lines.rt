@@ -12,7 +12,7 @@ use std::alloc::AllocError;
 
 /// What ends a line.
 #[derive(Clone, Copy, PartialEq, Eq, Debug)]
-pub(crate) enum LineEnd {
+pub enum LineEnd {
     /// Its newline.
     Newline,
     /// The end of the input.
@@ -23,12 +23,9 @@ pub(crate) enum LineEnd {
     NoMemory,
 }
 
-// Reads the next line through a buffer, and keeps no more of it than shows that it is too long.
-pub(crate) fn next_line<P: PortRead>(
-    port: &mut P,
-    buffer: &mut PieceBuffer,
-    line: &mut Vec<u8>,
-) -> LineEnd
+/// Reads the next line through a buffer, and keeps no more of it than shows that it is too long: one byte
+/// more than [`MAX_LINE_BYTES`]. What came of a line behind the last newline is kept, too.
+pub fn next_line<P: PortRead>(port: &mut P, buffer: &mut PieceBuffer, line: &mut Vec<u8>) -> LineEnd
     ensures line { TakesLine (prepend_known buffer.old (P.remaining port.old))
         (prepend_known buffer.new (P.remaining port.new)) line.new.items result }
     ensures used { result ≢ LineEnd.NoMemory → result ≢ LineEnd.Newline → length buffer.new ≡ 0 }

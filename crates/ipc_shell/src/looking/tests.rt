@@ -55,6 +55,13 @@ broke 2.1
 take 1.1
 ";
 
+const MEETING_COUNTS: &str = "took: median, 99 of 100 and longest, in µs
+from    to      calls   messages  bytes       failures  sends took          receives took
+2.1     1.1     1       1         0           0         0 0 0               0 0 0
+any     1.1     1       0         0           0         -                   -
+all     all     2       1         0           0         0 0 0               0 0 0
+";
+
 // A look at a trace ends so and prints this text.
 fn assert_looked(rt: &impl Abort, alloc: Global, trace: &str, look: Look, exit: Exit, text: &str) {
     let mut reader = MemoryPort::new(alloc, trace.as_bytes()).byte_by_byte();
@@ -62,6 +69,18 @@ fn assert_looked(rt: &impl Abort, alloc: Global, trace: &str, look: Look, exit: 
     let ended = look_at_trace(alloc, look, &mut reader, &mut writer);
     assert_eq!(rt; ended, exit, "{look:?} of {trace}");
     assert_eq!(rt; writer.output(), Some(text.as_bytes()));
+}
+
+#[test]
+fn the_counts_are_told_of_a_legal_trace_alone(rt: HostRuntime) {
+    let alloc = rt.alloc();
+    let look = Look::Counts { is_json: false };
+    assert_looked(&rt, alloc, MEETING, look, Exit::Done, MEETING_COUNTS);
+    let twice = "opened 1.1 1\nopened 1.1 1\n";
+    for is_json in [false, true] {
+        let look = Look::Counts { is_json };
+        assert_looked(&rt, alloc, twice, look, Exit::IllegalLine(2), "");
+    }
 }
 
 #[test]

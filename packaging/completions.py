@@ -67,7 +67,8 @@ def zsh(name, words):
     for command, (what, _) in words.commands.items():
         escaped = what.replace("'", "'\\''").replace(":", "\\:")
         lines += [f"        '{command}:{escaped}'"]
-    lines += ["    )", "    _describe command commands", "    return", "fi", "local command=$words[2]", "shift words", "(( CURRENT-- ))",
+    lines += ["    )", "    _describe command commands", "    _arguments \\", *zsh_options(words, "        "), "        && return 0"]
+    lines += ["    return", "fi", "local command=$words[2]", "shift words", "(( CURRENT-- ))",
               "case $command in"]
     for command, (_, below) in words.commands.items():
         file = ["        '*:file:_files' \\"] if below.takes_file else []

@@ -15,8 +15,8 @@ import sys
 import tempfile
 
 ROOT = os.path.dirname(os.path.dirname(os.path.abspath(__file__)))
-CRATES = "words ports items history laws candidates slots desks core lines frame lock client".split()
-OWN = "ipc_growths: ipc_words ipc_items ipc_history ipc_ports ipc_core ipc_frame ipc_lock ipc_client anyhow\n"
+CRATES = "words past ports threads items history laws slots waits desks core lines frame pen lock client".split()
+OWN = "ipc_growths: ipc_words ipc_items ipc_history ipc_ports ipc_core ipc_frame ipc_pen ipc_lock ipc_client anyhow\n"
 UNPREPARED = "unprepared"
 
 

@@ -1,9 +1,9 @@
 #!/usr/bin/env python3
 """checks/scripts.py [L4SH]: the worked scripts of the rules, of frames, of traces and of words.
 
-Each stands in checks/scripts, below the command that reads it. `run`, `wire` and `talk` read it from standard input; `check`, `state`, `script`, `count`
-and `follow` are given it as a file; `explain`, `tag` and `period` are asked each of its lines as a word. NAME.in is what is read, NAME.out what is printed, NAME.args
-further words, and NAME.end the exit status and all of standard error where they are not 0 and nothing. A word that is asked has to end so alone.
+Each stands in checks/scripts, below the command that reads it. `run`, `wire` and `talk` read it from standard input; `check`, `chart`, `state`, `script`,
+`count` and `follow` are given it as a file, and then `-` and the same on standard input; `explain`, `tag` and `period` are asked each of its lines as a
+word. NAME.in is what is read, NAME.out what is printed, NAME.args further words, and NAME.end the exit status and all of standard error where they are not 0 and nothing. A word that is asked has to end so alone.
 They were worked out by hand from the rules. A long run of one byte stands as `{61*65537}`: its two digits, and how often. Those of the name
 `mistake_..` are what people type first, and end with the reason.
 
@@ -22,7 +22,7 @@ import tempfile
 
 HERE = os.path.dirname(os.path.abspath(__file__))
 EXAMPLES = os.path.join(HERE, "..", "examples")
-OF_A_FILE = ("check", "state", "script", "count", "follow")
+OF_A_FILE = ("check", "chart", "state", "script", "count", "follow")
 OF_A_WORD = ("explain", "tag", "period")
 VERSION = re.compile(rb"l4sh \d+\.\d+ \(rattle-kit-\w+ logic [0-9a-f]{16}\)\n(commit .*\n)?")
 RUN = re.compile(rb"\{([0-9a-f]{2})\*(\d+)\}")
@@ -90,6 +90,11 @@ def given_back(l4sh, trace):
 def faults_of_stored(l4sh, base):
     if found(l4sh, base) != wanted(base):
         yield f"{found(l4sh, base)} is not {wanted(base)}"
+    command = os.path.basename(os.path.dirname(base))
+    if command in OF_A_FILE:
+        there = ended([l4sh, command, *stored(f"{base}.args").decode().split(), "-"], stored(f"{base}.in"))
+        if there != wanted(base):
+            yield f"of standard input: {there} is not {wanted(base)}"
 
 
 def faults_of_example(l4sh, path):
@@ -112,7 +117,7 @@ def faults_of_version(l4sh, _):
 
 
 def faults_of_folder(l4sh, path):
-    for command in (*OF_A_FILE, "chart"):
+    for command in OF_A_FILE:
         there = ended([l4sh, command, path])
         if there != (b"", 1, f"l4sh: device failed\n{path}: is a folder\n".encode()):
             yield f"{command} ends so: {there}"

@@ -21,7 +21,8 @@ class Words:
         under = text.partition("\nCommands:\n")[2].partition("\n\n")[0]
         names = [match.groups() for match in map(COMMAND.match, under.splitlines()) if match]
         self.commands = {name: (what, Words(program, (*path, name))) for name, what in names if name != "help"}
-        self.takes_file = "<FILE>" in text.partition("Usage:")[2].partition("\n")[0]
+        usage = text.partition("Usage:")[2].partition("\n")[0]
+        self.takes = next((kind for word, kind in PLACES.items() if f"<{word}>" in usage or f"[{word}]" in usage), None)
         if not self.options:
             raise SystemExit(f"completions: {program} {' '.join(path)} --help lists no option")
 
@@ -44,7 +45,8 @@ def bash(name, words):
                   f"        COMPREPLY=($(compgen -W \"{' '.join([*words.commands, *words.long()])}\" -- \"$word\")); return",
                   "    fi", "    case $command in"]
         for command, (_, below) in words.commands.items():
-            files = "; [[ $word == -* ]] || COMPREPLY+=($(compgen -f -- \"$word\"))" if below.takes_file else ""
+            made = {"file": "-f", "folder": "-d"}.get(below.takes)
+            files = f"; [[ $word == -* ]] || COMPREPLY+=($(compgen {made} -- \"$word\"))" if made else ""
             lines += [f"    {command}) COMPREPLY=($(compgen -W \"{' '.join(below.long())}\" -- \"$word\")){files};;"]
         lines += ["    esac"]
     else:
@@ -71,8 +73,8 @@ def zsh(name, words):
     lines += ["    return", "fi", "local command=$words[2]", "shift words", "(( CURRENT-- ))",
               "case $command in"]
     for command, (_, below) in words.commands.items():
-        file = ["        '*:file:_files' \\"] if below.takes_file else []
-        lines += [f"({command})", "    _arguments \\", *zsh_options(below, "        "), *file, "        && return 0;;"]
+        place = {"file": ["        '*:file:_files' \\"], "folder": ["        ':folder:_files -/' \\"]}.get(below.takes, [])
+        lines += [f"({command})", "    _arguments \\", *zsh_options(below, "        "), *place, "        && return 0;;"]
     return "\n".join([*lines, "esac", ""])
 
 

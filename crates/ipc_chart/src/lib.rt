@@ -1,17 +1,20 @@
-//! Draws a history as a sequence chart: a column for each thread, a row for each entry that shows something.
+//! What a sequence chart of a history shows: a column for each thread, a row for each entry that shows something, what threads wait
+//! for, and which rows come again.
 #![tactic(auto)]
 
 mod calls;
 mod events;
+mod folding;
+mod notes;
 mod scene;
 mod selection;
-mod svg;
+mod shapes;
 #[cfg(test)]
 mod tests;
-mod text;
 
+pub use calls::Wait;
 pub use events::Mark;
-pub use scene::{Column, Row, Scene, scene_of};
-pub use selection::{Selection, read_threads};
-pub use svg::draw_svg;
-pub use text::draw_text;
+pub use folding::Fold;
+pub use scene::{Column, Row, Scene, Turn, scene_of};
+pub use selection::{Emptiness, Selection, read_threads};
+pub use shapes::call_at;

@@ -5,30 +5,39 @@ use ipc_words::ThreadId;
 use std::alloc::{AllocError, Global};
 use std::test::Fail;
 
-// A message with a word, and a receive that is cancelled.
-const MEETING: &str = "opened 1.1 1
-opened 2.1 2
-called 1 1.1 nil any 0x0 0x0 nil - - -
-called 2 2.1 1.1 nil 0x0 0x70001 nil 0x7 - -
-began 2 1
-ended 2 1
-at 9
-exreg 2.1 1.1 0x6
-failed 1 0x7
-broke 2.1";
-
 // A string that is copied in part, a receive that turns to another thread, a timeout, and a partner that is not there.
-const STRINGS: &str = "opened 1.1 1
-opened 2.1 1
+const STRINGS: &str = "opened 2.1 1
+opened 1.1 1
 called 1 1.1 nil 2.1 0x0 0x0 nil - - 2@0x1000
 called 2 2.1 1.1 nil 0x0 0x80 nil - x0102 -
 began 2 1
 moved 2 1
+exreg 2.1 1.1 0x2
 aborted 2 1 1
-turned 1 3.1
-overflowed 2 1 0
-failed 1 0x3
-failed 2 0x4";
+exreg 2.1 1.1 0x2
+at 9
+called 3 1.1 nil any 0x0 0x0 nil - - -
+turned 3 3.1
+failed 3 0x3
+overflowed 3 2 0
+broke 2.1";
+
+// A message as 1.1 that 3.1 had waited for, and one whose originator is of another space.
+const SHOWN: &str = "opened 1.1 1
+opened 2.1 1
+opened 3.1 2
+called 1 3.1 nil any 0x0 0x0 nil - - -
+at 40
+called 2 2.1 3.1 any 0x0 0x11001 1.1 0x5 - -
+began 2 1
+ended 2 1
+at 47
+called 3 3.1 2.1 nil 0x0 0x11001 1.1 0x5 - -
+began 3 2
+ended 3 2
+called 4 2.1 nil any 0x5 0x0 nil - - -
+at 52
+failed 4 0x3";
 
 // The entries of the lines; a line that spells none is left out.
 fn entries_of(alloc: Global, text: &str) -> Result<Vec<Entry>, AllocError> {
@@ -52,76 +61,71 @@ fn everything() -> Selection {
 #[test]
 fn each_kind_of_entry_has_its_mark(rt: HostRuntime) -> Result<(), Fail> {
     let alloc = rt.alloc();
+    // the place of the entry, the mark, and the columns, which stand in the order of the threads' numbers
     let expected = [
-        (1, Mark::Opened, Some((0, 0))),
-        (2, Mark::Opened, Some((1, 1))),
-        (3, Mark::Called, Some((0, 0))),
-        (4, Mark::Called, Some((1, 1))),
-        (5, Mark::Began, Some((1, 0))),
-        (6, Mark::Moved, Some((1, 1))),
-        (7, Mark::Aborted, Some((1, 0))),
-        (8, Mark::Turned, Some((0, 0))),
-        (9, Mark::Overflowed, Some((1, 0))),
-        (10, Mark::TimedOut, Some((0, 0))),
-        (11, Mark::Failed, Some((1, 1))),
+        (0, Mark::Opened, 1, 1),
+        (1, Mark::Opened, 0, 0),
+        (2, Mark::Called, 0, 0),
+        (3, Mark::Called, 1, 1),
+        (4, Mark::Began, 1, 0),
+        (5, Mark::Moved, 1, 1),
+        (6, Mark::Stopped, 1, 0),
+        (7, Mark::Aborted, 1, 0),
+        (8, Mark::Missed, 1, 0),
+        (10, Mark::Called, 0, 0),
+        (11, Mark::Turned, 0, 0),
+        (12, Mark::TimedOut, 0, 0),
+        (14, Mark::Broke, 1, 1),
     ];
     let entries = entries_of(alloc, STRINGS)?;
-    let scene = scene_of(alloc, &entries, &everything())?;
+    let scene = scene_of(alloc, &entries, &everything(), true)?;
     assert_eq!(&rt; scene.rows.len(), expected.len());
-    for (row, (number, mark, columns)) in scene.rows.iter().zip(expected.iter()) {
-        assert_eq!(&rt; row.number, *number);
-        assert_eq!(&rt; row.mark, *mark, "at {number}");
-        assert_eq!(&rt; row.columns, *columns, "at {number}");
+    for (row, (place, mark, from, to)) in scene.rows.iter().zip(expected.iter()) {
+        assert_eq!(&rt; row.place, *place);
+        assert_eq!(&rt; row.mark, *mark, "at {place}");
+        assert_eq!(&rt; (row.from, row.to), (*from, *to), "at {place}");
     }
     Ok(())
 }
 
 #[test]
-fn a_meeting_is_drawn_as_text(rt: HostRuntime) -> Result<(), Fail> {
+fn phases_wait_and_originators_are_shown(rt: HostRuntime) -> Result<(), Fail> {
     let alloc = rt.alloc();
-    let entries = entries_of(alloc, MEETING)?;
-    let scene = scene_of(alloc, &entries, &everything())?;
-    let lines = [
-        "              1.1         2.1    ",
-        "      1        O                 opened in space 1",
-        "      2        |           O     opened in space 2",
-        "      3        *           |     call 1, receive from any",
-        "      4        |           *     call 2, send to 1.1: 0x7, 1 w",
-        "      6        <-----------o     2 to 1: 0x7, 1 w",
-        "      7        |           |     9 µs",
-        "      8        <~~~~~~~~~~~o     stops receive and send",
-        "      9        #           |     1: receive cancelled",
-        "     10        |           X     broke",
-        "",
+    // the place of the entry, whether an originator is shown, and how long send and receive waited
+    let expected = [
+        (5, true, 0, 0),
+        (7, true, 0, 40),
+        (9, false, 0, 0),
+        (11, false, 0, 7),
+        (14, false, 0, 5),
     ];
-    let text = draw_text(alloc, &scene)?;
-    assert_eq!(&rt; text.as_str().split('\n').count(), lines.len());
-    for (line, expected) in text.as_str().split('\n').zip(lines.iter()) {
-        assert_eq!(&rt; line, *expected);
+    let entries = entries_of(alloc, SHOWN)?;
+    let scene = scene_of(alloc, &entries, &everything(), true)?;
+    for (place, is_shown, sent, received) in expected {
+        let wanted = if is_shown {
+            ThreadId::global(1, 1)
+        } else {
+            None
+        };
+        for row in scene.rows.iter().filter(|row| row.place == place) {
+            assert_eq!(&rt; row.shown, wanted, "at {place}");
+            assert_eq!(&rt; row.sent, sent, "at {place}");
+            assert_eq!(&rt; row.received, received, "at {place}");
+        }
     }
-    Ok(())
-}
-
-#[test]
-fn a_picture_has_the_lines_the_arrows_and_the_labels(rt: HostRuntime) -> Result<(), Fail> {
-    let alloc = rt.alloc();
-    let parts = [
-        "<svg xmlns=\"http://www.w3.org/2000/svg\" width=\"730\" height=\"330\" viewBox=\"0 0 730 330\">\n",
-        "<line class=\"life\" x1=\"110\" y1=\"70\" x2=\"110\" y2=\"304\"/>\n",
-        "<line class=\"life\" x1=\"300\" y1=\"96\" x2=\"300\" y2=\"278\"/>\n",
-        "<text class=\"name\" x=\"300\" y=\"82\">2.1</text>\n",
-        "<line class=\"whole\" x1=\"300\" y1=\"174\" x2=\"110\" y2=\"174\"/>\n",
-        "<path class=\"head\" d=\"M 110 174 L 119 170 L 119 178 Z\"/>\n",
-        "<text class=\"over\" x=\"205\" y=\"168\">2 to 1: 0x7, 1 w</text>\n",
-        "<line class=\"stop\" x1=\"300\" y1=\"226\" x2=\"110\" y2=\"226\"/>\n",
-        "<text class=\"moment\" x=\"60\" y=\"196\">9 µs</text>\n",
-        "</svg>\n",
+    assert_eq!(&rt; scene.rows.len(), 10);
+    let turns = [
+        (3, 2, Wait::Receives),
+        (4, 1, Wait::Sends),
+        (5, 1, Wait::Receives),
+        (5, 2, Wait::Nothing),
     ];
-    let entries = entries_of(alloc, MEETING)?;
-    let scene = scene_of(alloc, &entries, &everything())?;
-    let picture = draw_svg(alloc, &scene)?;
-    for part in parts {
-        assert!(&rt; picture.as_str().contains(part), "{part}");
+    for (turn, expected) in scene.turns.iter().zip(turns.iter()) {
+        let (row, column, wait) = *expected;
+        assert_eq!(&rt; turn.row, row);
+        assert_eq!(&rt; turn.column, column);
+        assert_eq!(&rt; turn.wait, wait);
+        assert!(&rt; !turn.is_above);
     }
     Ok(())
 }
@@ -129,21 +133,56 @@ fn a_picture_has_the_lines_the_arrows_and_the_labels(rt: HostRuntime) -> Result<
 #[test]
 fn only_what_was_chosen_is_shown(rt: HostRuntime) -> Result<(), Fail> {
     let alloc = rt.alloc();
-    let entries = entries_of(alloc, MEETING)?;
-    let threads = read_threads(alloc, "2.1")?;
+    let entries = entries_of(alloc, SHOWN)?;
+    let threads = read_threads(alloc, "3.1")?;
     assert!(&rt; threads.is_some());
     let chosen = Selection {
-        first: 3,
-        last: 9,
+        first: 5,
+        last: 10,
         threads,
     };
-    let scene = scene_of(alloc, &entries, &chosen)?;
-    let numbers = [4, 6, 7, 8];
-    assert_eq!(&rt; scene.rows.len(), numbers.len());
-    for (row, number) in scene.rows.iter().zip(numbers.iter()) {
-        assert_eq!(&rt; row.number, *number);
+    let scene = scene_of(alloc, &entries, &chosen, false)?;
+    assert_eq!(&rt; scene.rows.len(), 2);
+    for (row, place) in scene.rows.iter().zip([7, 9]) {
+        assert_eq!(&rt; row.place, place);
     }
-    assert_eq!(&rt; scene.columns.first().map(|column| column.begins), Some(0));
+    // what 3.1 waits for since an entry that is not shown
+    let first = scene.turns.first().copied();
+    assert_eq!(&rt;
+        first.map(|turn| (turn.row, turn.wait)),
+        Some((0, Wait::Sends))
+    );
+    assert!(&rt; first.is_some_and(|turn| turn.is_above));
+    Ok(())
+}
+
+#[test]
+fn exchanges_that_come_again_are_folded(rt: HostRuntime) -> Result<(), Fail> {
+    let alloc = rt.alloc();
+    let mut text = String::from_str(alloc, "opened 1.1 1\nopened 2.1 1\n")?;
+    for number in 0u64..10 {
+        let (receive, send) = (number * 2 + 1, number * 2 + 2);
+        write!(text, "called {receive} 1.1 nil any 0x0 0x0 nil - - -\n")?;
+        write!(text, "called {send} 2.1 1.1 nil 0x0 0x1 nil 0x7 - -\n")?;
+        write!(text, "ended {send} {receive}\n")?;
+    }
+    text.push_str("broke 1.1")?;
+    let entries = entries_of(alloc, text.as_str())?;
+    let folded = scene_of(alloc, &entries, &everything(), true)?;
+    let expected = [(0, 1, 1), (1, 1, 1), (2, 3, 10), (32, 1, 1)];
+    assert_eq!(&rt; folded.folds.len(), expected.len());
+    for (fold, (first, period, count)) in folded.folds.iter().zip(expected) {
+        assert_eq!(&rt;
+            *fold,
+            Fold {
+                first,
+                period,
+                count
+            }
+        );
+    }
+    let unfolded = scene_of(alloc, &entries, &everything(), false)?;
+    assert_eq!(&rt; unfolded.folds.len(), 33);
     Ok(())
 }
 

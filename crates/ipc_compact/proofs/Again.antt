@@ -7,19 +7,19 @@ use Rattle.ipc_compact.specs.Compact.{is_at, has_moment, keeps_at, keeps, kept_l
 use Rattle.ipc_compact.specs.Reads.{Narrower}
 
 -- whether an At before one more entry is kept
-at_wanted : (test : Entry → Bool) (e : Entry) (rest : List Entry) → is_at e ≡ true → keeps_at test (e ∷ rest) ≡ false
+pub at_wanted : (test : Entry → Bool) (e : Entry) (rest : List Entry) → is_at e ≡ true → keeps_at test (e ∷ rest) ≡ false
 at_wanted test e rest at = rw at refl
 
 no_at : (a b m t : Bool) → (not a || ((m && t) || b)) ≡ (((not a) || b) || (m && t))
 no_at a b m t = grind arith
 
-other_wanted : (test : Entry → Bool) (e : Entry) (rest : List Entry) → is_at e ≡ false → keeps_at test (e ∷ rest) ≡ (keeps_at test rest || (has_moment e && test e))
+pub other_wanted : (test : Entry → Bool) (e : Entry) (rest : List Entry) → is_at e ≡ false → keeps_at test (e ∷ rest) ≡ (keeps_at test rest || (has_moment e && test e))
 other_wanted test e rest at = rw at (no_at (list_any is_at rest) _ (has_moment e) (test e))
 
-first_no : (a b : Bool) → (a || b) ≡ false → a ≡ false
+pub first_no : (a b : Bool) → (a || b) ≡ false → a ≡ false
 first_no a b h = grind arith
 
-second_no : (a b : Bool) → (a || b) ≡ false → b ≡ false
+pub second_no : (a b : Bool) → (a || b) ≡ false → b ≡ false
 second_no a b h = grind arith
 
 module _ (t u : Entry → Bool) (X : List Entry) where

@@ -23,3 +23,4 @@ pub mod HeldReading
 pub mod StandingReading
 pub mod SlotReading
 pub mod Counting
+pub mod PlaceLemmas

@@ -8,3 +8,4 @@ pub mod Held
 pub mod Standings
 pub mod SlotsKept
 pub mod Counted
+pub mod Places

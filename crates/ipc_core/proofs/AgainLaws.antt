@@ -3,12 +3,12 @@ use Rattle.std.proofs.lemmas.Bool.{false≢true}
 use Rattle.std.proofs.Common.{◌≡◌, refl, sym, ap, ap₂, subst, ◌∙◌, ℕ, ◌+◌, ◌≤◌, Bool, true, false, if◌then◌else◌, List, [], ◌∷◌, ◌++◌, Option, Some, None, inl, inr, length, min, drop, arith}
 use Rattle.std.specs.Prelude.{MatchBool}
 use Rattle.ipc_history.specs.HistoryParts.{HeldParts}
-use Rattle.ipc_history.specs.Holding.{compacted, held_of}
+use Rattle.ipc_history.specs.Holding.{held_of}
 use Rattle.ipc_history.specs.Legal.{Legal}
 use Rattle.ipc_history.specs.Threads.{is_live}
 use Rattle.ipc_history.specs.declared.entry.Entry.{Entry}
 use Rattle.ipc_core.specs.Again.{MakesRoom, MayObeyAgain, ObeysAgainOnce, StaysSoundAgain, is_history_full, lacks_entries, says_history_full}
-use Rattle.ipc_core.specs.Compacting.{Compacts, enters_open, most_entries}
+use Rattle.ipc_core.specs.Compacting.{Compacts, kept_to, most_entries}
 use Rattle.ipc_core.specs.KernelParts.{KernelParts, history_of, without_room}
 use Rattle.ipc_core.specs.Laws.{IsSound}
 use Rattle.ipc_core.specs.Obeying.{Does, MayObey, Obeys, ObeysOr, Runs, cause_of}
@@ -149,7 +149,7 @@ held_count k = length (held_of (history_of k))
 
 -- what a compaction leaves in memory
 abbrev kept_by : ℕ → KernelParts → HeldParts
-kept_by upto k = compacted (enters_open k.history) upto (history_of k)
+kept_by upto k = kept_to k.taken upto (history_of k)
 
 same_dropped : (d e l m p q r s : ℕ) → l ≡ p → m ≡ q → p ≡ q → d + l ≡ r → e + m ≡ s → r ≡ s → d ≡ e
 same_dropped d e l m p q r s lp mq pq dr es rs = omega (arith, lp, mq, pq, dr, es, rs)

@@ -1,69 +1,112 @@
 -- What is kept where a kernel is compacted, and how much.
 use Rattle.std.proofs.lemmas.Bool.{false≢true}
-use Rattle.std.proofs.Common.{◌≡◌, refl, sym, ap, ap₂, ◌∙◌, subst, ℕ, ◌+◌, ◌-◌, ◌^◌, ◌<◌, ◌≤◌, Bool, true, false, ◌==◌, eqb-true, List, [], ◌∷◌, ◌++◌, length, length-append, take, drop, filter, Contains, arith}
-use Rattle.std.proofs.lemmas.List.{length-drop, length-take-le}
-use Rattle.std.proofs.lemmas.List.Sums.{count_by-le-length, length-filter}
-use Rattle.ipc_words.specs.ThreadId.{number_of}
+use Rattle.std.proofs.Common.{◌≡◌, refl, sym, ap, ap₂, ◌∙◌, subst, ℕ, ◌+◌, ◌-◌, ◌^◌, ◌<◌, ◌≤◌, Bool, true, false, ◌==◌, List, [], ◌∷◌, ◌++◌, length, length-append, take, drop, if◌then◌else◌, arith}
+use Rattle.std.proofs.lemmas.List.{append-nil, append_assoc, length-drop, length-take-le}
+use Rattle.std.proofs.lemmas.List.Folds.{list_any-append}
 use Rattle.ipc_history.specs.CallParts.{CallParts}
-use Rattle.ipc_history.specs.Calls.{call_at, caller_of}
-use Rattle.ipc_history.specs.Entries.{call_in, calls}
+use Rattle.ipc_history.specs.Entries.{calls}
 use Rattle.ipc_history.specs.Holding.{compacted, held_before, held_of, reached}
 use Rattle.ipc_history.specs.HistoryParts.{HeldParts, HistoryParts}
+use Rattle.ipc_history.specs.Keeping.{keeps, kept_ahead}
 use Rattle.ipc_history.specs.Legal.{Legal}
 use Rattle.ipc_history.specs.Phases.{is_over}
 use Rattle.ipc_history.specs.declared.entry.Entry.{Entry}
 use Rattle.ipc_history.specs.declared.entry.Entry.TheVariants.{Given, Written}
 use Rattle.ipc_history.specs.declared.entry.Input.TheVariants.{At, Opened, Called, Exreg, Broke, Moved}
-use Rattle.ipc_history.proofs.EnteredOnce.{entered_once}
-use Rattle.ipc_history.proofs.HoldingLemmas.{reached_least, reached_most}
-use Rattle.ipc_slots.specs.Slots.{Stands, slot_at}
-use Rattle.ipc_slots.specs.Steps.{holds}
-use Rattle.ipc_slots.specs.declared.slots.Slots.{Slots}
-use Rattle.ipc_slots.proofs.Holders.{held_somewhere}
-use Rattle.ipc_core.specs.Books.{AreBooks}
-use Rattle.ipc_core.specs.Compacting.{enters_held, enters_open}
+use Rattle.ipc_history.proofs.HoldingLemmas.{held_fields, reached_least, reached_most}
+use Rattle.ipc_laws.proofs.Growth.{open_is_called}
+use Rattle.ipc_laws.proofs.OpenCalls.{caller_lives}
+use Rattle.ipc_compact.specs.Compact.{is_among, is_kept, kept_before}
+use Rattle.ipc_compact.specs.Places.{WasKept}
+use Rattle.ipc_compact.proofs.CallReading as there
+use Rattle.ipc_compact.proofs.PlaceLemmas.{at_places}
+use Rattle.ipc_compact.proofs.Reading.{named}
+use Rattle.ipc_compact.proofs.SameCompact.{among_numbers}
+use Rattle.ipc_desks.specs.Desks.{Keeps as DesksKeep}
+use Rattle.ipc_desks.specs.declared.desk.Desk.{Desk}
+use Rattle.ipc_partners.specs.Kept.{KeptParts, kept_upto, passes}
+use Rattle.ipc_partners.proofs.KeptLaw.{kept_is}
+use Rattle.ipc_core.specs.Books.{AreBooks, TookOthers}
+use Rattle.ipc_core.specs.Compacting.{kept_to}
 use Rattle.ipc_core.specs.CourseParts.{CourseParts, history_of}
 use Rattle.ipc_core.specs.Invariants.{IsWhole}
 use Rattle.ipc_core.proofs.BookLemmas.{books_rest}
 use Rattle.ipc_core.proofs.Resting.{kernel_same}
 
--- the slots say of an entry what the history says
-held_open : (H : List Entry) (slots : Slots) → Stands H slots → (e : Entry) → enters_held slots e ≡ enters_open H e
-unfolding enters_open
-held_open H slots stands (Given (Called n t call)) = ap (λ s. holds s n) (stands.table (number_of t))
-held_open H slots stands (Given (At moment)) = refl
-held_open H slots stands (Given (Opened thread space)) = refl
-held_open H slots stands (Given (Exreg thread target control)) = refl
-held_open H slots stands (Given (Broke thread)) = refl
-held_open H slots stands (Given (Moved k count)) = refl
-held_open H slots stands (Written output) = refl
-
-pub same_kept : (H : List Entry) (slots : Slots) → Stands H slots → (upto : ℕ) (history : HistoryParts) → compacted (enters_held slots) upto history ≡ compacted (enters_open H) upto history
-same_kept H slots stands upto history = λ i. compacted (λ e. held_open H slots stands e i) upto history
-
--- the caller of a call that an entry of a legal history enters
-caller_there : (H : List Entry) → Legal H → (n k t : ℕ) (call : CallParts) → Contains H (Given (Called k t call)) → (k == n) ≡ true → caller_of H n ≡ t
-unfolding caller_of
-caller_there H legal n k t call inside is =
-    let at : call_at H n ≡ call_in n (Given (Called k t call)) = entered_once H legal n inside.0 inside.1 (Given (Called k t call)) (ap (calls n) inside.2 ∙ is) ∙ ap (call_in n) inside.2 in
-    rw (at, is) refl
-
 -- an entry that enters an open call is kept
-pub open_kept : (H : List Entry) (slots : Slots) → Legal H → Stands H slots → (n : ℕ) (e : Entry) → is_over H n ≡ false → Contains H e → calls n e ≡ true → enters_held slots e ≡ true
-open_kept H slots legal stands n (Given (Called k t call)) opened inside is =
-    let same : k ≡ n = eqb-true k n is in
-    let caller : caller_of H n ≡ t = caller_there H legal n k t call inside is in
-    ap₂ (λ m c. holds (slot_at slots.table (number_of c)) m) same (sym caller) ∙ held_somewhere H legal slots.table stands.table n opened
-open_kept H slots legal stands n (Given (At moment)) opened inside is = absurd (false≢true is)
-open_kept H slots legal stands n (Given (Opened thread space)) opened inside is = absurd (false≢true is)
-open_kept H slots legal stands n (Given (Exreg thread target control)) opened inside is = absurd (false≢true is)
-open_kept H slots legal stands n (Given (Broke thread)) opened inside is = absurd (false≢true is)
-open_kept H slots legal stands n (Given (Moved k count)) opened inside is = absurd (false≢true is)
-open_kept H slots legal stands n (Written output) opened inside is = absurd (false≢true is)
+pub open_kept : (H : List Entry) (taken : List ℕ) → Legal H → (n : ℕ) (e : Entry) → is_over H n ≡ false → calls n e ≡ true → is_kept H taken e ≡ true
+open_kept H taken legal n (Given (Called k t call)) opened is =
+    named H taken n (there.open_kept H taken n (among_numbers H n (open_is_called H n opened)) opened (caller_lives H legal n opened)) (Given (Called k t call)) is
+open_kept H taken legal n (Given (At moment)) opened is = absurd (false≢true is)
+open_kept H taken legal n (Given (Opened thread space)) opened is = absurd (false≢true is)
+open_kept H taken legal n (Given (Exreg thread target control)) opened is = absurd (false≢true is)
+open_kept H taken legal n (Given (Broke thread)) opened is = absurd (false≢true is)
+open_kept H taken legal n (Given (Moved k count)) opened is = absurd (false≢true is)
+open_kept H taken legal n (Written output) opened is = absurd (false≢true is)
+
+-- what the last calls tell is what is kept
+pub passes_is : (H : List Entry) (taken : List ℕ) (desks : List Desk) → Legal H → DesksKeep H taken desks → TookOthers H taken → (kept : KeptParts) → kept ≡ kept_upto H taken 256 → (e : Entry) → passes kept e ≡ is_kept H taken e
+unfolding TookOthers
+passes_is H taken desks legal keeps others kept is e = ap (λ k. passes k e) is ∙ kept_is H taken legal keeps.over others e
+
+-- what is kept of what is held, is kept of all
+pub kept_of_all : (taken : List ℕ) (test : Entry → Bool) (upto : ℕ) (history : HistoryParts) → Legal history.entries → ((e : Entry) → test e ≡ is_kept history.entries taken e) → WasKept history.entries taken history.held.front history.held.whole_from → history.held.whole_from ≤ length history.entries → compacted test upto history ≡ kept_to taken upto history
+kept_of_all taken test upto history legal same was within =
+    let least = reached_least history upto within in
+    let most = reached_most history upto within in
+    (λ i. compacted (λ e. same e i) upto history)
+    ∙ held_fields _ _ (reached upto history) (reached upto history) (at_places history.entries taken history.held.front history.held.whole_from (reached upto history) legal was least most) refl
+
+-- and so it was kept
+pub kept_now : (H : List Entry) (taken : List ℕ) (front : List Entry) (place : ℕ) → place ≤ length H → front ≡ kept_before H taken place → WasKept H taken front place
+kept_now H taken front place within is = record {
+  past = H;
+  since = [];
+  whole = sym (append-nil H);
+  within = within;
+  took = taken;
+  among = λ n h. h;
+  kept = is;
+}
+
+-- it stays so with more entries, and with more outcomes taken
+pub kept_more : (H K : List Entry) (taken : List ℕ) (front : List Entry) (place : ℕ) (e : Entry) → K ≡ H ++ e ∷ [] → WasKept H taken front place → WasKept K taken front place
+kept_more H K taken front place e longer was = record {
+  past = was.past;
+  since = was.since ++ e ∷ [];
+  whole = longer ∙ (ap (λ l. l ++ e ∷ []) was.whole ∙ append_assoc was.past was.since (e ∷ []));
+  within = was.within;
+  took = was.took;
+  among = was.among;
+  kept = was.kept;
+}
+
+pub kept_taken : (H : List Entry) (taken more : List ℕ) (front : List Entry) (place : ℕ) → ((n : ℕ) → is_among n taken ≡ true → is_among n more ≡ true) → WasKept H taken front place → WasKept H more front place
+kept_taken H taken more front place grows was = record {
+  past = was.past;
+  since = was.since;
+  whole = was.whole;
+  within = was.within;
+  took = was.took;
+  among = λ n h. grows n (was.among n h);
+  kept = was.kept;
+}
+
+pub among_more : (taken : List ℕ) (k n : ℕ) → is_among n taken ≡ true → is_among n (taken ++ k ∷ []) ≡ true
+among_more taken k n h = list_any-append (λ m. m == n) taken (k ∷ []) ∙ rw h refl
+
+pub kept_none : WasKept [] [] [] 0
+unfolding kept_before is_kept
+kept_none = record { past = []; since = []; whole = refl; within = omega arith; took = []; among = λ n h. h; kept = refl }
 
 -- where a history is compacted no more is held than before
-filter_few : (p : Entry → Bool) (xs : List Entry) → length (filter p xs) ≤ length xs
-filter_few p xs = omega (arith, length-filter p xs, count_by-le-length p xs)
+ahead_few : (test : Entry → Bool) (front rest : List Entry) → length (kept_ahead test front rest) ≤ length front
+ahead_few test [] rest = omega arith
+ahead_few test (e ∷ front) rest = go (ahead_few test front rest) (keeps test e (front ++ rest))
+  where
+    go : length (kept_ahead test front rest) ≤ length front → (b : Bool) → length (if b then e ∷ kept_ahead test front rest else kept_ahead test front rest) ≤ length (e ∷ front)
+    go few true = omega (arith, few)
+    go few false = omega (arith, few)
 
 pub held_few : (test : Entry → Bool) (upto : ℕ) (history : HistoryParts) (held : HeldParts) (room : ℕ) → held ≡ compacted test upto history → history.held.whole_from ≤ length history.entries → length (held_of (record { entries = history.entries; held = held; room = room })) ≤ length (held_of history)
 held_few test upto history held room is front =
@@ -71,8 +114,8 @@ held_few test upto history held room is front =
     let most = reached_most history upto front in
     let place = reached upto history in
     let from = history.held.whole_from in
-    let few = filter_few test (held_before upto history) in
-    let after = length-append (filter test (held_before upto history)) (drop place history.entries) in
+    let few = ahead_few test (held_before upto history) (drop (reached upto history) history.entries) in
+    let after = length-append (kept_ahead test (held_before upto history) (drop place history.entries)) (drop place history.entries) in
     let before = length-append history.held.front (drop from history.entries) in
     let between = length-append history.held.front (take (place - from) (drop from history.entries)) in
     let all = length-drop from history.entries in
@@ -80,13 +123,12 @@ held_few test upto history held room is front =
     let rest = length-drop place history.entries in
     subst (λ h. length (held_of (record { entries = history.entries; held = h; room = room })) ≤ length (held_of history)) (sym is) (omega (arith, few, after, before, between, taken, rest, all, least, most))
 
--- a kernel that begins a command and then lets go of entries
-module _ (old begun new : CourseParts) (upto : ℕ) (entries : begun.entries ≡ old.entries) (held : begun.held ≡ old.held) (after : new.entries ≡ begun.entries) (is : new.held ≡ compacted (enters_open begun.entries) upto (history_of begun)) where
-  pub same_compacted : new.held ≡ compacted (enters_open old.entries) upto (history_of old)
-  same_compacted = is ∙ (λ i. compacted (enters_open (entries i)) upto (record { entries = entries i; held = held i; room = old.room }))
+-- a course where a command begins holds the same
+pub begun_same : (old begun : CourseParts) → begun.entries ≡ old.entries → begun.held ≡ old.held → begun.room ≡ old.room → held_of (history_of begun) ≡ held_of (history_of old)
+begun_same old begun entries held room = λ i. held_of (record { entries = entries i; held = held i; room = room i })
 
-  pub left_few : old.held.whole_from ≤ length old.entries → length (held_of (history_of new)) ≤ length (held_of (history_of old))
-  left_few front = subst (λ l. length (held_of (record { entries = l; held = new.held; room = new.room })) ≤ length (held_of (history_of old))) (sym (after ∙ entries)) (held_few (enters_open old.entries) upto (history_of old) new.held new.room same_compacted front)
+pub kept_begun : (old begun : CourseParts) → begun.entries ≡ old.entries → begun.held ≡ old.held → begun.taken ≡ old.taken → (upto : ℕ) → kept_to begun.taken upto (history_of begun) ≡ kept_to old.taken upto (history_of old)
+kept_begun old begun entries held taken upto = λ i. kept_to (taken i) upto (record { entries = entries i; held = held i; room = old.room })
 
 -- it is whole, and counts what was let go no longer
 pub compacts_whole : (limit more calls_limit moment : ℕ) (old new : CourseParts) → IsWhole limit calls_limit moment old → new.entries ≡ old.entries → old.room ≤ new.room → new.taken ≡ old.taken → new.since ≡ length old.entries → limit ≤ more → more < 2 ^ 63 → IsWhole more calls_limit moment new

@@ -1,35 +1,25 @@
 -- What memory keeps of a history that is compacted, and what a compaction does to a kernel.
-use Rattle.std.specs.Prelude.{◌≡◌, ℕ, ◌+◌, ◌-◌, ◌^◌, List, Bool, false, length, min}
-use Rattle.ipc_words.specs.ThreadId.{number_of}
-use Rattle.ipc_history.specs.Holding.{compacted, held_of}
-use Rattle.ipc_history.specs.declared.entry.Entry.{Entry}
-use Rattle.ipc_history.specs.declared.entry.Entry.TheVariants.{Given}
-use Rattle.ipc_history.specs.declared.entry.Input.TheVariants.{Called}
-use Rattle.ipc_slots.specs.Slots.{slot_at, slot_of}
-use Rattle.ipc_slots.specs.Steps.{holds}
-use Rattle.ipc_slots.specs.declared.slots.Slots.{Slots}
+use Rattle.std.specs.Prelude.{◌≡◌, ℕ, ◌+◌, ◌-◌, ◌^◌, List, length, min}
+use Rattle.ipc_history.specs.Holding.{held_of, reached}
+use Rattle.ipc_history.specs.HistoryParts.{HeldParts, HistoryParts}
+use Rattle.ipc_compact.specs.Compact.{kept_before}
 use Rattle.ipc_core.specs.KernelParts.{KernelParts, history_of}
 use Rattle.ipc_core.specs.declared.answers.Compacted.{Compacted}
 
--- the entry enters the call that the live thread of its caller's number has open
-unfoldable pub enters_open : List Entry → Entry → Bool
-enters_open H (Given (Called n thread call)) = holds (slot_of H (number_of thread)) n
-enters_open H _ = false
-
--- the same, asked of slots
-abbrev pub enters_held : Slots → Entry → Bool
-enters_held slots (Given (Called n thread call)) = holds (slot_at slots.table (number_of thread)) n
-enters_held slots _ = false
+-- what is held where these outcomes were taken: of the entries before the place what the compact keeps (ipc_compact), and all from it on.
+-- Where the place is the end, that is the compact
+abbrev pub kept_to : List ℕ → ℕ → HistoryParts → HeldParts
+kept_to taken upto history =
+    record { front = kept_before history.entries taken (reached upto history); whole_from = reached upto history }
 
 -- the greatest number of entries of a history, with those that were let go
 abbrev pub most_entries : ℕ
 most_entries = 2 ^ 63 - 1
 
--- a compaction up to a place: the history stays, and all that any command asks; memory holds of the entries before that place those
--- that entered the open calls, and all from it on; what was let go counts no longer
+-- a compaction up to a place: the history stays, and all that any command asks; what was let go counts no longer
 pub record Compacts (old new : KernelParts) (upto : ℕ) (done : Compacted) : Type 0 where
   pub history : new.history ≡ old.history
-  pub held : new.held ≡ compacted (enters_open old.history) upto (history_of old)
+  pub held : new.held ≡ kept_to old.taken upto (history_of old)
   pub left : done.left ≡ length (held_of (history_of new))
   pub dropped : done.dropped + done.left ≡ length (held_of (history_of old))
   pub entries_limit : new.entries_limit ≡ min (old.entries_limit + done.dropped) most_entries

@@ -11,6 +11,9 @@ use Rattle.ipc_history.specs.declared.entry.Entry.{Entry}
 use Rattle.ipc_laws.specs.Counting.{room_owed}
 use Rattle.ipc_desks.specs.Desks.{Keeps as DesksKeep}
 use Rattle.ipc_desks.specs.declared.desk.Desk.{Desk}
+use Rattle.ipc_compact.specs.Places.{WasKept}
+use Rattle.ipc_partners.specs.Partners.{Knows}
+use Rattle.ipc_partners.specs.declared.partners.Joined.{Joined}
 use Rattle.ipc_waits.specs.Waiting.{IsWaiting}
 use Rattle.ipc_waits.specs.declared.waiting.Waiting.{Waiting}
 use Rattle.ipc_core.specs.Books.{AreBooks}
@@ -28,11 +31,14 @@ pub record IsCourse (H : List Entry) (waiting : Waiting) (desks : List Desk) (ta
   pub begun : since ≤ length H
   pub wide : table_slots ≤ width
 
--- a course, and memory holds all entries of the last command
-pub record IsHeldCourse (history : HistoryParts) (waiting : Waiting) (desks : List Desk) (taken : List ℕ) (since : ℕ)
-    (finished : List ℕ) (width : ℕ) : Type 0 where
+-- a course, with the calls that met the last ones; memory holds all entries of the last command, and of those before a place what a
+-- compaction kept
+pub record IsHeldCourse (history : HistoryParts) (waiting : Waiting) (desks : List Desk) (partners : List Joined) (taken : List ℕ)
+    (since : ℕ) (finished : List ℕ) (width : ℕ) : Type 0 where
   pub course : IsCourse history.entries waiting desks taken since finished width
   pub front : history.held.whole_from ≤ since
+  pub knows : Knows history.entries partners
+  pub kept : WasKept history.entries taken history.held.front history.held.whole_from
 
 -- a kernel's history is legal and quiet, within its limit with all that is owed; its moment is not before
 -- the history's, and no phase is due then

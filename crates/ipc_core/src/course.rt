@@ -6,7 +6,7 @@ ghost use Rattle.ipc_words.specs.Limits.{last_moment};
 ghost use Rattle.ipc_history.specs.declared.entry.Entry.TheVariants.{Given, Written};
 ghost use Rattle.ipc_history.specs.declared.entry.Input.TheVariants.{At};
 ghost use Rattle.ipc_history.specs.Blocks.{block_of};
-ghost use Rattle.ipc_history.specs.Holding.{compacted, held_of};
+ghost use Rattle.ipc_history.specs.Holding.{held_of};
 ghost use Rattle.ipc_history.specs.Calls.{calls_made, numbers};
 ghost use Rattle.ipc_history.specs.Phases.{open_call};
 ghost use Rattle.ipc_history.specs.Threads.{is_live, is_taken, next_version, now};
@@ -21,8 +21,9 @@ ghost use Rattle.ipc_desks.specs.Messages.{prepared};
 ghost use Rattle.ipc_desks.specs.Finishes.{finishes, is_named};
 ghost use Rattle.ipc_slots.specs.Slots.{Stands};
 ghost use Rattle.ipc_waits.specs.FirstDue.{IsLeastDue};
+ghost use Rattle.ipc_core.specs.Books.{TookOthers};
 ghost use Rattle.ipc_core.specs.CourseParts.{ComesIdle, HasCopies, SameBooks, history_of};
-ghost use Rattle.ipc_core.specs.Compacting.{enters_open};
+ghost use Rattle.ipc_core.specs.Compacting.{kept_to};
 ghost use Rattle.ipc_core.specs.KernelParts.{nothing_held};
 ghost use Rattle.ipc_core.specs.Finished.{IsFresh, with_name};
 ghost use Rattle.ipc_core.specs.Outcomes.{IsTaken, finished_from, is_among};
@@ -31,10 +32,10 @@ ghost use Rattle.ipc_core.specs.CommandRoom.{command_need, is_clock};
 ghost use Rattle.ipc_core.specs.ExchangeRegisters.{exreg_answer, phases_of};
 
 use crate::answers::ExregAnswer;
-use crate::open_calls::OpenCalls;
 use crate::taken::Taken;
 use ipc_desks::{Desks, Finished, Prepared};
 use ipc_history::{Call, EnteredCall, Entries, Entry, History, Input, Outcome, Output};
+use ipc_partners::{Keeping, Partners};
 use ipc_past::Past;
 use ipc_slots::Slots;
 use ipc_waits::Waiting;
@@ -49,6 +50,8 @@ pub(crate) struct Course {
     history: History,
     waiting: Waiting,
     desks: Desks,
+    partners: Partners,
+    keeping: Keeping,
     taken: Taken,
     since: usize,
     finished: Vec<ThreadId>,
@@ -56,6 +59,7 @@ pub(crate) struct Course {
 
 impl Model for Course {
     ghost use Rattle.std.specs.Prelude.{vec_capacity};
+    ghost use Rattle.ipc_core.specs.Books.{TookOthers};
     ghost use Rattle.ipc_core.specs.CourseParts.{CourseParts};
     ghost use Rattle.ipc_core.specs.Invariants.{IsHeldCourse};
 
@@ -70,7 +74,7 @@ impl Model for Course {
       finished = c.finished.items;
     } };
 
-    ghost invariant = { λ c. IsHeldCourse c.history c.waiting c.desks c.taken c.since c.finished.items
+    ghost invariant = { λ c. IsHeldCourse c.history c.waiting c.desks c.partners c.taken c.since c.finished.items
         (vec_capacity c.finished) };
 }
 
@@ -87,6 +91,8 @@ impl Course {
             history: History::new(alloc),
             waiting: Waiting::new(),
             desks: Desks::new(alloc)?,
+            partners: Partners::new(),
+            keeping: Keeping::new(alloc)?,
             taken: Taken::none(),
             since: 0,
             finished: Vec::with_capacity(alloc, TABLE_SLOTS)?,
@@ -386,19 +392,28 @@ impl Course {
         self.finished.clear();
     }
 
-    /// Lets go of the entries before a place, but of those that entered the open calls, where a command has begun. Takes no memory.
+    /// Lets go of the entries before a place that are not kept, where a command has begun. Takes no memory.
     pub(crate) fn compact(&mut self, upto: usize)
         requires begun { self.old.since ≡ length self.old.entries }
         requires few { length self.old.entries < 2 ^ 63 }
+        requires others { TookOthers self.old.entries self.old.taken }
         ensures entries { self.new.entries ≡ self.old.entries }
-        ensures held { self.new.held ≡ compacted (enters_open self.old.entries) upto (history_of self.old) }
+        ensures held { self.new.held ≡ kept_to self.old.taken upto (history_of self.old) }
+        ensures less { length (held_of (history_of self.new)) ≤ length (held_of (history_of self.old)) }
         ensures room { self.new.room + length (held_of (history_of self.new))
             ≡ self.old.room + length (held_of (history_of self.old)) }
         ensures taken { self.new.taken ≡ self.old.taken }
         ensures since { self.new.since ≡ self.old.since }
     {
-        self.history
-            .compact(upto, &OpenCalls::of(self.waiting.slots()));
+        let entries = self.history.whole();
+        self.keeping.fill(
+            &entries,
+            self.taken.past(),
+            self.waiting.slots(),
+            &self.desks,
+            &self.partners,
+        );
+        self.history.compact(upto, &self.keeping);
     }
 
     /// Moves the outcome out that a live thread may take. Takes no memory.
@@ -442,6 +457,7 @@ impl Course {
             &entry,
             copies,
         );
+        self.partners.note(&entries, self.waiting.slots(), &entry);
         self.waiting.note(&entries, &entry);
         add(&mut self.finished, ended.first);
         add(&mut self.finished, ended.second);

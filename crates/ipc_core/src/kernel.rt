@@ -119,7 +119,7 @@ impl Kernel {
         self.course.least_due()
     }
 
-    /// The history, oldest entry first. Memory holds what [`Kernel::entries_from`] gives, and the entries of the open calls.
+    /// The history, oldest entry first. Memory holds what [`Kernel::entries_from`] gives, and what the last compaction kept.
     pub fn history(&self) -> Entries<'_>
         ensures entries { result ≡ self.now.history }
         ensures legal { Legal self.now.history }
@@ -342,8 +342,9 @@ impl Kernel {
 }
 
 impl Kernel {
-    /// Lets go of the entries before a place, counted from 0, but of those that entered the calls that are open. The history stays what it
-    /// was: each later command is answered as without it, but that the entries that were let go no longer count for K5. Takes no memory.
+    /// Lets go of the entries before a place, counted from 0, that the compact of the history does not keep (docs/DECISIONS.md): it keeps
+    /// what the calls are told that are open or whose outcome was not taken, and the threads that live. The history stays what it was:
+    /// each later command is answered as without it, but that the entries that were let go no longer count for K5. Takes no memory.
     pub fn compact(&mut self, upto: usize) -> Compacted
         ensures { Compacts self.old self.new upto result }
     {

@@ -7,7 +7,6 @@ mod course;
 mod kernel;
 pub mod laws;
 mod obeying;
-mod open_calls;
 mod refusal;
 mod room;
 #[cfg(test)]

@@ -103,7 +103,7 @@ module _ (P : List Entry) (t space : ℕ) (legal : Legal P) (follows : Follows P
       let second : one (opens t (Given (Opened t space))) ≡ 1 = rw (eq-eqb t t refl) refl in
       omega (arith, once, first, second, sum_by-append (λ e. cond (opens t e) 1 0) P (Given (Opened t space) ∷ []), sum_by-cons (λ e. cond (opens t e) 1 0) (Given (Opened t space)) []))
 
-  no_last : last_call P t ≡ None
+  pub no_last : last_call P t ≡ None
   no_last = go (last_call P t) refl
     where
       go : (o : Option ℕ) → last_call P t ≡ o → last_call P t ≡ None

@@ -2,19 +2,22 @@
 use Rattle.std.proofs.lemmas.Bool.{false≢true, true≢false}
 use Rattle.std.proofs.lemmas.List.{drop-append-le, drop-drop, length_push, take-append-drop}
 use lib.Seq.{take-add}
-use Rattle.std.proofs.lemmas.List.Elements.{All-nil, All-append, All-filter, All-head, All-tail, All-take, All-drop, All-push, All-weaker, All-contains_itself, Contains-append_left, Contains-push}
-use Rattle.std.proofs.Common.{◌≡◌, refl, sym, ap, ◌∙◌, subst, ℕ, zero, suc, ◌+◌, ◌-◌, ◌^◌, ◌<◌, ◌≤◌, Bool, true, false, ◌||◌, ◌&&◌, List, [], ◌∷◌, ◌++◌, length, take, drop, filter, Option, Some, None, is_some, ◌⊎◌, inl, inr, All, Contains, if◌then◌else◌, nat_lt, arith}
+use Rattle.std.proofs.lemmas.List.Elements.{All-nil, All-append, All-cons, All-head, All-tail, All-take, All-drop, All-push, All-weaker, All-contains_itself, Contains-append_left, Contains-push}
+use Rattle.std.proofs.Common.{◌≡◌, refl, sym, ap, ◌∙◌, subst, ℕ, zero, suc, ◌+◌, ◌-◌, ◌^◌, ◌<◌, ◌≤◌, Bool, true, false, ◌||◌, ◌&&◌, List, [], ◌∷◌, ◌++◌, length, take, drop, Option, Some, None, is_some, ◌⊎◌, inl, inr, All, Contains, if◌then◌else◌, nat_lt, arith}
 use Rattle.std.specs.List.{list_any}
 use Rattle.std.specs.Option.{option_or}
 use Rattle.ipc_history.specs.CallParts.{CallParts}
 use Rattle.ipc_history.specs.Calls.{call_at, caller_of, from_of, is_called, to_of}
 use Rattle.ipc_history.specs.Entries.{call_in, calls, closes, ends_send, breaks}
 use Rattle.ipc_history.specs.Holding.{Holds, IsHeld, reached}
+use Rattle.ipc_history.specs.Keeping.{is_at, keeps, kept_ahead}
 use Rattle.ipc_history.specs.HistoryParts.{HeldParts, HistoryParts}
 use Rattle.ipc_history.specs.Phases.{is_over, is_sent}
 use Rattle.ipc_history.specs.Threads.{has_broken}
 use Rattle.ipc_history.specs.Words.{first_some}
 use Rattle.ipc_history.specs.declared.entry.Entry.{Entry}
+use Rattle.ipc_history.specs.declared.entry.Entry.TheVariants.{Given, Written}
+use Rattle.ipc_history.specs.declared.entry.Input.TheVariants.{At, Opened, Called, Exreg, Broke, Moved}
 use Rattle.ipc_history.proofs.EnteredOnce.{open_was_entered, silent_call}
 
 any_first : (b : Bool) (xs ys : Bool) → (xs ≡ true → ys ≡ true) → (b || xs) ≡ true → (b || ys) ≡ true
@@ -97,16 +100,28 @@ unfolding is_called call_at
 some_any n [] = refl
 some_any n (e ∷ held) = some_or (call_in n e) (first_some (call_in n) held) ∙ ap (λ b. is_some (call_in n e) || b) (some_any n held)
 
-any_kept : (p q : Entry → Bool) (x : Entry) (all few : List Entry) → (q x ≡ true → p x ≡ true) → (list_any q all ≡ true → list_any q few ≡ true) → (b : Bool) → p x ≡ b → (c : Bool) → q x ≡ c → (q x || list_any q all) ≡ true → list_any q (if p x then x ∷ few else few) ≡ true
-any_kept p q x all few keep rest true is true has h = rw (is, has) refl
-any_kept p q x all few keep rest true is false lacks h = rw (is, lacks) (rest (rw lacks at h))
-any_kept p q x all few keep rest false is true has h = absurd (false≢true (sym is ∙ keep has))
-any_kept p q x all few keep rest false is false lacks h = rw is (rest (rw lacks at h))
+-- what is kept of the front of a list stood there
+pub All-kept : (Q : Entry → Type 0) (test : Entry → Bool) (front rest : List Entry) → All Q front → All Q (kept_ahead test front rest)
+All-kept Q test [] rest all = all
+All-kept Q test (x ∷ front) rest all = go (All-head Q x front all) (All-kept Q test front rest (All-tail Q x front all)) (keeps test x (front ++ rest))
+  where
+    go : Q x → All Q (kept_ahead test front rest) → (b : Bool) → All Q (if b then x ∷ kept_ahead test front rest else kept_ahead test front rest)
+    go one more true = All-cons Q x (kept_ahead test front rest) one more
+    go one more false = more
 
--- a test that is passed stays so where the elements that pass it are kept
-any_filter : (p q : Entry → Bool) (P xs : List Entry) → ((e : Entry) → Contains P e → q e ≡ true → p e ≡ true) → All (Contains P) xs → list_any q xs ≡ true → list_any q (filter p xs) ≡ true
-any_filter p q P [] keeps among h = h
-any_filter p q P (x ∷ xs) keeps among h = any_kept p q x xs (filter p xs) (keeps x (All-head (Contains P) x xs among)) (any_filter p q P xs keeps (All-tail (Contains P) x xs among)) (p x) refl (q x) refl h
+-- a test that is passed stays so where the elements that pass it are kept, and are no At
+any_kept : (test q : Entry → Bool) (P front rest : List Entry) → ((e : Entry) → Contains P e → q e ≡ true → (is_at e ≡ false) × (test e ≡ true)) → All (Contains P) front → list_any q front ≡ true → list_any q (kept_ahead test front rest) ≡ true
+any_kept test q P [] rest keep among h = h
+any_kept test q P (x ∷ front) rest keep among h = go (any_kept test q P front rest keep (All-tail (Contains P) x front among)) (keeps test x (front ++ rest)) refl (q x) refl
+  where
+    here : q x ≡ true → keeps test x (front ++ rest) ≡ true
+    here passes = let it = keep x (All-head (Contains P) x front among) passes in rw (it.0, it.1) refl
+
+    go : (list_any q front ≡ true → list_any q (kept_ahead test front rest) ≡ true) → (b : Bool) → keeps test x (front ++ rest) ≡ b → (c : Bool) → q x ≡ c → list_any q (if b then x ∷ kept_ahead test front rest else kept_ahead test front rest) ≡ true
+    go again true is true has = rw has refl
+    go again true is false lacks = rw lacks (again (rw lacks at h))
+    go again false is true has = absurd (false≢true (sym is ∙ here has))
+    go again false is false lacks = again (rw lacks at h)
 
 any_append : (q : Entry → Bool) (xs ys : List Entry) → list_any q (xs ++ ys) ≡ (list_any q xs || list_any q ys)
 any_append q [] ys = refl
@@ -126,13 +141,24 @@ called_is n e h = go (calls n e) refl
     go true is = is
     go false is = absurd (false≢true (ap is_some (sym (silent_call n e is)) ∙ h))
 
+-- an entry that enters a call is no At
+no_moment : (n : ℕ) (e : Entry) → calls n e ≡ true → is_at e ≡ false
+no_moment n (Given (Called k thread call)) h = refl
+no_moment n (Given (At moment)) h = absurd (false≢true h)
+no_moment n (Given (Opened thread space)) h = absurd (false≢true h)
+no_moment n (Given (Exreg thread target control)) h = absurd (false≢true h)
+no_moment n (Given (Broke thread)) h = absurd (false≢true h)
+no_moment n (Given (Moved k count)) h = absurd (false≢true h)
+no_moment n (Written output) h = absurd (false≢true h)
+
 -- of so many first entries those are kept that pass a test, which the entries of open calls pass
-pub kept_holds : (P held now : List Entry) (test : Entry → Bool) (behind kept : ℕ) → Holds P held → ((n : ℕ) (e : Entry) → is_over P n ≡ false → Contains P e → calls n e ≡ true → test e ≡ true) → take kept now ≡ filter test (take behind held) → drop kept now ≡ drop behind held → Holds P now
+pub kept_holds : (P held now : List Entry) (test : Entry → Bool) (behind kept : ℕ) → Holds P held → ((n : ℕ) (e : Entry) → is_over P n ≡ false → Contains P e → calls n e ≡ true → test e ≡ true) → take kept now ≡ kept_ahead test (take behind held) (drop behind held) → drop kept now ≡ drop behind held → Holds P now
 kept_holds P held now test behind kept holds keeps front rest =
-    let is : now ≡ filter test (take behind held) ++ drop behind held = sym (take-append-drop kept now) ∙ rw (front, rest) refl in
+    let few = kept_ahead test (take behind held) (drop behind held) in
+    let is : now ≡ few ++ drop behind held = sym (take-append-drop kept now) ∙ rw (front, rest) refl in
     rw is (record {
-      among = All-append (Contains P) (filter test (take behind held)) (drop behind held) (All-filter test (Contains P) (take behind held) (All-take (Contains P) behind held holds.among)) (All-drop (Contains P) behind held holds.among);
-      called = λ n o. some_any n _ ∙ (any_append _ (filter test (take behind held)) (drop behind held) ∙ or_either _ _ _ (any_filter test (λ e. is_some (call_in n e)) P (take behind held) (λ e inside h. keeps n e o inside (called_is n e h)) (All-take (Contains P) behind held holds.among)) (sym (any_append _ (take behind held) (drop behind held)) ∙ (ap (list_any _) (take-append-drop behind held) ∙ (sym (some_any n held) ∙ holds.called n o))));
+      among = All-append (Contains P) few (drop behind held) (All-kept (Contains P) test (take behind held) (drop behind held) (All-take (Contains P) behind held holds.among)) (All-drop (Contains P) behind held holds.among);
+      called = λ n o. some_any n _ ∙ (any_append _ few (drop behind held) ∙ or_either _ _ _ (any_kept test (λ e. is_some (call_in n e)) P (take behind held) (drop behind held) (λ e inside h. (no_moment n e (called_is n e h), keeps n e o inside (called_is n e h))) (All-take (Contains P) behind held holds.among)) (sym (any_append _ (take behind held) (drop behind held)) ∙ (ap (list_any _) (take-append-drop behind held) ∙ (sym (some_any n held) ∙ holds.called n o))));
     })
 
 module _ (P items : List Entry) (kept gone : ℕ) (was : IsHeld P items kept gone) where
@@ -164,7 +190,7 @@ module _ (P items : List Entry) (kept gone : ℕ) (was : IsHeld P items kept gon
         few = was.few;
       }
 
-  pub still_held : (now : List Entry) (test : Entry → Bool) (place k : ℕ) → kept + gone ≤ place → place ≤ length P → length P < 2 ^ 63 → ((n : ℕ) (e : Entry) → is_over P n ≡ false → Contains P e → calls n e ≡ true → test e ≡ true) → k ≤ place - gone → take k now ≡ filter test (take (place - gone) items) → drop k now ≡ drop (place - gone) items → length now + (place - gone) ≡ length items + k → IsHeld P now k (gone + (place - gone - k))
+  pub still_held : (now : List Entry) (test : Entry → Bool) (place k : ℕ) → kept + gone ≤ place → place ≤ length P → length P < 2 ^ 63 → ((n : ℕ) (e : Entry) → is_over P n ≡ false → Contains P e → calls n e ≡ true → test e ≡ true) → k ≤ place - gone → take k now ≡ kept_ahead test (take (place - gone) items) (drop (place - gone) items) → drop k now ≡ drop (place - gone) items → length now + (place - gone) ≡ length items + k → IsHeld P now k (gone + (place - gone - k))
   still_held now test place k low high few keeps less front rest len =
       let size = was.size in
       let all : k + (gone + (place - gone - k)) ≡ place = omega (arith, low, less) in

@@ -3,3 +3,4 @@ pub mod Settling
 pub mod Rows
 pub mod EnteredOnce
 pub mod HoldingLemmas
+pub mod SweepLemmas

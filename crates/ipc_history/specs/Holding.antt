@@ -1,8 +1,9 @@
 -- The entries of a past that memory holds.
-use Rattle.std.specs.Prelude.{◌≡◌, ℕ, ◌+◌, ◌-◌, ◌^◌, ◌<◌, ◌≤◌, List, length, take, drop, ◌++◌, Bool, filter, nat_lt, if◌then◌else◌}
+use Rattle.std.specs.Prelude.{◌≡◌, ℕ, ◌+◌, ◌-◌, ◌^◌, ◌<◌, ◌≤◌, List, length, take, drop, ◌++◌, Bool, nat_lt, if◌then◌else◌}
 use Rattle.std.specs.Prelude.{IsTrue, IsFalse, slice_index_or, All, Contains}
 use Rattle.ipc_history.specs.Calls.{is_called}
 use Rattle.ipc_history.specs.Entries.{calls}
+use Rattle.ipc_history.specs.Keeping.{kept_ahead}
 use Rattle.ipc_history.specs.Phases.{is_over}
 use Rattle.ipc_history.specs.HistoryParts.{HeldParts, HistoryParts}
 use Rattle.ipc_history.specs.declared.entry.Entry.{Entry}
@@ -40,7 +41,9 @@ abbrev pub held_before : ℕ → HistoryParts → List Entry
 held_before upto history =
     history.held.front ++ take (reached upto history - history.held.whole_from) (drop history.held.whole_from history.entries)
 
--- what is held where of the entries before that place those are kept that pass a test
+-- what is held where of the entries before that place those are kept that pass a test, with the moments that are looked at
 abbrev pub compacted : (Entry → Bool) → ℕ → HistoryParts → HeldParts
-compacted test upto history =
-    record { front = filter test (held_before upto history); whole_from = reached upto history }
+compacted test upto history = record {
+  front = kept_ahead test (held_before upto history) (drop (reached upto history) history.entries);
+  whole_from = reached upto history;
+}

@@ -16,3 +16,5 @@ pub mod Legal
 pub mod Outcomes
 pub mod Paired
 pub mod Settled
+pub mod Keeping
+pub mod Gathering

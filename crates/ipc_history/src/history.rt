@@ -89,6 +89,13 @@ impl History {
         self.len() == 0
     }
 
+    /// The entries that are held, oldest first.
+    pub fn held(&self) -> &[Entry]
+        ensures { result.now ≡ held_of self.now }
+    {
+        &self.entries
+    }
+
     /// How many entries are held.
     pub fn held_len(&self) -> usize
         ensures { result ≡ length (held_of self.now) }

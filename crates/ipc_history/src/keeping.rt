@@ -1,34 +1,79 @@
-ghost use Rattle.std.specs.Prelude.{◌≡◌, ◌≤◌, ◌+◌, take, drop, filter, Bool, vec_capacity, vec_len};
+ghost use Rattle.std.specs.Prelude.{◌≡◌, ◌≤◌, ◌+◌, ◌++◌, take, drop, length, Bool, vec_capacity, vec_len};
+ghost use Rattle.ipc_history.specs.Keeping.{has_moment, is_at, keeps_at, kept_ahead};
 ghost use Rattle.ipc_history.specs.declared.entry.Entry.{Entry};
 
-use crate::entry::Entry;
+use crate::entry::{Entry, Input, Output};
 
-/// What says which entries of a history are kept where it is compacted.
+/// What says which entries of a history are kept where it is compacted. An At is not asked about: it is kept for the entries behind it.
 pub trait Keeps {
     ghost test: { Self → Entry → Bool };
 
-    /// Whether an entry is kept.
+    /// Whether an entry that is no At is kept.
     fn keeps(&self, entry: &Entry) -> bool
         ensures { result ≡ test self.now entry.now };
 }
 
-/// Brings those of so many first entries that are kept to the front, in their order, and says how many they are.
-fn gather<K: Keeps>(entries: &mut Vec<Entry>, behind: usize, keeps: &K) -> usize
-    requires { behind ≤ vec_len entries.old }
-    ensures few { result ≤ behind }
-    ensures kept { take result entries.new.items ≡ filter (K.test keeps.now) (take behind entries.old.items) }
-    ensures rest { drop behind entries.new.items ≡ drop behind entries.old.items }
+fn is_at(entry: &Entry) -> bool
+    ensures { result ≡ is_at entry.now }
+{
+    matches!(entry, Entry::Given(Input::At(_)))
+}
+
+fn has_moment(entry: &Entry) -> bool
+    ensures { result ≡ has_moment entry.now }
+{
+    matches!(
+        entry,
+        Entry::Given(Input::Called(_, _, _)) | Entry::Written(Output::Ended(_, _))
+    )
+}
+
+/// Whether an At before these entries is kept. Looks no further than the next At.
+fn keeps_at<K: Keeps>(rest: &[Entry], keeps: &K) -> bool
+    ensures { result ≡ keeps_at (K.test keeps.now) rest.now }
+{
+    for entry in rest {
+        if is_at(entry) {
+            return false;
+        }
+        if has_moment(entry) && keeps.keeps(entry) {
+            return true;
+        }
+    }
+    true
+}
+
+/// Moves those of so many first entries that are kept to the end of these, in their order, and says where they begin. Is told
+/// whether an At before the others is kept.
+fn gather<K: Keeps>(entries: &mut Vec<Entry>, behind: usize, wanted: bool, keeps: &K) -> usize
+    requires few { behind ≤ vec_len entries.old }
+    requires wanted { wanted ≡ keeps_at (K.test keeps.now) (drop behind entries.old.items) }
+    ensures within { result ≤ behind }
+    ensures kept { drop result entries.new.items
+        ≡ kept_ahead (K.test keeps.now) (take behind entries.old.items) (drop behind entries.old.items)
+        ++ drop behind entries.old.items }
     ensures len { vec_len entries.new ≡ vec_len entries.old }
     ensures capacity { vec_capacity entries.new ≡ vec_capacity entries.old }
 {
-    let mut kept = 0;
-    for place in 0..behind {
-        if keeps.keeps(&entries[place]) {
-            entries.swap(kept, place);
-            kept += 1;
+    let mut place = behind;
+    let mut first = behind;
+    let mut is_wanted = wanted;
+    while place > 0 {
+        place -= 1;
+        let entry = &entries[place];
+        if is_at(entry) {
+            if is_wanted {
+                first -= 1;
+                entries.swap(place, first);
+            }
+            is_wanted = false;
+        } else if keeps.keeps(entry) {
+            is_wanted = is_wanted || has_moment(entry);
+            first -= 1;
+            entries.swap(place, first);
         }
     }
-    kept
+    first
 }
 
 /// Keeps of so many first entries those that are to be kept, and all behind them, and says how many of the first were kept. Takes
@@ -36,12 +81,14 @@ fn gather<K: Keeps>(entries: &mut Vec<Entry>, behind: usize, keeps: &K) -> usize
 pub(crate) fn keep_before<K: Keeps>(entries: &mut Vec<Entry>, behind: usize, keeps: &K) -> usize
     requires { behind ≤ vec_len entries.old }
     ensures few { result ≤ behind }
-    ensures kept { take result entries.new.items ≡ filter (K.test keeps.now) (take behind entries.old.items) }
+    ensures kept { take result entries.new.items
+        ≡ kept_ahead (K.test keeps.now) (take behind entries.old.items) (drop behind entries.old.items) }
     ensures rest { drop result entries.new.items ≡ drop behind entries.old.items }
     ensures len { vec_len entries.new + behind ≡ vec_len entries.old + result }
     ensures capacity { vec_capacity entries.new ≡ vec_capacity entries.old }
 {
-    let kept = gather(entries, behind, keeps);
-    drop(entries.drain(kept..behind));
-    kept
+    let wanted = keeps_at(&entries[behind..], keeps);
+    let first = gather(entries, behind, wanted, keeps);
+    drop(entries.drain(0..first));
+    behind - first
 }

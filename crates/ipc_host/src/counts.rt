@@ -1,5 +1,5 @@
-//! What a server has told its clients since its start.
-use crate::watch::Told;
+//! What a server has told its clients since its start, beside the outcomes of calls.
+use crate::told::Told;
 use std::fmt;
 
 /// How many numbers a refusal may have: K0 is none, and a number past K8 counts as K0.
@@ -8,7 +8,6 @@ const REFUSALS: usize = 9;
 /// How often a server told what.
 #[derive(Clone, Copy)]
 pub struct Counts {
-    calls: u64,
     exchanges: u64,
     faults: u64,
     refusals: [u64; REFUSALS],
@@ -18,7 +17,6 @@ impl Counts {
     /// Nothing so far.
     pub fn new() -> Counts {
         Counts {
-            calls: 0,
             exchanges: 0,
             faults: 0,
             refusals: [0; REFUSALS],
@@ -28,8 +26,6 @@ impl Counts {
     /// Counts one more.
     pub fn add(&mut self, told: Told) {
         match told {
-            Told::Welcome { .. } => {}
-            Told::Outcome => self.calls = self.calls.saturating_add(1),
             Told::Exchanged => self.exchanges = self.exchanges.saturating_add(1),
             Told::Fault(_, _) => self.faults = self.faults.saturating_add(1),
             Told::Refused(number) => self.refuse(usize::from(number)),
@@ -45,15 +41,11 @@ impl Counts {
 impl fmt::Display for Counts {
     fn fmt<W: fmt::Write>(&self, f: &mut fmt::Formatter<W>) -> fmt::Result {
         let Counts {
-            calls,
             exchanges,
             faults,
             refusals,
         } = *self;
-        write!(
-            f,
-            "{calls} calls over, {exchanges} exchanges, {faults} faults"
-        )?;
+        write!(f, "{exchanges} exchanges, {faults} faults")?;
         let mut number = 0u8;
         for count in refusals {
             if count > 0 {

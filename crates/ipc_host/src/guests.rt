@@ -3,7 +3,7 @@ ghost use Rattle.std.specs.Prelude.{◌≤◌, ◌+◌, ◌↔◌, IsTrue};
 
 use crate::clock::ServerClock;
 use crate::counts::Counts;
-use crate::watch::Told;
+use crate::told::Told;
 use std::alloc::Global;
 use std::net::Shutdown;
 use std::os::unix::net::UnixStream;

@@ -2,4 +2,6 @@ pub mod Groups
 pub mod Opens
 pub mod Seats
 pub mod Acting
-pub mod Next
+pub mod Serving
+pub mod Boxes
+pub mod Alarms

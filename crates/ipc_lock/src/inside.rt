@@ -1,85 +1,86 @@
-//! What stands under the lock: the kernel with its books, and the post boxes.
-ghost use Rattle.std.specs.Prelude.{◌≡◌, ◌+◌, ◌*◌, ◌≤◌, IfSome, IfNone, IfErr, Some, length, slice_get};
+//! What stands under the lock: the kernel with its books, and the boxes of the connections.
+ghost use Rattle.std.specs.Prelude.{◌≡◌, ◌+◌, ◌*◌, ◌≤◌, IfSome, IfNone, IfOk, OnOk, OnErr, length};
 ghost use Rattle.ipc_core.specs.Effects.{Gives};
 ghost use Rattle.ipc_core.specs.Outcomes.{made_by};
 ghost use Rattle.ipc_history.specs.Paired.{Paired};
 ghost use Rattle.ipc_history.specs.Threads.{is_live};
-ghost use Rattle.ipc_lock.specs.Acting.{ActsOn, AnswersStep, MayLetGo};
-ghost use Rattle.ipc_lock.specs.Next.{ComesOut, KeepsOwners, LooksFirst, MayGiveNext};
+ghost use Rattle.ipc_lock.specs.Acting.{ActsOn, AnswersStep, MayLetGo, RisenSeat, SameSeat};
+ghost use Rattle.ipc_lock.specs.Alarms.{Rests};
+ghost use Rattle.ipc_lock.specs.Boxes.{OnlyTakes};
+ghost use Rattle.ipc_lock.specs.Serving.{EntersOn, ExchangesOn, OpensOn};
 ghost use Rattle.ipc_lock.specs.Seats.{TakesNothing};
+ghost use Rattle.ipc_pen.specs.Pens.{BeginsEmpty};
 ghost use Rattle.ipc_words.specs.Limits.{max_command_entries};
+ghost use Rattle.ipc_words.specs.ThreadId.{number_of};
 
+use crate::entered::Entered;
+use crate::errands::Errands;
 use crate::not_given::NotGiven;
-use crate::post_box::{PostBox, Posted};
-use crate::seated::{Answer, Locked, TakeSeat, Taken};
+use crate::post_box::{PostBox, Work};
+use crate::rest::Rest;
+use crate::seated::{Answer, CallSeat, Locked, TakeSeat, Taken};
 use crate::step::Step;
+use crate::told::Told;
 use crate::upkeep::Upkeep;
-use ipc_history::Entry;
-use ipc_words::ThreadId;
+use ipc_core::Refusal;
+use ipc_frame::Frame;
+use ipc_history::{Call, Entry};
+use ipc_pen::{Pen, PenPort};
 use ipc_words::limits::TABLE_SLOTS;
+use ipc_words::{Control, ThreadId};
 use std::alloc::{AllocError, Global};
 use std::sync::ledger::Ledger;
 use std::sync::{Arc, Condvar};
 
-/// What a writer writes next.
+/// What is to be done once the lock is free again after a step.
 #[derive(Drop)]
-pub enum Next<T: Ledger> {
-    /// The outcome of the thread's last call.
-    Outcome(Taken<T>),
-    /// What the reader posted.
-    Posted(Posted<T>),
-    /// The box is shut and empty.
-    Gone,
-}
-
-/// Whom a step concerns. Most steps finish at most two calls; the bells of more are rung under the lock.
-#[derive(Drop)]
-pub(crate) struct Bells {
-    pub(crate) first: Option<Arc<Condvar>>,
-    pub(crate) second: Option<Arc<Condvar>>,
+pub(crate) struct After<P: PenPort + Drop> {
+    /// What is to be written.
+    pub(crate) errands: Errands<P>,
+    /// Whether those who wait for an outcome without a box are concerned.
     pub(crate) strays: bool,
+    /// Whether the trace waits for the entries that came.
+    pub(crate) tells_trace: bool,
+    /// Whether a phase is due before the moment until which the ticker rests.
+    pub(crate) wakes_ticker: bool,
+    /// Whether a transfer has begun.
+    pub(crate) begun: bool,
 }
 
-/// The kernel with its books, the boxes, which of them are free, and for each thread number the box of its writer.
+impl<P: PenPort + Drop> After<P> {
+    /// How far the call is that the connection of this box entered.
+    pub(crate) fn entered(&self, own: usize) -> Entered {
+        match &self.errands.first {
+            Some(pen) if pen.place() == own => Entered::Over,
+            _ => Entered::Open,
+        }
+    }
+}
+
+/// The kernel with its books, the boxes, which of them are free, and for each thread number the box where its outcomes are told.
 #[derive(Drop)]
-pub(crate) struct Inside<C: Ledger, T: Ledger> {
+pub(crate) struct Inside<C: Ledger, T: Ledger, P: PenPort + Drop> {
     locked: Locked<C, T>,
-    boxes: Vec<PostBox<T>>,
+    boxes: Vec<PostBox<T, P>>,
     free: Vec<usize>,
     owners: Vec<Option<usize>>,
     finished: Vec<ThreadId>,
+    // whether a transfer goes on, and whether the last step began one
     begun: bool,
+    has_begun: bool,
+    strays: bool,
     is_work_over: bool,
     closed: bool,
     // whether the last step added entries, and whether the trace waits for one
     has_grown: bool,
     is_awaited: bool,
+    // the moment until which the ticker rests
+    alarm: u64,
     upkeep: Upkeep,
     alloc: Global,
 }
 
-impl Bells {
-    fn none() -> Bells {
-        Bells {
-            first: None,
-            second: None,
-            strays: false,
-        }
-    }
-
-    /// Keeps a bell for later, or rings it now where two are kept.
-    fn add(&mut self, bell: Arc<Condvar>) {
-        if self.first.is_none() {
-            self.first = Some(bell);
-        } else if self.second.is_none() {
-            self.second = Some(bell);
-        } else {
-            bell.notify_one();
-        }
-    }
-}
-
-impl<C: Ledger, T: Ledger> Inside<C, T> {
+impl<C: Ledger, T: Ledger, P: PenPort + Drop> Inside<C, T, P> {
     /// Without boxes.
     pub(crate) fn new(alloc: Global, locked: Locked<C, T>, limit: u64) -> Result<Self, AllocError> {
         Ok(Inside {
@@ -89,19 +90,22 @@ impl<C: Ledger, T: Ledger> Inside<C, T> {
             owners: vec![in alloc; None; TABLE_SLOTS]?,
             finished: Vec::with_capacity(alloc, 2 * TABLE_SLOTS)?,
             begun: false,
+            has_begun: false,
+            strays: false,
             is_work_over: false,
             closed: false,
             has_grown: false,
             is_awaited: false,
+            alarm: 0,
             upkeep: Upkeep::new(limit),
             alloc,
         })
     }
 
-    /// Makes one step, and answers whom it concerns.
-    pub(crate) fn act(&mut self, now: u64, step: Step<C>) -> (Answer<C, T>, Bells)
-        ensures acts { ActsOn self.old.locked.kernel self.new.locked.kernel now step result.0.told }
-        ensures answers { AnswersStep step result.0.told }
+    /// Makes one step.
+    pub(crate) fn act(&mut self, now: u64, step: Step<C>) -> Answer<C, T>
+        ensures acts { ActsOn self.old.locked.kernel self.new.locked.kernel now step result.told }
+        ensures answers { AnswersStep step result.told }
         ensures few { length self.new.locked.kernel.history
             ≤ length self.old.locked.kernel.history + 2 * max_command_entries }
         ensures paired { Paired self.new.locked.kernel.history }
@@ -109,15 +113,86 @@ impl<C: Ledger, T: Ledger> Inside<C, T> {
         self.upkeep.note(&step);
         self.let_go();
         let before = self.locked.entries();
-        let ends_a_thread = matches!(&step, Step::Broke(_));
+        // whoever waits for an outcome of a thread that ends waits in vain
+        self.strays = matches!(&step, Step::Broke(_));
         self.finished.clear();
         let answer = self.locked.act(now, step, &mut self.finished);
         self.has_grown = self.locked.entries() > before;
-        self.begun = self.locked.has_begun_since(before) || self.begun && !answer.is_idle();
-        let mut bells = self.bells();
-        // whoever waits for an outcome of the thread waits in vain
-        bells.strays = bells.strays || ends_a_thread;
-        (answer, bells)
+        self.has_begun = self.locked.has_begun_since(before);
+        self.begun = self.has_begun || self.begun && !answer.is_idle();
+        answer
+    }
+
+    /// Opens the thread of a number in a space. Its outcomes are told in this box from here on, and first of all its WELCOME.
+    #[tactic(auto, unfolding(crate::specs::Acting::AnswersStep, crate::specs::Acting::StepDoes))]
+    pub(crate) fn open(
+        &mut self,
+        now: u64,
+        place: usize,
+        number: u64,
+        space: u64,
+    ) -> Result<(ThreadId, CallSeat<C>), Refusal>
+        ensures opens { IfOk result (λ opened.
+            OpensOn self.old.locked.kernel self.new.locked.kernel now number space opened.0) }
+        ensures seat { IfOk result (λ opened. (opened.1.thread ≡ opened.0) × (opened.1.made ≡ 0)) }
+        ensures number { IfOk result (λ opened. number_of opened.0 ≡ number) }
+    {
+        match self.act(now, Step::Hello { number, space }).into_told() {
+            Told::Opened(thread, calls, takes) => {
+                self.welcome(place, takes);
+                Ok((thread, calls))
+            }
+            Told::NotOpened(refusal) => Err(refusal),
+            _ => unreachable!(),
+        }
+    }
+
+    /// Enters a call of the seat's thread.
+    #[tactic(auto, unfolding(crate::specs::Acting::AnswersStep, crate::specs::Acting::StepDoes))]
+    pub(crate) fn enter(
+        &mut self,
+        now: u64,
+        seat: CallSeat<C>,
+        call: Call,
+    ) -> (CallSeat<C>, Result<(), Refusal>)
+        ensures enters { OnOk result.1
+            (EntersOn self.old.locked.kernel self.new.locked.kernel now seat.thread call) }
+        ensures risen { OnOk result.1 (RisenSeat seat result.0) }
+        ensures same { OnErr result.1 (SameSeat seat result.0) }
+    {
+        match self.act(now, Step::Enter(seat, call)).into_told() {
+            Told::Entered(seat, _) => (seat, Ok(())),
+            Told::NotEntered(seat, refusal, _) => (seat, Err(refusal)),
+            _ => unreachable!(),
+        }
+    }
+
+    /// Stops phases of a target for the seat's thread, and tells what was stopped in this box.
+    #[tactic(auto, unfolding(crate::specs::Acting::AnswersStep, crate::specs::Acting::StepDoes))]
+    pub(crate) fn exreg(
+        &mut self,
+        now: u64,
+        place: usize,
+        seat: CallSeat<C>,
+        target: ThreadId,
+        control: Control,
+    ) -> (CallSeat<C>, Result<(), Refusal>)
+        ensures exchanges { OnOk result.1
+            (ExchangesOn self.old.locked.kernel self.new.locked.kernel now seat.thread target control) }
+        ensures same { SameSeat seat result.0 }
+    {
+        match self
+            .act(now, Step::Exreg(seat, target, control))
+            .into_told()
+        {
+            Told::Exchanged(seat, answer) => {
+                let told = Frame::Exregr(answer.result, answer.control, answer.code);
+                self.post(place, told);
+                (seat, Ok(()))
+            }
+            Told::NotExchanged(seat, refusal) => (seat, Err(refusal)),
+            _ => unreachable!(),
+        }
     }
 
     /// Lets go of entries where it is time.
@@ -137,22 +212,107 @@ impl<C: Ledger, T: Ledger> Inside<C, T> {
         self.upkeep.mark(upto);
     }
 
-    /// The bells of the writers whose threads' calls the last step finished, or that it ended.
-    fn bells(&self) -> Bells {
-        let mut bells = Bells::none();
-        for thread in &self.finished {
-            match self.writer_of(thread.number()) {
-                None => bells.strays = true,
-                Some(bell) => bells.add(bell),
-            }
+    /// What is to be done after the last step: the pens of those whom it told something are taken out, first that of this box.
+    pub(crate) fn after(&mut self, own: Option<usize>) -> After<P>
+        ensures only { OnlyTakes self.old.locked.kernel self.new.locked.kernel }
+    {
+        let errands = self.gather(own);
+        After {
+            errands,
+            strays: self.strays,
+            tells_trace: self.tells_trace(),
+            wakes_ticker: self.wakes_ticker(),
+            begun: self.has_begun,
         }
-        bells
     }
 
-    /// The bell of the writer of a thread's number.
-    fn writer_of(&self, number: u32) -> Option<Arc<Condvar>> {
-        let place = (*self.owners.get(number as usize)?)?;
-        self.bell(place)
+    /// The pens of this box, and of those whose calls the last step finished.
+    fn gather(&mut self, own: Option<usize>) -> Errands<P>
+        ensures only { OnlyTakes self.old.locked.kernel self.new.locked.kernel }
+    {
+        let mut errands = Errands::none();
+        if let Some(place) = own {
+            self.load(place, &mut errands);
+        }
+        'finished: for index in 0..self.finished.len() {
+            self.load_for(index, &mut errands);
+        }
+        errands
+    }
+
+    /// The pen of one whose call the last step finished.
+    fn load_for(&mut self, index: usize, errands: &mut Errands<P>)
+        ensures only { OnlyTakes self.old.locked.kernel self.new.locked.kernel }
+    {
+        let Some(thread) = self.finished.get(index) else {
+            return;
+        };
+        match self.owner_of(thread.number()) {
+            None => self.strays = true,
+            Some(place) => self.load(place, errands),
+        }
+    }
+
+    /// Takes a box's pen out, where it lies there and something is to be told. Where no more pens have room the writer is woken.
+    pub(crate) fn load(&mut self, place: usize, errands: &mut Errands<P>)
+        ensures only { OnlyTakes self.old.locked.kernel self.new.locked.kernel }
+    {
+        let Inside { locked, boxes, .. } = self;
+        let Some(post_box) = boxes.get_mut(place) else {
+            return;
+        };
+        if errands.is_full() {
+            post_box.ring();
+            return;
+        }
+        if let Some(pen) = post_box.load(locked) {
+            // it has room
+            let _ = errands.add(pen);
+        }
+    }
+
+    /// Lays pens down, each in its own box, and takes those out again for which something came meanwhile.
+    pub(crate) fn take_back(&mut self, errands: Errands<P>) -> Errands<P>
+        ensures only { OnlyTakes self.old.locked.kernel self.new.locked.kernel }
+    {
+        let Errands {
+            first,
+            second,
+            third,
+        } = errands;
+        Errands {
+            first: self.look_again(first),
+            second: self.look_again(second),
+            third: self.look_again(third),
+        }
+    }
+
+    /// Lays a pen down in its own box, and takes it out again where something came meanwhile.
+    fn look_again(&mut self, pen: Option<Pen<P>>) -> Option<Pen<P>>
+        ensures only { OnlyTakes self.old.locked.kernel self.new.locked.kernel }
+    {
+        let pen = pen?;
+        let Inside { locked, boxes, .. } = self;
+        let post_box = boxes.get_mut(pen.place())?;
+        // the box is its own
+        let _ = post_box.lay(pen);
+        post_box.load(locked)
+    }
+
+    /// What a box's writer does next; None while there is nothing to do.
+    pub(crate) fn work(&mut self, place: usize) -> Option<Work<P>>
+        ensures only { OnlyTakes self.old.locked.kernel self.new.locked.kernel }
+    {
+        let Inside { locked, boxes, .. } = self;
+        match boxes.get_mut(place) {
+            Some(post_box) => post_box.work(locked),
+            None => Some(Work::Over),
+        }
+    }
+
+    /// The box of a thread's number.
+    fn owner_of(&self, number: u32) -> Option<usize> {
+        *self.owners.get(number as usize)?
     }
 
     /// Takes the outcome of the seat's thread's last call, where it is over.
@@ -161,8 +321,6 @@ impl<C: Ledger, T: Ledger> Inside<C, T> {
             seat.old.thread (Some taken.outcome)) }
         ensures nothing { IfNone result (TakesNothing self.old.locked.kernel self.new.locked.kernel
             seat.old.thread seat.old.taken) }
-        ensures boxes { self.new.boxes ≡ self.old.boxes }
-        ensures owners { self.new.owners ≡ self.old.owners }
         ensures numbered { IfSome result (λ taken. made_by self.old.locked.kernel.history seat.old.thread ≡ taken.amount) }
         ensures thread { seat.new.thread ≡ seat.old.thread }
         ensures named { IfSome result (λ taken. (taken.thread ≡ seat.old.thread) × (taken.amount ≡ seat.new.taken)) }
@@ -179,52 +337,24 @@ impl<C: Ledger, T: Ledger> Inside<C, T> {
         self.locked.is_live(seat.thread())
     }
 
-    /// What the box's writer writes next: an outcome before a posted answer, and Gone where the box is shut and empty.
-    pub(crate) fn next(&mut self, place: usize, seat: &mut Option<TakeSeat<T>>) -> Option<Next<T>>
-        ensures seat { MayGiveNext seat.old result seat.new }
-        ensures first { LooksFirst self.old.locked.kernel self.new.locked.kernel seat.old result }
-        ensures out { ComesOut (slice_get self.old.boxes.items place) result }
-        ensures owners { KeepsOwners self.old.locked.kernel.history seat.old
-            self.old.owners.items self.new.owners.items }
-    {
-        if let Some(seat) = seat {
-            let thread = seat.thread();
-            // once a thread has ended its number may be another's, while its writer still ends
-            if self.locked.is_live(thread) {
-                self.own(thread.number(), place);
-            }
-            if let Some(taken) = self.take_for(seat) {
-                return Some(Next::Outcome(taken));
-            }
-        }
-        let post_box = self.boxes.get_mut(place)?;
-        if let Some(posted) = post_box.take() {
-            return Some(Next::Posted(posted));
-        }
-        if post_box.is_shut() {
-            return Some(Next::Gone);
-        }
-        None
-    }
-
-    /// The outcomes of the thread of a number are told to this box's writer.
-    fn own(&mut self, number: u32, place: usize)
+    /// The seat's thread is told in this box from here on, first of all its WELCOME.
+    fn welcome(&mut self, place: usize, seat: TakeSeat<T>)
         ensures locked { self.new.locked ≡ self.old.locked }
-        ensures boxes { self.new.boxes ≡ self.old.boxes }
     {
-        if let Some(owner) = self.owners.get_mut(number as usize) {
+        if let Some(owner) = self.owners.get_mut(seat.thread().number() as usize) {
             *owner = Some(place);
         }
+        if let Some(post_box) = self.boxes.get_mut(place) {
+            post_box.welcome(seat);
+        }
     }
 
-    /// Leaves an answer. A full or shut box, or one that is not there, hands it back.
-    pub(crate) fn post(&mut self, place: usize, posted: Posted<T>) -> Result<(), Posted<T>>
-        ensures back { IfErr result (λ back. back ≡ posted) }
+    /// Leaves an answer. A full or shut box, or one that is not there, drops it.
+    pub(crate) fn post(&mut self, place: usize, frame: Frame)
         ensures locked { self.new.locked ≡ self.old.locked }
     {
-        match self.boxes.get_mut(place) {
-            Some(post_box) => post_box.post(posted),
-            None => Err(posted),
+        if let Some(post_box) = self.boxes.get_mut(place) {
+            let _ = post_box.post(frame);
         }
     }
 
@@ -249,6 +379,11 @@ impl<C: Ledger, T: Ledger> Inside<C, T> {
             .map_or(true, |post_box| post_box.is_shut())
     }
 
+    /// The thread whose outcomes are told in a box.
+    pub(crate) fn thread_at(&self, place: usize) -> Option<ThreadId> {
+        self.boxes.get(place)?.thread()
+    }
+
     /// The bell of a box's writer.
     pub(crate) fn bell(&self, place: usize) -> Option<Arc<Condvar>> {
         self.boxes.get(place)?.bell()
@@ -259,31 +394,35 @@ impl<C: Ledger, T: Ledger> Inside<C, T> {
         self.boxes.get(place)?.emptied()
     }
 
-    /// An empty box: one that was given back, else a new one.
-    pub(crate) fn connect_box(&mut self) -> Result<usize, AllocError>
+    /// An empty box with the pen of a port: one that was given back, else a new one.
+    pub(crate) fn connect(&mut self, port: P) -> Result<usize, AllocError>
+        requires { BeginsEmpty (P.written port) }
         ensures { self.new.locked ≡ self.old.locked }
     {
         if let Some(place) = self.free.pop() {
             if let Some(post_box) = self.boxes.get_mut(place) {
-                post_box.reopen();
+                post_box.reopen(port, place);
                 return Ok(place);
             }
         }
         let place = self.boxes.len();
         // so that giving a box back takes no memory
         self.free.reserve(place.saturating_add(1))?;
-        self.boxes.push(PostBox::new(self.alloc)?)?;
+        self.boxes.push(PostBox::new(self.alloc, port, place)?)?;
         Ok(place)
     }
 
     /// Gives a box back that nobody uses any more.
-    pub(crate) fn release_box(&mut self, place: usize)
+    pub(crate) fn release(&mut self, place: usize)
         ensures { self.new.locked ≡ self.old.locked }
     {
         for owner in self.owners.iter_mut() {
             if *owner == Some(place) {
                 *owner = None;
             }
+        }
+        if let Some(post_box) = self.boxes.get_mut(place) {
+            post_box.clear();
         }
         // its room was made with the box
         let _ = self.free.push(place);
@@ -315,6 +454,42 @@ impl<C: Ledger, T: Ledger> Inside<C, T> {
         self.closed = true;
     }
 
+    /// How long the ticker rests at this moment: until the first one at which a phase is due. An earlier one that comes meanwhile
+    /// wakes it.
+    pub(crate) fn rest(&mut self, now: u64) -> Rest
+        ensures locked { self.new.locked ≡ self.old.locked }
+        ensures rests { Rests self.old.locked.kernel.history now result }
+    {
+        match self.locked.least_due() {
+            None => {
+                self.alarm = u64::MAX;
+                Rest::Long
+            }
+            Some(due) if due <= now => {
+                self.alarm = 0;
+                Rest::Not
+            }
+            Some(due) => {
+                self.alarm = due;
+                Rest::For(due - now)
+            }
+        }
+    }
+
+    /// Whether a phase is due before the moment until which the ticker rests.
+    fn wakes_ticker(&mut self) -> bool
+        ensures { self.new.locked ≡ self.old.locked }
+    {
+        let Some(due) = self.locked.least_due() else {
+            return false;
+        };
+        let is_earlier = due < self.alarm;
+        if is_earlier {
+            self.alarm = due;
+        }
+        is_earlier
+    }
+
     /// How many entries the history has, with those that were let go.
     pub(crate) fn entries(&self) -> usize
         ensures { result ≡ length self.now.locked.kernel.history }
@@ -325,6 +500,11 @@ impl<C: Ledger, T: Ledger> Inside<C, T> {
     /// How many entries memory holds.
     pub(crate) fn held(&self) -> usize {
         self.locked.held()
+    }
+
+    /// How many outcomes were taken.
+    pub(crate) fn takes(&self) -> u64 {
+        self.locked.takes()
     }
 
     /// A copy of the entry of this place.
@@ -345,7 +525,7 @@ impl<C: Ledger, T: Ledger> Inside<C, T> {
     }
 
     /// Whether the trace has to be told of the last step: it waits, and there are more entries than before.
-    pub(crate) fn tells_trace(&mut self) -> bool
+    fn tells_trace(&mut self) -> bool
         ensures { self.new.locked ≡ self.old.locked }
     {
         let is_told = self.is_awaited && self.has_grown;

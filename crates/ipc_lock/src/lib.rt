@@ -1,10 +1,14 @@
-//! The kernel under a lock: seats that tie callers to its one history, and a post box for each connection.
+//! The kernel under a lock: seats that tie callers to its one history, and for each connection a box, whose pen is handed from thread to thread.
 #![tactic(auto)]
 
 mod copying;
+mod ends;
+mod entered;
+mod errands;
 mod inside;
 mod not_given;
 mod post_box;
+mod rest;
 mod seated;
 mod shared_kernel;
 mod step;
@@ -13,9 +17,9 @@ mod tests;
 mod told;
 mod upkeep;
 
-pub use inside::Next;
+pub use ends::{PostEnd, TakeEnd};
+pub use entered::Entered;
 pub use not_given::NotGiven;
-pub use post_box::{PostBox, Posted};
 pub use seated::{Answer, CallSeat, Locked, TakeSeat, Taken};
 pub use shared_kernel::SharedKernel;
 pub use step::Step;

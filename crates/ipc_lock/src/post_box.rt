@@ -1,106 +1,239 @@
-//! A post box for each connection: one answer that its reader leaves for its writer.
-ghost use Rattle.std.specs.Prelude.{◌≡◌, ◌&&◌, Some, None, true, false, OnOk, OnErr, IfErr, IfOk, ◌||◌, is_some, not};
+//! The box of a connection: what its client is told next, and the pen that writes it.
+ghost use Rattle.std.specs.Prelude.{◌≡◌, None, Some, true, false, IfOk, OnOk, OnErr, IfErr, IfSome, IfNone, is_some, ◌||◌, not};
+ghost use Rattle.ipc_frame.specs.declared.frame.Frame.TheVariants as frame;
+ghost use Rattle.ipc_lock.specs.Boxes.{ComesOut, Loads, LooksFirst, NewPen, OnlyTakes, SeatAfter, is_own};
+ghost use Rattle.ipc_pen.specs.Pens.{BeginsEmpty};
 
-use crate::seated::TakeSeat;
-use ipc_words::{Control, ThreadId};
+use crate::seated::{Locked, TakeSeat};
+use ipc_frame::Frame;
+use ipc_pen::{Given, Pen, PenPort};
+use ipc_words::ThreadId;
 use std::alloc::{AllocError, Global};
 use std::sync::ledger::Ledger;
 use std::sync::{Arc, Condvar};
 
-/// What a reader leaves for its connection's writer.
+/// What a connection's writer does next.
 #[derive(Drop)]
-pub enum Posted<T: Ledger> {
-    /// WELCOME, and the right to take the thread's outcomes.
-    Welcome(ThreadId, TakeSeat<T>),
-    /// EXREGR: result, control, code.
-    Exreg(ThreadId, Control, u64),
-    /// REFUSED with the number of a K.
-    Refused(u8),
-    /// FAULT with its class and number.
-    Fault(u8, u8),
+pub(crate) enum Work<P: PenPort + Drop> {
+    /// It writes with the pen.
+    Write(Pen<P>),
+    /// Nothing more is written: the box is shut and empty, or the device has failed. The pen is gone.
+    Over,
 }
 
-/// The post box of one connection: at most one posted answer, and whether it was shut.
+/// The box of one connection: an answer that its reader left, the seat of its thread's outcomes, and the pen where nobody has it.
 #[derive(Drop)]
-pub struct PostBox<T: Ledger> {
-    posted: Option<Posted<T>>,
+pub(crate) struct PostBox<T: Ledger, P: PenPort + Drop> {
+    place: usize,
+    posted: Option<Frame>,
     shut: bool,
+    seat: Option<TakeSeat<T>>,
+    pen: Option<Pen<P>>,
     bell: Arc<Condvar>,
     emptied: Arc<Condvar>,
+    pub ghost own: { is_own pen place ≡ true },
 }
 
-impl<T: Ledger> PostBox<T> {
-    /// An empty box.
-    pub(crate) fn new(alloc: Global) -> Result<Self, AllocError>
-        ensures { IfOk result (λ b. (b.posted ≡ None) × (b.shut ≡ false)) }
+impl<T: Ledger, P: PenPort + Drop> PostBox<T, P> {
+    /// An empty box of this number, in which the pen of a port lies.
+    pub(crate) fn new(alloc: Global, port: P, place: usize) -> Result<Self, AllocError>
+        requires { BeginsEmpty (P.written port) }
+        ensures empty { IfOk result (λ b. (b.posted ≡ None) × (b.shut ≡ false)) }
+        ensures pen { IfOk result (λ b. NewPen b.pen place) }
     {
         Ok(PostBox {
+            place,
             posted: None,
             shut: false,
+            seat: None,
+            pen: Some(Pen::new(port, place)),
             bell: Arc::new(alloc, Condvar::new())?,
             emptied: Arc::new(alloc, Condvar::new())?,
         })
     }
 
+    /// Makes a box that was given back ready for another connection.
+    pub(crate) fn reopen(&mut self, port: P, place: usize)
+        requires { BeginsEmpty (P.written port) }
+        ensures empty { (self.new.posted ≡ None) × (self.new.shut ≡ false) }
+        ensures pen { NewPen self.new.pen place }
+    {
+        self.place = place;
+        self.posted = None;
+        self.shut = false;
+        self.seat = None;
+        self.pen = Some(Pen::new(port, place));
+    }
+
+    /// Lets go of what a connection leaves behind.
+    pub(crate) fn clear(&mut self)
+        ensures shut { self.new.shut ≡ true }
+        ensures empty { (self.new.posted ≡ None) × (self.new.pen ≡ None) }
+    {
+        self.shut = true;
+        self.posted = None;
+        self.seat = None;
+        self.pen = None;
+    }
+
     /// Leaves an answer. A full or shut box hands it back and stays as it is.
-    pub fn post(&mut self, posted: Posted<T>) -> Result<(), Posted<T>>
+    pub(crate) fn post(&mut self, frame: Frame) -> Result<(), Frame>
         ensures ok { OnOk result ((self.old.posted ≡ None) × (self.old.shut ≡ false)) }
-        ensures left { OnOk result (self.new.posted ≡ Some posted) }
-        ensures back { IfErr result (λ back. back ≡ posted) }
+        ensures left { OnOk result (self.new.posted ≡ Some frame) }
+        ensures back { IfErr result (λ back. back ≡ frame) }
         ensures full { OnErr result (is_some self.old.posted || self.old.shut ≡ true) }
         ensures err { OnErr result (self.new.posted ≡ self.old.posted) }
         ensures shut { self.new.shut ≡ self.old.shut }
+        ensures pen { self.new.pen ≡ self.old.pen }
     {
         if self.shut || self.posted.is_some() {
-            return Err(posted);
+            return Err(frame);
         }
-        self.posted = Some(posted);
+        self.posted = Some(frame);
         Ok(())
     }
 
-    /// Takes the answer out.
-    pub fn take(&mut self) -> Option<Posted<T>>
-        ensures taken { result ≡ self.old.posted }
-        ensures empty { self.new.posted ≡ None }
+    /// Leaves the WELCOME of a seat's thread, and keeps the seat.
+    pub(crate) fn welcome(&mut self, seat: TakeSeat<T>)
+        ensures posted { self.new.posted ≡ Some (frame.Welcome seat.thread) }
+        ensures seat { self.new.seat ≡ Some seat }
         ensures shut { self.new.shut ≡ self.old.shut }
+        ensures pen { self.new.pen ≡ self.old.pen }
     {
-        self.posted.take()
+        self.posted = Some(Frame::Welcome(seat.thread()));
+        self.seat = Some(seat);
     }
 
     /// Nothing more can be posted. What is in it can still be taken.
-    pub fn shut(&mut self)
+    pub(crate) fn shut(&mut self)
         ensures shut { self.new.shut ≡ true }
         ensures posted { self.new.posted ≡ self.old.posted }
+        ensures pen { self.new.pen ≡ self.old.pen }
     {
         self.shut = true;
+        self.bell.notify_one();
+        self.emptied.notify_one();
     }
 
     /// Whether there is no answer in it.
-    pub fn is_empty(&self) -> bool
+    pub(crate) fn is_empty(&self) -> bool
         ensures { result ≡ not (is_some self.now.posted) }
     {
         self.posted.is_none()
     }
 
     /// Whether it was shut.
-    pub fn is_shut(&self) -> bool
+    pub(crate) fn is_shut(&self) -> bool
         ensures { result ≡ self.now.shut }
     {
         self.shut
     }
-}
 
-impl<T: Ledger> PostBox<T> {
-    /// Makes a box that was given back ready for another connection.
-    pub(crate) fn reopen(&mut self)
-        ensures posted { self.new.posted ≡ None }
-        ensures shut { self.new.shut ≡ false }
+    /// The thread whose outcomes are told here.
+    pub(crate) fn thread(&self) -> Option<ThreadId>
+        ensures some { IfSome result (λ thread. IfSome self.now.seat (λ seat. seat.thread ≡ thread)) }
+        ensures none { IfNone result (self.now.seat ≡ None) }
     {
-        self.posted = None;
-        self.shut = false;
+        match &self.seat {
+            Some(seat) => Some(seat.thread()),
+            None => None,
+        }
     }
 
-    /// The bell of the box's writer: it rings for an outcome, an answer, and when the box is shut.
+    /// What the client is told next: the outcome of its thread's last call before what was posted.
+    fn next<C: Ledger>(&mut self, locked: &mut Locked<C, T>) -> Option<Given>
+        ensures first { LooksFirst locked.old.kernel locked.new.kernel self.old.seat result }
+        ensures out { ComesOut self.old.posted result }
+        ensures only { OnlyTakes locked.old.kernel locked.new.kernel }
+        ensures seat { SeatAfter self.old.seat result self.new.seat }
+        ensures none { IfNone result (self.new.posted ≡ None) }
+        ensures place { self.new.place ≡ self.old.place }
+        ensures shut { self.new.shut ≡ self.old.shut }
+        ensures pen { self.new.pen ≡ self.old.pen }
+    {
+        if let Some(seat) = &mut self.seat {
+            if let Some(taken) = locked.take_seated(seat) {
+                return Some(Given::Outcome(taken.into_outcome()));
+            }
+        }
+        match self.posted.take() {
+            Some(frame) => {
+                self.emptied.notify_one();
+                Some(Given::Frame(frame))
+            }
+            None => None,
+        }
+    }
+
+    /// Takes the pen out with what the client is told next. None where the pen is out or not at its end, or nothing is there.
+    pub(crate) fn load<C: Ledger>(&mut self, locked: &mut Locked<C, T>) -> Option<Pen<P>>
+        ensures loads { IfSome result (λ pen.
+            Loads locked.old.kernel locked.new.kernel self.old.seat self.old.posted self.old.pen pen) }
+        ensures stays { IfNone result (self.new.pen ≡ self.old.pen) }
+        ensures only { OnlyTakes locked.old.kernel locked.new.kernel }
+        ensures shut { self.new.shut ≡ self.old.shut }
+    {
+        let mut pen = self.pen.take()?;
+        if pen.is_ready() {
+            if let Some(given) = self.next(locked) {
+                pen.give(given);
+                return Some(pen);
+            }
+        }
+        self.pen = Some(pen);
+        None
+    }
+
+    /// What the writer does next: it goes on with a frame that is not at its end, or takes the pen out with what is next. None while
+    /// there is nothing to do, or another thread has the pen.
+    pub(crate) fn work<C: Ledger>(&mut self, locked: &mut Locked<C, T>) -> Option<Work<P>>
+        ensures only { OnlyTakes locked.old.kernel locked.new.kernel }
+    {
+        let Some(pen) = &self.pen else {
+            return None;
+        };
+        if pen.has_failed() {
+            self.pen = None;
+            return Some(Work::Over);
+        }
+        if !pen.is_ready() {
+            return Some(Work::Write(self.pen.take()?));
+        }
+        if let Some(pen) = self.load(locked) {
+            return Some(Work::Write(pen));
+        }
+        if self.shut {
+            self.pen = None;
+            return Some(Work::Over);
+        }
+        None
+    }
+
+    /// Lays the box's own pen down; that of another box is handed back. Its writer is woken where a frame is not at its end, where the
+    /// device failed, and where the box is shut.
+    pub(crate) fn lay(&mut self, pen: Pen<P>) -> Option<Pen<P>>
+        ensures laid { IfNone result ((pen.place ≡ self.old.place) × (self.new.pen ≡ Some pen)) }
+        ensures back { IfSome result (λ back. (back ≡ pen) × (self.new.pen ≡ self.old.pen)) }
+        ensures posted { self.new.posted ≡ self.old.posted }
+        ensures shut { self.new.shut ≡ self.old.shut }
+        ensures seat { self.new.seat ≡ self.old.seat }
+    {
+        if pen.place() != self.place {
+            return Some(pen);
+        }
+        if self.shut || !pen.is_ready() {
+            self.bell.notify_one();
+        }
+        self.pen = Some(pen);
+        None
+    }
+
+    /// Wakes the writer.
+    pub(crate) fn ring(&self) {
+        self.bell.notify_one();
+    }
+
+    /// The bell of the box's writer.
     pub(crate) fn bell(&self) -> Option<Arc<Condvar>> {
         Arc::try_clone(&self.bell).ok()
     }

@@ -22,6 +22,7 @@ ghost use Rattle.ipc_lock.specs.Groups.{IsGroupAt};
 ghost use Rattle.ipc_lock.specs.Opens.{opens};
 ghost use Rattle.ipc_lock.specs.declared.step.Step.TheVariants as step;
 ghost use Rattle.ipc_lock.specs.Seats.{SeatRefuses, TakesNothing};
+ghost use Rattle.ipc_waits.specs.FirstDue.{IsLeastDue};
 
 mod seats;
 
@@ -455,6 +456,20 @@ impl<C: Ledger, T: Ledger> Locked<C, T> {
         ensures { result ≡ length self.now.kernel.history }
     {
         self.kernel.total()
+    }
+
+    /// The first moment, in microseconds, at which a waiting phase is due; None where none ever is. Looks at no thread.
+    pub(crate) fn least_due(&self) -> Option<u64>
+        ensures { IsLeastDue self.now.kernel.history result }
+    {
+        self.kernel.least_due()
+    }
+
+    /// How many outcomes were taken.
+    pub(crate) fn takes(&self) -> u64
+        ensures { result ≡ length self.now.kernel.taken }
+    {
+        self.kernel.takes()
     }
 
     /// How many entries memory holds.

@@ -1,32 +1,47 @@
-//! The kernel and the post boxes under one lock. Here it is only taken; what is done under it stands in its own files.
-ghost use Rattle.std.specs.Prelude.{◌≡◌, ◌^◌, IfSome, IfNone, IfErr, ◌+◌};
+//! The kernel and the boxes under one lock. Here it is only taken; what is done under it stands in its own files.
+ghost use Rattle.std.specs.Prelude.{◌≡◌, ◌^◌, IfSome, IfNone, IfErr, IfOk, OnOk, OnErr, ◌+◌};
 ghost use Rattle.ipc_lock.specs.Acting.{AnswersStep};
-ghost use Rattle.ipc_lock.specs.Next.{GivesNext};
+ghost use Rattle.ipc_lock.specs.Boxes.{Sits, SitsStill, RisesFor};
+ghost use Rattle.ipc_pen.specs.Pens.{BeginsEmpty};
+ghost use Rattle.ipc_words.specs.ThreadId.{number_of};
 
-use crate::inside::{Bells, Inside, Next};
+use crate::ends::{PostEnd, TakeEnd};
+use crate::entered::Entered;
+use crate::errands::Errands;
+use crate::inside::{After, Inside};
 use crate::not_given::NotGiven;
-use crate::post_box::Posted;
+use crate::post_box::Work;
+use crate::rest::Rest;
 use crate::seated::{Answer, Locked, TakeSeat, Taken};
 use crate::step::Step;
+use crate::told::Told;
 use ipc_core::{Advance, Limits, MAX_ENTRIES, Refusal};
-use ipc_history::Entry;
+use ipc_frame::Frame;
+use ipc_history::{Call, Entry};
 use ipc_lines::entry_line;
-use ipc_words::ThreadId;
+use ipc_pen::{Pen, PenPort};
+use ipc_words::{Control, ThreadId};
 use std::alloc::Global;
+use std::rt::Clock;
 use std::sync::ledger::{Blank, Ledger};
-use std::sync::{Condvar, Mutex, Wait};
+use std::sync::{Condvar, CondvarTimeouts, Mutex, MutexGuard, Wait};
+use std::time::Duration;
 
-/// One kernel for all workers of a server, and a post box for each connection.
+/// How many blocks of a transfer the thread copies that began it. The mover copies what is left.
+const MOST_BLOCKS: u32 = 17;
+
+/// One kernel for all workers of a server, and a box for each connection, which has a pen of the port `P`.
 #[derive(Drop)]
-pub struct SharedKernel<C: Ledger, T: Ledger> {
-    inside: Mutex<Inside<C, T>>,
+pub struct SharedKernel<C: Ledger, T: Ledger, P: PenPort + Drop> {
+    inside: Mutex<Inside<C, T, P>>,
     work: Condvar,
     strays: Condvar,
     trace: Condvar,
+    ticker: Condvar,
     alloc: Global,
 }
 
-impl<C: Ledger, T: Ledger> SharedKernel<C, T> {
+impl<C: Ledger, T: Ledger, P: PenPort + Drop> SharedKernel<C, T, P> {
     /// An empty kernel without boxes, whose entries are all held until [`SharedKernel::mark`] is called. The only refusal is K4.
     pub fn new(alloc: Global, limits: Limits, calls: Blank, takes: Blank) -> Result<Self, Refusal>
         requires calls_name { calls.name ≡ C.name }
@@ -47,26 +62,23 @@ impl<C: Ledger, T: Ledger> SharedKernel<C, T> {
             work: Condvar::new(),
             strays: Condvar::new(),
             trace: Condvar::new(),
+            ticker: Condvar::new(),
             alloc,
         })
     }
 
-    /// Takes the lock, makes one step, and wakes those whom it concerns.
+    /// Takes the lock, makes one step, and writes what it told to whom it concerns.
     pub fn submit<R: Wait>(&self, rt: &R, now: u64, step: Step<C>) -> Answer<C, T>
         ensures { AnswersStep step result.told }
     {
         let mut inside = self.inside.lock(rt);
-        let (answer, bells) = inside.act(now, step);
-        let begun = inside.has_begun();
-        let tells_trace = inside.tells_trace();
+        let answer = inside.act(now, step);
+        let after = inside.after(None);
         drop(inside);
-        self.ring(bells);
-        if tells_trace {
-            self.trace.notify_all();
-        }
-        if begun {
+        if after.begun {
             self.work.notify_one();
         }
+        self.settle(rt, after);
         answer
     }
 
@@ -90,93 +102,261 @@ impl<C: Ledger, T: Ledger> SharedKernel<C, T> {
         None
     }
 
-    /// Makes an empty box, and answers its number. The only refusal is K4.
-    pub fn connect_box<R: Wait>(&self, rt: &R) -> Result<usize, Refusal>
+    /// Makes an empty box for the connection of a port, to which nothing was written, and answers its two ends. The only refusal is K4.
+    pub fn connect<R: Wait>(&self, rt: &R, port: P) -> Result<(PostEnd<C>, TakeEnd), Refusal>
+        requires { BeginsEmpty (P.written port) }
         ensures { IfErr result (λ refusal. refusal ≡ Refusal.NoMemory) }
     {
-        match self.inside.lock(rt).connect_box() {
-            Ok(place) => Ok(place),
+        match self.inside.lock(rt).connect(port) {
+            Ok(place) => Ok((PostEnd { place, seat: None }, TakeEnd { place })),
             Err(_) => Err(Refusal::NoMemory),
         }
     }
 
-    /// Gives a box back that nobody uses any more.
-    pub fn release_box<R: Wait>(&self, rt: &R, place: usize) {
-        self.inside.lock(rt).release_box(place);
+    /// Gives a connection's box back, once its writer has ended.
+    pub fn release<R: Wait>(&self, rt: &R, end: PostEnd<C>) {
+        self.inside.lock(rt).release(end.place);
     }
 
-    /// Leaves an answer for the box's writer. A full or shut box hands it back.
-    pub fn post<R: Wait>(&self, rt: &R, place: usize, posted: Posted<T>) -> Result<(), Posted<T>>
-        ensures { IfErr result (λ back. back ≡ posted) }
-    {
-        let mut inside = self.inside.lock(rt);
-        inside.post(place, posted)?;
-        let bell = inside.bell(place);
-        drop(inside);
-        if let Some(bell) = bell {
-            bell.notify_one();
-        }
-        Ok(())
-    }
-
-    /// Waits until the box is empty; false once it is shut.
-    pub fn wait_empty<R: Wait>(&self, rt: &R, place: usize) -> bool {
-        let mut inside = self.inside.lock(rt);
-        for _ in rt.forever() {
-            if inside.is_shut(place) {
-                return false;
-            }
-            if inside.is_empty(place) {
-                return true;
-            }
-            let Some(emptied) = inside.emptied(place) else {
-                return false;
-            };
-            inside = emptied.wait(rt, inside);
-        }
-        false
-    }
-
-    /// Waits for what the box's writer writes next: an outcome of the seat's thread before a posted answer, and Gone where the
-    /// box is shut and empty.
-    pub fn wait_next<R: Wait>(
+    /// Opens the thread of a number in a space, and tells its WELCOME.
+    ///
+    /// # Errors
+    ///
+    /// K1, K2, K3, K5, K4; K6 where the box was shut. The end is then as before.
+    pub fn open<R: Wait>(
         &self,
         rt: &R,
-        place: usize,
-        seat: &mut Option<TakeSeat<T>>,
-    ) -> Next<T>
-        ensures { GivesNext seat.old result seat.new }
+        now: u64,
+        end: &mut PostEnd<C>,
+        number: u64,
+        space: u64,
+    ) -> Result<ThreadId, Refusal>
+        ensures place { end.new.place ≡ end.old.place }
+        ensures number { IfOk result (λ thread. number_of thread ≡ number) }
+        ensures seat { IfOk result (λ thread. Sits end.new.seat thread) }
+        ensures err { OnErr result (SitsStill end.old.seat end.new.seat) }
     {
+        let Some(mut inside) = self.when_empty(rt, end.place) else {
+            return Err(Refusal::NoThread);
+        };
+        let opened = inside.open(now, end.place, number, space);
+        let after = inside.after(Some(end.place));
+        drop(inside);
+        self.settle(rt, after);
+        let (thread, seat) = opened?;
+        end.seat = Some(seat);
+        Ok(thread)
+    }
+
+    /// Enters a call of the end's own thread. Its outcome is told at once where the call is over by then, and else later.
+    ///
+    /// # Errors
+    ///
+    /// K6, also where this is not the end's own thread or the box was shut; K7, K8, K5, K4. The end is then as before.
+    pub fn enter<R: Wait>(
+        &self,
+        rt: &R,
+        now: u64,
+        end: &mut PostEnd<C>,
+        thread: ThreadId,
+        call: Call,
+    ) -> Result<Entered, Refusal>
+        ensures place { end.new.place ≡ end.old.place }
+        ensures ok { OnOk result (RisesFor thread end.old.seat end.new.seat) }
+        ensures err { OnErr result (SitsStill end.old.seat end.new.seat) }
+    {
+        let Some(mut inside) = self.when_empty(rt, end.place) else {
+            return Err(Refusal::NoThread);
+        };
+        let Some(seat) = end.seat_of(thread) else {
+            return Err(Refusal::NoThread);
+        };
+        let (seat, result) = inside.enter(now, seat, call);
+        end.seat = Some(seat);
+        let after = inside.after(Some(end.place));
+        drop(inside);
+        let begun = after.begun;
+        let entered = after.entered(end.place);
+        self.settle(rt, after);
+        if begun {
+            self.move_blocks(rt, now);
+        }
+        result?;
+        Ok(entered)
+    }
+
+    /// Stops phases of a target for the end's own thread, and tells what was stopped.
+    ///
+    /// # Errors
+    ///
+    /// K6, also where this is not the end's own thread or the box was shut; K7, K5, K4.
+    pub fn exreg<R: Wait>(
+        &self,
+        rt: &R,
+        now: u64,
+        end: &mut PostEnd<C>,
+        thread: ThreadId,
+        target: ThreadId,
+        control: Control,
+    ) -> Result<(), Refusal>
+        ensures place { end.new.place ≡ end.old.place }
+        ensures seat { SitsStill end.old.seat end.new.seat }
+    {
+        let Some(mut inside) = self.when_empty(rt, end.place) else {
+            return Err(Refusal::NoThread);
+        };
+        let Some(seat) = end.seat_of(thread) else {
+            return Err(Refusal::NoThread);
+        };
+        let (seat, result) = inside.exreg(now, end.place, seat, target, control);
+        end.seat = Some(seat);
+        let after = inside.after(Some(end.place));
+        drop(inside);
+        if after.begun {
+            self.work.notify_one();
+        }
+        self.settle(rt, after);
+        result
+    }
+
+    /// Tells an answer. A shut box drops it.
+    pub fn post<R: Wait>(&self, rt: &R, end: &PostEnd<C>, frame: Frame) {
+        let Some(mut inside) = self.when_empty(rt, end.place) else {
+            return;
+        };
+        inside.post(end.place, frame);
+        let mut errands = Errands::none();
+        inside.load(end.place, &mut errands);
+        drop(inside);
+        self.carry(rt, errands);
+    }
+
+    /// Ends the thread of a reader's end, if there is one, and shuts its box.
+    pub fn hang_up<R: Wait>(&self, rt: &R, now: u64, end: &PostEnd<C>) {
+        self.end_at(rt, now, end.place);
+    }
+
+    /// Ends the thread of a writer's end, if there is one, and shuts its box.
+    pub fn leave<R: Wait>(&self, rt: &R, now: u64, end: &TakeEnd) {
+        self.end_at(rt, now, end.place);
+    }
+
+    fn end_at<R: Wait>(&self, rt: &R, now: u64, place: usize) {
         let mut inside = self.inside.lock(rt);
-        let Some(bell) = inside.bell(place) else {
-            return Next::Gone;
+        inside.shut(place);
+        let Some(thread) = inside.thread_at(place) else {
+            return;
+        };
+        let _ = inside.act(now, Step::Broke(thread));
+        let after = inside.after(None);
+        drop(inside);
+        if after.begun {
+            self.work.notify_one();
+        }
+        self.settle(rt, after);
+    }
+
+    /// Waits until a box's pen lies there with something to write that nobody else has taken, and takes it out. None once nothing more
+    /// comes, or the device has failed.
+    pub fn wait_pen<R: Wait>(&self, rt: &R, end: &TakeEnd) -> Option<Pen<P>> {
+        let mut inside = self.inside.lock(rt);
+        let Some(bell) = inside.bell(end.place) else {
+            return None;
         };
         for _ in rt.forever() {
-            if let Some(next) = inside.next(place, seat) {
-                let emptied = inside.emptied(place);
-                drop(inside);
-                if let Some(emptied) = emptied {
-                    emptied.notify_one();
-                }
-                return next;
+            match inside.work(end.place) {
+                Some(Work::Write(pen)) => return Some(pen),
+                Some(Work::Over) => return None,
+                None => {}
             }
             inside = bell.wait(rt, inside);
         }
-        Next::Gone
+        None
     }
 
-    /// Shuts a box: nothing more can be posted, what is in it can still be taken.
-    pub fn shut<R: Wait>(&self, rt: &R, place: usize) {
+    /// Lays a pen down in its box. What came meanwhile is written first, as far as the device has room.
+    pub fn give_back<R: Wait>(&self, rt: &R, pen: Pen<P>) {
+        let mut errands = Errands::none();
+        let _ = errands.add(pen);
+        let again = self.inside.lock(rt).take_back(errands);
+        self.carry(rt, again);
+    }
+
+    /// Takes the lock once the box is empty. None once it is shut.
+    fn when_empty<'a, R: Wait>(
+        &'a self,
+        rt: &R,
+        place: usize,
+    ) -> Option<MutexGuard<'a, Inside<C, T, P>>> {
         let mut inside = self.inside.lock(rt);
-        inside.shut(place);
-        let bell = inside.bell(place);
-        let emptied = inside.emptied(place);
-        drop(inside);
-        if let Some(bell) = bell {
-            bell.notify_all();
+        for _ in rt.forever() {
+            if inside.is_shut(place) {
+                return None;
+            }
+            if inside.is_empty(place) {
+                return Some(inside);
+            }
+            let emptied = inside.emptied(place)?;
+            inside = emptied.wait(rt, inside);
         }
-        if let Some(emptied) = emptied {
-            emptied.notify_all();
+        None
+    }
+
+    /// Wakes those whom a step concerns, and writes what it told.
+    fn settle<R: Wait>(&self, rt: &R, after: After<P>) {
+        if after.strays {
+            self.strays.notify_all();
+        }
+        if after.tells_trace {
+            self.trace.notify_all();
+        }
+        if after.wakes_ticker {
+            self.ticker.notify_all();
+        }
+        self.carry(rt, after.errands);
+    }
+
+    /// Writes with pens, each as far as its device has room now, and lays them down; what came meanwhile is written, too.
+    fn carry<R: Wait>(&self, rt: &R, errands: Errands<P>) {
+        let mut errands = errands;
+        for _ in rt.forever() {
+            if errands.is_empty() {
+                return;
+            }
+            errands.write();
+            errands = self.inside.lock(rt).take_back(errands);
+        }
+    }
+
+    /// Copies blocks of what is in transfer until nothing is. Where that are many the mover goes on.
+    fn move_blocks<R: Wait>(&self, rt: &R, now: u64) {
+        for _ in 0..MOST_BLOCKS {
+            let mut inside = self.inside.lock(rt);
+            let told = inside.act(now, Step::Advance).into_told();
+            let after = inside.after(None);
+            drop(inside);
+            self.settle(rt, after);
+            if !matches!(told, Told::Advanced(Advance::Moved)) {
+                return;
+            }
+        }
+        self.work.notify_one();
+    }
+
+    /// Rests until a phase is due, or an earlier one comes, at the longest until the work is over. `now` is the moment, in microseconds.
+    pub fn rest<R: Wait + Clock>(&self, rt: &R, now: u64) {
+        let mut inside = self.inside.lock(rt);
+        if inside.is_work_over() {
+            return;
+        }
+        match inside.rest(now) {
+            Rest::Not => {}
+            Rest::For(micros) => {
+                let time = Duration::from_micros(micros);
+                let (inside, _) = self.ticker.wait_timeout(rt, inside, time);
+                drop(inside);
+            }
+            Rest::Long => drop(self.ticker.wait(rt, inside)),
         }
     }
 
@@ -195,12 +375,13 @@ impl<C: Ledger, T: Ledger> SharedKernel<C, T> {
         false
     }
 
-    /// Ends the waiting of the mover. Called once, after all sessions were joined.
+    /// Ends the waiting of the mover and the rest of the ticker. Called once, after all sessions were joined.
     pub fn end_work<R: Wait>(&self, rt: &R) {
         let mut inside = self.inside.lock(rt);
         inside.end_work();
         drop(inside);
         self.work.notify_all();
+        self.ticker.notify_all();
     }
 
     /// Ends the waiting of the trace, and of the mover if it still waits. Called once, after sessions, ticker and
@@ -210,6 +391,7 @@ impl<C: Ledger, T: Ledger> SharedKernel<C, T> {
         inside.close();
         drop(inside);
         self.work.notify_all();
+        self.ticker.notify_all();
         self.trace.notify_all();
     }
 
@@ -276,20 +458,8 @@ impl<C: Ledger, T: Ledger> SharedKernel<C, T> {
         self.inside.lock(rt).entries()
     }
 
-    fn ring(&self, bells: Bells) {
-        let Bells {
-            first,
-            second,
-            strays,
-        } = bells;
-        if let Some(bell) = first {
-            bell.notify_one();
-        }
-        if let Some(bell) = second {
-            bell.notify_one();
-        }
-        if strays {
-            self.strays.notify_all();
-        }
+    /// How many outcomes were taken.
+    pub fn takes<R: Wait>(&self, rt: &R) -> u64 {
+        self.inside.lock(rt).takes()
     }
 }

@@ -1,10 +1,13 @@
-ghost use Rattle.std.specs.Prelude.{◌≡◌, ◌^◌};
+ghost use Rattle.std.specs.Prelude.{◌≡◌, ◌^◌, None, Some};
 
 use super::*;
 use ipc_core::{Advance, Limits, Refusal};
+use ipc_frame::{Frame, encode};
 use ipc_history::{Call, CallFields};
 use ipc_items::{BufferList, StringList, Substring};
 use ipc_lines::{entry_line, outcome_line};
+use ipc_pen::{Patience, PenPort, Turn};
+use ipc_ports::PortFault;
 use ipc_words::limits::{MAX_CALLS, MAX_ENTRIES};
 use ipc_words::{Control, MsgTag, Period, ThreadId};
 use std::alloc::Global;
@@ -102,7 +105,11 @@ struct Party<C: Ledger, T: Ledger> {
 
 impl<C: Ledger, T: Ledger> Party<C, T> {
     // Opens the thread of a number.
-    fn open<R: Wait>(rt: &R, kernel: &SharedKernel<C, T>, number: u64) -> Result<Self, Fail> {
+    fn open<R: Wait>(
+        rt: &R,
+        kernel: &SharedKernel<C, T, SlowPort>,
+        number: u64,
+    ) -> Result<Self, Fail> {
         let hello = Step::Hello { number, space: 1 };
         match kernel.submit(rt, 0, hello).into_told() {
             Told::Opened(thread, calls, takes) => Ok(Party {
@@ -118,7 +125,7 @@ impl<C: Ledger, T: Ledger> Party<C, T> {
     fn enter<R: Wait + Abort>(
         self,
         rt: &R,
-        kernel: &SharedKernel<C, T>,
+        kernel: &SharedKernel<C, T, SlowPort>,
         now: u64,
         call: Call,
         number: u64,
@@ -145,7 +152,7 @@ impl<C: Ledger, T: Ledger> Party<C, T> {
     fn is_refused<R: Wait + Abort>(
         self,
         rt: &R,
-        kernel: &SharedKernel<C, T>,
+        kernel: &SharedKernel<C, T, SlowPort>,
         call: Call,
         refusal: Refusal,
     ) -> Result<Self, Fail> {
@@ -174,7 +181,7 @@ impl<C: Ledger, T: Ledger> Party<C, T> {
         &mut self,
         rt: &R,
         alloc: Global,
-        kernel: &SharedKernel<C, T>,
+        kernel: &SharedKernel<C, T, SlowPort>,
         text: &str,
     ) -> Result<(), Fail> {
         let taken = kernel
@@ -191,7 +198,7 @@ impl<C: Ledger, T: Ledger> Party<C, T> {
 // The history from its first entry on is these lines, and no more.
 fn assert_lines<C: Ledger, T: Ledger, R: Wait + Abort>(
     rt: &R,
-    kernel: &SharedKernel<C, T>,
+    kernel: &SharedKernel<C, T, SlowPort>,
     lines: &[&str],
 ) -> Result<(), Fail> {
     assert_eq!(rt; kernel.entries(rt), lines.len());
@@ -266,7 +273,7 @@ fn submitted_meeting<C: Ledger, T: Ledger, R: Wait + Abort>(
     requires calls { (calls.name ≡ C.name) × (calls.parts ≡ C.parts) × (calls.parts ≡ 2 ^ 63) }
     requires takes { (takes.name ≡ T.name) × (takes.parts ≡ T.parts) × (takes.parts ≡ 2 ^ 63) }
 {
-    let kernel = &SharedKernel::<C, T>::new(alloc, ROOM, calls, takes)
+    let kernel = &SharedKernel::<C, T, SlowPort>::new(alloc, ROOM, calls, takes)
         .ok()
         .ok_or("a kernel")?;
     let one = Party::open(rt, kernel, 1)?;
@@ -314,7 +321,7 @@ fn timeouts<C: Ledger, T: Ledger, R: Wait + Abort>(
     requires calls { (calls.name ≡ C.name) × (calls.parts ≡ C.parts) × (calls.parts ≡ 2 ^ 63) }
     requires takes { (takes.name ≡ T.name) × (takes.parts ≡ T.parts) × (takes.parts ≡ 2 ^ 63) }
 {
-    let kernel = &SharedKernel::<C, T>::new(alloc, ROOM, calls, takes)
+    let kernel = &SharedKernel::<C, T, SlowPort>::new(alloc, ROOM, calls, takes)
         .ok()
         .ok_or("a kernel")?;
     let one = Party::open(rt, kernel, 1)?;
@@ -349,7 +356,7 @@ fn stopped_transfers<C: Ledger, T: Ledger, R: Wait + Abort>(
     requires calls { (calls.name ≡ C.name) × (calls.parts ≡ C.parts) × (calls.parts ≡ 2 ^ 63) }
     requires takes { (takes.name ≡ T.name) × (takes.parts ≡ T.parts) × (takes.parts ≡ 2 ^ 63) }
 {
-    let kernel = &SharedKernel::<C, T>::new(alloc, ROOM, calls, takes)
+    let kernel = &SharedKernel::<C, T, SlowPort>::new(alloc, ROOM, calls, takes)
         .ok()
         .ok_or("a kernel")?;
     let one = Party::open(rt, kernel, 1)?;
@@ -379,7 +386,7 @@ fn stopped_transfers<C: Ledger, T: Ledger, R: Wait + Abort>(
 fn begin_transfer<C: Ledger, T: Ledger, R: Wait + Abort>(
     rt: &R,
     alloc: Global,
-    kernel: &SharedKernel<C, T>,
+    kernel: &SharedKernel<C, T, SlowPort>,
     one: Party<C, T>,
     two: Party<C, T>,
     number: u64,
@@ -394,7 +401,7 @@ fn begin_transfer<C: Ledger, T: Ledger, R: Wait + Abort>(
 
 // A step, and what it is told in a word.
 fn said<C: Ledger, T: Ledger, R: Wait>(
-    kernel: &SharedKernel<C, T>,
+    kernel: &SharedKernel<C, T, SlowPort>,
     rt: &R,
     step: Step<C>,
 ) -> &'static str {
@@ -426,7 +433,7 @@ fn stale_seats<C: Ledger, T: Ledger, R: Wait + Abort>(
         entries: MAX_ENTRIES,
         calls: 1,
     };
-    let kernel = &SharedKernel::<C, T>::new(alloc, limits, calls, takes)
+    let kernel = &SharedKernel::<C, T, SlowPort>::new(alloc, limits, calls, takes)
         .ok()
         .ok_or("a kernel")?;
     let one = Party::open(rt, kernel, 1)?;
@@ -448,13 +455,46 @@ fn stale_seats<C: Ledger, T: Ledger, R: Wait + Abort>(
     Ok(())
 }
 
+// A port that takes nothing unless it may wait, and then one byte.
+#[derive(Drop)]
+struct SlowPort {
+    written: Vec<u8>,
+    is_open: bool,
+}
+
+impl PenPort for SlowPort {
+    ghost written = { λ _. None };
+
+    ghost failures = { λ _. 0 };
+
+    fn send(&mut self, buf: &[u8], patience: Patience) -> Result<usize, PortFault> {
+        let most = match patience {
+            Patience::AtOnce if !self.is_open => 0,
+            Patience::AtOnce => buf.len(),
+            Patience::Waits => 1,
+        };
+        let count = buf.len().min(most);
+        // where a growth is refused the test fails by what was written
+        let _ = self.written.extend_from_slice(&buf[..count]);
+        Ok(count)
+    }
+}
+
+fn slow(alloc: Global, is_open: bool) -> SlowPort {
+    SlowPort {
+        written: Vec::new(alloc),
+        is_open,
+    }
+}
+
 #[test]
-fn a_box_gives_outcomes_before_answers_and_ends_when_it_is_shut(
+fn a_pen_writes_outcomes_before_answers_and_ends_when_its_box_is_shut(
     rt: HostRuntime,
 ) -> Result<(), Fail> {
     boxes::<Brand, Brand, _>(&rt, rt.alloc(), Blank::new(1 << 63), Blank::new(1 << 63))
 }
 
+// A client that reads nothing: its pen waits, and its writer goes on. Then one that reads: its reader writes all by itself.
 fn boxes<C: Ledger, T: Ledger, R: Wait + Abort>(
     rt: &R,
     alloc: Global,
@@ -464,97 +504,63 @@ fn boxes<C: Ledger, T: Ledger, R: Wait + Abort>(
     requires calls { (calls.name ≡ C.name) × (calls.parts ≡ C.parts) × (calls.parts ≡ 2 ^ 63) }
     requires takes { (takes.name ≡ T.name) × (takes.parts ≡ T.parts) × (takes.parts ≡ 2 ^ 63) }
 {
-    let kernel = &SharedKernel::<C, T>::new(alloc, ROOM, calls, takes)
+    let kernel = &SharedKernel::<C, T, SlowPort>::new(alloc, ROOM, calls, takes)
         .ok()
         .ok_or("a kernel")?;
-    let place = kernel.connect_box(rt).ok().ok_or("a box")?;
-    let other = kernel.connect_box(rt).ok().ok_or("a box")?;
-    assert!(rt; place != other);
-    let one = Party::open(rt, kernel, 1)?;
-    let Party { takes, .. } = one.enter(rt, kernel, 0, sends(alloc, first(2), 0, 1)?, 1)?;
-    let mut seat = Some(takes);
-    assert_eq!(rt; back(rt, kernel, place, Posted::Refused(7)), None);
-    assert_eq!(rt;
-        back(rt, kernel, place, Posted::Refused(6)),
-        Some(Got::Refused(6))
-    );
-    assert_eq!(rt; next_of(rt, kernel, place, &mut seat), Got::Outcome(1));
-    assert_eq!(rt; next_of(rt, kernel, place, &mut seat), Got::Refused(7));
-    shut_boxes(rt, kernel, place, &mut seat)?;
-    assert!(rt; kernel.wait_empty(rt, other));
-    kernel.release_box(rt, place);
-    assert_eq!(rt; kernel.connect_box(rt).ok(), Some(place));
-    assert!(rt; kernel.wait_empty(rt, place));
-    Ok(())
+    let (mut posts, takes) = kernel.connect(rt, slow(alloc, false)).ok().ok_or("a box")?;
+    let one = kernel.open(rt, 0, &mut posts, 1, 1).ok().ok_or("an open")?;
+    assert_eq!(rt; one, first(1));
+    let strange = kernel.enter(rt, 0, &mut posts, first(2), sends(alloc, first(3), 0, 1)?);
+    assert_eq!(rt; strange.err(), Some(Refusal::NoThread));
+    let entered = kernel.enter(rt, 0, &mut posts, one, sends(alloc, first(3), 0, 1)?);
+    assert!(rt; entered.is_ok());
+    kernel.post(rt, &posts, Frame::Refused(7));
+    let told = told_slowly(rt, kernel, &takes)?;
+    let welcome = encode(alloc, Frame::Welcome(one))?;
+    let refused = encode(alloc, Frame::Refused(7))?;
+    assert_eq!(rt; told.len(), 57);
+    assert_eq!(rt; told.get(..13), Some(welcome.as_slice()));
+    assert_eq!(rt; told.get(17).copied(), Some(0x82));
+    assert_eq!(rt; told.get(51..), Some(refused.as_slice()));
+    shut_boxes(rt, alloc, kernel)
 }
 
-// What is in a box that is shut still comes, and nothing more can be posted.
+// The bytes of three frames that a writer writes, each when it is given.
+fn told_slowly<C: Ledger, T: Ledger, R: Wait + Abort>(
+    rt: &R,
+    kernel: &SharedKernel<C, T, SlowPort>,
+    takes: &TakeEnd,
+) -> Result<Vec<u8>, Fail> {
+    for _ in 0..2 {
+        let mut pen = kernel.wait_pen(rt, takes).ok_or("a pen")?;
+        assert_eq!(rt; pen.write(Patience::Waits), Turn::Written);
+        kernel.give_back(rt, pen);
+    }
+    let mut pen = kernel.wait_pen(rt, takes).ok_or("a pen")?;
+    assert_eq!(rt; pen.write(Patience::Waits), Turn::Written);
+    assert!(rt; pen.is_ready());
+    Ok(pen.into_port().written)
+}
+
+// A box that is shut takes nothing more, and its pen goes; one that was given back comes again.
 fn shut_boxes<C: Ledger, T: Ledger, R: Wait + Abort>(
     rt: &R,
-    kernel: &SharedKernel<C, T>,
-    place: usize,
-    seat: &mut Option<TakeSeat<T>>,
+    alloc: Global,
+    kernel: &SharedKernel<C, T, SlowPort>,
 ) -> Result<(), Fail> {
-    assert!(rt; kernel.wait_empty(rt, place));
-    assert_eq!(rt; back(rt, kernel, place, Posted::Fault(0x4b, 5)), None);
-    kernel.shut(rt, place);
-    assert!(rt; !kernel.wait_empty(rt, place));
-    assert_eq!(rt;
-        back(rt, kernel, place, Posted::Refused(6)),
-        Some(Got::Refused(6))
-    );
-    assert_eq!(rt; next_of(rt, kernel, place, seat), Got::Fault(0x4b, 5));
-    assert_eq!(rt; next_of(rt, kernel, place, seat), Got::Gone);
-    assert_eq!(rt; next_of(rt, kernel, place, seat), Got::Gone);
+    for _ in 0..2 {
+        let (mut posts, takes) = kernel.connect(rt, slow(alloc, true)).ok().ok_or("a box")?;
+        assert!(rt; kernel.open(rt, 0, &mut posts, 2, 1).is_ok());
+        kernel.hang_up(rt, 0, &posts);
+        assert_eq!(rt;
+            kernel.open(rt, 0, &mut posts, 4, 1).err(),
+            Some(Refusal::NoThread)
+        );
+        assert!(rt; kernel.wait_pen(rt, &takes).is_none());
+        kernel.leave(rt, 0, &takes);
+        kernel.release(rt, posts);
+    }
     Ok(())
-}
-
-// What came out of a box.
-#[derive(Clone, Copy, PartialEq, Eq, Debug)]
-enum Got {
-    // By the number of its call.
-    Outcome(u64),
-    Welcome,
-    Exreg,
-    Refused(u8),
-    Fault(u8, u8),
-    Gone,
-}
-
-fn got_of<T: Ledger>(posted: Posted<T>) -> Got {
-    match posted {
-        Posted::Welcome(_, _) => Got::Welcome,
-        Posted::Exreg(_, _, _) => Got::Exreg,
-        Posted::Refused(number) => Got::Refused(number),
-        Posted::Fault(class, number) => Got::Fault(class, number),
-    }
-}
-
-// What a box's writer writes next.
-fn next_of<C: Ledger, T: Ledger, R: Wait>(
-    rt: &R,
-    kernel: &SharedKernel<C, T>,
-    place: usize,
-    seat: &mut Option<TakeSeat<T>>,
-) -> Got {
-    match kernel.wait_next(rt, place, seat) {
-        Next::Outcome(taken) => Got::Outcome(taken.into_outcome().call),
-        Next::Posted(posted) => got_of(posted),
-        Next::Gone => Got::Gone,
-    }
-}
-
-// What is handed back where an answer is posted.
-fn back<C: Ledger, T: Ledger, R: Wait>(
-    rt: &R,
-    kernel: &SharedKernel<C, T>,
-    place: usize,
-    posted: Posted<T>,
-) -> Option<Got> {
-    match kernel.post(rt, place, posted) {
-        Ok(()) => None,
-        Err(posted) => Some(got_of(posted)),
-    }
 }
 
 #[test]
@@ -571,7 +577,7 @@ fn meetings<C: Ledger + Send + Sync, T: Ledger + Send + Sync, R: Threads + Wait 
     requires calls { (calls.name ≡ C.name) × (calls.parts ≡ C.parts) × (calls.parts ≡ 2 ^ 63) }
     requires takes { (takes.name ≡ T.name) × (takes.parts ≡ T.parts) × (takes.parts ≡ 2 ^ 63) }
 {
-    let kernel = &SharedKernel::<C, T>::new(alloc, ROOM, calls, takes)
+    let kernel = &SharedKernel::<C, T, SlowPort>::new(alloc, ROOM, calls, takes)
         .ok()
         .ok_or("a kernel")?;
     let one = Party::open(rt, kernel, 1)?;
@@ -613,7 +619,7 @@ const MEETINGS: u64 = 10_000;
 fn make_calls<C: Ledger, T: Ledger, R: Wait>(
     rt: &R,
     alloc: Global,
-    kernel: &SharedKernel<C, T>,
+    kernel: &SharedKernel<C, T, SlowPort>,
     party: Party<C, T>,
     calls: Vec<Call>,
 ) -> Option<Vec<Option<u64>>> {

@@ -1,6 +1,6 @@
 -- The commands that `l4sh` and `l4d` ask `clap` for.
 use Rattle.std.specs.Prelude.{ℕ, Some, [], ◌∷◌, ◌-◌, ◌^◌, codes, true}
-use Rattle.ipc_words.specs.Limits.{max_entries, max_calls, max_chart_entry, max_connections, max_space}
+use Rattle.ipc_words.specs.Limits.{max_entries, max_calls, max_chart_entry, max_connections, max_space, max_thread_number}
 use Rattle.clap.specs.Words.{App, Rule, Text, new_app, new_rule, with_rule, with_subcommand}
 use Rattle.clap.specs.Simple.{on_top}
 use Rattle.clap.specs.declared.builder.action.ArgAction.TheVariants.{Set, SetTrue}
@@ -65,8 +65,15 @@ chart_places_app = with_rule (with_rule (with_rule (new_app (codes "chart")) fil
     (number_rule (codes "from") max_chart_entry (codes "1")))
     (number_rule (codes "to") max_chart_entry max_chart_entry_text)
 
+-- `chart` with how it draws them too
+abbrev pub chart_forms_app : App
+chart_forms_app = with_rule (with_rule (with_rule (with_rule chart_places_app threads_rule) text_rule)
+    (flag_rule (codes "html"))) (flag_rule (codes "unfolded"))
+
 abbrev pub chart_app : App
-chart_app = with_rule (with_rule chart_places_app threads_rule) text_rule
+chart_app = with_rule (with_rule chart_forms_app
+    (number_rule (codes "page") max_chart_entry (codes "0")))
+    (number_rule (codes "width") max_chart_entry (codes "0"))
 
 abbrev pub script_app : App
 script_app = with_rule (new_app (codes "script")) file_rule
@@ -89,8 +96,26 @@ abbrev pub follow_app : App
 follow_app = with_rule (with_rule (with_rule (with_rule (new_app (codes "follow")) file_rule)
     threads_rule) label_rule) (flag_rule (codes "failures"))
 
+-- DIR, which may be there
+abbrev pub folder_rule : Rule
+folder_rule = record (new_rule (codes "dir")) { value_names = 1 }
+
+-- `--ID N`: a number from 1 up to most, by default 1
+abbrev pub first_rule : Text → ℕ → Rule
+first_rule id most = record (new_rule id) {
+  long = Some id;
+  value_names = 1;
+  parser = Some (Unsigned 1 most);
+  defaults = codes "1" ∷ [];
+}
+
+-- `talk` with the folder of a server, and the thread
+abbrev pub talk_places_app : App
+talk_places_app = with_rule (with_rule (new_app (codes "talk")) folder_rule)
+    (first_rule (codes "thread") max_thread_number)
+
 abbrev pub talk_app : App
-talk_app = new_app (codes "talk")
+talk_app = with_rule talk_places_app (first_rule (codes "space") max_space)
 
 -- a subcommand of one word
 abbrev pub word_app : Text → App

@@ -1,7 +1,7 @@
 -- What the words of `l4sh` ask for.
-use Rattle.std.specs.Prelude.{◌≡◌, ◌≤◌, ◌⊎◌, ℕ, Bool, List, [], ◌∷◌, Option, Some, codes, option_map, true, false, ⊤, IsSome, IsSomeAnd}
+use Rattle.std.specs.Prelude.{◌≡◌, ◌≤◌, ◌⊎◌, ℕ, Bool, List, [], ◌∷◌, Option, Some, codes, option_map, true, false, ⊤, IsNone, IsSome, IsSomeAnd, None}
 use Rattle.std.specs.Str.Parse.{digits_value, without_leading_plus}
-use Rattle.ipc_words.specs.Limits.{max_entries, max_calls, max_chart_entry}
+use Rattle.ipc_words.specs.Limits.{max_entries, max_calls, max_chart_entry, max_space, max_thread_number}
 use Rattle.clap.specs.Words.{IsUnsignedIn, Row, Text, first_of, one_of, subcommand_of, takes}
 use Rattle.clap.specs.Values.{kind_of}
 use Rattle.clap.specs.declared.error.Error.{Error}
@@ -12,14 +12,23 @@ use Rattle.ipc_options.specs.declared.shell.FollowOptions.{FollowOptions}
 use Rattle.ipc_options.specs.declared.shell.ScriptLimits.{ScriptLimits}
 use Rattle.ipc_options.specs.declared.shell.ShellOptions.{ShellOptions}
 use Rattle.ipc_options.specs.declared.shell.ShellOptions.TheVariants.{Run, Wire, Check, Chart, State}
-use Rattle.ipc_options.specs.declared.shell.ShellOptions.TheVariants.{Script, Explain, Tag, Period, Count, Follow, Talk}
+use Rattle.ipc_options.specs.declared.shell.ShellOptions.TheVariants.{Script, Explain, Tag, Period, Count, Follow, Talk, TalkTo}
 use Rattle.ipc_options.specs.declared.shell.StateOptions.{StateOptions}
+use Rattle.ipc_options.specs.declared.shell.TalkOptions.{TalkOptions}
 
 -- each number is within its limit
 abbrev pub AreWithinLimits : ScriptLimits → Type 0
 AreWithinLimits limits = (limits.entries ≤ max_entries) × (limits.calls ≤ max_calls)
 
--- the limits of a script are
+-- a number from 1 up to most
+abbrev pub IsOneUpTo : ℕ → ℕ → Type 0
+IsOneUpTo most number = (1 ≤ number) × (number ≤ most)
+
+-- the number of a thread is within its limit, and that of a space
+abbrev pub AreNumbersWithin : TalkOptions → Type 0
+AreNumbersWithin talk = IsOneUpTo max_thread_number talk.thread × IsOneUpTo max_space talk.space
+
+-- the limits of a script are, and the numbers of a thread and a space
 abbrev pub IsWithinLimits : ShellOptions → Type 0
 IsWithinLimits (Run limits) = AreWithinLimits limits
 IsWithinLimits Wire = ⊤
@@ -33,6 +42,7 @@ IsWithinLimits (Period word) = ⊤
 IsWithinLimits (Count file is_json) = ⊤
 IsWithinLimits (Follow follow) = ⊤
 IsWithinLimits Talk = ⊤
+IsWithinLimits (TalkTo talk) = AreNumbersWithin talk
 
 -- the number that an option has among the matches of a subcommand
 abbrev pub number_in : List Row → Text → Option ℕ
@@ -50,6 +60,10 @@ HasChartIn rows chart = (first_of (codes "file") rows ≡ Some chart.file.now)
     × (number_in rows (codes "to") ≡ Some chart.to)
     × (first_of (codes "threads") rows ≡ option_map (λ list. list.now) chart.threads)
     × IsFlagIn rows (codes "text") chart.is_text
+    × IsFlagIn rows (codes "html") chart.is_html
+    × IsFlagIn rows (codes "unfolded") chart.is_unfolded
+    × (number_in rows (codes "page") ≡ Some chart.page)
+    × (number_in rows (codes "width") ≡ Some chart.width)
 
 -- the options of `state` are those of its matches
 abbrev pub HasStateIn : List Row → StateOptions → Type 0
@@ -62,6 +76,22 @@ HasFollowIn rows follow = (first_of (codes "file") rows ≡ Some follow.file.now
     × (first_of (codes "threads") rows ≡ option_map (λ list. list.now) follow.threads)
     × (first_of (codes "label") rows ≡ option_map (λ label. label.now) follow.label)
     × IsFlagIn rows (codes "failures") follow.failures
+
+-- the number that an option has, which is 1 up to most
+abbrev pub IsCountIn : List Row → Text → ℕ → ℕ → Type 0
+IsCountIn rows id most number = (number_in rows id ≡ Some number) × IsOneUpTo most number
+
+-- the options of `talk` with a server are those of its matches
+abbrev pub HasTalkIn : List Row → TalkOptions → Type 0
+HasTalkIn rows talk = (first_of (codes "dir") rows ≡ Some talk.dir.now)
+    × (number_in rows (codes "thread") ≡ Some talk.thread)
+    × (number_in rows (codes "space") ≡ Some talk.space)
+
+-- `talk` has no server, and no number of a thread or a space of one
+abbrev pub HasNoServerIn : List Row → Type 0
+HasNoServerIn rows = (first_of (codes "dir") rows ≡ None)
+    × (number_in rows (codes "thread") ≡ Some 1)
+    × (number_in rows (codes "space") ≡ Some 1)
 
 -- the limits are those of the matches
 abbrev pub HasLimitsIn : List Row → ScriptLimits → Type 0
@@ -87,7 +117,8 @@ HasMatchesIn name rows (Period word) = (name ≡ codes "period")
 HasMatchesIn name rows (Count file is_json) = (name ≡ codes "count")
     × (first_of (codes "file") rows ≡ Some file.now) × IsFlagIn rows (codes "json") is_json
 HasMatchesIn name rows (Follow follow) = (name ≡ codes "follow") × HasFollowIn rows follow
-HasMatchesIn name rows Talk = name ≡ codes "talk"
+HasMatchesIn name rows Talk = (name ≡ codes "talk") × HasNoServerIn rows
+HasMatchesIn name rows (TalkTo talk) = (name ≡ codes "talk") × HasTalkIn rows talk
 
 -- the matches have a decimal number within its limit for each limit of a script
 abbrev pub ReadsAsRun : List Row → Type 0
@@ -98,16 +129,29 @@ ReadsAsRun rows = IsSomeAnd (one_of (codes "entries") rows) (IsUnsignedIn 0 max_
 abbrev pub ReadsAsCheck : List Row → Type 0
 ReadsAsCheck rows = IsSome (first_of (codes "file") rows)
 
--- the matches of `chart` have a file, and a decimal number of 32 bits for each place
+-- the matches of `chart` have a file, and a decimal number of 32 bits for each place and each size
 abbrev pub ReadsAsChart : List Row → Type 0
 ReadsAsChart rows = ReadsAsCheck rows
     × IsSomeAnd (one_of (codes "from") rows) (IsUnsignedIn 0 max_chart_entry)
     × IsSomeAnd (one_of (codes "to") rows) (IsUnsignedIn 0 max_chart_entry)
+    × IsSomeAnd (one_of (codes "page") rows) (IsUnsignedIn 0 max_chart_entry)
+    × IsSomeAnd (one_of (codes "width") rows) (IsUnsignedIn 0 max_chart_entry)
 
 -- the matches of `state` have a file, and a decimal number of 32 bits for the entry
 abbrev pub ReadsAsState : List Row → Type 0
 ReadsAsState rows = ReadsAsCheck rows
     × IsSomeAnd (one_of (codes "at") rows) (IsUnsignedIn 0 max_chart_entry)
+
+-- the matches have a decimal number from 1 up to most for an option
+abbrev pub ReadsOneUpTo : List Row → Text → ℕ → Type 0
+ReadsOneUpTo rows id most = IsSomeAnd (one_of id rows) (IsUnsignedIn 1 most)
+
+-- the matches of `talk` have the numbers of a thread and a space, which are 1 where there is no folder
+abbrev pub ReadsAsTalk : List Row → Type 0
+ReadsAsTalk rows = ReadsOneUpTo rows (codes "thread") max_thread_number
+    × ReadsOneUpTo rows (codes "space") max_space
+    × (IsNone (first_of (codes "dir") rows) → (number_in rows (codes "thread") ≡ Some 1)
+    × (number_in rows (codes "space") ≡ Some 1))
 
 -- the matches have a word
 abbrev pub ReadsAsWord : List Row → Type 0
@@ -127,7 +171,7 @@ Reads name rows = ((name ≡ codes "run") × ReadsAsRun rows)
     ⊎ ((name ≡ codes "script") × ReadsAsCheck rows)
     ⊎ ((name ≡ codes "count") × ReadsAsCheck rows)
     ⊎ ((name ≡ codes "follow") × ReadsAsCheck rows)
-    ⊎ (name ≡ codes "talk")
+    ⊎ ((name ≡ codes "talk") × ReadsAsTalk rows)
     ⊎ (TakesWord name × ReadsAsWord rows)
 
 -- the options are those that the words, or the defaults, give the subcommand that they name

@@ -11,6 +11,7 @@ pub use default_texts::default_texts_are_the_limits;
 pub use server::{MAX_SPACES, OWNER_ONLY, ServerOptions};
 pub use server_words::server_options;
 pub use shell::{
-    ChartOptions, FollowOptions, ScriptLimits, ShellOptions, StateOptions, shell_options,
+    ChartOptions, FollowOptions, ScriptLimits, ShellOptions, StateOptions, TalkOptions,
+    shell_options,
 };
 pub use version::{VERSION, tell_version};

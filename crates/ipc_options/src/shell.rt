@@ -4,7 +4,7 @@ ghost use Rattle.std.specs.Prelude.{map, string_bytes};
 ghost use Rattle.clap.specs.Words.{IsUnsignedIn, app_of, fault_of, first_of, found_of, kind_of, one_of, rows_of, rule_of};
 ghost use Rattle.clap.specs.Words.{subcommand_rows_of};
 ghost use Rattle.clap.specs.declared.builder.command.Command.TheViews.{out-Command as fields_of};
-ghost use Rattle.ipc_options.specs.Command.{chart_app, chart_places_app, check_app, drawing_app};
+ghost use Rattle.ipc_options.specs.Command.{chart_app, chart_forms_app, chart_places_app, check_app, drawing_app};
 ghost use Rattle.ipc_options.specs.Command.{count_app, counting_app, flag_rule, follow_app, label_rule, talk_app};
 ghost use Rattle.ipc_options.specs.Command.{explaining_app, file_rule, number_rule, proving_app, run_app};
 ghost use Rattle.ipc_options.specs.Command.{script_app, shell_app, state_app, text_rule, threads_rule, tracing_app};
@@ -12,13 +12,16 @@ ghost use Rattle.ipc_options.specs.Command.{wire_app, word_app, word_rule};
 ghost use Rattle.ipc_options.specs.Shell.{AreWithinLimits, AsksVersion, HasLimitsIn, HasMatchesIn, IsAskedBy, IsFlagIn};
 ghost use Rattle.ipc_options.specs.Shell.{IsTaken, IsWithinLimits, Reads, ReadsAsChart, ReadsAsCheck, ReadsAsRun};
 ghost use Rattle.ipc_options.specs.Shell.{ReadsAsState, ReadsAsWord, TakesWord, TellsVersion, number_in};
+ghost use Rattle.ipc_options.specs.Command.{first_rule, folder_rule, talk_places_app};
+ghost use Rattle.ipc_options.specs.Shell.{IsCountIn, ReadsAsTalk, ReadsOneUpTo};
+ghost use Rattle.ipc_words.specs.Limits.{max_space, max_thread_number};
 
 use crate::default_texts::{MAX_CALLS_TEXT, MAX_CHART_ENTRY_TEXT, MAX_ENTRIES_TEXT};
 use crate::version::VERSION;
 use clap::builder::ValueParser;
 use clap::error::ErrorKind;
 use clap::{Arg, ArgAction, ArgMatches, Command, Error};
-use ipc_words::limits::{MAX_CALLS, MAX_CHART_ENTRY, MAX_ENTRIES};
+use ipc_words::limits::{MAX_CALLS, MAX_CHART_ENTRY, MAX_ENTRIES, MAX_SPACE, MAX_THREAD_NUMBER};
 use std::alloc::{AllocError, Global};
 
 /// What `l4sh` was asked for.
@@ -46,8 +49,10 @@ pub enum ShellOptions<'a> {
     Count { file: &'a str, is_json: bool },
     /// `l4sh follow`.
     Follow(FollowOptions<'a>),
-    /// `l4sh talk`.
+    /// `l4sh talk`, with a kernel of its own.
     Talk,
+    /// `l4sh talk`, with the folder of a live server.
+    TalkTo(TalkOptions<'a>),
 }
 
 /// The limits of the kernel under a script.
@@ -72,6 +77,14 @@ pub struct ChartOptions<'a> {
     pub threads: Option<&'a str>,
     /// Whether it is drawn as text for a terminal.
     pub is_text: bool,
+    /// Whether it is drawn as an HTML page.
+    pub is_html: bool,
+    /// Whether rows that come again are shown each time.
+    pub is_unfolded: bool,
+    /// How many rows a page of an HTML page has; 0: as many as are usual.
+    pub page: u32,
+    /// The most characters of a line of text; 0: as many as it needs.
+    pub width: u32,
 }
 
 /// What `l4sh state` was asked for.
@@ -96,6 +109,17 @@ pub struct FollowOptions<'a> {
     pub failures: bool,
 }
 
+/// What `l4sh talk` was asked for, with a live server.
+#[derive(Clone, Copy, PartialEq, Eq, Debug)]
+pub struct TalkOptions<'a> {
+    /// The folder of the server's paths.
+    pub dir: &'a str,
+    /// The number of the thread, 1 to `MAX_THREAD_NUMBER`.
+    pub thread: u16,
+    /// The number of the space, 1 to `MAX_SPACE`.
+    pub space: u32,
+}
+
 /// The command line of `l4sh`. The first word is the program's name. An `Err` is a mistake in the
 /// words, a request for help or for the version (the kind `DisplayVersion`), or want of memory (the
 /// kind `OutOfMemory`), and its `Display` is the text for the user.
@@ -112,8 +136,11 @@ pub fn shell_options<'a>(alloc: Global, words: &'a [String]) -> Result<ShellOpti
     let matches = command.try_get_matches_from_mut(words)?;
     match options_of(&matches) {
         Some(options) => Ok(options),
-        // `clap` has refused such a number already.
-        None => Err(command.error(ErrorKind::ValueValidation, "a number is past its limit")?),
+        // `clap` has refused each number that is past its limit already.
+        None => Err(command.error(
+            ErrorKind::ValueValidation,
+            "--thread and --space want DIR, the folder of a server",
+        )?),
     }
 }
 
@@ -208,9 +235,33 @@ fn chart_command<'a>(alloc: Global) -> Result<Command<'a>, AllocError>
     ensures local { IfOk result (λ command. (fields_of command).has_globals ≡ false) }
     ensures app { IfOk result (λ command. app_of command ≡ chart_app) }
 {
+    chart_forms_command(alloc)?
+        .arg(number_option(
+            alloc,
+            "page",
+            MAX_CHART_ENTRY,
+            "0",
+            "Draws an HTML page with so many rows in a picture; 0: no pages",
+        ))?
+        .arg(number_option(
+            alloc,
+            "width",
+            MAX_CHART_ENTRY,
+            "0",
+            "The most characters of a line of text; 0: as many as it needs",
+        ))
+}
+
+/// `chart` with its file, the entries that it shows, and how it draws them.
+fn chart_forms_command<'a>(alloc: Global) -> Result<Command<'a>, AllocError>
+    ensures local { IfOk result (λ command. (fields_of command).has_globals ≡ false) }
+    ensures app { IfOk result (λ command. app_of command ≡ chart_forms_app) }
+{
     chart_places_command(alloc)?
         .arg(threads_option(alloc))?
-        .arg(text_flag(alloc))
+        .arg(text_flag(alloc))?
+        .arg(html_flag(alloc))?
+        .arg(unfolded_flag(alloc))
 }
 
 /// `chart` with its file and the entries that it shows.
@@ -323,8 +374,28 @@ fn talk_command<'a>(alloc: Global) -> Result<Command<'a>, AllocError>
     ensures local { IfOk result (λ command. (fields_of command).has_globals ≡ false) }
     ensures app { IfOk result (λ command. app_of command ≡ talk_app) }
 {
-    let about = "Runs commands as people type them, and goes on after mistakes";
-    Ok(Command::new(alloc, "talk").about(about))
+    talk_places_command(alloc)?.arg(first_option(
+        alloc,
+        "space",
+        MAX_SPACE,
+        "The space of that thread, 1 to 64",
+    ))
+}
+
+/// `talk` with the folder of a server, and the thread.
+fn talk_places_command<'a>(alloc: Global) -> Result<Command<'a>, AllocError>
+    ensures local { IfOk result (λ command. (fields_of command).has_globals ≡ false) }
+    ensures app { IfOk result (λ command. app_of command ≡ talk_places_app) }
+{
+    Command::new(alloc, "talk")
+        .about("Runs commands as people type them, and goes on after mistakes")
+        .arg(server_folder(alloc))?
+        .arg(first_option(
+            alloc,
+            "thread",
+            MAX_THREAD_NUMBER,
+            "The number of the server's thread, 1 to 255",
+        ))
 }
 
 /// A subcommand of one word.
@@ -351,6 +422,16 @@ fn trace_file<'a>(alloc: Global) -> Arg<'a>
         .value_name("FILE")
         .required(true)
         .help("A trace: the lines of the entries of a history")
+}
+
+/// DIR.
+fn server_folder<'a>(alloc: Global) -> Arg<'a>
+    ensures local { result.global ≡ false }
+    ensures rule { rule_of result ≡ folder_rule }
+{
+    Arg::new(alloc, "dir").value_name("DIR").help(
+        "The folder of a live l4d, as whose thread to talk; without it a kernel of its own",
+    )
 }
 
 /// WORD.
@@ -384,6 +465,28 @@ fn text_flag<'a>(alloc: Global) -> Arg<'a>
         .long("text")
         .action(ArgAction::SetTrue)
         .help("Draws it as text, for a terminal")
+}
+
+/// The flag `--html`.
+fn html_flag<'a>(alloc: Global) -> Arg<'a>
+    ensures local { result.global ≡ false }
+    ensures rule { rule_of result ≡ flag_rule (codes "html") }
+{
+    Arg::new(alloc, "html")
+        .long("html")
+        .action(ArgAction::SetTrue)
+        .help("Draws it as an HTML page with a field that finds rows")
+}
+
+/// The flag `--unfolded`.
+fn unfolded_flag<'a>(alloc: Global) -> Arg<'a>
+    ensures local { result.global ≡ false }
+    ensures rule { rule_of result ≡ flag_rule (codes "unfolded") }
+{
+    Arg::new(alloc, "unfolded")
+        .long("unfolded")
+        .action(ArgAction::SetTrue)
+        .help("Shows rows that come again each time, and not once with their number")
 }
 
 /// The flag `--json`.
@@ -438,6 +541,19 @@ fn number_option<'a>(
         .help(help)
 }
 
+/// The option `--ID N`, of a number from 1 up to `most`, by default 1.
+fn first_option<'a>(alloc: Global, id: &'a str, most: u32, help: &'a str) -> Arg<'a>
+    ensures local { result.global ≡ false }
+    ensures rule { rule_of result ≡ first_rule id.entry.now most }
+{
+    Arg::new(alloc, id)
+        .long(id)
+        .value_name("N")
+        .value_parser(ValueParser::unsigned(1, u64::from(most)))
+        .default_value("1")
+        .help(help)
+}
+
 /// The options of the subcommand that was entered.
 fn options_of<'a>(matches: &ArgMatches<'a>) -> Option<ShellOptions<'a>>
     ensures limits { IfSome result IsWithinLimits }
@@ -468,7 +584,7 @@ fn options_in<'a>(name: &str, found: &ArgMatches<'a>) -> Option<ShellOptions<'a>
         "script" => script_options(found),
         "count" => count_options(found),
         "follow" => follow_options(found),
-        "talk" => Some(ShellOptions::Talk),
+        "talk" => talk_options(found),
         _ => word_options(name, found),
     }
 }
@@ -517,12 +633,20 @@ fn chart_options<'a>(chart: &ArgMatches<'a>) -> Option<ShellOptions<'a>>
     let to = number(chart, "to")?;
     let threads = text(chart, "threads");
     let is_text = flag(chart, "text");
+    let is_html = flag(chart, "html");
+    let is_unfolded = flag(chart, "unfolded");
+    let page = number(chart, "page")?;
+    let width = number(chart, "width")?;
     Some(ShellOptions::Chart(ChartOptions {
         file,
         from,
         to,
         threads,
         is_text,
+        is_html,
+        is_unfolded,
+        page,
+        width,
     }))
 }
 
@@ -576,6 +700,21 @@ fn follow_options<'a>(follow: &ArgMatches<'a>) -> Option<ShellOptions<'a>>
     }))
 }
 
+#[tactic(auto, unfolding(crate::specs::Shell::HasMatchesIn))]
+fn talk_options<'a>(talk: &ArgMatches<'a>) -> Option<ShellOptions<'a>>
+    ensures limits { IfSome result IsWithinLimits }
+    ensures matches { IfSome result (HasMatchesIn (codes "talk") (rows_of (found_of talk.now))) }
+    ensures found { ReadsAsTalk (rows_of (found_of talk.now)) → IsSome result }
+{
+    let thread = u16::try_from(number_up_to(talk, "thread", MAX_THREAD_NUMBER)?).ok()?;
+    let space = number_up_to(talk, "space", MAX_SPACE)?;
+    match text(talk, "dir") {
+        Some(dir) => Some(ShellOptions::TalkTo(TalkOptions { dir, thread, space })),
+        None if thread == 1 && space == 1 => Some(ShellOptions::Talk),
+        None => None,
+    }
+}
+
 /// The options of the subcommand of this name, of those that take one word.
 #[tactic(auto, unfolding(crate::specs::Shell::HasMatchesIn))]
 fn word_options<'a>(name: &str, found: &ArgMatches<'a>) -> Option<ShellOptions<'a>>
@@ -610,6 +749,18 @@ fn number(found: &ArgMatches<'_>, id: &str) -> Option<u32>
         (IsUnsignedIn 0 u32.MAX) → IsSome result }
 {
     found.get_one::<u32>(id)
+}
+
+fn number_up_to(found: &ArgMatches<'_>, id: &str, most: u32) -> Option<u32>
+    ensures number { IfSome result (IsCountIn (rows_of (found_of found.now)) id.now most) }
+    ensures found { ReadsOneUpTo (rows_of (found_of found.now)) id.now most → IsSome result }
+{
+    let number = number(found, id)?;
+    if number >= 1 && number <= most {
+        Some(number)
+    } else {
+        None
+    }
 }
 
 #[cfg(test)]
@@ -696,6 +847,24 @@ mod tests {
     }
 
     #[test]
+    fn talks_to_the_server_of_the_folder_that_is_named(rt: HostRuntime) -> Result<(), Fail> {
+        let of = |dir, thread, space| ShellOptions::TalkTo(TalkOptions { dir, thread, space });
+        let cases: [(&[&str], ShellOptions); 4] = [
+            (&["l4sh", "talk", "meet"], of("meet", 1, 1)),
+            (
+                &["l4sh", "talk", "--thread", "255", "/run/l4d"],
+                of("/run/l4d", 255, 1),
+            ),
+            (
+                &["l4sh", "talk", "meet", "--space=64", "--thread=2"],
+                of("meet", 2, 64),
+            ),
+            (&["l4sh", "talk", "--thread", "1"], ShellOptions::Talk),
+        ];
+        assert_asked(&rt, rt.alloc(), &cases)
+    }
+
+    #[test]
     fn checks_and_charts_the_file_that_is_named(rt: HostRuntime) -> Result<(), Fail> {
         let strings = words_of(rt.alloc(), &["l4sh", "check", "here/trace"])?;
         let options = shell_options(rt.alloc(), &strings)?;
@@ -706,6 +875,10 @@ mod tests {
             to: 4_294_967_295,
             threads: None,
             is_text: false,
+            is_html: false,
+            is_unfolded: false,
+            page: 0,
+            width: 0,
         };
         let narrow = ChartOptions {
             file: "trace",
@@ -713,9 +886,30 @@ mod tests {
             to: 20,
             threads: Some("1.1,2.1"),
             is_text: true,
+            width: 100,
+            ..plain
         };
-        let cases: [(&[&str], ChartOptions); 2] = [
+        let paged = ChartOptions {
+            file: "-",
+            is_html: true,
+            is_unfolded: true,
+            page: 200,
+            ..plain
+        };
+        let cases: [(&[&str], ChartOptions); 3] = [
             (&["l4sh", "chart", "trace"], plain),
+            (
+                &[
+                    "l4sh",
+                    "chart",
+                    "--html",
+                    "--page",
+                    "200",
+                    "--unfolded",
+                    "-",
+                ],
+                paged,
+            ),
             (
                 &[
                     "l4sh",
@@ -726,6 +920,7 @@ mod tests {
                     "--threads",
                     "1.1,2.1",
                     "--text",
+                    "--width=100",
                     "trace",
                 ],
                 narrow,
@@ -841,13 +1036,28 @@ mod tests {
 
     #[test]
     fn refuses_words_of_a_trace_or_a_word(rt: HostRuntime) -> Result<(), Fail> {
-        let cases: [(&[&str], ErrorKind); 20] = [
+        let cases: [(&[&str], ErrorKind); 23] = [
             (&["l4sh", "follow"], ErrorKind::MissingRequiredArgument),
             (
                 &["l4sh", "follow", "trace", "--label"],
                 ErrorKind::InvalidValue,
             ),
-            (&["l4sh", "talk", "here"], ErrorKind::UnknownArgument),
+            (
+                &["l4sh", "talk", "here", "there"],
+                ErrorKind::UnknownArgument,
+            ),
+            (
+                &["l4sh", "talk", "--thread", "2"],
+                ErrorKind::ValueValidation,
+            ),
+            (
+                &["l4sh", "talk", "here", "--thread", "256"],
+                ErrorKind::ValueValidation,
+            ),
+            (
+                &["l4sh", "talk", "here", "--space", "0"],
+                ErrorKind::ValueValidation,
+            ),
             (&["l4sh", "count"], ErrorKind::MissingRequiredArgument),
             (
                 &["l4sh", "count", "trace", "--text"],

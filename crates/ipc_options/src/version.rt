@@ -7,7 +7,7 @@ use std::path::PathBuf;
 use std::rt::Files;
 
 /// The version of `l4d` and `l4sh`, and the toolchain that they are proved with.
-pub const VERSION: &str = "1.0 (rattle-kit-13b logic dac8208d650f15bf)";
+pub const VERSION: &str = "1.0 (rattle-kit-13f logic dac8208d650f15bf)";
 
 /// The file beside an installed program that has the commit that it was made of.
 const COMMIT: &str = "commit";

@@ -5,11 +5,11 @@ use crate::host::Host;
 use crate::paths::Listener;
 use crate::server::Server;
 use crate::serving::{Ports, serve_connection, worker};
-use crate::socket::SocketGate;
-use ipc_core::Advance;
-use ipc_host::{Counts, ToldStream};
-use ipc_lock::{Step, Told};
-use ipc_ports::{Failures, ReadPort, WritePort};
+use crate::socket::{Guest, SocketGate};
+use crate::working::{Alarm, OverGate, Worker};
+use ipc_host::{Counts, EagerStream, SocketPort};
+use ipc_ports::{Failures, ReadPort};
+use ipc_session::{Open, move_loop, tick_loop};
 use std::io::ErrorKind;
 use std::marker::Brand;
 use std::os::unix::net::UnixStream;
@@ -21,9 +21,6 @@ use std::thread::Threads;
 use std::time::Duration;
 use std::{fmt, io, thread};
 
-/// How long the ticker sleeps in each turn, in milliseconds.
-const TURN: u64 = 1;
-
 /// How long the worker of signals sleeps in each turn, in milliseconds.
 const SIGNAL_TURN: u64 = 100;
 
@@ -33,7 +30,7 @@ const LOG_TURN: u64 = 60;
 /// Serves all paths until each has had its connections and these have ended, or the service was stopped. False where a worker could
 /// not be started.
 pub fn serve_all<C: Ledger + Send, T: Ledger + Send, R>(
-    server: &Server<'_, C, T, R>,
+    server: &Server<'_, C, T, SocketPort, R>,
     host: &Host,
 ) -> bool
 where
@@ -65,7 +62,10 @@ where
 }
 
 /// Stops the service once SIGINT or SIGTERM has come.
-fn watch_signals<C: Ledger, T: Ledger, R: Wait + Clock>(server: &Server<'_, C, T, R>, host: &Host) {
+fn watch_signals<C: Ledger, T: Ledger, R: Wait + Clock>(
+    server: &Server<'_, C, T, SocketPort, R>,
+    host: &Host,
+) {
     for _ in server.rt.forever() {
         let turn = Duration::from_millis(SIGNAL_TURN);
         if host.guests.wait_finished(server.rt, turn) {
@@ -80,7 +80,7 @@ fn watch_signals<C: Ledger, T: Ledger, R: Wait + Clock>(server: &Server<'_, C, T
 
 /// Tells counters once a minute, and at the end.
 fn log_counters<C: Ledger, T: Ledger, R: Wait + Clock + Eprint>(
-    server: &Server<'_, C, T, R>,
+    server: &Server<'_, C, T, SocketPort, R>,
     host: &Host,
 ) {
     for _ in server.rt.forever() {
@@ -97,7 +97,7 @@ fn log_counters<C: Ledger, T: Ledger, R: Wait + Clock + Eprint>(
 
 /// The counters of this moment.
 fn counters_now<C: Ledger, T: Ledger, R: Wait>(
-    server: &Server<'_, C, T, R>,
+    server: &Server<'_, C, T, SocketPort, R>,
     host: &Host,
 ) -> Counters {
     let (connections, threads, counts) = host.guests.state(server.rt);
@@ -105,6 +105,7 @@ fn counters_now<C: Ledger, T: Ledger, R: Wait>(
     Counters {
         connections,
         threads,
+        calls: server.shared.takes(server.rt),
         counts,
         entries,
         held: server.shared.held(server.rt) as u64,
@@ -120,6 +121,8 @@ fn counters_now<C: Ledger, T: Ledger, R: Wait>(
 struct Counters {
     connections: usize,
     threads: usize,
+    /// How many calls are over whose outcome was taken.
+    calls: u64,
     counts: Counts,
     entries: u64,
     /// How many of them memory holds.
@@ -135,6 +138,7 @@ impl fmt::Display for Counters {
         let Counters {
             connections,
             threads,
+            calls,
             counts,
             entries,
             held,
@@ -143,7 +147,7 @@ impl fmt::Display for Counters {
         } = self;
         write!(
             f,
-            "l4d: {threads} threads of {connections} connections, {counts}, {entries} entries, {held} held, {kibibytes} KiB"
+            "l4d: {threads} threads of {connections} connections, {calls} calls over, {counts}, {entries} entries, {held} held, {kibibytes} KiB"
         )?;
         match behind {
             Some(behind) => write!(f, ", trace {behind} entries behind"),
@@ -152,39 +156,25 @@ impl fmt::Display for Counters {
     }
 }
 
-/// Tells the kernel the time once a millisecond, for the timeouts.
-fn tick<C: Ledger, T: Ledger, R: Wait + Clock>(server: &Server<'_, C, T, R>, over: &AtomicBool) {
-    for _ in server.rt.forever() {
-        if over.load(Ordering::SeqCst) {
-            return;
-        }
-        let _ = server.submit(Step::Tick);
-        thread::sleep(server.rt, Duration::from_millis(TURN));
-    }
+/// Tells the kernel the time where a phase is due, for the timeouts.
+fn tick<C: Ledger, T: Ledger, R: Wait + Clock>(
+    server: &Server<'_, C, T, SocketPort, R>,
+    over: &AtomicBool,
+) {
+    let mut alarm = Alarm::new(server);
+    let mut desk = Worker::new(server);
+    tick_loop(&mut alarm, &mut desk, &mut OverGate::new(over));
 }
 
-/// Copies blocks while transfers go on, and else waits for one to begin.
-fn move_blocks<C: Ledger, T: Ledger, R: Wait + Clock>(server: &Server<'_, C, T, R>) {
-    for _ in server.rt.forever() {
-        if !server.shared.wait_work(server.rt) {
-            return;
-        }
-        move_until_idle(server);
-    }
-}
-
-fn move_until_idle<C: Ledger, T: Ledger, R: Wait + Clock>(server: &Server<'_, C, T, R>) {
-    for _ in server.rt.forever() {
-        match server.submit(Step::Advance) {
-            Told::Advanced(Advance::Moved) => {}
-            _ => return,
-        }
-    }
+/// Copies blocks while transfers go on that nobody else copies, and else waits for one.
+fn move_blocks<C: Ledger, T: Ledger, R: Wait + Clock>(server: &Server<'_, C, T, SocketPort, R>) {
+    let mut desk = Worker::new(server);
+    let _ = move_loop(&mut desk, &mut Open::new(u64::MAX));
 }
 
 /// One worker for each path, until all have ended. False where one could not be started; the others are then stopped.
 fn accept_all<C: Ledger + Send, T: Ledger + Send, R>(
-    server: &Server<'_, C, T, R>,
+    server: &Server<'_, C, T, SocketPort, R>,
     host: &Host,
 ) -> bool
 where
@@ -205,7 +195,7 @@ where
 /// Takes connections until the path has had its number or the service is stopped, and starts a worker for each. An accept that fails
 /// counts for nothing: it is tried again once a connection has ended, or after 10 milliseconds.
 fn accept<C: Ledger + Send, T: Ledger + Send, R>(
-    server: &Server<'_, C, T, R>,
+    server: &Server<'_, C, T, SocketPort, R>,
     host: &Host,
     listener: &Listener,
 )
@@ -242,7 +232,7 @@ where
 
 /// What follows an accept that failed.
 fn miss<C: Ledger, T: Ledger, R: Wait + Clock + Eprint>(
-    server: &Server<'_, C, T, R>,
+    server: &Server<'_, C, T, SocketPort, R>,
     host: &Host,
     error: io::Error,
 ) {
@@ -259,7 +249,7 @@ fn miss<C: Ledger, T: Ledger, R: Wait + Clock + Eprint>(
 
 /// Serves a connection to its end.
 fn serve_guest<C, T, R>(
-    server: &Server<'_, C, T, R>,
+    server: &Server<'_, C, T, SocketPort, R>,
     host: &Host,
     space: u64,
     ticket: u64,
@@ -270,76 +260,60 @@ where
     T: Ledger + Send,
     R: Threads + Wait + Clock + Eprint + Sync,
 {
-    let place = Place { space, ticket };
-    serve_socket(server, host, place, &stream);
+    let soon = AtomicBool::new(false);
+    let guest = Guest {
+        rt: server.rt,
+        host,
+        space,
+        ticket,
+        soon: &soon,
+    };
+    if let Ok(kept) = Arc::try_clone(&stream) {
+        serve_socket(server, &guest, &stream, SocketPort::new(kept));
+    }
     drop(stream);
     host.guests.leave(server.rt, ticket);
 }
 
-/// Which connection it is: its space and its ticket.
-#[derive(Clone, Copy)]
-struct Place {
-    space: u64,
-    ticket: u64,
-}
-
-/// Serves a socket, with counts of its failures of its own.
+/// Serves a socket, with a count of the failures of its reads.
 fn serve_socket<C, T, R>(
-    server: &Server<'_, C, T, R>,
-    host: &Host,
-    place: Place,
+    server: &Server<'_, C, T, SocketPort, R>,
+    guest: &Guest<'_, R>,
     stream: &UnixStream,
+    writer: SocketPort,
 )
 where
     C: Ledger + Send,
     T: Ledger + Send,
     R: Threads + Wait + Clock + Eprint + Sync,
 {
-    serve_stream::<C, T, Brand, Brand, R>(
-        server,
-        host,
-        place,
-        stream,
-        Blank::new(1),
-        Blank::new(1),
-    );
+    serve_stream::<C, T, Brand, R>(server, guest, stream, writer, Blank::new(1));
 }
 
-/// Serves a socket. Each count of failures begins as a blank.
-fn serve_stream<C, T, L, M, R>(
-    server: &Server<'_, C, T, R>,
-    host: &Host,
-    place: Place,
+/// Serves a socket. The count of failures begins as a blank.
+fn serve_stream<C, T, L, R>(
+    server: &Server<'_, C, T, SocketPort, R>,
+    guest: &Guest<'_, R>,
     stream: &UnixStream,
+    writer: SocketPort,
     reads: Blank,
-    writes: Blank,
 )
 where
     C: Ledger + Send,
     T: Ledger + Send,
     L: Ledger + Send + Sync,
-    M: Ledger + Send + Sync,
     R: Threads + Wait + Clock + Eprint + Sync,
     requires reads_name { reads.name ≡ L.name }
     requires reads_parts { (reads.parts ≡ L.parts) × (0 < reads.parts) }
-    requires writes_name { writes.name ≡ M.name }
-    requires writes_parts { (writes.parts ≡ M.parts) × (0 < writes.parts) }
 {
-    let Place { space, ticket } = place;
-    let told = ToldStream::new(
-        server.rt,
-        &host.guests,
-        ticket,
-        space,
-        host.is_logged,
-        stream,
-    );
+    let eager = EagerStream::new(server.rt, server.clock, stream, guest.soon);
     let ports = Ports {
-        space,
-        reader: ReadPort::new(stream, Failures::<L>::new(reads)),
-        writer: WritePort::new(told, Failures::<M>::new(writes)),
-        reads: SocketGate::new(stream),
-        writes: SocketGate::new(stream),
+        space: guest.space,
+        reader: ReadPort::new(eager, Failures::<L>::new(reads)),
+        writer,
+        reads: SocketGate::new(stream, guest),
+        writes: SocketGate::new(stream, guest),
+        desk: SocketGate::new(stream, guest),
     };
     serve_connection(server, ports);
 }

@@ -1,126 +1,117 @@
 ghost use Rattle.std.specs.Prelude.{None};
 
 use crate::server::Server;
-use ipc_connection::GONE;
+use crate::serving::Line;
 use ipc_frame::Frame;
 use ipc_history::Call;
-use ipc_lock::{CallSeat, Posted, Step, Told};
+use ipc_host::{Told, class_letter};
+use ipc_lock::{Entered, PostEnd};
+use ipc_pen::PenPort;
 use ipc_session::CallDesk;
 use ipc_words::{Control, ThreadId};
 use std::rt::Clock;
 use std::sync::Wait;
 use std::sync::ledger::Ledger;
 
-/// The desk of a connection's reader: the shared kernel, and the post box of the connection. It tells no calls.
+/// The desk of a connection's reader: the shared kernel, by the connection's own end. It tells no calls.
 #[derive(Drop)]
-pub struct Caller<'a, C: Ledger, T: Ledger, R: Wait + Clock> {
-    server: &'a Server<'a, C, T, R>,
-    place: usize,
+pub struct Caller<'a, C: Ledger, T: Ledger, P: PenPort + Drop, R: Wait + Clock, G: Line> {
+    server: &'a Server<'a, C, T, P, R>,
+    end: PostEnd<C>,
     space: u64,
     thread: Option<ThreadId>,
-    seat: Option<CallSeat<C>>,
+    line: G,
 }
 
-impl<'a, C: Ledger, T: Ledger, R: Wait + Clock> Caller<'a, C, T, R> {
-    /// A desk that opens its thread in a space, and posts to a box.
-    pub fn new(server: &'a Server<'a, C, T, R>, place: usize, space: u64) -> Self {
+impl<'a, C, T, P, R, G> Caller<'a, C, T, P, R, G>
+where
+    C: Ledger,
+    T: Ledger,
+    P: PenPort + Drop,
+    R: Wait + Clock,
+    G: Line + Drop,
+{
+    /// A desk that opens its thread in a space.
+    pub fn new(server: &'a Server<'a, C, T, P, R>, end: PostEnd<C>, space: u64, line: G) -> Self {
         Caller {
             server,
-            place,
+            end,
             space,
             thread: None,
-            seat: None,
+            line,
         }
     }
 
-    /// Waits until the writer has taken what was posted last. K6: the box was shut.
-    fn wait_empty(&self) -> Result<(), u8> {
-        if self.server.shared.wait_empty(self.server.rt, self.place) {
-            Ok(())
-        } else {
-            Err(GONE)
-        }
-    }
-
-    /// Posts an answer. K6: the box was shut.
-    fn leave(&self, posted: Posted<T>) -> Result<(), u8> {
-        match self.server.shared.post(self.server.rt, self.place, posted) {
-            Ok(()) => Ok(()),
-            Err(_) => Err(GONE),
-        }
+    /// Its end, once its reader has ended.
+    pub fn into_end(self) -> PostEnd<C> {
+        let Caller { end, .. } = self;
+        end
     }
 }
 
-impl<C: Ledger, T: Ledger, R: Wait + Clock> CallDesk for Caller<'_, C, T, R> {
+impl<C, T, P, R, G> CallDesk for Caller<'_, C, T, P, R, G>
+where
+    C: Ledger,
+    T: Ledger,
+    P: PenPort + Drop,
+    R: Wait + Clock,
+    G: Line,
+{
     ghost log = { λ _. None };
 
     fn open(&mut self, number: u16) -> Result<ThreadId, u8> {
-        self.wait_empty()?;
-        let step = Step::Hello {
-            number: u64::from(number),
-            space: self.space,
-        };
-        match self.server.submit(step) {
-            Told::Opened(thread, calls, takes) => {
+        let Server { rt, shared, .. } = *self.server;
+        let now = self.server.now();
+        let opened = shared.open(rt, now, &mut self.end, u64::from(number), self.space);
+        match opened {
+            Ok(thread) => {
                 self.thread = Some(thread);
-                self.seat = Some(calls);
-                self.leave(Posted::Welcome(thread, takes))?;
+                self.line.welcomes(thread);
                 Ok(thread)
             }
-            Told::NotOpened(refusal) => Err(refusal.number()),
-            _ => Err(GONE),
+            Err(refusal) => Err(refusal.number()),
         }
     }
 
-    fn call(&mut self, _thread: ThreadId, call: Call) -> Result<(), u8> {
-        self.wait_empty()?;
-        let Some(seat) = self.seat.take() else {
-            return Err(GONE);
-        };
-        match self.server.submit(Step::Enter(seat, call)) {
-            Told::Entered(seat, _) => {
-                self.seat = Some(seat);
+    fn call(&mut self, thread: ThreadId, call: Call) -> Result<(), u8> {
+        let Server { rt, shared, .. } = *self.server;
+        let now = self.server.now();
+        match shared.enter(rt, now, &mut self.end, thread, call) {
+            Ok(Entered::Over) => {
+                self.line.sees_outcome();
                 Ok(())
             }
-            Told::NotEntered(seat, refusal, _) => {
-                self.seat = Some(seat);
-                Err(refusal.number())
-            }
-            _ => Err(GONE),
+            Ok(Entered::Open) => Ok(()),
+            Err(refusal) => Err(refusal.number()),
         }
     }
 
-    fn exreg(&mut self, _thread: ThreadId, target: ThreadId, control: Control) -> Result<(), u8> {
-        self.wait_empty()?;
-        let Some(seat) = self.seat.take() else {
-            return Err(GONE);
-        };
-        match self.server.submit(Step::Exreg(seat, target, control)) {
-            Told::Exchanged(seat, answer) => {
-                self.seat = Some(seat);
-                self.leave(Posted::Exreg(answer.result, answer.control, answer.code))
+    fn exreg(&mut self, thread: ThreadId, target: ThreadId, control: Control) -> Result<(), u8> {
+        let Server { rt, shared, .. } = *self.server;
+        let now = self.server.now();
+        match shared.exreg(rt, now, &mut self.end, thread, target, control) {
+            Ok(()) => {
+                self.line.tells(Told::Exchanged, self.thread);
+                Ok(())
             }
-            Told::NotExchanged(seat, refusal) => {
-                self.seat = Some(seat);
-                Err(refusal.number())
-            }
-            _ => Err(GONE),
+            Err(refusal) => Err(refusal.number()),
         }
     }
 
     fn post(&mut self, frame: Frame) {
-        let posted = match frame {
-            Frame::Refused(number) => Posted::Refused(number),
-            Frame::Fault(class, number) => Posted::Fault(class, number),
-            _ => return,
-        };
-        if self.wait_empty().is_ok() {
-            // a shut box drops it
-            let _ = self.leave(posted);
+        match &frame {
+            Frame::Refused(number) => self.line.tells(Told::Refused(*number), self.thread),
+            Frame::Fault(class, number) => {
+                let told = Told::Fault(class_letter(*class), *number);
+                self.line.tells(told, self.thread);
+            }
+            _ => {}
         }
+        self.server.shared.post(self.server.rt, &self.end, frame);
     }
 
     fn broke(&mut self) {
-        self.server.hang_up(self.place, self.thread);
+        let now = self.server.now();
+        self.server.shared.hang_up(self.server.rt, now, &self.end);
     }
 }

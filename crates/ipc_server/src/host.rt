@@ -15,6 +15,8 @@ pub struct Host {
     /// How many connections each path takes.
     pub(crate) connections: u16,
     pub(crate) is_logged: bool,
+    /// Whether a reader may look for a little while before it sleeps: where there are several processors.
+    pub(crate) is_eager: bool,
     /// How many entries stand in the trace; None without one.
     pub(crate) traced: Option<AtomicU64>,
     /// Where the worker of signals reads which have come.

@@ -12,17 +12,17 @@ mod probe;
 mod server;
 mod serving;
 mod socket;
-mod taker;
 #[cfg(test)]
 mod tests;
 mod tracing;
+mod working;
 
 use accepting::serve_all;
 use clap::error::ErrorKind;
 use exit::Exit;
 use host::Host;
 use ipc_core::{Limits, MAX_CALLS, MAX_ENTRIES};
-use ipc_host::{Guests, ProcessStatus, ServerClock, descriptors, room};
+use ipc_host::{Guests, ProcessStatus, ServerClock, SocketPort, descriptors, room};
 use ipc_lock::SharedKernel;
 use ipc_options::{ServerOptions, server_options, tell_version};
 use ipc_ports::{Failures, PortWrite};
@@ -115,7 +115,7 @@ where
         entries: MAX_ENTRIES,
         calls: MAX_CALLS,
     };
-    let Ok(shared) = SharedKernel::<C, T>::new(alloc, limits, calls, takes) else {
+    let Ok(shared) = SharedKernel::<C, T, SocketPort>::new(alloc, limits, calls, takes) else {
         return Exit::NoMemory;
     };
     let clock = match ServerClock::start(rt) {
@@ -136,6 +136,7 @@ where
         listeners,
         connections: options.connections,
         is_logged: options.log,
+        is_eager: thread::available_parallelism(rt).map_or(false, |count| count.get() > 1),
         traced: options.trace.map(|_| AtomicU64::new(0)),
         signals: ProcessStatus::open(rt),
         memory: ProcessStatus::open(rt),
@@ -165,7 +166,7 @@ fn within(options: &ServerOptions<'_>) -> u64 {
 
 /// Serves the paths, with a trace where one is asked for.
 fn serve_as_asked<C: Ledger + Send, T: Ledger + Send, R>(
-    server: &Server<'_, C, T, R>,
+    server: &Server<'_, C, T, SocketPort, R>,
     host: &Host,
     options: &ServerOptions<'_>,
 ) -> Exit
@@ -189,7 +190,7 @@ where
 
 /// Opens the file of the trace, and serves the paths while a worker writes it. The count of the file's failures begins as a blank.
 fn serve_traced<C: Ledger + Send, T: Ledger + Send, L: Ledger + Send, R>(
-    server: &Server<'_, C, T, R>,
+    server: &Server<'_, C, T, SocketPort, R>,
     host: &Host,
     options: &ServerOptions<'_>,
     writes: Blank,
@@ -224,7 +225,7 @@ where
 
 /// Serves the paths while a worker writes the trace. Where the worker cannot be started the trace is written at the end.
 fn serve_beside<C: Ledger + Send, T: Ledger + Send, R, P: PortWrite + Drop + Send>(
-    server: &Server<'_, C, T, R>,
+    server: &Server<'_, C, T, SocketPort, R>,
     host: &Host,
     options: &ServerOptions<'_>,
     trace: Trace<P>,
@@ -252,7 +253,7 @@ where
 /// Writes the trace to its end, and tells where it stopped before. False where it did; where the trace is required the service is then
 /// stopped.
 fn write_trace<C: Ledger, T: Ledger, R: Wait + Clock + Eprint, P: PortWrite + Drop>(
-    server: &Server<'_, C, T, R>,
+    server: &Server<'_, C, T, SocketPort, R>,
     host: &Host,
     is_required: bool,
     trace: Trace<P>,
@@ -287,7 +288,7 @@ fn exit_of(served: Result<(), Exit>, is_whole: bool) -> Exit {
 
 /// Serves the paths, and closes the kernel once all workers but the trace's were joined.
 fn serve_and_close<C: Ledger + Send, T: Ledger + Send, R>(
-    server: &Server<'_, C, T, R>,
+    server: &Server<'_, C, T, SocketPort, R>,
     host: &Host,
     options: &ServerOptions<'_>,
 ) -> Result<(), Exit>
@@ -307,7 +308,7 @@ where
 
 /// Serves the paths until all connections have ended, with the client of the program's own where it is asked for.
 fn serve<C: Ledger + Send, T: Ledger + Send, R>(
-    server: &Server<'_, C, T, R>,
+    server: &Server<'_, C, T, SocketPort, R>,
     host: &Host,
     options: &ServerOptions<'_>,
 ) -> Result<(), Exit>
@@ -347,7 +348,7 @@ fn served(started: bool) -> Result<(), Exit> {
 /// Serves beside a client that sends one word and prints it as soon as it has come. Answers whether the workers could be started, and
 /// whether the word was printed.
 fn serve_probed<C: Ledger + Send, T: Ledger + Send, R>(
-    server: &Server<'_, C, T, R>,
+    server: &Server<'_, C, T, SocketPort, R>,
     host: &Host,
     path: &str,
 ) -> (bool, bool)

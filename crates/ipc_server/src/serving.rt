@@ -1,9 +1,14 @@
 //! The two workers of a connection.
+ghost use Rattle.ipc_pen.specs.Pens.{BeginsEmpty};
+
 use crate::caller::Caller;
 use crate::server::Server;
-use crate::taker::Taker;
-use ipc_ports::{PortRead, PortWrite};
-use ipc_session::{Gate, read_loop, write_loop};
+use ipc_host::Told;
+use ipc_lock::{PostEnd, TakeEnd};
+use ipc_pen::{Patience, PenPort};
+use ipc_ports::PortRead;
+use ipc_session::{Gate, read_loop};
+use ipc_words::ThreadId;
 use std::rt::Clock;
 use std::sync::Wait;
 use std::sync::ledger::Ledger;
@@ -13,28 +18,40 @@ use std::thread::Threads;
 /// How much stack a worker has, in bytes.
 const STACK: usize = 262_144;
 
-/// The line that a connection's ports stand on, which a worker that ends shuts down.
+/// The line that a connection's ports stand on: a worker that ends shuts it down, and it sees what becomes of the connection.
 pub trait Line {
     /// Nothing more is read.
     fn stop_reading(&self);
 
     /// Nothing more is read or written.
     fn shut_down(&self);
+
+    /// The connection is a thread from here on.
+    fn welcomes(&self, thread: ThreadId);
+
+    /// Its call was over at once, and it was told so.
+    fn sees_outcome(&self);
+
+    /// It is told this, as the thread that it is, if any.
+    fn tells(&self, told: Told, thread: Option<ThreadId>);
 }
 
-/// The ports of a connection to a space, and the gates of its two loops. Each gate has the line that the ports stand on.
+/// The ports of a connection to a space, and the line that they stand on: as the gate of the loop that reads, for the worker that writes, and
+/// for the desk.
 #[derive(Drop)]
-pub struct Ports<I: PortRead, O: PortWrite, G: Gate + Line> {
+pub struct Ports<P: PenPort, I: PortRead, G: Gate + Line> {
     /// The space, 1 to 64.
     pub space: u64,
     /// What the client sends.
     pub reader: I,
     /// What the client is told.
-    pub writer: O,
+    pub writer: P,
     /// The gate of the loop that reads.
     pub reads: G,
-    /// The gate of the loop that writes.
+    /// The line, for the worker that writes.
     pub writes: G,
+    /// The line, for the desk.
+    pub desk: G,
 }
 
 /// What starts a worker.
@@ -42,16 +59,17 @@ pub(crate) fn worker() -> thread::Builder {
     thread::Builder::new().stack_size(STACK)
 }
 
-/// Serves one connection to its end: reads in this thread, and writes in one that it starts. Where that cannot be started, or there
-/// is no memory for a post box, the line is shut down.
-pub fn serve_connection<C, T, R, I, O, G>(server: &Server<'_, C, T, R>, ports: Ports<I, O, G>)
+/// Serves one connection to its end: reads in this thread, and in one that it starts writes what no other thread could. Where that
+/// cannot be started, or there is no memory for a box, the line is shut down.
+pub fn serve_connection<C, T, P, R, I, G>(server: &Server<'_, C, T, P, R>, ports: Ports<P, I, G>)
 where
     C: Ledger + Send,
     T: Ledger + Send,
+    P: PenPort + Drop + Send,
     R: Threads + Wait + Clock + Sync,
-    I: PortRead + Drop + Send,
-    O: PortWrite + Drop + Send,
+    I: PortRead + Drop,
     G: Gate + Line + Drop + Send,
+    requires { BeginsEmpty (P.written ports.writer) }
 {
     let Ports {
         space,
@@ -59,80 +77,96 @@ where
         writer,
         reads,
         writes,
+        desk,
     } = ports;
-    let Ok(place) = server.shared.connect_box(server.rt) else {
+    let Ok((posts, takes)) = server.shared.connect(server.rt, writer) else {
         reads.shut_down();
         return;
     };
-    thread::scope(thread::scope_env(), server.rt, |scope| {
-        let started = worker().spawn_scoped(scope, move || {
-            write_to_the_end(server, place, writer, writes)
-        });
+    let posts = thread::scope(thread::scope_env(), server.rt, |scope| {
+        let started = worker().spawn_scoped(scope, move || write_to_the_end(server, takes, writes));
         if started.is_err() {
             reads.shut_down();
-            return;
+            return posts;
         }
-        read_to_the_end(server, place, space, reader, reads);
+        read_to_the_end(
+            server,
+            Caller::new(server, posts, space, desk),
+            reader,
+            reads,
+        )
     });
-    server.shared.release_box(server.rt, place);
+    server.shared.release(server.rt, posts);
 }
 
 /// Serves two connections beside each other, each by two workers, and joins them all. Where no thread can be made
 /// they are served one after the other.
-pub fn serve_ports<C, T, R, I, O, G>(
-    server: &Server<'_, C, T, R>,
-    first: Ports<I, O, G>,
-    second: Ports<I, O, G>,
+pub fn serve_ports<C, T, P, R, I, G>(
+    server: &Server<'_, C, T, P, R>,
+    first: Ports<P, I, G>,
+    second: Ports<P, I, G>,
 )
 where
     C: Ledger + Send,
     T: Ledger + Send,
+    P: PenPort + Drop + Send,
     R: Threads + Wait + Clock + Sync,
     I: PortRead + Drop + Send,
-    O: PortWrite + Drop + Send,
     G: Gate + Line + Drop + Send,
+    requires first { BeginsEmpty (P.written first.writer) }
+    requires second { BeginsEmpty (P.written second.writer) }
 {
     let _ = thread::join(
         server.rt,
-        move || serve_connection(server, first),
-        move || serve_connection(server, second),
+        move ||
+            requires { BeginsEmpty (P.written first.writer) }
+        { serve_connection(server, first) },
+        move ||
+            requires { BeginsEmpty (P.written second.writer) }
+        { serve_connection(server, second) },
     );
 }
 
 /// Reads what the client sends, and then stops reading.
-fn read_to_the_end<C, T, R, I, G>(
-    server: &Server<'_, C, T, R>,
-    place: usize,
-    space: u64,
+fn read_to_the_end<C, T, P, R, I, G>(
+    server: &Server<'_, C, T, P, R>,
+    desk: Caller<'_, C, T, P, R, G>,
     reader: I,
     reads: G,
-)
+) -> PostEnd<C>
 where
     C: Ledger,
     T: Ledger,
+    P: PenPort + Drop,
     R: Wait + Clock,
     I: PortRead + Drop,
     G: Gate + Line + Drop,
 {
     let mut reader = reader;
     let mut reads = reads;
-    let mut desk = Caller::new(server, place, space);
+    let mut desk = desk;
     let _ = read_loop(server.alloc, &mut reader, &mut desk, &mut reads);
     reads.stop_reading();
+    desk.into_end()
 }
 
-/// Writes what the client is told, and then shuts the line down.
-fn write_to_the_end<C, T, R, O, G>(server: &Server<'_, C, T, R>, place: usize, writer: O, writes: G)
+/// Writes what no other thread could write at once, and then shuts the line down.
+fn write_to_the_end<C, T, P, R, G>(server: &Server<'_, C, T, P, R>, takes: TakeEnd, line: G)
 where
     C: Ledger,
     T: Ledger,
+    P: PenPort + Drop,
     R: Wait + Clock,
-    O: PortWrite + Drop,
-    G: Gate + Line + Drop,
+    G: Line + Drop,
 {
-    let mut writer = writer;
-    let mut writes = writes;
-    let mut desk = Taker::new(server, place);
-    let _ = write_loop(&mut writer, &mut desk, &mut writes);
-    writes.shut_down();
+    for _ in server.rt.forever() {
+        let Some(pen) = server.shared.wait_pen(server.rt, &takes) else {
+            break;
+        };
+        let mut pen = pen;
+        let _ = pen.write(Patience::Waits);
+        server.shared.give_back(server.rt, pen);
+    }
+    server.shared.leave(server.rt, server.now(), &takes);
+    line.shut_down();
 }

@@ -1,31 +1,49 @@
 //! The socket of a connection, as the line of its ports.
 ghost use Rattle.std.specs.Prelude.{◌≡◌, ◌<◌};
 
+use crate::host::Host;
 use crate::serving::Line;
+use ipc_host::Told;
 use ipc_session::Gate;
+use ipc_words::ThreadId;
 use std::net::Shutdown;
 use std::os::unix::net::UnixStream;
+use std::sync::Wait;
+use std::sync::atomic::{AtomicBool, Ordering};
 
-/// The gate of a loop over a socket. It says stop after 2^64 - 1 turns, which no run has.
+/// A connection that is there. It is counted, and where that is asked for, what it is told is said on standard error.
 #[derive(Drop)]
-pub struct SocketGate<'a> {
+pub struct Guest<'a, R: Wait + Eprint> {
+    pub(crate) rt: &'a R,
+    pub(crate) host: &'a Host,
+    pub(crate) space: u64,
+    pub(crate) ticket: u64,
+    /// Whether its next frame may come soon.
+    pub(crate) soon: &'a AtomicBool,
+}
+
+/// A socket as the line of its ports, and as the gate of a loop over it. It says stop after 2^64 - 1 turns, which no run has.
+#[derive(Drop)]
+pub struct SocketGate<'a, R: Wait + Eprint> {
     stream: &'a UnixStream,
+    guest: &'a Guest<'a, R>,
     turns: u64,
     stopped: bool,
 }
 
-impl<'a> SocketGate<'a> {
+impl<'a, R: Wait + Eprint> SocketGate<'a, R> {
     /// The gate of a loop that begins.
-    pub fn new(stream: &'a UnixStream) -> SocketGate<'a> {
+    pub fn new(stream: &'a UnixStream, guest: &'a Guest<'a, R>) -> SocketGate<'a, R> {
         SocketGate {
             stream,
+            guest,
             turns: u64::MAX,
             stopped: false,
         }
     }
 }
 
-impl Gate for SocketGate<'_> {
+impl<R: Wait + Eprint> Gate for SocketGate<'_, R> {
     ghost left = { λ gate. gate.turns };
 
     ghost stopped = { λ gate. gate.stopped };
@@ -40,12 +58,45 @@ impl Gate for SocketGate<'_> {
     }
 }
 
-impl Line for SocketGate<'_> {
+impl<R: Wait + Eprint> Line for SocketGate<'_, R> {
     fn stop_reading(&self) {
         let _ = self.stream.shutdown(Shutdown::Read);
     }
 
     fn shut_down(&self) {
         let _ = self.stream.shutdown(Shutdown::Both);
+    }
+
+    fn welcomes(&self, _thread: ThreadId) {
+        self.guest
+            .host
+            .guests
+            .greet(self.guest.rt, self.guest.ticket);
+    }
+
+    fn sees_outcome(&self) {
+        if self.guest.host.is_eager {
+            self.guest.soon.store(true, Ordering::SeqCst);
+        }
+    }
+
+    fn tells(&self, told: Told, thread: Option<ThreadId>) {
+        if !self.guest.host.is_logged {
+            return;
+        }
+        self.guest.host.guests.count(self.guest.rt, told);
+        let rt = self.guest.rt;
+        let space = self.guest.space;
+        // where standard error fails the line is lost
+        let _ = match (told, thread) {
+            (Told::Fault(_, _), Some(thread)) => {
+                let (number, version) = (thread.number(), thread.version());
+                eprintln!(rt; "l4d: {told} to {number}.{version} of space {space}")
+            }
+            (Told::Fault(_, _) | Told::Refused(_), None) => {
+                eprintln!(rt; "l4d: {told} to a connection of space {space}")
+            }
+            _ => Ok(()),
+        };
     }
 }

@@ -1,17 +1,20 @@
-ghost use Rattle.std.specs.Prelude.{◌≡◌, ◌<◌, ◌^◌, None, true};
+ghost use Rattle.std.specs.Prelude.{◌≡◌, ◌<◌, ◌^◌, None};
 
 use crate::server::Server;
 use crate::serving::{Line, Ports, serve_ports};
 use ipc_core::{Limits, MAX_CALLS, MAX_ENTRIES};
-use ipc_host::ServerClock;
+use ipc_host::{ServerClock, Told};
 use ipc_lock::SharedKernel;
-use ipc_ports::{PortFault, PortRead, PortWrite};
+use ipc_pen::{Patience, PenPort};
+use ipc_ports::{PortFault, PortRead};
 use ipc_session::Gate;
+use ipc_words::ThreadId;
 use std::alloc::Global;
 use std::marker::Brand;
 use std::rt::Clock;
+use std::sync::Wait;
+use std::sync::atomic::{AtomicU64, Ordering};
 use std::sync::ledger::{Blank, Ledger};
-use std::sync::{Mutex, Wait};
 use std::test::Fail;
 use std::thread;
 use std::thread::Threads;
@@ -68,32 +71,75 @@ struct Cue {
     bytes: usize,
 }
 
+// So many bytes may be written to a connection.
+const MOST_BYTES: usize = 64;
+
+// What was written to a connection, whichever thread wrote it.
+#[derive(Drop)]
+struct Written {
+    bytes: Vec<AtomicU64>,
+    count: AtomicU64,
+}
+
+impl Written {
+    fn new(alloc: Global) -> Result<Written, Fail> {
+        let mut bytes = Vec::new(alloc);
+        for _ in 0..MOST_BYTES {
+            bytes.push(AtomicU64::new(0))?;
+        }
+        Ok(Written {
+            bytes,
+            count: AtomicU64::new(0),
+        })
+    }
+
+    fn add(&self, more: &[u8]) {
+        for byte in more {
+            let at = self.count.load(Ordering::SeqCst);
+            if let Some(place) = self.bytes.get(at as usize) {
+                place.store(u64::from(*byte), Ordering::SeqCst);
+            }
+            self.count.store(at.saturating_add(1), Ordering::SeqCst);
+        }
+    }
+
+    // Whether it is these bytes, and no more.
+    fn is(&self, bytes: &[u8]) -> bool {
+        self.count.load(Ordering::SeqCst) == bytes.len() as u64
+            && self.bytes.iter().zip(bytes).all(|(written, byte)| written.load(Ordering::SeqCst)
+                == u64::from(*byte))
+    }
+}
+
 // What was written to both connections, and how many turns are left to wait.
 #[derive(Drop)]
 struct Story {
-    receiver: Vec<u8>,
-    sender: Vec<u8>,
-    turns: u64,
+    receiver: Written,
+    sender: Written,
+    turns: AtomicU64,
 }
 
 impl Story {
-    fn has_come(&self, cue: Cue) -> bool {
-        match cue.party {
-            Party::Receiver => self.receiver.len() >= cue.bytes,
-            Party::Sender => self.sender.len() >= cue.bytes,
+    fn of(&self, party: Party) -> &Written {
+        match party {
+            Party::Receiver => &self.receiver,
+            Party::Sender => &self.sender,
         }
+    }
+
+    fn has_come(&self, cue: Cue) -> bool {
+        self.of(cue.party).count.load(Ordering::SeqCst) >= cue.bytes as u64
     }
 }
 
 // Waits for a cue, at most for the turns that are left.
-fn wait_for<R: Wait + Clock>(rt: &R, story: &Mutex<Story>, cue: Cue) {
+fn wait_for<R: Wait + Clock>(rt: &R, story: &Story, cue: Cue) {
     for _ in 0..TURNS {
-        let mut now = story.lock(rt);
-        if now.turns == 0 || now.has_come(cue) {
+        let turns = story.turns.load(Ordering::SeqCst);
+        if turns == 0 || story.has_come(cue) {
             return;
         }
-        now.turns -= 1;
-        drop(now);
+        story.turns.store(turns - 1, Ordering::SeqCst);
         thread::sleep(rt, Duration::from_millis(1));
     }
 }
@@ -102,7 +148,7 @@ fn wait_for<R: Wait + Clock>(rt: &R, story: &Mutex<Story>, cue: Cue) {
 #[derive(Drop)]
 struct CuedPort<'a, R: Wait + Clock> {
     rt: &'a R,
-    story: &'a Mutex<Story>,
+    story: &'a Story,
     front: &'a [u8],
     cue: Cue,
     back: &'a [u8],
@@ -139,31 +185,18 @@ impl<R: Wait + Clock> PortRead for CuedPort<'_, R> {
 
 // Writes into the story.
 #[derive(Drop)]
-struct TellingPort<'a, R: Wait> {
-    rt: &'a R,
-    story: &'a Mutex<Story>,
-    party: Party,
+struct TellingPort<'a> {
+    written: &'a Written,
 }
 
-impl<R: Wait> PortWrite for TellingPort<'_, R> {
+impl PenPort for TellingPort<'_> {
     ghost written = { λ _. None };
 
     ghost failures = { λ _. 0 };
 
-    ghost flushed = { λ _. true };
-
-    fn write(&mut self, buf: &[u8]) -> Result<usize, PortFault> {
-        let mut story = self.story.lock(self.rt);
-        // where a growth is refused the test fails by what was written
-        let _ = match self.party {
-            Party::Receiver => story.receiver.extend_from_slice(buf),
-            Party::Sender => story.sender.extend_from_slice(buf),
-        };
+    fn send(&mut self, buf: &[u8], _patience: Patience) -> Result<usize, PortFault> {
+        self.written.add(buf);
         Ok(buf.len())
-    }
-
-    fn flush(&mut self) -> Result<(), PortFault> {
-        Ok(())
     }
 }
 
@@ -193,6 +226,12 @@ impl Line for CountedGate {
     fn stop_reading(&self) {}
 
     fn shut_down(&self) {}
+
+    fn welcomes(&self, _thread: ThreadId) {}
+
+    fn sees_outcome(&self) {}
+
+    fn tells(&self, _told: Told, _thread: Option<ThreadId>) {}
 }
 
 fn gate() -> CountedGate {
@@ -207,23 +246,22 @@ fn gate() -> CountedGate {
 #[test]
 fn held_receive(rt: HostRuntime) -> Result<(), Fail> {
     let alloc = rt.alloc();
-    let story = Mutex::new(Story {
-        receiver: Vec::new(alloc),
-        sender: Vec::new(alloc),
-        turns: TURNS,
-    });
+    let story = Story {
+        receiver: Written::new(alloc)?,
+        sender: Written::new(alloc)?,
+        turns: AtomicU64::new(TURNS),
+    };
     serve_both::<Brand, Brand, _>(&rt, alloc, &story, Blank::new(1 << 63), Blank::new(1 << 63))?;
-    let story = story.into_inner();
-    assert_eq!(rt; story.receiver.as_slice(), &RECEIVED[..]);
-    assert_eq!(rt; story.sender.as_slice(), &SENT[..]);
-    assert!(rt; story.turns > 0);
+    assert!(rt; story.receiver.is(&RECEIVED));
+    assert!(rt; story.sender.is(&SENT));
+    assert!(rt; story.turns.load(Ordering::SeqCst) > 0);
     Ok(())
 }
 
 fn serve_both<C: Ledger + Send, T: Ledger + Send, R: Threads + Wait + Clock + Sync>(
     rt: &R,
     alloc: Global,
-    story: &Mutex<Story>,
+    story: &Story,
     calls: Blank,
     takes: Blank,
 ) -> Result<(), Fail>
@@ -236,7 +274,7 @@ fn serve_both<C: Ledger + Send, T: Ledger + Send, R: Threads + Wait + Clock + Sy
         entries: MAX_ENTRIES,
         calls: MAX_CALLS,
     };
-    let Ok(shared) = SharedKernel::<C, T>::new(alloc, limits, calls, takes) else {
+    let Ok(shared) = SharedKernel::<C, T, TellingPort<'_>>::new(alloc, limits, calls, takes) else {
         // nothing is written, by which the test fails
         return Ok(());
     };
@@ -265,12 +303,11 @@ fn serve_both<C: Ledger + Send, T: Ledger + Send, R: Threads + Wait + Clock + Sy
             end: told,
         },
         writer: TellingPort {
-            rt,
-            story,
-            party: Party::Receiver,
+            written: story.of(Party::Receiver),
         },
         reads: gate(),
         writes: gate(),
+        desk: gate(),
     };
     let sender = Ports {
         space: 1,
@@ -283,12 +320,11 @@ fn serve_both<C: Ledger + Send, T: Ledger + Send, R: Threads + Wait + Clock + Sy
             end: answered,
         },
         writer: TellingPort {
-            rt,
-            story,
-            party: Party::Sender,
+            written: story.of(Party::Sender),
         },
         reads: gate(),
         writes: gate(),
+        desk: gate(),
     };
     serve_ports(&server, receiver, sender);
     Ok(())

@@ -3,6 +3,7 @@ ghost use Rattle.std.specs.Prelude.{◌≡◌, ◌<◌};
 
 use crate::host::Host;
 use crate::server::Server;
+use ipc_host::SocketPort;
 use ipc_ports::{Failures, PortWrite, WritePort};
 use ipc_trace::{PutFault, TraceWriter};
 use std::alloc::Global;
@@ -113,7 +114,7 @@ impl<P: PortWrite> Trace<P> {
     /// TR1, TR5: the trace has stopped there.
     pub fn follow<C: Ledger, T: Ledger, R: Wait + Clock>(
         self,
-        server: &Server<'_, C, T, R>,
+        server: &Server<'_, C, T, SocketPort, R>,
         host: &Host,
     ) -> Result<(), TraceFault>
     where
@@ -136,7 +137,7 @@ impl<P: PortWrite> Trace<P> {
     // Puts the entries that come next, and answers how many they are; none where the kernel was closed.
     fn put_group<C: Ledger, T: Ledger, R: Wait + Clock>(
         &mut self,
-        server: &Server<'_, C, T, R>,
+        server: &Server<'_, C, T, SocketPort, R>,
     ) -> Result<usize, PutFault> {
         let Ok(group) = server.shared.wait_entries(server.rt, self.count) else {
             return Err(PutFault::NoMemory);

@@ -5,7 +5,7 @@ use Rattle.ipc_trace.specs.Traces.{IsRead, trace_text}
 use Rattle.ipc_trace.specs.declared.fault.TraceEnd.TheVariants as end
 use Rattle.ipc_shell.specs.Checking.{PrintsVerdict, HasLines, ChecksTrace}
 use Rattle.ipc_shell.specs.declared.exit.Exit.{Exit}
-use Rattle.ipc_shell.specs.declared.exit.Exit.TheVariants.{Done, BadLine, NoMemory, DeviceFailed, Illegal, BadThreads, BadWord, IllegalLine}
+use Rattle.ipc_shell.specs.declared.exit.Exit.TheVariants.{Done, BadLine, NoMemory, DeviceFailed, Illegal, BadThreads, NoChart, BadWord, IllegalLine}
 
 pub torn_lines : (bytes left : Option (List ℕ)) (entries : List Entry) → IsRead bytes left entries end.Torn → IfSome bytes (λ bytes. HasLines bytes entries true)
 torn_lines None left entries read = tt
@@ -29,6 +29,7 @@ judged (Some bytes) before after entries is_torn Done lines prints = (entries, (
 judged (Some bytes) before after entries is_torn Illegal lines prints = (entries, (is_torn, lines, prints))
 judged (Some bytes) before after entries is_torn (BadLine number) lines prints = absurd prints
 judged (Some bytes) before after entries is_torn BadThreads lines prints = absurd prints
+judged (Some bytes) before after entries is_torn (NoChart fault) lines prints = absurd prints
 judged (Some bytes) before after entries is_torn BadWord lines prints = absurd prints
 judged (Some bytes) before after entries is_torn (IllegalLine number) lines prints = absurd prints
 judged (Some bytes) before after entries is_torn NoMemory lines prints = prints

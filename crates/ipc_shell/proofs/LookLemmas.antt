@@ -1,14 +1,14 @@
 -- From a trace that is read to what is said of it.
-use Rattle.std.proofs.Common.{◌≡◌, ◌≢◌, ℕ, Bool, true, false, refl, Option, Some, None, IfSome, List, [], ◌++◌, ap, ◌∙◌}
+use Rattle.std.proofs.Common.{◌≡◌, ◌≢◌, ℕ, Bool, true, false, refl, Option, Some, None, IfSome, List, [], ◌++◌, ap, ◌∙◌, take}
 use Rattle.std.proofs.lemmas.List.Elements.{All-nil}
 use Rattle.ipc_history.specs.declared.entry.Entry.{Entry}
 use Rattle.ipc_trace.specs.Traces.{IsRead, trace_text}
 use Rattle.ipc_trace.specs.declared.fault.TraceEnd.TheVariants as end
 use Rattle.ipc_shell.specs.Checking.{HasLines}
-use Rattle.ipc_shell.specs.Looking.{IsSaidOf, LooksAt, shown_of}
+use Rattle.ipc_shell.specs.Looking.{ChartsTrace, IsDrawnOf, IsSaidOf, LooksAt, shown_of}
 use Rattle.ipc_shell.specs.declared.looking.Look.{Look}
 use Rattle.ipc_shell.specs.declared.exit.Exit.{Exit}
-use Rattle.ipc_shell.specs.declared.exit.Exit.TheVariants.{Done, BadLine, NoMemory, DeviceFailed, Illegal, BadThreads, BadWord, IllegalLine}
+use Rattle.ipc_shell.specs.declared.exit.Exit.TheVariants.{Done, BadLine, NoMemory, DeviceFailed, Illegal, BadThreads, NoChart, BadWord, IllegalLine}
 
 pub whole_lines : (bytes left : Option (List ℕ)) (entries : List Entry) → IsRead bytes left entries end.Whole → IfSome bytes (λ bytes. HasLines bytes entries false)
 whole_lines None left entries read = tt
@@ -35,4 +35,19 @@ looked look (Some bytes) entries is_torn NoMemory lines said = tt
 looked look (Some bytes) entries is_torn DeviceFailed lines said = tt
 looked look (Some bytes) entries is_torn Illegal lines said = absurd said
 looked look (Some bytes) entries is_torn BadThreads lines said = absurd said
+looked look (Some bytes) entries is_torn (NoChart fault) lines said = absurd said
 looked look (Some bytes) entries is_torn BadWord lines said = absurd said
+
+-- a chart of the whole lines ended so
+pub drawn : (last : ℕ) (bytes : Option (List ℕ)) (entries : List Entry) (is_torn : Bool) (exit : Exit) → IfSome bytes (λ bytes. HasLines bytes entries is_torn)
+    → IsDrawnOf (take last entries) exit → ChartsTrace last bytes exit
+drawn last None entries is_torn exit lines said = tt
+drawn last (Some bytes) entries is_torn Done lines said = (entries, (is_torn, lines, said))
+drawn last (Some bytes) entries is_torn (NoChart fault) lines said = (entries, (is_torn, lines, said))
+drawn last (Some bytes) entries is_torn (IllegalLine number) lines said = (entries, (is_torn, lines, said))
+drawn last (Some bytes) entries is_torn (BadLine number) lines said = absurd said
+drawn last (Some bytes) entries is_torn NoMemory lines said = tt
+drawn last (Some bytes) entries is_torn DeviceFailed lines said = tt
+drawn last (Some bytes) entries is_torn Illegal lines said = absurd said
+drawn last (Some bytes) entries is_torn BadThreads lines said = absurd said
+drawn last (Some bytes) entries is_torn BadWord lines said = absurd said

@@ -15,7 +15,7 @@ use Rattle.ipc_check.specs.declared.checker.Verdict.TheVariants.{Yes, No}
 use Rattle.ipc_trace.specs.Traces.{IsNoEntry, trace_text}
 use Rattle.ipc_shell.specs.Printing.{ended}
 use Rattle.ipc_shell.specs.declared.exit.Exit.{Exit}
-use Rattle.ipc_shell.specs.declared.exit.Exit.TheVariants.{Done, BadLine, NoMemory, DeviceFailed, Illegal, BadThreads, BadWord, IllegalLine}
+use Rattle.ipc_shell.specs.declared.exit.Exit.TheVariants.{Done, BadLine, NoMemory, DeviceFailed, Illegal, BadThreads, NoChart, BadWord, IllegalLine}
 
 -- what the rules ask for
 abbrev pub expected_text : Option Output → List ℕ
@@ -55,6 +55,7 @@ PrintsVerdict entries is_torn before after Illegal =
     × Appends before after (verdict_text (No index expected) is_torn))
 PrintsVerdict entries is_torn before after (BadLine number) = ⊥
 PrintsVerdict entries is_torn before after BadThreads = ⊥
+PrintsVerdict entries is_torn before after (NoChart fault) = ⊥
 PrintsVerdict entries is_torn before after BadWord = ⊥
 PrintsVerdict entries is_torn before after (IllegalLine number) = ⊥
 PrintsVerdict entries is_torn before after NoMemory = Appends before after []
@@ -93,6 +94,7 @@ ChecksBytes bytes before after Done = PrintsTrace bytes before after Done
 ChecksBytes bytes before after Illegal = PrintsTrace bytes before after Illegal
 ChecksBytes bytes before after (BadLine number) = HasBadLine bytes number × Appends before after []
 ChecksBytes bytes before after BadThreads = ⊥
+ChecksBytes bytes before after (NoChart fault) = ⊥
 ChecksBytes bytes before after BadWord = ⊥
 ChecksBytes bytes before after (IllegalLine number) = ⊥
 ChecksBytes bytes before after NoMemory = Appends before after []

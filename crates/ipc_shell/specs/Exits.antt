@@ -2,7 +2,7 @@
 use Rattle.std.specs.Prelude.{ℕ, List, ◌++◌, codes}
 use Rattle.std.specs.Fmt.{decimal}
 use Rattle.ipc_shell.specs.declared.exit.Exit.{Exit}
-use Rattle.ipc_shell.specs.declared.exit.Exit.TheVariants.{Done, BadLine, NoMemory, DeviceFailed, Illegal, BadThreads, BadWord, IllegalLine}
+use Rattle.ipc_shell.specs.declared.exit.Exit.TheVariants.{Done, BadLine, NoMemory, DeviceFailed, Illegal, BadThreads, NoChart, BadWord, IllegalLine}
 
 -- the status of the program
 abbrev pub status_of : Exit → ℕ
@@ -12,6 +12,7 @@ status_of NoMemory = 1
 status_of DeviceFailed = 1
 status_of Illegal = 3
 status_of BadThreads = 2
+status_of (NoChart fault) = 2
 status_of BadWord = 2
 status_of (IllegalLine number) = 3
 
@@ -23,6 +24,7 @@ exit_text NoMemory = codes "l4sh: no memory"
 exit_text DeviceFailed = codes "l4sh: device failed"
 exit_text Illegal = codes "l4sh: illegal"
 exit_text BadThreads = codes "l4sh: bad list of threads"
+exit_text (NoChart fault) = codes "l4sh: nothing to draw"
 exit_text BadWord = codes "l4sh: this word says nothing"
 exit_text (IllegalLine number) =
     codes "l4sh: line " ++ decimal number ++ codes " does not follow those before it"

@@ -4,7 +4,7 @@ use Rattle.ipc_history.specs.Legal.{Legal}
 use Rattle.ipc_history.specs.declared.entry.Entry.{Entry}
 use Rattle.ipc_shell.specs.Checking.{HasLines, HasBadLine}
 use Rattle.ipc_shell.specs.declared.exit.Exit.{Exit}
-use Rattle.ipc_shell.specs.declared.exit.Exit.TheVariants.{Done, BadLine, NoMemory, DeviceFailed, Illegal, BadThreads, BadWord, IllegalLine}
+use Rattle.ipc_shell.specs.declared.exit.Exit.TheVariants.{Done, BadLine, NoMemory, DeviceFailed, Illegal, BadThreads, NoChart, BadWord, IllegalLine}
 use Rattle.ipc_shell.specs.declared.looking.Look.{Look}
 use Rattle.ipc_shell.specs.declared.looking.Look.TheVariants.{Script, StateAt, Counts}
 
@@ -25,6 +25,7 @@ IsSaidOf entries NoMemory = ⊤
 IsSaidOf entries DeviceFailed = ⊤
 IsSaidOf entries Illegal = ⊥
 IsSaidOf entries BadThreads = ⊥
+IsSaidOf entries (NoChart fault) = ⊥
 IsSaidOf entries BadWord = ⊥
 
 -- what may be said of each legal history
@@ -51,8 +52,47 @@ LooksAtBytes look bytes NoMemory = ⊤
 LooksAtBytes look bytes DeviceFailed = ⊤
 LooksAtBytes look bytes Illegal = ⊥
 LooksAtBytes look bytes BadThreads = ⊥
+LooksAtBytes look bytes (NoChart fault) = ⊥
 LooksAtBytes look bytes BadWord = ⊥
 
 -- where the reader tells its bytes
 abbrev pub LooksAt : Look → Option (List ℕ) → Exit → Type 0
 LooksAt look bytes exit = IfSome bytes (λ bytes. LooksAtBytes look bytes exit)
+
+-- what a chart's end says of the entries up to the last that it may show: it is drawn of a legal
+-- history alone, and a line is named only where it is at fault
+abbrev pub IsDrawnOf : List Entry → Exit → Type 0
+IsDrawnOf entries Done = Legal entries
+IsDrawnOf entries (NoChart fault) = Legal entries
+IsDrawnOf entries (IllegalLine number) = IsFaultLine entries number
+IsDrawnOf entries (BadLine number) = ⊥
+IsDrawnOf entries NoMemory = ⊤
+IsDrawnOf entries DeviceFailed = ⊤
+IsDrawnOf entries Illegal = ⊥
+IsDrawnOf entries BadThreads = ⊥
+IsDrawnOf entries BadWord = ⊥
+
+-- how a chart of each legal history may end
+abbrev pub MayDraw : Exit → Type 0
+MayDraw exit = (entries : List Entry) → Legal entries → IsDrawnOf entries exit
+
+-- the first entries of the whole lines, so many, of which this is said
+abbrev pub DrawsTrace : ℕ → List ℕ → Exit → Type 0
+DrawsTrace last bytes exit = (entries : List Entry) × ((is_torn : Bool)
+    × HasLines bytes entries is_torn × IsDrawnOf (take last entries) exit)
+
+-- how a chart of these bytes ends that shows no entry behind the last
+abbrev pub ChartsBytes : ℕ → List ℕ → Exit → Type 0
+ChartsBytes last bytes Done = DrawsTrace last bytes Done
+ChartsBytes last bytes (NoChart fault) = DrawsTrace last bytes (NoChart fault)
+ChartsBytes last bytes (IllegalLine number) = DrawsTrace last bytes (IllegalLine number)
+ChartsBytes last bytes (BadLine number) = HasBadLine bytes number
+ChartsBytes last bytes NoMemory = ⊤
+ChartsBytes last bytes DeviceFailed = ⊤
+ChartsBytes last bytes Illegal = ⊥
+ChartsBytes last bytes BadThreads = ⊤
+ChartsBytes last bytes BadWord = ⊥
+
+-- where the reader tells its bytes
+abbrev pub ChartsTrace : ℕ → Option (List ℕ) → Exit → Type 0
+ChartsTrace last bytes exit = IfSome bytes (λ bytes. ChartsBytes last bytes exit)

@@ -1,12 +1,16 @@
 -- The run of a script: its lines, and what is printed.
-use Rattle.std.specs.Prelude.{◌≡◌, ◌≢◌, ℕ, min, List, Option}
+use Rattle.std.specs.Prelude.{◌≡◌, ◌≢◌, ℕ, ◌-◌, ◌^◌, min, List, [], ◌∷◌, codes, Option, ◌⊎◌}
+use Rattle.std.specs.Fmt.{decimal}
 use Rattle.ipc_words.specs.Limits.{max_entries, max_calls}
+use Rattle.ipc_core.specs.Compacting.{Compacts}
 use Rattle.ipc_core.specs.KernelParts.{KernelParts}
 use Rattle.ipc_core.specs.Obeying.{empty_kernel}
+use Rattle.ipc_core.specs.declared.answers.Compacted.{Compacted}
 use Rattle.ipc_core.specs.declared.kernel.Limits.{Limits}
 use Rattle.ipc_core.specs.declared.command.Command.{Command}
+use Rattle.ipc_lines.specs.Lines.{spaced}
 use Rattle.ipc_shell.specs.Commands.{IsCommand, command_text}
-use Rattle.ipc_shell.specs.Printing.{Answers}
+use Rattle.ipc_shell.specs.Printing.{Answers, ended}
 use Rattle.ipc_shell.specs.Scripts.{EndsAtLine, RunsLines}
 use Rattle.ipc_shell.specs.declared.exit.Exit.{Exit}
 
@@ -15,14 +19,36 @@ abbrev pub first_kernel : Limits → KernelParts
 first_kernel limits = empty_kernel (min limits.entries max_entries) (min limits.calls max_calls)
 
 -- a line that spells a command: the kernel obeys it, and this is printed
-pub record RunsLine (old : KernelParts) (line text : List ℕ) (new : KernelParts) : Type 0 where
+pub record Commands (old : KernelParts) (line text : List ℕ) (new : KernelParts) : Type 0 where
   pub command : Command
   pub spells : line ≡ command_text command
   pub answers : Answers old command text new
 
--- a line that spells no command, whatever the kernel
+-- the line that asks for a compaction, and what is printed for it: how many entries were dropped, and how many are left
+abbrev pub compact_line : List ℕ
+compact_line = codes "compact"
+
+abbrev pub compacted_text : Compacted → List ℕ
+compacted_text done = ended (spaced (codes "=" ∷ decimal done.dropped ∷ decimal done.left ∷ []))
+
+-- every entry counts as traced, so the kernel is compacted up to its end
+abbrev pub every_entry : ℕ
+every_entry = 2 ^ 64 - 1
+
+pub record IsCompacted (old : KernelParts) (line text : List ℕ) (new : KernelParts) : Type 0 where
+  pub spells : line ≡ compact_line
+  pub done : Compacted
+  pub compacts : Compacts old new every_entry done
+  pub text_is : text ≡ compacted_text done
+
+-- a line that is obeyed, and what is printed for it
+abbrev pub RunsLine : KernelParts → List ℕ → List ℕ → KernelParts → Type 0
+RunsLine old line text new = Commands old line text new ⊎ IsCompacted old line text new
+
+-- a line that spells no command and asks for no compaction, whatever the kernel
 abbrev pub IsNoCommand : KernelParts → List ℕ → Type 0
-IsNoCommand kernel line = (command : Command) → IsCommand command → line ≢ command_text command
+IsNoCommand kernel line =
+    ((command : Command) → IsCommand command → line ≢ command_text command) × (line ≢ compact_line)
 
 -- what a run prints of a script
 abbrev pub RunsScript : KernelParts → Option (List ℕ) → Option (List ℕ) → Option (List ℕ) → Exit

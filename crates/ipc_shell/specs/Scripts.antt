@@ -6,7 +6,7 @@ use Rattle.std.specs.Io.KnownBytes.{Appends}
 use Rattle.ipc_shell.specs.ScriptLines.{lines_of, longest_line}
 use Rattle.ipc_shell.specs.declared.exit.Exit.{Exit}
 use Rattle.ipc_shell.specs.declared.exit.Exit.TheVariants.{Done, BadLine, NoMemory, DeviceFailed}
-use Rattle.ipc_shell.specs.declared.exit.Exit.TheVariants.{Illegal, BadThreads, BadWord, IllegalLine}
+use Rattle.ipc_shell.specs.declared.exit.Exit.TheVariants.{Illegal, BadThreads, NoChart, BadWord, IllegalLine}
 
 -- an empty line is skipped; any other is short enough and is obeyed
 abbrev pub ObeysLine : {S : Type 0} → (S → List ℕ → List ℕ → S → Type 0)
@@ -60,6 +60,7 @@ Prints Obeys IsNone start lines text (BadLine number) =
     EndsAtBadLine Obeys IsNone start lines text number
 Prints Obeys IsNone start lines text Illegal = ⊥
 Prints Obeys IsNone start lines text BadThreads = ⊥
+Prints Obeys IsNone start lines text (NoChart fault) = ⊥
 Prints Obeys IsNone start lines text BadWord = ⊥
 Prints Obeys IsNone start lines text (IllegalLine number) = ⊥
 Prints Obeys IsNone start lines text NoMemory = StopsAfterLines Obeys start lines text
@@ -86,6 +87,7 @@ EndsAtLine Obeys IsNone old new before after line number (Some (BadLine n)) =
     (n ≡ number) × IsNone old line × Appends before after []
 EndsAtLine Obeys IsNone old new before after line number (Some Illegal) = ⊥
 EndsAtLine Obeys IsNone old new before after line number (Some BadThreads) = ⊥
+EndsAtLine Obeys IsNone old new before after line number (Some (NoChart fault)) = ⊥
 EndsAtLine Obeys IsNone old new before after line number (Some BadWord) = ⊥
 EndsAtLine Obeys IsNone old new before after line number (Some (IllegalLine n)) = ⊥
 EndsAtLine Obeys IsNone old new before after line number (Some NoMemory) = Appends before after []

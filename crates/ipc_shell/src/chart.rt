@@ -1,11 +1,15 @@
-ghost use Rattle.std.specs.Prelude.{◌≡◌, ◌≢◌, ◌+◌, ◌<◌};
+ghost use Rattle.std.specs.Prelude.{◌≡◌, ◌≢◌, ◌+◌, ◌<◌, take};
+ghost use Rattle.ipc_shell.specs.Looking.{ChartsTrace, IsDrawnOf, MayDraw};
 
 #[cfg(test)]
 mod tests;
 
-use crate::exit::Exit;
+use crate::exit::{ChartFault, Exit};
+use crate::looking::{front, line_of};
 use crate::output::put;
-use ipc_chart::{Scene, Selection, draw_svg, draw_text, read_threads, scene_of};
+use ipc_chart::{Emptiness, Scene, Selection, read_threads, scene_of};
+use ipc_check::{Verdict, check};
+use ipc_draw::{draw_html, draw_svg, draw_text};
 use ipc_history::Entry;
 use ipc_options::ChartOptions;
 use ipc_ports::{PortRead, PortWrite};
@@ -13,8 +17,9 @@ use ipc_trace::{TraceEnd, read_trace};
 use std::alloc::{AllocError, Global};
 
 /// Draws the trace of a reader as a sequence chart and prints it, over the whole lines where the last
-/// one is torn. Nothing is printed of a trace with a bad line, nor where the list of threads has a word
-/// that is no id.
+/// one is torn. Nothing is printed of a trace with a bad line, nor of one with a line up to the last
+/// that may be shown that does not follow those before it, nor where the list of threads has a word
+/// that is no id, nor of a chart without a row.
 ///
 /// It ends as `DeviceFailed` only where a call of the reader or of the writer failed in this run.
 pub fn chart_trace<R: PortRead, W: PortWrite>(
@@ -23,6 +28,7 @@ pub fn chart_trace<R: PortRead, W: PortWrite>(
     reader: &mut R,
     writer: &mut W,
 ) -> Exit
+    ensures charts { ChartsTrace options.now.to (R.remaining reader.old) result }
     ensures device { result ≡ Exit.DeviceFailed
         → R.failures reader.old + W.failures writer.old
         < R.failures reader.new + W.failures writer.new }
@@ -37,9 +43,8 @@ pub fn chart_trace<R: PortRead, W: PortWrite>(
     };
     let read = read_trace(alloc, reader);
     match read.end {
-        TraceEnd::Whole | TraceEnd::Torn => {
-            print_chart(alloc, &read.entries, &selection, options.is_text, writer)
-        }
+        TraceEnd::Whole => print_chart(alloc, &read.entries, options, &selection, writer),
+        TraceEnd::Torn => print_chart(alloc, &read.entries, options, &selection, writer),
         TraceEnd::BadLine(number) => Exit::BadLine(number),
         TraceEnd::DeviceFailed => Exit::DeviceFailed,
         TraceEnd::NoMemory => Exit::NoMemory,
@@ -65,19 +70,46 @@ fn selection_of(
     }))
 }
 
-// Draws entries and prints them.
+// Draws entries and prints them, where those up to the last that may be shown are a legal history.
 fn print_chart<W: PortWrite>(
     alloc: Global,
     entries: &[Entry],
+    options: &ChartOptions<'_>,
     selection: &Selection,
-    is_text: bool,
     writer: &mut W,
 ) -> Exit
+    ensures drawn { IsDrawnOf (take options.now.to entries.now) result }
     ensures failed { result ≡ Exit.DeviceFailed → W.failures writer.old < W.failures writer.new }
     ensures silent { result ≢ Exit.Done → result ≢ Exit.DeviceFailed
         → W.written writer.new ≡ W.written writer.old }
 {
-    let Ok(picture) = picture_of(alloc, entries, selection, is_text) else {
+    match check(front(entries, options.to as usize)) {
+        Verdict::Yes => print_legal(alloc, entries, options, selection, writer),
+        Verdict::No { index, .. } => Exit::IllegalLine(line_of(index)),
+    }
+}
+
+// Draws entries and prints them, if there is anything to draw.
+fn print_legal<W: PortWrite>(
+    alloc: Global,
+    entries: &[Entry],
+    options: &ChartOptions<'_>,
+    selection: &Selection,
+    writer: &mut W,
+) -> Exit
+    ensures ends { MayDraw result }
+    ensures failed { result ≡ Exit.DeviceFailed → W.failures writer.old < W.failures writer.new }
+    ensures silent { result ≢ Exit.Done → result ≢ Exit.DeviceFailed
+        → W.written writer.new ≡ W.written writer.old }
+{
+    let Ok(scene) = scene_of(alloc, entries, selection, !options.is_unfolded) else {
+        return Exit::NoMemory;
+    };
+    let count = entries.len() as u64;
+    if let Some(emptiness) = selection.emptiness(count, scene.rows.len()) {
+        return Exit::NoChart(fault_of(emptiness, count));
+    }
+    let Ok(picture) = picture_of(alloc, &scene, entries, options) else {
         return Exit::NoMemory;
     };
     match put(writer, picture.as_bytes()) {
@@ -86,16 +118,56 @@ fn print_chart<W: PortWrite>(
     }
 }
 
+fn fault_of(emptiness: Emptiness, count: u64) -> ChartFault {
+    match emptiness {
+        Emptiness::Reversed => ChartFault::Reversed,
+        Emptiness::PastTheEnd => ChartFault::PastTheEnd(count),
+        Emptiness::OfNoThread => ChartFault::NoRow,
+    }
+}
+
 fn picture_of(
     alloc: Global,
+    scene: &Scene,
     entries: &[Entry],
-    selection: &Selection,
-    is_text: bool,
+    options: &ChartOptions<'_>,
 ) -> Result<String, AllocError> {
-    let scene = scene_of(alloc, entries, selection)?;
-    if is_text {
-        draw_text(alloc, &scene)
+    if options.is_text {
+        draw_text(alloc, scene, entries, options.width as usize)
+    } else if options.is_html || options.page > 0 {
+        draw_html(alloc, scene, entries, options.page as usize)
     } else {
-        draw_svg(alloc, &scene)
+        draw_svg(alloc, scene, entries)
+    }
+}
+
+/// Whether two forms are asked for: text, and a page.
+pub fn has_two_forms(options: &ChartOptions<'_>) -> bool {
+    options.is_text && (options.is_html || options.page > 0)
+}
+
+/// Why there is nothing to draw, in words.
+pub fn chart_reason(
+    alloc: Global,
+    options: &ChartOptions<'_>,
+    fault: ChartFault,
+) -> Result<String, AllocError> {
+    let (from, to) = (options.from, options.to);
+    match fault {
+        ChartFault::Reversed => format!(in alloc; "--from {from} is behind --to {to}"),
+        ChartFault::PastTheEnd(0) => String::from_str(alloc, "the trace has no entry"),
+        ChartFault::PastTheEnd(count) => {
+            format!(in alloc; "--from {from} is past the last entry, which is {count}")
+        }
+        ChartFault::NoRow => match options.threads {
+            Some(list) => format!(in alloc; "no entry from {from} to {to} is of --threads {list}"),
+            None => format!(in alloc;
+                "no entry from {from} to {to} has a row: a clock line has none"
+            ),
+        },
+        ChartFault::TwoForms => String::from_str(
+            alloc,
+            "--text goes with neither --html nor --page",
+        ),
     }
 }

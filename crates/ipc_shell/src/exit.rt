@@ -15,10 +15,25 @@ pub enum Exit {
     Illegal,
     /// The list of the threads of a chart has a word that is no thread id: status 2.
     BadThreads,
+    /// A chart would have no row, or two forms were asked for: status 2.
+    NoChart(ChartFault),
     /// A word that was to be explained, or made a tag or a period of, is none: status 2.
     BadWord,
     /// The line of this number, from 1, of a trace does not follow those before it: status 3.
     IllegalLine(u64),
+}
+
+/// Why nothing is drawn.
+#[derive(Clone, Copy, PartialEq, Eq, Debug)]
+pub enum ChartFault {
+    /// The first entry that was asked for is behind the last.
+    Reversed,
+    /// The first entry that was asked for is past the end: the trace has so many.
+    PastTheEnd(u64),
+    /// No entry within the range has a row, or none is of the threads that were asked for.
+    NoRow,
+    /// Text was asked for, and a page.
+    TwoForms,
 }
 
 impl Exit {
@@ -31,7 +46,7 @@ impl Exit {
     {
         match self {
             Exit::Done => 0,
-            Exit::BadLine(_) | Exit::BadThreads | Exit::BadWord => 2,
+            Exit::BadLine(_) | Exit::BadThreads | Exit::NoChart(_) | Exit::BadWord => 2,
             Exit::NoMemory | Exit::DeviceFailed => 1,
             Exit::Illegal | Exit::IllegalLine(_) => 3,
         }
@@ -52,6 +67,7 @@ impl fmt::Display for Exit {
             Exit::DeviceFailed => write!(f, "l4sh: device failed"),
             Exit::Illegal => write!(f, "l4sh: illegal"),
             Exit::BadThreads => write!(f, "l4sh: bad list of threads"),
+            Exit::NoChart(_) => write!(f, "l4sh: nothing to draw"),
             Exit::BadWord => write!(f, "l4sh: this word says nothing"),
             Exit::IllegalLine(number) => {
                 write!(f, "l4sh: line {number} does not follow those before it")

@@ -145,7 +145,7 @@ fn print_state<W: PortWrite>(alloc: Global, entries: &[Entry], writer: &mut W) -
 }
 
 // The first entries, so many, or all where there are fewer.
-fn front(entries: &[Entry], count: usize) -> &[Entry]
+pub(crate) fn front(entries: &[Entry], count: usize) -> &[Entry]
     ensures { result.now ≡ take count entries.now }
 {
     if count < entries.len() {
@@ -156,7 +156,7 @@ fn front(entries: &[Entry], count: usize) -> &[Entry]
 }
 
 // The number of the line of the entry in a place.
-fn line_of(place: usize) -> u64
+pub(crate) fn line_of(place: usize) -> u64
     ensures { place + 1 < 2 ^ 64 → result ≡ place + 1 }
 {
     (place as u64).saturating_add(1)

@@ -12,48 +12,53 @@ mod exit;
 mod follow;
 mod kept;
 mod lines;
+mod live;
 mod looking;
 mod output;
 mod run;
 mod talk;
 mod wire;
 
-use chart::chart_trace;
+use chart::{chart_reason, chart_trace, has_two_forms};
 use check::check_trace;
 use clap::error::ErrorKind;
-use exit::Exit;
+use exit::{ChartFault, Exit};
 use follow::follow_trace;
 use ipc_core::{Limits, MAX_CALLS, MAX_ENTRIES};
 use ipc_explain::{answer_period, answer_tag, explain};
 use ipc_options::{
     ChartOptions, FollowOptions, ScriptLimits, ShellOptions, shell_options, tell_version,
 };
-use ipc_ports::{Failures, PortWrite, ReadPort, WritePort};
+use ipc_ports::{Failures, PortRead, PortWrite, ReadPort, WritePort};
 use ipc_reasons::{Grammar, reason_of};
 use ipc_words::limits::{MAX_LINE_BYTES, MAX_SPACE};
 use kept::{KeptPort, Tail};
+use live::{Talked, talk_to_server};
 use looking::{Look, look_at_trace, print_answer};
 use run::run_script;
 use std::alloc::{AllocError, Global};
 use std::fs::{self, File};
 use std::io;
 use std::marker::Brand;
+use std::net::Net;
 use std::process::ExitCode;
 use std::rt::Files;
 use std::sync::ledger::{Blank, Ledger};
 use talk::talk_with;
 use wire::wire_script;
 
-/// How the program ended, and of a bad line the reason, where one is known.
+/// How the program ended, and the reason, where one is known.
 #[derive(Drop)]
-struct Ending {
-    exit: Exit,
-    reason: Option<String>,
+enum Ending {
+    /// Without a server. The reason is that of a bad line, or of a file.
+    Alone { exit: Exit, reason: Option<String> },
+    /// As a thread of a server.
+    WithServer(Talked),
 }
 
 impl From<Exit> for Ending {
     fn from(exit: Exit) -> Ending {
-        Ending { exit, reason: None }
+        Ending::Alone { exit, reason: None }
     }
 }
 
@@ -99,7 +104,7 @@ fn main(rt: HostRuntime) -> io::Result<ExitCode> {
 }
 
 /// Does what was asked for. The counts of failures, of the reader and of the writer, begin as blanks.
-fn obey<L: Ledger, M: Ledger, R: Files + Input + Print>(
+fn obey<L: Ledger, M: Ledger, R: Files + Input + Print + Net>(
     rt: &R,
     alloc: Global,
     options: &ShellOptions<'_>,
@@ -131,10 +136,7 @@ fn obey<L: Ledger, M: Ledger, R: Files + Input + Print>(
         ShellOptions::Check { file } => {
             look(rt, alloc, *file, &Trace::Check, reads, &mut writer)
         }
-        ShellOptions::Chart(chart) => {
-            let trace = Trace::Chart(*chart);
-            look(rt, alloc, chart.file, &trace, reads, &mut writer)
-        }
+        ShellOptions::Chart(chart) => chart_file(rt, alloc, chart, reads, &mut writer),
         ShellOptions::State(state) => {
             let trace = Trace::Look(Look::StateAt(state.at as usize));
             look(rt, alloc, state.file, &trace, reads, &mut writer)
@@ -156,6 +158,11 @@ fn obey<L: Ledger, M: Ledger, R: Files + Input + Print>(
             let mut reader = ReadPort::new(rt.reader(), reads);
             Ending::from(talk_with(alloc, limits, &mut reader, &mut writer))
         }
+        ShellOptions::TalkTo(talk) => {
+            let mut reader = ReadPort::new(rt.reader(), reads);
+            let talked = talk_to_server(rt, alloc, talk, &mut reader, &mut writer);
+            Ending::WithServer(talked)
+        }
         ShellOptions::Explain { word } => {
             Ending::from(print_answer(explain(alloc, *word), &mut writer))
         }
@@ -168,8 +175,50 @@ fn obey<L: Ledger, M: Ledger, R: Files + Input + Print>(
     }
 }
 
-/// Opens the file of a trace, and does this with it.
-fn look<L: Ledger, R: Files, W: PortWrite>(
+/// Draws the trace of a file, or of standard input.
+fn chart_file<L: Ledger, R: Files + Input, W: PortWrite>(
+    rt: &R,
+    alloc: Global,
+    options: &ChartOptions<'_>,
+    reads: Failures<L>,
+    writer: &mut W,
+) -> Ending {
+    let ending = if has_two_forms(options) {
+        Ending::from(Exit::NoChart(ChartFault::TwoForms))
+    } else {
+        look(
+            rt,
+            alloc,
+            options.file,
+            &Trace::Chart(*options),
+            reads,
+            writer,
+        )
+    };
+    let Some(exit) = exit_alone(&ending) else {
+        return ending;
+    };
+    let reason = match exit {
+        Exit::NoChart(fault) => chart_reason(alloc, options, fault).ok(),
+        Exit::IllegalLine(number) if number > 1 => {
+            let last = number - 1;
+            format!(in alloc; "--to {last} draws what comes before it").ok()
+        }
+        _ => return ending,
+    };
+    Ending::Alone { exit, reason }
+}
+
+/// The exit of an ending without a server.
+fn exit_alone(ending: &Ending) -> Option<Exit> {
+    match ending {
+        Ending::Alone { exit, .. } => Some(*exit),
+        Ending::WithServer(_) => None,
+    }
+}
+
+/// Opens the file of a trace, or takes standard input for `-`, and does this with it.
+fn look<L: Ledger, R: Files + Input, W: PortWrite>(
     rt: &R,
     alloc: Global,
     file: &str,
@@ -177,20 +226,35 @@ fn look<L: Ledger, R: Files, W: PortWrite>(
     reads: Failures<L>,
     writer: &mut W,
 ) -> Ending {
+    if file == "-" {
+        let mut reader = KeptPort::new(alloc, ReadPort::new(rt.reader(), reads));
+        let exit = look_at(alloc, trace, &mut reader, writer);
+        return with_reason(alloc, exit, Grammar::Trace, reader.tail());
+    }
     let opened = match File::open(rt, file) {
         Ok(opened) => opened,
         Err(error) => return not_opened(alloc, file, &error),
     };
     let mut reader = KeptPort::new(alloc, ReadPort::new(opened, reads));
-    let exit = match trace {
-        Trace::Check => check_trace(alloc, &mut reader, writer),
-        Trace::Chart(options) => chart_trace(alloc, options, &mut reader, writer),
-        Trace::Look(look) => look_at_trace(alloc, *look, &mut reader, writer),
-    };
+    let exit = look_at(alloc, trace, &mut reader, writer);
     if exit == Exit::DeviceFailed {
         return device_failed(rt, alloc, file);
     }
     with_reason(alloc, exit, Grammar::Trace, reader.tail())
+}
+
+/// Does this with the trace of a reader.
+fn look_at<R: PortRead, W: PortWrite>(
+    alloc: Global,
+    trace: &Trace<'_>,
+    reader: &mut R,
+    writer: &mut W,
+) -> Exit {
+    match trace {
+        Trace::Check => check_trace(alloc, reader, writer),
+        Trace::Chart(options) => chart_trace(alloc, options, reader, writer),
+        Trace::Look(look) => look_at_trace(alloc, *look, reader, writer),
+    }
 }
 
 /// Tells the trace of a file, or of standard input, as it comes.
@@ -223,7 +287,7 @@ fn follow_file<L: Ledger, R: Files + Input, W: PortWrite>(
 fn device_failed<R: Files>(rt: &R, alloc: Global, file: &str) -> Ending {
     let exit = Exit::DeviceFailed;
     match fs::metadata(rt, file) {
-        Ok(found) if found.is_dir() => Ending {
+        Ok(found) if found.is_dir() => Ending::Alone {
             exit,
             reason: format!(in alloc; "{file}: is a folder").ok(),
         },
@@ -234,7 +298,7 @@ fn device_failed<R: Files>(rt: &R, alloc: Global, file: &str) -> Ending {
 /// A file that cannot be opened is a device that failed, and the reason names it. Without memory there is no reason.
 fn not_opened(alloc: Global, file: &str, error: &io::Error) -> Ending {
     let reason = format!(in alloc; "{file}: {error}");
-    Ending {
+    Ending::Alone {
         exit: Exit::DeviceFailed,
         reason: reason.ok(),
     }
@@ -250,7 +314,7 @@ fn with_reason(alloc: Global, exit: Exit, grammar: Grammar, tail: &Tail) -> Endi
         return Ending::from(exit);
     };
     match bad_line_reason(alloc, grammar, line) {
-        Ok(reason) => Ending { exit, reason },
+        Ok(reason) => Ending::Alone { exit, reason },
         Err(_) => Ending::from(exit),
     }
 }
@@ -291,14 +355,26 @@ fn kernel_limits(limits: &ScriptLimits) -> Limits
     }
 }
 
-/// Says on standard error why a run ended, where it did not end well, and answers its status.
+/// Says on standard error why the program ended, where it did not end well, and answers its status.
 fn ended<R: Eprint>(rt: &R, ending: &Ending) -> io::Result<ExitCode> {
-    match ending.exit {
-        Exit::Done | Exit::Illegal => {}
-        _ => rt.eprintln(&ending.exit)?,
-    }
-    if let Some(reason) = &ending.reason {
+    let (status, reason) = match ending {
+        Ending::Alone { exit, reason } => {
+            match exit {
+                Exit::Done | Exit::Illegal => {}
+                _ => rt.eprintln(exit)?,
+            }
+            (exit.status(), reason)
+        }
+        Ending::WithServer(talked) => {
+            match talked.ending {
+                ipc_live::Ending::Done => {}
+                _ => rt.eprintln(&talked.ending)?,
+            }
+            (talked.ending.status(), &talked.reason)
+        }
+    };
+    if let Some(reason) = reason {
         rt.eprintln(reason)?;
     }
-    Ok(ExitCode::from(ending.exit.status()))
+    Ok(ExitCode::from(status))
 }

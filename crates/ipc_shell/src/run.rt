@@ -1,6 +1,7 @@
-ghost use Rattle.std.specs.Prelude.{◌≡◌, ◌≢◌, ◌+◌, ◌<◌, Some, true};
+ghost use Rattle.std.specs.Prelude.{◌≡◌, ◌≢◌, ◌+◌, ◌<◌, Some, None, Ok, true, false, IfOk, IfSome};
+ghost use Rattle.std.specs.String.{string_bytes};
 ghost use Rattle.ipc_shell.specs.Failing.{HasFailed};
-ghost use Rattle.ipc_shell.specs.Running.{first_kernel, RunsScript, EndsLine};
+ghost use Rattle.ipc_shell.specs.Running.{compact_line, first_kernel, EndsLine, IsCompacted, IsNoCommand, RunsLine, RunsScript};
 
 mod answering;
 #[cfg(test)]
@@ -20,7 +21,7 @@ pub(crate) use answering::answer;
 pub(crate) use commands::read_command;
 use ipc_core::{Kernel, Limits};
 use ipc_ports::{PieceBuffer, PortRead, PortWrite};
-use std::alloc::Global;
+use std::alloc::{AllocError, Global};
 
 /// Runs a script from a reader: after each command the lines of the entries that it wrote and one
 /// answer line go to the writer, which is flushed. Empty lines are skipped, and count.
@@ -87,17 +88,51 @@ fn run_line<W: PortWrite>(
     ensures flushed { result ≢ Some Exit.DeviceFailed
         → W.flushed writer.old ≡ true → W.flushed writer.new ≡ true }
 {
-    let Ok(command) = read_command(alloc, line) else {
+    let Ok(reply) = reply(alloc, kernel, line) else {
         return Some(Exit::NoMemory);
     };
-    let Some(command) = command else {
+    let Some(text) = reply else {
         return Some(Exit::BadLine(number));
-    };
-    let Ok(text) = answer(alloc, kernel, command) else {
-        return Some(Exit::NoMemory);
     };
     match put(writer, text.as_bytes()) {
         Ok(()) => None,
         Err(_) => Some(Exit::DeviceFailed),
     }
+}
+
+/// Obeys a line, and gives what is printed for it. None where it spells no command and asks for no compaction.
+fn reply(alloc: Global, kernel: &mut Kernel, line: &[u8]) -> Result<Option<String>, AllocError>
+    ensures found { IfOk result (λ reply. IfSome reply (λ text. RunsLine kernel.old line.now (string_bytes text) kernel.new)) }
+    ensures none { result ≡ Ok None → IsNoCommand kernel.old line.now }
+{
+    if asks_to_compact(line) {
+        let text = compact(alloc, kernel)?;
+        return Ok(Some(text));
+    }
+    let Some(command) = read_command(alloc, line)? else {
+        return Ok(None);
+    };
+    let text = answer(alloc, kernel, command)?;
+    Ok(Some(text))
+}
+
+/// Whether a line asks for a compaction.
+fn asks_to_compact(line: &[u8]) -> bool
+    ensures yes { result ≡ true → line.now ≡ compact_line }
+    ensures no { result ≡ false → line.now ≢ compact_line }
+{
+    match line {
+        b"compact" => true,
+        _ => false,
+    }
+}
+
+/// Compacts a kernel whose entries were all traced, and says how many entries were dropped and how many are left.
+fn compact(alloc: Global, kernel: &mut Kernel) -> Result<String, AllocError>
+    ensures { IfOk result (λ text. IsCompacted kernel.old compact_line (string_bytes text) kernel.new) }
+{
+    let done = kernel.compact(usize::MAX);
+    let mut text = String::new(alloc);
+    write!(text, "= {} {}\n", done.dropped, done.left)?;
+    Ok(text)
 }

@@ -1,5 +1,5 @@
 ghost use Rattle.std.specs.Prelude.{◌≡◌, ◌-◌, ◌↔◌, ◌<◌, min, Some, None, IsNone, IfSome};
-ghost use Rattle.ipc_words.specs.Limits.{block_bytes};
+ghost use Rattle.ipc_words.specs.Limits.{block_bytes, table_slots};
 ghost use Rattle.ipc_history.specs.Blocks.{block_of};
 ghost use Rattle.ipc_history.specs.Calls.{calls_made};
 ghost use Rattle.ipc_history.specs.Threads.{now, is_taken, next_version};
@@ -9,7 +9,7 @@ ghost use Rattle.ipc_history.specs.Legal.{Legal, next_moving};
 ghost use Rattle.ipc_laws.specs.Counting.{live_threads};
 ghost use Rattle.ipc_slots.specs.ExchangeRegisters.{in_receive_phase, in_send_phase};
 ghost use Rattle.ipc_slots.specs.Outputs.{least_of, waiting_output};
-ghost use Rattle.ipc_slots.specs.Slots.{Stands};
+ghost use Rattle.ipc_slots.specs.Slots.{Stands, live_of};
 ghost use Rattle.ipc_slots.specs.Rules.{in_receive_by, in_send_by, first_number};
 
 use crate::rules::Rule;
@@ -178,6 +178,20 @@ impl Slots {
     {
         match self.call_of(entries, thread) {
             Some(call) => Some(call.number),
+            None => None,
+        }
+    }
+
+    /// The live thread of the number of a place.
+    #[tactic(auto, unfolding(crate::specs::Slots::slot_of, crate::specs::Slots::live_at))]
+    pub fn thread_at(&self, entries: &Entries, place: usize) -> Option<ThreadId>
+        requires within { place < table_slots }
+        requires stands { Stands entries.now self.now }
+        ensures { result ≡ live_of entries.now place }
+    {
+        let _ = entries;
+        match self.table.live_at(place) {
+            Some(live) => Some(live.thread),
             None => None,
         }
     }

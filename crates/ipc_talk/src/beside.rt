@@ -52,7 +52,8 @@ fn outcome_words(
     Ok(Some(text))
 }
 
-fn tell_error(text: &mut String, error: IpcError) -> Result<(), AllocError> {
+/// Which phase failed, and why.
+pub fn tell_error(text: &mut String, error: IpcError) -> Result<(), AllocError> {
     text.push_str(match error.phase() {
         Phase::Send => "the send phase failed: ",
         Phase::Receive => "the receive phase failed: ",

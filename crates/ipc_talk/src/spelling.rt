@@ -4,7 +4,7 @@ use ipc_words::{Period, ThreadId};
 use std::alloc::AllocError;
 
 /// An id as it is typed: as in a script, or a thread number alone for its first version.
-pub(crate) fn read_thread(word: &[u8]) -> Option<ThreadId> {
+pub fn read_thread(word: &[u8]) -> Option<ThreadId> {
     match read_decimal(word) {
         Some(number) => ThreadId::global(u32::try_from(number).ok()?, 1),
         None => read_id(word),
@@ -12,7 +12,7 @@ pub(crate) fn read_thread(word: &[u8]) -> Option<ThreadId> {
 }
 
 /// A decimal or HEX, in small or capital digits.
-pub(crate) fn read_number(word: &[u8]) -> Option<u64> {
+pub fn read_number(word: &[u8]) -> Option<u64> {
     match read_decimal(word) {
         Some(number) => Some(number),
         None => read_hex(word),
@@ -62,7 +62,7 @@ fn micros(count: &[u8], unit: TimeUnit) -> Option<u64> {
 }
 
 /// A period: `never`, a time, or the word of a period in HEX.
-pub(crate) fn read_period(word: &[u8]) -> Option<Period> {
+pub fn read_period(word: &[u8]) -> Option<Period> {
     if word == b"never".as_slice() {
         return Some(Period::NEVER);
     }
@@ -114,7 +114,7 @@ impl Stop {
 }
 
 /// The control of a word: phases, or a number.
-pub(crate) fn read_control(word: &[u8]) -> Option<u64> {
+pub fn read_control(word: &[u8]) -> Option<u64> {
     match Stop::read(word) {
         Some(stop) => Some(stop.control()),
         None => read_number(word),

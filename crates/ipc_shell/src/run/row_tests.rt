@@ -180,3 +180,17 @@ fn refusals_have_their_numbers(rt: HostRuntime) -> Result<(), Fail> {
     }
     Ok(())
 }
+
+#[test]
+fn a_compaction_changes_no_later_answer(rt: HostRuntime) -> Result<(), Fail> {
+    let alloc = rt.alloc();
+    for transcript in [
+        WHAT_IS_KEPT_OF_A_MESSAGE_UNTIL_BOTH_OUTCOMES_ARE_TAKEN,
+        A_COMPACTION_KEEPS_THE_VERSION_OF_A_NUMBER,
+        A_COMPACTION_KEEPS_THE_MOMENT_BEFORE_A_CALL,
+        A_COMPACTION_KEEPS_THE_STRINGS_OF_A_MESSAGE,
+    ] {
+        assert_transcript(&rt, alloc, MAX_ENTRIES, transcript)?;
+    }
+    assert_transcript(&rt, alloc, 10, A_COMPACTION_MAKES_ROOM)
+}

@@ -1,5 +1,5 @@
 use super::run_script;
-use crate::exit::Exit;
+use crate::exit::{ChartFault, Exit};
 use ipc_core::Limits;
 use ipc_ports::{MemoryPort, PortRead, Trouble};
 use ipc_words::limits::MAX_LINE_BYTES;
@@ -139,6 +139,11 @@ fn an_end_is_told_by_its_status_and_words(rt: HostRuntime) -> Result<(), Fail> {
         (Exit::DeviceFailed, 1, "l4sh: device failed"),
         (Exit::Illegal, 3, "l4sh: illegal"),
         (Exit::BadThreads, 2, "l4sh: bad list of threads"),
+        (
+            Exit::NoChart(ChartFault::Reversed),
+            2,
+            "l4sh: nothing to draw",
+        ),
         (Exit::BadWord, 2, "l4sh: this word says nothing"),
         (
             Exit::IllegalLine(7),

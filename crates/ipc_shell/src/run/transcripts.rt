@@ -1016,3 +1016,153 @@ broke 1.1
 > broke 1.1
 ! K6
 ";
+
+pub(crate) const WHAT_IS_KEPT_OF_A_MESSAGE_UNTIL_BOTH_OUTCOMES_ARE_TAKEN: &str = "\
+> open 1 1
+opened 1.1 1
+= 1.1
+> open 2 1
+opened 2.1 1
+= 2.1
+> call 1.1 nil any 0x0 0x0 nil - - -
+called 1 1.1 nil any 0x0 0x0 nil - - -
+= 1
+> call 2.1 1.1 nil 0x0 0x1 nil 0x7 - -
+called 2 2.1 1.1 nil 0x0 0x1 nil 0x7 - -
+began 2 1
+ended 2 1
+= 2
+> compact
+= 0 6
+> take 1.1
+= 1 0x1 2.1 nil 0x0 0x7 -
+> take 2.1
+= 2 0x0 nil nil 0x0 - -
+> compact
+= 4 2
+> compact
+= 0 2
+> call 1.1 nil any 0x0 0x0 nil - - -
+called 3 1.1 nil any 0x0 0x0 nil - - -
+= 3
+";
+
+pub(crate) const A_COMPACTION_KEEPS_THE_VERSION_OF_A_NUMBER: &str = "\
+> open 1 1
+opened 1.1 1
+= 1.1
+> open 2 1
+opened 2.1 1
+= 2.1
+> call 1.1 2.1 nil 0x0 0x1 nil 0x7 - -
+called 1 1.1 2.1 nil 0x0 0x1 nil 0x7 - -
+= 1
+> broke 2.1
+broke 2.1
+failed 1 0x4
+= ok
+> open 2 1
+opened 2.2 1
+= 2.2
+> call 2.2 nil any 0x0 0x0 nil - - -
+called 2 2.2 nil any 0x0 0x0 nil - - -
+= 2
+> take 2.2
+= none
+> compact
+= 2 5
+> take 1.1
+= 1 0x8000 nil nil 0x4 - -
+> compact
+= 2 3
+> broke 2.2
+broke 2.2
+= ok
+> compact
+= 3 1
+> open 2 1
+opened 2.3 1
+= 2.3
+";
+
+pub(crate) const A_COMPACTION_MAKES_ROOM: &str = "\
+> open 1 1
+opened 1.1 1
+= 1.1
+> call 1.1 nil nil 0x0 0x0 nil - - -
+called 1 1.1 nil nil 0x0 0x0 nil - - -
+= 1
+> take 1.1
+= 1 0x0 nil nil 0x0 - -
+> call 1.1 nil nil 0x0 0x0 nil - - -
+! K5
+> compact
+= 1 1
+> call 1.1 nil nil 0x0 0x0 nil - - -
+called 2 1.1 nil nil 0x0 0x0 nil - - -
+= 2
+";
+
+pub(crate) const A_COMPACTION_KEEPS_THE_MOMENT_BEFORE_A_CALL: &str = "\
+> open 1 1
+opened 1.1 1
+= 1.1
+> open 2 1
+opened 2.1 1
+= 2.1
+> at 5
+= ok
+> call 1.1 nil nil 0x0 0x0 nil - - -
+at 5
+called 1 1.1 nil nil 0x0 0x0 nil - - -
+= 1
+> take 1.1
+= 1 0x0 nil nil 0x0 - -
+> compact
+= 1 3
+> call 1.1 nil any 0xa 0x0 nil - - -
+called 2 1.1 nil any 0xa 0x0 nil - - -
+= 2
+> at 8
+= ok
+> call 2.1 nil nil 0x0 0x0 nil - - -
+at 8
+called 3 2.1 nil nil 0x0 0x0 nil - - -
+= 3
+> take 2.1
+= 3 0x0 nil nil 0x0 - -
+> compact
+= 1 5
+> at 14
+= ok
+> at 15
+at 15
+failed 2 0x3
+= ok
+";
+
+pub(crate) const A_COMPACTION_KEEPS_THE_STRINGS_OF_A_MESSAGE: &str = "\
+> open 1 1
+opened 1.1 1
+= 1.1
+> open 2 1
+opened 2.1 1
+= 2.1
+> call 1.1 nil any 0x0 0x0 nil - - 3@0x1000,2@0x2000+3@0x3000
+called 1 1.1 nil any 0x0 0x0 nil - - 3@0x1000,2@0x2000+3@0x3000
+= 1
+> call 2.1 1.1 nil 0x0 0x100 nil - x616263,x68656c6c6f -
+called 2 2.1 1.1 nil 0x0 0x100 nil - x616263,x68656c6c6f -
+began 2 1
+= 2
+> advance
+moved 2 8
+ended 2 1
+= moved
+> take 2.1
+= 2 0x0 nil nil 0x0 - -
+> compact
+= 0 7
+> take 1.1
+= 1 0x100 2.1 nil 0x0 0xc00,0x1000,0x1400,0x2000 0x1000:x616263,0x2000:x6865,0x3000:x6c6c6f
+";

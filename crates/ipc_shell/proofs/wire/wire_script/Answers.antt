@@ -1,4 +1,4 @@
-use Rattle.std.proofs.Common.{◌≡◌, ◌+◌, ◌<◌, true, length, Some, inl, inr, refl, sym, subst, ap, ◌∙◌, arith}
+use Rattle.std.proofs.Common.{◌≡◌, ◌+◌, ◌<◌, true, length, Some, inl, inr, refl, sym, subst, ap, ◌∙◌, arith, eqb-true, vec_len}
 use Rattle.std.proofs.lemmas.Grind.{common_steps}
 use Rattle.std.specs.Io.KnownBytes.{prepend_known}
 use Rattle.ipc_shell.specs.Reading.{ReadsLine}
@@ -54,7 +54,9 @@ lines-preserved g c =
     let so_far : WiredSoFar start bytes left before (g.W.PortWrite.written c.if-is_empty.writer) c.if-is_empty.exchange (c.lines.number + 1) =
     elim c.if-is_empty.branch [
       | then-is_empty w ↦
-          let empty : length line ≡ 0 = grind (arith, common_steps) in
+          let ok = c.next_line.new.line.ok in
+          let none = eqb-true (vec_len c.next_line.new.line) 0 (sym c.is_empty.ensures ∙ w.if-is_empty.true) in
+          let empty : length line ≡ 0 = omega (arith, ok, none) in
           subst (λ e. WiredSoFar start bytes left before (g.W.PortWrite.written c.if-is_empty.writer) e (c.lines.number + 1)) (sym w.exchange-is)
           (subst (λ writer. WiredSoFar start bytes left before (g.W.PortWrite.written writer) c.lines.exchange (c.lines.number + 1)) (sym w.writer-is)
           (empty_wired start line c.lines.number before now bytes rest left c.lines.exchange empty c.lines.invariant.so_far read))

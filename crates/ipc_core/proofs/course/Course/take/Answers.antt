@@ -1,6 +1,9 @@
-use Rattle.std.proofs.Common.{◌≡◌, ap, ap₂, sym, subst, ◌∙◌, length, arith}
+use Rattle.std.proofs.Common.{◌≡◌, ◌++◌, ◌∷◌, [], ap, ap₂, sym, subst, ◌∙◌, length, arith}
 use Rattle.ipc_history.specs.Legal.{Legal}
 use Rattle.ipc_desks.specs.CallsOf.{last_call, outcome_to_take}
+use Rattle.ipc_desks.specs.Desks.{Keeps}
+use Rattle.ipc_compact.specs.Places.{WasKept}
+use Rattle.ipc_core.proofs.CompactLemmas.{among_more, kept_taken}
 use Rattle.ipc_core.proofs.CourseLemmas.{took}
 use Rattle.ipc_core.proofs.course.Course.take.Goals as goal
 
@@ -24,3 +27,23 @@ returns-clause-fresh c =
     let last = ap (λ l. last_call l c.args.thread) (sym entries) ∙ c.in_ok-outcome.ensures.call in
     let done = took c.args.self.now.entries c.args.self.now.taken c.args.thread c.in_ok-outcome.outcome (subst Legal (ap (λ v. v.entries) c.self.view_is) c.self.invariant.course.legal) given last in
     done.1
+
+pub invariant_of-self-2 : goal.invariant_of-self-2
+invariant_of-self-2 c =
+    let was = c.self.invariant.course in
+    let call = c.in_ok-outcome.outcome.call in
+    let added : c.add.new.self ≡ c.self.inside.taken ++ call ∷ [] = c.add.ensures ∙ ap (λ o. c.self.inside.taken ++ o.call ∷ []) c.outcome.view_is in
+    record {
+      course = record {
+        legal = was.legal;
+        waiting_is = was.waiting_is;
+        desks_are = subst (λ t. Keeps c.self.inside.history.entries t c.take.new.self) (sym added) (subst (λ l. Keeps l (c.self.inside.taken ++ call ∷ []) c.take.new.self) c.whole.ensures (subst (λ t. Keeps c.whole.result (t ++ call ∷ []) c.take.new.self) c.past.ensures c.in_ok-outcome.ensures.some));
+        names = was.names;
+        once = was.once;
+        begun = was.begun;
+        wide = was.wide;
+      };
+      front = c.self.invariant.front;
+      knows = c.self.invariant.knows;
+      kept = subst (λ t. WasKept c.self.inside.history.entries t c.self.inside.history.held.front c.self.inside.history.held.whole_from) (sym added) (kept_taken c.self.inside.history.entries c.self.inside.taken (c.self.inside.taken ++ call ∷ []) c.self.inside.history.held.front c.self.inside.history.held.whole_from (among_more c.self.inside.taken call) c.self.invariant.kept);
+    }

@@ -1,7 +1,8 @@
-use Rattle.std.proofs.Common.{◌≡◌, ◌∙◌, ◌+◌, ◌-◌, ◌≤◌, ◌<◌, ◌++◌, ap, sym, subst, drop, take, filter, length, arith}
+use Rattle.std.proofs.Common.{◌≡◌, ◌∙◌, ◌+◌, ◌-◌, ◌≤◌, ◌<◌, ◌++◌, ap, ap₂, sym, subst, drop, take, length, arith}
 use Rattle.ipc_history.specs.Holding.{held_before, reached}
 use Rattle.ipc_history.specs.HistoryParts.{HeldParts, HistoryParts}
-use Rattle.ipc_history.proofs.HoldingLemmas.{held_fields, reached_least, reached_most, still_held, take_at}
+use Rattle.ipc_history.specs.Keeping.{kept_ahead}
+use Rattle.ipc_history.proofs.HoldingLemmas.{drop_at, held_fields, reached_least, reached_most, still_held, take_at}
 use Rattle.ipc_history.proofs.history.History.compact.Goals as goal
 
 pub invariant_of-self : goal.invariant_of-self
@@ -30,5 +31,7 @@ returns-clause-held g c =
     let least = reached_least view c.args.upto (omega (arith, size, within)) in
     let at : c.reached.result ≡ reached c.args.upto view = c.reached.ensures ∙ ap (reached c.args.upto) (sym c.self.view_is) in
     let less = c.keep_before-kept.ensures.few in
-    let front = c.keep_before-kept.ensures.kept ∙ ap (filter (g.K.Keeps.test c.args.keeps.now)) (take_at _ _ _ _ c.self.invariant c.reached.result (omega (arith, at, least)) ∙ ap (λ k. take c.self.inside.kept c.self.inside.entries.items ++ take (k - (c.self.inside.kept + c.self.inside.gone)) (drop (c.self.inside.kept + c.self.inside.gone) c.self.inside.past)) at) in
+    let before = take_at _ _ _ _ c.self.invariant c.reached.result (omega (arith, at, least)) ∙ ap (λ k. take c.self.inside.kept c.self.inside.entries.items ++ take (k - (c.self.inside.kept + c.self.inside.gone)) (drop (c.self.inside.kept + c.self.inside.gone) c.self.inside.past)) at in
+    let after = drop_at _ _ _ _ c.self.invariant c.reached.result (omega (arith, at, least)) ∙ ap (λ k. drop k c.self.inside.past) at in
+    let front = c.keep_before-kept.ensures.kept ∙ ap₂ (kept_ahead (g.K.Keeps.test c.args.keeps.now)) before after in
     rw (← c.self.view_is) (held_fields _ _ _ _ front (omega (arith, at, least, less)))

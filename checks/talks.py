@@ -1,0 +1,232 @@
+#!/usr/bin/env python3
+"""checks/talks.py L4D L4SH: threads of a live l4d from pipes, by `l4sh talk DIR`.
+
+Each talk is a process of its own, which is given one line after the other and says something to each. They meet with words and strings, call and reply,
+time out, are cancelled, and end by `quit`, by the end of their input, by a signal, and by a server that refuses, faults or is killed. At the end
+`l4sh check` judges the trace, and the calls that were typed stand in it as they were meant.
+
+Its last line is `N checked, M failed`; the status is 0 where M is 0.
+"""
+
+import os
+import shutil
+import signal
+import socket
+import subprocess
+import sys
+import tempfile
+import threading
+
+L4D, L4SH = sys.argv[1:3]
+WELCOME = bytes.fromhex("00000009810000000700000001")
+checked = failed = 0
+
+
+def same(what, seen, wanted):
+    """Counts a check, and tells one that fails."""
+    global checked, failed
+    checked += 1
+    if seen != wanted:
+        failed += 1
+        print(f"FAILED {what}: {seen!r} and not {wanted!r}", flush=True)
+
+
+class Server:
+    """l4d in a folder of its own, which has said that it listens."""
+
+    def __init__(self, spaces=1):
+        self.folder = tempfile.mkdtemp(prefix="talks-")
+        self.trace = f"{self.folder}/trace"
+        words = [L4D, "--dir", self.folder, "--spaces", str(spaces), "--trace", self.trace]
+        self.process = subprocess.Popen(words, stdin=subprocess.DEVNULL, stdout=subprocess.PIPE, text=True)
+        same("l4d listens", self.process.stdout.readline(), f"listening {spaces}\n")
+
+    def kill(self):
+        self.process.kill()
+        self.process.wait()
+
+    def __enter__(self):
+        return self
+
+    def __exit__(self, *_):
+        self.kill()
+        self.process.stdout.close()
+        shutil.rmtree(self.folder, ignore_errors=True)
+
+
+class Talk:
+    """A talk of a thread, from a pipe."""
+
+    def __init__(self, folder, *words, thread=None):
+        self.process = subprocess.Popen([L4SH, "talk", folder, *words], stdin=subprocess.PIPE, stdout=subprocess.PIPE, stderr=subprocess.PIPE, text=True)
+        if thread:
+            same(f"the welcome of {thread}", self.line(), f"= {thread}    this thread; help lists what it can do\n")
+
+    def type(self, line):
+        self.process.stdin.write(f"{line}\n")
+        self.process.stdin.flush()
+
+    def line(self):
+        return self.process.stdout.readline()
+
+    def says(self, typed, wanted):
+        """Types a line, and looks at what is said to it."""
+        self.type(typed)
+        same(typed, self.line(), f"{wanted}\n")
+
+    def hears(self, what, wanted):
+        same(what, self.line(), f"{wanted}\n")
+
+    def ends(self, what, status=0, told="", typed=None):
+        """How it ends, once its input has: nothing more is printed."""
+        out, err = self.process.communicate(typed, timeout=20)
+        same(what, (self.process.returncode, out, err), (status, "", told))
+
+
+def until_waits(other, thread):
+    """Until a thread is in a phase, as ExchangeRegisters without a bit tells."""
+    for _ in range(5000):
+        other.type(f"exreg {thread} nothing")
+        if "0x0 0x0" not in other.line():
+            return
+    same(f"{thread} waits", False, True)
+
+
+def meetings(server):
+    one, two = Talk(server.folder, thread="1.1"), Talk(server.folder, "--thread", "2", thread="2.1")
+    one.type("receive buffers=100  # of anybody")
+    two.says('send 1 7 label=5 "hello"', "= 0x0 nil nil 0x0 - -    it was sent")
+    one.hears("a word and a string", '= 0x50081 2.1 nil 0x0 0x7,0x1400,0x100000 0x100000:x68656c6c6f    from 2.1, label 5, 1 word, 7, "hello"')
+    one.type("wait")
+    two.type("call 1.1 40 2 timeout=10s")
+    one.hears("a request", "= 0x2 2.1 nil 0x0 0x28,0x2 -    from 2.1, label 0, 2 words")
+    one.type("reply_wait 2 42")
+    two.hears("a reply", "= 0x1 1.1 nil 0x0 0x2a -    from 1.1, label 0, 1 word, 42")
+    until_waits(two, "1")
+    two.says("exreg 1 receive", "= 1.1 0x2 0x0    1.1 was in a receive phase")
+    one.hears("a cancelled wait", "= 0x8000 nil nil 0x7 - -    the receive phase failed: another thread cancelled it")
+    two.says("receive 1 timeout=2ms", "= 0x8000 nil nil 0x3 - -    the receive phase failed: it took longer than its timeout")
+    two.says("send 9 1", "= 0x8000 nil nil 0x4 - -    the send phase failed: the partner does not exist, or ended")
+    two.says("exreg 9 both", "= nil 0x0 0x2    no such thread is live in this space")
+    two.says("open 3 1", "? wanted is send, receive, call, reply_wait, exreg, help or quit; not open")
+    two.says("send 1 timeout=soon", '? wanted is send ID timeout=TIME label=N words=N,N as=ID "text"; not timeout=soon')
+    one.type("receive")
+    two.says('send 1 "too long"', "= 0x8000 nil nil 0x8 - -    the send phase failed: the message did not fit; a receiver takes strings into buffers alone")
+    one.hears("an overflow", "= 0x8000 nil nil 0x9 - -    the receive phase failed: the message did not fit; a receiver takes strings into buffers alone")
+    one.type("quit")
+    one.ends("quit")
+    two.ends("the end of the input without a newline", typed="# nothing more")
+
+
+def propagation(server):
+    client, gateway, worker = [Talk(server.folder, "--thread", str(number), thread=f"{number}.1") for number in (11, 12, 13)]
+    worker.type("receive")
+    gateway.type("receive")
+    client.type("call 12 5")
+    gateway.hears("the request", "= 0x1 11.1 nil 0x0 0x5 -    from 11.1, label 0, 1 word, 5")
+    until_waits(gateway, "13")
+    gateway.says("send 13 5 as=11", "= 0x0 nil nil 0x0 - -    it was sent")
+    worker.hears("the request", "= 0x1001 11.1 12.1 0x0 0x5 -    from 11.1, sent by 12.1, label 0, 1 word, 5")
+    worker.says("send 11 6", "= 0x0 nil nil 0x0 - -    it was sent")
+    client.hears("the reply", "= 0x1 13.1 nil 0x0 0x6 -    from 13.1, label 0, 1 word, 6")
+    for talk in (client, gateway, worker):
+        talk.ends("the end of the input")
+
+
+def refusals(server):
+    one = Talk(server.folder, "--thread", "21", thread="21.1")
+    Talk(server.folder, "--thread", "21").ends("a number that is taken", 4, "l4sh: the server refused the thread: K2\n"
+                                               "a thread of that number is live; --thread N takes another number\n")
+    path = f"{server.folder}/space7"
+    Talk(server.folder, "--space", "7").ends("a space that is not there", 4, f"l4sh: no server\n{path}: No such file or directory (os error 2)\n")
+    one.type("receive")
+    one.process.send_signal(signal.SIGINT)
+    one.ends("a signal", -signal.SIGINT)
+    for _ in range(200):
+        again = Talk(server.folder, "--thread", "21")
+        if again.line() == "= 21.2    this thread; help lists what it can do\n":
+            break
+        again.process.communicate()
+    else:
+        same("the next version", None, "= 21.2")
+    again.ends("the next version")
+    with open("/dev/full", "w") as full:
+        ran = subprocess.run([L4SH, "talk", server.folder, "--thread", "22"], input="", stdout=full, stderr=subprocess.PIPE, text=True)
+    same("a full device", (ran.returncode, ran.stderr), (1, "l4sh: device failed\n"))
+
+
+def judged(server):
+    ran = subprocess.run([L4SH, "check", server.trace], capture_output=True, text=True)
+    same("the trace", (ran.returncode, ran.stdout), (0, "yes\n"))
+    with open(server.trace) as file:
+        calls = [line.split(" ", 2)[2].rstrip("\n") for line in file if line.startswith("called ")]
+    for call in ("1.1 nil any 0x0 0x0 nil - - 100@0x100000", "2.1 1.1 nil 0x0 0x50081 nil 0x7 x68656c6c6f -",
+                 f"2.1 1.1 1.1 {timeouts('10s')} 0x2 nil 0x28,0x2 - -", "1.1 2.1 any 0x4000000 0x1 nil 0x2a - -",
+                 "12.1 13.1 nil 0x0 0x1001 11.1 0x5 - -"):
+        same(f"{call} stands in the trace", call in calls, True)
+
+
+def timeouts(time):
+    """Both periods of a call as `l4sh period` makes them."""
+    period = subprocess.run([L4SH, "period", time], capture_output=True, text=True).stdout.split()[0]
+    return hex(int(period, 16) * 0x10001)
+
+
+def lost_servers():
+    with Server() as server:
+        idle, waiting = Talk(server.folder, thread="1.1"), Talk(server.folder, "--thread", "2", thread="2.1")
+        waiting.type("receive")
+        until_waits(idle, "2")
+        server.kill()
+        waiting.ends("a server that is killed while a call waits", 4, "l4sh: the server is gone\n")
+        idle.ends("a server that was killed before", 4, "l4sh: the server is gone\n", typed="receive\n")
+
+
+def answers_with(answer, typed, told):
+    """A talk with a server that welcomes it, and then sends this."""
+    folder = tempfile.mkdtemp(prefix="talks-")
+    try:
+        with socket.socket(socket.AF_UNIX) as listener:
+            listener.bind(f"{folder}/space1")
+            listener.listen()
+
+            def serve():
+                line, _ = listener.accept()
+                with line:
+                    line.recv(100)
+                    line.sendall(WELCOME)
+                    line.recv(100)
+                    line.sendall(answer)
+
+            server = threading.Thread(target=serve, daemon=True)
+            server.start()
+            Talk(folder, thread="7.1").ends(told, 4, told, typed=typed)
+            server.join(20)
+    finally:
+        shutil.rmtree(folder)
+
+
+def main():
+    # who runs this in the background may have SIGINT ignored, which the talks would inherit
+    signal.signal(signal.SIGINT, signal.default_int_handler)
+    with Server(2) as server:
+        meetings(server)
+        propagation(server)
+        refusals(server)
+        judged(server)
+    lost_servers()
+    answers_with(bytes.fromhex("00000003854b07"), "receive\nreceive\n", "l4sh: the server ended the thread: K7\n"
+                 "the thread has an open call, or an outcome that it has not yet taken\n")
+    answers_with(WELCOME, "receive\nreceive\n", "l4sh: the server sent what is no answer\n")
+    answers_with(b"\0\0", "receive\n", "l4sh: the server is gone\n")
+    ran = subprocess.run([L4SH, "talk", "/nowhere"], input="", capture_output=True, text=True)
+    same("no folder", (ran.returncode, ran.stdout, ran.stderr),
+         (4, "", "l4sh: no server\n/nowhere/space1: No such file or directory (os error 2)\n"))
+    ran = subprocess.run([L4SH, "talk", "--thread", "2"], input="", capture_output=True, text=True)
+    same("a thread without a server", (ran.returncode, ran.stdout, "--thread and --space want DIR" in ran.stderr), (2, "", True))
+    print(f"{checked} checked, {failed} failed")
+    return 1 if failed else 0
+
+
+if __name__ == "__main__":
+    sys.exit(main())

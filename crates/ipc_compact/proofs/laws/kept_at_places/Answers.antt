@@ -1,0 +1,8 @@
+use Rattle.ipc_compact.proofs.PlaceLemmas as places
+use Rattle.ipc_compact.proofs.laws.kept_at_places.Goals as goal
+
+pub returns-clause-end : goal.returns-clause-end
+returns-clause-end c = places.to_the_end
+
+pub returns-clause-again : goal.returns-clause-again
+returns-clause-again c = places.at_places

@@ -1,0 +1,26 @@
+//! Draws what a sequence chart shows: as text for a terminal, as an SVG picture, and as an HTML page.
+#![tactic(auto)]
+
+mod amounts;
+mod arrows;
+mod details;
+mod html;
+mod ink;
+mod lanes;
+mod layout;
+mod legend;
+mod lines;
+mod marks;
+mod messages;
+mod sheet;
+mod strands;
+mod style;
+mod svg;
+#[cfg(test)]
+mod tests;
+mod text;
+mod words;
+
+pub use html::draw_html;
+pub use svg::draw_svg;
+pub use text::draw_text;

@@ -1,0 +1,57 @@
+use crate::arrows::draw_arrow;
+use crate::ink::Ink;
+use ipc_chart::Mark;
+use std::alloc::AllocError;
+
+/// Draws a mark at one lane.
+pub(crate) fn draw_mark(ink: &mut Ink, mark: Mark, x: u64, y: u64) -> Result<(), AllocError> {
+    match mark {
+        Mark::Opened => ink.circle("ring", x, y, 4),
+        Mark::Called => ink.circle("full", x, y, 3),
+        Mark::Moved => ink.line("whole", (x.saturating_sub(5), y), (x.saturating_add(5), y)),
+        Mark::TimedOut => draw_clock(ink, x, y),
+        Mark::Turned => draw_turn(ink, x, y),
+        Mark::Cancelled | Mark::Stopped | Mark::Missed => draw_square(ink, x, y),
+        Mark::Broke => ink.cross("end", x, y),
+        _ => ink.cross("bad", x, y),
+    }
+}
+
+/// Draws a mark as it stands in a legend, from a left end on.
+pub(crate) fn draw_sample(ink: &mut Ink, mark: Mark, x: u64, y: u64) -> Result<(), AllocError> {
+    match mark {
+        Mark::Ended
+        | Mark::Began
+        | Mark::Overflowed
+        | Mark::Aborted
+        | Mark::Stopped
+        | Mark::Missed => draw_arrow(ink, mark, x, x.saturating_add(28), y),
+        _ => draw_mark(ink, mark, x.saturating_add(15), y),
+    }
+}
+
+// A face of a clock.
+fn draw_clock(ink: &mut Ink, x: u64, y: u64) -> Result<(), AllocError> {
+    ink.circle("late", x, y, 6)?;
+    let (high, right) = (y.saturating_sub(4), x.saturating_add(3));
+    write!(
+        ink.text,
+        "<path class=\"late\" d=\"M{x} {high}L{x} {y}L{right} {y}\"/>\n",
+    )
+}
+
+// Three quarters of a circle, with a head.
+fn draw_turn(ink: &mut Ink, x: u64, y: u64) -> Result<(), AllocError> {
+    let left = x.saturating_sub(6);
+    let top = y.saturating_sub(6);
+    write!(
+        ink.text,
+        "<path class=\"turn\" d=\"M{left} {y}A6 6 0 1 0 {x} {top}m5 -4l-5 4l5 4\"/>\n",
+    )
+}
+
+// A square with a cross.
+fn draw_square(ink: &mut Ink, x: u64, y: u64) -> Result<(), AllocError> {
+    ink.rect("cancel", (x.saturating_sub(6), y.saturating_sub(6)), 12, 12)?;
+    ink.cross("cancel", x, y)
+}

@@ -1,0 +1,72 @@
+//! The socket of a connection, as the port of its pen.
+ghost use Rattle.std.specs.Prelude.{◌≡◌, None, length};
+ghost use Rattle.libc.specs.Io.{Moved};
+
+use ipc_pen::{Patience, PenPort};
+use ipc_ports::PortFault;
+use libc::net as c;
+use std::os::fd::AsRawFd;
+use std::os::unix::net::UnixStream;
+use std::sync::Arc;
+
+/// The port to a client. It keeps the socket open, beside the connection's reader.
+#[derive(Drop)]
+pub struct SocketPort {
+    stream: Arc<UnixStream>,
+    failures: u64,
+}
+
+impl SocketPort {
+    /// The port of a socket of which no write has failed.
+    pub fn new(stream: Arc<UnixStream>) -> SocketPort {
+        SocketPort {
+            stream,
+            failures: 0,
+        }
+    }
+}
+
+/// How many of these bytes the system takes; -1 where it takes none. A client that is gone is told by the answer, and not by a signal.
+fn send(stream: &UnixStream, buf: &[u8], patience: Patience) -> isize
+    ensures { Moved (length buf.now) result }
+{
+    match patience {
+        Patience::AtOnce => send_at_once(stream, buf),
+        Patience::Waits => send_in_time(stream, buf),
+    }
+}
+
+fn send_at_once(stream: &UnixStream, buf: &[u8]) -> isize
+    ensures { Moved (length buf.now) result }
+{
+    unsafe { c::send(stream.as_raw_fd(), buf, c::MSG_DONTWAIT | c::MSG_NOSIGNAL) }
+}
+
+fn send_in_time(stream: &UnixStream, buf: &[u8]) -> isize
+    ensures { Moved (length buf.now) result }
+{
+    unsafe { c::send(stream.as_raw_fd(), buf, c::MSG_NOSIGNAL) }
+}
+
+impl PenPort for SocketPort {
+    ghost written = { λ _. None };
+
+    ghost failures = { λ port. port.failures };
+
+    fn send(&mut self, buf: &[u8], patience: Patience) -> Result<usize, PortFault> {
+        // after 2^64 - 1 failures, which no run has, it takes nothing
+        if self.failures == u64::MAX {
+            return Ok(0);
+        }
+        let sent = send(&self.stream, buf, patience);
+        if sent >= 0 {
+            return Ok(sent as usize);
+        }
+        let errno = os::errno();
+        if errno == libc::EAGAIN || errno == libc::EINTR {
+            return Ok(0);
+        }
+        self.failures += 1;
+        Err(PortFault::DeviceFailed)
+    }
+}

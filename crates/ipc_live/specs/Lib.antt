@@ -1,0 +1,4 @@
+pub mod Endings
+pub mod Requests
+pub mod Talks
+pub mod Verbs

@@ -1,0 +1,264 @@
+//! The fields of a command: what is sent, how long each phase may take, and where strings go.
+use ipc_client::{BufferFault, Buffers, Message, MessageFault, Timeout};
+use ipc_items::{StringList, Substring};
+use ipc_talk::{read_number, read_period, read_thread};
+use ipc_words::ThreadId;
+use std::alloc::{AllocError, Global};
+
+/// Where the first buffer begins, and how far apart they are.
+const BUFFER_STEP: u64 = 0x10_0000;
+
+/// A command that makes a call.
+#[derive(Clone, Copy, PartialEq, Eq, Debug)]
+pub(crate) enum Verb {
+    Send,
+    Receive,
+    Call,
+    ReplyWait,
+}
+
+impl Verb {
+    ghost use Rattle.std.specs.Prelude.{◌≡◌, IfSome, Some};
+    ghost use Rattle.ipc_live.specs.Verbs.{verb_name};
+    ghost use Rattle.ipc_live.specs.declared.fields.Verb.{Verb};
+
+    /// The command of a name.
+    pub(crate) fn read(word: &[u8]) -> Option<Verb>
+        ensures found { IfSome result (λ verb. word.now ≡ verb_name verb) }
+        ensures only { (verb : Verb) → word.now ≡ verb_name verb → result ≡ Some verb }
+    {
+        match word {
+            b"send" => Some(Verb::Send),
+            b"receive" => Some(Verb::Receive),
+            b"call" => Some(Verb::Call),
+            b"reply_wait" => Some(Verb::ReplyWait),
+            _ => None,
+        }
+    }
+
+    /// Its fields, in words.
+    pub(crate) fn usage(self) -> &'static str {
+        match self {
+            Verb::Send => "send ID timeout=TIME label=N words=N,N as=ID \"text\"",
+            Verb::Receive => "receive ID timeout=TIME buffers=N,N",
+            Verb::Call => {
+                "call ID timeout=TIME send=TIME receive=TIME label=N words=N,N as=ID buffers=N,N \"text\""
+            }
+            Verb::ReplyWait => {
+                "reply_wait ID timeout=TIME label=N words=N,N as=ID buffers=N,N \"text\""
+            }
+        }
+    }
+
+    fn sends(self) -> bool {
+        self != Verb::Receive
+    }
+
+    fn receives(self) -> bool {
+        self != Verb::Send
+    }
+}
+
+/// A word of a command, by what stands before its `=`.
+#[derive(Clone, Copy, PartialEq, Eq, Debug)]
+enum Field<'a> {
+    /// How long each phase may take that waits.
+    Timeout(&'a [u8]),
+    /// How long the send phase may take.
+    Send(&'a [u8]),
+    /// How long the receive phase may take.
+    Receive(&'a [u8]),
+    Label(&'a [u8]),
+    /// Untyped words, with commas between them.
+    Words(&'a [u8]),
+    /// In the name of which thread.
+    As(&'a [u8]),
+    /// Sizes of buffers, with commas between them.
+    Buffers(&'a [u8]),
+    /// The bytes of a string.
+    Text(&'a [u8]),
+}
+
+// The field of a word. A word without a name is an untyped word of the message.
+fn field_of(word: &[u8]) -> Option<Field<'_>> {
+    if let [b'"', text @ ..] = word {
+        return Some(Field::Text(text));
+    }
+    let Some(end) = word.iter().position(|byte| *byte == b'=') else {
+        return Some(Field::Words(word));
+    };
+    let (name, behind) = word.split_at(end);
+    let value = behind.strip_prefix(b"=")?;
+    match name {
+        b"timeout" => Some(Field::Timeout(value)),
+        b"send" => Some(Field::Send(value)),
+        b"receive" => Some(Field::Receive(value)),
+        b"label" => Some(Field::Label(value)),
+        b"words" => Some(Field::Words(value)),
+        b"as" => Some(Field::As(value)),
+        b"buffers" => Some(Field::Buffers(value)),
+        _ => None,
+    }
+}
+
+/// Why a word is no field of its command.
+#[derive(Clone, Copy, PartialEq, Eq, Debug)]
+pub(crate) enum FieldFault {
+    /// It is none, or says what the command has no use for.
+    Wrong,
+    /// The strings are too many, or have too many bytes together.
+    LongStrings,
+}
+
+/// What the words of a command say. What is left out is label 0, no words, no strings, no buffers and no
+/// end of a wait.
+#[derive(Drop)]
+pub(crate) struct Fields {
+    verb: Verb,
+    label: u64,
+    originator: Option<ThreadId>,
+    words: Vec<u64>,
+    strings: StringList,
+    buffers: Vec<Substring>,
+    send: Timeout,
+    receive: Timeout,
+}
+
+impl Fields {
+    ghost use Rattle.std.specs.Prelude.{◌≡◌};
+
+    /// Of a command without a field.
+    pub(crate) fn new(alloc: Global, verb: Verb) -> Fields {
+        Fields {
+            verb,
+            label: 0,
+            originator: None,
+            words: Vec::new(alloc),
+            strings: StringList::new(alloc),
+            buffers: Vec::new(alloc),
+            send: Timeout::never(),
+            receive: Timeout::never(),
+        }
+    }
+
+    /// How long the send phase may take.
+    pub(crate) fn send(&self) -> Timeout
+        ensures { result ≡ self.now.send }
+    {
+        self.send
+    }
+
+    /// How long the receive phase may take.
+    pub(crate) fn receive(&self) -> Timeout
+        ensures { result ≡ self.now.receive }
+    {
+        self.receive
+    }
+
+    /// Takes one word more.
+    pub(crate) fn add(&mut self, word: &[u8]) -> Result<Result<(), FieldFault>, AllocError> {
+        let Some(field) = field_of(word) else {
+            return Ok(Err(FieldFault::Wrong));
+        };
+        let is_taken = match field {
+            Field::Timeout(time) => self.add_timeout(time),
+            Field::Send(time) => self.verb == Verb::Call && self.add_send(time),
+            Field::Receive(time) => self.verb.receives() && self.add_receive(time),
+            Field::Label(number) => self.verb.sends() && self.add_label(number),
+            Field::Words(list) => self.verb.sends() && self.add_words(list)?,
+            Field::As(id) => self.verb.sends() && self.add_originator(id),
+            Field::Buffers(list) => self.verb.receives() && self.add_buffers(list)?,
+            Field::Text(text) => {
+                if self.verb.sends() && !self.strings.push(text)? {
+                    return Ok(Err(FieldFault::LongStrings));
+                }
+                self.verb.sends()
+            }
+        };
+        Ok(if is_taken {
+            Ok(())
+        } else {
+            Err(FieldFault::Wrong)
+        })
+    }
+
+    fn add_timeout(&mut self, time: &[u8]) -> bool {
+        self.add_send(time) && self.add_receive(time)
+    }
+
+    fn add_send(&mut self, time: &[u8]) -> bool {
+        match read_period(time) {
+            Some(period) => {
+                self.send = Timeout::of(period);
+                true
+            }
+            None => false,
+        }
+    }
+
+    fn add_receive(&mut self, time: &[u8]) -> bool {
+        match read_period(time) {
+            Some(period) => {
+                self.receive = Timeout::of(period);
+                true
+            }
+            None => false,
+        }
+    }
+
+    fn add_label(&mut self, number: &[u8]) -> bool {
+        match read_number(number) {
+            Some(label) => {
+                self.label = label;
+                true
+            }
+            None => false,
+        }
+    }
+
+    fn add_originator(&mut self, id: &[u8]) -> bool {
+        self.originator = read_thread(id);
+        self.originator.is_some()
+    }
+
+    fn add_words(&mut self, list: &[u8]) -> Result<bool, AllocError> {
+        for word in list.split(|byte| *byte == b',') {
+            let Some(word) = read_number(word) else {
+                return Ok(false);
+            };
+            self.words.push(word)?;
+        }
+        Ok(true)
+    }
+
+    // Each size is a buffer of its own, at an address of its own.
+    fn add_buffers(&mut self, list: &[u8]) -> Result<bool, AllocError> {
+        for size in list.split(|byte| *byte == b',') {
+            let Some(length) = read_number(size) else {
+                return Ok(false);
+            };
+            let place = self.buffers.len() as u64;
+            let pointer = BUFFER_STEP.saturating_mul(place.saturating_add(1));
+            self.buffers.push(Substring { length, pointer })?;
+        }
+        Ok(true)
+    }
+
+    /// The message that is sent.
+    pub(crate) fn message(&self, alloc: Global) -> Result<Message, MessageFault> {
+        let mut message = Message::of(alloc, self.label, &self.words, &self.strings)?;
+        if let Some(originator) = self.originator {
+            message.tag = message.tag.with_propagated(true);
+            message.sender = originator;
+        }
+        Ok(message)
+    }
+
+    /// Where the strings go that are received.
+    pub(crate) fn buffers(&self, alloc: Global) -> Result<Buffers, BufferFault> {
+        if self.buffers.is_empty() {
+            return Ok(Buffers::none(alloc));
+        }
+        Buffers::of(alloc, &self.buffers)
+    }
+}

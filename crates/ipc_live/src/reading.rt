@@ -1,0 +1,210 @@
+//! What a typed line asks for.
+ghost use Rattle.std.specs.Prelude.{◌≡◌};
+ghost use Rattle.ipc_live.specs.Verbs.{verb_request};
+
+use crate::fields::{FieldFault, Fields, Verb};
+use crate::request::Request;
+use ipc_client::{BufferFault, Buffers, Message, MessageFault};
+use ipc_talk::{read_control, read_thread, words_of};
+use ipc_words::limits::{MAX_LINE_BYTES, MAX_STRING_BYTES};
+use ipc_words::{Control, ThreadId};
+use std::alloc::{AllocError, Global};
+
+/// What can be typed.
+pub(crate) const HELP: &str =
+    "receive ID                  waits for a message: any, local, 1.1, or 1 for 1.1; without ID of anybody
+send ID ..                  sends a message, once its receiver is there
+call ID ..                  sends one, and then waits for the answer of that thread
+reply_wait ID ..            answers a thread that waits, and then waits for a message of anybody
+     7 0x8 \"a text\"         words and strings of the message; also words=7,0x8
+     label=3                its label
+     as=ID                  in the name of another thread of the space
+     timeout=2s             how long it may wait, as 20us, 2ms, 1min or never; without it never
+     send=2ms receive=1s    of a call the same for one phase
+     buffers=100,20         room for the strings that are received; without it none are taken
+exreg ID send|receive|both  stops phases of another thread of the space
+help, quit                  and # begins a comment
+What waits is waited for here: Ctrl-C ends the program, and the server then ends its thread.
+";
+
+/// What a line stands for.
+#[derive(Drop)]
+pub(crate) enum Heard {
+    /// Something that the server is asked to do.
+    Request(Request),
+    /// No word, or a comment alone.
+    Nothing,
+    /// A request for help.
+    Help,
+    /// A request to end.
+    Quit,
+    /// A mistake, and why it is one.
+    Mistake(String),
+}
+
+/// What a line that was typed, without its newline, stands for.
+pub(crate) fn hear(alloc: Global, line: &[u8]) -> Result<Heard, AllocError> {
+    if line.len() > MAX_LINE_BYTES {
+        let text = format!(in alloc; "a line of more than {MAX_LINE_BYTES} bytes")?;
+        return Ok(Heard::Mistake(text));
+    }
+    let Some(words) = words_of(alloc, line)? else {
+        return mistake(alloc, "a quotation mark is missing");
+    };
+    let Some(name) = words.first() else {
+        return Ok(Heard::Nothing);
+    };
+    match name.as_slice() {
+        b"help" | b"?" => Ok(Heard::Help),
+        b"quit" | b"exit" => Ok(Heard::Quit),
+        b"exreg" => hear_exreg(alloc, &words),
+        b"wait" => hear_receive(alloc, &words),
+        other => match Verb::read(other) {
+            Some(Verb::Receive) => hear_receive(alloc, &words),
+            Some(verb) => hear_call(alloc, verb, &words),
+            None => mistake_at(
+                alloc,
+                "wanted is send, receive, call, reply_wait, exreg, help or quit; not ",
+                name,
+            ),
+        },
+    }
+}
+
+fn mistake(alloc: Global, reason: &str) -> Result<Heard, AllocError> {
+    Ok(Heard::Mistake(String::from_str(alloc, reason)?))
+}
+
+// A mistake with the word that it is.
+fn mistake_at(alloc: Global, reason: &str, word: &[u8]) -> Result<Heard, AllocError> {
+    let mut text = String::from_str(alloc, reason)?;
+    for byte in word {
+        text.push(char::from(*byte))?;
+    }
+    Ok(Heard::Mistake(text))
+}
+
+// A command whose first word is a thread.
+fn hear_call(alloc: Global, verb: Verb, words: &[Vec<u8>]) -> Result<Heard, AllocError> {
+    let [_, thread, fields @ ..] = words else {
+        return mistake_at(alloc, "wanted is ", verb.usage().as_bytes());
+    };
+    match read_thread(thread) {
+        Some(thread) if thread != ThreadId::NILTHREAD => hear_fields(alloc, verb, thread, fields),
+        _ => mistake_at(
+            alloc,
+            "wanted is a thread, as 1.1, or 1 for 1.1; not ",
+            thread,
+        ),
+    }
+}
+
+// A receive. Without a thread it is from anythread.
+fn hear_receive(alloc: Global, words: &[Vec<u8>]) -> Result<Heard, AllocError> {
+    match words {
+        [_, thread, ..] if !thread.contains(&b'=') => hear_call(alloc, Verb::Receive, words),
+        [_, fields @ ..] => hear_fields(alloc, Verb::Receive, ThreadId::ANYTHREAD, fields),
+        [] => mistake_at(alloc, "wanted is ", Verb::Receive.usage().as_bytes()),
+    }
+}
+
+fn hear_fields(
+    alloc: Global,
+    verb: Verb,
+    thread: ThreadId,
+    words: &[Vec<u8>],
+) -> Result<Heard, AllocError> {
+    let mut fields = Fields::new(alloc, verb);
+    for word in words {
+        match fields.add(word)? {
+            Ok(()) => {}
+            Err(FieldFault::Wrong) => return wrong_field(alloc, verb, word),
+            Err(FieldFault::LongStrings) => {
+                let text = format!(in alloc;
+                    "a message has 31 strings at most, of {MAX_STRING_BYTES} bytes together"
+                )?;
+                return Ok(Heard::Mistake(text));
+            }
+        }
+    }
+    match fields.buffers(alloc) {
+        Ok(buffers) => with_message(alloc, verb, thread, &fields, buffers),
+        Err(BufferFault::NoMemory) => Err(AllocError),
+        Err(BufferFault::TooManyWords) => mistake(alloc, "there are 16 buffers at most"),
+        Err(BufferFault::TooLong) => mistake(alloc, "a buffer has less than 2^54 bytes"),
+    }
+}
+
+fn wrong_field(alloc: Global, verb: Verb, word: &[u8]) -> Result<Heard, AllocError> {
+    let text = format!(in alloc; "wanted is {}; not ", verb.usage())?;
+    mistake_at(alloc, &text, word)
+}
+
+// The message, where one is sent, and then the request.
+fn with_message(
+    alloc: Global,
+    verb: Verb,
+    thread: ThreadId,
+    fields: &Fields,
+    buffers: Buffers,
+) -> Result<Heard, AllocError> {
+    match fields.message(alloc) {
+        Ok(message) => Ok(Heard::Request(request_of(verb, thread, fields, message, buffers))),
+        Err(MessageFault::NoMemory) => Err(AllocError),
+        Err(MessageFault::WideLabel) => mistake(alloc, "a label has 48 bits at most"),
+        Err(MessageFault::TooManyWords) => mistake(
+            alloc,
+            "a message has 63 words at most, with two for each string",
+        ),
+    }
+}
+
+fn request_of(
+    verb: Verb,
+    thread: ThreadId,
+    fields: &Fields,
+    message: Message,
+    buffers: Buffers,
+) -> Request
+    ensures { result ≡ verb_request verb thread message fields.now.send fields.now.receive buffers }
+{
+    let (send, receive) = (fields.send(), fields.receive());
+    match verb {
+        Verb::Send => Request::Send {
+            to: thread,
+            message,
+            send,
+        },
+        Verb::Receive => Request::Receive {
+            from: thread,
+            receive,
+            buffers,
+        },
+        Verb::Call => Request::Call {
+            to: thread,
+            message,
+            send,
+            receive,
+            buffers,
+        },
+        Verb::ReplyWait => Request::ReplyWait {
+            to: thread,
+            message,
+            receive,
+            buffers,
+        },
+    }
+}
+
+fn hear_exreg(alloc: Global, words: &[Vec<u8>]) -> Result<Heard, AllocError> {
+    let [_, thread, control] = words else {
+        return mistake(alloc, "wanted is exreg ID send, receive, both or nothing");
+    };
+    match (read_thread(thread), read_control(control)) {
+        (Some(dest), Some(control)) => Ok(Heard::Request(Request::ExchangeRegisters {
+            dest,
+            control: Control::from_word(control),
+        })),
+        _ => mistake(alloc, "wanted is exreg ID send, receive, both or nothing"),
+    }
+}

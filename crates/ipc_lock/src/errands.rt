@@ -1,0 +1,60 @@
+//! The pens that a step took out.
+use ipc_pen::{Patience, Pen, PenPort};
+
+/// The pens with which a thread writes what its step told, its own connection's first. At most three: the writers of the others are
+/// woken.
+#[derive(Drop)]
+pub(crate) struct Errands<P: PenPort + Drop> {
+    pub(crate) first: Option<Pen<P>>,
+    pub(crate) second: Option<Pen<P>>,
+    pub(crate) third: Option<Pen<P>>,
+}
+
+impl<P: PenPort + Drop> Errands<P> {
+    pub(crate) fn none() -> Errands<P> {
+        Errands {
+            first: None,
+            second: None,
+            third: None,
+        }
+    }
+
+    /// Whether there is no pen.
+    pub(crate) fn is_empty(&self) -> bool {
+        self.first.is_none() && self.second.is_none() && self.third.is_none()
+    }
+
+    /// Whether no more pens have room.
+    pub(crate) fn is_full(&self) -> bool {
+        self.third.is_some()
+    }
+
+    /// Adds a pen behind the others. Where there is no room it is handed back.
+    pub(crate) fn add(&mut self, pen: Pen<P>) -> Option<Pen<P>> {
+        let slot = if self.first.is_none() {
+            &mut self.first
+        } else if self.second.is_none() {
+            &mut self.second
+        } else if self.third.is_none() {
+            &mut self.third
+        } else {
+            return Some(pen);
+        };
+        *slot = Some(pen);
+        None
+    }
+
+    /// Writes with each, in order, as far as its device has room now.
+    pub(crate) fn write(&mut self) {
+        write_with(&mut self.first);
+        write_with(&mut self.second);
+        write_with(&mut self.third);
+    }
+}
+
+fn write_with<P: PenPort>(pen: &mut Option<Pen<P>>) {
+    if let Some(pen) = pen {
+        // how far it came is seen where the pen is laid down
+        let _ = pen.write(Patience::AtOnce);
+    }
+}

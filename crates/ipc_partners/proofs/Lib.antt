@@ -1,0 +1,5 @@
+pub mod PartnerLemmas
+pub mod MeetingLemmas
+pub mod KeptLemmas
+pub mod PassingLemmas
+pub mod KeptLaw

@@ -1,0 +1,7 @@
+use Rattle.std.proofs.Common.{◌∙◌, refl}
+use Rattle.ipc_partners.specs.Kept.{kept_upto}
+use Rattle.ipc_partners.proofs.keeping.Keeping.fill.Goals as goal
+
+pub loop-place-init : goal.loop-place-init
+unfolding kept_upto
+loop-place-init c = c.clear.ensures

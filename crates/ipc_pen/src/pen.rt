@@ -1,0 +1,128 @@
+//! The pen.
+ghost use Rattle.std.specs.Prelude.{◌≡◌, ◌++◌, [], ◌∷◌, Some, None, false, true, is_some, ◌||◌, not};
+ghost use Rattle.ipc_frame.specs.Frames.{spelling};
+ghost use Rattle.ipc_pen.specs.Pens.{BeginsEmpty, Follows, Page, Passes, frame_of, rest_of};
+
+use crate::given::Given;
+use crate::port::{Patience, PenPort};
+use crate::turn::Turn;
+use crate::writing::write_rest;
+use ipc_frame::Encoder;
+use ipc_past::Past;
+use std::marker::Model;
+
+/// The port to a client, and the frame that it was given last, where that is not yet written whole. What went out, and then the rest of
+/// that frame, is the text of all that it was given, in order, each once: at every moment, whoever wrote.
+#[derive(Drop)]
+pub struct Pen<P: PenPort> {
+    place: usize,
+    port: P,
+    given: Past<Given>,
+    rest: Option<Encoder>,
+    is_long: bool,
+    has_failed: bool,
+}
+
+impl<P: PenPort> Model for Pen<P> {
+    ghost use Rattle.ipc_pen.specs.Pens.{Page, Follows, rest_of};
+
+    ghost Value = { Page };
+
+    ghost view = { λ pen. record {
+      place = pen.place;
+      out = P.written pen.port;
+      given = pen.given;
+      rest = pen.rest;
+      failed = pen.has_failed;
+    } };
+
+    ghost invariant = { λ pen. Follows (P.written pen.port) (rest_of pen.rest) pen.given };
+}
+
+impl<P: PenPort> Pen<P> {
+    /// A pen of the box of this number, to which nothing was given.
+    #[tactic(auto, using(crate::proofs::PenLemmas::follows_nothing))]
+    pub fn new(port: P, place: usize) -> Pen<P>
+        requires { BeginsEmpty (P.written port) }
+        ensures place { result.place ≡ place }
+        ensures given { result.given ≡ [] }
+        ensures rest { result.rest ≡ None }
+        ensures failed { result.failed ≡ false }
+    {
+        Pen {
+            place,
+            port,
+            given: Past::new(),
+            rest: None,
+            is_long: false,
+            has_failed: false,
+        }
+    }
+
+    /// The number of its box.
+    pub fn place(&self) -> usize
+        ensures { result ≡ self.now.place }
+    {
+        self.place
+    }
+
+    /// Whether all that was given is written, and the device has not failed: it can be given more.
+    pub fn is_ready(&self) -> bool
+        ensures { result ≡ not (is_some self.now.rest || self.now.failed) }
+    {
+        !(self.rest.is_some() || self.has_failed)
+    }
+
+    /// Whether its device has failed.
+    pub fn has_failed(&self) -> bool
+        ensures { result ≡ self.now.failed }
+    {
+        self.has_failed
+    }
+
+    /// Its port, with all that went out.
+    pub fn into_port(self) -> P {
+        let Pen { port, .. } = self;
+        port
+    }
+
+    /// Gives it something to write, behind all that was given before. Takes no memory.
+    #[tactic(auto, using(crate::proofs::PenLemmas::follows_given))]
+    pub fn give(&mut self, given: Given)
+        requires { self.old.rest ≡ None }
+        ensures given { self.new.given ≡ self.old.given ++ given ∷ [] }
+        ensures rest { self.new.rest ≡ Some (spelling (frame_of given)) }
+        ensures out { self.new.out ≡ self.old.out }
+        ensures place { self.new.place ≡ self.old.place }
+        ensures failed { self.new.failed ≡ self.old.failed }
+    {
+        self.given.add(&given);
+        self.is_long = given.is_long();
+        self.rest = Some(given.into_encoder());
+    }
+
+    /// Writes the rest of what was given last, until none is left or the device has no room. After a failure nothing more is written.
+    #[tactic(auto, using(crate::proofs::PenLemmas::follows_passes, crate::proofs::PenLemmas::passes_none, crate::proofs::PenLemmas::grows_none))]
+    pub fn write(&mut self, patience: Patience) -> Turn
+        ensures follows { Follows self.new.out (rest_of self.new.rest) self.new.given }
+        ensures wrote { Passes self.old.out self.new.out (rest_of self.old.rest) (rest_of self.new.rest) }
+        ensures done { result ≡ Turn.Written → self.new.rest ≡ None }
+        ensures failed { self.new.failed ≡ true → result ≡ Turn.Failed }
+        ensures given { self.new.given ≡ self.old.given }
+        ensures place { self.new.place ≡ self.old.place }
+    {
+        if self.has_failed {
+            return Turn::Failed;
+        }
+        let Some(rest) = &mut self.rest else {
+            return Turn::Written;
+        };
+        let turn = write_rest(&mut self.port, rest, patience, self.is_long);
+        match turn {
+            Turn::Written => self.rest = None,
+            Turn::Blocks => {}
+            Turn::Failed => self.has_failed = true,
+        }
+        turn
+    }
+}

@@ -1,0 +1,103 @@
+//! The work that no connection asks for: the time is told, and transfers go on.
+use crate::server::Server;
+use ipc_core::Advance;
+use ipc_lock::{Step, Told};
+use ipc_pen::PenPort;
+use ipc_session::{Beat, Gate, WorkDesk};
+use std::rt::Clock;
+use std::sync::Wait;
+use std::sync::atomic::{AtomicBool, Ordering};
+use std::sync::ledger::Ledger;
+
+/// The desk of the ticker and of the mover.
+#[derive(Drop)]
+pub struct Worker<'a, C: Ledger, T: Ledger, P: PenPort + Drop, R: Wait + Clock> {
+    server: &'a Server<'a, C, T, P, R>,
+    is_gone: bool,
+}
+
+impl<'a, C: Ledger, T: Ledger, P: PenPort + Drop, R: Wait + Clock> Worker<'a, C, T, P, R> {
+    /// A desk that works on a server's kernel.
+    pub fn new(server: &'a Server<'a, C, T, P, R>) -> Self {
+        Worker {
+            server,
+            is_gone: false,
+        }
+    }
+}
+
+impl<C: Ledger, T: Ledger, P: PenPort + Drop, R: Wait + Clock> WorkDesk for Worker<'_, C, T, P, R> {
+    ghost gone = { λ desk. desk.is_gone };
+
+    fn tick(&mut self) {
+        let _ = self.server.submit(Step::Tick);
+    }
+
+    fn advance(&mut self) -> bool {
+        matches!(
+            self.server.submit(Step::Advance),
+            Told::Advanced(Advance::Moved)
+        )
+    }
+
+    fn wait(&mut self) -> bool {
+        let has_come = self.server.shared.wait_work(self.server.rt);
+        if !has_come {
+            self.is_gone = true;
+        }
+        has_come
+    }
+}
+
+/// The clock of the ticker: its next turn comes when a phase is due.
+#[derive(Drop)]
+pub struct Alarm<'a, C: Ledger, T: Ledger, P: PenPort + Drop, R: Wait + Clock> {
+    server: &'a Server<'a, C, T, P, R>,
+}
+
+impl<'a, C: Ledger, T: Ledger, P: PenPort + Drop, R: Wait + Clock> Alarm<'a, C, T, P, R> {
+    /// The clock of a server's kernel.
+    pub fn new(server: &'a Server<'a, C, T, P, R>) -> Self {
+        Alarm { server }
+    }
+}
+
+impl<C: Ledger, T: Ledger, P: PenPort + Drop, R: Wait + Clock> Beat for Alarm<'_, C, T, P, R> {
+    fn wait(&mut self) {
+        self.server.shared.rest(self.server.rt, self.server.now());
+    }
+}
+
+/// A gate that says stop once the work is over, or after 2^64 - 1 turns, which no run has.
+#[derive(Drop)]
+pub struct OverGate<'a> {
+    over: &'a AtomicBool,
+    turns: u64,
+    stopped: bool,
+}
+
+impl<'a> OverGate<'a> {
+    /// The gate of a loop that begins.
+    pub fn new(over: &'a AtomicBool) -> OverGate<'a> {
+        OverGate {
+            over,
+            turns: u64::MAX,
+            stopped: false,
+        }
+    }
+}
+
+impl Gate for OverGate<'_> {
+    ghost left = { λ gate. gate.turns };
+
+    ghost stopped = { λ gate. gate.stopped };
+
+    fn turn(&mut self) -> bool {
+        if self.turns == 0 || self.over.load(Ordering::SeqCst) {
+            self.stopped = true;
+            return false;
+        }
+        self.turns -= 1;
+        true
+    }
+}

@@ -219,7 +219,7 @@ def keeps_nothing(server, before):
 def few_descriptors(l4d):
     """The floods under a limit of descriptors: the pair works on, and a new client is served when they are gone."""
     few = lambda: resource.setrlimit(resource.RLIMIT_NOFILE, (DESCRIPTORS, DESCRIPTORS))
-    with Server(l4d, "--hello-within", "1", preexec_fn=few) as server:
+    with Server(l4d, "--keep-open", "--hello-within", "1", preexec_fn=few) as server:
         pair = Pair(server.path)
         floods = flood(server.path)
         try:
@@ -238,7 +238,8 @@ def main(words):
         sys.exit(__doc__)
     l4d = os.path.abspath(words[0])
     passed = failed = 0
-    with Server(l4d) as server:
+    # those who flood make more connections than a path takes by default
+    with Server(l4d, "--keep-open") as server:
         Client(server.path, 1).bye()
         time.sleep(0.3)
         before = counted(server.process.pid)

@@ -12,6 +12,8 @@ from frames import ANY, frame, hello, ipc
 PROGRAM = sys.argv[1]
 # How many descriptors the server of strangers may have, how many strangers come, and how long one may be silent, in seconds.
 DESCRIPTORS, STRANGERS, SILENT = 64, 10_000, 1
+# One connection more than a path takes without --keep-open.
+MOST_CONNECTIONS = 65_536
 # How many tasks a server may have that gets no further worker.
 TASKS = 12
 MODES = (("888", "--mode: octal, 0 to 777, got 888"), ("rw", "--mode: octal, 0 to 777, got rw"), ("1777", "--mode: octal, 0 to 777, got 1777"))
@@ -408,7 +410,25 @@ def log():
     return last
 
 
-CASES = [words, paths, denied, guarded, probe, traces, log, signals, few_connections, no_descriptor, few_tasks, strangers]
+def kept_open():
+    """--keep-open: a path goes on past the number of connections after which it closes otherwise; without it that number is the last."""
+    with Server("--keep-open") as server:
+        pair = Client(server.path, 1), Client(server.path, 2)
+        begin = time.time()
+        for _ in range(MOST_CONNECTIONS):
+            came = socket.socket(socket.AF_UNIX)
+            came.connect(server.path)
+            came.close()
+        spent = time.time() - begin
+        pair_works(pair)
+        pair_works((pair[0], Client(server.path, 3)))
+        assert server.process.poll() is None
+    status, out, err = run("--dir", "/", "--spaces", "1", "--connections", "2", "--keep-open")
+    assert (status, out) == (2, "") and "--keep-open: no --connections beside it, got 2" in err, err
+    return f"{MOST_CONNECTIONS} connections in {spent:.0f} s, and a pair and a new client work on"
+
+
+CASES = [words, paths, denied, guarded, probe, traces, log, signals, few_connections, kept_open, no_descriptor, few_tasks, strangers]
 
 
 def main():

@@ -214,7 +214,8 @@ listening_app = with_rule (with_rule (with_rule (with_rule named_app
 
 -- `l4d` with whom it serves
 abbrev pub serving_app : App
-serving_app = with_rule (with_rule (with_rule listening_app connections_rule) live_rule) hello_rule
+serving_app = with_rule (with_rule (with_rule (with_rule listening_app
+    connections_rule) (flag_rule (codes "keep-open"))) live_rule) hello_rule
 
 -- `l4d` with what it tells
 abbrev pub server_app : App

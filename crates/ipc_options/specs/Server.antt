@@ -13,6 +13,7 @@ pub record HasOptionsIn (rows : List Row) (options : ServerOptions) : Type 0 whe
   pub dir : first_of (codes "dir") rows ≡ Some options.dir.now
   pub spaces : number_in rows (codes "spaces") ≡ Some options.spaces
   pub connections : number_in rows (codes "connections") ≡ Some options.connections
+  pub keep_open : IsFlagIn rows (codes "keep-open") options.keep_open
   pub mode : option_map (λ text. digits_value 8 (without_leading_plus text)) (first_of (codes "mode") rows)
       ≡ Some options.mode
   pub live : number_in rows (codes "live") ≡ Some options.live

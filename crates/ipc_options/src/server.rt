@@ -17,8 +17,10 @@ pub struct ServerOptions<'a> {
     pub dir: &'a str,
     /// How many spaces, 1 to [`MAX_SPACES`].
     pub spaces: u16,
-    /// How many connections each path takes, 1 to `MAX_CONNECTIONS`.
+    /// How many connections each path takes, 1 to `MAX_CONNECTIONS`, before it closes.
     pub connections: u16,
+    /// Whether a path never closes, however many connections it has had.
+    pub keep_open: bool,
     /// The permissions of each path, at most 0o777.
     pub mode: u32,
     /// How many connections there may be at one time, 1 to `MAX_CONNECTIONS`.

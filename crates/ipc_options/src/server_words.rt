@@ -8,6 +8,7 @@ ghost use Rattle.ipc_options.specs.Command.{listening_app, live_rule, mode_rule}
 ghost use Rattle.ipc_options.specs.Command.{named_app, server_app, serving_app, spaces_rule, trace_rule};
 ghost use Rattle.ipc_options.specs.Server.{AreWithinLimits, HasCountsIn, HasOptionsIn, HasOptionsOf};
 ghost use Rattle.ipc_options.specs.Shell.{number_in};
+ghost use Rattle.ipc_words.specs.Limits.{max_connections};
 
 use crate::default_texts::{HELLO_WITHIN_TEXT, MAX_CONNECTIONS_TEXT};
 use crate::server::{MAX_SPACES, ServerOptions};
@@ -25,6 +26,8 @@ use std::fmt;
 pub fn server_options<'a>(alloc: Global, words: &'a [String]) -> Result<ServerOptions<'a>, Error>
     ensures options { IfOk result (HasOptionsOf (map string_bytes words.entry.now)) }
     ensures traced { IfOk result (λ options. options.trace_required ≡ true → IsSome options.trace) }
+    ensures kept { IfOk result (λ options.
+        options.keep_open ≡ true → options.connections ≡ max_connections) }
     ensures faultless { IfOk result (λ _.
         fault_of server_app (map string_bytes words.entry.now) ≡ []) }
 {
@@ -67,6 +70,11 @@ fn serving_command<'a>(alloc: Global) -> Result<Command<'a>, AllocError>
 {
     listening_command(alloc)?
         .arg(connections_option(alloc))?
+        .arg(flag_option(
+            alloc,
+            "keep-open",
+            "Takes connections without end: only a signal ends it",
+        ))?
         .arg(live_option(alloc))?
         .arg(hello_option(alloc))
 }
@@ -214,6 +222,8 @@ enum Refused<'a> {
     Mode(&'a str),
     /// A trace is required, and there is none.
     Untraced,
+    /// Paths never close, and are to close after so many connections.
+    KeptOpen(u16),
     /// A value is missing or past its limit; `clap` has refused such words already.
     PastLimit,
 }
@@ -224,6 +234,9 @@ impl fmt::Display for Refused<'_> {
             Refused::Folder => write!(f, "--dir: the name of a folder, got an empty one"),
             Refused::Mode(text) => write!(f, "--mode: octal, 0 to 777, got {text}"),
             Refused::Untraced => write!(f, "--trace-required: --trace FILE beside it, got none"),
+            Refused::KeptOpen(count) => {
+                write!(f, "--keep-open: no --connections beside it, got {count}")
+            }
             Refused::PastLimit => write!(f, "a value is past its limit"),
         }
     }
@@ -233,6 +246,8 @@ impl fmt::Display for Refused<'_> {
 fn options_in<'a>(matches: &ArgMatches<'a>) -> Result<ServerOptions<'a>, Refused<'a>>
     ensures options { IfOk result (HasOptionsIn (rows_of (found_of matches.now))) }
     ensures traced { IfOk result (λ options. options.trace_required ≡ true → IsSome options.trace) }
+    ensures kept { IfOk result (λ options.
+        options.keep_open ≡ true → options.connections ≡ max_connections) }
 {
     let (Some(dir), Some(mode_text)) = (text(matches, "dir"), text(matches, "mode")) else {
         return Err(Refused::PastLimit);
@@ -249,10 +264,15 @@ fn options_in<'a>(matches: &ArgMatches<'a>) -> Result<ServerOptions<'a>, Refused
         return Err(Refused::Untraced);
     }
     let counts = counts_in(matches).ok_or(Refused::PastLimit)?;
+    let keep_open = flag(matches, "keep-open");
+    if keep_open && u32::from(counts.connections) != MAX_CONNECTIONS {
+        return Err(Refused::KeptOpen(counts.connections));
+    }
     Ok(ServerOptions {
         dir,
         spaces: counts.spaces,
         connections: counts.connections,
+        keep_open,
         mode,
         live: counts.live,
         hello_within: counts.hello_within,
@@ -349,12 +369,13 @@ mod tests {
         assert_eq!(rt; (options.live, options.hello_within), (65_535, 10));
         assert_eq!(rt; options.mode, OWNER_ONLY);
         let flags = [
+            options.keep_open,
             options.probe,
             options.replace,
             options.log,
             options.trace_required,
         ];
-        assert_eq!(rt; flags, [false; 4]);
+        assert_eq!(rt; flags, [false; 5]);
         assert_eq!(rt; options.trace, None);
         let words = words_of(
             rt.alloc(),
@@ -387,12 +408,15 @@ mod tests {
         ];
         assert_eq!(rt; flags, [true; 4]);
         assert_eq!(rt; options.trace, Some("meetings"));
+        let words = words_of(rt.alloc(), &["l4d", "--dir=.", "--spaces=1", "--keep-open"])?;
+        let options = server_options(rt.alloc(), words.as_slice())?;
+        assert_eq!(rt; (options.keep_open, options.connections), (true, 65_535));
         Ok(())
     }
 
     #[test]
     fn refuses(rt: HostRuntime) -> Result<(), Fail> {
-        let cases: [(&[&str], ErrorKind); 15] = [
+        let cases: [(&[&str], ErrorKind); 16] = [
             (
                 &["l4d", "--dir", ".", "--spaces", "1", "--trace"],
                 ErrorKind::InvalidValue,
@@ -423,6 +447,16 @@ mod tests {
                     "1",
                     "--connections",
                     "65536",
+                ],
+                ErrorKind::ValueValidation,
+            ),
+            (
+                &[
+                    "l4d",
+                    "--dir=.",
+                    "--spaces=1",
+                    "--connections=2",
+                    "--keep-open",
                 ],
                 ErrorKind::ValueValidation,
             ),

@@ -192,7 +192,7 @@ where
     })
 }
 
-/// Takes connections until the path has had its number or the service is stopped, and starts a worker for each. An accept that fails
+/// Takes connections until the path has had its number, if it has one, or the service is stopped, and starts a worker for each. An accept that fails
 /// counts for nothing: it is tried again once a connection has ended, or after 10 milliseconds.
 fn accept<C: Ledger + Send, T: Ledger + Send, R>(
     server: &Server<'_, C, T, SocketPort, R>,
@@ -206,7 +206,7 @@ where
     thread::scope(thread::scope_env(), rt, |scope| {
         let mut taken = 0u16;
         for _ in rt.forever() {
-            if taken >= host.connections || host.guests.is_stopping(rt) {
+            if host.closes_after(taken) || host.guests.is_stopping(rt) {
                 return;
             }
             match listener.socket.accept() {

@@ -12,8 +12,8 @@ use std::{fmt, io};
 pub struct Host {
     pub(crate) guests: Guests,
     pub(crate) listeners: Vec<Listener>,
-    /// How many connections each path takes.
-    pub(crate) connections: u16,
+    /// How many connections each path takes before it closes; None where it never does.
+    pub(crate) connections: Option<u16>,
     pub(crate) is_logged: bool,
     /// Whether a reader may look for a little while before it sleeps: where there are several processors.
     pub(crate) is_eager: bool,
@@ -32,6 +32,11 @@ impl Host {
         for listener in &self.listeners {
             listener.close();
         }
+    }
+
+    /// Whether a path closes that has had so many connections.
+    pub(crate) fn closes_after(&self, taken: u16) -> bool {
+        self.connections.map_or(false, |most| taken >= most)
     }
 
     /// Whether SIGINT and SIGTERM may have been blocked where the program was started, so that they end the service.

@@ -134,7 +134,7 @@ where
     let host = Host {
         guests: Guests::new(alloc, most, within(options), clock),
         listeners,
-        connections: options.connections,
+        connections: (!options.keep_open).then_some(options.connections),
         is_logged: options.log,
         is_eager: thread::available_parallelism(rt).map_or(false, |count| count.get() > 1),
         traced: options.trace.map(|_| AtomicU64::new(0)),

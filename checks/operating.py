@@ -412,7 +412,9 @@ def log():
 
 def kept_open():
     """--keep-open: a path goes on past the number of connections after which it closes otherwise; without it that number is the last."""
-    with Server("--keep-open") as server:
+    # so few descriptors that no crowd of threads builds up: who comes then waits for room
+    few = lambda: resource.setrlimit(resource.RLIMIT_NOFILE, (4 * DESCRIPTORS, 4 * DESCRIPTORS))
+    with Server("--keep-open", preexec_fn=few) as server:
         pair = Client(server.path, 1), Client(server.path, 2)
         begin = time.time()
         for _ in range(MOST_CONNECTIONS):

@@ -1,164 +1,133 @@
-use ipc_history::{Entry, Input, Output};
-use ipc_lines::{HexText, IdText, call_text};
+ghost use Rattle.std.specs.Prelude.{◌≡◌, ◌++◌, ◌∷◌, [], OnOk, IfOk};
+ghost use Rattle.std.specs.List.{All};
+ghost use Rattle.std.specs.String.{string_bytes};
+ghost use Rattle.ipc_history.specs.declared.entry.Entry.TheVariants.{Given};
+ghost use Rattle.ipc_lines.specs.Reading.{IsReadable};
+ghost use Rattle.ipc_script.specs.Commands.{IsCommand, script_text};
+ghost use Rattle.ipc_script.specs.Script.{take_if, take_before, takes_for, commands_at, commands_from};
+ghost use Rattle.ipc_script.specs.Script.{last_take, last_takes, commands_of};
+
+use crate::acts::{is_left, is_untaken};
+use crate::lines::{write_command, write_take};
+use ipc_history::{Entry, Input};
+use ipc_lines::entry_is_readable;
 use ipc_words::ThreadId;
 use std::alloc::{AllocError, Global};
-use std::collections::BTreeMap;
-
-/// The last call of a thread whose outcome was not taken.
-#[derive(Clone, Copy, PartialEq, Eq, Debug)]
-struct LastCall {
-    number: u64,
-    receives: bool,
-    is_over: bool,
-}
-
-/// A script that is being written.
-#[derive(Drop)]
-struct Writer {
-    alloc: Global,
-    text: String,
-    // the last calls, by the words of their callers
-    calls: BTreeMap<u64, LastCall>,
-    // the callers of the calls that are open, by the numbers of these
-    callers: BTreeMap<u64, u64>,
-}
 
 /// The commands whose history these entries are, a line for each: an input is the command that gives it, and
 /// before a call or an ExchangeRegisters the outcome of the last call of that thread is taken. At the end the
-/// outcomes are taken that are left.
-pub fn script_of(alloc: Global, entries: &[Entry]) -> Result<String, AllocError> {
-    let mut writer = Writer {
-        alloc,
-        text: String::new(alloc),
-        calls: BTreeMap::new(alloc),
-        callers: BTreeMap::new(alloc),
-    };
-    for entry in entries {
-        match entry {
-            Entry::Given(input) => writer.write(input)?,
-            Entry::Written(output) => writer.note(*output)?,
-        }
-    }
-    for (word, call) in &writer.calls {
-        if call.is_over {
-            write!(writer.text, "take {}\n", IdText(ThreadId::from_word(*word)))?;
-        }
-    }
-    Ok(writer.text)
+/// outcomes are taken that are left. Each line is read back as its command.
+///
+/// The error: memory was refused.
+pub fn script_of(alloc: Global, entries: &[Entry]) -> Result<String, AllocError>
+    ensures text { IfOk result (λ text. string_bytes text ≡ script_text (commands_of entries.now)) }
+    ensures readable { All IsCommand (commands_of entries.now) }
+{
+    are_readable(entries);
+    let mut text = String::new(alloc);
+    write_commands(alloc, &mut text, entries)?;
+    write_last_takes(&mut text, entries)?;
+    Ok(text)
 }
 
-impl Writer {
-    // The command of an input.
-    fn write(&mut self, input: &Input) -> Result<(), AllocError> {
-        match input {
-            Input::At(moment) => write!(self.text, "at {moment}\n"),
-            Input::Opened(thread, space) => {
-                let number = thread.number();
-                write!(self.text, "open {number} {space}\n")
-            }
-            Input::Called(number, caller, call) => {
-                self.take(*caller)?;
-                let fields = call_text(self.alloc, *caller, call.call())?;
-                write!(self.text, "call {fields}\n")?;
-                let receives = call.call().from() != ThreadId::NILTHREAD;
-                let sends = call.call().to() != ThreadId::NILTHREAD;
-                self.enter(*number, *caller, receives, !receives && !sends)
-            }
-            Input::Exreg(thread, target, control) => {
-                self.take(*thread)?;
-                let control = HexText(control.to_word());
-                write!(
-                    self.text,
-                    "exreg {} {} {control}\n",
-                    IdText(*thread),
-                    IdText(*target)
-                )
-            }
-            Input::Broke(thread) => {
-                self.calls.remove(&thread.to_word());
-                write!(self.text, "broke {}\n", IdText(*thread))
-            }
-            Input::Moved(_, _) => self.text.push_str("advance\n"),
-        }
+// Entries are of words, and of calls in normal form.
+fn are_readable(entries: &[Entry])
+    ensures { All IsReadable entries.now }
+{
+    for place in 0..entries.len() {
+        entry_is_readable(&entries[place]);
     }
+}
 
-    // Takes the outcome of the last call of a thread, if there is one that was not taken.
-    fn take(&mut self, thread: ThreadId) -> Result<(), AllocError> {
-        match self.calls.get(&thread.to_word()) {
-            Some(call) if call.is_over => {
-                self.calls.remove(&thread.to_word());
-                write!(self.text, "take {}\n", IdText(thread))
-            }
-            _ => Ok(()),
-        }
+// Appends the commands for the entries.
+fn write_commands(alloc: Global, out: &mut String, entries: &[Entry]) -> Result<(), AllocError>
+    ensures { OnOk result (string_bytes out.new
+        ≡ string_bytes out.old ++ script_text (commands_from [] entries.now)) }
+{
+    for (place, entry) in entries.iter().enumerate() {
+        write_at(alloc, out, &entries[..place], entry)?;
     }
+    Ok(())
+}
 
-    fn enter(
-        &mut self,
-        number: u64,
-        caller: ThreadId,
-        receives: bool,
-        is_over: bool,
-    ) -> Result<(), AllocError> {
-        let call = LastCall {
-            number,
-            receives,
-            is_over,
-        };
-        self.calls.insert(caller.to_word(), call)?;
-        self.callers.insert(number, caller.to_word())?;
-        Ok(())
+// Appends the takes at the end.
+fn write_last_takes(out: &mut String, entries: &[Entry]) -> Result<(), AllocError>
+    ensures { OnOk result (string_bytes out.new
+        ≡ string_bytes out.old ++ script_text (last_takes entries.now entries.now)) }
+{
+    for (place, entry) in entries.iter().enumerate() {
+        write_last_take(out, entries, entry, &entries[place + 1..])?;
     }
+    Ok(())
+}
 
-    // Takes note of the calls that an output closes.
-    fn note(&mut self, output: Output) -> Result<(), AllocError> {
-        match output {
-            Output::Began(_, _) | Output::Turned(_, _) => Ok(()),
-            Output::Ended(sending, receiving) => {
-                self.close(receiving)?;
-                if self.receives(sending) {
-                    Ok(())
-                } else {
-                    self.close(sending)
-                }
-            }
-            Output::Overflowed(sending, receiving, _) | Output::Aborted(sending, receiving, _) => {
-                self.close(sending)?;
-                self.close(receiving)
-            }
-            Output::Failed(number, _) => self.close(number),
+// Appends the commands for an entry that stands behind these.
+fn write_at(
+    alloc: Global,
+    out: &mut String,
+    before: &[Entry],
+    entry: &Entry,
+) -> Result<(), AllocError>
+    ensures { OnOk result (string_bytes out.new
+        ≡ string_bytes out.old ++ script_text (commands_at before.now entry.now)) }
+{
+    match entry {
+        Entry::Given(input) => {
+            write_takes(out, before, input)?;
+            write_command(alloc, out, input)
         }
+        Entry::Written(_) => Ok(()),
     }
+}
 
-    // Whether an open call has a receive phase.
-    fn receives(&self, number: u64) -> bool {
-        match self.call_of(number) {
-            Some((_, call)) => call.receives,
-            None => false,
-        }
+// Appends what is taken before the command of an input that stands behind these entries.
+fn write_takes(out: &mut String, before: &[Entry], input: &Input) -> Result<(), AllocError>
+    ensures { OnOk result (string_bytes out.new
+        ≡ string_bytes out.old ++ script_text (takes_for before.now input.now)) }
+{
+    match input {
+        Input::Called(_, caller, _) => write_take_before(out, before, *caller),
+        Input::Exreg(thread, _, _) => write_take_before(out, before, *thread),
+        _ => Ok(()),
     }
+}
 
-    // An open call and the word of its caller.
-    fn call_of(&self, number: u64) -> Option<(u64, LastCall)> {
-        let word = self.callers.get(&number).copied()?;
-        let call = self.calls.get(&word).copied()?;
-        if call.number == number {
-            Some((word, call))
-        } else {
-            None
+// Appends the take of the outcome of a thread's last call, if it is still to be taken.
+fn write_take_before(out: &mut String, before: &[Entry], thread: ThreadId) -> Result<(), AllocError>
+    ensures { OnOk result (string_bytes out.new
+        ≡ string_bytes out.old ++ script_text (take_before before.now thread)) }
+{
+    let is_left = is_untaken(before, thread);
+    write_take_if(out, is_left, thread)
+}
+
+// Appends the take of the outcome of a call at the end, if there is one to take.
+fn write_last_take(
+    out: &mut String,
+    entries: &[Entry],
+    entry: &Entry,
+    rest: &[Entry],
+) -> Result<(), AllocError>
+    ensures { OnOk result (string_bytes out.new
+        ≡ string_bytes out.old ++ script_text (last_take entries.now entry.now rest.now)) }
+{
+    match entry {
+        Entry::Given(Input::Called(number, caller, call)) => {
+            let is_left = is_left(entries, *number, *caller, call.call(), rest);
+            write_take_if(out, is_left, *caller)
         }
+        _ => Ok(()),
     }
+}
 
-    fn close(&mut self, number: u64) -> Result<(), AllocError> {
-        let found = self.call_of(number);
-        self.callers.remove(&number);
-        if let Some((word, call)) = found {
-            let over = LastCall {
-                is_over: true,
-                ..call
-            };
-            self.calls.insert(word, over)?;
-        }
+// Appends a take under a condition.
+fn write_take_if(out: &mut String, is_left: bool, thread: ThreadId) -> Result<(), AllocError>
+    ensures { OnOk result (string_bytes out.new
+        ≡ string_bytes out.old ++ script_text (take_if is_left thread)) }
+{
+    if is_left {
+        write_take(out, thread)
+    } else {
         Ok(())
     }
 }

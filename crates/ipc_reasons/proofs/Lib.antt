@@ -1,0 +1,3 @@
+pub mod CallWells
+pub mod NormalForms
+pub mod TraceLines

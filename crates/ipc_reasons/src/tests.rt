@@ -99,7 +99,10 @@ const MISTAKES: [(&str, &str); 24] = [
 fn the_first_mistakes_are_named(rt: HostRuntime) -> Result<(), Fail> {
     for (line, expected) in MISTAKES {
         match reason_of(rt.alloc(), Grammar::Script, line.as_bytes())? {
-            Some(text) => assert_eq!(rt; text.as_str(), expected, "{line}"),
+            Some(reason) => {
+                let text = format!(in rt.alloc(); "{reason}")?;
+                assert_eq!(rt; text.as_str(), expected, "{line}");
+            }
             None => assert!(rt; false, "{line}"),
         }
     }
@@ -137,7 +140,10 @@ fn mistakes_of_traces_and_of_wires_are_named(rt: HostRuntime) -> Result<(), Fail
     ];
     for (grammar, line, expected) in cases {
         match reason_of(rt.alloc(), grammar, line.as_bytes())? {
-            Some(text) => assert_eq!(rt; text.as_str(), expected, "{line}"),
+            Some(reason) => {
+                let text = format!(in rt.alloc(); "{reason}")?;
+                assert_eq!(rt; text.as_str(), expected, "{line}");
+            }
             None => assert!(rt; false, "{line}"),
         }
     }

@@ -30,7 +30,7 @@ use ipc_options::{
     ChartOptions, FollowOptions, ScriptLimits, ShellOptions, shell_options, tell_version,
 };
 use ipc_ports::{Failures, PortRead, PortWrite, ReadPort, WritePort};
-use ipc_reasons::{Grammar, reason_of};
+use ipc_reasons::{Grammar, reason_text};
 use ipc_words::limits::{MAX_LINE_BYTES, MAX_SPACE};
 use kept::{KeptPort, Tail};
 use live::{Talked, talk_to_server};
@@ -328,7 +328,7 @@ fn bad_line_reason(
         let text = format!(in alloc; "a line of more than {MAX_LINE_BYTES} bytes")?;
         return Ok(Some(text));
     }
-    match reason_of(alloc, grammar, line)? {
+    match reason_text(alloc, grammar, line)? {
         None if grammar == Grammar::Wire => Ok(Some(wire_reason(alloc, line)?)),
         reason => Ok(reason),
     }

@@ -2,7 +2,7 @@ use crate::calling::call_line;
 use crate::quoting::words_of;
 use crate::spelling::{read_control, read_number, read_thread, read_time};
 use ipc_lines::{HexText, IdText};
-use ipc_reasons::{Grammar, reason_of};
+use ipc_reasons::{Grammar, reason_of, reason_text};
 use std::alloc::{AllocError, Global};
 
 /// What can be typed.
@@ -64,10 +64,10 @@ fn exact(alloc: Global, typed: &[u8]) -> Result<Option<String>, AllocError> {
     let Ok(line) = String::from_utf8(typed.to_vec(alloc)?) else {
         return Ok(None);
     };
-    match reason_of(alloc, Grammar::Script, line.as_bytes())? {
-        None if !line.is_empty() => Ok(Some(line)),
-        _ => Ok(None),
+    if reason_of(alloc, Grammar::Script, line.as_bytes())?.is_some() {
+        return Ok(None);
     }
+    Ok(Some(line))
 }
 
 fn mistake(alloc: Global, reason: &str) -> Result<Typed, AllocError> {
@@ -76,7 +76,7 @@ fn mistake(alloc: Global, reason: &str) -> Result<Typed, AllocError> {
 
 // A line, where it is well formed; else why it is not.
 fn judged(alloc: Global, line: String) -> Result<Typed, AllocError> {
-    match reason_of(alloc, Grammar::Script, line.as_bytes())? {
+    match reason_text(alloc, Grammar::Script, line.as_bytes())? {
         None => Ok(Typed::Line(line)),
         Some(reason) => Ok(Typed::Mistake(reason)),
     }

@@ -16,7 +16,7 @@ import tempfile
 
 ROOT = os.path.dirname(os.path.dirname(os.path.abspath(__file__)))
 CRATES = "words past ports threads items history laws slots waits desks core lines frame pen lock client".split()
-OWN = "ipc_growths: ipc_words ipc_items ipc_history ipc_ports ipc_core ipc_frame ipc_pen ipc_lock ipc_client anyhow\n"
+OWN = "ipc_growths: ipc_words ipc_items ipc_history ipc_ports ipc_core ipc_frame ipc_connection ipc_pen ipc_lock ipc_client anyhow\n"
 UNPREPARED = "unprepared"
 
 

@@ -1,7 +1,7 @@
 #!/usr/bin/env python3
 """Looks whether a crate beside ipc_lock can make, copy, take apart or change what only the lock may make.
 
-Each row below is one line of a program that would do so to an Answer, a Taken, a CallSeat or a TakeSeat. The compiler has to
+Each row below is one line of a program that would do so to an Answered, a Taken, a CallSeat or a TakeSeat. The compiler has to
 refuse each row for its reason, and no other line; and it has to accept the same program without the rows. It compiles only, and
 proves nothing. RT names another command than rt. Exit 0 where all is so."""
 import os
@@ -30,13 +30,14 @@ def below(name):
 HEAD = """//! Would make what only the lock may make.
 #![tactic(auto)]
 use ipc_history::Outcome;
-use ipc_lock::{Answer, CallSeat, TakeSeat, Taken, Told};
+use ipc_core::Answer;
+use ipc_lock::{Answered, CallSeat, TakeSeat, Taken};
 use ipc_words::ThreadId;
 use std::marker::PhantomData;
 use std::sync::ledger::{Ledger, Share};
 fn is_copy<X: Copy>(_: X) {}
 fn is_clone<X: Clone>(_: X) {}
-pub fn told<C: Ledger, T: Ledger>(answer: Answer<C, T>) -> Told<C, T> { answer.into_told() }
+pub fn parts<C: Ledger, T: Ledger>(a: Answered<C, T>) -> (Answer, Option<CallSeat<C>>, Option<TakeSeat<T>>) { a.into_parts() }
 pub fn threads<C: Ledger, T: Ledger>(a: &CallSeat<C>, b: &TakeSeat<T>, c: &Taken<T>) -> [ThreadId; 3] {
     [a.thread(), b.thread(), c.thread()]
 }
@@ -45,15 +46,15 @@ pub fn counts<C: Ledger, T: Ledger>(a: Share<C>, b: Share<T>, mark: PhantomData<
 fn main(rt: HostRuntime) { is_copy(1u8); is_clone(rt.alloc()) }
 """
 
-TYPES = {"Answer": "<C, T>", "Taken": "<T>", "CallSeat": "<C>", "TakeSeat": "<T>"}
+TYPES = {"Answered": "<C, T>", "Taken": "<T>", "CallSeat": "<C>", "TakeSeat": "<T>"}
 MAKING = {
-    "Answer": "(told: Told<C, T>) -> Answer<C, T> { Answer { told } }",
+    "Answered": "(answer: Answer) -> Answered<C, T> { Answered { answer, calls: None, takes: None, back: None } }",
     "Taken": "(thread: ThreadId, outcome: Outcome) -> Taken<T>"
     " { Taken { thread, amount: 1, outcome, marker: PhantomData } }",
     "CallSeat": "(thread: ThreadId, share: Share<C>) -> CallSeat<C> { CallSeat { thread, made: 0, share } }",
     "TakeSeat": "(thread: ThreadId, share: Share<T>) -> TakeSeat<T> { TakeSeat { thread, taken: 0, share } }",
 }
-FIELDS = {"Answer": "told", "Taken": "outcome", "CallSeat": "share", "TakeSeat": "share"}
+FIELDS = {"Answered": "calls", "Taken": "outcome", "CallSeat": "share", "TakeSeat": "share"}
 WRITES = {"Taken": "amount = 0", "CallSeat": "made = 0", "TakeSeat": "taken = 0"}
 
 

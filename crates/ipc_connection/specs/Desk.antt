@@ -6,8 +6,9 @@ use Rattle.ipc_frame.specs.declared.frame.Frame.TheVariants as frame
 use Rattle.ipc_connection.specs.Asking.{asks}
 use Rattle.ipc_connection.specs.Chain.{Chain}
 use Rattle.ipc_connection.specs.Replying.{next_stage, reply}
+use Rattle.ipc_connection.specs.declared.asking.Reaction.{Reaction}
+use Rattle.ipc_connection.specs.declared.asking.Reaction.TheVariants.{Ask, Leave, Refuse, Nothing}
 use Rattle.ipc_connection.specs.declared.asking.Request.{Request}
-use Rattle.ipc_connection.specs.declared.asking.Request.TheVariants.{Open, Enter, Exreg, Leave, Refuse, Nothing}
 use Rattle.ipc_connection.specs.declared.stage.Stage.{Stage}
 use Rattle.ipc_connection.specs.declared.stage.Stage.TheVariants.{Finished}
 use Rattle.ipc_calls.specs.declared.heard.Heard.{Heard}
@@ -35,7 +36,7 @@ abbrev pub posted : Told → Option Frame
 posted (Opened thread) = None
 posted Entered = None
 posted (Exchanged result control code) = None
-posted (Refused number) = reply (Refused number)
+posted (Refused refusal) = reply (Refused refusal)
 posted (Faulted class number) = Some (frame.Fault class number)
 posted Left = None
 
@@ -52,12 +53,9 @@ AsksDesk stage request calls next =
 abbrev pub EndsBy : Told → List DeskCall → Stage → Type 0
 EndsBy told calls next = (calls ≡ left_to_post told) × (next ≡ Finished)
 
-abbrev pub TurnsBy : Stage → Request → List DeskCall → Stage → Type 0
+abbrev pub TurnsBy : Stage → Reaction → List DeskCall → Stage → Type 0
 TurnsBy stage Nothing calls next = (calls ≡ []) × (next ≡ stage)
-TurnsBy stage (Open number) calls next = AsksDesk stage (Open number) calls next
-TurnsBy stage (Enter thread call) calls next = AsksDesk stage (Enter thread call) calls next
-TurnsBy stage (Exreg thread target control) calls next =
-    AsksDesk stage (Exreg thread target control) calls next
+TurnsBy stage (Ask request) calls next = AsksDesk stage request calls next
 TurnsBy stage Leave calls next = EndsBy Left calls next
 TurnsBy stage (Refuse class number) calls next = EndsBy (Faulted class number) calls next
 

@@ -16,10 +16,3 @@ of_session = 0x53
 -- a frame that has no place at its stage: S1
 abbrev pub out_of_place : ℕ
 out_of_place = 1
-
--- the refusals of the kernel that end a connection: the thread is gone, and the thread is busy
-abbrev pub gone : ℕ
-gone = 6
-
-abbrev pub busy : ℕ
-busy = 7

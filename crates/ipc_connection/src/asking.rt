@@ -1,14 +1,15 @@
 ghost use Rattle.std.specs.Prelude.{◌≡◌, Ok};
-ghost use Rattle.ipc_connection.specs.Asking.{asks};
+ghost use Rattle.ipc_connection.specs.Asking.{asks, command_of};
 
 use crate::fault::{FRAME, OUT_OF_PLACE, SESSION};
 use crate::stage::Stage;
 use ipc_calls::Heard;
+use ipc_core::Command;
 use ipc_frame::FrameFault;
 use ipc_history::Call;
 use ipc_words::{Control, ThreadId};
 
-/// What a connection asks for.
+/// What a connection asks of the kernel.
 #[derive(Drop)]
 pub enum Request {
     /// Open the thread of a number.
@@ -21,56 +22,85 @@ pub enum Request {
         target: ThreadId,
         control: Control,
     },
-    /// End without an answer.
+}
+
+/// What is to be done for what was heard.
+#[derive(Drop)]
+pub enum Reaction {
+    /// The kernel is asked.
+    Ask(Request),
+    /// The connection ends, and nothing is told.
     Leave,
-    /// Answer a fault, by its class and number, and end.
+    /// A fault is told, by its class and number, and the connection ends.
     Refuse(u8, u8),
     /// Nothing: the connection has ended before.
     Nothing,
 }
 
-/// What is asked for at a stage by what was heard there. The faults of a frame and of its items come
+/// What is to be done at a stage for what was heard there. The faults of a frame and of its items come
 /// first, then a frame that has no place there (S1); K7 and the other refusals are the kernel's.
 #[tactic(auto, unfolding(crate::specs::Asking::asks))]
-pub fn asks(stage: Stage, heard: Result<Heard, FrameFault>) -> Request
+pub fn asks(stage: Stage, heard: Result<Heard, FrameFault>) -> Reaction
     ensures { result ≡ asks stage heard }
 {
     if stage == Stage::Finished {
-        return Request::Nothing;
+        return Reaction::Nothing;
     }
     match heard {
         Ok(said) => match stage {
             Stage::Greeting => greeted(said),
             Stage::Serving(thread) => served(thread, said),
-            Stage::Finished => Request::Nothing,
+            Stage::Finished => Reaction::Nothing,
         },
-        Err(fault) => Request::Refuse(FRAME, fault.number()),
+        Err(fault) => Reaction::Refuse(FRAME, fault.number()),
     }
 }
 
 #[tactic(auto, unfolding(crate::specs::Asking::asks))]
-fn greeted(said: Heard) -> Request
+fn greeted(said: Heard) -> Reaction
     ensures { result ≡ asks Stage.Greeting (Ok said) }
 {
     match said {
-        Heard::Hello(number) => Request::Open(number),
-        Heard::Bye => Request::Leave,
-        Heard::Call(_) | Heard::Exreg(_, _) => Request::Refuse(SESSION, OUT_OF_PLACE),
+        Heard::Hello(number) => Reaction::Ask(Request::Open(number)),
+        Heard::Bye => Reaction::Leave,
+        Heard::Call(_) | Heard::Exreg(_, _) => Reaction::Refuse(SESSION, OUT_OF_PLACE),
     }
 }
 
 #[tactic(auto, unfolding(crate::specs::Asking::asks))]
-fn served(thread: ThreadId, said: Heard) -> Request
+fn served(thread: ThreadId, said: Heard) -> Reaction
     ensures { result ≡ asks (Stage.Serving thread) (Ok said) }
 {
     match said {
-        Heard::Hello(_) => Request::Refuse(SESSION, OUT_OF_PLACE),
-        Heard::Call(call) => Request::Enter(thread, call),
-        Heard::Exreg(target, control) => Request::Exreg {
+        Heard::Hello(_) => Reaction::Refuse(SESSION, OUT_OF_PLACE),
+        Heard::Call(call) => Reaction::Ask(Request::Enter(thread, call)),
+        Heard::Exreg(target, control) => Reaction::Ask(Request::Exreg {
+            thread,
+            target,
+            control,
+        }),
+        Heard::Bye => Reaction::Leave,
+    }
+}
+
+/// The command of the kernel that a request of a connection is which came from a space, 1 to 64.
+pub fn command_of(request: Request, space: u64) -> Command
+    ensures { result ≡ command_of request space }
+{
+    match request {
+        Request::Open(number) => Command::Open {
+            number: u64::from(number),
+            space,
+        },
+        Request::Enter(thread, call) => Command::Enter(thread, call),
+        Request::Exreg {
+            thread,
+            target,
+            control,
+        } => Command::Exreg {
             thread,
             target,
             control,
         },
-        Heard::Bye => Request::Leave,
     }
 }

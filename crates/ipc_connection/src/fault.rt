@@ -9,9 +9,3 @@ pub const SESSION: u8 = b'S';
 
 /// S1: a frame that has no place at its stage.
 pub const OUT_OF_PLACE: u8 = 1;
-
-/// K6: the thread is gone.
-pub const GONE: u8 = 6;
-
-/// K7: the thread has an open call, or an outcome that was not yet taken.
-pub const BUSY: u8 = 7;

@@ -1,4 +1,4 @@
-//! The rules of a connection: what a frame asks for, how the answer is told, what stage comes next.
+//! The rules of a connection: what a frame asks of the kernel, how its answer is told, what stage comes next.
 #![tactic(auto)]
 
 mod asking;
@@ -6,9 +6,9 @@ mod fault;
 mod replying;
 mod stage;
 
-pub use asking::{Request, asks};
-pub use fault::{BUSY, FRAME, GONE, KERNEL, OUT_OF_PLACE, SESSION};
-pub use replying::{Told, next_stage, posted, reply, thread_left};
+pub use asking::{Reaction, Request, asks, command_of};
+pub use fault::{FRAME, KERNEL, OUT_OF_PLACE, SESSION};
+pub use replying::{Told, is_posted, next_stage, reply, thread_left, told_of};
 pub use stage::Stage;
 
 #[cfg(test)]

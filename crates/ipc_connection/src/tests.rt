@@ -1,5 +1,6 @@
 use super::*;
 use ipc_calls::Heard;
+use ipc_core::{Answer, Command, Refusal};
 use ipc_frame::{Frame, FrameFault};
 use ipc_words::ThreadId;
 use std::test::Fail;
@@ -10,14 +11,23 @@ const SECOND: u64 = 0x2_0000_0001;
 #[test]
 fn a_connection_greets_is_served_and_ends(rt: HostRuntime) -> Result<(), Fail> {
     let thread = ThreadId::from_word(SECOND);
-    assert_eq!(rt;
-        matches!(asks(Stage::Greeting, Ok(Heard::Hello(2))), Request::Open(2)),
-        true
+    let Reaction::Ask(request) = asks(Stage::Greeting, Ok(Heard::Hello(2))) else {
+        assert_eq!(rt; "the kernel is asked", "");
+        return Ok(());
+    };
+    let opens = matches!(
+        command_of(request, 3),
+        Command::Open {
+            number: 2,
+            space: 3
+        }
     );
-    let welcome = reply(Told::Opened(thread));
-    assert_eq!(rt; matches!(welcome, Some(Frame::Welcome(_))), true);
-    assert_eq!(rt; posted(Told::Opened(thread)).is_none(), true);
-    let serving = next_stage(Stage::Greeting, Told::Opened(thread));
+    assert_eq!(rt; opens, true);
+    let told = told_of(Answer::Opened(thread));
+    assert_eq!(rt; told, Told::Opened(thread));
+    assert_eq!(rt; matches!(reply(told), Some(Frame::Welcome(_))), true);
+    assert_eq!(rt; is_posted(told), false);
+    let serving = next_stage(Stage::Greeting, told);
     assert_eq!(rt; serving, Stage::Serving(thread));
     let left = next_stage(serving, Told::Left);
     assert_eq!(rt; thread_left(Stage::Serving(thread), left), Some(thread));
@@ -28,6 +38,21 @@ fn a_connection_greets_is_served_and_ends(rt: HostRuntime) -> Result<(), Fail> {
 fn a_fault_is_told_by_its_number(rt: HostRuntime) -> Result<(), Fail> {
     assert_eq!(rt; FrameFault::NoMemory.number(), 14);
     let asked = asks(Stage::Greeting, Err(FrameFault::Unfinished));
-    assert_eq!(rt; matches!(asked, Request::Refuse(FRAME, 9)), true);
+    assert_eq!(rt; matches!(asked, Reaction::Refuse(FRAME, 9)), true);
+    Ok(())
+}
+
+#[test]
+fn each_refusal_is_told_by_its_number(rt: HostRuntime) -> Result<(), Fail> {
+    let told = told_of(Answer::Refused(Refusal::HistoryFull));
+    assert_eq!(rt; matches!(reply(told), Some(Frame::Refused(5))), true);
+    assert_eq!(rt; next_stage(Stage::Greeting, told), Stage::Greeting);
+    let busy = Told::Refused(Refusal::Busy);
+    assert_eq!(rt; matches!(reply(busy), Some(Frame::Fault(KERNEL, 7))), true);
+    assert_eq!(rt; is_posted(busy), true);
+    let gone = Told::Refused(Refusal::NoThread);
+    assert_eq!(rt; reply(gone).is_none(), true);
+    assert_eq!(rt; is_posted(gone), false);
+    assert_eq!(rt; next_stage(Stage::Greeting, gone), Stage::Finished);
     Ok(())
 }

@@ -7,8 +7,8 @@ use Rattle.ipc_core.specs.declared.command.Answer.{Answer}
 use Rattle.ipc_core.specs.declared.command.Command.{Command}
 use Rattle.ipc_connection.specs.Asking.{asks}
 use Rattle.ipc_connection.specs.Chain.{Chain}
-use Rattle.ipc_connection.specs.declared.asking.Request.{Request}
-use Rattle.ipc_connection.specs.declared.asking.Request.TheVariants.{Open, Enter, Exreg, Leave, Refuse, Nothing}
+use Rattle.ipc_connection.specs.declared.asking.Reaction.{Reaction}
+use Rattle.ipc_connection.specs.declared.asking.Reaction.TheVariants.{Ask, Leave, Refuse, Nothing}
 use Rattle.ipc_calls.specs.declared.heard.Heard.{Heard}
 use Rattle.ipc_connection.specs.declared.replying.Told.{Told}
 use Rattle.ipc_core.specs.Outcomes.{outcome_to_take}
@@ -16,7 +16,8 @@ use Rattle.ipc_connection.specs.declared.stage.Stage.{Stage}
 use Rattle.ipc_connection.specs.declared.stage.Stage.TheVariants.{Greeting, Serving, Finished}
 use Rattle.ipc_words.specs.Limits.{table_slots}
 use Rattle.ipc_exchange.specs.Service.{Line, ServiceParts, delivered, delivered_to, line_at, outcome_at, place_of, told_outcome, without_outcome}
-use Rattle.ipc_exchange.specs.Serving.{Asked, Does, Leaves, Memory, ObeysIn, Serves, ServesAll, ServesBy, Tells, told_of}
+use Rattle.ipc_connection.specs.Replying.{told_of}
+use Rattle.ipc_exchange.specs.Serving.{Asked, Does, Leaves, Memory, ObeysIn, Serves, ServesAll, ServesBy, Tells}
 use Rattle.ipc_exchange.specs.Events.{Commands, Event, ExchangeParts, Happens, HappenAll}
 use Rattle.ipc_exchange.specs.Events.{Connect, Piece, Finish, Reading, Copy}
 
@@ -66,11 +67,9 @@ module _
         (both _ _ _ (record { command = command; answer = does.answer } ∷ []) does.rest (one old.kernel does.between command does.answer does.obeys)
         (tells_along (record { kernel = does.between; lines = old.lines }) new place (told_of does.answer) does.rest does.tells))
 
-    by_along : (request : Request) (old new : ServiceParts) (place : ℕ) (asked : List Asked) → ServesBy memory old place request asked new → R old.kernel asked new.kernel
+    by_along : (reaction : Reaction) (old new : ServiceParts) (place : ℕ) (asked : List Asked) → ServesBy memory old place reaction asked new → R old.kernel asked new.kernel
     by_along Nothing old new place asked serves = stays _ _ asked serves.0 (ap (λ (s : ServiceParts). s.kernel) serves.1)
-    by_along (Open number) old new place asked serves = does_along old new place _ asked serves
-    by_along (Enter thread call) old new place asked serves = does_along old new place _ asked serves
-    by_along (Exreg thread target control) old new place asked serves = does_along old new place _ asked serves
+    by_along (Ask request) old new place asked serves = does_along old new place _ asked serves
     by_along Leave old new place asked serves = tells_along old new place _ asked serves
     by_along (Refuse class number) old new place asked serves = tells_along old new place _ asked serves
 

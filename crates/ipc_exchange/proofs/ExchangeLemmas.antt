@@ -13,8 +13,8 @@ use Rattle.ipc_calls.specs.Taking.{Decoding, Holds}
 use Rattle.ipc_calls.specs.declared.heard.Heard.{Heard}
 use Rattle.ipc_connection.specs.Asking.{asks}
 use Rattle.ipc_connection.specs.Chain.{Chain}
-use Rattle.ipc_connection.specs.declared.asking.Request.{Request}
-use Rattle.ipc_connection.specs.declared.asking.Request.TheVariants.{Open, Enter, Exreg, Leave, Refuse, Nothing}
+use Rattle.ipc_connection.specs.declared.asking.Reaction.{Reaction}
+use Rattle.ipc_connection.specs.declared.asking.Reaction.TheVariants.{Ask, Leave, Refuse, Nothing}
 use Rattle.ipc_connection.specs.declared.stage.Stage.{Stage}
 use Rattle.ipc_connection.specs.declared.stage.Stage.TheVariants.{Greeting, Serving, Finished}
 use Rattle.ipc_exchange.specs.Service.{Line, ServiceParts, line_at, nobody, told_line, with_line, without_bytes}
@@ -37,11 +37,9 @@ pub serves_others : (memory : Memory) (place q : ℕ) (old new : ServiceParts) (
 unfolding Serves
 serves_others memory place q old new heard asked other serves = go (asks (line_at old.lines place).stage heard) serves
   where
-    go : (request : Request) → ServesBy memory old place request asked new → (line_at new.lines q).stage ≡ (line_at old.lines q).stage
+    go : (reaction : Reaction) → ServesBy memory old place reaction asked new → (line_at new.lines q).stage ≡ (line_at old.lines q).stage
     go Nothing s = ap (λ (x : ServiceParts). (line_at x.lines q).stage) s.1
-    go (Open number) s = tells_others memory place q _ new s.rest _ other s.tells
-    go (Enter thread call) s = tells_others memory place q _ new s.rest _ other s.tells
-    go (Exreg thread target control) s = tells_others memory place q _ new s.rest _ other s.tells
+    go (Ask request) s = tells_others memory place q _ new s.rest _ other s.tells
     go Leave s = tells_others memory place q old new asked _ other s
     go (Refuse class number) s = tells_others memory place q old new asked _ other s
 

@@ -13,17 +13,17 @@ use Rattle.ipc_core.specs.declared.command.Command.{Command}
 use Rattle.ipc_core.specs.declared.command.Command.TheVariants as command
 use Rattle.ipc_calls.specs.Hearing.{heard_at_end, left_in}
 use Rattle.ipc_calls.specs.declared.heard.Heard.{Heard}
-use Rattle.ipc_connection.specs.Asking.{asks}
+use Rattle.ipc_connection.specs.Asking.{asks, command_of}
 use Rattle.ipc_connection.specs.Chain.{Chain}
-use Rattle.ipc_connection.specs.Replying.{next_stage, reply, thread_left}
-use Rattle.ipc_connection.specs.declared.asking.Request.{Request}
-use Rattle.ipc_connection.specs.declared.asking.Request.TheVariants.{Open, Enter, Exreg, Leave, Refuse, Nothing}
+use Rattle.ipc_connection.specs.Replying.{next_stage, reply, thread_left, told_of}
+use Rattle.ipc_connection.specs.declared.asking.Reaction.{Reaction}
+use Rattle.ipc_connection.specs.declared.asking.Reaction.TheVariants.{Ask, Leave, Refuse, Nothing}
 use Rattle.ipc_connection.specs.declared.replying.Told.{Told}
 use Rattle.ipc_connection.specs.declared.replying.Told.TheVariants.{Faulted, Left}
 use Rattle.ipc_connection.specs.declared.stage.Stage.{Stage}
 use Rattle.ipc_connection.specs.declared.stage.Stage.TheVariants.{Greeting}
 use Rattle.ipc_exchange.specs.Service.{Line, ServiceParts, delivered, delivered_to, line_at, outcome_at, place_of, text_of, told_line, told_outcome, with_outcome, without_outcome}
-use Rattle.ipc_exchange.specs.Serving.{Asked, Does, Leaves, Memory, ObeysIn, Serves, ServesAll, ServesBy, Tells, told_of}
+use Rattle.ipc_exchange.specs.Serving.{Asked, Does, Leaves, Memory, ObeysIn, Serves, ServesAll, ServesBy, Tells}
 use Rattle.ipc_exchange.specs.Events.{Commands, Event, ExchangeParts, HappenAll, Happens, held_at, holding, kept}
 use Rattle.ipc_exchange.specs.Events.{Connect, Copy, Finish, Piece, Reading}
 
@@ -127,13 +127,11 @@ module _ (kernel_to : KernelParts → KernelParts) (lines_to : List Line → Lis
           tells.1,
         )
 
-    by_seen : (request : Request) (old new : ServiceParts) (place : ℕ) (asked : List Asked) → Fits old.lines → ServesBy memory old place request asked new → ServesBy memory (seen old) place request asked (seen new) × Fits new.lines
+    by_seen : (reaction : Reaction) (old new : ServiceParts) (place : ℕ) (asked : List Asked) → Fits old.lines → ServesBy memory old place reaction asked new → ServesBy memory (seen old) place reaction asked (seen new) × Fits new.lines
     by_seen Nothing old new place asked fits s = ((s.0, ap seen s.1), subst (λ (x : ServiceParts). Fits x.lines) (sym s.1) fits)
-    by_seen (Open number) old new place asked fits s =
-        let does = does_seen old new place (command.Open number (line_at old.lines place).space) asked fits s in
-        (subst (λ (space : ℕ). Does memory (seen old) place (command.Open number space) asked (seen new)) (sym (passes.space old.lines place)) does.0, does.1)
-    by_seen (Enter thread call) old new place asked fits s = does_seen old new place _ asked fits s
-    by_seen (Exreg thread target control) old new place asked fits s = does_seen old new place _ asked fits s
+    by_seen (Ask request) old new place asked fits s =
+        let does = does_seen old new place (command_of request (line_at old.lines place).space) asked fits s in
+        (subst (λ (space : ℕ). Does memory (seen old) place (command_of request space) asked (seen new)) (sym (passes.space old.lines place)) does.0, does.1)
     by_seen Leave old new place asked fits s = tells_seen old new place Left asked fits s
     by_seen (Refuse class number) old new place asked fits s = tells_seen old new place (Faulted class number) asked fits s
 

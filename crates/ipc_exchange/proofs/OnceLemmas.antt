@@ -14,11 +14,12 @@ use Rattle.ipc_calls.specs.Hearing.{heard_at_end, heard_in, left_in}
 use Rattle.ipc_calls.specs.declared.heard.Heard.{Heard}
 use Rattle.ipc_connection.specs.Asking.{asks}
 use Rattle.ipc_connection.specs.Chain.{Chain}
-use Rattle.ipc_connection.specs.declared.asking.Request.{Request}
-use Rattle.ipc_connection.specs.declared.asking.Request.TheVariants.{Open, Enter, Exreg, Leave, Refuse, Nothing}
+use Rattle.ipc_connection.specs.declared.asking.Reaction.{Reaction}
+use Rattle.ipc_connection.specs.declared.asking.Reaction.TheVariants.{Ask, Leave, Refuse, Nothing}
 use Rattle.ipc_connection.specs.declared.replying.Told.{Told}
 use Rattle.ipc_exchange.specs.Service.{Line, ServiceParts, at_rest, delivered, line_at, told_line}
-use Rattle.ipc_exchange.specs.Serving.{Ample, Asked, Does, Leaves, ObeysIn, Serves, ServesAll, ServesBy, Tells, every_entry, told_of}
+use Rattle.ipc_connection.specs.Replying.{told_of}
+use Rattle.ipc_exchange.specs.Serving.{Ample, Asked, Does, Leaves, ObeysIn, Serves, ServesAll, ServesBy, Tells, every_entry}
 use Rattle.ipc_exchange.specs.Events.{Commands, Event, ExchangeParts, Happens, HappenAll, connected, held_at, holding, kept}
 use Rattle.ipc_exchange.specs.Events.{Connect, Piece, Finish, Reading, Copy}
 use Rattle.ipc_exchange.specs.Laws.{HappenOnce, without_history_room}
@@ -84,12 +85,10 @@ does_once k l lines one other place command xs ys alike legal d e =
     let rest = tells_once d.between e.between lines one other place (told_of d.answer) d.rest e.rest once.alike after d.tells tells in
     (d.asked_is ∙ (ap₂ (λ (a : Answer) (l : List Asked). record { command = command; answer = a } ∷ l) once.answers rest.0 ∙ sym e.asked_is), rest.1)
 
-by_once : (request : Request) (k l : KernelParts) (lines : List Line) (one other : ServiceParts) (place : ℕ) (xs ys : List Asked) → Alike k l → Legal k.history → ServesBy Ample (with_lines k lines) place request xs one → ServesBy Ample (with_lines l lines) place request ys other → Same xs ys one other
+by_once : (reaction : Reaction) (k l : KernelParts) (lines : List Line) (one other : ServiceParts) (place : ℕ) (xs ys : List Asked) → Alike k l → Legal k.history → ServesBy Ample (with_lines k lines) place reaction xs one → ServesBy Ample (with_lines l lines) place reaction ys other → Same xs ys one other
 by_once Nothing k l lines one other place xs ys alike legal s t =
     (s.0 ∙ sym t.0, ap bare s.1 ∙ (ap (λ (x : KernelParts). with_lines x lines) alike ∙ sym (ap bare t.1)))
-by_once (Open number) k l lines one other place xs ys alike legal s t = does_once k l lines one other place _ xs ys alike legal s t
-by_once (Enter thread call) k l lines one other place xs ys alike legal s t = does_once k l lines one other place _ xs ys alike legal s t
-by_once (Exreg thread target control) k l lines one other place xs ys alike legal s t = does_once k l lines one other place _ xs ys alike legal s t
+by_once (Ask request) k l lines one other place xs ys alike legal s t = does_once k l lines one other place _ xs ys alike legal s t
 by_once Leave k l lines one other place xs ys alike legal s t = tells_once k l lines one other place _ xs ys alike legal s t
 by_once (Refuse class number) k l lines one other place xs ys alike legal s t = tells_once k l lines one other place _ xs ys alike legal s t
 

@@ -11,8 +11,8 @@ use Rattle.ipc_calls.specs.declared.heard.Heard.{Heard}
 use Rattle.ipc_connection.specs.Asking.{asks}
 use Rattle.ipc_connection.specs.Chain.{Chain}
 use Rattle.ipc_connection.specs.Replying.{reply}
-use Rattle.ipc_connection.specs.declared.asking.Request.{Request}
-use Rattle.ipc_connection.specs.declared.asking.Request.TheVariants.{Open, Enter, Exreg, Leave, Refuse, Nothing}
+use Rattle.ipc_connection.specs.declared.asking.Reaction.{Reaction}
+use Rattle.ipc_connection.specs.declared.asking.Reaction.TheVariants.{Ask, Leave, Refuse, Nothing}
 use Rattle.ipc_connection.specs.declared.replying.Told.{Told}
 use Rattle.ipc_exchange.specs.Service.{Line, ServiceParts, delivered, delivered_to, line_at, outcome_at, place_of, text_of, told_line, told_outcome, with_outcome}
 use Rattle.ipc_words.specs.Limits.{table_slots}
@@ -80,11 +80,9 @@ module _ (memory : Memory) where
   unfolding Serves
   serves_grows place old new heard asked serves = go (asks (line_at old.lines place).stage heard) serves
     where
-      go : (request : Request) → ServesBy memory old place request asked new → Grow old.lines new.lines
+      go : (reaction : Reaction) → ServesBy memory old place reaction asked new → Grow old.lines new.lines
       go Nothing s = subst (λ (x : ServiceParts). Grow old.lines x.lines) (sym s.1) (grow_none old.lines)
-      go (Open number) s = tells_grows place _ new _ s.rest s.tells
-      go (Enter thread call) s = tells_grows place _ new _ s.rest s.tells
-      go (Exreg thread target control) s = tells_grows place _ new _ s.rest s.tells
+      go (Ask request) s = tells_grows place _ new _ s.rest s.tells
       go Leave s = tells_grows place old new _ asked s
       go (Refuse class number) s = tells_grows place old new _ asked s
 

@@ -16,8 +16,7 @@ use Rattle.ipc_core.specs.declared.command.Answer.{Answer}
 use Rattle.ipc_core.specs.declared.command.Answer.TheVariants.{Opened}
 use Rattle.ipc_core.specs.declared.command.Command.{Command}
 use Rattle.ipc_core.specs.declared.command.Command.TheVariants.{Open, Enter, Exreg, Broke, At, Advance, Take}
-use Rattle.ipc_connection.specs.Faults.{busy, gone}
-use Rattle.ipc_connection.specs.Replying.{next_stage, thread_left}
+use Rattle.ipc_connection.specs.Replying.{ends_by, next_stage, thread_left}
 use Rattle.ipc_connection.specs.declared.stage.Stage.{Stage}
 use Rattle.ipc_connection.specs.declared.stage.Stage.TheVariants.{Greeting, Serving, Finished}
 use Rattle.ipc_connection.specs.declared.replying.Told.{Told}
@@ -185,7 +184,7 @@ module _ (s : ServiceSlots) (place : ℕ) (slot : LineSlots) (within : place < l
     other_found (tells.Opened thread) fresh q t other e = get_or-set_other s.table (number_of thread) (number_of t) (suc place) 0 (fresh.alone q t other e)
     other_found tells.Entered fresh q t other e = refl
     other_found (tells.Exchanged result control code) fresh q t other e = refl
-    other_found (tells.Refused number) fresh q t other e = refl
+    other_found (tells.Refused refusal) fresh q t other e = refl
     other_found (tells.Faulted class number) fresh q t other e = refl
     other_found tells.Left fresh q t other e = refl
 
@@ -200,7 +199,7 @@ module _ (s : ServiceSlots) (place : ℕ) (slot : LineSlots) (within : place < l
         })
     here_placed tells.Entered fresh t e = ready.placed place t (sym was ∙ e)
     here_placed (tells.Exchanged result control code) fresh t e = ready.placed place t (sym was ∙ e)
-    here_placed (tells.Refused number) fresh t e = go ((number == gone) || (number == busy)) e
+    here_placed (tells.Refused refusal) fresh t e = go (ends_by refusal) e
       where
         go : (b : Bool) → (if b then Finished else old) ≡ Serving t → IsPlaced s.kernel s.table place t
         go true g = absurd cc
@@ -212,7 +211,7 @@ module _ (s : ServiceSlots) (place : ℕ) (slot : LineSlots) (within : place < l
     table_length (tells.Opened thread) = length-set s.table (number_of thread) (suc place) ∙ ready.table
     table_length tells.Entered = ready.table
     table_length (tells.Exchanged result control code) = ready.table
-    table_length (tells.Refused number) = ready.table
+    table_length (tells.Refused refusal) = ready.table
     table_length (tells.Faulted class number) = ready.table
     table_length tells.Left = ready.table
 

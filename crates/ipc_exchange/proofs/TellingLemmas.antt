@@ -14,9 +14,11 @@ use Rattle.ipc_core.specs.declared.command.Command.TheVariants.{Open, Enter, Exr
 use Rattle.ipc_core.specs.declared.refusal.Refusal.{Refusal}
 use Rattle.ipc_calls.specs.declared.heard.Heard.{Heard}
 use Rattle.ipc_calls.specs.declared.heard.Heard.TheVariants as heard
-use Rattle.ipc_connection.specs.Asking.{asks}
-use Rattle.ipc_connection.specs.Replying.{next_stage, thread_left}
+use Rattle.ipc_connection.specs.Asking.{asks, command_of}
+use Rattle.ipc_connection.specs.Replying.{next_stage, thread_left, told_of}
 use Rattle.ipc_history.specs.CallParts.{CallParts}
+use Rattle.ipc_connection.specs.declared.asking.Reaction.{Reaction}
+use Rattle.ipc_connection.specs.declared.asking.Reaction.TheVariants.{Ask}
 use Rattle.ipc_connection.specs.declared.asking.Request.{Request}
 use Rattle.ipc_connection.specs.declared.asking.Request.TheVariants as request
 use Rattle.ipc_connection.specs.declared.stage.Stage.{Stage}
@@ -24,8 +26,8 @@ use Rattle.ipc_connection.specs.declared.stage.Stage.TheVariants.{Greeting, Serv
 use Rattle.ipc_connection.specs.declared.replying.Told.{Told}
 use Rattle.ipc_connection.specs.declared.replying.Told.TheVariants as tells
 use Rattle.ipc_exchange.specs.Service.{Line, at_rest, delivered, line_at, nobody, told_line, without_bytes}
-use Rattle.ipc_exchange.specs.Serving.{Asked, Does, DoesAlone, Leaves, MayLack, Serves, ServesBy, Tells, every_entry, told_of}
-use Rattle.ipc_exchange.specs.Slots.{CanAsk, CanDo, CanServe, CanTell, HasRoom, IsPlaced, LineSlots, MayGet, NoneServes, Ready, ServiceSlots, StaysReady, SuitsRequest, SuitsTold, WantsRoom, lines_of, no_slots, service_of, slot_at, stage_at, table_told}
+use Rattle.ipc_exchange.specs.Serving.{Asked, Does, DoesAlone, Leaves, MayLack, Serves, ServesBy, Tells, every_entry}
+use Rattle.ipc_exchange.specs.Slots.{CanDo, CanReact, CanServe, CanTell, HasRoom, IsPlaced, LineSlots, MayGet, NoneServes, Ready, ServiceSlots, StaysReady, SuitsReaction, SuitsTold, WantsRoom, lines_of, no_slots, service_of, slot_at, stage_at, table_told}
 use Rattle.ipc_exchange.proofs.ReadyLemmas.{ample, ended, left_alone, obeyed_ready, opened_fresh, room_ready, roomier, told_ready}
 use Rattle.ipc_exchange.proofs.RestedLemmas.{rested_alone, rested_obeys}
 
@@ -40,7 +42,7 @@ slot_self (s ∷ slots) zero h = refl
 slot_self (s ∷ slots) (suc place) h = slot_self slots place (omega arith)
 
 -- a request suits its line
-asks_suits : (kernel : KernelParts) (slot : LineSlots) (stage : Stage) (said : Result Heard FrameFault) → slot.line.stage ≡ stage → HasRoom kernel slot → (WantsRoom said → 3 ≤ slot.free) → SuitsRequest stage slot.free (asks stage said)
+asks_suits : (kernel : KernelParts) (slot : LineSlots) (stage : Stage) (said : Result Heard FrameFault) → slot.line.stage ≡ stage → HasRoom kernel slot → (WantsRoom said → 3 ≤ slot.free) → SuitsReaction stage slot.free (asks stage said)
 unfolding asks
 asks_suits kernel slot Greeting (Err fault) e has room = has.greeting e
 asks_suits kernel slot Greeting (Ok (heard.Hello number)) e has room = room tt
@@ -54,11 +56,11 @@ asks_suits kernel slot (Serving thread) (Ok (heard.Exreg target control)) e has 
 asks_suits kernel slot (Serving thread) (Ok heard.Bye) e has room = has.serving thread e
 asks_suits kernel slot Finished said e has room = tt
 
-pub can_ask : (s : ServiceSlots) (place : ℕ) (said : Result Heard FrameFault) (stage : Stage) (asked : Request) → CanServe s place said → stage_at s.slots place ≡ stage → asked ≡ asks stage said → CanAsk s place asked
-can_ask s place said stage asked can e is = record {
+pub can_react : (s : ServiceSlots) (place : ℕ) (said : Result Heard FrameFault) (stage : Stage) (asked : Reaction) → CanServe s place said → stage_at s.slots place ≡ stage → asked ≡ asks stage said → CanReact s place asked
+can_react s place said stage asked can e is = record {
   within = can.within;
   ready = can.ready;
-  suits = subst (λ r. SuitsRequest (stage_at s.slots place) (slot_at s.slots place).free r) (sym (is ∙ ap (λ t. asks t said) (sym e))) (asks_suits s.kernel (slot_at s.slots place) (stage_at s.slots place) said refl (can.ready.room place) can.room);
+  suits = subst (λ r. SuitsReaction (stage_at s.slots place) (slot_at s.slots place).free r) (sym (is ∙ ap (λ t. asks t said) (sym e))) (asks_suits s.kernel (slot_at s.slots place) (stage_at s.slots place) said refl (can.ready.room place) can.room);
 }
 
 -- what ends a connection can be told
@@ -94,7 +96,7 @@ suits_any : (free : ℕ) (told : Told) → 3 ≤ free → SuitsTold free told
 suits_any free (tells.Opened thread) three = three
 suits_any free tells.Entered three = three
 suits_any free (tells.Exchanged result control code) three = three
-suits_any free (tells.Refused number) three = three
+suits_any free (tells.Refused refusal) three = three
 suits_any free (tells.Faulted class number) three = omega (arith, three)
 suits_any free tells.Left three = omega (arith, three)
 
@@ -102,7 +104,7 @@ suits_one : (free : ℕ) (told : Told) → SuitsTold free told → 1 ≤ free
 suits_one free (tells.Opened thread) room = omega (arith, room)
 suits_one free tells.Entered room = omega (arith, room)
 suits_one free (tells.Exchanged result control code) room = omega (arith, room)
-suits_one free (tells.Refused number) room = omega (arith, room)
+suits_one free (tells.Refused refusal) room = omega (arith, room)
 suits_one free (tells.Faulted class number) room = room
 suits_one free tells.Left room = room
 
@@ -166,10 +168,10 @@ does_by old middle last place given told obeyed slots tells =
     )
 
 -- what was heard, served as the stage of its line asks
-pub serves_by : (old last : ServiceSlots) (place : ℕ) (said : Result Heard FrameFault) (request : Request) → request ≡ asks (stage_at old.slots place) said → ((asked : List Asked) × ServesBy MayLack (service_of old) place request asked (service_of last)) → (asked : List Asked) × Serves MayLack (service_of old) place said asked (service_of last)
+pub serves_by : (old last : ServiceSlots) (place : ℕ) (said : Result Heard FrameFault) (reaction : Reaction) → reaction ≡ asks (stage_at old.slots place) said → ((asked : List Asked) × ServesBy MayLack (service_of old) place reaction asked (service_of last)) → (asked : List Asked) × Serves MayLack (service_of old) place said asked (service_of last)
 unfolding Serves
-serves_by old last place said request is serves =
-    let same : request ≡ asks (line_at (lines_of old.slots) place).stage said = is ∙ ap (λ (l : Line). asks l.stage said) (sym (line_there old.slots place)) in
+serves_by old last place said reaction is serves =
+    let same : reaction ≡ asks (line_at (lines_of old.slots) place).stage said = is ∙ ap (λ (l : Line). asks l.stage said) (sym (line_there old.slots place)) in
     (serves.0, subst (λ r. ServesBy MayLack (service_of old) place r serves.0 (service_of last)) same serves.1)
 
 -- the line in a place is told something, and the table names the line of a thread that was opened
@@ -204,7 +206,7 @@ module _ (s now : ServiceSlots) (place : ℕ) (told : Told) (read new : LineSlot
         go (tells.Opened thread) room e = kept room
         go tells.Entered room e = kept room
         go (tells.Exchanged result control code) room e = kept room
-        go (tells.Refused number) room e = kept room
+        go (tells.Refused refusal) room e = kept room
         go (tells.Faulted class number) room e = ended s.kernel new e
         go tells.Left room e = ended s.kernel new e
 
@@ -231,21 +233,11 @@ module _ (s now : ServiceSlots) (place : ℕ) (told : Told) (read new : LineSlot
 pub stage_read : (slots items : List LineSlots) (place : ℕ) (slot : LineSlots) (stage : Stage) → place < length slots → items ≡ slots → slot ≡ slice_index_or items place slot → stage ≡ slot.line.stage → stage_at slots place ≡ stage
 stage_read slots items place slot stage within same there is = ap (λ (l : LineSlots). l.line.stage) (at_line slots place slot within (there ∙ ap (λ l. slice_index_or l place slot) same)) ∙ sym is
 
--- the requests
-pub do_open : (s : ServiceSlots) (place number number64 space : ℕ) → CanAsk s place (request.Open number) → CanDo s place (Open number64 space)
-do_open s place number number64 space can = record { within = can.within; ready = can.ready; room = can.suits; suits = tt }
-
-pub do_enter : (s : ServiceSlots) (place thread : ℕ) (call : CallParts) → CanAsk s place (request.Enter thread call) → CanDo s place (Enter thread call)
-do_enter s place thread call can = record { within = can.within; ready = can.ready; room = can.suits.0; suits = can.suits.1 }
-
-pub do_exreg : (s : ServiceSlots) (place thread target control : ℕ) → CanAsk s place (request.Exreg thread target control) → CanDo s place (Exreg thread target control)
-do_exreg s place thread target control can = record { within = can.within; ready = can.ready; room = can.suits; suits = tt }
-
-pub end_leave : (s : ServiceSlots) (place : ℕ) → CanAsk s place request.Leave → CanTell s place tells.Left
-end_leave s place can = can_end s place tells.Left can.within can.ready can.suits tt
-
-pub end_refuse : (s : ServiceSlots) (place class number : ℕ) → CanAsk s place (request.Refuse class number) → CanTell s place (tells.Faulted class number)
-end_refuse s place class number can = can_end s place (tells.Faulted class number) can.within can.ready can.suits tt
+-- a line that may ask can give the kernel the command
+pub do_asked : (s : ServiceSlots) (place space : ℕ) (asked : Request) → CanReact s place (Ask asked) → CanDo s place (command_of asked space)
+do_asked s place space (request.Open number) can = record { within = can.within; ready = can.ready; room = can.suits; suits = tt }
+do_asked s place space (request.Enter thread call) can = record { within = can.within; ready = can.ready; room = can.suits.0; suits = can.suits.1 }
+do_asked s place space (request.Exreg thread target control) can = record { within = can.within; ready = can.ready; room = can.suits; suits = tt }
 
 -- a command of nobody's
 pub does_alone : (s middle last : ServiceSlots) (command : Command) (said : Answer) → lacks_entries s.kernel command ≡ false → MayObey s.kernel command said middle.kernel → middle.slots ≡ s.slots → service_of last ≡ delivered (at_rest middle.kernel) (lines_of middle.slots) → DoesAlone MayLack (service_of s) command (service_of last)

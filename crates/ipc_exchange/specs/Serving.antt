@@ -6,21 +6,19 @@ use Rattle.ipc_frame.specs.Stream.{Stream}
 use Rattle.ipc_core.specs.Again.{MakesRoom}
 use Rattle.ipc_core.specs.KernelParts.{KernelParts}
 use Rattle.ipc_core.specs.Obeying.{Obeys, MayObey}
-use Rattle.ipc_core.specs.RefusalNumbers.{refusal_number}
 use Rattle.ipc_core.specs.declared.command.Answer.{Answer}
-use Rattle.ipc_core.specs.declared.command.Answer.TheVariants as answer
 use Rattle.ipc_core.specs.declared.command.Command.{Command}
 use Rattle.ipc_core.specs.declared.command.Command.TheVariants as command
-use Rattle.ipc_connection.specs.Asking.{asks}
+use Rattle.ipc_connection.specs.Asking.{asks, command_of}
 use Rattle.ipc_connection.specs.Chain.{Chain}
-use Rattle.ipc_connection.specs.Replying.{next_stage, thread_left}
-use Rattle.ipc_connection.specs.declared.asking.Request.{Request}
-use Rattle.ipc_connection.specs.declared.asking.Request.TheVariants.{Open, Enter, Exreg, Leave, Refuse, Nothing}
+use Rattle.ipc_connection.specs.Replying.{next_stage, thread_left, told_of}
+use Rattle.ipc_connection.specs.declared.asking.Reaction.{Reaction}
+use Rattle.ipc_connection.specs.declared.asking.Reaction.TheVariants.{Ask, Leave, Refuse, Nothing}
 use Rattle.ipc_calls.specs.Hearing.{IsCut, heard_in, heard_of}
 use Rattle.ipc_calls.specs.Taking as taking
 use Rattle.ipc_calls.specs.declared.heard.Heard.{Heard}
 use Rattle.ipc_connection.specs.declared.replying.Told.{Told}
-use Rattle.ipc_connection.specs.declared.replying.Told.TheVariants.{Opened, Entered, Exchanged, Refused, Faulted, Left}
+use Rattle.ipc_connection.specs.declared.replying.Told.TheVariants.{Faulted, Left}
 use Rattle.ipc_exchange.specs.Service.{ServiceParts, at_rest, delivered, line_at, told_line}
 use Rattle.ipc_exchange.specs.Slots.{WantsRoom}
 
@@ -50,16 +48,6 @@ pub record ObeysIn (memory : Memory) (old : KernelParts) (command : Command) (an
   pub after : KernelParts
   pub answers : AnswersIn memory roomy command answer after
   pub new_is : new ≡ at_rest after
-
--- what a kernel's answer tells a connection
-abbrev pub told_of : Answer → Told
-told_of (answer.Opened thread) = Opened thread
-told_of (answer.Entered number) = Entered
-told_of (answer.Exchanged exchanged) = Exchanged exchanged.result exchanged.control exchanged.code
-told_of (answer.Refused refusal) = Refused (refusal_number refusal)
-told_of answer.Done = Entered
-told_of (answer.Advanced advance) = Entered
-told_of (answer.Taken outcome) = Entered
 
 -- a thread, if there is one, ends
 abbrev pub Leaves : Memory → KernelParts → Option ℕ → List Asked → KernelParts → Type 0
@@ -95,14 +83,11 @@ Answers memory old command answer new =
 abbrev pub DoesAlone : Memory → ServiceParts → Command → ServiceParts → Type 0
 DoesAlone memory old command new = (answer : Answer) × Answers memory old command answer new
 
--- a request of the line in a place
-abbrev pub ServesBy : Memory → ServiceParts → ℕ → Request → List Asked → ServiceParts → Type 0
+-- what is done for the line in a place
+abbrev pub ServesBy : Memory → ServiceParts → ℕ → Reaction → List Asked → ServiceParts → Type 0
 ServesBy memory old place Nothing asked new = (asked ≡ []) × (new ≡ old)
-ServesBy memory old place (Open number) asked new =
-    Does memory old place (command.Open number (line_at old.lines place).space) asked new
-ServesBy memory old place (Enter thread call) asked new = Does memory old place (command.Enter thread call) asked new
-ServesBy memory old place (Exreg thread target control) asked new =
-    Does memory old place (command.Exreg thread target control) asked new
+ServesBy memory old place (Ask request) asked new =
+    Does memory old place (command_of request (line_at old.lines place).space) asked new
 ServesBy memory old place Leave asked new = Tells memory old place Left asked new
 ServesBy memory old place (Refuse class number) asked new = Tells memory old place (Faulted class number) asked new
 

@@ -13,7 +13,8 @@ pub use Rattle.ipc_core.specs.Laws.{is_call_of}
 use Rattle.ipc_core.specs.Outcomes.{is_busy}
 use Rattle.ipc_core.specs.declared.command.Command.{Command}
 use Rattle.ipc_core.specs.declared.command.Command.TheVariants.{Open, Enter, Exreg, Broke, At, Advance, Take}
-use Rattle.ipc_connection.specs.declared.asking.Request.{Request}
+use Rattle.ipc_connection.specs.declared.asking.Reaction.{Reaction}
+use Rattle.ipc_connection.specs.declared.asking.Reaction.TheVariants as reaction
 use Rattle.ipc_connection.specs.declared.asking.Request.TheVariants as request
 use Rattle.ipc_connection.specs.declared.replying.Told.{Told}
 use Rattle.ipc_connection.specs.declared.replying.Told.TheVariants.{Opened, Entered, Exchanged, Refused, Faulted, Left}
@@ -90,7 +91,7 @@ abbrev pub MayGet : KernelParts → List LineSlots → ℕ → Told → Type 0
 MayGet kernel slots place (Opened thread) = IsFresh kernel slots place thread
 MayGet kernel slots place Entered = ⊤
 MayGet kernel slots place (Exchanged result control code) = ⊤
-MayGet kernel slots place (Refused number) = ⊤
+MayGet kernel slots place (Refused refusal) = ⊤
 MayGet kernel slots place (Faulted class number) = ⊤
 MayGet kernel slots place Left = ⊤
 
@@ -99,7 +100,7 @@ abbrev pub table_told : Told → ℕ → List ℕ → List ℕ
 table_told (Opened thread) place table = slice_set table (number_of thread) (suc place)
 table_told Entered place table = table
 table_told (Exchanged result control code) place table = table
-table_told (Refused number) place table = table
+table_told (Refused refusal) place table = table
 table_told (Faulted class number) place table = table
 table_told Left place table = table
 
@@ -117,21 +118,21 @@ SuitsStage stage (At reading) = ⊤
 SuitsStage stage Advance = ⊤
 SuitsStage stage (Take thread) = ⊤
 
--- a request that a line at a stage, with room for so many answers, may make
-abbrev pub SuitsRequest : Stage → ℕ → Request → Type 0
-SuitsRequest stage free (request.Open number) = 3 ≤ free
-SuitsRequest stage free (request.Enter thread call) = (3 ≤ free) × (stage ≡ Serving thread)
-SuitsRequest stage free (request.Exreg thread target control) = 3 ≤ free
-SuitsRequest stage free request.Leave = 1 ≤ free
-SuitsRequest stage free (request.Refuse class number) = 1 ≤ free
-SuitsRequest stage free request.Nothing = ⊤
+-- what may be done for a line at a stage, with room for so many answers
+abbrev pub SuitsReaction : Stage → ℕ → Reaction → Type 0
+SuitsReaction stage free (reaction.Ask (request.Open number)) = 3 ≤ free
+SuitsReaction stage free (reaction.Ask (request.Enter thread call)) = (3 ≤ free) × (stage ≡ Serving thread)
+SuitsReaction stage free (reaction.Ask (request.Exreg thread target control)) = 3 ≤ free
+SuitsReaction stage free reaction.Leave = 1 ≤ free
+SuitsReaction stage free (reaction.Refuse class number) = 1 ≤ free
+SuitsReaction stage free reaction.Nothing = ⊤
 
 -- what is told with room for so many answers: what ends a connection needs no more than one
 abbrev pub SuitsTold : ℕ → Told → Type 0
 SuitsTold free (Opened thread) = 3 ≤ free
 SuitsTold free Entered = 3 ≤ free
 SuitsTold free (Exchanged result control code) = 3 ≤ free
-SuitsTold free (Refused number) = 3 ≤ free
+SuitsTold free (Refused refusal) = 3 ≤ free
 SuitsTold free (Faulted class number) = 1 ≤ free
 SuitsTold free Left = 1 ≤ free
 
@@ -149,11 +150,11 @@ pub record CanServe (service : ServiceSlots) (place : ℕ) (said : Result Heard 
   pub ready : Ready service
   pub room : WantsRoom said → 3 ≤ (slot_at service.slots place).free
 
--- can make a request
-pub record CanAsk (service : ServiceSlots) (place : ℕ) (request : Request) : Type 0 where
+-- this can be done for it
+pub record CanReact (service : ServiceSlots) (place : ℕ) (reaction : Reaction) : Type 0 where
   pub within : place < length service.slots
   pub ready : Ready service
-  pub suits : SuitsRequest (stage_at service.slots place) (slot_at service.slots place).free request
+  pub suits : SuitsReaction (stage_at service.slots place) (slot_at service.slots place).free reaction
 
 -- can give the kernel a command
 pub record CanDo (service : ServiceSlots) (place : ℕ) (command : Command) : Type 0 where

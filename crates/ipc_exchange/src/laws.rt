@@ -1,7 +1,3 @@
-ghost use Rattle.std.specs.Prelude.{◌≡◌};
-ghost use Rattle.ipc_connection.specs.Faults.{busy, gone};
-ghost use Rattle.ipc_core.specs.RefusalNumbers.{refusal_number};
-ghost use Rattle.ipc_core.specs.declared.refusal.Refusal.TheVariants.{Busy, NoThread};
 ghost use Rattle.ipc_exchange.specs.Laws.{CallsAreAccepted, HappenOnce, LegalStays, OutGrows, PiecesJoin};
 ghost use Rattle.ipc_exchange.specs.Apart.{OutputApart};
 
@@ -29,12 +25,6 @@ pub fn happen_once()
 /// What waits on a connection gets more at its end alone, whatever happens.
 pub fn out_grows()
     ensures { OutGrows }
-{}
-
-/// The refusals that end a connection, by their numbers, are the kernel's K6 and K7: no such thread, and busy.
-pub fn endings_are_refusals()
-    ensures gone { gone ≡ refusal_number NoThread }
-    ensures busy { busy ≡ refusal_number Busy }
 {}
 
 /// An output and then an event are the event and then the output: bytes that went out change nothing that happens.

@@ -15,12 +15,10 @@ mod running;
 mod service;
 #[cfg(test)]
 mod tests;
-mod told;
 
 pub use event::{Event, Reply};
 pub use exchange::Exchange;
 pub use laws::{
-    calls_are_accepted, endings_are_refusals, happen_once, legal_stays, out_grows, output_apart,
-    pieces_join,
+    calls_are_accepted, happen_once, legal_stays, out_grows, output_apart, pieces_join,
 };
 pub use progress::{ConnectRefused, Progress};

@@ -10,21 +10,22 @@ ghost use Rattle.ipc_core.specs.Obeying.{MayObey, empty_kernel, broke_answer};
 ghost use Rattle.ipc_core.specs.declared.command.Answer.{Answer};
 ghost use Rattle.ipc_core.specs.declared.command.Answer.TheVariants as answer;
 ghost use Rattle.ipc_core.specs.declared.command.Command.TheVariants as command;
-ghost use Rattle.ipc_connection.specs.Replying.{next_stage, thread_left};
+ghost use Rattle.ipc_connection.specs.Replying.{next_stage, thread_left, told_of};
 ghost use Rattle.ipc_exchange.specs.Feeding.{has_finished};
 ghost use Rattle.ipc_exchange.specs.Service.{at_rest, delivered, line_at, place_of};
 ghost use Rattle.ipc_exchange.specs.Service.{told_line, told_outcome, with_line, without_bytes};
 ghost use Rattle.ipc_exchange.specs.Serving.{Asked, Does, DoesAlone, Leaves, MayLack, Serves, ServesBy, Tells};
-ghost use Rattle.ipc_exchange.specs.Serving.{every_entry, told_of};
-ghost use Rattle.ipc_exchange.specs.Slots.{CanAsk, CanDo, CanServe, CanTell, NoneServes, Ready};
+ghost use Rattle.ipc_exchange.specs.Serving.{every_entry};
+ghost use Rattle.ipc_exchange.specs.Slots.{CanDo, CanReact, CanServe, CanTell, NoneServes, Ready};
 ghost use Rattle.ipc_exchange.specs.Slots.{StaysReady, lines_of, service_of, slot_at, stage_at};
 ghost use Rattle.ipc_exchange.specs.Slots.{table_told};
 
 use crate::desk::Desk;
 use crate::lines::Lines;
-use crate::told::told_of;
 use ipc_calls::Heard;
-use ipc_connection::{Request, Stage, Told, asks, next_stage, thread_left};
+use ipc_connection::{
+    Reaction, Request, Stage, Told, asks, command_of, next_stage, thread_left, told_of,
+};
 use ipc_core::{Advance, Command, Limits, NoThread};
 use ipc_frame::FrameFault;
 use ipc_history::Entries;
@@ -208,42 +209,37 @@ impl Service {
         ensures ready { StaysReady self.old self.new }
     {
         let stage = self.lines.stage(place);
-        let request = asks(stage, heard);
-        self.serve_request(place, request);
+        let reaction = asks(stage, heard);
+        self.react(place, reaction);
     }
 
-    fn serve_request(&mut self, place: usize, request: Request)
-        requires { CanAsk self.old place request }
-        ensures served { (asked : List Asked) × ServesBy MayLack (service_of self.old) place request asked (service_of self.new) }
+    fn react(&mut self, place: usize, reaction: Reaction)
+        requires { CanReact self.old place reaction }
+        ensures served { (asked : List Asked) × ServesBy MayLack (service_of self.old) place reaction asked (service_of self.new) }
         ensures ready { StaysReady self.old self.new }
     {
-        match request {
-            Request::Nothing => {}
-            Request::Open(number) => {
-                let space = u64::from(self.lines.space(place));
-                let number = u64::from(number);
-                self.ask(place, Command::Open { number, space });
-            }
-            Request::Enter(thread, call) => self.ask(place, Command::Enter(thread, call)),
-            Request::Exreg {
-                thread,
-                target,
-                control,
-            } => self.ask(
-                place,
-                Command::Exreg {
-                    thread,
-                    target,
-                    control,
-                },
-            ),
-            Request::Leave => self.tell(place, Told::Left),
-            Request::Refuse(class, number) => self.tell(place, Told::Faulted(class, number)),
+        match reaction {
+            Reaction::Nothing => {}
+            Reaction::Ask(request) => self.ask(place, request),
+            Reaction::Leave => self.tell(place, Told::Left),
+            Reaction::Refuse(class, number) => self.tell(place, Told::Faulted(class, number)),
         }
     }
 
+    /// The kernel is asked for the line in a place.
+    #[tactic(auto, using(crate::proofs::TellingLemmas::do_asked))]
+    fn ask(&mut self, place: usize, request: Request)
+        requires { CanReact self.old place (Reaction.Ask request) }
+        ensures served { (asked : List Asked) × ServesBy MayLack (service_of self.old) place (Reaction.Ask request) asked
+            (service_of self.new) }
+        ensures ready { StaysReady self.old self.new }
+    {
+        let space = u64::from(self.lines.space(place));
+        self.command(place, command_of(request, space));
+    }
+
     /// The kernel obeys a command, and its answer is told.
-    fn ask(&mut self, place: usize, command: Command)
+    fn command(&mut self, place: usize, command: Command)
         requires { CanDo self.old place command }
         ensures done { (asked : List Asked) × Does MayLack (service_of self.old) place command asked (service_of self.new) }
         ensures ready { StaysReady self.old self.new }

@@ -1,32 +1,41 @@
--- What a step does says of which kind and thread its answer is.
-use Rattle.std.proofs.Common.{◌≡◌, ◌∙◌}
-use Rattle.ipc_core.specs.KernelParts.{KernelParts}
-use Rattle.ipc_lock.specs.Acting.{AnswersStep, StepDoes}
-use Rattle.ipc_lock.specs.declared.step.Step.{Step}
-use Rattle.ipc_lock.specs.declared.step.Step.TheVariants as step
-use Rattle.ipc_lock.specs.declared.told.Told.{Told}
-use Rattle.ipc_lock.specs.declared.told.Told.TheVariants as told
+-- A seat that nobody touched, and what a reader is told of its step.
+use Rattle.std.proofs.Common.{ℕ, Option, Some, None, refl}
+use Rattle.ipc_core.specs.declared.command.Answer.{Answer}
+use Rattle.ipc_core.specs.declared.command.Answer.TheVariants as answer
+use Rattle.ipc_connection.specs.Asking.{command_of}
+use Rattle.ipc_connection.specs.Replying.{told_of}
+use Rattle.ipc_connection.specs.declared.asking.Request.{Request}
+use Rattle.ipc_connection.specs.declared.asking.Request.TheVariants as request
+use Rattle.ipc_lock.specs.Acting.{AnswersStep, Asked, SitsStill}
+use Rattle.ipc_lock.specs.declared.seated.seats.CallSeat.{CallSeat}
 
-pub answers_of : {C T : Type 0} (old new : KernelParts) (asked : Step C) (said : Told C T)
-    → StepDoes old asked said new → AnswersStep asked said
-unfolding StepDoes AnswersStep
-answers_of old new (step.Hello number space) (told.Opened thread calls takes) d = record {
-  number_is = d.opens.number_is;
-  call_thread = d.call_thread;
-  none_made = d.none_made;
-  take_thread = d.take_thread;
-  none_taken = d.none_taken;
-}
-answers_of old new (step.Hello number space) (told.NotOpened refusal) d = tt
-answers_of old new (step.Enter seat call) (told.Entered after number) d = record {
-  thread = d.thread_stays;
-  made = d.made_rises;
-}
-answers_of old new (step.Enter seat call) (told.NotEntered after refusal back) d = (d.same, d.handed_back)
-answers_of old new (step.Exreg seat target control) (told.Exchanged after answer) d = d.same
-answers_of old new (step.Exreg seat target control) (told.NotExchanged after refusal) d = d.same
-answers_of old new (step.Broke thread) (told.Broken broken) d = d.1
-answers_of old new (step.Broke thread) (told.NotThere gone) d = d.1
-answers_of old new step.Advance (told.Advanced advance) d = tt
-answers_of old new step.Tick told.Ticked d = tt
-answers_of old new _ _ d = absurd d
+-- a seat that nobody touched
+pub still : {C : Type 0} (seat : Option (CallSeat C)) → SitsStill seat seat
+still None = tt
+still (Some seat) = record { thread = refl; made = refl }
+
+-- a reader's request is answered by its seat
+pub asked_so : {C : Type 0} (asked : Request) (space : ℕ) (said : Answer) (seat after : Option (CallSeat C))
+    → AnswersStep seat (command_of asked space) said after → Asked (told_of said) asked seat after
+unfolding AnswersStep Asked
+asked_so (request.Open number) space (answer.Opened thread) seat after is = is
+asked_so (request.Open number) space (answer.Entered entered) seat after is = absurd is
+asked_so (request.Open number) space (answer.Exchanged exchanged) seat after is = absurd is
+asked_so (request.Open number) space answer.Done seat after is = absurd is
+asked_so (request.Open number) space (answer.Advanced advance) seat after is = absurd is
+asked_so (request.Open number) space (answer.Taken outcome) seat after is = absurd is
+asked_so (request.Open number) space (answer.Refused refusal) seat after is = is
+asked_so (request.Enter thread call) space (answer.Opened opened) seat after is = absurd is
+asked_so (request.Enter thread call) space (answer.Entered entered) seat after is = is
+asked_so (request.Enter thread call) space (answer.Exchanged exchanged) seat after is = absurd is
+asked_so (request.Enter thread call) space answer.Done seat after is = absurd is
+asked_so (request.Enter thread call) space (answer.Advanced advance) seat after is = absurd is
+asked_so (request.Enter thread call) space (answer.Taken outcome) seat after is = absurd is
+asked_so (request.Enter thread call) space (answer.Refused refusal) seat after is = is
+asked_so (request.Exreg thread target control) space (answer.Opened opened) seat after is = absurd is
+asked_so (request.Exreg thread target control) space (answer.Entered entered) seat after is = absurd is
+asked_so (request.Exreg thread target control) space (answer.Exchanged exchanged) seat after is = is
+asked_so (request.Exreg thread target control) space answer.Done seat after is = absurd is
+asked_so (request.Exreg thread target control) space (answer.Advanced advance) seat after is = absurd is
+asked_so (request.Exreg thread target control) space (answer.Taken outcome) seat after is = absurd is
+asked_so (request.Exreg thread target control) space (answer.Refused refusal) seat after is = is

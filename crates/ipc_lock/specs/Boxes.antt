@@ -4,12 +4,12 @@ use Rattle.ipc_core.specs.KernelParts.{KernelParts}
 use Rattle.ipc_core.specs.Effects.{Gives}
 use Rattle.ipc_frame.specs.Frames.{spelling}
 use Rattle.ipc_frame.specs.declared.frame.Frame.{Frame}
+use Rattle.ipc_connection.specs.Replying.{reply}
+use Rattle.ipc_connection.specs.declared.replying.Told.{Told}
 use Rattle.ipc_pen.specs.declared.given.Given.{Given}
 use Rattle.ipc_pen.specs.declared.given.Given.TheVariants as given
 use Rattle.ipc_pen.specs.Pens.{Page, frame_of}
-use Rattle.ipc_lock.specs.Acting.{RisenSeat, SameSeat}
 use Rattle.ipc_lock.specs.Seats.{TakesNothing}
-use Rattle.ipc_lock.specs.declared.seated.seats.CallSeat.{CallSeat}
 use Rattle.ipc_lock.specs.declared.seated.seats.TakeSeat.{TakeSeat}
 
 -- the seat is as it was
@@ -36,11 +36,16 @@ LooksFirst old new None next = new ≡ old
 LooksFirst old new (Some seat) (Some (given.Outcome outcome)) = Gives old new seat.thread (Some outcome)
 LooksFirst old new (Some seat) next = TakesNothing old new seat.thread seat.taken
 
--- a frame that is given is the one that was posted
-abbrev pub ComesOut : Option Frame → Option Given → Type 0
-ComesOut posted (Some (given.Frame frame)) = posted ≡ Some frame
+-- the frame of what was posted
+abbrev pub frame_posted : Option Told → Option Frame
+frame_posted None = None
+frame_posted (Some told) = reply told
+
+-- a frame that is given is that of what was posted
+abbrev pub ComesOut : Option Told → Option Given → Type 0
+ComesOut posted (Some (given.Frame frame)) = frame_posted posted ≡ Some frame
 ComesOut posted (Some (given.Outcome outcome)) = ⊤
-ComesOut posted None = posted ≡ None
+ComesOut posted None = frame_posted posted ≡ None
 
 -- outcomes may have been taken, and nothing else was done: no step was made
 pub record OnlyTakes (old new : KernelParts) : Type 0 where
@@ -62,7 +67,7 @@ GoesOn None next pen = ⊥
 GoesOn (Some before) next pen = GivesOne before next pen
 
 -- the pen of a box was taken out with what is told next
-pub record Loads {T : Type 0} (old new : KernelParts) (seat : Option (TakeSeat T)) (posted : Option Frame)
+pub record Loads {T : Type 0} (old new : KernelParts) (seat : Option (TakeSeat T)) (posted : Option Told)
     (before : Option Page) (pen : Page) : Type 0 where
   pub next : Given
   pub first : LooksFirst old new seat (Some next)
@@ -78,24 +83,3 @@ NewPen (Some pen) place = (pen.place ≡ place) × (pen.given ≡ []) × (pen.re
 abbrev pub is_own : Option Page → ℕ → Bool
 is_own None place = true
 is_own (Some pen) place = pen.place == place
-
--- a reader's end has the seat of the thread that was opened for it, which made nothing
-abbrev pub Sits : {C : Type 0} → Option (CallSeat C) → ℕ → Type 0
-Sits None thread = ⊥
-Sits (Some seat) thread = (seat.thread ≡ thread) × (seat.made ≡ 0)
-
--- a call of this thread was entered by the end's seat, which rose by 1
-abbrev pub RisesFor : {C : Type 0} → ℕ → Option (CallSeat C) → Option (CallSeat C) → Type 0
-RisesFor thread (Some seat) (Some after) = (seat.thread ≡ thread) × RisenSeat seat after
-RisesFor thread _ _ = ⊥
-
--- an end has its seat as before
-abbrev pub SitsStill : {C : Type 0} → Option (CallSeat C) → Option (CallSeat C) → Type 0
-SitsStill None None = ⊤
-SitsStill (Some seat) (Some after) = SameSeat seat after
-SitsStill _ _ = ⊥
-
--- the end has a seat of this thread
-abbrev pub SitsFor : {C : Type 0} → Option (CallSeat C) → ℕ → Type 0
-SitsFor None thread = ⊥
-SitsFor (Some seat) thread = seat.thread ≡ thread

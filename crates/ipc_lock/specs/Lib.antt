@@ -2,6 +2,5 @@ pub mod Groups
 pub mod Opens
 pub mod Seats
 pub mod Acting
-pub mod Serving
 pub mod Boxes
 pub mod Alarms

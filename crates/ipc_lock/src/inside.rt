@@ -1,33 +1,30 @@
 //! What stands under the lock: the kernel with its books, and the boxes of the connections.
-ghost use Rattle.std.specs.Prelude.{◌≡◌, ◌+◌, ◌*◌, ◌≤◌, IfSome, IfNone, IfOk, OnOk, OnErr, length};
+ghost use Rattle.ipc_connection.specs.Asking.{command_of};
+ghost use Rattle.std.specs.Prelude.{◌≡◌, ◌+◌, ◌*◌, ◌≤◌, IfSome, IfNone, length};
 ghost use Rattle.ipc_core.specs.Effects.{Gives};
 ghost use Rattle.ipc_core.specs.Outcomes.{made_by};
 ghost use Rattle.ipc_history.specs.Paired.{Paired};
 ghost use Rattle.ipc_history.specs.Threads.{is_live};
-ghost use Rattle.ipc_lock.specs.Acting.{ActsOn, AnswersStep, MayLetGo, RisenSeat, SameSeat};
+ghost use Rattle.ipc_lock.specs.Acting.{ActsOn, AnswersStep, Asked, AsksOn, GivesSeat, HandsBack, MayLetGo};
 ghost use Rattle.ipc_lock.specs.Alarms.{Rests};
 ghost use Rattle.ipc_lock.specs.Boxes.{OnlyTakes};
-ghost use Rattle.ipc_lock.specs.Serving.{EntersOn, ExchangesOn, OpensOn};
 ghost use Rattle.ipc_lock.specs.Seats.{TakesNothing};
 ghost use Rattle.ipc_pen.specs.Pens.{BeginsEmpty};
 ghost use Rattle.ipc_words.specs.Limits.{max_command_entries};
-ghost use Rattle.ipc_words.specs.ThreadId.{number_of};
 
 use crate::entered::Entered;
 use crate::errands::Errands;
 use crate::not_given::NotGiven;
 use crate::post_box::{PostBox, Work};
 use crate::rest::Rest;
-use crate::seated::{Answer, CallSeat, Locked, TakeSeat, Taken};
-use crate::step::Step;
-use crate::told::Told;
+use crate::seated::{Answered, CallSeat, Locked, TakeSeat, Taken};
 use crate::upkeep::Upkeep;
-use ipc_core::Refusal;
-use ipc_frame::Frame;
-use ipc_history::{Call, Entry};
+use ipc_connection::{Request, Told, command_of, told_of};
+use ipc_core::Command;
+use ipc_history::Entry;
 use ipc_pen::{Pen, PenPort};
+use ipc_words::ThreadId;
 use ipc_words::limits::TABLE_SLOTS;
-use ipc_words::{Control, ThreadId};
 use std::alloc::{AllocError, Global};
 use std::sync::ledger::Ledger;
 use std::sync::{Arc, Condvar};
@@ -102,96 +99,69 @@ impl<C: Ledger, T: Ledger, P: PenPort + Drop> Inside<C, T, P> {
         })
     }
 
-    /// Makes one step.
-    pub(crate) fn act(&mut self, now: u64, step: Step<C>) -> Answer<C, T>
-        ensures acts { ActsOn self.old.locked.kernel self.new.locked.kernel now step result.told }
-        ensures answers { AnswersStep step result.told }
+    /// Makes one step: a command of the kernel, by a seat where a thread calls.
+    pub(crate) fn act(
+        &mut self,
+        now: u64,
+        seat: Option<CallSeat<C>>,
+        command: Command,
+    ) -> Answered<C, T>
+        ensures acts { ActsOn self.old.locked.kernel self.new.locked.kernel now seat command result.answer }
+        ensures answers { AnswersStep seat command result.answer result.calls }
+        ensures takes { GivesSeat result.answer result.takes }
+        ensures back { HandsBack command result.answer result.back }
         ensures few { length self.new.locked.kernel.history
             ≤ length self.old.locked.kernel.history + 2 * max_command_entries }
         ensures paired { Paired self.new.locked.kernel.history }
     {
-        self.upkeep.note(&step);
+        self.upkeep.note(&command);
         self.let_go();
         let before = self.locked.entries();
         // whoever waits for an outcome of a thread that ends waits in vain
-        self.strays = matches!(&step, Step::Broke(_));
+        self.strays = matches!(&command, Command::Broke(_));
         self.finished.clear();
-        let answer = self.locked.act(now, step, &mut self.finished);
+        let answered = self.locked.act(now, seat, command, &mut self.finished);
         self.has_grown = self.locked.entries() > before;
         self.has_begun = self.locked.has_begun_since(before);
-        self.begun = self.has_begun || self.begun && !answer.is_idle();
-        answer
+        self.begun = self.has_begun || self.begun && !answered.is_idle();
+        answered
     }
 
-    /// Opens the thread of a number in a space. Its outcomes are told in this box from here on, and first of all its WELCOME.
-    #[tactic(auto, unfolding(crate::specs::Acting::AnswersStep, crate::specs::Acting::StepDoes))]
-    pub(crate) fn open(
+    /// Makes the step of a reader's request, and tells in its box what the kernel accepted. The outcomes of a thread that is opened so
+    /// are told in this box from here on.
+    #[tactic(auto, using(crate::proofs::Steps::asked_so))]
+    pub(crate) fn ask(
         &mut self,
         now: u64,
         place: usize,
-        number: u64,
+        seat: Option<CallSeat<C>>,
+        request: Request,
         space: u64,
-    ) -> Result<(ThreadId, CallSeat<C>), Refusal>
-        ensures opens { IfOk result (λ opened.
-            OpensOn self.old.locked.kernel self.new.locked.kernel now number space opened.0) }
-        ensures seat { IfOk result (λ opened. (opened.1.thread ≡ opened.0) × (opened.1.made ≡ 0)) }
-        ensures number { IfOk result (λ opened. number_of opened.0 ≡ number) }
+    ) -> (Told, Option<CallSeat<C>>)
+        ensures asks { AsksOn self.old.locked.kernel self.new.locked.kernel now seat (command_of request space) result.0 }
+        ensures asked { Asked result.0 request seat result.1 }
     {
-        match self.act(now, Step::Hello { number, space }).into_told() {
-            Told::Opened(thread, calls, takes) => {
-                self.welcome(place, takes);
-                Ok((thread, calls))
-            }
-            Told::NotOpened(refusal) => Err(refusal),
-            _ => unreachable!(),
-        }
+        let command = command_of(request, space);
+        let (answer, calls, takes) = self.act(now, seat, command).into_parts();
+        let told = told_of(answer);
+        let said = told;
+        self.tell(place, said, takes);
+        (told, calls)
     }
 
-    /// Enters a call of the seat's thread.
-    #[tactic(auto, unfolding(crate::specs::Acting::AnswersStep, crate::specs::Acting::StepDoes))]
-    pub(crate) fn enter(
-        &mut self,
-        now: u64,
-        seat: CallSeat<C>,
-        call: Call,
-    ) -> (CallSeat<C>, Result<(), Refusal>)
-        ensures enters { OnOk result.1
-            (EntersOn self.old.locked.kernel self.new.locked.kernel now seat.thread call) }
-        ensures risen { OnOk result.1 (RisenSeat seat result.0) }
-        ensures same { OnErr result.1 (SameSeat seat result.0) }
+    /// Leaves in a box what the kernel accepted: that a thread was opened, with the seat of its outcomes, or what ExchangeRegisters
+    /// answers.
+    fn tell(&mut self, place: usize, told: Told, takes: Option<TakeSeat<T>>)
+        ensures locked { self.new.locked ≡ self.old.locked }
     {
-        match self.act(now, Step::Enter(seat, call)).into_told() {
-            Told::Entered(seat, _) => (seat, Ok(())),
-            Told::NotEntered(seat, refusal, _) => (seat, Err(refusal)),
-            _ => unreachable!(),
-        }
-    }
-
-    /// Stops phases of a target for the seat's thread, and tells what was stopped in this box.
-    #[tactic(auto, unfolding(crate::specs::Acting::AnswersStep, crate::specs::Acting::StepDoes))]
-    pub(crate) fn exreg(
-        &mut self,
-        now: u64,
-        place: usize,
-        seat: CallSeat<C>,
-        target: ThreadId,
-        control: Control,
-    ) -> (CallSeat<C>, Result<(), Refusal>)
-        ensures exchanges { OnOk result.1
-            (ExchangesOn self.old.locked.kernel self.new.locked.kernel now seat.thread target control) }
-        ensures same { SameSeat seat result.0 }
-    {
-        match self
-            .act(now, Step::Exreg(seat, target, control))
-            .into_told()
-        {
-            Told::Exchanged(seat, answer) => {
-                let told = Frame::Exregr(answer.result, answer.control, answer.code);
-                self.post(place, told);
-                (seat, Ok(()))
+        match told {
+            Told::Opened(_) => {
+                if let Some(seat) = takes {
+                    self.welcome(place, seat);
+                }
             }
-            Told::NotExchanged(seat, refusal) => (seat, Err(refusal)),
-            _ => unreachable!(),
+            Told::Exchanged(_, _, _) => self.post(place, told),
+            Told::Entered | Told::Refused(_) | Told::Faulted(_, _) | Told::Left => {}
         }
     }
 
@@ -349,12 +319,12 @@ impl<C: Ledger, T: Ledger, P: PenPort + Drop> Inside<C, T, P> {
         }
     }
 
-    /// Leaves an answer. A full or shut box, or one that is not there, drops it.
-    pub(crate) fn post(&mut self, place: usize, frame: Frame)
+    /// Leaves what is told. A full or shut box, or one that is not there, drops it.
+    pub(crate) fn post(&mut self, place: usize, told: Told)
         ensures locked { self.new.locked ≡ self.old.locked }
     {
         if let Some(post_box) = self.boxes.get_mut(place) {
-            let _ = post_box.post(frame);
+            let _ = post_box.post(told);
         }
     }
 

@@ -11,16 +11,12 @@ mod post_box;
 mod rest;
 mod seated;
 mod shared_kernel;
-mod step;
 #[cfg(test)]
 mod tests;
-mod told;
 mod upkeep;
 
 pub use ends::{PostEnd, TakeEnd};
 pub use entered::Entered;
 pub use not_given::NotGiven;
-pub use seated::{Answer, CallSeat, Locked, TakeSeat, Taken};
+pub use seated::{Answered, CallSeat, Locked, TakeSeat, Taken};
 pub use shared_kernel::SharedKernel;
-pub use step::Step;
-pub use told::Told;

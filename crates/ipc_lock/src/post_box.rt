@@ -1,11 +1,11 @@
 //! The box of a connection: what its client is told next, and the pen that writes it.
 ghost use Rattle.std.specs.Prelude.{◌≡◌, None, Some, true, false, IfOk, OnOk, OnErr, IfErr, IfSome, IfNone, is_some, ◌||◌, not};
-ghost use Rattle.ipc_frame.specs.declared.frame.Frame.TheVariants as frame;
+ghost use Rattle.ipc_connection.specs.declared.replying.Told.TheVariants as told;
 ghost use Rattle.ipc_lock.specs.Boxes.{ComesOut, Loads, LooksFirst, NewPen, OnlyTakes, SeatAfter, is_own};
 ghost use Rattle.ipc_pen.specs.Pens.{BeginsEmpty};
 
 use crate::seated::{Locked, TakeSeat};
-use ipc_frame::Frame;
+use ipc_connection::{Told, reply};
 use ipc_pen::{Given, Pen, PenPort};
 use ipc_words::ThreadId;
 use std::alloc::{AllocError, Global};
@@ -25,7 +25,7 @@ pub(crate) enum Work<P: PenPort + Drop> {
 #[derive(Drop)]
 pub(crate) struct PostBox<T: Ledger, P: PenPort + Drop> {
     place: usize,
-    posted: Option<Frame>,
+    posted: Option<Told>,
     shut: bool,
     seat: Option<TakeSeat<T>>,
     pen: Option<Pen<P>>,
@@ -76,31 +76,31 @@ impl<T: Ledger, P: PenPort + Drop> PostBox<T, P> {
         self.pen = None;
     }
 
-    /// Leaves an answer. A full or shut box hands it back and stays as it is.
-    pub(crate) fn post(&mut self, frame: Frame) -> Result<(), Frame>
+    /// Leaves what is told. A full or shut box hands it back and stays as it is.
+    pub(crate) fn post(&mut self, told: Told) -> Result<(), Told>
         ensures ok { OnOk result ((self.old.posted ≡ None) × (self.old.shut ≡ false)) }
-        ensures left { OnOk result (self.new.posted ≡ Some frame) }
-        ensures back { IfErr result (λ back. back ≡ frame) }
+        ensures left { OnOk result (self.new.posted ≡ Some told) }
+        ensures back { IfErr result (λ back. back ≡ told) }
         ensures full { OnErr result (is_some self.old.posted || self.old.shut ≡ true) }
         ensures err { OnErr result (self.new.posted ≡ self.old.posted) }
         ensures shut { self.new.shut ≡ self.old.shut }
         ensures pen { self.new.pen ≡ self.old.pen }
     {
         if self.shut || self.posted.is_some() {
-            return Err(frame);
+            return Err(told);
         }
-        self.posted = Some(frame);
+        self.posted = Some(told);
         Ok(())
     }
 
-    /// Leaves the WELCOME of a seat's thread, and keeps the seat.
+    /// Leaves that a seat's thread was opened, and keeps the seat.
     pub(crate) fn welcome(&mut self, seat: TakeSeat<T>)
-        ensures posted { self.new.posted ≡ Some (frame.Welcome seat.thread) }
+        ensures posted { self.new.posted ≡ Some (told.Opened seat.thread) }
         ensures seat { self.new.seat ≡ Some seat }
         ensures shut { self.new.shut ≡ self.old.shut }
         ensures pen { self.new.pen ≡ self.old.pen }
     {
-        self.posted = Some(Frame::Welcome(seat.thread()));
+        self.posted = Some(Told::Opened(seat.thread()));
         self.seat = Some(seat);
     }
 
@@ -156,11 +156,12 @@ impl<T: Ledger, P: PenPort + Drop> PostBox<T, P> {
                 return Some(Given::Outcome(taken.into_outcome()));
             }
         }
-        match self.posted.take() {
-            Some(frame) => {
-                self.emptied.notify_one();
-                Some(Given::Frame(frame))
-            }
+        let Some(told) = self.posted.take() else {
+            return None;
+        };
+        self.emptied.notify_one();
+        match reply(told) {
+            Some(frame) => Some(Given::Frame(frame)),
             None => None,
         }
     }

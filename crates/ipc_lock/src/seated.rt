@@ -1,4 +1,4 @@
-//! What the lock keeps, and the calls that change it. Nobody else makes an [`Answer`] or a [`Taken`].
+//! What the lock keeps, and the calls that change it. Nobody else makes an [`Answered`] or a [`Taken`].
 ghost use Rattle.std.specs.Prelude.{◌≡◌, ◌+◌, ◌*◌, ◌≤◌, ◌<◌, ◌^◌, [], ◌∷◌, false, None, Some, length, min, slice_get};
 ghost use Rattle.std.specs.Prelude.{IfOk, IfErr, IfSome, OnOk, OnErr, IfNone};
 ghost use Rattle.ipc_history.specs.Calls.{calls_made};
@@ -10,27 +10,27 @@ ghost use Rattle.ipc_core.specs.Compacting.{Compacts};
 ghost use Rattle.ipc_core.specs.KernelParts.{history_of};
 ghost use Rattle.ipc_core.specs.Effects.{Breaks, Exchanges, Gives, Ticks};
 ghost use Rattle.ipc_words.specs.Limits.{max_calls, max_command_entries, max_entries};
-ghost use Rattle.ipc_core.specs.Obeying.{MayObey, empty_kernel};
+ghost use Rattle.ipc_core.specs.Obeying.{MayObey, broke_answer, empty_kernel, enter_answer, exreg_result};
 ghost use Rattle.ipc_core.specs.Room.{LacksRoomFor, exreg_need, open_need};
 ghost use Rattle.ipc_core.specs.declared.command.Answer.TheVariants as answer;
 ghost use Rattle.ipc_core.specs.declared.command.Command.TheVariants as command;
 ghost use Rattle.ipc_core.specs.Outcomes.{made_by, outcome_to_take, taken_by};
 ghost use Rattle.ipc_core.specs.Refusals.{enter_refusal, exreg_refusal, open_refusal};
 ghost use Rattle.ipc_core.specs.Steps.{Enters, MayRefuse, Opens};
-ghost use Rattle.ipc_lock.specs.Acting.{Acts, AnswersStep, StepDoes, is_idle};
+ghost use Rattle.ipc_lock.specs.Acting.{Acts, AnswersStep, GivesSeat, HandsBack, StepDoes, is_idle};
 ghost use Rattle.ipc_lock.specs.Groups.{IsGroupAt};
 ghost use Rattle.ipc_lock.specs.Opens.{opens};
-ghost use Rattle.ipc_lock.specs.declared.step.Step.TheVariants as step;
-ghost use Rattle.ipc_lock.specs.Seats.{SeatRefuses, TakesNothing};
+ghost use Rattle.ipc_lock.specs.Seats.{SeatObeys, SeatRefuses, TakesNothing};
 ghost use Rattle.ipc_waits.specs.FirstDue.{IsLeastDue};
 
 mod seats;
 
 use crate::copying::{copy_entry, copy_group};
 use crate::not_given::NotGiven;
-use crate::step::Step;
-use crate::told::Told;
-use ipc_core::{Advance, Compacted, EnterRefused, ExregAnswer, Kernel, Limits, NoThread, Refusal};
+use ipc_core::{
+    Advance, Answer, Command, Compacted, EnterRefused, ExregAnswer, Kernel, Limits, NoThread,
+    Refusal,
+};
 use ipc_history::{Call, Entries, Entry, Outcome, Output};
 use ipc_words::{Control, ThreadId};
 pub use seats::{CallSeat, TakeSeat};
@@ -133,6 +133,10 @@ impl<C: Ledger, T: Ledger> Locked<C, T> {
         ensures cause { IfErr result (λ refusal. MayRefuse (open_refusal self.old.kernel number space) refusal) }
         ensures memory { result ≡ Err Refusal.NoMemory → LacksRoomFor self.old.kernel open_need }
         ensures err { OnErr result (self.new.kernel ≡ self.old.kernel) }
+        ensures opens { IfOk result (λ opened. MayObey self.old.kernel (command.Open number space) (answer.Opened opened.0)
+            self.new.kernel) }
+        ensures refuses { IfErr result (λ refusal. MayObey self.old.kernel (command.Open number space)
+            (answer.Refused refusal) self.new.kernel) }
         ensures few { length self.new.kernel.history ≤ length self.old.kernel.history + max_command_entries }
     {
         let Locked {
@@ -178,6 +182,8 @@ impl<C: Ledger, T: Ledger> Locked<C, T> {
         ensures err { OnErr result (self.new.kernel ≡ self.old.kernel) }
         ensures err_seat { OnErr result (seat.new.made ≡ seat.old.made) }
         ensures err_book { OnErr result (self.new.calls.total ≡ self.old.calls.total) }
+        ensures obeys { SeatObeys seat.old.made (made_by self.old.kernel.history seat.old.thread)
+            self.old.kernel (command.Enter seat.old.thread call) (enter_answer result) self.new.kernel }
         ensures few { length self.new.kernel.history ≤ length self.old.kernel.history + max_command_entries }
     {
         let Locked { kernel, calls, .. } = self;
@@ -217,6 +223,8 @@ impl<C: Ledger, T: Ledger> Locked<C, T> {
             (exreg_refusal self.old.kernel seat.now.thread) refusal) }
         ensures memory { result ≡ Err Refusal.NoMemory → LacksRoomFor self.old.kernel exreg_need }
         ensures err { OnErr result (self.new.kernel ≡ self.old.kernel) }
+        ensures obeys { SeatObeys seat.now.made (made_by self.old.kernel.history seat.now.thread)
+            self.old.kernel (command.Exreg seat.now.thread target control) (exreg_result result) self.new.kernel }
         ensures few { length self.new.kernel.history ≤ length self.old.kernel.history + max_command_entries }
     {
         let Locked { kernel, .. } = self;
@@ -279,6 +287,7 @@ impl<C: Ledger, T: Ledger> Locked<C, T> {
     }
 
     fn break_thread(&mut self, thread: ThreadId) -> Result<(), NoThread>
+        ensures obeys { MayObey self.old.kernel (command.Broke thread) (broke_answer result) self.new.kernel }
         ensures ok { OnOk result (Breaks self.old.kernel self.new.kernel thread) }
         ensures gone { OnErr result (is_live self.old.kernel.history thread ≡ false) }
         ensures err { OnErr result (self.new.kernel ≡ self.old.kernel) }
@@ -293,6 +302,7 @@ impl<C: Ledger, T: Ledger> Locked<C, T> {
     /// Sets the clock, in microseconds.
     fn tick(&mut self, now: u64)
         ensures ticks { Ticks self.old.kernel self.new.kernel now }
+        ensures obeys { MayObey self.old.kernel (command.At now) answer.Done self.new.kernel }
         ensures few { length self.new.kernel.history ≤ length self.old.kernel.history + max_command_entries }
     {
         let Locked { kernel, .. } = self;
@@ -311,104 +321,240 @@ impl<C: Ledger, T: Ledger> Locked<C, T> {
     }
 }
 
-/// What a step answered. Only `act` makes one.
+/// What became of a step: the kernel's answer, with what goes with it. Only `act` makes one.
 #[derive(Drop)]
-pub struct Answer<C: Ledger, T: Ledger> {
-    told: Told<C, T>,
+pub struct Answered<C: Ledger, T: Ledger> {
+    answer: Answer,
+    calls: Option<CallSeat<C>>,
+    takes: Option<TakeSeat<T>>,
+    back: Option<Call>,
 }
 
-impl<C: Ledger, T: Ledger> Answer<C, T> {
-    /// What it says, with the seat.
-    pub fn into_told(self) -> Told<C, T>
-        ensures { result ≡ self.told }
+impl<C: Ledger, T: Ledger> Answered<C, T> {
+    /// An answer, and the seat as it is then.
+    fn new(answer: Answer, calls: Option<CallSeat<C>>) -> Answered<C, T>
+        ensures answer { result.answer ≡ answer }
+        ensures calls { result.calls ≡ calls }
+        ensures takes { result.takes ≡ None }
+        ensures back { result.back ≡ None }
     {
-        let Answer { told } = self;
-        told
+        Answered {
+            answer,
+            calls,
+            takes: None,
+            back: None,
+        }
+    }
+
+    /// A call is refused, and handed back.
+    fn refused(refusal: Refusal, calls: Option<CallSeat<C>>, call: Call) -> Answered<C, T>
+        ensures answer { result.answer ≡ answer.Refused refusal }
+        ensures calls { result.calls ≡ calls }
+        ensures back { result.back ≡ Some call }
+    {
+        Answered {
+            answer: Answer::Refused(refusal),
+            calls,
+            takes: None,
+            back: Some(call),
+        }
+    }
+
+    /// What the kernel answered.
+    pub fn answer(&self) -> &Answer
+        ensures { result.now ≡ self.now.answer }
+    {
+        &self.answer
+    }
+
+    /// The kernel's answer, the seat by which the step was made or that of the thread that was opened, and the seat of that thread's
+    /// outcomes.
+    pub fn into_parts(self) -> (Answer, Option<CallSeat<C>>, Option<TakeSeat<T>>)
+        ensures answer { result.0 ≡ self.answer }
+        ensures calls { result.1 ≡ self.calls }
+        ensures takes { result.2 ≡ self.takes }
+    {
+        let Answered {
+            answer,
+            calls,
+            takes,
+            back: _,
+        } = self;
+        (answer, calls, takes)
+    }
+
+    /// The call that was refused, and the seat by which it was made.
+    pub fn into_call(self) -> (Option<CallSeat<C>>, Option<Call>)
+        ensures calls { result.0 ≡ self.calls }
+        ensures back { result.1 ≡ self.back }
+    {
+        let Answered {
+            answer: _,
+            calls,
+            takes: _,
+            back,
+        } = self;
+        (calls, back)
     }
 
     /// Whether it says that no transfer goes on.
     pub fn is_idle(&self) -> bool
-        ensures { result ≡ is_idle self.now.told }
+        ensures { result ≡ is_idle self.now.answer }
     {
-        matches!(&self.told, Told::Advanced(Advance::Idle))
+        matches!(&self.answer, Answer::Advanced(Advance::Idle))
     }
 }
 
 impl<C: Ledger, T: Ledger> Locked<C, T> {
-    /// Sets the clock to `now`, in microseconds, and then obeys the step. The threads whose calls it finished are put into
-    /// `finished`, which has room for them.
-    pub fn act(&mut self, now: u64, step: Step<C>, finished: &mut Vec<ThreadId>) -> Answer<C, T>
-        ensures acts { Acts self.old.kernel self.new.kernel now step result.told }
-        ensures answers { AnswersStep step result.told }
+    /// Sets the clock to `now`, in microseconds, and then obeys the command by the seat. A call and an ExchangeRegisters that are not
+    /// by their own thread's seat are refused with K6, and so is a take, for which there are take seats. The threads whose calls it
+    /// finished are put into `finished`, which has room for them.
+    pub fn act(
+        &mut self,
+        now: u64,
+        seat: Option<CallSeat<C>>,
+        command: Command,
+        finished: &mut Vec<ThreadId>,
+    ) -> Answered<C, T>
+        ensures acts { Acts self.old.kernel self.new.kernel now seat command result.answer }
+        ensures answers { AnswersStep seat command result.answer result.calls }
+        ensures takes { GivesSeat result.answer result.takes }
+        ensures back { HandsBack command result.answer result.back }
         ensures few { length self.new.kernel.history ≤ length self.old.kernel.history + 2 * max_command_entries }
         ensures paired { Paired self.new.kernel.history }
     {
         self.tick(now);
         self.note_finished(finished);
-        let told = self.obey(step);
+        let answered = self.obey(seat, command);
         self.note_finished(finished);
         let _ = self.history();
-        Answer { told }
+        answered
     }
 
-    #[tactic(auto, unfolding(crate::specs::Acting::StepDoes))]
-    fn obey(&mut self, step: Step<C>) -> Told<C, T>
-        ensures does { StepDoes self.old.kernel step result self.new.kernel }
+    #[tactic(auto, unfolding(crate::specs::Acting::StepDoes, crate::specs::Acting::AnswersStep), using(crate::proofs::Steps::still))]
+    fn obey(&mut self, seat: Option<CallSeat<C>>, command: Command) -> Answered<C, T>
+        ensures does { StepDoes self.old.kernel seat command result.answer self.new.kernel }
+        ensures answers { AnswersStep seat command result.answer result.calls }
+        ensures takes { GivesSeat result.answer result.takes }
+        ensures back { HandsBack command result.answer result.back }
         ensures few { length self.new.kernel.history ≤ length self.old.kernel.history + max_command_entries }
     {
-        match step {
-            Step::Hello { number, space } => self.hello(number, space),
-            Step::Enter(seat, call) => self.enter(seat, call),
-            Step::Exreg(seat, target, control) => self.exreg(seat, target, control),
-            Step::Broke(thread) => self.broke(thread),
-            Step::Advance => Told::Advanced(self.advance()),
-            Step::Tick => Told::Ticked,
+        match command {
+            Command::Open { number, space } => self.obey_open(seat, number, space),
+            Command::Enter(thread, call) => self.obey_enter(seat, thread, call),
+            Command::Exreg {
+                thread,
+                target,
+                control,
+            } => self.obey_exreg(seat, thread, target, control),
+            Command::Broke(thread) => self.obey_broke(seat, thread),
+            Command::At(reading) => self.obey_at(seat, reading),
+            Command::Advance => self.obey_advance(seat),
+            Command::Take(_) => Answered::new(Answer::Refused(Refusal::NoThread), seat),
         }
     }
 
-    #[tactic(auto, unfolding(crate::specs::Acting::StepDoes))]
-    fn hello(&mut self, number: u64, space: u64) -> Told<C, T>
-        ensures does { StepDoes self.old.kernel (step.Hello number space) result self.new.kernel }
+    #[tactic(auto, unfolding(crate::specs::Acting::StepDoes, crate::specs::Acting::AnswersStep), using(crate::proofs::Steps::still))]
+    fn obey_open(&mut self, seat: Option<CallSeat<C>>, number: u64, space: u64) -> Answered<C, T>
+        ensures does { StepDoes self.old.kernel seat (command.Open number space) result.answer self.new.kernel }
+        ensures answers { AnswersStep seat (command.Open number space) result.answer result.calls }
+        ensures takes { GivesSeat result.answer result.takes }
         ensures few { length self.new.kernel.history ≤ length self.old.kernel.history + max_command_entries }
     {
         match self.open_seated(number, space) {
-            Ok((thread, calls, takes)) => Told::Opened(thread, calls, takes),
-            Err(refusal) => Told::NotOpened(refusal),
+            Ok((thread, calls, takes)) => Answered {
+                answer: Answer::Opened(thread),
+                calls: Some(calls),
+                takes: Some(takes),
+                back: None,
+            },
+            Err(refusal) => Answered::new(Answer::Refused(refusal), seat),
         }
     }
 
-    #[tactic(auto, unfolding(crate::specs::Acting::StepDoes))]
-    fn enter(&mut self, seat: CallSeat<C>, call: Call) -> Told<C, T>
-        ensures does { StepDoes self.old.kernel (step.Enter seat call) result self.new.kernel }
+    #[tactic(auto, unfolding(crate::specs::Acting::StepDoes, crate::specs::Acting::AnswersStep), using(crate::proofs::Steps::still))]
+    fn obey_enter(
+        &mut self,
+        seat: Option<CallSeat<C>>,
+        thread: ThreadId,
+        call: Call,
+    ) -> Answered<C, T>
+        ensures does { StepDoes self.old.kernel seat (command.Enter thread call) result.answer self.new.kernel }
+        ensures answers { AnswersStep seat (command.Enter thread call) result.answer result.calls }
+        ensures takes { GivesSeat result.answer result.takes }
+        ensures back { HandsBack (command.Enter thread call) result.answer result.back }
         ensures few { length self.new.kernel.history ≤ length self.old.kernel.history + max_command_entries }
     {
+        let Some(seat) = seat else {
+            return Answered::refused(Refusal::NoThread, None, call);
+        };
+        if seat.thread != thread {
+            return Answered::refused(Refusal::NoThread, Some(seat), call);
+        }
         let mut seat = seat;
         match self.enter_seated(&mut seat, call) {
-            Ok(number) => Told::Entered(seat, number),
-            Err(EnterRefused { refusal, call }) => Told::NotEntered(seat, refusal, call),
+            Ok(number) => Answered::new(Answer::Entered(number), Some(seat)),
+            Err(EnterRefused { refusal, call }) => Answered::refused(refusal, Some(seat), call),
         }
     }
 
-    #[tactic(auto, unfolding(crate::specs::Acting::StepDoes))]
-    fn exreg(&mut self, seat: CallSeat<C>, target: ThreadId, control: Control) -> Told<C, T>
-        ensures does { StepDoes self.old.kernel (step.Exreg seat target control) result self.new.kernel }
+    #[tactic(auto, unfolding(crate::specs::Acting::StepDoes, crate::specs::Acting::AnswersStep), using(crate::proofs::Steps::still))]
+    fn obey_exreg(
+        &mut self,
+        seat: Option<CallSeat<C>>,
+        thread: ThreadId,
+        target: ThreadId,
+        control: Control,
+    ) -> Answered<C, T>
+        ensures does { StepDoes self.old.kernel seat (command.Exreg thread target control) result.answer self.new.kernel }
+        ensures answers { AnswersStep seat (command.Exreg thread target control) result.answer result.calls }
+        ensures takes { GivesSeat result.answer result.takes }
         ensures few { length self.new.kernel.history ≤ length self.old.kernel.history + max_command_entries }
     {
+        let Some(seat) = seat else {
+            return Answered::new(Answer::Refused(Refusal::NoThread), None);
+        };
+        if seat.thread != thread {
+            return Answered::new(Answer::Refused(Refusal::NoThread), Some(seat));
+        }
         match self.exreg_seated(&seat, target, control) {
-            Ok(answer) => Told::Exchanged(seat, answer),
-            Err(refusal) => Told::NotExchanged(seat, refusal),
+            Ok(answer) => Answered::new(Answer::Exchanged(answer), Some(seat)),
+            Err(refusal) => Answered::new(Answer::Refused(refusal), Some(seat)),
         }
     }
 
-    #[tactic(auto, unfolding(crate::specs::Acting::StepDoes))]
-    fn broke(&mut self, thread: ThreadId) -> Told<C, T>
-        ensures does { StepDoes self.old.kernel (step.Broke thread) result self.new.kernel }
+    #[tactic(auto, unfolding(crate::specs::Acting::StepDoes, crate::specs::Acting::AnswersStep), using(crate::proofs::Steps::still))]
+    fn obey_broke(&mut self, seat: Option<CallSeat<C>>, thread: ThreadId) -> Answered<C, T>
+        ensures does { StepDoes self.old.kernel seat (command.Broke thread) result.answer self.new.kernel }
+        ensures answers { AnswersStep seat (command.Broke thread) result.answer result.calls }
+        ensures takes { GivesSeat result.answer result.takes }
         ensures few { length self.new.kernel.history ≤ length self.old.kernel.history + max_command_entries }
     {
         match self.break_thread(thread) {
-            Ok(()) => Told::Broken(thread),
-            Err(NoThread) => Told::NotThere(thread),
+            Ok(()) => Answered::new(Answer::Done, seat),
+            Err(NoThread) => Answered::new(Answer::Refused(Refusal::NoThread), seat),
         }
+    }
+
+    #[tactic(auto, unfolding(crate::specs::Acting::StepDoes, crate::specs::Acting::AnswersStep), using(crate::proofs::Steps::still))]
+    fn obey_at(&mut self, seat: Option<CallSeat<C>>, reading: u64) -> Answered<C, T>
+        ensures does { StepDoes self.old.kernel seat (command.At reading) result.answer self.new.kernel }
+        ensures answers { AnswersStep seat (command.At reading) result.answer result.calls }
+        ensures takes { GivesSeat result.answer result.takes }
+        ensures few { length self.new.kernel.history ≤ length self.old.kernel.history + max_command_entries }
+    {
+        self.tick(reading);
+        Answered::new(Answer::Done, seat)
+    }
+
+    #[tactic(auto, unfolding(crate::specs::Acting::StepDoes, crate::specs::Acting::AnswersStep), using(crate::proofs::Steps::still))]
+    fn obey_advance(&mut self, seat: Option<CallSeat<C>>) -> Answered<C, T>
+        ensures does { StepDoes self.old.kernel seat command.Advance result.answer self.new.kernel }
+        ensures answers { AnswersStep seat command.Advance result.answer result.calls }
+        ensures takes { GivesSeat result.answer result.takes }
+        ensures few { length self.new.kernel.history ≤ length self.old.kernel.history + max_command_entries }
+    {
+        Answered::new(Answer::Advanced(self.advance()), seat)
     }
 
     /// Notes whose calls the last command finished.

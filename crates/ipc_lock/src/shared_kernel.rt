@@ -1,9 +1,7 @@
 //! The kernel and the boxes under one lock. Here it is only taken; what is done under it stands in its own files.
-ghost use Rattle.std.specs.Prelude.{◌≡◌, ◌^◌, IfSome, IfNone, IfErr, IfOk, OnOk, OnErr, ◌+◌};
-ghost use Rattle.ipc_lock.specs.Acting.{AnswersStep};
-ghost use Rattle.ipc_lock.specs.Boxes.{Sits, SitsStill, RisesFor};
+ghost use Rattle.std.specs.Prelude.{◌≡◌, ◌^◌, IfSome, IfNone, IfErr, ◌+◌};
+ghost use Rattle.ipc_lock.specs.Acting.{AnswersStep, Asked, GivesSeat, HandsBack};
 ghost use Rattle.ipc_pen.specs.Pens.{BeginsEmpty};
-ghost use Rattle.ipc_words.specs.ThreadId.{number_of};
 
 use crate::ends::{PostEnd, TakeEnd};
 use crate::entered::Entered;
@@ -12,23 +10,47 @@ use crate::inside::{After, Inside};
 use crate::not_given::NotGiven;
 use crate::post_box::Work;
 use crate::rest::Rest;
-use crate::seated::{Answer, Locked, TakeSeat, Taken};
-use crate::step::Step;
-use crate::told::Told;
-use ipc_core::{Advance, Limits, MAX_ENTRIES, Refusal};
-use ipc_frame::Frame;
-use ipc_history::{Call, Entry};
+use crate::seated::{Answered, CallSeat, Locked, TakeSeat, Taken};
+use ipc_connection::{Request, Told};
+use ipc_core::{Advance, Answer, Command, Limits, MAX_ENTRIES, Refusal};
+use ipc_history::Entry;
 use ipc_lines::entry_line;
 use ipc_pen::{Pen, PenPort};
-use ipc_words::{Control, ThreadId};
 use std::alloc::Global;
+use std::hint::spin_loop;
 use std::rt::Clock;
 use std::sync::ledger::{Blank, Ledger};
 use std::sync::{Condvar, CondvarTimeouts, Mutex, MutexGuard, Wait};
-use std::time::Duration;
+use std::thread::yield_now;
+use std::time::{Duration, Instant};
 
 /// How many blocks of a transfer the thread copies that began it. The mover copies what is left.
 const MOST_BLOCKS: u32 = 17;
+
+/// How often a thread tries to take the lock at once, before it lets others run. The lock is held for a microsecond or two.
+const TRIES: u32 = 16;
+
+/// How often it lets others run before it sleeps for the lock. Who has the lock may be among them, and to be woken takes longer.
+const TURNS: u32 = 16;
+
+/// How long before its moment the ticker is awake, in microseconds: a thread that sleeps until a moment comes late.
+const LAST_MICROS: u64 = 100;
+
+/// How often the ticker looks at the clock at most, while it waits for its moment.
+const MOST_LOOKS: u32 = 100_000;
+
+/// Looks at the clock until so much time has passed.
+fn look_on<R: Clock>(rt: &R, time: Duration) {
+    let Ok(began) = Instant::now(rt) else {
+        return;
+    };
+    for _ in 0..MOST_LOOKS {
+        match began.elapsed(rt) {
+            Ok(passed) if passed < time => spin_loop(),
+            _ => return,
+        }
+    }
+}
 
 /// One kernel for all workers of a server, and a box for each connection, which has a pen of the port `P`.
 #[derive(Drop)]
@@ -67,19 +89,45 @@ impl<C: Ledger, T: Ledger, P: PenPort + Drop> SharedKernel<C, T, P> {
         })
     }
 
-    /// Takes the lock, makes one step, and writes what it told to whom it concerns.
-    pub fn submit<R: Wait>(&self, rt: &R, now: u64, step: Step<C>) -> Answer<C, T>
-        ensures { AnswersStep step result.told }
+    /// Takes the lock. It is tried for a while first: who sleeps for it has to be woken, and that costs more than most steps.
+    fn inside<R: Wait>(&self, rt: &R) -> MutexGuard<'_, Inside<C, T, P>> {
+        for _ in 0..TRIES {
+            if let Some(inside) = self.inside.try_lock() {
+                return inside;
+            }
+            spin_loop();
+        }
+        for _ in 0..TURNS {
+            yield_now();
+            if let Some(inside) = self.inside.try_lock() {
+                return inside;
+            }
+        }
+        self.inside.lock(rt)
+    }
+
+    /// Takes the lock, makes one step, and writes what it told to whom it concerns. A step is a command of the kernel at a moment, in
+    /// microseconds, by a seat where a thread calls.
+    pub fn submit<R: Wait>(
+        &self,
+        rt: &R,
+        now: u64,
+        seat: Option<CallSeat<C>>,
+        command: Command,
+    ) -> Answered<C, T>
+        ensures answers { AnswersStep seat command result.answer result.calls }
+        ensures takes { GivesSeat result.answer result.takes }
+        ensures back { HandsBack command result.answer result.back }
     {
-        let mut inside = self.inside.lock(rt);
-        let answer = inside.act(now, step);
+        let mut inside = self.inside(rt);
+        let answered = inside.act(now, seat, command);
         let after = inside.after(None);
         drop(inside);
         if after.begun {
             self.work.notify_one();
         }
         self.settle(rt, after);
-        answer
+        answered
     }
 
     /// Waits for the outcome of the seat's thread's last call. None once the thread is not live.
@@ -89,7 +137,7 @@ impl<C: Ledger, T: Ledger, P: PenPort + Drop> SharedKernel<C, T, P> {
         ensures taken { IfSome result (λ _. seat.new.taken ≡ seat.old.taken + 1) }
         ensures none { IfNone result (seat.new.taken ≡ seat.old.taken) }
     {
-        let mut inside = self.inside.lock(rt);
+        let mut inside = self.inside(rt);
         for _ in rt.forever() {
             if let Some(taken) = inside.take_for(seat) {
                 return Some(taken);
@@ -107,7 +155,7 @@ impl<C: Ledger, T: Ledger, P: PenPort + Drop> SharedKernel<C, T, P> {
         requires { BeginsEmpty (P.written port) }
         ensures { IfErr result (λ refusal. refusal ≡ Refusal.NoMemory) }
     {
-        match self.inside.lock(rt).connect(port) {
+        match self.inside(rt).connect(port) {
             Ok(place) => Ok((PostEnd { place, seat: None }, TakeEnd { place })),
             Err(_) => Err(Refusal::NoMemory),
         }
@@ -115,64 +163,34 @@ impl<C: Ledger, T: Ledger, P: PenPort + Drop> SharedKernel<C, T, P> {
 
     /// Gives a connection's box back, once its writer has ended.
     pub fn release<R: Wait>(&self, rt: &R, end: PostEnd<C>) {
-        self.inside.lock(rt).release(end.place);
+        self.inside(rt).release(end.place);
     }
 
-    /// Opens the thread of a number in a space, and tells its WELCOME.
+    /// Asks the kernel for a connection from a space, 1 to 64, at a moment, in microseconds, and tells at once what it accepted: that a
+    /// thread was opened, or what ExchangeRegisters answers. Also says how far a call is that was entered. A call and an
+    /// ExchangeRegisters are by the end's own seat.
     ///
     /// # Errors
     ///
-    /// K1, K2, K3, K5, K4; K6 where the box was shut. The end is then as before.
-    pub fn open<R: Wait>(
+    /// `Refused`, and the end is then as before: of an open K1, K2, K3, K5, K4; of a call K6, K7, K8, K5, K4; of an ExchangeRegisters K6,
+    /// K7, K5, K4. K6 also where the box was shut, and where this is not the end's own thread.
+    #[tactic(auto, unfolding(crate::specs::Acting::Asked), using(crate::proofs::Steps::still))]
+    pub fn ask<R: Wait>(
         &self,
         rt: &R,
         now: u64,
         end: &mut PostEnd<C>,
-        number: u64,
+        request: Request,
         space: u64,
-    ) -> Result<ThreadId, Refusal>
+    ) -> (Told, Entered)
         ensures place { end.new.place ≡ end.old.place }
-        ensures number { IfOk result (λ thread. number_of thread ≡ number) }
-        ensures seat { IfOk result (λ thread. Sits end.new.seat thread) }
-        ensures err { OnErr result (SitsStill end.old.seat end.new.seat) }
+        ensures asked { Asked result.0 request end.old.seat end.new.seat }
     {
         let Some(mut inside) = self.when_empty(rt, end.place) else {
-            return Err(Refusal::NoThread);
+            return (Told::Refused(Refusal::NoThread), Entered::Open);
         };
-        let opened = inside.open(now, end.place, number, space);
-        let after = inside.after(Some(end.place));
-        drop(inside);
-        self.settle(rt, after);
-        let (thread, seat) = opened?;
-        end.seat = Some(seat);
-        Ok(thread)
-    }
-
-    /// Enters a call of the end's own thread. Its outcome is told at once where the call is over by then, and else later.
-    ///
-    /// # Errors
-    ///
-    /// K6, also where this is not the end's own thread or the box was shut; K7, K8, K5, K4. The end is then as before.
-    pub fn enter<R: Wait>(
-        &self,
-        rt: &R,
-        now: u64,
-        end: &mut PostEnd<C>,
-        thread: ThreadId,
-        call: Call,
-    ) -> Result<Entered, Refusal>
-        ensures place { end.new.place ≡ end.old.place }
-        ensures ok { OnOk result (RisesFor thread end.old.seat end.new.seat) }
-        ensures err { OnErr result (SitsStill end.old.seat end.new.seat) }
-    {
-        let Some(mut inside) = self.when_empty(rt, end.place) else {
-            return Err(Refusal::NoThread);
-        };
-        let Some(seat) = end.seat_of(thread) else {
-            return Err(Refusal::NoThread);
-        };
-        let (seat, result) = inside.enter(now, seat, call);
-        end.seat = Some(seat);
+        let (told, seat) = inside.ask(now, end.place, end.seat.take(), request, space);
+        end.seat = seat;
         let after = inside.after(Some(end.place));
         drop(inside);
         let begun = after.begun;
@@ -181,50 +199,15 @@ impl<C: Ledger, T: Ledger, P: PenPort + Drop> SharedKernel<C, T, P> {
         if begun {
             self.move_blocks(rt, now);
         }
-        result?;
-        Ok(entered)
+        (told, entered)
     }
 
-    /// Stops phases of a target for the end's own thread, and tells what was stopped.
-    ///
-    /// # Errors
-    ///
-    /// K6, also where this is not the end's own thread or the box was shut; K7, K5, K4.
-    pub fn exreg<R: Wait>(
-        &self,
-        rt: &R,
-        now: u64,
-        end: &mut PostEnd<C>,
-        thread: ThreadId,
-        target: ThreadId,
-        control: Control,
-    ) -> Result<(), Refusal>
-        ensures place { end.new.place ≡ end.old.place }
-        ensures seat { SitsStill end.old.seat end.new.seat }
-    {
-        let Some(mut inside) = self.when_empty(rt, end.place) else {
-            return Err(Refusal::NoThread);
-        };
-        let Some(seat) = end.seat_of(thread) else {
-            return Err(Refusal::NoThread);
-        };
-        let (seat, result) = inside.exreg(now, end.place, seat, target, control);
-        end.seat = Some(seat);
-        let after = inside.after(Some(end.place));
-        drop(inside);
-        if after.begun {
-            self.work.notify_one();
-        }
-        self.settle(rt, after);
-        result
-    }
-
-    /// Tells an answer. A shut box drops it.
-    pub fn post<R: Wait>(&self, rt: &R, end: &PostEnd<C>, frame: Frame) {
+    /// Tells it by its frame. A shut box drops it.
+    pub fn post<R: Wait>(&self, rt: &R, end: &PostEnd<C>, told: Told) {
         let Some(mut inside) = self.when_empty(rt, end.place) else {
             return;
         };
-        inside.post(end.place, frame);
+        inside.post(end.place, told);
         let mut errands = Errands::none();
         inside.load(end.place, &mut errands);
         drop(inside);
@@ -242,12 +225,12 @@ impl<C: Ledger, T: Ledger, P: PenPort + Drop> SharedKernel<C, T, P> {
     }
 
     fn end_at<R: Wait>(&self, rt: &R, now: u64, place: usize) {
-        let mut inside = self.inside.lock(rt);
+        let mut inside = self.inside(rt);
         inside.shut(place);
         let Some(thread) = inside.thread_at(place) else {
             return;
         };
-        let _ = inside.act(now, Step::Broke(thread));
+        let _ = inside.act(now, None, Command::Broke(thread));
         let after = inside.after(None);
         drop(inside);
         if after.begun {
@@ -259,7 +242,7 @@ impl<C: Ledger, T: Ledger, P: PenPort + Drop> SharedKernel<C, T, P> {
     /// Waits until a box's pen lies there with something to write that nobody else has taken, and takes it out. None once nothing more
     /// comes, or the device has failed.
     pub fn wait_pen<R: Wait>(&self, rt: &R, end: &TakeEnd) -> Option<Pen<P>> {
-        let mut inside = self.inside.lock(rt);
+        let mut inside = self.inside(rt);
         let Some(bell) = inside.bell(end.place) else {
             return None;
         };
@@ -278,7 +261,7 @@ impl<C: Ledger, T: Ledger, P: PenPort + Drop> SharedKernel<C, T, P> {
     pub fn give_back<R: Wait>(&self, rt: &R, pen: Pen<P>) {
         let mut errands = Errands::none();
         let _ = errands.add(pen);
-        let again = self.inside.lock(rt).take_back(errands);
+        let again = self.inside(rt).take_back(errands);
         self.carry(rt, again);
     }
 
@@ -288,7 +271,7 @@ impl<C: Ledger, T: Ledger, P: PenPort + Drop> SharedKernel<C, T, P> {
         rt: &R,
         place: usize,
     ) -> Option<MutexGuard<'a, Inside<C, T, P>>> {
-        let mut inside = self.inside.lock(rt);
+        let mut inside = self.inside(rt);
         for _ in rt.forever() {
             if inside.is_shut(place) {
                 return None;
@@ -324,35 +307,40 @@ impl<C: Ledger, T: Ledger, P: PenPort + Drop> SharedKernel<C, T, P> {
                 return;
             }
             errands.write();
-            errands = self.inside.lock(rt).take_back(errands);
+            errands = self.inside(rt).take_back(errands);
         }
     }
 
     /// Copies blocks of what is in transfer until nothing is. Where that are many the mover goes on.
     fn move_blocks<R: Wait>(&self, rt: &R, now: u64) {
         for _ in 0..MOST_BLOCKS {
-            let mut inside = self.inside.lock(rt);
-            let told = inside.act(now, Step::Advance).into_told();
+            let mut inside = self.inside(rt);
+            let answered = inside.act(now, None, Command::Advance);
             let after = inside.after(None);
             drop(inside);
             self.settle(rt, after);
-            if !matches!(told, Told::Advanced(Advance::Moved)) {
+            if !matches!(answered.answer(), Answer::Advanced(Advance::Moved)) {
                 return;
             }
         }
         self.work.notify_one();
     }
 
-    /// Rests until a phase is due, or an earlier one comes, at the longest until the work is over. `now` is the moment, in microseconds.
+    /// Rests until a phase is due, or an earlier one comes, at the longest until the work is over. `now` is the moment, in microseconds. It
+    /// ends a little before that moment; who rests then once more is awake when it comes.
     pub fn rest<R: Wait + Clock>(&self, rt: &R, now: u64) {
-        let mut inside = self.inside.lock(rt);
+        let mut inside = self.inside(rt);
         if inside.is_work_over() {
             return;
         }
         match inside.rest(now) {
             Rest::Not => {}
+            Rest::For(micros) if micros <= LAST_MICROS => {
+                drop(inside);
+                look_on(rt, Duration::from_micros(micros));
+            }
             Rest::For(micros) => {
-                let time = Duration::from_micros(micros);
+                let time = Duration::from_micros(micros - LAST_MICROS);
                 let (inside, _) = self.ticker.wait_timeout(rt, inside, time);
                 drop(inside);
             }
@@ -362,7 +350,7 @@ impl<C: Ledger, T: Ledger, P: PenPort + Drop> SharedKernel<C, T, P> {
 
     /// Waits until a transfer has begun; false once the work is over or the kernel was closed.
     pub fn wait_work<R: Wait>(&self, rt: &R) -> bool {
-        let mut inside = self.inside.lock(rt);
+        let mut inside = self.inside(rt);
         for _ in rt.forever() {
             if inside.is_work_over() {
                 return false;
@@ -377,7 +365,7 @@ impl<C: Ledger, T: Ledger, P: PenPort + Drop> SharedKernel<C, T, P> {
 
     /// Ends the waiting of the mover and the rest of the ticker. Called once, after all sessions were joined.
     pub fn end_work<R: Wait>(&self, rt: &R) {
-        let mut inside = self.inside.lock(rt);
+        let mut inside = self.inside(rt);
         inside.end_work();
         drop(inside);
         self.work.notify_all();
@@ -387,7 +375,7 @@ impl<C: Ledger, T: Ledger, P: PenPort + Drop> SharedKernel<C, T, P> {
     /// Ends the waiting of the trace, and of the mover if it still waits. Called once, after sessions, ticker and
     /// mover were joined, so that no entry comes behind it.
     pub fn close<R: Wait>(&self, rt: &R) {
-        let mut inside = self.inside.lock(rt);
+        let mut inside = self.inside(rt);
         inside.close();
         drop(inside);
         self.work.notify_all();
@@ -410,7 +398,7 @@ impl<C: Ledger, T: Ledger, P: PenPort + Drop> SharedKernel<C, T, P> {
     }
 
     fn wait_entry<R: Wait>(&self, rt: &R, index: usize) -> Result<Option<Entry>, NotGiven> {
-        let mut inside = self.inside.lock(rt);
+        let mut inside = self.inside(rt);
         for _ in rt.forever() {
             let entry = inside.entry(index)?;
             if entry.is_some() || inside.is_closed() {
@@ -430,7 +418,7 @@ impl<C: Ledger, T: Ledger, P: PenPort + Drop> SharedKernel<C, T, P> {
     ///
     /// TR5: no memory for the copies, or memory let go of the first entry, which was marked.
     pub fn wait_entries<R: Wait>(&self, rt: &R, index: usize) -> Result<Vec<Entry>, NotGiven> {
-        let mut inside = self.inside.lock(rt);
+        let mut inside = self.inside(rt);
         for _ in rt.forever() {
             let group = inside.group(index)?;
             if !group.is_empty() || inside.is_closed() {
@@ -445,21 +433,21 @@ impl<C: Ledger, T: Ledger, P: PenPort + Drop> SharedKernel<C, T, P> {
     /// The entries before a place of the history, counted from 0, are not read any more: a later step may let go of them, and of their
     /// strings. Until then all are held.
     pub fn mark<R: Wait>(&self, rt: &R, upto: usize) {
-        self.inside.lock(rt).mark(upto);
+        self.inside(rt).mark(upto);
     }
 
     /// How many entries memory holds, to say when it is near its limit.
     pub fn held<R: Wait>(&self, rt: &R) -> usize {
-        self.inside.lock(rt).held()
+        self.inside(rt).held()
     }
 
     /// How many entries the history has, with those that were let go.
     pub fn entries<R: Wait>(&self, rt: &R) -> usize {
-        self.inside.lock(rt).entries()
+        self.inside(rt).entries()
     }
 
     /// How many outcomes were taken.
     pub fn takes<R: Wait>(&self, rt: &R) -> u64 {
-        self.inside.lock(rt).takes()
+        self.inside(rt).takes()
     }
 }

@@ -1,7 +1,8 @@
 ghost use Rattle.std.specs.Prelude.{◌≡◌, ◌^◌, None, Some};
 
 use super::*;
-use ipc_core::{Advance, Limits, Refusal};
+use ipc_connection::{Request, Told};
+use ipc_core::{Advance, Answer, Command, Limits, Refusal};
 use ipc_frame::{Frame, encode};
 use ipc_history::{Call, CallFields};
 use ipc_items::{BufferList, StringList, Substring};
@@ -110,9 +111,9 @@ impl<C: Ledger, T: Ledger> Party<C, T> {
         kernel: &SharedKernel<C, T, SlowPort>,
         number: u64,
     ) -> Result<Self, Fail> {
-        let hello = Step::Hello { number, space: 1 };
-        match kernel.submit(rt, 0, hello).into_told() {
-            Told::Opened(thread, calls, takes) => Ok(Party {
+        let open = Command::Open { number, space: 1 };
+        match kernel.submit(rt, 0, None, open).into_parts() {
+            (Answer::Opened(thread), Some(calls), Some(takes)) => Ok(Party {
                 thread,
                 calls,
                 takes,
@@ -135,8 +136,9 @@ impl<C: Ledger, T: Ledger> Party<C, T> {
             calls,
             takes,
         } = self;
-        match kernel.submit(rt, now, Step::Enter(calls, call)).into_told() {
-            Told::Entered(calls, entered) => {
+        let enter = Command::Enter(thread, call);
+        match kernel.submit(rt, now, Some(calls), enter).into_parts() {
+            (Answer::Entered(entered), Some(calls), None) => {
                 assert_eq!(rt; entered, number);
                 Ok(Party {
                     thread,
@@ -162,9 +164,12 @@ impl<C: Ledger, T: Ledger> Party<C, T> {
             takes,
         } = self;
         let made = calls.made();
-        match kernel.submit(rt, 0, Step::Enter(calls, call)).into_told() {
-            Told::NotEntered(calls, why, _) => {
-                assert_eq!(rt; why, refusal);
+        let enter = Command::Enter(thread, call);
+        let answered = kernel.submit(rt, 0, Some(calls), enter);
+        let is_refused = matches!(answered.answer(), Answer::Refused(why) if *why == refusal);
+        assert_eq!(rt; is_refused, true);
+        match answered.into_call() {
+            (Some(calls), Some(_)) => {
                 assert_eq!(rt; calls.made(), made);
                 Ok(Party {
                     thread,
@@ -290,7 +295,7 @@ fn submitted_meeting<C: Ledger, T: Ledger, R: Wait + Abort>(
     two.is_told(rt, alloc, kernel, "2 0x0 nil nil 0x0 - -")?;
     assert_eq!(rt; (one.calls.made(), two.calls.made()), (1, 1));
     // nothing is to take twice, and who waits for a thread that has ended is told so
-    kernel.submit(rt, 0, Step::Broke(first(1)));
+    kernel.submit(rt, 0, None, Command::Broke(first(1)));
     assert!(rt; kernel.wait_outcome(rt, &mut one.takes).is_none());
     assert_lines(
         rt,
@@ -334,8 +339,8 @@ fn timeouts<C: Ledger, T: Ledger, R: Wait + Abort>(
         1,
     )?;
     for now in [104, 105] {
-        let told = kernel.submit(rt, now, Step::Tick).into_told();
-        assert!(rt; matches!(told, Told::Ticked));
+        let answered = kernel.submit(rt, now, None, Command::At(now));
+        assert!(rt; matches!(answered.answer(), Answer::Done));
     }
     let mut two = two.enter(rt, kernel, 105, sends(alloc, first(1), 0x400, 7)?, 2)?;
     one.is_told(rt, alloc, kernel, "1 0x8000 nil nil 0x3 - -")?;
@@ -361,17 +366,27 @@ fn stopped_transfers<C: Ledger, T: Ledger, R: Wait + Abort>(
         .ok_or("a kernel")?;
     let one = Party::open(rt, kernel, 1)?;
     let two = Party::open(rt, kernel, 2)?;
-    let Party { calls: stopper, .. } = Party::open(rt, kernel, 3)?;
+    let Party {
+        thread: third,
+        calls: stopper,
+        ..
+    } = Party::open(rt, kernel, 3)?;
     let (mut one, mut two) = begin_transfer(rt, alloc, kernel, one, two, 1)?;
     assert!(rt; kernel.wait_work(rt));
-    let stop = Step::Exreg(stopper, first(2), Control::from_word(4));
-    assert_eq!(rt; said(kernel, rt, stop), "exchanged");
+    let stop = Command::Exreg {
+        thread: third,
+        target: first(2),
+        control: Control::from_word(4),
+    };
+    let (answer, stopper, _) = kernel.submit(rt, 0, Some(stopper), stop).into_parts();
+    assert!(rt; matches!(answer, Answer::Exchanged(_)));
+    assert!(rt; stopper.is_some());
     two.is_told(rt, alloc, kernel, "2 0x8000 nil nil 0x10000e - -")?;
     one.is_told(rt, alloc, kernel, "1 0x8000 nil nil 0x10000f - -")?;
     let (one, mut two) = begin_transfer(rt, alloc, kernel, one, two, 3)?;
-    assert_eq!(rt; said(kernel, rt, Step::Broke(one.thread)), "broken");
+    assert_eq!(rt; said(kernel, rt, Command::Broke(one.thread)), "done");
     two.is_told(rt, alloc, kernel, "4 0x8000 nil nil 0x10000e - -")?;
-    assert_eq!(rt; said(kernel, rt, Step::Advance), "idle");
+    assert_eq!(rt; said(kernel, rt, Command::Advance), "idle");
     // the first call with a string is the last of its group
     let group = kernel.wait_entries(rt, 0)?;
     assert_eq!(rt; group.len(), 5);
@@ -395,22 +410,21 @@ fn begin_transfer<C: Ledger, T: Ledger, R: Wait + Abort>(
     let one = one.enter(rt, kernel, 0, receive, number)?;
     let send = sends_string(alloc, first(1), 131_073)?;
     let two = two.enter(rt, kernel, 0, send, number.saturating_add(1))?;
-    assert_eq!(rt; said(kernel, rt, Step::Advance), "moved");
+    assert_eq!(rt; said(kernel, rt, Command::Advance), "moved");
     Ok((one, two))
 }
 
-// A step, and what it is told in a word.
+// A step by no seat, and its answer in a word.
 fn said<C: Ledger, T: Ledger, R: Wait>(
     kernel: &SharedKernel<C, T, SlowPort>,
     rt: &R,
-    step: Step<C>,
+    command: Command,
 ) -> &'static str {
-    match kernel.submit(rt, 0, step).into_told() {
-        Told::Advanced(Advance::Moved) => "moved",
-        Told::Advanced(Advance::Idle) => "idle",
-        Told::Exchanged(_, _) => "exchanged",
-        Told::Broken(_) => "broken",
-        Told::NotThere(_) => "not there",
+    match kernel.submit(rt, 0, None, command).answer() {
+        Answer::Advanced(Advance::Moved) => "moved",
+        Answer::Advanced(Advance::Idle) => "idle",
+        Answer::Done => "done",
+        Answer::Refused(Refusal::NoThread) => "not there",
         _ => "another answer",
     }
 }
@@ -437,13 +451,13 @@ fn stale_seats<C: Ledger, T: Ledger, R: Wait + Abort>(
         .ok()
         .ok_or("a kernel")?;
     let one = Party::open(rt, kernel, 1)?;
-    assert_eq!(rt; said(kernel, rt, Step::Broke(one.thread)), "broken");
+    assert_eq!(rt; said(kernel, rt, Command::Broke(one.thread)), "done");
     let again = Party::open(rt, kernel, 1)?;
     assert!(rt; again.thread != one.thread);
     let receive = receives(alloc, ThreadId::ANYTHREAD, 0, 0)?;
     let mut one = one.is_refused(rt, kernel, receive, Refusal::NoThread)?;
     assert!(rt; kernel.wait_outcome(rt, &mut one.takes).is_none());
-    assert_eq!(rt; said(kernel, rt, Step::Broke(one.thread)), "not there");
+    assert_eq!(rt; said(kernel, rt, Command::Broke(one.thread)), "not there");
     let again = again.enter(rt, kernel, 0, sends(alloc, first(9), 0, 1)?, 1)?;
     // busy before the calls are spent, and the seat counts neither
     let receive = receives(alloc, ThreadId::ANYTHREAD, 0, 0)?;
@@ -508,16 +522,19 @@ fn boxes<C: Ledger, T: Ledger, R: Wait + Abort>(
         .ok()
         .ok_or("a kernel")?;
     let (mut posts, takes) = kernel.connect(rt, slow(alloc, false)).ok().ok_or("a box")?;
-    let one = kernel.open(rt, 0, &mut posts, 1, 1).ok().ok_or("an open")?;
-    assert_eq!(rt; one, first(1));
-    let strange = kernel.enter(rt, 0, &mut posts, first(2), sends(alloc, first(3), 0, 1)?);
-    assert_eq!(rt; strange.err(), Some(Refusal::NoThread));
-    let entered = kernel.enter(rt, 0, &mut posts, one, sends(alloc, first(3), 0, 1)?);
-    assert!(rt; entered.is_ok());
-    kernel.post(rt, &posts, Frame::Refused(7));
+    let one = first(1);
+    let opened = kernel.ask(rt, 0, &mut posts, Request::Open(1), 1);
+    assert_eq!(rt; opened, (Told::Opened(one), Entered::Over));
+    let send = sends(alloc, first(3), 0, 1)?;
+    let strange = kernel.ask(rt, 0, &mut posts, Request::Enter(first(2), send), 1);
+    assert_eq!(rt; strange.0, Told::Refused(Refusal::NoThread));
+    let send = sends(alloc, first(3), 0, 1)?;
+    let entered = kernel.ask(rt, 0, &mut posts, Request::Enter(one, send), 1);
+    assert_eq!(rt; entered.0, Told::Entered);
+    kernel.post(rt, &posts, Told::Refused(Refusal::CallsSpent));
     let told = told_slowly(rt, kernel, &takes)?;
     let welcome = encode(alloc, Frame::Welcome(one))?;
-    let refused = encode(alloc, Frame::Refused(7))?;
+    let refused = encode(alloc, Frame::Refused(8))?;
     assert_eq!(rt; told.len(), 57);
     assert_eq!(rt; told.get(..13), Some(welcome.as_slice()));
     assert_eq!(rt; told.get(17).copied(), Some(0x82));
@@ -550,12 +567,11 @@ fn shut_boxes<C: Ledger, T: Ledger, R: Wait + Abort>(
 ) -> Result<(), Fail> {
     for _ in 0..2 {
         let (mut posts, takes) = kernel.connect(rt, slow(alloc, true)).ok().ok_or("a box")?;
-        assert!(rt; kernel.open(rt, 0, &mut posts, 2, 1).is_ok());
+        let (opened, _) = kernel.ask(rt, 0, &mut posts, Request::Open(2), 1);
+        assert!(rt; matches!(opened, Told::Opened(_)));
         kernel.hang_up(rt, 0, &posts);
-        assert_eq!(rt;
-            kernel.open(rt, 0, &mut posts, 4, 1).err(),
-            Some(Refusal::NoThread)
-        );
+        let (shut, _) = kernel.ask(rt, 0, &mut posts, Request::Open(4), 1);
+        assert_eq!(rt; shut, Told::Refused(Refusal::NoThread));
         assert!(rt; kernel.wait_pen(rt, &takes).is_none());
         kernel.leave(rt, 0, &takes);
         kernel.release(rt, posts);
@@ -630,11 +646,12 @@ fn make_calls<C: Ledger, T: Ledger, R: Wait>(
     } = party;
     let mut words = Vec::new(alloc);
     for call in calls {
-        let Told::Entered(back, number) = kernel.submit(rt, 0, Step::Enter(seat, call)).into_told()
-        else {
+        let enter = Command::Enter(thread, call);
+        let (answer, back, _) = kernel.submit(rt, 0, Some(seat), enter).into_parts();
+        let Answer::Entered(number) = answer else {
             return None;
         };
-        seat = back;
+        seat = back?;
         let taken = kernel.wait_outcome(rt, &mut takes)?;
         if taken.thread() != thread || taken.amount() != seat.made() {
             return None;

@@ -1,8 +1,7 @@
 //! When memory lets go of entries of the history.
 ghost use Rattle.std.specs.Prelude.{◌≡◌};
 
-use crate::step::Step;
-use std::sync::ledger::Ledger;
+use ipc_core::Command;
 
 /// So many entries are held before any is let go.
 const FEW_ENTRIES: usize = 4_096;
@@ -53,9 +52,9 @@ impl Upkeep {
         self.marked
     }
 
-    /// Counts the strings of a step.
-    pub(crate) fn note<C: Ledger>(&mut self, step: &Step<C>) {
-        if let Step::Enter(_, call) = step {
+    /// Counts the strings of a command.
+    pub(crate) fn note(&mut self, command: &Command) {
+        if let Command::Enter(_, call) = command {
             self.bytes = self.bytes.saturating_add(call.strings().size() as usize);
         }
     }

@@ -2,13 +2,13 @@ ghost use Rattle.std.specs.Prelude.{None};
 
 use crate::server::Server;
 use crate::serving::Line;
+use ipc_connection::{Request, Told, reply};
 use ipc_frame::Frame;
-use ipc_history::Call;
-use ipc_host::{Told, class_letter};
+use ipc_host::class_letter;
 use ipc_lock::{Entered, PostEnd};
 use ipc_pen::PenPort;
 use ipc_session::CallDesk;
-use ipc_words::{Control, ThreadId};
+use ipc_words::ThreadId;
 use std::rt::Clock;
 use std::sync::Wait;
 use std::sync::ledger::Ledger;
@@ -49,6 +49,31 @@ where
     }
 }
 
+/// Notes on a line what became of a request, and keeps the thread that was opened.
+fn note<G: Line>(line: &G, thread: &mut Option<ThreadId>, told: Told, entered: Entered) {
+    match told {
+        Told::Opened(opened) => {
+            *thread = Some(opened);
+            line.welcomes(opened);
+        }
+        Told::Exchanged(_, _, _) => line.tells(ipc_host::Told::Exchanged, *thread),
+        Told::Entered if entered == Entered::Over => line.sees_outcome(),
+        _ => {}
+    }
+}
+
+/// Says on a line what a client is told by EXREGR, REFUSED or FAULT.
+fn say<G: Line>(line: &G, told: Told, thread: Option<ThreadId>) {
+    match reply(told) {
+        Some(Frame::Exregr(_, _, _)) => line.tells(ipc_host::Told::Exchanged, thread),
+        Some(Frame::Refused(number)) => line.tells(ipc_host::Told::Refused(number), thread),
+        Some(Frame::Fault(class, number)) => {
+            line.tells(ipc_host::Told::Fault(class_letter(class), number), thread)
+        }
+        _ => {}
+    }
+}
+
 impl<C, T, P, R, G> CallDesk for Caller<'_, C, T, P, R, G>
 where
     C: Ledger,
@@ -59,55 +84,20 @@ where
 {
     ghost log = { λ _. None };
 
-    fn open(&mut self, number: u16) -> Result<ThreadId, u8> {
+    #[tactic(auto, using(crate::proofs::AnswerLemmas::asked_answers))]
+    fn ask(&mut self, request: Request) -> Told {
         let Server { rt, shared, .. } = *self.server;
         let now = self.server.now();
-        let opened = shared.open(rt, now, &mut self.end, u64::from(number), self.space);
-        match opened {
-            Ok(thread) => {
-                self.thread = Some(thread);
-                self.line.welcomes(thread);
-                Ok(thread)
-            }
-            Err(refusal) => Err(refusal.number()),
-        }
+        let (told, entered) = shared.ask(rt, now, &mut self.end, request, self.space);
+        let answer = told;
+        note(&self.line, &mut self.thread, told, entered);
+        answer
     }
 
-    fn call(&mut self, thread: ThreadId, call: Call) -> Result<(), u8> {
-        let Server { rt, shared, .. } = *self.server;
-        let now = self.server.now();
-        match shared.enter(rt, now, &mut self.end, thread, call) {
-            Ok(Entered::Over) => {
-                self.line.sees_outcome();
-                Ok(())
-            }
-            Ok(Entered::Open) => Ok(()),
-            Err(refusal) => Err(refusal.number()),
-        }
-    }
-
-    fn exreg(&mut self, thread: ThreadId, target: ThreadId, control: Control) -> Result<(), u8> {
-        let Server { rt, shared, .. } = *self.server;
-        let now = self.server.now();
-        match shared.exreg(rt, now, &mut self.end, thread, target, control) {
-            Ok(()) => {
-                self.line.tells(Told::Exchanged, self.thread);
-                Ok(())
-            }
-            Err(refusal) => Err(refusal.number()),
-        }
-    }
-
-    fn post(&mut self, frame: Frame) {
-        match &frame {
-            Frame::Refused(number) => self.line.tells(Told::Refused(*number), self.thread),
-            Frame::Fault(class, number) => {
-                let told = Told::Fault(class_letter(*class), *number);
-                self.line.tells(told, self.thread);
-            }
-            _ => {}
-        }
-        self.server.shared.post(self.server.rt, &self.end, frame);
+    fn post(&mut self, told: Told) {
+        let posted = told;
+        say(&self.line, told, self.thread);
+        self.server.shared.post(self.server.rt, &self.end, posted);
     }
 
     fn broke(&mut self) {

@@ -1,5 +1,6 @@
+use ipc_core::{Answer, Command};
 use ipc_host::ServerClock;
-use ipc_lock::{SharedKernel, Step, Told};
+use ipc_lock::SharedKernel;
 use ipc_pen::PenPort;
 use std::alloc::Global;
 use std::rt::Clock;
@@ -36,9 +37,17 @@ impl<'a, C: Ledger, T: Ledger, P: PenPort + Drop, R: Wait + Clock> Server<'a, C,
         self.clock.now(self.rt)
     }
 
-    /// Makes one step at this moment.
-    pub(crate) fn submit(&self, step: Step<C>) -> Told<C, T> {
-        self.shared.submit(self.rt, self.now(), step).into_told()
+    /// Makes one step at this moment, by no thread's seat.
+    pub(crate) fn submit(&self, command: Command) -> Answer {
+        let answered = self.shared.submit(self.rt, self.now(), None, command);
+        let (answer, _, _) = answered.into_parts();
+        answer
+    }
+
+    /// The kernel is told the moment.
+    pub(crate) fn tick(&self) {
+        let now = self.now();
+        let _ = self.shared.submit(self.rt, now, None, Command::At(now));
     }
 
     /// No entry is read any more by a trace: memory may let go of each.

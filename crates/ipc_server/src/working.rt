@@ -1,7 +1,6 @@
 //! The work that no connection asks for: the time is told, and transfers go on.
 use crate::server::Server;
-use ipc_core::Advance;
-use ipc_lock::{Step, Told};
+use ipc_core::{Advance, Answer, Command};
 use ipc_pen::PenPort;
 use ipc_session::{Beat, Gate, WorkDesk};
 use std::rt::Clock;
@@ -30,13 +29,13 @@ impl<C: Ledger, T: Ledger, P: PenPort + Drop, R: Wait + Clock> WorkDesk for Work
     ghost gone = { λ desk. desk.is_gone };
 
     fn tick(&mut self) {
-        let _ = self.server.submit(Step::Tick);
+        self.server.tick();
     }
 
     fn advance(&mut self) -> bool {
         matches!(
-            self.server.submit(Step::Advance),
-            Told::Advanced(Advance::Moved)
+            self.server.submit(Command::Advance),
+            Answer::Advanced(Advance::Moved)
         )
     }
 

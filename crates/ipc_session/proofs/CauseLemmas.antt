@@ -1,19 +1,22 @@
 -- Why a connection ends: by what was heard last, or by what the desk answered.
-use Rattle.std.proofs.Common.{◌≡◌, ◌≢◌, inl, inr, ℕ, ◌==◌, false, List, [], ◌∷◌, ◌++◌, Result, Ok, Err, refl, sym, ap, subst, ◌∙◌}
-use Rattle.std.proofs.lemmas.Bool.Decides.{eqb_tells}
+use Rattle.std.proofs.Common.{◌≡◌, ◌≢◌, inl, inr, ℕ, false, List, [], ◌∷◌, ◌++◌, Result, Ok, Err, refl, sym, ap, subst, ◌∙◌}
 use Rattle.ipc_frame.specs.declared.fault.FrameFault.{FrameFault}
 use Rattle.ipc_calls.specs.declared.heard.Heard.{Heard}
 use Rattle.ipc_calls.specs.declared.heard.Heard.TheVariants as said
 use Rattle.ipc_connection.specs.Asking.{asks}
 use Rattle.ipc_connection.specs.Desk.{Asks, DeskCall, left_to_post}
-use Rattle.ipc_connection.specs.Faults.{busy, fault_number, gone, of_frame, of_session, out_of_place}
-use Rattle.ipc_connection.specs.Replying.{next_stage, reply}
+use Rattle.ipc_connection.specs.Faults.{fault_number, of_frame, of_session, out_of_place}
+use Rattle.ipc_connection.specs.Replying.{ends_by, next_stage, reply}
+use Rattle.ipc_connection.specs.declared.asking.Reaction.{Reaction}
+use Rattle.ipc_connection.specs.declared.asking.Reaction.TheVariants.{Ask, Leave, Refuse, Nothing}
 use Rattle.ipc_connection.specs.declared.asking.Request.{Request}
 use Rattle.ipc_connection.specs.declared.asking.Request.TheVariants as request
 use Rattle.ipc_connection.specs.declared.replying.Told.{Told}
 use Rattle.ipc_connection.specs.declared.replying.Told.TheVariants as told
 use Rattle.ipc_connection.specs.declared.stage.Stage.{Stage}
 use Rattle.ipc_connection.specs.declared.stage.Stage.TheVariants.{Greeting, Serving, Finished}
+use Rattle.ipc_core.specs.declared.refusal.Refusal.{Refusal}
+use Rattle.ipc_core.specs.declared.refusal.Refusal.TheVariants.{BadNumber, NumberTaken, NumberWorn, NoMemory, HistoryFull, NoThread, Busy, CallsSpent}
 use Rattle.ipc_session.specs.Reading.{IsCause}
 use Rattle.ipc_session.specs.Serving.{AsksSo, IsAnswer, Serves, ServesBy, ends_with, turned_at}
 use Rattle.ipc_session.specs.declared.ending.Ending.{Ending}
@@ -31,32 +34,33 @@ ends_as ending this heard calls e c = let same : this ≡ ending = cc in subst (
 goes_on : {A : Type 0} (ending : Ending) (stage : Stage) → Over ending ≡ On stage → A
 goes_on ending stage e = absurd (cc)
 
-abbrev RefusedSo : Stage → Request → Ending → HeardList → List DeskCall → ℕ → Type 0
-RefusedSo stage request ending heard before number = Over ending ≡ ends_with (told.Refused number) stage → IsCause ending heard (before ++ Asks request (told.Refused number) ∷ left_to_post (told.Refused number))
+abbrev RefusedSo : Stage → Request → Ending → HeardList → List DeskCall → Refusal → Type 0
+RefusedSo stage request ending heard before refusal = Over ending ≡ ends_with (told.Refused refusal) stage → IsCause ending heard (before ++ Asks request (told.Refused refusal) ∷ left_to_post (told.Refused refusal))
 
-refused_gone : (stage : Stage) (request : Request) (ending : Ending) (heard : HeardList) (before : List DeskCall) → RefusedSo stage request ending heard before gone
+refused_gone : (stage : Stage) (request : Request) (ending : Ending) (heard : HeardList) (before : List DeskCall) → RefusedSo stage request ending heard before NoThread
 unfolding next_stage reply
 refused_gone stage request ending heard before e = ends_as ending Gone heard _ e (before, request, refl)
 
-refused_busy : (stage : Stage) (request : Request) (ending : Ending) (heard : HeardList) (before : List DeskCall) → RefusedSo stage request ending heard before busy
+refused_busy : (stage : Stage) (request : Request) (ending : Ending) (heard : HeardList) (before : List DeskCall) → RefusedSo stage request ending heard before Busy
 unfolding next_stage reply
 refused_busy stage request ending heard before e =
     ends_as ending Protocol heard _ e (inl (before, request, refl))
 
-refused_on : (stage : Stage) (number : ℕ) → stage ≢ Finished → (number == gone) ≡ false → (number == busy) ≡ false → ends_with (told.Refused number) stage ≡ On stage
+refused_on : (stage : Stage) (refusal : Refusal) → stage ≢ Finished → ends_by refusal ≡ false → ends_with (told.Refused refusal) stage ≡ On stage
 unfolding next_stage
-refused_on Greeting number is_on no_gone no_busy = rw (no_gone, no_busy) refl
-refused_on (Serving thread) number is_on no_gone no_busy = rw (no_gone, no_busy) refl
-refused_on Finished number is_on no_gone no_busy = absurd (is_on refl)
+refused_on Greeting refusal is_on goes = rw goes refl
+refused_on (Serving thread) refusal is_on goes = rw goes refl
+refused_on Finished refusal is_on goes = absurd (is_on refl)
 
-refused : (stage : Stage) (request : Request) (ending : Ending) (heard : HeardList) (before : List DeskCall) (number : ℕ) → stage ≢ Finished → RefusedSo stage request ending heard before number
-refused stage request ending heard before number is_on e = elim (eqb_tells number gone) [
-  | inl same ↦ subst (λ (n : ℕ). RefusedSo stage request ending heard before n) (sym same.1) (refused_gone stage request ending heard before) e
-  | inr other ↦ elim (eqb_tells number busy) [
-    | inl same ↦ subst (λ (n : ℕ). RefusedSo stage request ending heard before n) (sym same.1) (refused_busy stage request ending heard before) e
-    | inr another ↦ goes_on ending stage (e ∙ refused_on stage number is_on other.0 another.0)
-  ]
-]
+refused : (stage : Stage) (request : Request) (ending : Ending) (heard : HeardList) (before : List DeskCall) (refusal : Refusal) → stage ≢ Finished → RefusedSo stage request ending heard before refusal
+refused stage request ending heard before NoThread is_on e = refused_gone stage request ending heard before e
+refused stage request ending heard before Busy is_on e = refused_busy stage request ending heard before e
+refused stage request ending heard before BadNumber is_on e = goes_on ending stage (e ∙ refused_on stage BadNumber is_on refl)
+refused stage request ending heard before NumberTaken is_on e = goes_on ending stage (e ∙ refused_on stage NumberTaken is_on refl)
+refused stage request ending heard before NumberWorn is_on e = goes_on ending stage (e ∙ refused_on stage NumberWorn is_on refl)
+refused stage request ending heard before NoMemory is_on e = goes_on ending stage (e ∙ refused_on stage NoMemory is_on refl)
+refused stage request ending heard before HistoryFull is_on e = goes_on ending stage (e ∙ refused_on stage HistoryFull is_on refl)
+refused stage request ending heard before CallsSpent is_on e = goes_on ending stage (e ∙ refused_on stage CallsSpent is_on refl)
 
 opened_on : (stage : Stage) (thread : ℕ) → ends_with (told.Opened thread) stage ≡ On (Serving thread)
 unfolding next_stage
@@ -68,11 +72,17 @@ entered_on Greeting is_on = refl
 entered_on (Serving thread) is_on = refl
 entered_on Finished is_on = absurd (is_on refl)
 
+exchanged_on : (stage : Stage) (result control code : ℕ) → stage ≢ Finished → ends_with (told.Exchanged result control code) stage ≡ On stage
+unfolding next_stage
+exchanged_on Greeting result control code is_on = refl
+exchanged_on (Serving thread) result control code is_on = refl
+exchanged_on Finished result control code is_on = absurd (is_on refl)
+
 answered : (stage : Stage) (r : Request) (t : Told) (ending : Ending) (heard : HeardList) (before : List DeskCall) → stage ≢ Finished → IsAnswer r t → Over ending ≡ ends_with t stage → IsCause ending heard (before ++ Asks r t ∷ left_to_post t)
-answered stage r (told.Refused number) ending heard before is_on is e = refused stage r ending heard before number is_on e
+answered stage r (told.Refused refusal) ending heard before is_on is e = refused stage r ending heard before refusal is_on e
 answered stage (request.Open number) (told.Opened thread) ending heard before is_on is e = goes_on ending (Serving thread) (e ∙ opened_on stage thread)
 answered stage (request.Enter thread call) told.Entered ending heard before is_on is e = goes_on ending stage (e ∙ entered_on stage is_on)
-answered stage (request.Exreg thread target control) told.Entered ending heard before is_on is e = goes_on ending stage (e ∙ entered_on stage is_on)
+answered stage (request.Exreg thread target control) (told.Exchanged result other code) ending heard before is_on is e = goes_on ending stage (e ∙ exchanged_on stage result other code is_on)
 answered stage (request.Open number) told.Entered ending heard before is_on is e = absurd is
 answered stage (request.Open number) (told.Exchanged result control code) ending heard before is_on is e = absurd is
 answered stage (request.Open number) (told.Faulted class fault) ending heard before is_on is e = absurd is
@@ -82,24 +92,9 @@ answered stage (request.Enter thread call) (told.Exchanged result control code) 
 answered stage (request.Enter thread call) (told.Faulted class fault) ending heard before is_on is e = absurd is
 answered stage (request.Enter thread call) told.Left ending heard before is_on is e = absurd is
 answered stage (request.Exreg thread target control) (told.Opened other) ending heard before is_on is e = absurd is
-answered stage (request.Exreg thread target control) (told.Exchanged result other code) ending heard before is_on is e = absurd is
+answered stage (request.Exreg thread target control) told.Entered ending heard before is_on is e = absurd is
 answered stage (request.Exreg thread target control) (told.Faulted class fault) ending heard before is_on is e = absurd is
 answered stage (request.Exreg thread target control) told.Left ending heard before is_on is e = absurd is
-answered stage request.Leave (told.Opened other) ending heard before is_on is e = absurd is
-answered stage request.Leave told.Entered ending heard before is_on is e = absurd is
-answered stage request.Leave (told.Exchanged result other code) ending heard before is_on is e = absurd is
-answered stage request.Leave (told.Faulted class fault) ending heard before is_on is e = absurd is
-answered stage request.Leave told.Left ending heard before is_on is e = absurd is
-answered stage request.Nothing (told.Opened other) ending heard before is_on is e = absurd is
-answered stage request.Nothing told.Entered ending heard before is_on is e = absurd is
-answered stage request.Nothing (told.Exchanged result other code) ending heard before is_on is e = absurd is
-answered stage request.Nothing (told.Faulted class fault) ending heard before is_on is e = absurd is
-answered stage request.Nothing told.Left ending heard before is_on is e = absurd is
-answered stage (request.Refuse number other) (told.Opened thread) ending heard before is_on is e = absurd is
-answered stage (request.Refuse number other) told.Entered ending heard before is_on is e = absurd is
-answered stage (request.Refuse number other) (told.Exchanged result control code) ending heard before is_on is e = absurd is
-answered stage (request.Refuse number other) (told.Faulted class fault) ending heard before is_on is e = absurd is
-answered stage (request.Refuse number other) told.Left ending heard before is_on is e = absurd is
 
 by_desk : (stage : Stage) (r : Request) (calls : List DeskCall) (ending : Ending) (heard : HeardList) (before : List DeskCall) → stage ≢ Finished → AsksSo stage r calls (Over ending) → IsCause ending heard (before ++ calls)
 by_desk stage r calls ending heard before is_on (t, is, calls_are, e) = subst (λ (l : List DeskCall). IsCause ending heard (before ++ l)) (sym calls_are) (answered stage r t ending heard before is_on is e)
@@ -151,13 +146,11 @@ by_told stage next t e done = finished (next_stage stage t) (ap (λ (x : Stage).
     finished (Serving thread) e = cc
     finished Finished e = cc
 
-by_asked : (stage next : Stage) (r : Request) (calls : List DeskCall) → stage ≢ Finished → ServesBy stage r calls (On next) → next ≡ Finished → ⊥
-by_asked stage next request.Nothing calls is_on s done = let same = s.1 in is_on (cc)
-by_asked stage next (request.Open number) calls is_on s done = by_told stage next s.0 s.3 done
-by_asked stage next (request.Enter thread call) calls is_on s done = by_told stage next s.0 s.3 done
-by_asked stage next (request.Exreg thread target control) calls is_on s done = by_told stage next s.0 s.3 done
-by_asked stage next request.Leave calls is_on s done = let other = s.1 in cc
-by_asked stage next (request.Refuse class number) calls is_on s done = by_told stage next (told.Faulted class number) s.1 done
+by_asked : (stage next : Stage) (r : Reaction) (calls : List DeskCall) → stage ≢ Finished → ServesBy stage r calls (On next) → next ≡ Finished → ⊥
+by_asked stage next Nothing calls is_on s done = let same = s.1 in is_on (cc)
+by_asked stage next (Ask request) calls is_on s done = by_told stage next s.0 s.3 done
+by_asked stage next Leave calls is_on s done = let other = s.1 in cc
+by_asked stage next (Refuse class number) calls is_on s done = by_told stage next (told.Faulted class number) s.1 done
 
 pub still_on : (stage : Stage) (heard : Result Heard FrameFault) (calls : List DeskCall) (next : Stage) → stage ≢ Finished → Serves stage heard calls (On next) → next ≢ Finished
 unfolding Serves

@@ -7,7 +7,8 @@ use Rattle.ipc_connection.specs.Asking.{asks}
 use Rattle.ipc_connection.specs.Chain.{Chain}
 use Rattle.ipc_connection.specs.Desk.{Asks, DeskCall, left_to_post, post_of, posted}
 use Rattle.ipc_connection.specs.declared.asking.Request.{Request}
-use Rattle.ipc_connection.specs.declared.asking.Request.TheVariants as request
+use Rattle.ipc_connection.specs.declared.asking.Reaction.{Reaction}
+use Rattle.ipc_connection.specs.declared.asking.Reaction.TheVariants.{Ask, Leave, Refuse, Nothing}
 use Rattle.ipc_connection.specs.declared.replying.Told.{Told}
 use Rattle.ipc_connection.specs.declared.replying.Told.TheVariants as told
 use Rattle.ipc_connection.specs.declared.stage.Stage.{Stage}
@@ -45,13 +46,11 @@ asked_alike stage r first first' next next' rest rest' (t, answer, is, to) (t', 
       sym (posts_none (posted t) rest) ∙ (parts.1 ∙ posts_none (posted t') rest'),
     )
 
-by_alike : (stage : Stage) (r : Request) (first first' : List DeskCall) (next next' : Turned) (rest rest' : List DeskCall) → ServesBy stage r first next → ServesBy stage r first' next' → answers_in (first ++ rest) ≡ answers_in (first' ++ rest') → Alike first first' next next' rest rest'
-by_alike stage request.Nothing first first' next next' rest rest' s s' same = alike [] first first' _ next next' rest rest' s.0 s'.0 s.1 s'.1 refl refl same
-by_alike stage (request.Open number) first first' next next' rest rest' s s' same = asked_alike stage (request.Open number) first first' next next' rest rest' s s' same
-by_alike stage (request.Enter thread call) first first' next next' rest rest' s s' same = asked_alike stage (request.Enter thread call) first first' next next' rest rest' s s' same
-by_alike stage (request.Exreg thread target control) first first' next next' rest rest' s s' same = asked_alike stage (request.Exreg thread target control) first first' next next' rest rest' s s' same
-by_alike stage request.Leave first first' next next' rest rest' s s' same = alike [] first first' _ next next' rest rest' s.0 s'.0 s.1 s'.1 refl refl same
-by_alike stage (request.Refuse class number) first first' next next' rest rest' s s' same =
+by_alike : (stage : Stage) (r : Reaction) (first first' : List DeskCall) (next next' : Turned) (rest rest' : List DeskCall) → ServesBy stage r first next → ServesBy stage r first' next' → answers_in (first ++ rest) ≡ answers_in (first' ++ rest') → Alike first first' next next' rest rest'
+by_alike stage Nothing first first' next next' rest rest' s s' same = alike [] first first' _ next next' rest rest' s.0 s'.0 s.1 s'.1 refl refl same
+by_alike stage (Ask request) first first' next next' rest rest' s s' same = asked_alike stage request first first' next next' rest rest' s s' same
+by_alike stage Leave first first' next next' rest rest' s s' same = alike [] first first' _ next next' rest rest' s.0 s'.0 s.1 s'.1 refl refl same
+by_alike stage (Refuse class number) first first' next next' rest rest' s s' same =
     let fault = posted (told.Faulted class number) in
     alike _ first first' _ next next' rest rest' s.0 s'.0 s.1 s'.1 (posts_none fault rest) (posts_none fault rest') same
 

@@ -1,4 +1,3 @@
-pub mod Answers
 pub mod Giving
 pub mod Keeping
 pub mod Laws

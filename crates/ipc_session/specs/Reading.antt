@@ -13,9 +13,11 @@ use Rattle.ipc_calls.specs.Taking.{Decoding, Holds}
 use Rattle.ipc_calls.specs.declared.heard.Heard.{Heard}
 use Rattle.ipc_calls.specs.declared.heard.Heard.TheVariants as said
 use Rattle.ipc_connection.specs.Desk.{Asks, DeskCall, Posts, TellsMore}
-use Rattle.ipc_connection.specs.Faults.{busy, fault_number, gone, of_frame, of_kernel, of_session, out_of_place}
+use Rattle.ipc_connection.specs.Faults.{fault_number, of_frame, of_kernel, of_session, out_of_place}
 use Rattle.ipc_connection.specs.declared.asking.Request.{Request}
 use Rattle.ipc_connection.specs.declared.replying.Told.TheVariants.{Refused}
+use Rattle.ipc_core.specs.RefusalNumbers.{refusal_number}
+use Rattle.ipc_core.specs.declared.refusal.Refusal.TheVariants.{Busy, NoThread}
 use Rattle.ipc_connection.specs.declared.stage.Stage.{Stage}
 use Rattle.ipc_connection.specs.declared.stage.Stage.TheVariants.{Greeting}
 use Rattle.ipc_session.specs.Serving.{ServesAll}
@@ -56,7 +58,7 @@ pub record HeardUpTo (stream : Stream) (input : Option (List ℕ)) (heard : List
 abbrev pub IsBusy : List DeskCall → Type 0
 IsBusy calls =
     (front : List DeskCall) × (request : Request)
-    × (calls ≡ front ++ Asks request (Refused busy) ∷ Posts (frame.Fault of_kernel busy) ∷ [])
+    × (calls ≡ front ++ Asks request (Refused Busy) ∷ Posts (frame.Fault of_kernel (refusal_number Busy)) ∷ [])
 
 -- a fault was heard, and told by its number
 abbrev pub IsFault : List (Result Heard FrameFault) → List DeskCall → Type 0
@@ -73,7 +75,7 @@ IsOutOfPlace heard calls =
 -- why a connection ended so, by what was heard or asked last: a FAULT, K6, or BYE
 abbrev pub IsCause : Ending → List (Result Heard FrameFault) → List DeskCall → Type 0
 IsCause Protocol heard calls = IsBusy calls ⊎ (IsFault heard calls ⊎ IsOutOfPlace heard calls)
-IsCause Gone heard calls = (front : List DeskCall) × (request : Request) × (calls ≡ front ++ Asks request (Refused gone) ∷ [])
+IsCause Gone heard calls = (front : List DeskCall) × (request : Request) × (calls ≡ front ++ Asks request (Refused NoThread) ∷ [])
 IsCause Bye heard calls = (front : List (Result Heard FrameFault)) × (heard ≡ front ++ Ok said.Bye ∷ [])
 IsCause _ heard calls = ⊥
 

@@ -1,16 +1,18 @@
 -- How what is heard is served, and how a connection ends by it.
-use Rattle.std.specs.Prelude.{◌≡◌, ◌==◌, List, [], ◌∷◌, Result, ⊤, if◌then◌else◌}
+use Rattle.std.specs.Prelude.{◌≡◌, List, [], ◌∷◌, Result, ⊤}
 use Rattle.ipc_frame.specs.declared.fault.FrameFault.{FrameFault}
 use Rattle.ipc_calls.specs.declared.heard.Heard.{Heard}
 use Rattle.ipc_connection.specs.Asking.{asks}
 use Rattle.ipc_connection.specs.Chain.{Chain}
 use Rattle.ipc_connection.specs.Desk.{Asks, DeskCall, left_to_post}
-use Rattle.ipc_connection.specs.Faults.{gone}
 use Rattle.ipc_connection.specs.Replying.{next_stage}
 use Rattle.ipc_connection.specs.declared.asking.Request.{Request}
-use Rattle.ipc_connection.specs.declared.asking.Request.TheVariants.{Open, Enter, Exreg, Leave, Refuse, Nothing}
+use Rattle.ipc_connection.specs.declared.asking.Request.TheVariants.{Open, Enter, Exreg}
+use Rattle.ipc_connection.specs.declared.asking.Reaction.{Reaction}
+use Rattle.ipc_connection.specs.declared.asking.Reaction.TheVariants.{Ask, Leave, Refuse, Nothing}
 use Rattle.ipc_connection.specs.declared.replying.Told.{Told}
-use Rattle.ipc_connection.specs.declared.replying.Told.TheVariants.{Opened, Entered, Refused, Faulted, Left}
+use Rattle.ipc_connection.specs.declared.replying.Told.TheVariants.{Opened, Entered, Exchanged, Refused, Faulted, Left}
+use Rattle.ipc_core.specs.declared.refusal.Refusal.TheVariants.{NoThread}
 use Rattle.ipc_connection.specs.declared.stage.Stage.{Stage}
 use Rattle.ipc_connection.specs.declared.stage.Stage.TheVariants.{Finished}
 use Rattle.ipc_session.specs.declared.ending.Ending.{Ending}
@@ -21,7 +23,7 @@ use Rattle.ipc_session.specs.declared.turned.Turned.TheVariants.{On, Over}
 -- why a connection ends that was told so: BYE, a thread that is gone, else a FAULT
 abbrev pub ending_by : Told → Ending
 ending_by Left = Bye
-ending_by (Refused number) = (if number == gone then Gone else Protocol)
+ending_by (Refused NoThread) = Gone
 ending_by _ = Protocol
 
 abbrev pub turned_at : Told → Stage → Turned
@@ -32,12 +34,12 @@ turned_at told stage = On stage
 abbrev pub ends_with : Told → Stage → Turned
 ends_with told stage = turned_at told (next_stage stage told)
 
--- what a desk answers: the thread that it opened, that it entered what it was asked, or a refusal
+-- what a desk answers: the thread that it opened, that it entered the call, what ExchangeRegisters answers, or a refusal
 abbrev pub IsAnswer : Request → Told → Type 0
 IsAnswer (Open number) (Opened thread) = ⊤
 IsAnswer (Enter thread call) Entered = ⊤
-IsAnswer (Exreg thread target control) Entered = ⊤
-IsAnswer request (Refused number) = ⊤
+IsAnswer (Exreg thread target control) (Exchanged result stopped code) = ⊤
+IsAnswer request (Refused refusal) = ⊤
 IsAnswer request told = ⊥
 
 -- the desk is asked, and what it left is posted
@@ -45,11 +47,9 @@ abbrev pub AsksSo : Stage → Request → List DeskCall → Turned → Type 0
 AsksSo stage request calls turned =
     (told : Told) × IsAnswer request told × (calls ≡ Asks request told ∷ left_to_post told) × (turned ≡ ends_with told stage)
 
-abbrev pub ServesBy : Stage → Request → List DeskCall → Turned → Type 0
+abbrev pub ServesBy : Stage → Reaction → List DeskCall → Turned → Type 0
 ServesBy stage Nothing calls turned = (calls ≡ []) × (turned ≡ On stage)
-ServesBy stage (Open number) calls turned = AsksSo stage (Open number) calls turned
-ServesBy stage (Enter thread call) calls turned = AsksSo stage (Enter thread call) calls turned
-ServesBy stage (Exreg thread target control) calls turned = AsksSo stage (Exreg thread target control) calls turned
+ServesBy stage (Ask request) calls turned = AsksSo stage request calls turned
 ServesBy stage Leave calls turned = (calls ≡ []) × (turned ≡ Over Bye)
 ServesBy stage (Refuse class number) calls turned =
     (calls ≡ left_to_post (Faulted class number)) × (turned ≡ ends_with (Faulted class number) stage)

@@ -1,19 +1,17 @@
 //! A desk in memory, for tests.
 ghost use Rattle.std.specs.Prelude.{◌≡◌, [], ◌∷◌, Some, None, IfSome, IfNone, map};
 ghost use Rattle.ipc_connection.specs.Desk.{TellsMore};
-ghost use Rattle.ipc_connection.specs.declared.asking.Request.TheVariants as request;
-ghost use Rattle.ipc_session.specs.Answers.{entered_told};
 ghost use Rattle.ipc_session.specs.Keeping.{call_of, calls_of};
+ghost use Rattle.ipc_session.specs.Serving.{IsAnswer};
 
 use crate::calling::CallDesk;
 use crate::deed::Deed;
-use ipc_connection::{Request, Told};
-use ipc_frame::Frame;
-use ipc_history::Call;
+use ipc_connection::{Request, Told, reply};
+use ipc_core::Refusal;
 use ipc_words::{Control, ThreadId};
 use std::alloc::Global;
 
-/// Keeps what it is asked, with its answers. It opens one thread, enters each call, and may refuse one request.
+/// Keeps what it is asked, with its answers. It opens one thread, enters each call, stops no phase, and may refuse one request.
 #[derive(Drop)]
 pub struct MemoryDesk {
     thread: ThreadId,
@@ -21,7 +19,7 @@ pub struct MemoryDesk {
     is_complete: bool,
     // Requests before the one that it refuses.
     requests_before: u64,
-    refusal: Option<u8>,
+    refusal: Option<Refusal>,
 }
 
 impl MemoryDesk {
@@ -38,14 +36,14 @@ impl MemoryDesk {
         }
     }
 
-    /// The same desk, which refuses the request of this place, counted from 0, by a number.
-    pub fn with_refusal(self, request: u64, number: u8) -> MemoryDesk
+    /// The same desk, which refuses the request of this place, counted from 0.
+    pub fn with_refusal(self, request: u64, refusal: Refusal) -> MemoryDesk
         ensures deeds { result.deeds ≡ self.deeds }
         ensures complete { result.is_complete ≡ self.is_complete }
     {
         let mut desk = self;
         desk.requests_before = request;
-        desk.refusal = Some(number);
+        desk.refusal = Some(refusal);
         desk
     }
 
@@ -67,64 +65,49 @@ impl MemoryDesk {
         }
     }
 
-    fn answer(&mut self) -> Result<(), u8>
+    /// Whether this request is refused.
+    fn refuses(&mut self) -> Option<Refusal>
         ensures deeds { self.new.deeds ≡ self.old.deeds }
         ensures complete { self.new.is_complete ≡ self.old.is_complete }
     {
         if self.requests_before > 0 {
             self.requests_before -= 1;
-            return Ok(());
+            return None;
         }
-        self.refusal.take().map_or(Ok(()), Err)
+        self.refusal.take()
     }
 }
 
-/// What is told of an answer.
-fn told_of(answer: Result<(), u8>) -> Told
-    ensures { result ≡ entered_told answer }
+/// What becomes of a request that is not refused, where this thread is opened and no phase was to be stopped.
+fn accepted(request: &Request, thread: ThreadId) -> Told
+    ensures { IsAnswer request.now result }
 {
-    match answer {
-        Ok(()) => Told::Entered,
-        Err(number) => Told::Refused(number),
+    match request {
+        Request::Open(_) => Told::Opened(thread),
+        Request::Enter(_, _) => Told::Entered,
+        Request::Exreg { target, .. } => Told::Exchanged(*target, Control::from_word(0), 0),
     }
 }
 
 impl CallDesk for MemoryDesk {
     ghost log = { λ desk. calls_of desk.is_complete desk.deeds.items };
 
-    fn open(&mut self, number: u16) -> Result<ThreadId, u8> {
+    fn ask(&mut self, request: Request) -> Told {
         let thread = self.thread;
-        match self.answer() {
-            Ok(()) => {
-                self.note(Deed::Asked(Request::Open(number), Told::Opened(thread)));
-                Ok(thread)
-            }
-            Err(refusal) => {
-                self.note(Deed::Asked(Request::Open(number), Told::Refused(refusal)));
-                Err(refusal)
-            }
-        }
-    }
-
-    fn call(&mut self, thread: ThreadId, call: Call) -> Result<(), u8> {
-        let answer = self.answer();
-        self.note(Deed::Asked(Request::Enter(thread, call), told_of(answer)));
-        answer
-    }
-
-    fn exreg(&mut self, thread: ThreadId, target: ThreadId, control: Control) -> Result<(), u8> {
-        let answer = self.answer();
-        let request = Request::Exreg {
-            thread,
-            target,
-            control,
+        let told = match self.refuses() {
+            Some(refusal) => Told::Refused(refusal),
+            None => accepted(&request, thread),
         };
-        self.note(Deed::Asked(request, told_of(answer)));
-        answer
+        let answer = told;
+        let deed = Deed::Asked(request, answer);
+        self.note(deed);
+        told
     }
 
-    fn post(&mut self, frame: Frame) {
-        self.note(Deed::Posted(frame));
+    fn post(&mut self, told: Told) {
+        if let Some(frame) = reply(told) {
+            self.note(Deed::Posted(frame));
+        }
     }
 
     fn broke(&mut self) {

@@ -1,16 +1,15 @@
-ghost use Rattle.std.specs.Prelude.{◌≡◌, List, [], ◌∷◌};
-ghost use Rattle.ipc_connection.specs.Desk.{DeskCall, TellsMore, Asks, left_to_post};
-ghost use Rattle.ipc_connection.specs.declared.asking.Request.TheVariants as request;
-ghost use Rattle.ipc_session.specs.Serving.{IsAnswer, Serves, ServesBy, ending_by, ends_with};
+ghost use Rattle.std.specs.Prelude.{◌≡◌, List};
+ghost use Rattle.ipc_connection.specs.Desk.{DeskCall, TellsMore, left_to_post};
+ghost use Rattle.ipc_connection.specs.declared.asking.Reaction.TheVariants as reaction;
+ghost use Rattle.ipc_session.specs.Serving.{Serves, ServesBy, ending_by, ends_with};
 
 use crate::calling::CallDesk;
 use crate::ending::Ending;
 use crate::turned::Turned;
 use ipc_calls::Heard;
-use ipc_connection::{GONE, Request, Stage, Told, asks, next_stage, posted};
+use ipc_connection::{Reaction, Request, Stage, Told, asks, is_posted, next_stage};
+use ipc_core::Refusal;
 use ipc_frame::FrameFault;
-use ipc_history::Call;
-use ipc_words::{Control, ThreadId};
 
 /// Serves what is heard at a stage.
 pub(crate) fn serve<D: CallDesk>(
@@ -21,69 +20,29 @@ pub(crate) fn serve<D: CallDesk>(
     ensures { (calls : List DeskCall) × TellsMore (D.log desk.old) (D.log desk.new) calls × Serves stage heard calls result }
 {
     let here = stage;
-    let request = asks(here, heard);
-    serve_request(desk, stage, request)
+    let reaction = asks(here, heard);
+    react(desk, stage, reaction)
 }
 
-fn serve_request<D: CallDesk>(desk: &mut D, stage: Stage, request: Request) -> Turned
-    ensures { (calls : List DeskCall) × TellsMore (D.log desk.old) (D.log desk.new) calls × ServesBy stage request calls result }
+#[tactic(auto, unfolding(ipc_connection::specs::Replying::next_stage))]
+fn react<D: CallDesk>(desk: &mut D, stage: Stage, reaction: Reaction) -> Turned
+    ensures { (calls : List DeskCall) × TellsMore (D.log desk.old) (D.log desk.new) calls × ServesBy stage reaction calls result }
 {
-    match request {
-        Request::Nothing => Turned::On(stage),
-        Request::Open(number) => {
-            let told = ask_open(desk, number);
-            tell(desk, stage, told)
-        }
-        Request::Enter(thread, call) => {
-            let told = ask_call(desk, thread, call);
-            tell(desk, stage, told)
-        }
-        Request::Exreg {
-            thread,
-            target,
-            control,
-        } => {
-            let told = ask_exreg(desk, thread, target, control);
-            tell(desk, stage, told)
-        }
-        Request::Leave => Turned::Over(Ending::Bye),
-        Request::Refuse(class, number) => tell(desk, stage, Told::Faulted(class, number)),
+    match reaction {
+        Reaction::Nothing => Turned::On(stage),
+        Reaction::Ask(request) => ask(desk, stage, request),
+        Reaction::Leave => tell(desk, stage, Told::Left),
+        Reaction::Refuse(class, number) => tell(desk, stage, Told::Faulted(class, number)),
     }
 }
 
-fn ask_open<D: CallDesk>(desk: &mut D, number: u16) -> Told
-    ensures told { TellsMore (D.log desk.old) (D.log desk.new) (Asks (request.Open number) result ∷ []) }
-    ensures answer { IsAnswer (request.Open number) result }
+/// Asks the desk, posts what it left, and answers what comes next.
+fn ask<D: CallDesk>(desk: &mut D, stage: Stage, request: Request) -> Turned
+    ensures { (calls : List DeskCall) × TellsMore (D.log desk.old) (D.log desk.new) calls
+        × ServesBy stage (reaction.Ask request) calls result }
 {
-    match desk.open(number) {
-        Ok(thread) => Told::Opened(thread),
-        Err(number) => Told::Refused(number),
-    }
-}
-
-fn ask_call<D: CallDesk>(desk: &mut D, thread: ThreadId, call: Call) -> Told
-    ensures told { TellsMore (D.log desk.old) (D.log desk.new) (Asks (request.Enter thread call) result ∷ []) }
-    ensures answer { IsAnswer (request.Enter thread call) result }
-{
-    match desk.call(thread, call) {
-        Ok(()) => Told::Entered,
-        Err(number) => Told::Refused(number),
-    }
-}
-
-fn ask_exreg<D: CallDesk>(
-    desk: &mut D,
-    thread: ThreadId,
-    target: ThreadId,
-    control: Control,
-) -> Told
-    ensures told { TellsMore (D.log desk.old) (D.log desk.new) (Asks (request.Exreg thread target control) result ∷ []) }
-    ensures answer { IsAnswer (request.Exreg thread target control) result }
-{
-    match desk.exreg(thread, target, control) {
-        Ok(()) => Told::Entered,
-        Err(number) => Told::Refused(number),
-    }
+    let told = desk.ask(request);
+    tell(desk, stage, told)
 }
 
 /// Posts what the desk left, and answers what comes next.
@@ -92,10 +51,18 @@ fn tell<D: CallDesk>(desk: &mut D, stage: Stage, told: Told) -> Turned
     ensures turned { result ≡ ends_with told stage }
 {
     let answered = told;
-    if let Some(frame) = posted(answered) {
-        desk.post(frame);
-    }
+    post_left(desk, answered);
     turned_by(stage, told)
+}
+
+/// Posts what the desk left to be posted.
+fn post_left<D: CallDesk>(desk: &mut D, told: Told)
+    ensures { TellsMore (D.log desk.old) (D.log desk.new) (left_to_post told) }
+{
+    let answered = told;
+    if is_posted(answered) {
+        desk.post(told);
+    }
 }
 
 /// What comes next: a stage, or the end of the connection.
@@ -115,13 +82,7 @@ fn ending_of(told: Told) -> Ending
 {
     match told {
         Told::Left => Ending::Bye,
-        Told::Refused(number) => {
-            if number == GONE {
-                Ending::Gone
-            } else {
-                Ending::Protocol
-            }
-        }
+        Told::Refused(Refusal::NoThread) => Ending::Gone,
         _ => Ending::Protocol,
     }
 }

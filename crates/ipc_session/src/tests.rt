@@ -2,6 +2,7 @@ ghost use Rattle.std.specs.Prelude.{◌≡◌, None, true};
 
 use super::*;
 use ipc_connection::{Request, Told};
+use ipc_core::Refusal;
 use ipc_frame::Frame;
 use ipc_ports::{MemoryPort, PortFault, PortRead, Trouble};
 use ipc_words::ThreadId;
@@ -29,7 +30,10 @@ const DEEDS: [Brief; 3] = [
 const STRETCHES: [(usize, usize, usize); 4] = [(0, 7, 0), (7, 65, 1), (65, 86, 2), (86, 91, 3)];
 
 // What a desk gives.
-const GIVEN: [Told; 2] = [Told::Refused(2), Told::Refused(1)];
+const GIVEN: [Told; 2] = [
+    Told::Refused(Refusal::NumberTaken),
+    Told::Refused(Refusal::BadNumber),
+];
 
 // The text of it: REFUSED 2, REFUSED 1.
 const ANSWERS: [u8; 12] = [0, 0, 0, 2, 0x84, 2, 0, 0, 0, 2, 0x84, 1];
@@ -66,7 +70,6 @@ fn brief_request(request: &Request) -> Brief {
         Request::Open(number) => Brief::Opened(*number),
         Request::Enter(_, call) => Brief::Called(call.words().len()),
         Request::Exreg { target, .. } => Brief::Exchanged(target.to_word()),
-        _ => Brief::Other,
     }
 }
 
@@ -112,14 +115,14 @@ fn assert_read<P: PortRead>(
     rt: &impl Abort,
     alloc: Global,
     port: &mut P,
-    refusal: Option<(u64, u8)>,
+    refusal: Option<(u64, Refusal)>,
     turns: u64,
     end: Ending,
     deeds: &[Brief],
 ) {
     let desk = MemoryDesk::new(alloc, ThreadId::from_word(SECOND));
     let mut desk = match refusal {
-        Some((request, number)) => desk.with_refusal(request, number),
+        Some((request, refusal)) => desk.with_refusal(request, refusal),
         None => desk,
     };
     let ending = read_loop(alloc, port, &mut desk, &mut Open::new(turns));
@@ -212,27 +215,42 @@ fn each_refusal_is_told_in_its_place(rt: HostRuntime) {
     let [opened, called, exchanged] = DEEDS;
     let busy = Brief::Faulted(b'K', 7);
     let refused = Brief::Refused(2);
-    let cases: [(u64, u8, Ending, &[Brief]); 9] = [
-        (0, 6, Ending::Gone, &[opened]),
-        (1, 6, Ending::Gone, &[opened, called]),
-        (2, 6, Ending::Gone, &DEEDS),
-        (0, 7, Ending::Protocol, &[opened, busy]),
-        (1, 7, Ending::Protocol, &[opened, called, busy]),
-        (2, 7, Ending::Protocol, &[opened, called, exchanged, busy]),
+    let cases: [(u64, Refusal, Ending, &[Brief]); 9] = [
+        (0, Refusal::NoThread, Ending::Gone, &[opened]),
+        (1, Refusal::NoThread, Ending::Gone, &[opened, called]),
+        (2, Refusal::NoThread, Ending::Gone, &DEEDS),
+        (0, Refusal::Busy, Ending::Protocol, &[opened, busy]),
+        (1, Refusal::Busy, Ending::Protocol, &[opened, called, busy]),
+        (
+            2,
+            Refusal::Busy,
+            Ending::Protocol,
+            &[opened, called, exchanged, busy],
+        ),
         // without a thread the call has no place
         (
             0,
-            2,
+            Refusal::NumberTaken,
             Ending::Protocol,
             &[opened, refused, Brief::Faulted(b'S', 1)],
         ),
-        (1, 2, Ending::Bye, &[opened, called, refused, exchanged]),
-        (2, 2, Ending::Bye, &[opened, called, exchanged, refused]),
+        (
+            1,
+            Refusal::NumberTaken,
+            Ending::Bye,
+            &[opened, called, refused, exchanged],
+        ),
+        (
+            2,
+            Refusal::NumberTaken,
+            Ending::Bye,
+            &[opened, called, exchanged, refused],
+        ),
     ];
     let alloc = rt.alloc();
-    for (place, number, end, deeds) in cases {
+    for (place, refusal, end, deeds) in cases {
         let mut port = MemoryPort::new(alloc, &TALK);
-        let refusal = Some((place, number));
+        let refusal = Some((place, refusal));
         assert_read(&rt, alloc, &mut port, refusal, ENOUGH, end, deeds);
     }
 }

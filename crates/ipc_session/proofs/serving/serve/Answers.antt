@@ -3,4 +3,4 @@ use Rattle.ipc_session.proofs.serving.serve.Goals as goal
 
 pub returns : goal.returns
 unfolding Serves
-returns g c = let told = c.serve_request.ensures in (told.0, told.1, rw c.asks-request.ensures at told.2)
+returns g c = let told = c.react.ensures in (told.0, told.1, rw c.asks-reaction.ensures at told.2)

@@ -1,6 +1,6 @@
 use Rattle.std.proofs.Common.{◌∙◌, ap, length}
 use Rattle.ipc_exchange.proofs.TellingLemmas.{can_tell, does_by}
-use Rattle.ipc_exchange.proofs.service.Service.ask.Goals as goal
+use Rattle.ipc_exchange.proofs.service.Service.command.Goals as goal
 
 pub tell-requires : goal.tell-requires
 tell-requires c = can_tell c.args.self.now c.obey-told.new.self _ _ _ c.requires c.obey-told.ensures.sound c.obey-told.ensures.kernel c.obey-told.ensures.slots c.obey-told.ensures.table

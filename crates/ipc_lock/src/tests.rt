@@ -112,14 +112,21 @@ impl<C: Ledger, T: Ledger> Party<C, T> {
         number: u64,
     ) -> Result<Self, Fail> {
         let open = Command::Open { number, space: 1 };
-        match kernel.submit(rt, 0, None, open).into_parts() {
-            (Answer::Opened(thread), Some(calls), Some(takes)) => Ok(Party {
-                thread,
-                calls,
-                takes,
-            }),
-            _ => Err(Fail::from("an open")),
-        }
+        let (answer, calls, takes) = kernel.submit(rt, 0, None, open).into_parts();
+        let Answer::Opened(thread) = answer else {
+            return Err(Fail::from("an open"));
+        };
+        let Some(calls) = calls else {
+            return Err(Fail::from("the seat of its calls"));
+        };
+        let Some(takes) = takes else {
+            return Err(Fail::from("the seat of its outcomes"));
+        };
+        Ok(Party {
+            thread,
+            calls,
+            takes,
+        })
     }
 
     // Enters a call at a moment, which has this number.
@@ -137,17 +144,20 @@ impl<C: Ledger, T: Ledger> Party<C, T> {
             takes,
         } = self;
         let enter = Command::Enter(thread, call);
-        match kernel.submit(rt, now, Some(calls), enter).into_parts() {
-            (Answer::Entered(entered), Some(calls), None) => {
-                assert_eq!(rt; entered, number);
-                Ok(Party {
-                    thread,
-                    calls,
-                    takes,
-                })
-            }
-            _ => Err(Fail::from("an entered call")),
-        }
+        let (answer, calls, opened) = kernel.submit(rt, now, Some(calls), enter).into_parts();
+        let Answer::Entered(entered) = answer else {
+            return Err(Fail::from("an entered call"));
+        };
+        let Some(calls) = calls else {
+            return Err(Fail::from("the seat of an entered call"));
+        };
+        assert_eq!(rt; entered, number);
+        assert_eq!(rt; opened.is_none(), true);
+        Ok(Party {
+            thread,
+            calls,
+            takes,
+        })
     }
 
     // Enters a call that is refused so, and hands the call back; the seat is as it was.
@@ -168,17 +178,17 @@ impl<C: Ledger, T: Ledger> Party<C, T> {
         let answered = kernel.submit(rt, 0, Some(calls), enter);
         let is_refused = matches!(answered.answer(), Answer::Refused(why) if *why == refusal);
         assert_eq!(rt; is_refused, true);
-        match answered.into_call() {
-            (Some(calls), Some(_)) => {
-                assert_eq!(rt; calls.made(), made);
-                Ok(Party {
-                    thread,
-                    calls,
-                    takes,
-                })
-            }
-            _ => Err(Fail::from("a refused call")),
-        }
+        let (calls, back) = answered.into_call();
+        let Some(calls) = calls else {
+            return Err(Fail::from("the seat of a refused call"));
+        };
+        assert_eq!(rt; back.is_some(), true);
+        assert_eq!(rt; calls.made(), made);
+        Ok(Party {
+            thread,
+            calls,
+            takes,
+        })
     }
 
     // Waits for the outcome of its last call, which is told so.

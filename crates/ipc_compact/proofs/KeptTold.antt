@@ -1,19 +1,22 @@
 -- Two histories with one compact tell the same of each kept call, and of the calls of what follows.
 use Rattle.std.proofs.lemmas.Bool.{false≢true}
-use Rattle.std.proofs.Common.{◌≡◌, refl, sym, ap, ◌∙◌, subst, ℕ, ◌==◌, eqb-true, eq-eqb, Bool, true, false, ◌&&◌, ◌||◌, List, [], ◌∷◌, ◌++◌, append-nil, filter, Some, None, if◌then◌else◌, ◌⊎◌, inl, inr, arith}
+use Rattle.std.proofs.Common.{◌≡◌, refl, sym, ap, ap₂, ◌∙◌, subst, ℕ, ◌==◌, eqb-true, eq-eqb, Bool, true, false, ◌&&◌, ◌||◌, List, [], ◌∷◌, ◌++◌, append-nil, filter, Some, None, if◌then◌else◌, ◌⊎◌, unwrap_or, inl, inr, arith}
 use Rattle.std.proofs.lemmas.List.{append_assoc}
 use Rattle.std.specs.List.{list_any}
-use Rattle.ipc_history.specs.Words.{first_some}
-use Rattle.ipc_history.specs.Entries.{calls, ends, names}
-use Rattle.ipc_history.specs.Calls.{call_at, is_called, caller_of, numbers}
-use Rattle.ipc_history.specs.Threads.{has_broken}
+use Rattle.ipc_words.specs.ThreadId.{nilthread}
+use Rattle.ipc_history.specs.Words.{before, first_some, last_some}
+use Rattle.ipc_history.specs.Entries.{calls, ends, moment_in, names}
+use Rattle.ipc_history.specs.Calls.{call_at, is_called, caller_of, to_of, from_of, numbers}
+use Rattle.ipc_history.specs.Threads.{has_broken, now}
+use Rattle.ipc_history.specs.Phases.{is_over}
 use Rattle.ipc_history.specs.Matching.{is_propagated}
 use Rattle.ipc_history.specs.Legal.{Legal}
-use Rattle.ipc_history.specs.Outcomes.{outcome_in, outcome_of, received}
+use Rattle.ipc_history.specs.Outcomes.{end_moment, is_last_of, outcome_in, outcome_of, received}
 use Rattle.ipc_history.specs.declared.entry.Entry.{Entry}
 use Rattle.ipc_history.specs.declared.entry.Entry.TheVariants.{Given, Written}
 use Rattle.ipc_history.specs.declared.entry.Input.TheVariants.{At, Opened, Called, Exreg, Broke, Moved}
 use Rattle.ipc_history.specs.declared.entry.Output.TheVariants.{Began, Turned, Ended, Overflowed, Aborted, Failed}
+use Rattle.ipc_laws.proofs.EndMoments.{last_named, last_stands}
 use Rattle.ipc_laws.proofs.Endings.{live_unbroken}
 use Rattle.ipc_laws.proofs.IdleOutputs.{first_some_agrees}
 use Rattle.ipc_laws.proofs.Numbering.{number_was_called}
@@ -22,15 +25,16 @@ use Rattle.ipc_laws.proofs.Places.{Place, any_at, any_place}
 use Rattle.ipc_laws.proofs.Settling.{legal_push}
 use Rattle.ipc_laws.proofs.Tests.{neither_left, neither_right}
 use Rattle.ipc_compact.specs.Agree.{Agree, SameCompact, SameEnd}
-use Rattle.ipc_compact.specs.Compact.{is_among, is_kept, is_kept_call, kept_calls, kept_of}
+use Rattle.ipc_compact.specs.Compact.{has_moment, is_among, is_kept, is_kept_call, kept_calls, kept_of}
 use Rattle.ipc_compact.specs.Told.{OutcomesAgree}
 use Rattle.ipc_compact.proofs.CallReading as there
 use Rattle.ipc_compact.proofs.Following.{end2, follow_same, front_follows, quiet_end}
-use Rattle.ipc_compact.proofs.Keeping.{IsKept, first_kept}
+use Rattle.ipc_compact.proofs.Keeping.{IsKept, IsMarked, before_kept, first_kept}
 use Rattle.ipc_compact.proofs.Reading as reading
 use Rattle.ipc_compact.proofs.SameBases.{same_compact}
 use Rattle.ipc_compact.proofs.SameCompact as compacts
-use Rattle.ipc_compact.proofs.SameTold.{SameTold, newly_told, outcomes_same, received_same, still_told}
+use Rattle.ipc_compact.proofs.SameCalls as calls_same
+use Rattle.ipc_compact.proofs.SameTold.{OneMoment, SameTold, newly_told, outcomes_same, received_same, still_told}
 use Rattle.ipc_compact.proofs.ShownReading as shown
 use Rattle.ipc_compact.proofs.Stepping.{stepped}
 
@@ -93,6 +97,30 @@ module _ (P : List Entry) (taken : List ℕ) (legal : Legal P) (n : ℕ) (k : is
           go true h = inl (reading.no_at n e h, reading.named P taken n k e h)
           go false h = inr (silent_outcome P n e h)
 
+-- the last entry of a call names it, and its moment is kept
+last_marked : (to from n : ℕ) (e : Entry) → is_last_of to from n e ≡ true → (names n e ≡ true) × (has_moment e ≡ true)
+last_marked to from n e h = ((last_named to from n e h).0, marked e h)
+  where
+    none : (f t : Bool) → false ≡ (false || (f && (false || (t && false))))
+    none f t = grind arith
+
+    marked : (e : Entry) → is_last_of to from n e ≡ true → has_moment e ≡ true
+    marked (Given (Called k thread call)) h = refl
+    marked (Written (Ended k m)) h = refl
+    marked (Written (Failed k code)) h = refl
+    marked (Written (Overflowed k m offset)) h = refl
+    marked (Written (Aborted k m count)) h = refl
+    marked _ h = absurd (false≢true (none (from == nilthread) (to == nilthread) ∙ h))
+
+-- so a kept call was over at the moment that the kept entries say
+module _ (P : List Entry) (taken : List ℕ) (n : ℕ) (k : is_among n (kept_calls P taken) ≡ true) where
+  moment_kept : (c : is_called P n ≡ true) → is_over P n ≡ true → has_broken P (caller_of P n) ≡ false → last_some moment_in (before (is_last_of (to_of P n) (from_of P n) n) (kept_of P taken)) ≡ last_some moment_in (before (is_last_of (to_of P n) (from_of P n) n) P)
+  unfolding kept_of
+  moment_kept c over alive = before_kept (is_kept P taken) (is_last_of (to_of P n) (from_of P n) n) mark P (last_stands P n c alive ∙ over)
+    where
+      mark : IsMarked (is_kept P taken) (is_last_of (to_of P n) (from_of P n) n)
+      mark e h = let m = last_marked (to_of P n) (from_of P n) n e h in ((reading.no_at n e m.0, reading.named P taken n k e m.0), m.1)
+
 -- Of two with one compact
 
 module _ (P Q : List Entry) (one other : List ℕ) (legal : Legal P) (legal' : Legal Q) (same : SameCompact P Q one other) (agree : Agree P Q) (n : ℕ) (k : is_among n (kept_calls P one) ≡ true) where
@@ -135,6 +163,15 @@ module _ (P Q : List Entry) (one other : List ℕ) (legal : Legal P) (legal' : L
   tells (Written (Turned m thread)) at = refl
   tells (Given input) at = refl
 
+  one_moment : OneMoment P Q n
+  unfolding end_moment now
+  one_moment over alive =
+      let tests : is_last_of (to_of P n) (from_of P n) n ≡ is_last_of (to_of Q n) (from_of Q n) n = ap₂ (λ to from. is_last_of to from n) (calls_same.to P Q n call) (calls_same.from P Q n call) in
+      let there = compacts.called_there P Q one other legal legal' same n called k in
+      ap (λ o. unwrap_or o 0) (sym (moment_kept P one n k called over alive)
+        ∙ (ap₂ (λ test K. last_some moment_in (before test K)) tests same.kept
+        ∙ moment_kept Q other n k' there (sym (agree.over n) ∙ over) (unbroken Q other k')))
+
   pub kept_told : SameTold P Q n
   kept_told =
       let broken = unbroken P one k ∙ sym (unbroken Q other k') in
@@ -143,7 +180,7 @@ module _ (P Q : List Entry) (one other : List ℕ) (legal : Legal P) (legal' : L
         there = compacts.called_there P Q one other legal legal' same n called k;
         call = call;
         broken = broken;
-        told = outcomes_same P Q n (agree.over n) broken
+        told = outcomes_same P Q n (agree.over n) broken one_moment
             (sym (tells_kept P one legal n k)
             ∙ (first_some_agrees (outcome_in P n) (outcome_in Q n) (kept_of P one) tells
             ∙ (ap (first_some (outcome_in Q n)) same.kept ∙ tells_kept Q other legal' n k')));
@@ -182,7 +219,7 @@ tell_on (e ∷ X) P Q legal legal' agree ends h n is =
     let now : SameTold (P ++ e ∷ []) (Q ++ e ∷ []) n ⊎ IsOf X n = elim is [
       | inl it ↦ inl (still_told P Q e legal legal' f f' agree n it)
       | inr of ↦ elim (first_of e X n of) [
-        | inl enters ↦ inl (newly_told P Q e n legal legal' f f' enters)
+        | inl enters ↦ inl (newly_told P Q e n agree.moment legal legal' f f' enters)
         | inr later ↦ inr later
       ]
     ] in

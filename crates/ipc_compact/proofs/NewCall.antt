@@ -52,7 +52,7 @@ module _ (P : List Entry) (n t : ℕ) (call : CallParts) (legal : Legal P) (foll
   unfolding Follows
   uncalled = false_from_ne_true _ (λ called. let below = called_below P legal n called in omega (arith, (entered_free P n t call follows.1).1, below))
 
-  unnamed : list_any (names n) P ≡ false
+  pub unnamed : list_any (names n) P ≡ false
   unnamed = false_from_ne_true _ (λ named.
       let p = any_place (names n) P named in
       let f = follows_at P legal p.0 p.1 in

@@ -6,17 +6,18 @@ use Rattle.ipc_history.specs.CallParts.{CallParts}
 use Rattle.ipc_history.specs.Words.{first_some}
 use Rattle.ipc_history.specs.Entries.{breaks, calls}
 use Rattle.ipc_history.specs.Calls.{call_at, is_called, caller_of, originator_of, tag_of, words_of, strings_of, buffers_of}
-use Rattle.ipc_history.specs.Threads.{has_broken}
+use Rattle.ipc_history.specs.Threads.{has_broken, now}
 use Rattle.ipc_history.specs.Phases.{is_over}
 use Rattle.ipc_history.specs.Matching.{is_propagated, shown_sender}
 use Rattle.ipc_history.specs.Legal.{Legal, Follows}
-use Rattle.ipc_history.specs.Outcomes.{OutcomeParts, nothing, outcome_in, outcome_of, received}
+use Rattle.ipc_history.specs.Outcomes.{OutcomeParts, end_moment, nothing, outcome_in, outcome_of, received, timed}
 use Rattle.ipc_history.specs.declared.entry.Entry.{Entry}
 use Rattle.ipc_history.specs.declared.entry.Entry.TheVariants.{Given, Written}
 use Rattle.ipc_history.specs.declared.entry.Input.TheVariants.{At, Opened, Called, Exreg, Broke, Moved}
 use Rattle.ipc_history.specs.declared.entry.Output.TheVariants.{Began, Turned, Ended, Overflowed, Aborted, Failed}
 use Rattle.ipc_laws.proofs.Befores.{propagated_kept}
 use Rattle.ipc_laws.proofs.Changing.{changes}
+use Rattle.ipc_laws.proofs.EndMoments.{end_moment_at_once, end_moment_new}
 use Rattle.ipc_laws.proofs.Endings.{live_unbroken}
 use Rattle.ipc_laws.proofs.Growth.{call_at_kept, caller_of_kept, is_called_kept, open_is_called, open_is_not_closed}
 use Rattle.ipc_laws.proofs.Histories.{named_open}
@@ -44,10 +45,10 @@ unfolding tag_of strings_of shown_sender originator_of caller_of words_of buffer
 received_same P Q k m sent shown got = rw (sent, shown, got) refl
 
 -- an outcome, from what the entries tell
-abbrev outcome_by : Bool → Bool → ℕ → Option OutcomeParts → Option OutcomeParts
-outcome_by over broken n o = (if not over || broken then None else Some (unwrap_or o (nothing n)))
+abbrev outcome_by : Bool → Bool → ℕ → ℕ → Option OutcomeParts → Option OutcomeParts
+outcome_by over broken moment n o = (if not over || broken then None else Some (timed moment (unwrap_or o (nothing n))))
 
-told_by : (H : List Entry) (n : ℕ) (o : Option OutcomeParts) → first_some (outcome_in H n) H ≡ o → outcome_of H n ≡ outcome_by (is_over H n) (has_broken H (caller_of H n)) n o
+told_by : (H : List Entry) (n : ℕ) (o : Option OutcomeParts) → first_some (outcome_in H n) H ≡ o → outcome_of H n ≡ outcome_by (is_over H n) (has_broken H (caller_of H n)) (end_moment H n) n o
 unfolding outcome_of
 told_by H n o e = rw e refl
 
@@ -55,7 +56,7 @@ broken_untold : (H : List Entry) (n : ℕ) → has_broken H (caller_of H n) ≡ 
 unfolding outcome_of
 broken_untold H n b = rw b (none (not (is_over H n)))
   where
-    none : (a : Bool) → (if a || true then None else Some (unwrap_or (first_some (outcome_in H n) H) (nothing n))) ≡ None
+    none : (a : Bool) → (if a || true then None else Some (timed (end_moment H n) (unwrap_or (first_some (outcome_in H n) H) (nothing n)))) ≡ None
     none true = refl
     none false = refl
 
@@ -63,9 +64,18 @@ open_untold : (H : List Entry) (n : ℕ) → is_over H n ≡ false → outcome_o
 unfolding outcome_of
 open_untold H n o = rw o refl
 
+-- two calls that are over, while their callers live, were over at one moment
+abbrev pub OneMoment : List Entry → List Entry → ℕ → Type 0
+OneMoment P Q n = is_over P n ≡ true → has_broken P (caller_of P n) ≡ false → end_moment P n ≡ end_moment Q n
+
 -- by what the entries tell
-pub outcomes_same : (P Q : List Entry) (n : ℕ) → is_over P n ≡ is_over Q n → has_broken P (caller_of P n) ≡ has_broken Q (caller_of Q n) → first_some (outcome_in P n) P ≡ first_some (outcome_in Q n) Q → outcome_of P n ≡ outcome_of Q n
-outcomes_same P Q n over broken tells = told_by P n (first_some (outcome_in Q n) Q) tells ∙ (rw (over, broken) refl ∙ sym (told_by Q n (first_some (outcome_in Q n) Q) refl))
+pub outcomes_same : (P Q : List Entry) (n : ℕ) → is_over P n ≡ is_over Q n → has_broken P (caller_of P n) ≡ has_broken Q (caller_of Q n) → OneMoment P Q n → first_some (outcome_in P n) P ≡ first_some (outcome_in Q n) Q → outcome_of P n ≡ outcome_of Q n
+outcomes_same P Q n over broken moment tells = go (is_over P n) refl (has_broken P (caller_of P n)) refl
+  where
+    go : (a : Bool) → is_over P n ≡ a → (b : Bool) → has_broken P (caller_of P n) ≡ b → outcome_of P n ≡ outcome_of Q n
+    go false o b is = open_untold P n o ∙ sym (open_untold Q n (sym over ∙ o))
+    go true o true b = broken_untold P n b ∙ sym (broken_untold Q n (sym broken ∙ b))
+    go true o false b = told_by P n (first_some (outcome_in Q n) Q) tells ∙ (rw (over, broken, moment o b) refl ∙ sym (told_by Q n (first_some (outcome_in Q n) Q) refl))
 
 -- One more entry
 
@@ -118,6 +128,10 @@ module _ (P Q : List Entry) (e : Entry) (legal : Legal P) (legal' : Legal Q) (fo
     alone : (P : List Entry) → is_over P n ≡ false → first_some (outcome_in (P ++ e ∷ []) n) (P ++ e ∷ []) ≡ outcome_in (P ++ e ∷ []) n e
     alone P o = first_some_push (outcome_in (P ++ e ∷ []) n) P e ∙ ap (λ o. option_or o (outcome_in (P ++ e ∷ []) n e)) (told_none (P ++ e ∷ []) n P (open_is_not_closed P n o))
 
+    -- it was over with this entry
+    one_moment : is_over P n ≡ false → OneMoment P2 Q2 n
+    one_moment o over alive = end_moment_new P e n o alive over ∙ (agree.moment ∙ sym (end_moment_new Q e n (sym (agree.over n) ∙ o) (sym broken2 ∙ alive) (sym (agree2.over n) ∙ over)))
+
     told2 : outcome_of P2 n ≡ outcome_of Q2 n
     told2 = go (is_over P n) refl (has_broken P2 (caller_of P2 n)) refl
       where
@@ -126,7 +140,7 @@ module _ (P Q : List Entry) (e : Entry) (legal : Legal P) (legal' : Legal Q) (fo
         go true o false b =
             outcome_kept P (e ∷ []) (legal_push P e legal follows) n it.called o b
             ∙ (it.told ∙ sym (outcome_kept Q (e ∷ []) (legal_push Q e legal' follows') n it.there (sym (agree.over n) ∙ o) (sym broken2 ∙ b)))
-        go false o false b = outcomes_same P2 Q2 n (agree2.over n) broken2 (alone P o ∙ (tells e refl ∙ sym (alone Q (sym (agree.over n) ∙ o))))
+        go false o false b = outcomes_same P2 Q2 n (agree2.over n) broken2 (one_moment o) (alone P o ∙ (tells e refl ∙ sym (alone Q (sym (agree.over n) ∙ o))))
 
     pub still_told : SameTold P2 Q2 n
     still_told = record {
@@ -153,8 +167,8 @@ module _ (P : List Entry) (n t : ℕ) (call : CallParts) (legal : Legal P) (foll
   silent_here : first_some (outcome_in N n) N ≡ None
   silent_here = told_none N n N (new.unclosed P n t call legal follows)
 
-newly_entered : (P Q : List Entry) (n t : ℕ) (call : CallParts) → Legal P → Legal Q → Follows P (Given (Called n t call)) → Follows Q (Given (Called n t call)) → SameTold (P ++ Given (Called n t call) ∷ []) (Q ++ Given (Called n t call) ∷ []) n
-newly_entered P Q n t call legal legal' follows follows' =
+newly_entered : (P Q : List Entry) (n t : ℕ) (call : CallParts) → now P ≡ now Q → Legal P → Legal Q → Follows P (Given (Called n t call)) → Follows Q (Given (Called n t call)) → SameTold (P ++ Given (Called n t call) ∷ []) (Q ++ Given (Called n t call) ∷ []) n
+newly_entered P Q n t call moment legal legal' follows follows' =
     let broken = unbroken_here P n t call legal follows ∙ sym (unbroken_here Q n t call legal' follows') in
     record {
       called = called_here P n t call legal follows;
@@ -164,15 +178,17 @@ newly_entered P Q n t call legal legal' follows follows' =
       told = outcomes_same (P ++ Given (Called n t call) ∷ []) (Q ++ Given (Called n t call) ∷ []) n
           (new.over P n t call legal follows ∙ sym (new.over Q n t call legal' follows'))
           broken
+          (λ over alive. end_moment_at_once P (Given (Called n t call)) n (new.unnamed P n t call legal follows) (called_here P n t call legal follows) alive over
+            ∙ (moment ∙ sym (end_moment_at_once Q (Given (Called n t call)) n (new.unnamed Q n t call legal' follows') (called_here Q n t call legal' follows') (sym broken ∙ alive) (new.over Q n t call legal' follows' ∙ (sym (new.over P n t call legal follows) ∙ over)))))
           (silent_here P n t call legal follows ∙ sym (silent_here Q n t call legal' follows'));
     }
 
-pub newly_told : (P Q : List Entry) (e : Entry) (n : ℕ) → Legal P → Legal Q → Follows P e → Follows Q e → calls n e ≡ true → SameTold (P ++ e ∷ []) (Q ++ e ∷ []) n
-newly_told P Q (Given (Called k t call)) n legal legal' follows follows' h =
-    subst (λ n. SameTold (P ++ Given (Called k t call) ∷ []) (Q ++ Given (Called k t call) ∷ []) n) (eqb-true k n h) (newly_entered P Q k t call legal legal' follows follows')
-newly_told P Q (Given (At moment)) n legal legal' follows follows' h = absurd (false≢true h)
-newly_told P Q (Given (Opened thread space)) n legal legal' follows follows' h = absurd (false≢true h)
-newly_told P Q (Given (Exreg thread target control)) n legal legal' follows follows' h = absurd (false≢true h)
-newly_told P Q (Given (Broke thread)) n legal legal' follows follows' h = absurd (false≢true h)
-newly_told P Q (Given (Moved k count)) n legal legal' follows follows' h = absurd (false≢true h)
-newly_told P Q (Written output) n legal legal' follows follows' h = absurd (false≢true h)
+pub newly_told : (P Q : List Entry) (e : Entry) (n : ℕ) → now P ≡ now Q → Legal P → Legal Q → Follows P e → Follows Q e → calls n e ≡ true → SameTold (P ++ e ∷ []) (Q ++ e ∷ []) n
+newly_told P Q (Given (Called k t call)) n moment legal legal' follows follows' h =
+    subst (λ n. SameTold (P ++ Given (Called k t call) ∷ []) (Q ++ Given (Called k t call) ∷ []) n) (eqb-true k n h) (newly_entered P Q k t call moment legal legal' follows follows')
+newly_told P Q (Given (At reading)) n moment legal legal' follows follows' h = absurd (false≢true h)
+newly_told P Q (Given (Opened thread space)) n moment legal legal' follows follows' h = absurd (false≢true h)
+newly_told P Q (Given (Exreg thread target control)) n moment legal legal' follows follows' h = absurd (false≢true h)
+newly_told P Q (Given (Broke thread)) n moment legal legal' follows follows' h = absurd (false≢true h)
+newly_told P Q (Given (Moved k count)) n moment legal legal' follows follows' h = absurd (false≢true h)
+newly_told P Q (Written output) n moment legal legal' follows follows' h = absurd (false≢true h)

@@ -581,7 +581,7 @@ fn note(
     match entry {
         Entry::Given(Input::Called(number, caller, call)) => match copies {
             Some(copies) => {
-                desks.note_called(entries, taken, *number, *caller, call.call(), copies)
+                desks.note_called(entries, taken, slots, *number, *caller, call.call(), copies)
             }
             None => unreachable!(),
         },

@@ -9,9 +9,9 @@ use Rattle.ipc_history.specs.CallParts.{CallParts}
 use Rattle.ipc_history.specs.Words.{first_some}
 use Rattle.ipc_history.specs.Entries.{names, calls, closes, ends_send}
 use Rattle.ipc_history.specs.Calls.{is_called, caller_of, to_of, from_of, tag_of, originator_of, words_of, strings_of, buffers_of, calls_made}
-use Rattle.ipc_history.specs.Threads.{is_live, has_broken}
+use Rattle.ipc_history.specs.Threads.{is_live, has_broken, now}
 use Rattle.ipc_history.specs.Phases.{is_sent, is_over}
-use Rattle.ipc_history.specs.Outcomes.{nothing, outcome_in, outcome_of}
+use Rattle.ipc_history.specs.Outcomes.{nothing, outcome_in, outcome_of, timed}
 use Rattle.ipc_history.specs.Legal.{Legal, Follows}
 use Rattle.ipc_history.specs.declared.entry.Entry.{Entry}
 use Rattle.ipc_history.specs.declared.entry.Entry.TheVariants.{Given, Written}
@@ -19,6 +19,7 @@ use Rattle.ipc_history.specs.declared.entry.Input.TheVariants.{Called}
 use Rattle.ipc_history.specs.declared.entry.Output.TheVariants.{Ended}
 use Rattle.ipc_laws.proofs.Changing.{any_push}
 use Rattle.ipc_laws.proofs.Endings.{closes_names, live_unbroken}
+use Rattle.ipc_laws.proofs.EndMoments.{end_moment_at_once}
 use Rattle.ipc_laws.proofs.Growth.{caller_of_kept, is_called_kept, open_is_called, over_kept}
 use Rattle.ipc_laws.proofs.Histories.{follows_at, named_open}
 use Rattle.ipc_laws.proofs.Numbering.{calls_called, entered as entered_free}
@@ -98,15 +99,19 @@ module _ (P : List Entry) (n t : ℕ) (call : CallParts) (legal : Legal P) (foll
   untaken : (taken : List ℕ) → ((k : ℕ) → is_among k taken ≡ true → is_called P k ≡ true) → is_among n taken ≡ false
   untaken taken called = false_from_ne_true _ (λ among. not_both (called n among) uncalled)
 
-  told : is_over Q n ≡ true → outcome_of Q n ≡ Some (nothing n)
-  unfolding outcome_of
-  told o = rw (o, here, unbroken, told_none Q n Q unclosed) refl
+  there : is_called Q n ≡ true
+  unfolding is_called
+  there = rw (new_call_at P n t call uncalled) refl
 
-  told_now : (taken : List ℕ) → ((k : ℕ) → is_among k taken ≡ true → is_called P k ≡ true) → told_at Q taken n ≡ entered_told n call (unwrap_or call.buffers [])
+  told : is_over Q n ≡ true → outcome_of Q n ≡ Some (timed (now P) (nothing n))
+  unfolding outcome_of
+  told o = rw (end_moment_at_once P e n unnamed there (ap (has_broken Q) here ∙ unbroken) o, o, here, unbroken, told_none Q n Q unclosed) refl
+
+  told_now : (taken : List ℕ) → ((k : ℕ) → is_among k taken ≡ true → is_called P k ≡ true) → told_at Q taken n ≡ entered_told (now P) n call (unwrap_or call.buffers [])
   unfolding buffers_of
   told_now taken called = rw (untaken taken called, new_call_at P n t call uncalled) (go (is_over Q n) refl ((call.from == nilthread) && (call.to == nilthread)) over)
     where
-      go : (a : Bool) → is_over Q n ≡ a → (b : Bool) → is_over Q n ≡ b → (if a then option_map_or (λ o. Ready o) (outcome_of Q n) Nothing else Waiting n (unwrap_or call.buffers [])) ≡ (if b then Ready (nothing n) else Waiting n (unwrap_or call.buffers []))
+      go : (a : Bool) → is_over Q n ≡ a → (b : Bool) → is_over Q n ≡ b → (if a then option_map_or (λ o. Ready o) (outcome_of Q n) Nothing else Waiting n (unwrap_or call.buffers [])) ≡ (if b then Ready (timed (now P) (nothing n)) else Waiting n (unwrap_or call.buffers []))
       go true o true p = ap (λ x. option_map_or (λ o. Ready o) x Nothing) (told o)
       go false o false p = refl
       go true o false p = not_both o p
@@ -143,7 +148,7 @@ module _ (P : List Entry) (n t : ℕ) (call : CallParts) (legal : Legal P) (foll
     took : (u : ℕ) → taken_by Q taken u ≡ taken_by P taken u
     took u = taken_by_same P Q taken u (λ k among. caller_of_kept P (e ∷ []) k (called k among))
 
-    desk_called : desk_of Q taken (number_of t) ≡ entered n call (prepared call) (desk_of P taken (number_of t))
+    desk_called : desk_of Q taken (number_of t) ≡ entered (now P) n call (prepared call) (desk_of P taken (number_of t))
     unfolding desk_of thread_desk
     desk_called = rw (lives (number_of t), live_of_at P legal t alive, last_now, made_now, took t, message_now, told_now taken called) refl
 
@@ -168,10 +173,10 @@ module _ (P : List Entry) (n t : ℕ) (call : CallParts) (legal : Legal P) (foll
       | inr other ↦ rw (took u, last_other u other, made_other u other) (counted u)
     ]
 
-    pub called_keeps : is_busy P taken t ≡ false → (old new : List Desk) → Keeps P taken old → Changed (number_of t) (entered n call (prepared call)) old new → Keeps Q taken new
+    pub called_keeps : is_busy P taken t ≡ false → (old new : List Desk) → Keeps P taken old → Changed (number_of t) (entered (now P) n call (prepared call)) old new → Keeps Q taken new
     called_keeps idle old new keeps changed = record {
       size = changed.size ∙ keeps.size;
-      table = λ k. elim (cases_eq k (number_of t)) [ inl is ↦ rw is (changed.here ∙ (ap (entered n call (prepared call)) (keeps.table (number_of t)) ∙ sym desk_called)) | inr p ↦ changed.beside k p ∙ (keeps.table k ∙ sym (desk_beside k (λ g. p (sym g)))) ];
+      table = λ k. elim (cases_eq k (number_of t)) [ inl is ↦ rw is (changed.here ∙ (ap (entered (now P) n call (prepared call)) (keeps.table (number_of t)) ∙ sym desk_called)) | inr p ↦ changed.beside k p ∙ (keeps.table k ∙ sym (desk_beside k (λ g. p (sym g)))) ];
       called = λ k among. is_called_kept P (e ∷ []) k (keeps.called k among);
       over = λ k among. over_kept P (e ∷ []) k (keeps.called k among) (keeps.over k among);
       counted = counted_now idle keeps.counted;

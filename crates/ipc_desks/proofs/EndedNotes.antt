@@ -4,7 +4,8 @@ use Rattle.ipc_words.specs.ThreadId.{nilthread, number_of}
 use Rattle.ipc_items.specs.declared.buffer_list.Substring.{Substring}
 use Rattle.ipc_history.specs.Calls.{caller_of, from_of, buffers_of, strings_of}
 use Rattle.ipc_history.specs.Matching.{shown_sender}
-use Rattle.ipc_history.specs.Outcomes.{HasItsWords, OutcomeParts, nothing, received}
+use Rattle.ipc_history.specs.Outcomes.{HasItsWords, OutcomeParts, nothing, received, timed}
+use Rattle.ipc_history.specs.Threads.{now}
 use Rattle.ipc_laws.proofs.ReceivedWords.{received_counted}
 use Rattle.ipc_history.specs.Legal.{Legal, Follows}
 use Rattle.ipc_history.specs.declared.entry.Entry.{Entry}
@@ -35,15 +36,15 @@ module _ (P : List Entry) (n m : ℕ) (legal : Legal P) (follows : Follows P (Wr
   pub fits_buffers : (message : MessageParts) (buffers : List (List Substring)) → message ≡ message_of P n → buffers ≡ buffers_of P m → length message.strings ≤ length buffers
   fits_buffers message buffers a b = rw (a, b, message_strings P n) (strings_fit P n m legal follows)
 
-  module _ (taken : List ℕ) (old moved told : List Desk) (keeps : Keeps P taken old) (s : Standing) (is : s ≡ standing_of P n) (i j : ℕ) (from : i ≡ number_of (caller_of P n)) (to : j ≡ number_of (caller_of P m)) (o : OutcomeParts) (outcome : o ≡ received P s.number m) (moves : Moved i j old moved) (tells : Changed j (finished o) moved told) where
+  module _ (taken : List ℕ) (old moved told : List Desk) (keeps : Keeps P taken old) (s : Standing) (is : s ≡ standing_of P n) (i j : ℕ) (from : i ≡ number_of (caller_of P n)) (to : j ≡ number_of (caller_of P m)) (o : OutcomeParts) (outcome : o ≡ timed (now P) (received P s.number m)) (moves : Moved i j old moved) (tells : Changed j (finished o) moved told) where
     moves_now : Moved (number_of (caller_of P n)) (number_of (caller_of P m)) old moved
     moves_now = subst (λ x. Moved x (number_of (caller_of P m)) old moved) from (subst (λ x. Moved i x old moved) to moves)
 
     number_is : s.number ≡ n
     number_is = ap (λ s. s.number) is ∙ standing_number P n
 
-    tells_now : Changed (number_of (caller_of P m)) (finished (received P n m)) moved told
-    tells_now = subst (λ x. Changed x (finished (received P n m)) moved told) to (subst (λ x. Changed j (finished x) moved told) (outcome ∙ ap (λ x. received P x m) number_is) tells)
+    tells_now : Changed (number_of (caller_of P m)) (finished (timed (now P) (received P n m))) moved told
+    tells_now = subst (λ x. Changed x (finished (timed (now P) (received P n m))) moved told) to (subst (λ x. Changed j (finished x) moved told) (outcome ∙ ap (λ x. timed (now P) (received P x m)) number_is) tells)
 
     from_is : s.from ≡ from_of P n
     from_is = ap (λ s. s.from) is ∙ standing_from P n
@@ -51,8 +52,8 @@ module _ (P : List Entry) (n m : ℕ) (legal : Legal P) (follows : Follows P (Wr
     pub waits_on : not (s.from == nilthread) ≡ true → Keeps (P ++ Written (Ended n m) ∷ []) taken told
     waits_on h = ended_keeps_open P n m legal follows taken old told keeps moved told moves_now tells_now (ap (λ f. f == nilthread) (sym from_is) ∙ refuted _ h)
 
-    pub is_done : (new : List Desk) (x : OutcomeParts) → x ≡ nothing n → Changed i (finished x) told new → (s.from == nilthread) ≡ true → Keeps (P ++ Written (Ended n m) ∷ []) taken new
-    is_done new x e changed h = ended_keeps_over P n m legal follows taken old new keeps moved told moves_now tells_now (ap (λ f. f == nilthread) (sym from_is) ∙ h) (subst (λ p. Changed p (finished (nothing n)) told new) from (subst (λ y. Changed i (finished y) told new) e changed))
+    pub is_done : (new : List Desk) (x : OutcomeParts) → x ≡ timed (now P) (nothing n) → Changed i (finished x) told new → (s.from == nilthread) ≡ true → Keeps (P ++ Written (Ended n m) ∷ []) taken new
+    is_done new x e changed h = ended_keeps_over P n m legal follows taken old new keeps moved told moves_now tells_now (ap (λ f. f == nilthread) (sym from_is) ∙ h) (subst (λ p. Changed p (finished (timed (now P) (nothing n))) told new) from (subst (λ y. Changed i (finished y) told new) e changed))
 
   module _ (s r : Standing) (is : s ≡ standing_of P n) (at : r ≡ standing_of P m) (t : ℕ) where
     sender_from : (s.from == nilthread) ≡ (from_of P n == nilthread)

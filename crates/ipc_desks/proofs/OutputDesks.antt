@@ -14,10 +14,10 @@ use Rattle.ipc_laws.proofs.Normal.{normal_message, moves_fit}
 use Rattle.ipc_history.specs.Words.{first_some}
 use Rattle.ipc_history.specs.Entries.{breaks, closes, ends_send, ends, calls}
 use Rattle.ipc_history.specs.Calls.{is_called, caller_of, from_of, to_of, buffers_of, strings_of, message_size}
-use Rattle.ipc_history.specs.Threads.{is_live, has_broken}
+use Rattle.ipc_history.specs.Threads.{is_live, has_broken, now}
 use Rattle.ipc_history.specs.Phases.{is_over, is_sent, receiver_of, is_transferring}
 use Rattle.ipc_history.specs.Matching.{matches}
-use Rattle.ipc_history.specs.Outcomes.{OutcomeParts, failure, nothing, received, outcome_in, outcome_of}
+use Rattle.ipc_history.specs.Outcomes.{OutcomeParts, failure, nothing, received, outcome_in, outcome_of, timed}
 use Rattle.ipc_history.specs.Legal.{Legal, Follows}
 use Rattle.ipc_history.specs.NextOutput.{next_output}
 use Rattle.ipc_history.specs.declared.entry.Entry.{Entry}
@@ -27,6 +27,7 @@ use Rattle.ipc_history.specs.declared.entry.Output.TheVariants.{Began, Turned, E
 use Rattle.ipc_laws.specs.Meaning.{Means}
 use Rattle.ipc_laws.proofs.Befores.{propagated_kept, shown_kept}
 use Rattle.ipc_laws.proofs.Changing.{changes}
+use Rattle.ipc_laws.proofs.EndMoments.{end_moment_new}
 use Rattle.ipc_laws.proofs.Growth.{buffers_of_kept, caller_of_kept, open_is_called, open_is_not_closed, open_lives, strings_of_kept, tag_of_kept, words_of_kept}
 use Rattle.ipc_laws.proofs.OneLive.{one_live}
 use Rattle.ipc_laws.proofs.OneOpen.{one_open}
@@ -87,16 +88,19 @@ module _ (P : List Entry) (output : Output) (legal : Legal P) (follows : Follows
       drop a b = grind arith
 
   -- what is told of a call that it ends
-  told_now : (n : ℕ) → is_over P n ≡ false → is_over Q n ≡ true → outcome_of Q n ≡ Some (unwrap_or (outcome_in Q n e) (nothing n))
+  unbroken : (n : ℕ) → is_over P n ≡ false → has_broken Q (caller_of Q n) ≡ false
+  unbroken n o = ap (has_broken Q) (caller_of_kept P (e ∷ []) n (open_is_called P n o)) ∙ (has_broken_push P e (caller_of P n) refl ∙ open_lives P n o)
+
+  told_now : (n : ℕ) → is_over P n ≡ false → is_over Q n ≡ true → outcome_of Q n ≡ Some (timed (now P) (unwrap_or (outcome_in Q n e) (nothing n)))
   unfolding outcome_of
-  told_now n o over = rw (over, caller_of_kept P (e ∷ []) n (open_is_called P n o), has_broken_push P e (caller_of P n) refl, open_lives P n o, first_some_push (outcome_in Q n) P e, told_none Q n P (open_is_not_closed P n o)) refl
+  told_now n o over = rw (over, unbroken n o, end_moment_new P e n o (unbroken n o) over, first_some_push (outcome_in Q n) P e, told_none Q n P (open_is_not_closed P n o)) refl
 
   sent_message : (n : ℕ) → is_over Q n ≡ true → message_at Q n ≡ None
   unfolding is_unsent
   sent_message n over = rw over refl
 
   -- the desk of a call that it ends
-  pub desk_ended : (taken : List ℕ) (n : ℕ) → is_over P n ≡ false → is_among n taken ≡ false → is_over Q n ≡ true → desk_of Q taken (number_of (caller_of P n)) ≡ finished (unwrap_or (outcome_in Q n e) (nothing n)) (desk_of P taken (number_of (caller_of P n)))
+  pub desk_ended : (taken : List ℕ) (n : ℕ) → is_over P n ≡ false → is_among n taken ≡ false → is_over Q n ≡ true → desk_of Q taken (number_of (caller_of P n)) ≡ finished (timed (now P) (unwrap_or (outcome_in Q n e) (nothing n))) (desk_of P taken (number_of (caller_of P n)))
   desk_ended taken n o among over = desk_here P e legal follows taken refl n o (lives (number_of (caller_of P n))) ∙ rw (sent_message n over, among, over, told_now n o over) refl
 
   -- a call that stands at another desk is another call
@@ -131,15 +135,15 @@ module _ (P : List Entry) (n code : ℕ) (legal : Legal P) (follows : Follows P 
   over_failed : is_over F n ≡ true
   over_failed = over_closed P (Failed n code) legal follows n failed_open (eq-eqb n n refl)
 
-  pub failed_keeps : (taken : List ℕ) (old new : List Desk) → Keeps P taken old → Changed (number_of (caller_of P n)) (finished (failure n code)) old new → Keeps F taken new
+  pub failed_keeps : (taken : List ℕ) (old new : List Desk) → Keeps P taken old → Changed (number_of (caller_of P n)) (finished (timed (now P) (failure n code))) old new → Keeps F taken new
   failed_keeps taken old new keeps changed = keeps_step P (Written (Failed n code)) legal follows taken refl old new keeps (changed.size ∙ keeps.size) table
     where
-      mine : desk_of F taken (number_of (caller_of P n)) ≡ finished (failure n code) (desk_of P taken (number_of (caller_of P n)))
+      mine : desk_of F taken (number_of (caller_of P n)) ≡ finished (timed (now P) (failure n code)) (desk_of P taken (number_of (caller_of P n)))
       mine = desk_ended P (Failed n code) legal follows taken n failed_open (untaken P taken old n keeps failed_open) over_failed ∙ rw (eq-eqb n n refl) refl
 
       table : (k : ℕ) → desk_at new k ≡ desk_of F taken k
       table k = elim (cases_eq k (number_of (caller_of P n))) [
-        | inl is ↦ rw is (changed.here ∙ (ap (finished (failure n code)) (keeps.table (number_of (caller_of P n))) ∙ sym mine))
+        | inl is ↦ rw is (changed.here ∙ (ap (finished (timed (now P) (failure n code))) (keeps.table (number_of (caller_of P n))) ∙ sym mine))
         | inr p ↦ changed.beside k p ∙ (keeps.table k ∙ sym (desk_beside P (Failed n code) legal follows taken k (λ t x live last. (ne_eqb n x (apart_call P (Failed n code) legal follows k n t x p live last), refl))))
       ]
 
@@ -189,7 +193,7 @@ module _ (P : List Entry) (output : Output) (n m code : ℕ) (legal : Legal P) (
       or_true true = refl
       or_true false = refl
 
-  pub both_keep : (taken : List ℕ) (old new : List Desk) → Keeps P taken old → Failing (number_of (caller_of P n)) (number_of (caller_of P m)) (failure n code) (failure m (code + 1)) old new → Keeps B taken new
+  pub both_keep : (taken : List ℕ) (old new : List Desk) → Keeps P taken old → Failing (number_of (caller_of P n)) (number_of (caller_of P m)) (timed (now P) (failure n code)) (timed (now P) (failure m (code + 1))) old new → Keeps B taken new
   both_keep taken old new keeps failing = keeps_step P (Written output) legal follows taken refl old new keeps (failing.size ∙ keeps.size) table
     where
       i : ℕ
@@ -198,10 +202,10 @@ module _ (P : List Entry) (output : Output) (n m code : ℕ) (legal : Legal P) (
       j : ℕ
       j = number_of (caller_of P m)
 
-      at_first : desk_of B taken (number_of (caller_of P n)) ≡ finished (failure n code) (desk_of P taken (number_of (caller_of P n)))
+      at_first : desk_of B taken (number_of (caller_of P n)) ≡ finished (timed (now P) (failure n code)) (desk_of P taken (number_of (caller_of P n)))
       at_first = desk_ended P output legal follows taken n sends (untaken P taken old n keeps sends) over_first ∙ rw (both.tells B n, eq-eqb n n refl) refl
 
-      at_second : desk_of B taken (number_of (caller_of P m)) ≡ finished (failure m (code + 1)) (desk_of P taken (number_of (caller_of P m)))
+      at_second : desk_of B taken (number_of (caller_of P m)) ≡ finished (timed (now P) (failure m (code + 1))) (desk_of P taken (number_of (caller_of P m)))
       at_second = desk_ended P output legal follows taken m receives (untaken P taken old m keeps receives) over_second ∙ rw (both.tells B m, ne_eqb n m apart, eq-eqb m m refl) refl
 
       neither : (x : ℕ) → n ≢ x → m ≢ x → ((n == x) || (m == x)) ≡ false
@@ -212,9 +216,9 @@ module _ (P : List Entry) (output : Output) (n m code : ℕ) (legal : Legal P) (
 
       table : (k : ℕ) → desk_at new k ≡ desk_of B taken k
       table k = elim (cases_eq k (number_of (caller_of P n))) [
-        | inl is ↦ rw is (failing.sender (places_apart P legal n m sends receives apart) ∙ (ap (finished (failure n code)) (keeps.table (number_of (caller_of P n))) ∙ sym at_first))
+        | inl is ↦ rw is (failing.sender (places_apart P legal n m sends receives apart) ∙ (ap (finished (timed (now P) (failure n code))) (keeps.table (number_of (caller_of P n))) ∙ sym at_first))
         | inr p ↦ elim (cases_eq k (number_of (caller_of P m))) [
-          | inl is ↦ rw is (failing.receiver ∙ (ap (finished (failure m (code + 1))) (keeps.table (number_of (caller_of P m))) ∙ sym at_second))
+          | inl is ↦ rw is (failing.receiver ∙ (ap (finished (timed (now P) (failure m (code + 1)))) (keeps.table (number_of (caller_of P m))) ∙ sym at_second))
           | inr q ↦ other k p q
         ]
       ]
@@ -306,10 +310,10 @@ module _ (P : List Entry) (n m : ℕ) (legal : Legal P) (follows : Follows P (Wr
     among_n : is_among n taken ≡ false
     among_n = untaken P taken old n keeps passes.opened
 
-    at_receiver : desk_of E taken (number_of (caller_of P m)) ≡ finished (received P n m) (desk_of P taken (number_of (caller_of P m)))
-    at_receiver = desk_ended P (Ended n m) legal follows taken m passes.opened_too (untaken P taken old m keeps passes.opened_too) over_receiver ∙ rw (eq-eqb m m refl) (ap (λ o. finished o (desk_of P taken (number_of (caller_of P m)))) received_same)
+    at_receiver : desk_of E taken (number_of (caller_of P m)) ≡ finished (timed (now P) (received P n m)) (desk_of P taken (number_of (caller_of P m)))
+    at_receiver = desk_ended P (Ended n m) legal follows taken m passes.opened_too (untaken P taken old m keeps passes.opened_too) over_receiver ∙ rw (eq-eqb m m refl) (ap (λ o. finished (timed (now P) o) (desk_of P taken (number_of (caller_of P m)))) received_same)
 
-    at_sender_over : (from_of P n == nilthread) ≡ true → desk_of E taken (number_of (caller_of P n)) ≡ finished (nothing n) (desk_of P taken (number_of (caller_of P n)))
+    at_sender_over : (from_of P n == nilthread) ≡ true → desk_of E taken (number_of (caller_of P n)) ≡ finished (timed (now P) (nothing n)) (desk_of P taken (number_of (caller_of P n)))
     at_sender_over nil = desk_ended P (Ended n m) legal follows taken n passes.opened among_n (over_sender ∙ nil) ∙ rw (ne_eqb m n (λ g. ended_apart (sym g))) refl
 
     at_sender_open : (from_of P n == nilthread) ≡ false → desk_of E taken (number_of (caller_of P n)) ≡ emptied (desk_of P taken (number_of (caller_of P n)))
@@ -321,9 +325,9 @@ module _ (P : List Entry) (n m : ℕ) (legal : Legal P) (follows : Follows P (Wr
     places : number_of (caller_of P n) ≢ number_of (caller_of P m)
     places = places_apart P legal n m passes.opened passes.opened_too ended_apart
 
-    module _ (moved told : List Desk) (moves : Moved (number_of (caller_of P n)) (number_of (caller_of P m)) old moved) (tells : Changed (number_of (caller_of P m)) (finished (received P n m)) moved told) where
+    module _ (moved told : List Desk) (moves : Moved (number_of (caller_of P n)) (number_of (caller_of P m)) old moved) (tells : Changed (number_of (caller_of P m)) (finished (timed (now P) (received P n m))) moved told) where
       told_receiver : desk_at told (number_of (caller_of P m)) ≡ desk_of E taken (number_of (caller_of P m))
-      told_receiver = tells.here ∙ (ap (finished (received P n m)) (moves.receiver places) ∙ (ap (λ d. finished (received P n m) (unbuffered d)) (keeps.table (number_of (caller_of P m))) ∙ sym at_receiver))
+      told_receiver = tells.here ∙ (ap (finished (timed (now P) (received P n m))) (moves.receiver places) ∙ (ap (λ d. finished (timed (now P) (received P n m)) (unbuffered d)) (keeps.table (number_of (caller_of P m))) ∙ sym at_receiver))
 
       told_sender : desk_at told (number_of (caller_of P n)) ≡ emptied (desk_of P taken (number_of (caller_of P n)))
       told_sender = tells.beside (number_of (caller_of P n)) places ∙ (moves.sender places ∙ ap emptied (keeps.table (number_of (caller_of P n))))
@@ -339,9 +343,9 @@ module _ (P : List Entry) (n m : ℕ) (legal : Legal P) (follows : Follows P (Wr
       ])
 
       -- or its call is over
-      pub ended_keeps_over : (from_of P n == nilthread) ≡ true → Changed (number_of (caller_of P n)) (finished (nothing n)) told new → Keeps E taken new
+      pub ended_keeps_over : (from_of P n == nilthread) ≡ true → Changed (number_of (caller_of P n)) (finished (timed (now P) (nothing n))) told new → Keeps E taken new
       ended_keeps_over nil changed = keeps_step P (Written (Ended n m)) legal follows taken refl old new keeps (changed.size ∙ (tells.size ∙ (moves.size ∙ keeps.size))) (λ k. elim (cases_eq k (number_of (caller_of P n))) [
-        | inl is ↦ rw is (changed.here ∙ (ap (finished (nothing n)) told_sender ∙ sym (at_sender_over nil)))
+        | inl is ↦ rw is (changed.here ∙ (ap (finished (timed (now P) (nothing n))) told_sender ∙ sym (at_sender_over nil)))
         | inr p ↦ changed.beside k p ∙ elim (cases_eq k (number_of (caller_of P m))) [ inl is ↦ rw is told_receiver | inr q ↦ told_other k p q ]
       ])
 

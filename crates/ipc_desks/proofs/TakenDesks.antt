@@ -10,7 +10,7 @@ use Rattle.ipc_history.specs.Words.{first_some}
 use Rattle.ipc_history.specs.Calls.{caller_of, buffers_of}
 use Rattle.ipc_history.specs.Threads.{is_live, has_broken}
 use Rattle.ipc_history.specs.Phases.{is_over}
-use Rattle.ipc_history.specs.Outcomes.{OutcomeParts, failure, nothing, outcome_in, outcome_of, received}
+use Rattle.ipc_history.specs.Outcomes.{OutcomeParts, failure, nothing, outcome_in, outcome_of, received, end_moment, timed}
 use Rattle.ipc_history.specs.Legal.{Legal}
 use Rattle.ipc_history.specs.declared.entry.Entry.{Entry}
 use Rattle.ipc_laws.proofs.Endings.{live_unbroken}
@@ -50,7 +50,7 @@ outcome_call H n o h = go (not (is_over H n) || has_broken H (caller_of H n)) h
     told None e = refl
     told (Some u) e = let p = first_place (outcome_in H n) H u e in told_call H n u p.0 p.2
 
-    go : (b : Bool) → (if b then None else Some (unwrap_or (first_some (outcome_in H n) H) (nothing n))) ≡ Some o → o.call ≡ n
+    go : (b : Bool) → (if b then None else Some (timed (end_moment H n) (unwrap_or (first_some (outcome_in H n) H) (nothing n)))) ≡ Some o → o.call ≡ n
     go true g = absurd (none-some o g)
     go false g = ap (λ x. x.call) (sym (same_Some _ o g)) ∙ told (first_some (outcome_in H n) H) refl
 
@@ -58,7 +58,7 @@ outcome_over : (H : List Entry) (n : ℕ) (o : OutcomeParts) → outcome_of H n 
 unfolding outcome_of
 outcome_over H n o h = go (is_over H n) h
   where
-    go : (b : Bool) → (if not b || has_broken H (caller_of H n) then None else Some (unwrap_or (first_some (outcome_in H n) H) (nothing n))) ≡ Some o → b ≡ true
+    go : (b : Bool) → (if not b || has_broken H (caller_of H n) then None else Some (timed (end_moment H n) (unwrap_or (first_some (outcome_in H n) H) (nothing n)))) ≡ Some o → b ≡ true
     go true g = refl
     go false g = absurd (none-some o g)
 
@@ -93,7 +93,7 @@ module _ (P : List Entry) (legal : Legal P) (taken : List ℕ) (desks : List Des
   -- the outcome of a call that is over
   some_outcome : (n : ℕ) → last_call P t ≡ Some n → is_over P n ≡ true → (o : OutcomeParts) × (outcome_of P n ≡ Some o)
   unfolding outcome_of
-  some_outcome n last over = (unwrap_or (first_some (outcome_in P n) P) (nothing n), rw (over, alive n last) refl)
+  some_outcome n last over = (timed (end_moment P n) (unwrap_or (first_some (outcome_in P n) P) (nothing n)), rw (over, alive n last) refl)
 
   no_outcome : (n : ℕ) → is_over P n ≡ false → outcome_of P n ≡ None
   unfolding outcome_of

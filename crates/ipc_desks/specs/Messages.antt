@@ -44,6 +44,7 @@ is_shown message shown = propagates message.tag && (message.originator == shown)
 abbrev pub delivered : ℕ → MessageParts → ℕ → ℕ → List (List Substring) → OutcomeParts
 delivered m message caller shown buffers = record {
   call = m;
+  moment = 0;
   tag = received_tag message.tag (2 * length message.strings) (is_shown message shown);
   sender = shown;
   actual = if is_shown message shown then caller else nilthread;

@@ -3,7 +3,7 @@ use Rattle.std.specs.Prelude.{◌≡◌, ◌≢◌, ℕ, ◌+◌, length, List, 
 use Rattle.ipc_words.specs.ThreadId.{nilthread}
 use Rattle.ipc_items.specs.declared.buffer_list.Substring.{Substring}
 use Rattle.ipc_history.specs.CallParts.{CallParts}
-use Rattle.ipc_history.specs.Outcomes.{OutcomeParts, nothing}
+use Rattle.ipc_history.specs.Outcomes.{OutcomeParts, nothing, timed}
 use Rattle.ipc_desks.specs.Desks.{blank_desk, desk_at}
 use Rattle.ipc_desks.specs.Messages.{PreparedParts}
 use Rattle.ipc_desks.specs.declared.desk.Desk.{Desk}
@@ -22,14 +22,15 @@ emptied desk = record desk { message = None }
 abbrev pub cleared : Desk → Desk
 cleared desk = record desk { told = Nothing; taken = desk.taken + 1 }
 
--- a call n was entered
-abbrev pub entered_told : ℕ → CallParts → List (List Substring) → Told
-entered_told n call buffers = (if (call.from == nilthread) && (call.to == nilthread) then Ready (nothing n) else Waiting n buffers)
+-- a call n was entered at a moment
+abbrev pub entered_told : ℕ → ℕ → CallParts → List (List Substring) → Told
+entered_told moment n call buffers =
+    (if (call.from == nilthread) && (call.to == nilthread) then Ready (timed moment (nothing n)) else Waiting n buffers)
 
-abbrev pub entered : ℕ → CallParts → PreparedParts → Desk → Desk
-entered n call prepared desk = record desk {
+abbrev pub entered : ℕ → ℕ → CallParts → PreparedParts → Desk → Desk
+entered moment n call prepared desk = record desk {
   message = if call.to == nilthread then None else Some prepared.message;
-  told = entered_told n call prepared.buffers;
+  told = entered_told moment n call prepared.buffers;
   made = desk.made + 1;
 }
 

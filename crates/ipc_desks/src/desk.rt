@@ -1,5 +1,5 @@
 ghost use Rattle.std.specs.Prelude.{◌≡◌, ◌≤◌, ◌+◌, ◌<◌, ◌^◌, length, not, Some, None, IsTrue};
-ghost use Rattle.ipc_history.specs.Outcomes.{HasItsWords, failure, nothing};
+ghost use Rattle.ipc_history.specs.Outcomes.{HasItsWords, failure, nothing, timed};
 ghost use Rattle.ipc_desks.specs.Desks.{blank_desk};
 ghost use Rattle.ipc_desks.specs.Messages.{MessageParts, delivered};
 ghost use Rattle.ipc_desks.specs.Steps.{finished, emptied, cleared, entered, entered_told, buffers_in};
@@ -101,10 +101,17 @@ impl Desk {
         mem::replace(&mut self.told, Told::Nothing).into_buffers(alloc)
     }
 
-    /// Keeps the copies of a new call.
-    pub(crate) fn enter(&mut self, alloc: Global, number: u64, call: &Call, copies: Prepared)
+    /// Keeps the copies of a new call, which is entered at this moment.
+    pub(crate) fn enter(
+        &mut self,
+        alloc: Global,
+        moment: u64,
+        number: u64,
+        call: &Call,
+        copies: Prepared,
+    )
         requires { self.old.made + 1 < 2 ^ 64 }
-        ensures { self.new ≡ entered number call.now copies self.old }
+        ensures { self.new ≡ entered moment number call.now copies self.old }
     {
         let sends = call.to() != ThreadId::NILTHREAD;
         let receives = call.from() != ThreadId::NILTHREAD;
@@ -113,7 +120,7 @@ impl Desk {
         self.told = if sends || receives {
             Told::Waiting(number, buffers)
         } else {
-            Told::Ready(nothing(alloc, number))
+            Told::Ready(nothing(alloc, moment, number))
         };
         self.made += 1;
     }
@@ -139,12 +146,13 @@ impl Desk {
     }
 }
 
-/// What the caller of a call that failed is told.
-pub(crate) fn failure(alloc: Global, call: u64, error: IpcError) -> Outcome
-    ensures { result ≡ failure call error }
+/// What the caller of a call that failed at this moment is told.
+pub(crate) fn failure(alloc: Global, moment: u64, call: u64, error: IpcError) -> Outcome
+    ensures { result ≡ timed moment (failure call error) }
 {
     Outcome {
         call,
+        moment,
         tag: MsgTag::from_word(0x8000),
         sender: ThreadId::NILTHREAD,
         actual: ThreadId::NILTHREAD,
@@ -155,12 +163,13 @@ pub(crate) fn failure(alloc: Global, call: u64, error: IpcError) -> Outcome
     }
 }
 
-/// What the caller of a call without a receive phase is told.
-pub(crate) fn nothing(alloc: Global, call: u64) -> Outcome
-    ensures { result ≡ nothing call }
+/// What the caller of a call without a receive phase is told that was over at this moment.
+pub(crate) fn nothing(alloc: Global, moment: u64, call: u64) -> Outcome
+    ensures { result ≡ timed moment (nothing call) }
 {
     Outcome {
         call,
+        moment,
         tag: MsgTag::EMPTY,
         sender: ThreadId::NILTHREAD,
         actual: ThreadId::NILTHREAD,
@@ -171,8 +180,9 @@ pub(crate) fn nothing(alloc: Global, call: u64) -> Outcome
     }
 }
 
-/// What a call is told that received a message, of a caller, which shows a sender. Takes no memory.
+/// What a call is told that received a message at this moment, of a caller, which shows a sender. Takes no memory.
 pub(crate) fn delivered(
+    moment: u64,
     number: u64,
     message: Message,
     caller: ThreadId,
@@ -182,7 +192,7 @@ pub(crate) fn delivered(
     requires fits { length message.strings ≤ length buffers }
     requires words { HasItsWords (delivered number message caller shown buffers).tag
         (delivered number message caller shown buffers).words }
-    ensures { result ≡ delivered number message caller shown buffers }
+    ensures { result ≡ timed moment (delivered number message caller shown buffers) }
 {
     let is_propagated = message.tag().propagates() && message.originator() == shown;
     let typed = (2 * message.string_count()) as u8;
@@ -193,6 +203,7 @@ pub(crate) fn delivered(
     let (words, strings) = message.into_received(&buffers);
     Outcome {
         call: number,
+        moment,
         tag,
         sender: shown,
         actual: if is_propagated {

@@ -9,11 +9,11 @@ ghost use Rattle.ipc_history.specs.Calls.{caller_of};
 ghost use Rattle.ipc_history.specs.Entries.{number_in};
 ghost use Rattle.ipc_history.specs.Legal.{Legal, Follows};
 ghost use Rattle.ipc_history.specs.Phases.{is_over};
-ghost use Rattle.ipc_history.specs.Threads.{is_live};
+ghost use Rattle.ipc_history.specs.Threads.{is_live, now};
 ghost use Rattle.ipc_history.specs.declared.entry.Entry.TheVariants.{Given, Written};
 ghost use Rattle.ipc_history.specs.declared.entry.Input.TheVariants.{Called, Broke};
 ghost use Rattle.ipc_history.specs.declared.entry.Output.TheVariants.{Ended, Overflowed, Aborted, Failed};
-ghost use Rattle.ipc_history.specs.Outcomes.{failure};
+ghost use Rattle.ipc_history.specs.Outcomes.{failure, timed};
 ghost use Rattle.ipc_slots.specs.Slots.{Stands};
 ghost use Rattle.ipc_slots.specs.Standings.{standing_of};
 ghost use Rattle.ipc_desks.specs.CallsOf.{made_by, taken_by, is_busy, last_call, outcome_to_take};
@@ -122,14 +122,14 @@ impl Desks {
         self.desks[place] = Desk::blank();
     }
 
-    /// Keeps the copies of a new call.
-    fn enter(&mut self, place: usize, number: u64, call: &Call, copies: Prepared)
+    /// Keeps the copies of a new call, which is entered at this moment.
+    fn enter(&mut self, place: usize, moment: u64, number: u64, call: &Call, copies: Prepared)
         requires within { place < length self.old }
         requires few { (desk_at self.old place).made + 1 < 2 ^ 64 }
-        ensures { Changed place (entered number call.now copies) self.old self.new }
+        ensures { Changed place (entered moment number call.now copies) self.old self.new }
     {
         let alloc = self.alloc;
-        self.desks[place].enter(alloc, number, call, copies);
+        self.desks[place].enter(alloc, moment, number, call, copies);
     }
 }
 
@@ -230,7 +230,8 @@ impl Desks {
         let place = slots.place_of(entries, number);
         let call = standing(entries, slots, number, place);
         let alloc = self.alloc;
-        self.finish(place, failure(alloc, number, error));
+        let moment = slots.now(entries);
+        self.finish(place, failure(alloc, moment, number, error));
         Finished {
             first: Some(call.caller),
             second: None,
@@ -254,7 +255,8 @@ impl Desks {
         requires receives { IsFalse (is_over entries.now receiving) }
         requires small { error < 2 ^ 32 }
         ensures desks { Failing (number_of (caller_of entries.now sending)) (number_of (caller_of entries.now receiving))
-            (failure sending error) (failure receiving (error + 1)) self.old self.new }
+            (timed (now entries.now) (failure sending error)) (timed (now entries.now) (failure receiving (error + 1)))
+            self.old self.new }
         ensures finished { result ≡ record {
           first = Some (caller_of entries.now sending);
           second = Some (caller_of entries.now receiving);
@@ -266,8 +268,12 @@ impl Desks {
         let sender = standing(entries, slots, sending, from);
         let receiver = standing(entries, slots, receiving, to);
         let alloc = self.alloc;
-        self.finish(from, failure(alloc, sending, error));
-        self.finish(to, failure(alloc, receiving, in_receive_phase(error)));
+        let moment = slots.now(entries);
+        self.finish(from, failure(alloc, moment, sending, error));
+        self.finish(
+            to,
+            failure(alloc, moment, receiving, in_receive_phase(error)),
+        );
         Finished {
             first: Some(sender.caller),
             second: Some(receiver.caller),
@@ -322,11 +328,13 @@ impl Desks {
     ghost use Rattle.ipc_history.specs.Outcomes.{received};
     ghost use Rattle.ipc_desks.specs.Steps.{Moved};
 
-    /// Moves the message of a sending call and the buffer strings of a receiving call into the outcome of the receiving one.
+    /// Moves the message of a sending call and the buffer strings of a receiving call into the outcome of the receiving one, which is
+    /// over at this moment.
     fn hand_over(
         &mut self,
         entries: &Entries,
         taken: &Past<u64>,
+        moment: u64,
         receiving: u64,
         call: &Standing,
         from: usize,
@@ -340,7 +348,7 @@ impl Desks {
         requires receiver { to ≡ number_of (caller_of entries.now receiving) }
         requires from_within { from < table_slots }
         requires to_within { to < table_slots }
-        ensures outcome { result ≡ received entries.now call.now.number receiving }
+        ensures outcome { result ≡ timed moment (received entries.now call.now.number receiving) }
         ensures desks { Moved from to self.old self.new }
     {
         let _ = entries;
@@ -349,7 +357,7 @@ impl Desks {
             unreachable!()
         };
         let buffers = self.take_buffers(to);
-        delivered(receiving, message, call.caller, call.shown, buffers)
+        delivered(moment, receiving, message, call.caller, call.shown, buffers)
     }
 
     /// Takes note of a transfer that ended well.
@@ -372,7 +380,8 @@ impl Desks {
         let to = slots.place_of(entries, receiving);
         let sender = standing(entries, slots, sending, from);
         let receiver = standing(entries, slots, receiving, to);
-        let outcome = self.hand_over(entries, taken, receiving, &sender, from, to);
+        let moment = slots.now(entries);
+        let outcome = self.hand_over(entries, taken, moment, receiving, &sender, from, to);
         self.finish(to, outcome);
         if sender.from != ThreadId::NILTHREAD {
             return Finished {
@@ -381,7 +390,7 @@ impl Desks {
             };
         }
         let alloc = self.alloc;
-        self.finish(from, nothing(alloc, sending));
+        self.finish(from, nothing(alloc, moment, sending));
         Finished {
             first: Some(sender.caller),
             second: Some(receiver.caller),
@@ -477,6 +486,7 @@ impl Desks {
         &mut self,
         entries: &Entries,
         taken: &Past<u64>,
+        slots: &Slots,
         number: u64,
         caller: ThreadId,
         call: &Call,
@@ -484,6 +494,7 @@ impl Desks {
     ) -> Finished
         requires legal { Legal entries.now }
         requires follows { Follows entries.now (Given (Called number caller call.now)) }
+        requires stands { Stands entries.now slots.now }
         requires keeps { Keeps entries.now taken.now self.old }
         requires idle { IsFalse (is_busy entries.now taken.now caller) }
         requires copies { copies ≡ prepared call.now }
@@ -492,7 +503,8 @@ impl Desks {
     {
         let _ = taken;
         let place = self.place_of_thread(entries, caller);
-        self.enter(place, number, call, copies);
+        let moment = slots.now(entries);
+        self.enter(place, moment, number, call, copies);
         Finished::at_once(caller, is_over_at_once(call))
     }
 }

@@ -5,20 +5,23 @@ use Rattle.ipc_history.specs.Words.{before}
 use Rattle.ipc_history.specs.declared.entry.Entry.{Entry}
 use Rattle.ipc_history.specs.declared.entry.Entry.TheVariants.{Given, Written}
 use Rattle.ipc_history.specs.declared.entry.Input.TheVariants.{At, Called}
-use Rattle.ipc_history.specs.declared.entry.Output.TheVariants.{Ended}
+use Rattle.ipc_history.specs.declared.entry.Output.TheVariants.{Ended, Overflowed, Aborted, Failed}
 
 -- an At
 abbrev pub is_at : Entry → Bool
 is_at (Given (At moment)) = true
 is_at _ = false
 
--- a Called or an Ended: the moment before it is looked at
+-- an entry that names a call and may begin or end one of its phases, but Began and Turned: the moment before it is looked at
 abbrev pub has_moment : Entry → Bool
 has_moment (Given (Called n thread call)) = true
 has_moment (Written (Ended n m)) = true
+has_moment (Written (Overflowed n m offset)) = true
+has_moment (Written (Aborted n m count)) = true
+has_moment (Written (Failed n code)) = true
 has_moment _ = false
 
--- an At before these entries is kept where no At follows, or a kept Called or Ended before the next At
+-- an At before these entries is kept where no At follows, or a kept entry whose moment is looked at before the next At
 abbrev pub keeps_at : (Entry → Bool) → List Entry → Bool
 keeps_at test rest = not (list_any is_at rest) || list_any (λ e. has_moment e && test e) (before is_at rest)
 

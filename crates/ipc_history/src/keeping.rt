@@ -24,7 +24,13 @@ fn has_moment(entry: &Entry) -> bool
 {
     matches!(
         entry,
-        Entry::Given(Input::Called(_, _, _)) | Entry::Written(Output::Ended(_, _))
+        Entry::Given(Input::Called(_, _, _))
+            | Entry::Written(
+                Output::Ended(_, _)
+                    | Output::Overflowed(_, _, _)
+                    | Output::Aborted(_, _, _)
+                    | Output::Failed(_, _)
+            )
     )
 }
 

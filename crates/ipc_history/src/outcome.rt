@@ -9,6 +9,8 @@ use std::marker::Model;
 pub struct Outcome {
     /// The number of the call.
     pub call: u64,
+    /// The moment at which the call was over, in microseconds.
+    pub moment: u64,
     /// The tag that is received; E alone where the call failed.
     pub tag: MsgTag,
     /// The sender that is shown; nilthread where nothing was received.
@@ -33,6 +35,7 @@ impl Model for Outcome {
     ghost view = { λ o.
         record {
           call = o.call;
+          moment = o.moment;
           tag = o.tag;
           sender = o.sender;
           actual = o.actual;

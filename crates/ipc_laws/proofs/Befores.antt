@@ -17,7 +17,7 @@ use Rattle.ipc_laws.proofs.Histories.{called_place}
 use Rattle.ipc_laws.proofs.Places.{any_at}
 
 -- once an element passes, what stands before the first such element stays
-before_kept : {X : Type 0} (test : X → Bool) (xs ys : List X) → list_any test xs ≡ true → before test (xs ++ ys) ≡ before test xs
+pub before_kept : {X : Type 0} (test : X → Bool) (xs ys : List X) → list_any test xs ≡ true → before test (xs ++ ys) ≡ before test xs
 before_kept test [] ys h = absurd (false≢true h)
 before_kept test (x ∷ xs) ys h = go (test x) h (before_kept test xs ys)
   where
@@ -26,7 +26,7 @@ before_kept test (x ∷ xs) ys h = go (test x) h (before_kept test xs ys)
     go false g later = ap (λ l. x ∷ l) (later g)
 
 -- a call that is there was entered
-called_any : (P : List Entry) (n : ℕ) → is_called P n ≡ true → list_any (calls n) P ≡ true
+pub called_any : (P : List Entry) (n : ℕ) → is_called P n ≡ true → list_any (calls n) P ≡ true
 called_any P n c = let made = called_place P n c in any_at (calls n) P _ made.at (eq-eqb n n refl)
 
 -- of a function of one of two lists, where the first is the same, and the second one is where it is taken

@@ -11,7 +11,7 @@ use Rattle.ipc_history.specs.Matching.{is_propagated, shown_sender, accepts}
 use Rattle.ipc_history.specs.Legal.{Legal}
 use Rattle.ipc_words.specs.MsgTag.{label_of}
 use Rattle.ipc_items.specs.Pieces.{simple_items}
-use Rattle.ipc_history.specs.Outcomes.{outcome_in, received}
+use Rattle.ipc_history.specs.Outcomes.{end_moment, outcome_in, received, timed}
 use Rattle.ipc_history.specs.Paired.{IsPair, Delivers, IsWhole, IsPermitted, IsShown}
 use Rattle.ipc_history.specs.declared.entry.Entry.{Entry}
 use Rattle.ipc_history.specs.declared.entry.Entry.TheVariants.{Given, Written}
@@ -96,7 +96,7 @@ module _ (H : List Entry) (h : Legal H) (n m : ℕ) (ended : IsPair H n m) where
 
   delivers : has_broken H (caller_of H m) ≡ false → Delivers H n m
   delivers b = record {
-    told = received H n m;
+    told = timed (end_moment H m) (received H n m);
     is_told = outcome_is H m (received H n m) (ended_over H n m ended) b told;
     tag = refl;
     label = label_back (is_propagated H n) (length (strings_of H n)) (tag_of H n) (few_strings H h n);

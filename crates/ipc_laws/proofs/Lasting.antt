@@ -15,6 +15,7 @@ use Rattle.ipc_history.specs.declared.entry.Entry.TheVariants.{Written}
 use Rattle.ipc_history.specs.declared.entry.Output.TheVariants.{Ended, Overflowed, Aborted, Failed}
 use Rattle.ipc_laws.proofs.Befores.{propagated_kept, shown_kept}
 use Rattle.ipc_laws.proofs.IdleOutputs.{first_some_agrees}
+use Rattle.ipc_laws.proofs.EndMoments.{end_moment_kept}
 use Rattle.ipc_laws.proofs.Endings.{closes_names}
 use Rattle.ipc_laws.proofs.Growth.{buffers_of_kept, caller_of_kept, has_broken_append, is_called_kept, open_is_called, over_kept, strings_of_kept, tag_of_kept, words_of_kept}
 use Rattle.ipc_laws.proofs.Histories.{follows_at, legal_front, named_open}
@@ -64,4 +65,4 @@ module _ (P Q : List Entry) (h : Legal (P ++ Q)) (n : ℕ) (called : is_called P
       let same = caller_of_kept P Q n called in
       let unbroken : has_broken (P ++ Q) (caller_of P n) ≡ false = rw same at lives in
       let before : has_broken P (caller_of P n) ≡ false = neither_left _ _ (sym (has_broken_append P Q (caller_of P n)) ∙ unbroken) in
-      rw (over_kept P Q n called over, lives, over, before, same_told over) refl
+      rw (over_kept P Q n called over, lives, over, before, same_told over, end_moment_kept P Q n called over before) refl

@@ -36,6 +36,7 @@ pub mod Changing
 pub mod Senders
 pub mod LiveThreads
 pub mod OneLive
+pub mod EndMoments
 pub mod Lasting
 pub mod CallOrder
 pub mod Resting

@@ -11,7 +11,7 @@ use Rattle.ipc_history.specs.Matching.{is_propagated}
 use Rattle.ipc_history.specs.Legal.{Legal}
 use Rattle.ipc_words.specs.MsgTag.{has_failed}
 use Rattle.ipc_words.specs.TagFields.{received_tag}
-use Rattle.ipc_history.specs.Outcomes.{OutcomeParts, outcome_in, outcome_of, failure, received, nothing}
+use Rattle.ipc_history.specs.Outcomes.{OutcomeParts, end_moment, outcome_in, outcome_of, failure, received, nothing, timed}
 use Rattle.ipc_history.specs.Paired.{IsPair}
 use Rattle.ipc_history.specs.declared.entry.Entry.{Entry}
 use Rattle.ipc_history.specs.declared.entry.Entry.TheVariants.{Written}
@@ -30,10 +30,10 @@ not_failed true strings tag h = ne_eqb _ _ (omega arith)
 not_failed false strings tag h = ne_eqb _ _ (omega arith)
 
 -- the outcome is what the first entry tells that tells something, else nothing
-told_is : (over broken : Bool) (o : Option OutcomeParts) (d told : OutcomeParts) → (if not over || broken then None else Some (unwrap_or o d)) ≡ Some told → unwrap_or o d ≡ told
-told_is true false o d told h = same_Some _ _ h
-told_is true true o d told h = absurd (none-some told h)
-told_is false broken o d told h = absurd (none-some told h)
+told_is : (over broken : Bool) (moment : ℕ) (o : Option OutcomeParts) (d told : OutcomeParts) → (if not over || broken then None else Some (timed moment (unwrap_or o d))) ≡ Some told → timed moment (unwrap_or o d) ≡ told
+told_is true false moment o d told h = same_Some _ _ h
+told_is true true moment o d told h = absurd (none-some told h)
+told_is false broken moment o d told h = absurd (none-some told h)
 
 -- a test of two, of which the first isn't passed
 second_told : (a b : Bool) (s t u : OutcomeParts) → a ≡ false → (if a then Some s else (if b then Some t else None)) ≡ Some u → t ≡ u
@@ -64,11 +64,11 @@ module _ (H : List Entry) (h : Legal H) (n m : ℕ) (pair : IsPair H n m) where
 
   pub sender_sees : (told : OutcomeParts) → outcome_of H n ≡ Some told → Sees told
   unfolding outcome_of
-  sender_sees told e = go (first_some (outcome_in H n) H) refl (told_is (is_over H n) (has_broken H (caller_of H n)) (first_some (outcome_in H n) H) (nothing n) told e)
+  sender_sees told e = go (first_some (outcome_in H n) H) refl (told_is (is_over H n) (has_broken H (caller_of H n)) (end_moment H n) (first_some (outcome_in H n) H) (nothing n) told e)
     where
-      go : (o : Option OutcomeParts) → first_some (outcome_in H n) H ≡ o → unwrap_or (first_some (outcome_in H n) H) (nothing n) ≡ told → Sees told
-      go None f t = rw (← (sym (ap (λ o. unwrap_or o (nothing n)) f) ∙ t)) (inl refl)
+      go : (o : Option OutcomeParts) → first_some (outcome_in H n) H ≡ o → timed (end_moment H n) (unwrap_or (first_some (outcome_in H n) H) (nothing n)) ≡ told → Sees told
+      go None f t = rw (← (sym (ap (λ o. timed (end_moment H n) (unwrap_or o (nothing n))) f) ∙ t)) (inl refl)
       go (Some u) f t =
           let p = first_place (outcome_in H n) H u f in
-          let same : u ≡ told = sym (ap (λ o. unwrap_or o (nothing n)) f) ∙ t in
+          let same : timed (end_moment H n) u ≡ told = sym (ap (λ o. timed (end_moment H n) (unwrap_or o (nothing n))) f) ∙ t in
           rw (← same) (sees u p.0 p.1 p.2)

@@ -9,7 +9,7 @@ use Rattle.ipc_history.specs.Threads.{has_broken}
 use Rattle.ipc_history.specs.Phases.{is_over}
 use Rattle.ipc_words.specs.MsgTag.{label_of, untyped_of}
 use Rattle.ipc_words.specs.TagFields.{received_tag}
-use Rattle.ipc_history.specs.Outcomes.{OutcomeParts, outcome_in, received, failure, outcome_of}
+use Rattle.ipc_history.specs.Outcomes.{OutcomeParts, end_moment, outcome_in, received, failure, outcome_of, timed}
 use Rattle.ipc_history.specs.declared.entry.Entry.{Entry}
 use Rattle.ipc_history.specs.declared.entry.Entry.TheVariants.{Written}
 use Rattle.ipc_history.specs.declared.entry.Output.TheVariants.{Ended, Overflowed, Aborted, Failed}
@@ -33,7 +33,7 @@ told_none H m xs h = go (first_some (outcome_in H m) xs) refl
     go None e = e
     go (Some t) e = let p = first_place (outcome_in H m) xs t e in not_both (any_at (closes m) xs p.0 p.1 (told_closes H m t p.0 p.2)) h
 
-pub outcome_is : (H : List Entry) (m : ℕ) (t : OutcomeParts) → is_over H m ≡ true → has_broken H (caller_of H m) ≡ false → first_some (outcome_in H m) H ≡ Some t → outcome_of H m ≡ Some t
+pub outcome_is : (H : List Entry) (m : ℕ) (t : OutcomeParts) → is_over H m ≡ true → has_broken H (caller_of H m) ≡ false → first_some (outcome_in H m) H ≡ Some t → outcome_of H m ≡ Some (timed (end_moment H m) t)
 unfolding outcome_of
 outcome_is H m t o b e = rw (o, b, e) refl
 

@@ -9,7 +9,7 @@ use Rattle.ipc_history.specs.CallParts.{CallParts, is_normal}
 use Rattle.ipc_history.specs.Words.{first_some}
 use Rattle.ipc_history.specs.Entries.{input_in, begins_send, begins_receive, names, calls, closes, ends}
 use Rattle.ipc_history.specs.Calls.{numbers, calls_made, call_at, is_called, caller_of, tag_of, words_of, strings_of, message_size}
-use Rattle.ipc_history.specs.Threads.{has_broken, is_live}
+use Rattle.ipc_history.specs.Threads.{has_broken, is_live, now}
 use Rattle.ipc_history.specs.Phases.{is_over, open_call, receiver_of, is_sending, is_transferring, is_receiving, moved_bytes}
 use Rattle.ipc_history.specs.Matching.{matches}
 use Rattle.ipc_history.specs.Timing.{is_due, is_due_at}
@@ -56,6 +56,23 @@ abbrev pub OutcomesStay : Type 0
 OutcomesStay =
     (P Q : List Entry) → Legal (P ++ Q) → (n : ℕ) → IsTrue (is_called P n) → IsTrue (is_over P n)
     → IsFalse (has_broken (P ++ Q) (caller_of (P ++ Q) n)) → outcome_of (P ++ Q) n ≡ outcome_of P n
+
+-- a moment is that of the shortest front of a history after which the call, which stands there, is over
+pub record IsTimed (H : List Entry) (n moment : ℕ) : Type 0 where
+  pub front : List Entry
+  pub entry : Entry
+  pub rest : List Entry
+  pub whole : H ≡ front ++ entry ∷ rest
+  pub still_open : IsTrue (is_called front n) → IsFalse (is_over front n)
+  pub called : IsTrue (is_called (front ++ entry ∷ []) n)
+  pub over : IsTrue (is_over (front ++ entry ∷ []) n)
+  pub moment_is : moment ≡ now (front ++ entry ∷ [])
+
+-- so is that of an outcome
+abbrev pub OutcomesAreTimed : Type 0
+OutcomesAreTimed =
+    (H : List Entry) → Legal H → (n : ℕ) → IsTrue (is_called H n) → (told : OutcomeParts)
+    → outcome_of H n ≡ Some told → IsTimed H n told.moment
 
 -- but for the Called itself, an entry names only calls that are made and not over
 abbrev pub NamesOpenCalls : Type 0

@@ -5,7 +5,7 @@ ghost use Rattle.ipc_laws.specs.Laws.{MovesWithin, QuietMoves, AtMakesDue, AtBri
 ghost use Rattle.ipc_laws.specs.Laws.{AtFails, MayFollow, Settles, SettlesOnce, NumberedInOrder};
 ghost use Rattle.ipc_laws.specs.Laws.{CallsAreNormal, MessagesAreNormal, MovesFitLegal};
 ghost use Rattle.ipc_laws.specs.Laws.{LegalIsPaired, SenderSees, Determined, QuietDetermined};
-ghost use Rattle.ipc_laws.specs.Laws.{OutcomesStay, OpenCallIsLast, EntriesInOrder, OverTogether};
+ghost use Rattle.ipc_laws.specs.Laws.{OutcomesAreTimed, OutcomesStay, OpenCallIsLast, EntriesInOrder, OverTogether};
 ghost use Rattle.ipc_laws.specs.Changes.{EachEntryChanges, OthersUnchanged};
 ghost use Rattle.ipc_laws.specs.Locality.{NextIsPossible, QuietRests, EntriesTouch};
 ghost use Rattle.ipc_laws.specs.Locality.{ClosingsOpenNothing, OpenedStaysQuiet, CalledBrings};
@@ -35,9 +35,10 @@ pub fn calls_last()
     ensures messages { MessagesAreNormal }
 {}
 
-/// What the caller of a call that is over is told stays so.
+/// What the caller of a call that is over is told stays so, and has the moment at which it was over.
 pub fn outcomes_stay()
     ensures stay { OutcomesStay }
+    ensures timed { OutcomesAreTimed }
 {}
 
 /// One open call for each caller, one after the other; one transfer for each send and each receive.

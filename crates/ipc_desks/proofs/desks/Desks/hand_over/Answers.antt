@@ -2,6 +2,7 @@ use Rattle.std.proofs.Common.{◌≡◌, refl, sym, ap, ◌∙◌, subst, Some}
 use Rattle.std.proofs.lemmas.Option.{none-some, same_Some}
 use Rattle.ipc_words.specs.ThreadId.{number_of}
 use Rattle.ipc_history.specs.Calls.{buffers_of, caller_of}
+use Rattle.ipc_history.specs.Outcomes.{timed}
 use Rattle.ipc_desks.specs.Desks.{desk_at}
 use Rattle.ipc_desks.specs.Messages.{message_of}
 use Rattle.ipc_desks.specs.Steps.{Changed, buffers_in, emptied}
@@ -28,4 +29,4 @@ pub returns-clause-outcome : goal.returns-clause-outcome
 returns-clause-outcome c =
     let message : c.in-Some.message ≡ message_of c.args.entries.now c.args.call.now.number = same_Some c.in-Some.message (message_of c.args.entries.now c.args.call.now.number) (sym c.in-Some.is ∙ (c.take_message.ensures.result ∙ (ap (λ p. (desk_at c.args.self.now p).message) c.requires.sender ∙ message_there c.args.entries.now c.args.call.now.number c.args.receiving c.requires.legal c.requires.follows c.args.taken.now c.args.self.now c.requires.keeps))) in
     let buffers : c.take_buffers-buffers.result ≡ buffers_of c.args.entries.now c.args.receiving = c.take_buffers-buffers.ensures.result ∙ (ap (λ p. buffers_in (desk_at c.take_message.new.self p).told) c.requires.receiver ∙ buffers_there c.args.entries.now c.args.call.now.number c.args.receiving c.requires.legal c.requires.follows c.args.taken.now c.args.self.now c.requires.keeps c.take_message.new.self (subst (λ p. Changed p emptied c.args.self.now c.take_message.new.self) c.requires.sender c.take_message.ensures.desks)) in
-    c.delivered.ensures ∙ put_together c.args.entries.now c.args.call.now.number c.args.receiving c.requires.legal c.requires.follows c.in-Some.message c.args.call.now c.take_buffers-buffers.result message c.requires.call buffers
+    c.delivered.ensures ∙ ap (timed c.args.moment) (put_together c.args.entries.now c.args.call.now.number c.args.receiving c.requires.legal c.requires.follows c.in-Some.message c.args.call.now c.take_buffers-buffers.result message c.requires.call buffers)

@@ -2,6 +2,7 @@ use Rattle.std.proofs.Common.{◌≡◌, refl, sym, ap, ◌∙◌, subst, true, 
 use Rattle.ipc_words.specs.ThreadId.{nilthread, number_of}
 use Rattle.ipc_history.specs.Calls.{caller_of}
 use Rattle.ipc_history.specs.Legal.{Follows}
+use Rattle.ipc_history.specs.Outcomes.{nothing, received, timed}
 use Rattle.ipc_history.specs.declared.entry.Entry.TheVariants.{Written}
 use Rattle.ipc_history.specs.declared.entry.Output.TheVariants.{Ended}
 use Rattle.ipc_slots.specs.Standings.{standing_of}
@@ -32,13 +33,13 @@ pub hand_over-outcome-requires-clause-sender : goal.hand_over-outcome-requires-c
 hand_over-outcome-requires-clause-sender c = c.place_of-from.ensures.place ∙ ap (λ x. number_of (caller_of c.args.entries.now x)) (sym (ap (λ s. s.number) c.standing-sender.ensures ∙ standing_number c.args.entries.now c.args.sending))
 
 pub returns-then-ne-clause-keeps : goal.returns-then-ne-clause-keeps
-returns-then-ne-clause-keeps c = waits_on c.args.entries.now c.args.sending c.args.receiving c.requires.legal c.requires.follows c.args.taken.now c.args.self.now c.hand_over-outcome.new.self c.finish.new.self c.requires.keeps c.standing-sender.result c.standing-sender.ensures c.place_of-from.result c.place_of-to.result c.place_of-from.ensures.place c.place_of-to.ensures.place c.hand_over-outcome.result c.hand_over-outcome.ensures.outcome c.hand_over-outcome.ensures.desks c.finish.ensures (sym c.ne.ensures ∙ c.if-ne.true)
+returns-then-ne-clause-keeps c = waits_on c.args.entries.now c.args.sending c.args.receiving c.requires.legal c.requires.follows c.args.taken.now c.args.self.now c.hand_over-outcome.new.self c.finish.new.self c.requires.keeps c.standing-sender.result c.standing-sender.ensures c.place_of-from.result c.place_of-to.result c.place_of-from.ensures.place c.place_of-to.ensures.place c.hand_over-outcome.result (c.hand_over-outcome.ensures.outcome ∙ ap (λ t. timed t (received c.args.entries.now c.standing-sender.result.number c.args.receiving)) c.now-moment.ensures) c.hand_over-outcome.ensures.desks c.finish.ensures (sym c.ne.ensures ∙ c.if-ne.true)
 
 pub returns-then-ne-clause-finished : goal.returns-then-ne-clause-finished
 returns-then-ne-clause-finished c t = tells_one c.args.entries.now c.args.sending c.args.receiving c.requires.legal c.requires.follows c.standing-sender.result c.standing-receiver.result c.standing-sender.ensures c.standing-receiver.ensures t (sym c.ne.ensures ∙ c.if-ne.true)
 
 pub returns-clause-keeps : goal.returns-clause-keeps
-returns-clause-keeps c = is_done c.args.entries.now c.args.sending c.args.receiving c.requires.legal c.requires.follows c.args.taken.now c.args.self.now c.hand_over-outcome.new.self c.finish.new.self c.requires.keeps c.standing-sender.result c.standing-sender.ensures c.place_of-from.result c.place_of-to.result c.place_of-from.ensures.place c.place_of-to.ensures.place c.hand_over-outcome.result c.hand_over-outcome.ensures.outcome c.hand_over-outcome.ensures.desks c.finish.ensures c.finish-2.new.self c.nothing.result c.nothing.ensures c.finish-2.ensures (not_not (c.standing-sender.result.from == nilthread) (sym c.ne.ensures ∙ c.if-ne.false))
+returns-clause-keeps c = is_done c.args.entries.now c.args.sending c.args.receiving c.requires.legal c.requires.follows c.args.taken.now c.args.self.now c.hand_over-outcome.new.self c.finish.new.self c.requires.keeps c.standing-sender.result c.standing-sender.ensures c.place_of-from.result c.place_of-to.result c.place_of-from.ensures.place c.place_of-to.ensures.place c.hand_over-outcome.result (c.hand_over-outcome.ensures.outcome ∙ ap (λ t. timed t (received c.args.entries.now c.standing-sender.result.number c.args.receiving)) c.now-moment.ensures) c.hand_over-outcome.ensures.desks c.finish.ensures c.finish-2.new.self c.nothing.result (c.nothing.ensures ∙ ap (λ t. timed t (nothing c.args.sending)) c.now-moment.ensures) c.finish-2.ensures (not_not (c.standing-sender.result.from == nilthread) (sym c.ne.ensures ∙ c.if-ne.false))
 
 pub returns-clause-finished : goal.returns-clause-finished
 returns-clause-finished c t = tells_two c.args.entries.now c.args.sending c.args.receiving c.requires.legal c.requires.follows c.standing-sender.result c.standing-receiver.result c.standing-sender.ensures c.standing-receiver.ensures t (not_not (c.standing-sender.result.from == nilthread) (sym c.ne.ensures ∙ c.if-ne.false))

@@ -3,7 +3,7 @@ ghost use Rattle.std.specs.Prelude.{◌↔◌, Some, None, IsNone, IsTrue, IfOk,
 ghost use Rattle.std.specs.List.{IsDistinct, list_any};
 ghost use Rattle.ipc_history.specs.declared.entry.Entry.TheVariants.{Given};
 ghost use Rattle.ipc_history.specs.declared.entry.Input.TheVariants.{At, Broke, Exreg};
-ghost use Rattle.ipc_words.specs.Limits.{max_calls, max_entries, pledge_of_thread};
+ghost use Rattle.ipc_words.specs.Limits.{max_calls, max_command_entries, max_entries, pledge_of_thread};
 ghost use Rattle.ipc_words.specs.ThreadId.{number_of, version_of};
 ghost use Rattle.ipc_words.specs.Control.{masked_of};
 ghost use Rattle.ipc_history.specs.Calls.{calls_made, numbers};
@@ -252,8 +252,12 @@ impl Kernel {
         ensures memory { result ≡ Err Refusal.NoMemory → LacksRoomFor self.old open_need }
         ensures err { OnErr result (self.new ≡ self.old) }
         ensures obeys { MayObey self.old (command.Open number space) (open_answer result) self.new }
+        ensures few { length self.new.history ≤ length self.old.history + max_command_entries }
     {
-        self.open_thread(number, space)
+        let opened = self.open_thread(number, space);
+        // its contract says that the history is legal
+        let _ = self.history();
+        opened
     }
 
     fn open_thread(&mut self, number: u64, space: u64) -> Result<ThreadId, Refusal>
@@ -292,8 +296,12 @@ impl Kernel {
         ensures gone { OnErr result (is_live self.old.history thread ≡ false) }
         ensures err { OnErr result (self.new ≡ self.old) }
         ensures obeys { MayObey self.old (command.Broke thread) (broke_answer result) self.new }
+        ensures few { length self.new.history ≤ length self.old.history + max_command_entries }
     {
-        self.end_thread(thread)
+        let broke = self.end_thread(thread);
+        // its contract says that the history is legal
+        let _ = self.history();
+        broke
     }
 
     fn end_thread(&mut self, thread: ThreadId) -> Result<(), NoThread>
@@ -313,6 +321,7 @@ impl Kernel {
     pub fn at(&mut self, now: u64)
         ensures ticks { Ticks self.old self.new now }
         ensures obeys { MayObey self.old (command.At now) Done self.new }
+        ensures few { length self.new.history ≤ length self.old.history + max_command_entries }
     {
         self.set_clock(now);
         // its contract says that the history is legal
@@ -410,8 +419,12 @@ impl Kernel {
         ensures back { IfErr result (λ refused. refused.call ≡ call) }
         ensures err { OnErr result (self.new ≡ self.old) }
         ensures obeys { MayObey self.old (command.Enter thread call) (enter_answer result) self.new }
+        ensures few { length self.new.history ≤ length self.old.history + max_command_entries }
     {
-        self.enter_call(thread, call)
+        let entered = self.enter_call(thread, call);
+        // its contract says that the history is legal
+        let _ = self.history();
+        entered
     }
 
     fn enter_call(&mut self, thread: ThreadId, call: Call) -> Result<u64, EnterRefused>
@@ -480,8 +493,12 @@ impl Kernel {
         ensures memory { result ≡ Err Refusal.NoMemory → LacksRoomFor self.old exreg_need }
         ensures err { OnErr result (self.new ≡ self.old) }
         ensures obeys { MayObey self.old (command.Exreg thread target control) (exreg_result result) self.new }
+        ensures few { length self.new.history ≤ length self.old.history + max_command_entries }
     {
-        self.stop_phases(thread, target, control)
+        let exchanged = self.stop_phases(thread, target, control);
+        // its contract says that the history is legal
+        let _ = self.history();
+        exchanged
     }
 
     fn stop_phases(
@@ -522,8 +539,12 @@ impl Kernel {
         ensures moved { result ≡ Advance.Moved → Advances self.old self.new }
         ensures idle { result ≡ Advance.Idle → (next_moving self.old.history ≡ None) × (self.new ≡ rested self.old) }
         ensures obeys { MayObey self.old command.Advance (Advanced result) self.new }
+        ensures few { length self.new.history ≤ length self.old.history + max_command_entries }
     {
-        self.copy_block()
+        let advance = self.copy_block();
+        // its contract says that the history is legal
+        let _ = self.history();
+        advance
     }
 
     fn copy_block(&mut self) -> Advance

@@ -3,6 +3,7 @@
 
 mod failures;
 mod fault;
+mod limits;
 mod memory;
 mod newline;
 mod piece;
@@ -16,9 +17,10 @@ mod writing;
 
 pub use failures::Failures;
 pub use fault::PortFault;
+pub use limits::{MAX_READS, PIECE_SIZE, limits_are_defined};
 pub use memory::{MemoryPort, Trouble};
 pub use newline::line_end;
-pub use piece::{PIECE_SIZE, PieceBuffer};
+pub use piece::PieceBuffer;
 pub use port::{PortRead, PortWrite};
 pub use reading::ReadPort;
 pub use whole::write_all;

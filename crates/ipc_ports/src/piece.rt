@@ -4,11 +4,9 @@ ghost use Rattle.std.specs.Io.KnownBytes.{IsAtEnd, Keeps, prepend_known};
 ghost use Rattle.ipc_ports.specs.Ports.{most_left};
 
 use crate::fault::PortFault;
+use crate::limits::PIECE_SIZE;
 use crate::port::PortRead;
 use std::marker::Model;
-
-/// The most bytes of one read.
-pub const PIECE_SIZE: usize = 8192;
 
 /// The bytes of a read that were not used yet, seen as their list.
 #[derive(Drop)]
@@ -20,12 +18,13 @@ pub struct PieceBuffer {
 
 impl Model for PieceBuffer {
     ghost use Rattle.std.specs.Prelude.{ℕ, ◌≤◌, ◌-◌, List, take, drop};
+    ghost use Rattle.ipc_ports.specs.Ports.{piece_size};
 
     ghost Value = { List ℕ };
 
     ghost view = { λ held. take (held.end - held.start) (drop held.start held.bytes) };
 
-    ghost invariant = { λ held. (held.start ≤ held.end) × (held.end ≤ 8192) };
+    ghost invariant = { λ held. (held.start ≤ held.end) × (held.end ≤ piece_size) };
 }
 
 impl PieceBuffer {

@@ -1,15 +1,14 @@
 //! Any reader of std as a port.
-ghost use Rattle.std.specs.Prelude.{◌≤◌, ◌^◌};
+ghost use Rattle.std.specs.Prelude.{◌≤◌};
+ghost use Rattle.ipc_ports.specs.Ports.{max_reads};
 
 use crate::failures::Failures;
 use crate::fault::PortFault;
+use crate::limits::MAX_READS;
 use crate::port::PortRead;
 use crate::turns::read_turn;
 use std::io::Read;
 use std::sync::ledger::Ledger;
-
-// So many reads a port gives; the next one finds that the device failed.
-const MAX_READS: u64 = 1 << 63;
 
 /// A reader as a port, as standard input, a file, or a `&UnixStream`.
 #[derive(Drop)]
@@ -17,7 +16,7 @@ pub struct ReadPort<R: Read, L: Ledger> {
     inner: R,
     failures: Failures<L>,
     reads: u64,
-    ghost within: { reads ≤ 2 ^ 63 },
+    ghost within: { reads ≤ max_reads },
 }
 
 impl<R: Read, L: Ledger> ReadPort<R, L> {
@@ -37,13 +36,13 @@ impl<R: Read, L: Ledger> ReadPort<R, L> {
 }
 
 impl<R: Read, L: Ledger> PortRead for ReadPort<R, L> {
-    ghost use Rattle.std.specs.Prelude.{◌-◌, ◌^◌};
+    ghost use Rattle.std.specs.Prelude.{◌-◌};
 
     ghost remaining = { λ port. R.remaining port.inner };
 
     ghost failures = { λ port. port.failures };
 
-    ghost reads_left = { λ port. 2 ^ 63 - port.reads };
+    ghost reads_left = { λ port. max_reads - port.reads };
 
     fn read(&mut self, buf: &mut [u8]) -> Result<usize, PortFault> {
         if self.reads >= MAX_READS {

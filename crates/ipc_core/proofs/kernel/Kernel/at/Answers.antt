@@ -1,3 +1,4 @@
+use Rattle.ipc_core.proofs.Few.{obeys_few}
 use Rattle.ipc_core.proofs.Obeyed.{at_obeys}
 use Rattle.ipc_core.proofs.kernel.Kernel.at.Goals as goal
 
@@ -26,3 +27,6 @@ returns-clause-ticks c = record {
   held = c.set_clock.ensures.held;
   room = c.set_clock.ensures.room;
 }
+
+pub returns-clause-few : goal.returns-clause-few
+returns-clause-few c = obeys_few _ _ _ _ (returns-clause-obeys c) c.history.ensures.legal

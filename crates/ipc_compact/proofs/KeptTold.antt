@@ -169,8 +169,8 @@ module _ (P Q : List Entry) (one other : List ℕ) (legal : Legal P) (legal' : L
       let tests : is_last_of (to_of P n) (from_of P n) n ≡ is_last_of (to_of Q n) (from_of Q n) n = ap₂ (λ to from. is_last_of to from n) (calls_same.to P Q n call) (calls_same.from P Q n call) in
       let there = compacts.called_there P Q one other legal legal' same n called k in
       ap (λ o. unwrap_or o 0) (sym (moment_kept P one n k called over alive)
-        ∙ (ap₂ (λ test K. last_some moment_in (before test K)) tests same.kept
-        ∙ moment_kept Q other n k' there (sym (agree.over n) ∙ over) (unbroken Q other k')))
+      ∙ (ap₂ (λ test K. last_some moment_in (before test K)) tests same.kept
+      ∙ moment_kept Q other n k' there (sym (agree.over n) ∙ over) (unbroken Q other k')))
 
   pub kept_told : SameTold P Q n
   kept_told =

@@ -179,7 +179,7 @@ newly_entered P Q n t call moment legal legal' follows follows' =
           (new.over P n t call legal follows ∙ sym (new.over Q n t call legal' follows'))
           broken
           (λ over alive. end_moment_at_once P (Given (Called n t call)) n (new.unnamed P n t call legal follows) (called_here P n t call legal follows) alive over
-            ∙ (moment ∙ sym (end_moment_at_once Q (Given (Called n t call)) n (new.unnamed Q n t call legal' follows') (called_here Q n t call legal' follows') (sym broken ∙ alive) (new.over Q n t call legal' follows' ∙ (sym (new.over P n t call legal follows) ∙ over)))))
+          ∙ (moment ∙ sym (end_moment_at_once Q (Given (Called n t call)) n (new.unnamed Q n t call legal' follows') (called_here Q n t call legal' follows') (sym broken ∙ alive) (new.over Q n t call legal' follows' ∙ (sym (new.over P n t call legal follows) ∙ over)))))
           (silent_here P n t call legal follows ∙ sym (silent_here Q n t call legal' follows'));
     }
 

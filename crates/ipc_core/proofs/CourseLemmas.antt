@@ -11,7 +11,7 @@ use Rattle.ipc_history.specs.declared.entry.Entry.TheVariants.{Given, Written}
 use Rattle.ipc_core.specs.CourseParts.{ComesIdle, CourseParts, SameBooks}
 use Rattle.ipc_core.specs.Finished.{is_of, with_name}
 use Rattle.ipc_history.specs.Calls.{caller_of}
-use Rattle.ipc_history.specs.Outcomes.{OutcomeParts, nothing, outcome_in, outcome_of}
+use Rattle.ipc_history.specs.Outcomes.{OutcomeParts, end_moment, nothing, outcome_in, outcome_of, timed}
 use Rattle.ipc_history.specs.Phases.{is_over}
 use Rattle.ipc_history.specs.Words.{first_some}
 use Rattle.ipc_desks.specs.CallsOf.{is_busy, last_call, outcome_to_take, untaken_outcome}
@@ -132,7 +132,7 @@ pub took : (H : List Entry) (taken : List ℕ) (t : ℕ) (o : OutcomeParts) → 
 unfolding outcome_to_take outcome_of
 took H taken t o legal given last = go (is_among o.call taken) (is_over H o.call) (has_broken H (caller_of H o.call)) refl refl (sym (ap (option_and_then (untaken_outcome H taken)) last) ∙ given)
   where
-    go : (a b c : Bool) → is_among o.call taken ≡ a → is_over H o.call ≡ b → (if a then None else (if not b || c then None else Some (unwrap_or (first_some (outcome_in H o.call) H) (nothing o.call)))) ≡ Some o → IsTaken H o.call × (is_among o.call taken ≡ false)
+    go : (a b c : Bool) → is_among o.call taken ≡ a → is_over H o.call ≡ b → (if a then None else (if not b || c then None else Some (timed (end_moment H o.call) (unwrap_or (first_some (outcome_in H o.call) H) (nothing o.call))))) ≡ Some o → IsTaken H o.call × (is_among o.call taken ≡ false)
     go true b c among over e = absurd (none-some o e)
     go false false c among over e = absurd (none-some o e)
     go false true c among over e = (record { called = (last_is H legal t o.call last).1; over = over }, among)

@@ -5,7 +5,7 @@ use Rattle.ipc_history.specs.Words.{first_some}
 use Rattle.ipc_history.specs.Calls.{caller_of}
 use Rattle.ipc_history.specs.Threads.{has_broken}
 use Rattle.ipc_history.specs.Phases.{is_over}
-use Rattle.ipc_history.specs.Outcomes.{OutcomeParts, failure, nothing, outcome_in, outcome_of, received}
+use Rattle.ipc_history.specs.Outcomes.{OutcomeParts, end_moment, failure, nothing, outcome_in, outcome_of, received, timed}
 use Rattle.ipc_history.specs.declared.entry.Entry.{Entry}
 use Rattle.ipc_history.specs.declared.entry.Entry.TheVariants.{Written}
 use Rattle.ipc_history.specs.declared.entry.Output.TheVariants.{Ended, Overflowed, Aborted, Failed}
@@ -31,6 +31,6 @@ outcome_call H n o h = go (not (is_over H n) || has_broken H (caller_of H n)) h
     told None e = refl
     told (Some u) e = let p = first_place (outcome_in H n) H u e in told_call H n u p.0 p.2
 
-    go : (b : Bool) → (if b then None else Some (unwrap_or (first_some (outcome_in H n) H) (nothing n))) ≡ Some o → o.call ≡ n
+    go : (b : Bool) → (if b then None else Some (timed (end_moment H n) (unwrap_or (first_some (outcome_in H n) H) (nothing n)))) ≡ Some o → o.call ≡ n
     go true g = absurd (none-some o g)
     go false g = ap (λ x. x.call) (sym (same_Some _ o g)) ∙ told (first_some (outcome_in H n) H) refl

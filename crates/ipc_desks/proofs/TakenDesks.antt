@@ -10,7 +10,7 @@ use Rattle.ipc_history.specs.Words.{first_some}
 use Rattle.ipc_history.specs.Calls.{caller_of, buffers_of}
 use Rattle.ipc_history.specs.Threads.{is_live, has_broken}
 use Rattle.ipc_history.specs.Phases.{is_over}
-use Rattle.ipc_history.specs.Outcomes.{OutcomeParts, failure, nothing, outcome_in, outcome_of, received, end_moment, timed}
+use Rattle.ipc_history.specs.Outcomes.{OutcomeParts, end_moment, failure, nothing, outcome_in, outcome_of, received, timed}
 use Rattle.ipc_history.specs.Legal.{Legal}
 use Rattle.ipc_history.specs.declared.entry.Entry.{Entry}
 use Rattle.ipc_laws.proofs.Endings.{live_unbroken}

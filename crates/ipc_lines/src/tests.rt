@@ -184,6 +184,7 @@ fn outcomes(rt: HostRuntime) -> Result<(), Fail> {
     let alloc = rt.alloc();
     let received = Outcome {
         call: 1,
+        moment: 0,
         tag: MsgTag::from_word(0x100),
         sender: thread(2),
         actual: ThreadId::NILTHREAD,
@@ -197,6 +198,7 @@ fn outcomes(rt: HostRuntime) -> Result<(), Fail> {
     assert_eq!(rt; outcome_line(alloc, &received)?.as_str(), text);
     let failed = Outcome {
         call: 2,
+        moment: 0,
         tag: MsgTag::from_word(0x8000),
         sender: ThreadId::NILTHREAD,
         actual: ThreadId::NILTHREAD,

@@ -2,7 +2,7 @@ use super::*;
 use crate::row_tests::{failed, outputs};
 use ipc_history::{Call, CallFields, Outcome};
 use ipc_items::StringList;
-use ipc_words::{Control, MsgTag, Period, ThreadId};
+use ipc_words::{Control, IpcError, MsgTag, Period, ThreadId};
 use std::alloc::Global;
 use std::test::Fail;
 
@@ -302,6 +302,28 @@ fn deadlines_come_together(rt: HostRuntime) -> Result<(), Fail> {
     }
     assert_eq!(rt; kernel.finished().len(), 254);
     assert_eq!(rt; kernel.open_calls(), 0);
+    Ok(())
+}
+
+#[test]
+fn an_outcome_tells_when_its_call_was_over(rt: HostRuntime) -> Result<(), Fail> {
+    let mut kernel = kernel(rt.alloc(), MAX_ENTRIES, MAX_CALLS)?;
+    let _ = kernel.open(1, 1);
+    let _ = kernel.open(2, 1);
+    kernel.at(3);
+    let send = sends(rt.alloc(), first(1), 7, 5)?;
+    assert_eq!(rt; refusal_of(&mut kernel, first(2), send), None);
+    kernel.at(8);
+    kernel.at(20);
+    // what comes later, and a compaction, leave it as it is
+    assert_eq!(rt; kernel.open(3, 1), Ok(first(3)));
+    let _ = kernel.compact(usize::MAX);
+    let late = kernel.take(first(2)).ok_or("a timeout")?;
+    assert_eq!(rt; late.error, IpcError::from_word(0x2));
+    assert_eq!(rt; late.moment, 8);
+    let (received, sent) = message(rt.alloc(), &mut kernel, 9)?;
+    assert_eq!(rt; received.moment, 20);
+    assert_eq!(rt; sent.moment, 20);
     Ok(())
 }
 

@@ -3,6 +3,7 @@ ghost use Rattle.std.specs.Prelude.{length, sum_by, if◌then◌else◌, IfOk, I
 ghost use Rattle.std.specs.Prelude.{OnErr, slice_get, option_copied};
 ghost use Rattle.std.specs.Option.{SomeIff, option_map_or};
 ghost use Rattle.ipc_words.specs.Limits.{max_buffer_words};
+ghost use Rattle.ipc_memory.specs.Memory.{ample_items};
 ghost use Rattle.ipc_items.specs.Buffers.{buffers_of, capacity, IsBuffer, AreBuffers};
 ghost use Rattle.ipc_items.specs.StringItem.{buffer_reading};
 ghost use Rattle.ipc_items.specs.Pieces.{first_pointer};
@@ -11,8 +12,9 @@ use crate::item_fault::ItemFault;
 use crate::iter::Iter;
 use crate::reading::{buffer_check, buffer_rows};
 use crate::rows::Rows;
+use ipc_memory::Memory;
 use ipc_words::limits::{MAX_SUBSTRINGS, SUBSTRING_LENGTH_LIMIT};
-use std::alloc::{AllocError, Global};
+use std::alloc::AllocError;
 use std::marker::Model;
 
 /// A substring of a buffer string: how many bytes it holds, and the pointer that is handed back with them.
@@ -65,39 +67,44 @@ fn capacity(buffer: &[Substring]) -> u64
 
 impl BufferList {
     /// No buffer strings. Takes no memory.
-    pub fn new(alloc: Global) -> Self
+    pub fn new<M: Memory>(memory: M) -> Self
         ensures { result ≡ [] }
     {
         BufferList {
-            rows: Rows::new(alloc),
+            rows: Rows::new(memory),
         }
     }
 
     /// No buffer strings, with room for as many buffer strings and as many substrings in all of them.
-    pub fn with_capacity(
-        alloc: Global,
+    pub fn with_capacity<M: Memory>(
+        memory: M,
         buffers: usize,
         substrings: usize,
     ) -> Result<Self, AllocError>
-        ensures { IfOk result (λ list. list ≡ []) }
+        ensures none { IfOk result (λ list. list ≡ []) }
+        ensures ample { M.is_ample → buffers ≤ ample_items → substrings ≤ ample_items → IsOk result }
     {
         Ok(BufferList {
-            rows: Rows::with_capacity(alloc, buffers, substrings)?,
+            rows: Rows::with_capacity(memory, buffers, substrings)?,
         })
     }
 
     /// The list of these buffer strings, or `None` past the limits or where one has no substring.
-    pub fn of(alloc: Global, buffers: Vec<Vec<Substring>>) -> Result<Option<Self>, AllocError>
-        ensures { IfOk result (λ list.
+    pub fn of<M: Memory>(
+        memory: M,
+        buffers: Vec<Vec<Substring>>,
+    ) -> Result<Option<Self>, AllocError>
+        ensures list { IfOk result (λ list.
             SomeIff list (AreBuffers (buffers_of buffers.items)) (buffers_of buffers.items)) }
+        ensures ample { M.is_ample → IsOk result }
     {
         let size: u128 = buffers.iter().map(|buffer| buffer.len() as u128).sum();
         if size > MAX_SUBSTRINGS as u128 {
             return Ok(None);
         }
-        let mut list = BufferList::with_capacity(alloc, MAX_SUBSTRINGS, size as usize)?;
+        let mut list = BufferList::with_capacity(memory, MAX_SUBSTRINGS, size as usize)?;
         for buffer in &buffers {
-            if !list.push_buffer(buffer)? {
+            if !list.push_buffer(memory, buffer)? {
                 return Ok(None);
             }
         }
@@ -106,30 +113,36 @@ impl BufferList {
 
     /// The buffer strings that buffer items spell, or the first fault. There are at most as many words as
     /// a frame has for them.
-    pub fn read(alloc: Global, words: &[u64]) -> Result<Self, ItemFault>
+    pub fn read<M: Memory>(memory: M, words: &[u64]) -> Result<Self, ItemFault>
         requires { length words.now ≤ max_buffer_words }
         ensures ok { IfOk result (λ list. buffer_reading words.now ≡ Ok list) }
         ensures fault { IfErr (buffer_reading words.now) (λ fault. result ≡ Err fault) }
         ensures memory { IsOk (buffer_reading words.now)
             → IsOkUnless result ItemFault.NoMemory }
+        ensures ample { M.is_ample → IsOk (buffer_reading words.now) → IsOk result }
     {
         buffer_check(words)?;
-        let rows = buffer_rows(alloc, words)?;
+        let rows = buffer_rows(memory, words)?;
         Ok(BufferList { rows })
     }
 
     /// Adds a buffer string, and says whether it is within the limits: past them, the list stays as it was.
-    pub fn push_buffer(&mut self, buffer: &[Substring]) -> Result<bool, AllocError>
+    pub fn push_buffer<M: Memory>(
+        &mut self,
+        memory: M,
+        buffer: &[Substring],
+    ) -> Result<bool, AllocError>
         ensures within { IfOk result (λ fits.
             IsTrue fits ↔ AreBuffers (self.old ++ buffer.now ∷ [])) }
         ensures ok { IfOk result (λ fits.
             self.new ≡ (if fits then self.old ++ buffer.now ∷ [] else self.old)) }
         ensures err { OnErr result (self.new ≡ self.old) }
+        ensures ample { M.is_ample → IsOk result }
     {
         if !is_buffer(buffer) || buffer.len() > MAX_SUBSTRINGS - self.rows.total() {
             return Ok(false);
         }
-        self.rows.push(buffer)?;
+        self.rows.push(memory, buffer)?;
         Ok(true)
     }
 
@@ -141,11 +154,12 @@ impl BufferList {
     }
 
     /// A list of the same buffer strings.
-    pub fn copy(&self, alloc: Global) -> Result<Self, AllocError>
-        ensures { IfOk result (λ list. list ≡ self.now) }
+    pub fn copy<M: Memory>(&self, memory: M) -> Result<Self, AllocError>
+        ensures same { IfOk result (λ list. list ≡ self.now) }
+        ensures ample { M.is_ample → IsOk result }
     {
         Ok(BufferList {
-            rows: self.rows.copy(alloc)?,
+            rows: self.rows.copy(memory)?,
         })
     }
 

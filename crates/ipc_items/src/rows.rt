@@ -1,8 +1,10 @@
-ghost use Rattle.std.specs.Prelude.{◌≡◌, ℕ, ◌<◌, ◌≤◌, List, [], ◌∷◌, ◌++◌, length, sum_by, IfOk};
+ghost use Rattle.std.specs.Prelude.{◌≡◌, ℕ, ◌<◌, ◌≤◌, List, [], ◌∷◌, ◌++◌, length, sum_by, IfOk, IsOk};
 ghost use Rattle.std.specs.Prelude.{OnOk, OnErr, slice_get, option_copied};
+ghost use Rattle.ipc_memory.specs.Memory.{ample_items};
 ghost use Rattle.ipc_items.specs.Rows.{grown, opened, place};
 
-use std::alloc::{AllocError, Global};
+use ipc_memory::Memory;
+use std::alloc::AllocError;
 use std::marker::Model;
 
 /// Lists kept end to end in one vector, seen as the list of them.
@@ -25,12 +27,12 @@ impl<T> Model for Rows<T> {
 }
 
 impl<T> Rows<T> {
-    pub(crate) fn new(alloc: Global) -> Self
+    pub(crate) fn new<M: Memory>(memory: M) -> Self
         ensures { result ≡ [] }
     {
         Rows {
-            items: Vec::new(alloc),
-            ends: Vec::new(alloc),
+            items: Vec::new(memory.global()),
+            ends: Vec::new(memory.global()),
         }
     }
 
@@ -75,43 +77,55 @@ fn place(ends: &[usize], k: usize) -> usize
 
 impl<T: Copy> Rows<T> {
     // No rows, with room for as many rows and as many items in all of them.
-    pub(crate) fn with_capacity(
-        alloc: Global,
+    pub(crate) fn with_capacity<M: Memory>(
+        memory: M,
         rows: usize,
         items: usize,
     ) -> Result<Self, AllocError>
-        ensures { IfOk result (λ r. r ≡ []) }
+        ensures none { IfOk result (λ r. r ≡ []) }
+        ensures ample { M.is_ample → rows ≤ ample_items → items ≤ ample_items → IsOk result }
     {
         Ok(Rows {
-            items: Vec::with_capacity(alloc, items)?,
-            ends: Vec::with_capacity(alloc, rows)?,
+            items: memory.with_capacity(items)?,
+            ends: memory.with_capacity(rows)?,
         })
     }
 
-    pub(crate) fn push(&mut self, row: &[T]) -> Result<(), AllocError>
+    pub(crate) fn push<M: Memory>(&mut self, memory: M, row: &[T]) -> Result<(), AllocError>
         ensures ok { OnOk result (self.new ≡ self.old ++ row.now ∷ []) }
         ensures err { OnErr result (self.new ≡ self.old) }
+        ensures ample { M.is_ample → IsOk result }
     {
-        self.ends.reserve(1)?;
-        self.items.extend_from_slice(row)?;
-        self.ends.push(self.items.len())?;
+        memory.reserve(&mut self.ends, 1)?;
+        memory.extend(&mut self.items, row)?;
+        self.ends.push_reserved(self.items.len());
         Ok(())
     }
 
     // Begins a row, unless the last one goes on.
-    pub(crate) fn begin(&mut self, goes_on: bool) -> Result<(), AllocError>
-        ensures { OnOk result (self.new ≡ opened goes_on self.old) }
+    pub(crate) fn begin<M: Memory>(&mut self, memory: M, goes_on: bool) -> Result<(), AllocError>
+        ensures ok { OnOk result (self.new ≡ opened goes_on self.old) }
+        ensures ample { M.is_ample → IsOk result }
     {
-        if goes_on { Ok(()) } else { self.push(&[]) }
+        if goes_on {
+            Ok(())
+        } else {
+            self.push(memory, &[])
+        }
     }
 
     // Appends to the last row.
-    pub(crate) fn extend_last(&mut self, items: &[T]) -> Result<(), AllocError>
+    pub(crate) fn extend_last<M: Memory>(
+        &mut self,
+        memory: M,
+        items: &[T],
+    ) -> Result<(), AllocError>
         requires { 0 < length self.old }
         ensures ok { OnOk result (self.new ≡ grown self.old items.now) }
         ensures err { OnErr result (self.new ≡ self.old) }
+        ensures ample { M.is_ample → IsOk result }
     {
-        self.items.extend_from_slice(items)?;
+        memory.extend(&mut self.items, items)?;
         let last = self.ends.len() - 1;
         self.ends[last] = self.items.len();
         Ok(())
@@ -124,12 +138,13 @@ impl<T: Copy> Rows<T> {
         self.items.clear();
     }
 
-    pub(crate) fn copy(&self, alloc: Global) -> Result<Self, AllocError>
-        ensures { IfOk result (λ r. r ≡ self.now) }
+    pub(crate) fn copy<M: Memory>(&self, memory: M) -> Result<Self, AllocError>
+        ensures same { IfOk result (λ r. r ≡ self.now) }
+        ensures ample { M.is_ample → IsOk result }
     {
         Ok(Rows {
-            items: Vec::from_slice(alloc, &self.items)?,
-            ends: Vec::from_slice(alloc, &self.ends)?,
+            items: ipc_memory::from_slice(memory, &self.items)?,
+            ends: ipc_memory::from_slice(memory, &self.ends)?,
         })
     }
 }

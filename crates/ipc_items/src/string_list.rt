@@ -3,6 +3,7 @@ ghost use Rattle.std.specs.Prelude.{length, if◌then◌else◌, IfOk, IfErr, Is
 ghost use Rattle.std.specs.Prelude.{OnErr, slice_get, option_copied};
 ghost use Rattle.std.specs.Option.{SomeIff, option_map_or};
 ghost use Rattle.ipc_words.specs.Limits.{max_message_words, max_string_bytes};
+ghost use Rattle.ipc_memory.specs.Memory.{ample_items};
 ghost use Rattle.ipc_items.specs.Strings.{strings_of, size_of, AreStrings};
 ghost use Rattle.ipc_items.specs.StringItem.{string_reading};
 ghost use Rattle.ipc_items.specs.Fit.{overflow_offset, accepted};
@@ -13,8 +14,9 @@ use crate::item_fault::ItemFault;
 use crate::iter::Iter;
 use crate::reading::{string_rows, string_size};
 use crate::rows::Rows;
+use ipc_memory::Memory;
 use ipc_words::limits::{MAX_STRING_BYTES, MAX_STRINGS};
-use std::alloc::{AllocError, Global};
+use std::alloc::AllocError;
 use std::marker::Model;
 
 /// The strings of a message, seen as the list of their bytes.
@@ -35,66 +37,74 @@ impl Model for StringList {
 
 impl StringList {
     /// No strings. Takes no memory.
-    pub fn new(alloc: Global) -> Self
+    pub fn new<M: Memory>(memory: M) -> Self
         ensures { result ≡ [] }
     {
         StringList {
-            rows: Rows::new(alloc),
+            rows: Rows::new(memory),
         }
     }
 
     /// No strings, with room for as many strings and as many bytes in all of them.
-    pub fn with_capacity(alloc: Global, strings: usize, bytes: usize) -> Result<Self, AllocError>
-        ensures { IfOk result (λ list. list ≡ []) }
+    pub fn with_capacity<M: Memory>(
+        memory: M,
+        strings: usize,
+        bytes: usize,
+    ) -> Result<Self, AllocError>
+        ensures none { IfOk result (λ list. list ≡ []) }
+        ensures ample { M.is_ample → strings ≤ ample_items → bytes ≤ ample_items → IsOk result }
     {
         Ok(StringList {
-            rows: Rows::with_capacity(alloc, strings, bytes)?,
+            rows: Rows::with_capacity(memory, strings, bytes)?,
         })
     }
 
     /// The list of these strings, or `None` past the limits.
-    pub fn of(alloc: Global, strings: Vec<Vec<u8>>) -> Result<Option<Self>, AllocError>
-        ensures { IfOk result (λ list.
+    pub fn of<M: Memory>(memory: M, strings: Vec<Vec<u8>>) -> Result<Option<Self>, AllocError>
+        ensures list { IfOk result (λ list.
             SomeIff list (AreStrings (strings_of strings.items)) (strings_of strings.items)) }
+        ensures ample { M.is_ample → IsOk result }
     {
         let size: u128 = strings.iter().map(|string| string.len() as u128).sum();
         if strings.len() > MAX_STRINGS || size > MAX_STRING_BYTES as u128 {
             return Ok(None);
         }
-        let mut rows = Rows::with_capacity(alloc, strings.len(), size as usize)?;
+        let mut rows = Rows::with_capacity(memory, strings.len(), size as usize)?;
         for string in &strings {
-            rows.push(string)?;
+            rows.push(memory, string)?;
         }
         Ok(Some(StringList { rows }))
     }
 
     /// The strings that string items spell over a payload, or the first fault. There are at most as many words as a
     /// message has.
-    pub fn read(alloc: Global, words: &[u64], payload: &[u8]) -> Result<Self, ItemFault>
+    pub fn read<M: Memory>(memory: M, words: &[u64], payload: &[u8]) -> Result<Self, ItemFault>
         requires { length words.now ≤ max_message_words }
         ensures ok { IfOk result (λ list. string_reading words.now payload.now ≡ Ok list) }
         ensures few { IfOk result (λ list. 2 * length list ≤ length words.now) }
         ensures fault { IfErr (string_reading words.now payload.now) (λ fault. result ≡ Err fault) }
         ensures memory { IsOk (string_reading words.now payload.now)
             → IsOkUnless result ItemFault.NoMemory }
+        ensures ample { M.is_ample → IsOk (string_reading words.now payload.now) → IsOk result }
     {
         let bytes = string_size(words, payload.len())?;
-        let rows = string_rows(alloc, words, payload, bytes)?;
+        let rows = string_rows(memory, words, payload, bytes)?;
         Ok(StringList { rows })
     }
 
     /// Adds a string, and says whether it is within the limits: past them, the list stays as it was.
-    pub fn push(&mut self, string: &[u8]) -> Result<bool, AllocError>
+    pub fn push<M: Memory>(&mut self, memory: M, string: &[u8]) -> Result<bool, AllocError>
         ensures within { IfOk result (λ fits.
             IsTrue fits ↔ AreStrings (self.old ++ string.now ∷ [])) }
         ensures ok { IfOk result (λ fits.
             self.new ≡ (if fits then self.old ++ string.now ∷ [] else self.old)) }
         ensures err { OnErr result (self.new ≡ self.old) }
+        ensures ample { M.is_ample → IsOk result }
     {
         if self.rows.len() >= MAX_STRINGS || string.len() > MAX_STRING_BYTES - self.rows.total() {
             return Ok(false);
         }
-        self.rows.push(string)?;
+        self.rows.push(memory, string)?;
         Ok(true)
     }
 
@@ -106,11 +116,12 @@ impl StringList {
     }
 
     /// A list of the same strings.
-    pub fn copy(&self, alloc: Global) -> Result<Self, AllocError>
-        ensures { IfOk result (λ list. list ≡ self.now) }
+    pub fn copy<M: Memory>(&self, memory: M) -> Result<Self, AllocError>
+        ensures same { IfOk result (λ list. list ≡ self.now) }
+        ensures ample { M.is_ample → IsOk result }
     {
         Ok(StringList {
-            rows: self.rows.copy(alloc)?,
+            rows: self.rows.copy(memory)?,
         })
     }
 

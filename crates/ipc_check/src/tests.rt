@@ -113,9 +113,9 @@ fn propagation(alloc: Global, left_out: usize) -> Result<Vec<Entry>, Fail> {
 // A string of three bytes to a receiver that has a buffer of so many.
 fn string_to(alloc: Global, room: u64) -> Result<Vec<Entry>, Fail> {
     let mut strings = StringList::new(alloc);
-    let _ = strings.push(b"abc")?;
+    let _ = strings.push(alloc, b"abc")?;
     let mut buffers = BufferList::new(alloc);
-    let _ = buffers.push_buffer(&[Substring {
+    let _ = buffers.push_buffer(alloc, &[Substring {
         length: room,
         pointer: 0x1000,
     }])?;

@@ -137,8 +137,8 @@ fn strings_are_received_whole(rt: HostRuntime) -> Result<(), Fail> {
 fn a_message_is_laid_out(rt: HostRuntime) -> Result<(), Fail> {
     let alloc = rt.alloc();
     let mut strings = StringList::new(alloc);
-    assert!(rt; strings.push(b"abc")?);
-    assert!(rt; strings.push(b"hello")?);
+    assert!(rt; strings.push(alloc, b"abc")?);
+    assert!(rt; strings.push(alloc, b"hello")?);
     let message = Message::of(alloc, 5, &[7], &strings)?;
     assert_eq!(rt; message.tag.to_word(), 0x5_0101);
     assert_eq!(rt;

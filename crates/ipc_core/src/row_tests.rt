@@ -77,15 +77,15 @@ fn with_word(mut fields: CallFields) -> Result<CallFields, Fail> {
     Ok(fields)
 }
 
-fn with_string(mut fields: CallFields) -> Result<CallFields, Fail> {
-    let _ = fields.strings.push(b"abc")?;
+fn with_string(alloc: Global, mut fields: CallFields) -> Result<CallFields, Fail> {
+    let _ = fields.strings.push(alloc, b"abc")?;
     fields.tag = MsgTag::from_word(0x80);
     Ok(fields)
 }
 
 fn with_buffer(alloc: Global, mut fields: CallFields) -> Result<CallFields, Fail> {
     let mut buffers = BufferList::new(alloc);
-    let _ = buffers.push_buffer(&[Substring {
+    let _ = buffers.push_buffer(alloc, &[Substring {
         length: 3,
         pointer: 0x1000,
     }])?;
@@ -106,7 +106,7 @@ fn call_of(alloc: Global, step: Step) -> Result<Option<(u32, CallFields)>, Fail>
             fields.originator = thread(originator);
             Some((caller, fields))
         }
-        Step::Sends(caller, to) => Some((caller, with_string(plain(alloc, to, 0, 0)?)?)),
+        Step::Sends(caller, to) => Some((caller, with_string(alloc, plain(alloc, to, 0, 0)?)?)),
         Step::Takes(caller) => Some((caller, with_buffer(alloc, plain(alloc, 0, ANY, 0)?)?)),
         Step::Stops(_, _) | Step::Breaks(_) | Step::Reads(_) => None,
     })

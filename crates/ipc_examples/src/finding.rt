@@ -64,7 +64,7 @@ fn ask<I: PortRead, O: PortWrite>(
         return Err(Trouble::NoNames);
     };
     let mut strings = StringList::new(alloc);
-    put_name(&mut strings, name.as_bytes())?;
+    put_name(alloc, &mut strings, name.as_bytes())?;
     let request = Message::of(alloc, label, &[], &strings)?;
     let never = Timeout::never();
     let answer = client.call(server, request, never, never, name_buffer(alloc)?)?;

@@ -77,8 +77,8 @@ pub fn name_buffer(alloc: Global) -> Result<Buffers, Trouble> {
 }
 
 /// Puts a name into the strings of a message.
-pub fn put_name(strings: &mut StringList, name: &[u8]) -> Result<(), Trouble> {
-    match strings.push(name) {
+pub fn put_name(alloc: Global, strings: &mut StringList, name: &[u8]) -> Result<(), Trouble> {
+    match strings.push(alloc, name) {
         Ok(true) => Ok(()),
         Ok(false) => Err(Trouble::LongMessage),
         Err(_) => Err(Trouble::NoMemory),
@@ -89,7 +89,7 @@ pub fn put_name(strings: &mut StringList, name: &[u8]) -> Result<(), Trouble> {
 fn message_of(alloc: Global, reply: &Reply) -> Result<Message, Trouble> {
     let mut strings = StringList::new(alloc);
     if let Some(name) = &reply.name {
-        put_name(&mut strings, name.as_slice())?;
+        put_name(alloc, &mut strings, name.as_slice())?;
     }
     Ok(Message::of(alloc, reply.label, &[reply.thread.to_word()], &strings)?)
 }

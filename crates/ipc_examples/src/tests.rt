@@ -392,7 +392,7 @@ fn timeout(wait: Wait) -> Timeout {
 fn message(alloc: Global, text: Text) -> Result<Message, Fail> {
     let mut strings = StringList::new(alloc);
     for string in text.strings() {
-        strings.push(string)?;
+        strings.push(alloc, string)?;
     }
     Ok(Message::of(alloc, text.label(), text.words(), &strings)?)
 }

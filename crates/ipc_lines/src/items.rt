@@ -102,7 +102,7 @@ fn strings_of(alloc: Global, texts: &[&[u8]]) -> Result<Option<StringList>, Allo
         let Some(string) = read_bytes(alloc, text)? else {
             return Ok(None);
         };
-        if !strings.push(&string)? {
+        if !strings.push(alloc, &string)? {
             return Ok(None);
         }
     }
@@ -181,7 +181,7 @@ fn buffers_of(alloc: Global, texts: &[&[u8]]) -> Result<Option<BufferList>, Allo
         let Some(parts) = read_buffer(alloc, text)? else {
             return Ok(None);
         };
-        if !buffers.push_buffer(&parts)? {
+        if !buffers.push_buffer(alloc, &parts)? {
             return Ok(None);
         }
     }

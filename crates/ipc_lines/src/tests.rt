@@ -35,15 +35,15 @@ fn entered(alloc: Global, fields: CallFields) -> Result<EnteredCall, Fail> {
 fn two_buffers(alloc: Global) -> Result<BufferList, AllocError> {
     let part = |length, pointer| Substring { length, pointer };
     let mut buffers = BufferList::new(alloc);
-    let _ = buffers.push_buffer(&[part(3, 0x1000)])?;
-    let _ = buffers.push_buffer(&[part(2, 0x2000), part(3, 0x3000)])?;
+    let _ = buffers.push_buffer(alloc, &[part(3, 0x1000)])?;
+    let _ = buffers.push_buffer(alloc, &[part(2, 0x2000), part(3, 0x3000)])?;
     Ok(buffers)
 }
 
 fn two_strings(alloc: Global) -> Result<StringList, AllocError> {
     let mut strings = StringList::new(alloc);
-    let _ = strings.push(b"abc")?;
-    let _ = strings.push(b"hello")?;
+    let _ = strings.push(alloc, b"abc")?;
+    let _ = strings.push(alloc, b"hello")?;
     Ok(strings)
 }
 
@@ -168,8 +168,8 @@ fn calls(rt: HostRuntime) -> Result<(), Fail> {
 fn empty_strings_stand(rt: HostRuntime) -> Result<(), Fail> {
     let alloc = rt.alloc();
     let mut strings = StringList::new(alloc);
-    let _ = strings.push(b"")?;
-    let _ = strings.push(b"\x0a\xff")?;
+    let _ = strings.push(alloc, b"")?;
+    let _ = strings.push(alloc, b"\x0a\xff")?;
     let sends = CallFields {
         to: thread(2),
         tag: MsgTag::from_word(0x100),
@@ -219,7 +219,7 @@ fn outcomes(rt: HostRuntime) -> Result<(), Fail> {
 fn a_large_call(rt: HostRuntime) -> Result<(), Fail> {
     let alloc = rt.alloc();
     let mut strings = StringList::new(alloc);
-    let _ = strings.push(&vec![in alloc; 0xa5; 1_048_576]?)?;
+    let _ = strings.push(alloc, &vec![in alloc; 0xa5; 1_048_576]?)?;
     let sends = CallFields {
         to: thread(2),
         tag: MsgTag::from_word(0x80),

@@ -156,7 +156,11 @@ impl Fields {
     }
 
     /// Takes one word more.
-    pub(crate) fn add(&mut self, word: &[u8]) -> Result<Result<(), FieldFault>, AllocError> {
+    pub(crate) fn add(
+        &mut self,
+        alloc: Global,
+        word: &[u8],
+    ) -> Result<Result<(), FieldFault>, AllocError> {
         let Some(field) = field_of(word) else {
             return Ok(Err(FieldFault::Wrong));
         };
@@ -169,7 +173,7 @@ impl Fields {
             Field::As(id) => self.verb.sends() && self.add_originator(id),
             Field::Buffers(list) => self.verb.receives() && self.add_buffers(list)?,
             Field::Text(text) => {
-                if self.verb.sends() && !self.strings.push(text)? {
+                if self.verb.sends() && !self.strings.push(alloc, text)? {
                     return Ok(Err(FieldFault::LongStrings));
                 }
                 self.verb.sends()

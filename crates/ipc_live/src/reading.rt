@@ -116,7 +116,7 @@ fn hear_fields(
 ) -> Result<Heard, AllocError> {
     let mut fields = Fields::new(alloc, verb);
     for word in words {
-        match fields.add(word)? {
+        match fields.add(alloc, word)? {
             Ok(()) => {}
             Err(FieldFault::Wrong) => return wrong_field(alloc, verb, word),
             Err(FieldFault::LongStrings) => {

@@ -39,7 +39,7 @@ fn receives(alloc: Global, from: ThreadId, receive_period: u16, length: u64) -> 
     let mut buffers = None;
     if length > 0 {
         let mut list = BufferList::new(alloc);
-        list.push_buffer(&[Substring {
+        list.push_buffer(alloc, &[Substring {
             length,
             pointer: 0x10,
         }])?;
@@ -81,7 +81,7 @@ fn sends(alloc: Global, to: ThreadId, send_period: u16, word: u64) -> Result<Cal
 fn sends_string(alloc: Global, to: ThreadId, length: usize) -> Result<Call, Fail> {
     let mut strings = StringList::new(alloc);
     let string = vec![in alloc; 0xa5u8; length]?;
-    strings.push(&string)?;
+    strings.push(alloc, &string)?;
     let call = Call::new(CallFields {
         to,
         from: ThreadId::NILTHREAD,

@@ -1,5 +1,5 @@
 ghost use Rattle.std.specs.Prelude.{◌≡◌, ◌≤◌, ◌+◌, ◌<◌, ◌^◌, ◌++◌, ◌∷◌, ◌*◌, [], ℕ, length, Some, None, List};
-ghost use Rattle.std.specs.Prelude.{IfOk, IfSome, IsTrue, IsFalse, IsNone, false, ◌==◌, ◌&&◌};
+ghost use Rattle.std.specs.Prelude.{IfOk, IfSome, IsOk, IsTrue, IsFalse, IsNone, false, ◌==◌, ◌&&◌};
 ghost use Rattle.ipc_words.specs.Limits.{table_slots};
 ghost use Rattle.ipc_words.specs.ThreadId.{nilthread, number_of};
 ghost use Rattle.ipc_words.specs.IpcError.{failure_code};
@@ -26,6 +26,7 @@ use crate::finished::Finished;
 use crate::message::{Message, Prepared};
 use ipc_history::{Call, Entries, Entry, Input, Outcome, Output};
 use ipc_items::BufferList;
+use ipc_memory::Memory;
 use ipc_past::Past;
 use ipc_slots::{Slots, Standing};
 use ipc_words::limits::TABLE_SLOTS;
@@ -53,10 +54,12 @@ impl Model for Desks {
 
 impl Desks {
     /// The desks of an empty history.
-    pub fn new(alloc: Global) -> Result<Desks, AllocError>
-        ensures { IfOk result (λ desks. Keeps [] [] desks) }
+    pub fn new<M: Memory>(memory: M) -> Result<Desks, AllocError>
+        ensures desks { IfOk result (λ desks. Keeps [] [] desks) }
+        ensures ample { M.is_ample → IsOk result }
     {
-        let mut desks = Vec::with_capacity(alloc, TABLE_SLOTS)?;
+        let alloc = memory.global();
+        let mut desks = memory.with_capacity(TABLE_SLOTS)?;
         for _ in 0..TABLE_SLOTS {
             desks.push_reserved(Desk::blank());
         }

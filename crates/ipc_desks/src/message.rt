@@ -1,12 +1,13 @@
-ghost use Rattle.std.specs.Prelude.{◌≡◌, ◌≤◌, [], ◌++◌, length, unwrap_or, IfOk};
+ghost use Rattle.std.specs.Prelude.{◌≡◌, ◌≤◌, [], ◌++◌, length, unwrap_or, IfOk, IsOk};
 ghost use Rattle.ipc_words.specs.Limits.{max_strings};
 ghost use Rattle.ipc_items.specs.Pieces.{simple_items};
 ghost use Rattle.ipc_desks.specs.Messages.{MessageParts, PreparedParts, message_in, prepared};
 
 use ipc_history::Call;
 use ipc_items::{BufferList, StringList};
+use ipc_memory::Memory;
 use ipc_words::{MsgTag, ThreadId};
-use std::alloc::{AllocError, Global};
+use std::alloc::AllocError;
 use std::marker::Model;
 
 /// The copy of a message: its tag, its VirtualSender, its untyped words and its strings.
@@ -33,17 +34,20 @@ impl Model for Message {
 
 impl Message {
     /// The message of a call, copied.
-    fn of(alloc: Global, call: &Call) -> Result<Message, AllocError>
-        ensures { IfOk result (λ message. message ≡ message_in call.now) }
+    fn of<M: Memory>(memory: M, call: &Call) -> Result<Message, AllocError>
+        ensures message { IfOk result (λ message. message ≡ message_in call.now) }
+        ensures ample { M.is_ample → IsOk result }
     {
+        // its contract says that the words are few
+        let _ = call.is_normal();
         let strings = call.strings();
-        let mut words = Vec::with_capacity(alloc, call.words().len() + 2 * strings.len())?;
-        words.extend_from_slice(call.words())?;
+        let mut words = memory.with_capacity(call.words().len() + 2 * strings.len())?;
+        memory.extend(&mut words, call.words())?;
         Ok(Message {
             tag: call.tag(),
             originator: call.originator(),
             words,
-            strings: strings.copy(alloc)?,
+            strings: strings.copy(memory)?,
         })
     }
 
@@ -103,12 +107,13 @@ impl Model for Prepared {
 
 impl Prepared {
     /// The copies for a call. Takes no memory for an empty list.
-    pub fn of(alloc: Global, call: &Call) -> Result<Prepared, AllocError>
-        ensures { IfOk result (λ copies. copies ≡ prepared call.now) }
+    pub fn of<M: Memory>(memory: M, call: &Call) -> Result<Prepared, AllocError>
+        ensures copies { IfOk result (λ copies. copies ≡ prepared call.now) }
+        ensures ample { M.is_ample → IsOk result }
     {
         Ok(Prepared {
-            message: Message::of(alloc, call)?,
-            buffers: buffers_of(alloc, call)?,
+            message: Message::of(memory, call)?,
+            buffers: buffers_of(memory, call)?,
         })
     }
 
@@ -122,11 +127,12 @@ impl Prepared {
 }
 
 /// A copy of the buffer strings of a call.
-fn buffers_of(alloc: Global, call: &Call) -> Result<BufferList, AllocError>
-    ensures { IfOk result (λ buffers. buffers ≡ unwrap_or call.now.buffers []) }
+fn buffers_of<M: Memory>(memory: M, call: &Call) -> Result<BufferList, AllocError>
+    ensures buffers { IfOk result (λ buffers. buffers ≡ unwrap_or call.now.buffers []) }
+    ensures ample { M.is_ample → IsOk result }
 {
     match call.buffers() {
-        Some(buffers) => buffers.copy(alloc),
-        None => Ok(BufferList::new(alloc)),
+        Some(buffers) => buffers.copy(memory),
+        None => Ok(BufferList::new(memory)),
     }
 }

@@ -1,7 +1,7 @@
-ghost use Rattle.std.specs.Prelude.{◌≡◌, IfErr, IfOk};
+ghost use Rattle.std.specs.Prelude.{◌≡◌, IfErr, IfOk, IsOk};
 
 use crate::call::Call;
-use std::alloc::Global;
+use ipc_memory::Memory;
 use std::marker::Model;
 
 /// A call that was entered, behind one pointer: an entry that has one is moved without it. Seen as the call's parts.
@@ -19,15 +19,14 @@ impl Model for EnteredCall {
 }
 
 impl EnteredCall {
-    /// Moves a call there; its lists are not copied. Where memory is refused the call is handed back.
-    pub fn new(alloc: Global, call: Call) -> Result<EnteredCall, Call>
+    /// Moves a call there; its lists are not copied. Where memory is refused the call is handed back, and where it is ample that does not come.
+    pub fn new<M: Memory>(memory: M, call: Call) -> Result<EnteredCall, Call>
         ensures ok { IfOk result (λ entered. entered ≡ call) }
         ensures back { IfErr result (λ refused. refused ≡ call) }
+        ensures ample { M.is_ample → IsOk result }
     {
-        match Box::new(alloc, call) {
-            Ok(call) => Ok(EnteredCall { call }),
-            Err(refused) => Err(refused.value),
-        }
+        let call = memory.boxed(call)?;
+        Ok(EnteredCall { call })
     }
 
     /// Moves the call out. Takes no memory.

@@ -38,7 +38,7 @@ pub record IsCounted (call : CallParts) : Type 0 where
   pub together : length call.words + 2 * length call.strings ≤ 63
   pub size : size_of call.strings ≤ 2 ^ 20
 
-normal_counts : (call : CallParts) → is_normal call ≡ true → IsCounted call
+pub normal_counts : (call : CallParts) → is_normal call ≡ true → IsCounted call
 unfolding is_normal
 normal_counts call h =
     let tag = left _ _ (left _ _ (left _ _ (left _ _ h))) in

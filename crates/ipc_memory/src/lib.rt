@@ -5,7 +5,7 @@
 mod tests;
 
 ghost use Rattle.std.specs.Prelude.{◌≡◌, ◌+◌, ◌<◌, ◌≤◌, vec_len, vec_capacity, [], ◌∷◌, ◌++◌, length, if◌then◌else◌, is_ok};
-ghost use Rattle.std.specs.Prelude.{IfOk, IfErr, IsOk, OnOk};
+ghost use Rattle.std.specs.Prelude.{IfOk, IfErr, IsOk, OnOk, OnErr};
 ghost use Rattle.ipc_memory.specs.Memory.{ample_items};
 
 use std::alloc::{AllocError, Global};
@@ -31,11 +31,14 @@ pub trait Memory: Copy {
         ensures len { vec_len items.new ≡ vec_len items.old }
         ensures ok { OnOk result (vec_len items.new + more ≤ vec_capacity items.new) }
         ensures capacity { vec_capacity items.old ≤ vec_capacity items.new }
+        ensures err { OnErr result (vec_capacity items.new ≡ vec_capacity items.old) }
+        ensures needed { OnErr result (vec_capacity items.old < vec_len items.old + more) }
         ensures ample { is_ample → more ≤ ample_items → IsOk result };
 
     /// Appends items.
     fn extend<X: Copy>(self, items: &mut Vec<X>, slice: &[X]) -> Result<(), AllocError>
         ensures items { items.new.items ≡ (if is_ok result then items.old.items ++ slice.now else items.old.items) }
+        ensures capacity { vec_capacity items.old ≤ vec_capacity items.new }
         ensures ample { is_ample → IsOk result };
 
     /// A value on the heap, or the value itself.

@@ -4,7 +4,7 @@ use Rattle.ipc_desks.specs.Desks.{blank_desk}
 use Rattle.ipc_desks.proofs.desks.Desks.new.Given as goal
 
 abbrev pub invariant-loop : goal.invariant-loop
-invariant-loop l = record {
+invariant-loop g l = record {
   items : l.desks.items ≡ replicate l.counter blank_desk;
   room : vec_capacity l.desks ≡ vec_capacity l.initial.desks;
 }

@@ -1,4 +1,4 @@
-ghost use Rattle.std.specs.Prelude.{◌≡◌, ◌≤◌, ◌+◌, ◌*◌, ◌<◌, ◌++◌, ◌==◌, ◌&&◌, ◌||◌, [], ◌∷◌, length, vec_capacity, vec_len, IsTrue};
+ghost use Rattle.std.specs.Prelude.{◌≡◌, ◌≤◌, ◌+◌, ◌*◌, ◌<◌, ◌++◌, ◌==◌, ◌&&◌, ◌||◌, [], ◌∷◌, length, vec_capacity, vec_len, IsOk, IsTrue};
 ghost use Rattle.std.specs.List.{list_any};
 ghost use Rattle.ipc_words.specs.Limits.{table_slots};
 ghost use Rattle.ipc_history.specs.Legal.{Legal};
@@ -13,11 +13,12 @@ ghost use Rattle.ipc_partners.specs.Kept.{KeptParts, kept_upto, partner_numbers,
 use crate::partners::{Joined, Partner, Partners};
 use ipc_desks::Desks;
 use ipc_history::{Entries, Entry, Input, Keeps, Output};
+use ipc_memory::Memory;
 use ipc_past::Past;
 use ipc_slots::Slots;
 use ipc_words::ThreadId;
 use ipc_words::limits::TABLE_SLOTS;
-use std::alloc::{AllocError, Global};
+use std::alloc::AllocError;
 use std::marker::Model;
 
 /// Which entries a compaction keeps: the calls that are open or whose outcome was not taken, those that met them, and the threads
@@ -43,11 +44,13 @@ impl Model for Keeping {
 
 impl Keeping {
     /// Nothing, with room for all that can be kept.
-    pub fn new(alloc: Global) -> Result<Keeping, AllocError> {
+    pub fn new<M: Memory>(memory: M) -> Result<Keeping, AllocError>
+        ensures ample { M.is_ample → IsOk result }
+    {
         Ok(Keeping {
-            calls: Vec::with_capacity(alloc, TABLE_SLOTS)?,
-            partners: Vec::with_capacity(alloc, 2 * TABLE_SLOTS)?,
-            threads: Vec::with_capacity(alloc, 6 * TABLE_SLOTS)?,
+            calls: memory.with_capacity(TABLE_SLOTS)?,
+            partners: memory.with_capacity(2 * TABLE_SLOTS)?,
+            threads: memory.with_capacity(6 * TABLE_SLOTS)?,
         })
     }
 

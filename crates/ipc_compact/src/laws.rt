@@ -3,7 +3,7 @@ ghost use Rattle.ipc_compact.specs.Agree.{CompactAgrees, CompactFollows, SameInp
 ghost use Rattle.ipc_compact.specs.Counted.{CallsCounted};
 ghost use Rattle.ipc_compact.specs.Held.{CallsHeld, FurtherHeld, LiveHeld};
 ghost use Rattle.ipc_compact.specs.Later.{KeptLater, NotNeededAgain};
-ghost use Rattle.ipc_compact.specs.Places.{KeptAtPlaces, KeptToTheEnd};
+ghost use Rattle.ipc_compact.specs.Places.{KeptAtPlaces, KeptToTheEnd, PlacesKept, PlacesTell};
 ghost use Rattle.ipc_compact.specs.Reads.{KeptAgain, KeptReads, ThreadsRead};
 ghost use Rattle.ipc_compact.specs.SlotsKept.{SlotsKept};
 ghost use Rattle.ipc_compact.specs.Standings.{OverKept, StandingsKept};
@@ -55,10 +55,13 @@ pub fn kept_later()
     ensures kept { KeptLater }
 {}
 
-/// Compacting up to a place keeps the same of what is held as of all; up to the end it keeps the compact.
+/// Compacting up to a place keeps the same of what is held as of all, at the same places; up to the end it keeps the compact. At the
+/// places that are kept stand the entries that are kept.
 pub fn kept_at_places()
     ensures end { KeptToTheEnd }
     ensures again { KeptAtPlaces }
+    ensures places { PlacesKept }
+    ensures tell { PlacesTell }
 {}
 
 /// The entries that a compaction kept, and those that came since, say what the next one asks: which calls are named beside a kept one, what

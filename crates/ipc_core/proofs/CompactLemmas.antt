@@ -5,7 +5,7 @@ use Rattle.std.proofs.lemmas.List.{append-nil, append_assoc, length-drop, length
 use Rattle.std.proofs.lemmas.List.Folds.{list_any-append}
 use Rattle.ipc_history.specs.CallParts.{CallParts}
 use Rattle.ipc_history.specs.Entries.{calls}
-use Rattle.ipc_history.specs.Holding.{compacted, held_before, held_of, reached}
+use Rattle.ipc_history.specs.Holding.{compacted, held_before, held_of, marked_to, reached}
 use Rattle.ipc_history.specs.HistoryParts.{HeldParts, HistoryParts}
 use Rattle.ipc_history.specs.Keeping.{keeps, kept_ahead}
 use Rattle.ipc_history.specs.Legal.{Legal}
@@ -16,10 +16,10 @@ use Rattle.ipc_history.specs.declared.entry.Input.TheVariants.{At, Opened, Calle
 use Rattle.ipc_history.proofs.HoldingLemmas.{held_fields, reached_least, reached_most}
 use Rattle.ipc_laws.proofs.Growth.{open_is_called}
 use Rattle.ipc_laws.proofs.OpenCalls.{caller_lives}
-use Rattle.ipc_compact.specs.Compact.{is_among, is_kept, kept_before}
-use Rattle.ipc_compact.specs.Places.{WasKept}
+use Rattle.ipc_compact.specs.Compact.{is_among, is_kept, kept_before, kept_places}
+use Rattle.ipc_compact.specs.Places.{WasPlaced}
 use Rattle.ipc_compact.proofs.CallReading as there
-use Rattle.ipc_compact.proofs.PlaceLemmas.{at_places}
+use Rattle.ipc_compact.proofs.PlaceLemmas.{at_places, places_kept}
 use Rattle.ipc_compact.proofs.Reading.{named}
 use Rattle.ipc_compact.proofs.SameCompact.{among_numbers}
 use Rattle.ipc_desks.specs.Desks.{Keeps as DesksKeep}
@@ -50,54 +50,61 @@ unfolding TookOthers
 passes_is H taken desks legal keeps others kept is e = ap (λ k. passes k e) is ∙ kept_is H taken legal keeps.over others e
 
 -- what is kept of what is held, is kept of all
-pub kept_of_all : (taken : List ℕ) (test : Entry → Bool) (upto : ℕ) (history : HistoryParts) → Legal history.entries → ((e : Entry) → test e ≡ is_kept history.entries taken e) → WasKept history.entries taken history.held.front history.held.whole_from → history.held.whole_from ≤ length history.entries → compacted test upto history ≡ kept_to taken upto history
+pub kept_of_all : (taken : List ℕ) (test : Entry → Bool) (upto : ℕ) (history : HistoryParts) → Legal history.entries → ((e : Entry) → test e ≡ is_kept history.entries taken e) → WasPlaced history.entries taken history.held.front history.held.places history.held.whole_from → history.held.whole_from ≤ length history.entries → compacted test upto history ≡ kept_to taken upto history
 kept_of_all taken test upto history legal same was within =
     let least = reached_least history upto within in
     let most = reached_most history upto within in
     (λ i. compacted (λ e. same e i) upto history)
-    ∙ held_fields _ _ (reached upto history) (reached upto history) (at_places history.entries taken history.held.front history.held.whole_from (reached upto history) legal was least most) refl
+    ∙ held_fields _ _ _ _ (reached upto history) (reached upto history) history.held.mark
+    (at_places history.entries taken history.held.front history.held.whole_from (reached upto history) legal was.was least most)
+    (places_kept history.entries taken history.held.front history.held.places history.held.whole_from (reached upto history) legal was least most)
+    refl
 
 -- and so it was kept
-pub kept_now : (H : List Entry) (taken : List ℕ) (front : List Entry) (place : ℕ) → place ≤ length H → front ≡ kept_before H taken place → WasKept H taken front place
-kept_now H taken front place within is = record {
-  past = H;
-  since = [];
-  whole = sym (append-nil H);
-  within = within;
-  took = taken;
-  among = λ n h. h;
-  kept = is;
+pub kept_now : (H : List Entry) (taken : List ℕ) (front : List Entry) (places : List ℕ) (place : ℕ) → place ≤ length H → front ≡ kept_before H taken place → places ≡ kept_places H taken place → WasPlaced H taken front places place
+kept_now H taken front places place within is are = record {
+  was = record { past = H; since = []; whole = sym (append-nil H); within = within; took = taken; among = λ n h. h; kept = is };
+  places_are = are;
 }
 
 -- it stays so with more entries, and with more outcomes taken
-pub kept_more : (H K : List Entry) (taken : List ℕ) (front : List Entry) (place : ℕ) (e : Entry) → K ≡ H ++ e ∷ [] → WasKept H taken front place → WasKept K taken front place
-kept_more H K taken front place e longer was = record {
-  past = was.past;
-  since = was.since ++ e ∷ [];
-  whole = longer ∙ (ap (λ l. l ++ e ∷ []) was.whole ∙ append_assoc was.past was.since (e ∷ []));
-  within = was.within;
-  took = was.took;
-  among = was.among;
-  kept = was.kept;
+pub kept_more : (H K : List Entry) (taken : List ℕ) (front : List Entry) (places : List ℕ) (place : ℕ) (e : Entry) → K ≡ H ++ e ∷ [] → WasPlaced H taken front places place → WasPlaced K taken front places place
+kept_more H K taken front places place e longer placed = record {
+  was = record {
+    past = placed.was.past;
+    since = placed.was.since ++ e ∷ [];
+    whole = longer ∙ (ap (λ l. l ++ e ∷ []) placed.was.whole ∙ append_assoc placed.was.past placed.was.since (e ∷ []));
+    within = placed.was.within;
+    took = placed.was.took;
+    among = placed.was.among;
+    kept = placed.was.kept;
+  };
+  places_are = placed.places_are;
 }
 
-pub kept_taken : (H : List Entry) (taken more : List ℕ) (front : List Entry) (place : ℕ) → ((n : ℕ) → is_among n taken ≡ true → is_among n more ≡ true) → WasKept H taken front place → WasKept H more front place
-kept_taken H taken more front place grows was = record {
-  past = was.past;
-  since = was.since;
-  whole = was.whole;
-  within = was.within;
-  took = was.took;
-  among = λ n h. grows n (was.among n h);
-  kept = was.kept;
+pub kept_taken : (H : List Entry) (taken more : List ℕ) (front : List Entry) (places : List ℕ) (place : ℕ) → ((n : ℕ) → is_among n taken ≡ true → is_among n more ≡ true) → WasPlaced H taken front places place → WasPlaced H more front places place
+kept_taken H taken more front places place grows placed = record {
+  was = record {
+    past = placed.was.past;
+    since = placed.was.since;
+    whole = placed.was.whole;
+    within = placed.was.within;
+    took = placed.was.took;
+    among = λ n h. grows n (placed.was.among n h);
+    kept = placed.was.kept;
+  };
+  places_are = placed.places_are;
 }
 
 pub among_more : (taken : List ℕ) (k n : ℕ) → is_among n taken ≡ true → is_among n (taken ++ k ∷ []) ≡ true
 among_more taken k n h = list_any-append (λ m. m == n) taken (k ∷ []) ∙ rw h refl
 
-pub kept_none : WasKept [] [] [] 0
-unfolding kept_before is_kept
-kept_none = record { past = []; since = []; whole = refl; within = omega arith; took = []; among = λ n h. h; kept = refl }
+pub kept_none : WasPlaced [] [] [] [] 0
+unfolding kept_before kept_places is_kept
+kept_none = record {
+  was = record { past = []; since = []; whole = refl; within = omega arith; took = []; among = λ n h. h; kept = refl };
+  places_are = refl;
+}
 
 -- where a history is compacted no more is held than before
 ahead_few : (test : Entry → Bool) (front rest : List Entry) → length (kept_ahead test front rest) ≤ length front
@@ -151,3 +158,12 @@ compacts_whole limit more calls_limit moment old new whole same room taken since
       };
       books = subst (λ H. AreBooks H new.taken new.since) (sym same) (subst (λ t. AreBooks old.entries t new.since) (sym taken) (books_rest old.entries old.taken new.since old.since since whole.books));
     }
+
+-- it stays whole where more entries are marked
+pub marked_whole : (limit calls_limit moment : ℕ) (old new : CourseParts) (upto : ℕ) → new ≡ record old { held = marked_to upto old.held } → IsWhole limit calls_limit moment old → IsWhole limit calls_limit moment new
+marked_whole limit calls_limit moment old new upto is whole =
+    let kernel = whole.kernel in
+    subst (IsWhole limit calls_limit moment) (sym is) (record {
+      kernel = record { stands = kernel.stands; room = kernel.room; few_entries = kernel.few_entries; few_calls = kernel.few_calls };
+      books = whole.books;
+    })

@@ -2,15 +2,19 @@
 use Rattle.std.specs.Prelude.{◌≡◌, ℕ, ◌+◌, ◌-◌, ◌^◌, List, length, min}
 use Rattle.ipc_history.specs.Holding.{held_of, reached}
 use Rattle.ipc_history.specs.HistoryParts.{HeldParts, HistoryParts}
-use Rattle.ipc_compact.specs.Compact.{kept_before}
+use Rattle.ipc_compact.specs.Compact.{kept_before, kept_places}
 use Rattle.ipc_core.specs.KernelParts.{KernelParts, history_of}
 use Rattle.ipc_core.specs.declared.answers.Compacted.{Compacted}
 
--- what is held where these outcomes were taken: of the entries before the place what the compact keeps (ipc_compact), and all from it on.
--- Where the place is the end, that is the compact
+-- what is held where these outcomes were taken: of the entries before the place what the compact keeps (ipc_compact), with their places, and
+-- all from it on. Where the place is the end, that is the compact. The mark stays
 abbrev pub kept_to : List ℕ → ℕ → HistoryParts → HeldParts
-kept_to taken upto history =
-    record { front = kept_before history.entries taken (reached upto history); whole_from = reached upto history }
+kept_to taken upto history = record {
+  front = kept_before history.entries taken (reached upto history);
+  places = kept_places history.entries taken (reached upto history);
+  whole_from = reached upto history;
+  mark = history.held.mark;
+}
 
 -- the greatest number of entries of a history, with those that were let go
 abbrev pub most_entries : ℕ

@@ -11,7 +11,7 @@ use Rattle.ipc_history.specs.declared.entry.Entry.{Entry}
 use Rattle.ipc_laws.specs.Counting.{room_owed}
 use Rattle.ipc_desks.specs.Desks.{Keeps as DesksKeep}
 use Rattle.ipc_desks.specs.declared.desk.Desk.{Desk}
-use Rattle.ipc_compact.specs.Places.{WasKept}
+use Rattle.ipc_compact.specs.Places.{WasPlaced}
 use Rattle.ipc_partners.specs.Partners.{Knows}
 use Rattle.ipc_partners.specs.declared.partners.Joined.{Joined}
 use Rattle.ipc_waits.specs.Waiting.{IsWaiting}
@@ -38,7 +38,7 @@ pub record IsHeldCourse (history : HistoryParts) (waiting : Waiting) (desks : Li
   pub course : IsCourse history.entries waiting desks taken since finished width
   pub front : history.held.whole_from ≤ since
   pub knows : Knows history.entries partners
-  pub kept : WasKept history.entries taken history.held.front history.held.whole_from
+  pub kept : WasPlaced history.entries taken history.held.front history.held.places history.held.whole_from
 
 -- a kernel's history is legal and quiet, within its limit with all that is owed; its moment is not before
 -- the history's, and no phase is due then

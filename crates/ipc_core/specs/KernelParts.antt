@@ -20,9 +20,9 @@ pub record KernelParts : Type 0 where
 abbrev pub history_of : KernelParts → HistoryParts
 history_of kernel = record { entries = kernel.history; held = kernel.held; room = kernel.room }
 
--- memory holds the whole history, which has no entry yet
+-- memory holds the whole history, which has no entry yet, and none is marked
 abbrev pub nothing_held : HeldParts
-nothing_held = record { front = []; whole_from = 0 }
+nothing_held = record { front = []; places = []; whole_from = 0; mark = 0 }
 
 -- all that is seen but the room
 abbrev pub without_room : KernelParts → KernelParts

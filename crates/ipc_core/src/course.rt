@@ -1,12 +1,12 @@
 ghost use Rattle.std.specs.Prelude.{◌≡◌, ◌+◌, ◌^◌, ◌≤◌, ◌<◌, [], ◌∷◌, ◌++◌, ◌==◌, ℕ, length, take, drop, vec_len, vec_capacity};
-ghost use Rattle.std.specs.Prelude.{◌↔◌, Some, None, IsNone, IfSome, IsTrue, IsFalse, true, false, nat_lt, sum_by};
+ghost use Rattle.std.specs.Prelude.{◌↔◌, Some, None, option_copied, IsNone, IfSome, IsTrue, IsFalse, true, false, nat_lt, sum_by};
 ghost use Rattle.std.specs.Prelude.{IfErr, IfOk, OnErr, OnOk};
 ghost use Rattle.std.specs.List.{IsDistinct, list_any};
 ghost use Rattle.ipc_words.specs.Limits.{last_moment};
 ghost use Rattle.ipc_history.specs.declared.entry.Entry.TheVariants.{Given, Written};
 ghost use Rattle.ipc_history.specs.declared.entry.Input.TheVariants.{At};
 ghost use Rattle.ipc_history.specs.Blocks.{block_of};
-ghost use Rattle.ipc_history.specs.Holding.{held_of};
+ghost use Rattle.ipc_history.specs.Holding.{held_entry, held_of, marked_to};
 ghost use Rattle.ipc_history.specs.Calls.{calls_made, numbers};
 ghost use Rattle.ipc_history.specs.Phases.{open_call};
 ghost use Rattle.ipc_history.specs.Threads.{is_live, is_taken, next_version, now};
@@ -137,6 +137,27 @@ impl Course {
         ensures { result.now ≡ drop place self.now.entries }
     {
         self.history.entries_from(place)
+    }
+
+    /// The entry of a place, counted from 0. None where memory holds it no more, or it was not written yet.
+    pub(crate) fn entry(&self, place: usize) -> Option<&Entry>
+        ensures { option_copied result ≡ held_entry self.now.held self.now.entries place }
+    {
+        self.history.entry(place)
+    }
+
+    /// Marks the entries before a place too. The mark does not go back.
+    pub(crate) fn mark(&mut self, upto: usize)
+        ensures { self.new ≡ record self.old { held = marked_to upto self.old.held } }
+    {
+        self.history.mark(upto);
+    }
+
+    /// The place up to which the entries are marked.
+    pub(crate) fn marked(&self) -> usize
+        ensures { result ≡ self.now.held.mark }
+    {
+        self.history.marked()
     }
 
     /// How many outcomes were taken.

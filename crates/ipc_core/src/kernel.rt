@@ -1,5 +1,5 @@
 ghost use Rattle.std.specs.Prelude.{◌≡◌, ◌==◌, ◌<◌, ◌+◌, ◌*◌, ◌-◌, ◌^◌, ◌≤◌, [], ◌∷◌, ◌++◌, ℕ, length, drop, max, min, false};
-ghost use Rattle.std.specs.Prelude.{◌↔◌, Some, None, IsNone, IsTrue, IfOk, IfErr, IfSome, OnOk, OnErr, MatchBool};
+ghost use Rattle.std.specs.Prelude.{◌↔◌, Some, None, option_copied, IsNone, IsTrue, IfOk, IfErr, IfSome, OnOk, OnErr, MatchBool};
 ghost use Rattle.std.specs.List.{IsDistinct, list_any};
 ghost use Rattle.ipc_history.specs.declared.entry.Entry.TheVariants.{Given};
 ghost use Rattle.ipc_history.specs.declared.entry.Input.TheVariants.{At, Broke, Exreg};
@@ -7,7 +7,7 @@ ghost use Rattle.ipc_words.specs.Limits.{max_calls, max_command_entries, max_ent
 ghost use Rattle.ipc_words.specs.ThreadId.{number_of, version_of};
 ghost use Rattle.ipc_words.specs.Control.{masked_of};
 ghost use Rattle.ipc_history.specs.Calls.{calls_made, numbers};
-ghost use Rattle.ipc_history.specs.Holding.{held_of};
+ghost use Rattle.ipc_history.specs.Holding.{held_entry, held_of, marked_to};
 ghost use Rattle.ipc_history.specs.Legal.{Legal, Quiet, next_moving};
 ghost use Rattle.ipc_history.specs.Paired.{Paired};
 ghost use Rattle.ipc_history.specs.Settled.{Settled};
@@ -163,6 +163,21 @@ impl Kernel {
         ensures { result.now ≡ drop place self.now.history }
     {
         self.course.entries_from(place)
+    }
+
+    /// The entry of a place, counted from 0: the number of entries that were written before it. None where memory holds it no more, or it was
+    /// not written yet. Takes no memory.
+    pub fn entry(&self, place: usize) -> Option<&Entry>
+        ensures { option_copied result ≡ held_entry self.now.held self.now.history place }
+    {
+        self.course.entry(place)
+    }
+
+    /// The place up to which the entries are marked ([`Kernel::mark`]), 0 at first.
+    pub fn marked(&self) -> usize
+        ensures { result ≡ self.now.held.mark }
+    {
+        self.course.marked()
     }
 
     /// How many calls are open.
@@ -366,6 +381,23 @@ impl Kernel {
         let dropped = before - left;
         self.entries_limit = raised(self.entries_limit, dropped as u64);
         Compacted { dropped, left }
+    }
+
+    /// Marks the entries before a place, counted from 0, as handed on: [`Kernel::compact_marked`] may let go of them. The mark does not go
+    /// back. Nothing else changes, and memory lets go of none. Takes no memory.
+    pub fn mark(&mut self, upto: usize)
+        ensures { self.new ≡ record self.old { held = marked_to upto self.old.held } }
+    {
+        self.course.mark(upto);
+    }
+
+    /// Lets go of the entries before the mark that need not be kept ([`Kernel::compact`]): those from the mark on stay, whatever they
+    /// are. Takes no memory.
+    pub fn compact_marked(&mut self) -> Compacted
+        ensures { Compacts self.old self.new self.old.held.mark result }
+    {
+        let upto = self.marked();
+        self.compact(upto)
     }
 }
 

@@ -391,6 +391,37 @@ fn an_open_call_is_held(rt: HostRuntime) -> Result<(), Fail> {
     Ok(())
 }
 
+#[test]
+fn an_entry_is_found_by_its_place(rt: HostRuntime) -> Result<(), Fail> {
+    let mut kernel = kernel(rt.alloc(), MAX_ENTRIES, MAX_CALLS)?;
+    let _ = kernel.open(1, 1);
+    let _ = kernel.open(2, 1);
+    let _ = message(rt.alloc(), &mut kernel, 7)?;
+    // two opens, two calls, began and ended: none is marked, so none goes
+    assert_eq!(rt; kernel.compact_marked().dropped, 0);
+    kernel.mark(4);
+    // a mark never goes back
+    kernel.mark(2);
+    assert_eq!(rt; kernel.marked(), 4);
+    let done = kernel.compact_marked();
+    assert_eq!(rt; done.dropped, 2);
+    assert_eq!(rt; done.left, 4);
+    for (place, is_held) in [
+        (0_usize, true),
+        (1, true),
+        (2, false),
+        (3, false),
+        (4, true),
+        (5, true),
+        (6, false),
+    ] {
+        assert_eq!(rt; kernel.entry(place).is_some(), is_held);
+    }
+    let second = kernel.entry(1).ok_or("the second open")?;
+    assert!(rt; second.opens(first(2)));
+    Ok(())
+}
+
 // An ExchangeRegisters of thread 1 about itself, which stops nothing.
 fn look() -> Command {
     Command::Exreg {

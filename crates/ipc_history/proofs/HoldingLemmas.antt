@@ -3,7 +3,7 @@ use Rattle.std.proofs.lemmas.Bool.{false≢true, true≢false}
 use Rattle.std.proofs.lemmas.List.{drop-append-le, drop-drop, length_push, take-append-drop}
 use lib.Seq.{take-add}
 use Rattle.std.proofs.lemmas.List.Elements.{All-nil, All-append, All-cons, All-head, All-tail, All-take, All-drop, All-push, All-weaker, All-contains_itself, Contains-append_left, Contains-push}
-use Rattle.std.proofs.Common.{◌≡◌, refl, sym, ap, ◌∙◌, subst, ℕ, zero, suc, ◌+◌, ◌-◌, ◌^◌, ◌<◌, ◌≤◌, Bool, true, false, ◌||◌, ◌&&◌, List, [], ◌∷◌, ◌++◌, length, take, drop, Option, Some, None, is_some, ◌⊎◌, inl, inr, All, Contains, if◌then◌else◌, nat_lt, arith}
+use Rattle.std.proofs.Common.{◌≡◌, refl, sym, ap, ◌∙◌, ℕ, ◌+◌, ◌-◌, ◌^◌, ◌<◌, ◌≤◌, Bool, true, false, ◌||◌, ◌&&◌, List, [], ◌∷◌, ◌++◌, length, take, drop, Option, Some, None, is_some, All, Contains, if◌then◌else◌, nat_lt, arith}
 use Rattle.std.specs.List.{list_any}
 use Rattle.std.specs.Option.{option_or}
 use Rattle.ipc_history.specs.CallParts.{CallParts}
@@ -219,5 +219,5 @@ module _ (history : HistoryParts) (upto : ℕ) where
       go false i true j = rw (i, j) (grind arith)
       go false i false j = rw (i, j) (omega arith)
 
-pub held_fields : (front front2 : List Entry) (from from2 : ℕ) → front ≡ front2 → from ≡ from2 → ◌≡◌ {A = HeldParts} (record { front = front; whole_from = from }) (record { front = front2; whole_from = from2 })
-held_fields front front2 from from2 f w = rw (f, w) refl
+pub held_fields : (front front2 : List Entry) (places places2 : List ℕ) (from from2 mark : ℕ) → front ≡ front2 → places ≡ places2 → from ≡ from2 → ◌≡◌ {A = HeldParts} (record { front = front; places = places; whole_from = from; mark = mark }) (record { front = front2; places = places2; whole_from = from2; mark = mark })
+held_fields front front2 places places2 from from2 mark f p w = rw (f, p, w) refl

@@ -4,3 +4,4 @@ pub mod Rows
 pub mod EnteredOnce
 pub mod HoldingLemmas
 pub mod SweepLemmas
+pub mod PlaceLemmas

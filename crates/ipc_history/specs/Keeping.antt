@@ -1,5 +1,5 @@
 -- Which entries of a list are kept where it is compacted by a test: those that pass it; and of the moments those that are looked at.
-use Rattle.std.specs.Prelude.{List, [], ◌∷◌, ◌++◌, Bool, true, false, ◌&&◌, ◌||◌, not, if◌then◌else◌}
+use Rattle.std.specs.Prelude.{ℕ, List, [], ◌∷◌, ◌++◌, Bool, true, false, ◌&&◌, ◌||◌, not, if◌then◌else◌}
 use Rattle.std.specs.List.{list_any}
 use Rattle.ipc_history.specs.Words.{before}
 use Rattle.ipc_history.specs.declared.entry.Entry.{Entry}
@@ -39,3 +39,10 @@ abbrev pub kept_ahead : (Entry → Bool) → List Entry → List Entry → List 
 kept_ahead test [] rest = []
 kept_ahead test (e ∷ front) rest =
     (if keeps test e (front ++ rest) then e ∷ kept_ahead test front rest else kept_ahead test front rest)
+
+-- and the places of those that are kept, where these are the places of the front
+abbrev pub places_ahead : (Entry → Bool) → List Entry → List ℕ → List Entry → List ℕ
+places_ahead test [] places rest = []
+places_ahead test (e ∷ front) [] rest = []
+places_ahead test (e ∷ front) (place ∷ places) rest =
+    (if keeps test e (front ++ rest) then place ∷ places_ahead test front places rest else places_ahead test front places rest)

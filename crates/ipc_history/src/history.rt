@@ -1,54 +1,71 @@
-ghost use Rattle.std.specs.Prelude.{◌≡◌, ◌≤◌, ◌<◌, ◌+◌, ◌^◌, [], ◌∷◌, ◌++◌, ◌==◌, drop, length, Contains, IsFalse, IsTrue, OnOk, OnErr};
+ghost use Rattle.std.specs.Prelude.{◌≡◌, ◌≤◌, ◌<◌, ◌+◌, ◌^◌, [], ◌∷◌, ◌++◌, ◌==◌, drop, length, option_copied, Contains, IsFalse, IsTrue, OnOk, OnErr};
 ghost use Rattle.ipc_history.specs.Entries.{calls};
-ghost use Rattle.ipc_history.specs.Holding.{compacted, held_of, reached};
+ghost use Rattle.ipc_history.specs.Holding.{compacted, held_entry, held_of, marked_to, reached};
 ghost use Rattle.ipc_history.specs.Phases.{is_over};
 ghost use Rattle.ipc_history.specs.declared.entry.Entry.{Entry};
 
 use crate::entries::Entries;
 use crate::entry::Entry;
-use crate::keeping::{Keeps, keep_before};
+use crate::keeping::{Keeps, keep_before, number};
 use ipc_past::Past;
 use std::alloc::{AllocError, Global};
 use std::marker::Model;
 
 /// A history: the whole past, oldest entry first, and how many entries it has room for. Memory holds the entries of the open calls,
-/// and from a place on all.
+/// and from a place on all. A mark says up to which place the entries were handed on; the history keeps it for its owner.
 #[derive(Drop)]
 pub struct History {
     past: Past<Entry>,
     entries: Vec<Entry>,
+    // of the entries in front of those that are all held
+    places: Vec<usize>,
     kept: usize,
     gone: usize,
+    // for so many entries that are held
+    room: usize,
+    mark: usize,
 }
 
 impl Model for History {
     ghost use Rattle.std.specs.Prelude.{◌+◌, take, vec_capacity};
     ghost use Rattle.ipc_history.specs.HistoryParts.{HistoryParts};
-    ghost use Rattle.ipc_history.specs.Holding.{IsHeld};
+    ghost use Rattle.ipc_history.specs.Holding.{IsHeld, IsPlaced};
 
     ghost Value = { HistoryParts };
 
     ghost view = { λ h. record {
       entries = h.past;
-      held = record { front = take h.kept h.entries.items; whole_from = h.kept + h.gone };
-      room = vec_capacity h.entries + h.gone;
+      held = record {
+        front = take h.kept h.entries.items;
+        places = h.places.items;
+        whole_from = h.kept + h.gone;
+        mark = h.mark;
+      };
+      room = h.room + h.gone;
     } };
 
-    ghost invariant = { λ h. IsHeld h.past h.entries.items h.kept h.gone };
+    ghost invariant = { λ h. record {
+      held : IsHeld h.past h.entries.items h.kept h.gone;
+      placed : IsPlaced h.past h.entries.items h.places.items h.kept h.gone h.room (vec_capacity h.entries)
+          (vec_capacity h.places);
+    } };
 }
 
 impl History {
     /// An empty history. Takes no memory.
     pub fn new(alloc: Global) -> History
         ensures entries { result.entries ≡ [] }
-        ensures held { result.held ≡ record { front = []; whole_from = 0 } }
+        ensures held { result.held ≡ record { front = []; places = []; whole_from = 0; mark = 0 } }
         ensures room { result.room ≡ 0 }
     {
         History {
             past: Past::new(),
             entries: Vec::new(alloc),
+            places: Vec::new(alloc),
             kept: 0,
             gone: 0,
+            room: 0,
+            mark: 0,
         }
     }
 
@@ -73,6 +90,33 @@ impl History {
         ensures { result ≡ self.now.entries }
     {
         Entries::held(&self.past, &self.entries)
+    }
+
+    /// The entry of a place, counted from 0. None where it is held no more, or was not written yet.
+    pub fn entry(&self, place: usize) -> Option<&Entry>
+        ensures { option_copied result ≡ held_entry self.now.held self.now.entries place }
+    {
+        if place >= self.whole_from() {
+            return self.entries.get(place - self.gone);
+        }
+        match self.places.binary_search(&place) {
+            Ok(at) => self.entries.get(at),
+            Err(_) => None,
+        }
+    }
+
+    /// Marks the entries before a place too. The mark does not go back.
+    pub fn mark(&mut self, upto: usize)
+        ensures { self.new ≡ record self.old { held = marked_to upto self.old.held } }
+    {
+        self.mark = self.mark.max(upto);
+    }
+
+    /// The place up to which the entries are marked, 0 at first.
+    pub fn marked(&self) -> usize
+        ensures { result ≡ self.now.held.mark }
+    {
+        self.mark
     }
 
     /// How many entries there are.
@@ -112,7 +156,13 @@ impl History {
         ensures err { OnErr result (self.new.room ≡ self.old.room) }
         ensures memory { OnErr result (self.old.room < length self.old.entries + more) }
     {
-        self.entries.reserve(more)
+        if more <= self.room - self.entries.len() {
+            return Ok(());
+        }
+        self.entries.reserve(more)?;
+        self.places.reserve(self.entries.len() - self.kept + more)?;
+        self.room = self.entries.capacity().min(self.places.capacity());
+        Ok(())
     }
 
     /// Appends an entry where there is room for it.
@@ -148,8 +198,10 @@ impl History {
         ensures held { self.new.held ≡ compacted (K.test keeps.now) upto self.old }
         ensures room { self.new.room + length (held_of self.new) ≡ self.old.room + length (held_of self.old) }
     {
-        let behind = self.reached(upto) - self.gone;
-        let kept = keep_before(&mut self.entries, behind, keeps);
+        let reached = self.reached(upto);
+        let behind = reached - self.gone;
+        number(&mut self.places, self.kept + self.gone, reached);
+        let kept = keep_before(&mut self.entries, &mut self.places, behind, keeps);
         self.kept = kept;
         self.gone += behind - kept;
     }

@@ -1,5 +1,6 @@
-ghost use Rattle.std.specs.Prelude.{◌≡◌, ◌≤◌, ◌+◌, ◌++◌, take, drop, length, Bool, vec_capacity, vec_len};
-ghost use Rattle.ipc_history.specs.Keeping.{has_moment, is_at, keeps_at, kept_ahead};
+ghost use Rattle.std.specs.Prelude.{◌≡◌, ◌≤◌, ◌+◌, ◌-◌, ◌++◌, take, drop, length, Bool, vec_capacity, vec_len};
+ghost use Rattle.std.specs.List.{range_with_len};
+ghost use Rattle.ipc_history.specs.Keeping.{has_moment, is_at, keeps_at, kept_ahead, places_ahead};
 ghost use Rattle.ipc_history.specs.declared.entry.Entry.{Entry};
 
 use crate::entry::{Entry, Input, Output};
@@ -49,17 +50,41 @@ fn keeps_at<K: Keeps>(rest: &[Entry], keeps: &K) -> bool
     true
 }
 
-/// Moves those of so many first entries that are kept to the end of these, in their order, and says where they begin. Is told
-/// whether an At before the others is kept.
-fn gather<K: Keeps>(entries: &mut Vec<Entry>, behind: usize, wanted: bool, keeps: &K) -> usize
+/// Appends the places from one on that are before another.
+pub(crate) fn number(places: &mut Vec<usize>, from: usize, upto: usize)
+    requires order { from ≤ upto }
+    requires room { vec_len places.old + (upto - from) ≤ vec_capacity places.old }
+    ensures items { places.new.items ≡ places.old.items ++ range_with_len from (upto - from) }
+    ensures len { vec_len places.new ≡ vec_len places.old + (upto - from) }
+    ensures capacity { vec_capacity places.new ≡ vec_capacity places.old }
+{
+    for place in from..upto {
+        places.push_reserved(place);
+    }
+}
+
+/// Moves those of so many first entries that are kept to the end of these, in their order, and their places likewise, and says where
+/// they begin. Is told whether an At before the others is kept.
+fn gather<K: Keeps>(
+    entries: &mut Vec<Entry>,
+    places: &mut Vec<usize>,
+    behind: usize,
+    wanted: bool,
+    keeps: &K,
+) -> usize
     requires few { behind ≤ vec_len entries.old }
+    requires beside { vec_len places.old ≡ behind }
     requires wanted { wanted ≡ keeps_at (K.test keeps.now) (drop behind entries.old.items) }
     ensures within { result ≤ behind }
     ensures kept { drop result entries.new.items
         ≡ kept_ahead (K.test keeps.now) (take behind entries.old.items) (drop behind entries.old.items)
         ++ drop behind entries.old.items }
+    ensures places { drop result places.new.items
+        ≡ places_ahead (K.test keeps.now) (take behind entries.old.items) places.old.items (drop behind entries.old.items) }
     ensures len { vec_len entries.new ≡ vec_len entries.old }
     ensures capacity { vec_capacity entries.new ≡ vec_capacity entries.old }
+    ensures places_len { vec_len places.new ≡ vec_len places.old }
+    ensures places_capacity { vec_capacity places.new ≡ vec_capacity places.old }
 {
     let mut place = behind;
     let mut first = behind;
@@ -71,30 +96,42 @@ fn gather<K: Keeps>(entries: &mut Vec<Entry>, behind: usize, wanted: bool, keeps
             if is_wanted {
                 first -= 1;
                 entries.swap(place, first);
+                places.swap(place, first);
             }
             is_wanted = false;
         } else if keeps.keeps(entry) {
             is_wanted = is_wanted || has_moment(entry);
             first -= 1;
             entries.swap(place, first);
+            places.swap(place, first);
         }
     }
     first
 }
 
-/// Keeps of so many first entries those that are to be kept, and all behind them, and says how many of the first were kept. Takes
-/// no memory.
-pub(crate) fn keep_before<K: Keeps>(entries: &mut Vec<Entry>, behind: usize, keeps: &K) -> usize
-    requires { behind ≤ vec_len entries.old }
+/// Keeps of so many first entries those that are to be kept, with their places, and all behind them, and says how many of the first were
+/// kept. Takes no memory.
+pub(crate) fn keep_before<K: Keeps>(
+    entries: &mut Vec<Entry>,
+    places: &mut Vec<usize>,
+    behind: usize,
+    keeps: &K,
+) -> usize
+    requires some { behind ≤ vec_len entries.old }
+    requires beside { vec_len places.old ≡ behind }
     ensures few { result ≤ behind }
     ensures kept { take result entries.new.items
         ≡ kept_ahead (K.test keeps.now) (take behind entries.old.items) (drop behind entries.old.items) }
     ensures rest { drop result entries.new.items ≡ drop behind entries.old.items }
+    ensures places { places.new.items
+        ≡ places_ahead (K.test keeps.now) (take behind entries.old.items) places.old.items (drop behind entries.old.items) }
     ensures len { vec_len entries.new + behind ≡ vec_len entries.old + result }
     ensures capacity { vec_capacity entries.new ≡ vec_capacity entries.old }
+    ensures places_capacity { vec_capacity places.new ≡ vec_capacity places.old }
 {
     let wanted = keeps_at(&entries[behind..], keeps);
-    let first = gather(entries, behind, wanted, keeps);
+    let first = gather(entries, places, behind, wanted, keeps);
     drop(entries.drain(0..first));
+    drop(places.drain(0..first));
     behind - first
 }

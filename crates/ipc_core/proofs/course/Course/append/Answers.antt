@@ -1,6 +1,6 @@
 use Rattle.std.proofs.Common.{◌≡◌, ◌<◌, ◌++◌, ◌∷◌, [], refl, ap, ◌∙◌, sym, subst, length, false, vec_len, vec_capacity, arith}
 use Rattle.ipc_desks.specs.Desks.{Keeps}
-use Rattle.ipc_compact.specs.Places.{WasKept}
+use Rattle.ipc_compact.specs.Places.{WasPlaced}
 use Rattle.ipc_partners.specs.Partners.{Knows}
 use Rattle.ipc_core.specs.Finished.{IsFresh, with_name}
 use Rattle.ipc_core.specs.Outcomes.{is_among}
@@ -23,7 +23,7 @@ invariant_of-self c =
     let wider = c.add-2.ensures.capacity in
     record {
       knows = subst (λ l. Knows l c.note.new.self) (ap (λ l. l ++ c.args.entry ∷ []) c.whole-entries.ensures ∙ sym c.push.ensures.entries) c.note.ensures;
-      kept = subst (λ h. WasKept c.push.new.self.entries c.self.inside.taken h.front h.whole_from) (sym c.push.ensures.held) (kept_more c.self.inside.history.entries c.push.new.self.entries c.self.inside.taken c.self.inside.history.held.front c.self.inside.history.held.whole_from c.args.entry c.push.ensures.entries c.self.invariant.kept);
+      kept = subst (λ h. WasPlaced c.push.new.self.entries c.self.inside.taken h.front h.places h.whole_from) (sym c.push.ensures.held) (kept_more c.self.inside.history.entries c.push.new.self.entries c.self.inside.taken c.self.inside.history.held.front c.self.inside.history.held.places c.self.inside.history.held.whole_from c.args.entry c.push.ensures.entries c.self.invariant.kept);
       front = (let front = c.self.invariant.front in omega (arith, front, ap (λ h. h.whole_from) c.push.ensures.held));
       course = course_more _ c.whole-entries.result _ c.args.entry _ _ _ _ _ _ c.self.invariant.course c.self.invariant.course.begun (rw (ap (λ h. h.entries) c.self.view_is) c.requires.follows) c.whole-entries.ensures c.push.ensures.entries (subst (λ v. IsFresh v c.args.entry) (sym c.self.view_is) c.requires.fresh) c.note-ended.result.first c.note-ended.result.second c.note-ended.ensures.finished
           c.note-2.new.self c.note-ended.new.desks c.add-2.new.names.items (vec_capacity c.add-2.new.names) c.note-2.ensures

@@ -3,7 +3,7 @@ use Rattle.ipc_history.specs.Holding.{held_of, reached}
 use Rattle.ipc_history.specs.declared.entry.Entry.{Entry}
 use Rattle.ipc_history.proofs.HoldingLemmas.{reached_most}
 use Rattle.ipc_compact.specs.Compact.{is_kept}
-use Rattle.ipc_compact.specs.Places.{WasKept}
+use Rattle.ipc_compact.specs.Places.{WasPlaced}
 use Rattle.ipc_partners.specs.Partners.{Knows}
 use Rattle.ipc_partners.specs.Kept.{kept_upto, passes}
 use Rattle.ipc_core.specs.Books.{TookOthers}
@@ -37,8 +37,8 @@ invariant_of-self c =
       course = subst (λ l. IsCourse l c.self.inside.waiting c.self.inside.desks c.self.inside.taken c.self.inside.since c.self.inside.finished.items (vec_capacity c.self.inside.finished)) (sym c.compact.ensures.entries) c.self.invariant.course;
       front = omega (arith, most, begun, ap (λ h. h.whole_from) (held c), ap (λ v. length v.entries) c.self.view_is, ap (λ v. v.since) c.self.view_is);
       knows = subst (λ l. Knows l c.self.inside.partners) (sym c.compact.ensures.entries) c.self.invariant.knows;
-      kept = subst (λ l. WasKept l c.self.inside.taken c.compact.new.self.held.front c.compact.new.self.held.whole_from) (sym c.compact.ensures.entries)
-          (subst (λ h. WasKept H c.self.inside.taken h.front h.whole_from) (sym (held c)) (kept_now H c.self.inside.taken _ (reached c.args.upto c.self.inside.history) most refl));
+      kept = subst (λ l. WasPlaced l c.self.inside.taken c.compact.new.self.held.front c.compact.new.self.held.places c.compact.new.self.held.whole_from) (sym c.compact.ensures.entries)
+          (subst (λ h. WasPlaced H c.self.inside.taken h.front h.places h.whole_from) (sym (held c)) (kept_now H c.self.inside.taken _ _ (reached c.args.upto c.self.inside.history) most refl refl));
     }
 
 pub returns-clause-held : goal.returns-clause-held

@@ -2,7 +2,7 @@ use Rattle.std.proofs.Common.{◌≡◌, ◌++◌, ◌∷◌, [], ap, ap₂, sym
 use Rattle.ipc_history.specs.Legal.{Legal}
 use Rattle.ipc_desks.specs.CallsOf.{last_call, outcome_to_take}
 use Rattle.ipc_desks.specs.Desks.{Keeps}
-use Rattle.ipc_compact.specs.Places.{WasKept}
+use Rattle.ipc_compact.specs.Places.{WasPlaced}
 use Rattle.ipc_core.proofs.CompactLemmas.{among_more, kept_taken}
 use Rattle.ipc_core.proofs.CourseLemmas.{took}
 use Rattle.ipc_core.proofs.course.Course.take.Goals as goal
@@ -45,5 +45,5 @@ invariant_of-self-2 c =
       };
       front = c.self.invariant.front;
       knows = c.self.invariant.knows;
-      kept = subst (λ t. WasKept c.self.inside.history.entries t c.self.inside.history.held.front c.self.inside.history.held.whole_from) (sym added) (kept_taken c.self.inside.history.entries c.self.inside.taken (c.self.inside.taken ++ call ∷ []) c.self.inside.history.held.front c.self.inside.history.held.whole_from (among_more c.self.inside.taken call) c.self.invariant.kept);
+      kept = subst (λ t. WasPlaced c.self.inside.history.entries t c.self.inside.history.held.front c.self.inside.history.held.places c.self.inside.history.held.whole_from) (sym added) (kept_taken c.self.inside.history.entries c.self.inside.taken (c.self.inside.taken ++ call ∷ []) c.self.inside.history.held.front c.self.inside.history.held.places c.self.inside.history.held.whole_from (among_more c.self.inside.taken call) c.self.invariant.kept);
     }

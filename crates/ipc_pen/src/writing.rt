@@ -30,11 +30,13 @@ fn write_piece<P: PenPort>(
     if count == 0 {
         return Some(Turn::Written);
     }
+    // so it need not be looked for what follows
+    let is_last = count < buffer.len();
     match port.send(&buffer[..count], patience) {
         Ok(0) => Some(Turn::Blocks),
         Ok(sent) => {
             encoder.pass(sent);
-            None
+            (is_last && sent == count).then_some(Turn::Written)
         }
         Err(_) => Some(Turn::Failed),
     }

@@ -15,7 +15,7 @@ import sys
 import tempfile
 
 ROOT = os.path.dirname(os.path.dirname(os.path.abspath(__file__)))
-CRATES = "words past ports threads items history laws slots waits desks core lines frame pen lock client".split()
+CRATES = "words past ports threads items history laws slots waits compact desks partners core lines frame calls connection pen lock client".split()
 OWN = "ipc_growths: ipc_words ipc_items ipc_history ipc_ports ipc_core ipc_frame ipc_connection ipc_pen ipc_lock ipc_client anyhow\n"
 UNPREPARED = "unprepared"
 

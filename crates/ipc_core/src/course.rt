@@ -48,7 +48,7 @@ use std::marker::Model;
 #[derive(Drop)]
 pub(crate) struct Course {
     history: History,
-    waiting: Waiting,
+    waiting: Box<Waiting>,
     desks: Desks,
     partners: Partners,
     keeping: Keeping,
@@ -74,7 +74,7 @@ impl Model for Course {
       finished = c.finished.items;
     } };
 
-    ghost invariant = { λ c. IsHeldCourse c.history c.waiting c.desks c.partners c.taken c.since c.finished.items
+    ghost invariant = { λ c. IsHeldCourse c.history c.waiting.value c.desks c.partners c.taken c.since c.finished.items
         (vec_capacity c.finished) };
 }
 
@@ -89,9 +89,9 @@ impl Course {
     {
         Ok(Course {
             history: History::new(alloc),
-            waiting: Waiting::new(),
+            waiting: Box::new(alloc, Waiting::new(alloc)?)?,
             desks: Desks::new(alloc)?,
-            partners: Partners::new(),
+            partners: Partners::new(alloc)?,
             keeping: Keeping::new(alloc)?,
             taken: Taken::none(),
             since: 0,

@@ -6,6 +6,7 @@ use Rattle.std.proofs.lemmas.List.Folds.{list_any-append}
 use Rattle.std.proofs.Common.{◌≡◌, ◌≢◌, refl, sym, ap, ap₂, ◌∙◌, subst, ℕ, ◌<◌, Bool, true, false, not, ◌&&◌, ◌||◌, ◌==◌, eqb-true, eq-eqb, if◌then◌else◌, List, [], ◌∷◌, ◌++◌, length, set, Option, Some, None, option_map, ◌⊎◌, inl, inr, arith}
 use Rattle.std.specs.List.{list_any}
 use Rattle.std.specs.Option.{option_or}
+use Rattle.ipc_words.specs.Limits.{table_slots}
 use Rattle.ipc_words.specs.ThreadId.{number_of}
 use Rattle.ipc_history.specs.CallParts.{CallParts}
 use Rattle.ipc_history.specs.Words.{last_some}
@@ -233,7 +234,7 @@ pub partner_by : (P : List Entry) (n : ℕ) (s : Standing) → s ≡ standing_of
 unfolding partner_of standing_of
 partner_by P n s is = rw is refl
 
-pub knows_none : (table : List Joined) → length table ≡ 256 → Knows [] table
+pub knows_none : (table : List Joined) → length table ≡ table_slots → Knows [] table
 unfolding is_live was_opened
 knows_none table size = record { size = size; known = λ t n live last. absurd (false≢true live) }
 

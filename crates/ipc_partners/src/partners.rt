@@ -16,6 +16,7 @@ use ipc_history::{Call, Entries, Entry, Input, Output};
 use ipc_slots::Slots;
 use ipc_words::ThreadId;
 use ipc_words::limits::TABLE_SLOTS;
+use std::alloc::{AllocError, Global};
 use std::marker::Model;
 
 /// A call that another one met.
@@ -57,7 +58,7 @@ impl Joined {
 /// A place whose number has no live thread, or whose thread made no call, may say anything.
 #[derive(Drop)]
 pub struct Partners {
-    calls: [Joined; TABLE_SLOTS],
+    calls: Vec<Joined>,
 }
 
 impl Model for Partners {
@@ -67,19 +68,23 @@ impl Model for Partners {
 
     ghost Value = { List Joined };
 
-    ghost view = { λ p. p.calls };
+    ghost view = { λ p. p.calls.items };
 
-    ghost invariant = { λ p. length p.calls ≡ table_slots };
+    ghost invariant = { λ p. length p.calls.items ≡ table_slots };
 }
 
 impl Partners {
-    /// Those of an empty history.
-    pub fn new() -> Partners
-        ensures { Knows [] result }
+    /// Those of an empty history, with room for all threads.
+    ///
+    /// # Errors
+    ///
+    /// Where a growth of memory is refused.
+    pub fn new(alloc: Global) -> Result<Partners, AllocError>
+        ensures { IfOk result (Knows []) }
     {
-        Partners {
-            calls: [Joined::NONE; TABLE_SLOTS],
-        }
+        Ok(Partners {
+            calls: vec![in alloc; Joined::NONE; TABLE_SLOTS]?,
+        })
     }
 
     /// The last call of the live thread of the number of a place.

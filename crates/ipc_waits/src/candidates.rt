@@ -1,38 +1,39 @@
-ghost use Rattle.std.specs.Prelude.{◌≡◌, ℕ, ◌<◌, ◌||◌, [], All, IfNone, IfSome, false, length, map, slice_index_or};
+ghost use Rattle.std.specs.Prelude.{◌≡◌, ℕ, ◌<◌, ◌||◌, [], All, IfNone, IfOk, IfSome, false, length, map, slice_index_or};
 ghost use Rattle.ipc_waits.specs.Finding.{is_among};
 ghost use Rattle.ipc_words.specs.Limits.{table_slots};
 ghost use Rattle.ipc_waits.specs.Candidates.{FollowsPlace, with_place};
 
 use crate::queue::Wait;
-use arrayvec::ArrayVec;
 use ipc_words::limits::TABLE_SLOTS;
+use std::alloc::{AllocError, Global};
 use std::marker::Model;
 
 /// The places under whose calls the next output is found, each once.
 #[derive(Drop)]
 pub(crate) struct Candidates {
-    places: ArrayVec<usize, TABLE_SLOTS>,
+    places: Vec<usize>,
 }
 
 impl Model for Candidates {
-    ghost use Rattle.std.specs.Prelude.{List, ℕ};
+    ghost use Rattle.std.specs.Prelude.{◌≤◌, List, ℕ, vec_capacity};
+    ghost use Rattle.ipc_words.specs.Limits.{table_slots};
     ghost use Rattle.ipc_waits.specs.Candidates.{ArePlaces};
 
     ghost Value = { List ℕ };
 
     ghost view = { λ c. c.places.items };
 
-    ghost invariant = { λ c. ArePlaces c.places.items };
+    ghost invariant = { λ c. ArePlaces c.places.items × (table_slots ≤ vec_capacity c.places) };
 }
 
 impl Candidates {
-    /// No place.
-    pub(crate) fn new() -> Candidates
-        ensures { result ≡ [] }
+    /// No place, with room for all.
+    pub(crate) fn new(alloc: Global) -> Result<Candidates, AllocError>
+        ensures { IfOk result (λ candidates. candidates ≡ []) }
     {
-        Candidates {
-            places: ArrayVec::new(),
-        }
+        Ok(Candidates {
+            places: Vec::with_capacity(alloc, TABLE_SLOTS)?,
+        })
     }
 
     /// The places.
@@ -62,7 +63,7 @@ impl Candidates {
         ensures { self.new ≡ with_place self.old place }
     {
         if !self.has(place) {
-            self.places.push(place);
+            self.places.push_reserved(place);
         }
     }
 }

@@ -1,5 +1,5 @@
 ghost use Rattle.std.specs.Prelude.{◌≡◌, ℕ, ◌<◌, ◌≤◌, ◌&&◌, ◌||◌, ◌==◌, not, [], true, false, nat_le};
-ghost use Rattle.std.specs.Prelude.{All, IfSome, IfNone, length, take, drop, slice_index_or, filter, option_copied};
+ghost use Rattle.std.specs.Prelude.{All, IfOk, IfSome, IfNone, length, take, drop, slice_index_or, filter, option_copied};
 ghost use Rattle.std.specs.List.{list_any};
 ghost use Rattle.std.specs.List.Sorted.{IsPartitionPoint};
 ghost use Rattle.ipc_words.specs.Limits.{table_slots};
@@ -9,13 +9,13 @@ ghost use Rattle.ipc_waits.specs.Places.{IsAt, HasHere};
 ghost use Rattle.ipc_waits.specs.declared.queue.Wait.{Wait};
 
 use crate::keys::{Key, wait_of};
-use arrayvec::ArrayVec;
 use ipc_slots::Standing;
 use ipc_words::limits::TABLE_SLOTS;
+use std::alloc::{AllocError, Global};
 use std::marker::Model;
 
 /// A call that waits under a key: its number, and the place of its caller's slot.
-#[derive(Clone, Copy, Default, PartialEq, Eq)]
+#[derive(Clone, Copy, PartialEq, Eq)]
 pub struct Wait {
     pub key: u64,
     pub number: u64,
@@ -98,11 +98,12 @@ fn least_wait(waits: &[Wait]) -> Option<Wait>
 /// Calls that wait under keys, by rising keys and under one key by rising numbers; of each place at most one.
 #[derive(Drop)]
 pub struct Queue {
-    waits: ArrayVec<Wait, TABLE_SLOTS>,
+    waits: Vec<Wait>,
 }
 
 impl Model for Queue {
-    ghost use Rattle.std.specs.Prelude.{List};
+    ghost use Rattle.std.specs.Prelude.{◌≤◌, List, vec_capacity};
+    ghost use Rattle.ipc_words.specs.Limits.{table_slots};
     ghost use Rattle.ipc_waits.specs.Queues.{IsQueue};
     ghost use Rattle.ipc_waits.specs.declared.queue.Wait.{Wait};
 
@@ -110,16 +111,17 @@ impl Model for Queue {
 
     ghost view = { λ q. q.waits.items };
 
-    ghost invariant = { λ q. IsQueue q.waits.items };
+    ghost invariant = { λ q. IsQueue q.waits.items × (table_slots ≤ vec_capacity q.waits) };
 }
 
 impl Queue {
-    pub(crate) fn new() -> Queue
-        ensures { result ≡ [] }
+    /// Nothing waits; with room for a wait of each place.
+    pub(crate) fn new(alloc: Global) -> Result<Queue, AllocError>
+        ensures { IfOk result (λ queue. queue ≡ []) }
     {
-        Queue {
-            waits: ArrayVec::new(),
-        }
+        Ok(Queue {
+            waits: Vec::with_capacity(alloc, TABLE_SLOTS)?,
+        })
     }
 
     /// Adds the wait of a place that has none.
@@ -129,7 +131,9 @@ impl Queue {
         ensures { (w : Wait) → is_in self.new w ≡ (is_in self.old w || is_same w wait) }
     {
         let place = place_for(self.waits.as_slice(), &wait);
-        self.waits.insert(place, wait);
+        let Ok(()) = self.waits.insert(place, wait) else {
+            unreachable!()
+        };
     }
 
     /// Takes a wait out, if it is there.

@@ -1,4 +1,4 @@
-ghost use Rattle.std.specs.Prelude.{◌≡◌, ℕ, ◌+◌, ◌<◌, ◌++◌, ◌∷◌, [], IfSome};
+ghost use Rattle.std.specs.Prelude.{◌≡◌, ℕ, ◌+◌, ◌<◌, ◌++◌, ◌∷◌, [], IfOk, IfSome};
 ghost use Rattle.std.specs.List.{list_any};
 ghost use Rattle.ipc_words.specs.Limits.{last_moment};
 ghost use Rattle.ipc_history.specs.Calls.{numbers};
@@ -14,6 +14,7 @@ use crate::waits::Waits;
 use ipc_history::{Entries, Entry};
 use ipc_slots::{Change, Slots};
 use ipc_words::limits::LAST_MOMENT;
+use std::alloc::{AllocError, Global};
 
 /// A moment that the clock reaches: the one that is given, where it is not after the last one.
 fn reached(moment: Option<u64>) -> Option<u64>
@@ -36,15 +37,19 @@ pub struct Waiting {
 }
 
 impl Waiting {
-    /// That of the empty history.
-    pub fn new() -> Waiting
-        ensures { IsWaiting [] result }
+    /// That of the empty history, with room for the waits of all threads.
+    ///
+    /// # Errors
+    ///
+    /// Where a growth of memory is refused.
+    pub fn new(alloc: Global) -> Result<Waiting, AllocError>
+        ensures { IfOk result (IsWaiting []) }
     {
-        Waiting {
+        Ok(Waiting {
             slots: Slots::new(),
-            waits: Waits::new(),
-            candidates: Candidates::new(),
-        }
+            waits: Waits::new(alloc)?,
+            candidates: Candidates::new(alloc)?,
+        })
     }
 
     /// The threads by their slots.

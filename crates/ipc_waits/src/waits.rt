@@ -1,4 +1,4 @@
-ghost use Rattle.std.specs.Prelude.{◌≡◌, ◌<◌, All, [], option_copied};
+ghost use Rattle.std.specs.Prelude.{◌≡◌, ◌<◌, All, IfOk, [], option_copied};
 ghost use Rattle.ipc_words.specs.Limits.{table_slots};
 ghost use Rattle.ipc_waits.specs.Keys.{HaveAt, SameElsewhere};
 ghost use Rattle.ipc_waits.specs.Touching.{waits_touched};
@@ -7,6 +7,7 @@ use crate::keys::{Due, Partner, Receiver};
 use crate::queue::{Queue, Wait};
 use ipc_history::{Entry, Input};
 use ipc_slots::Standing;
+use std::alloc::{AllocError, Global};
 
 /// The waits of the open calls: by the receiver that they send to, by the thread whose end fails them, and by the moment from which
 /// they are due.
@@ -18,17 +19,21 @@ pub struct Waits {
 }
 
 impl Waits {
-    /// Where no call is open.
-    pub fn new() -> Waits
-        ensures senders { result.senders ≡ [] }
-        ensures watchers { result.watchers ≡ [] }
-        ensures deadlines { result.deadlines ≡ [] }
+    /// Where no call is open; with room for the waits of all threads.
+    ///
+    /// # Errors
+    ///
+    /// Where a growth of memory is refused.
+    pub fn new(alloc: Global) -> Result<Waits, AllocError>
+        ensures senders { IfOk result (λ waits. waits.senders ≡ []) }
+        ensures watchers { IfOk result (λ waits. waits.watchers ≡ []) }
+        ensures deadlines { IfOk result (λ waits. waits.deadlines ≡ []) }
     {
-        Waits {
-            senders: Queue::new(),
-            watchers: Queue::new(),
-            deadlines: Queue::new(),
-        }
+        Ok(Waits {
+            senders: Queue::new(alloc)?,
+            watchers: Queue::new(alloc)?,
+            deadlines: Queue::new(alloc)?,
+        })
     }
 
     /// The waiting send phases, under their receivers.

@@ -34,7 +34,7 @@ invariant_of-self c =
     let most = reached_most c.self.inside.history c.args.upto (short c) in
     let begun = c.requires.begun in
     record {
-      course = subst (λ l. IsCourse l c.self.inside.waiting c.self.inside.desks c.self.inside.taken c.self.inside.since c.self.inside.finished.items (vec_capacity c.self.inside.finished)) (sym c.compact.ensures.entries) c.self.invariant.course;
+      course = subst (λ l. IsCourse l c.self.inside.waiting.value c.self.inside.desks c.self.inside.taken c.self.inside.since c.self.inside.finished.items (vec_capacity c.self.inside.finished)) (sym c.compact.ensures.entries) c.self.invariant.course;
       front = omega (arith, most, begun, ap (λ h. h.whole_from) (held c), ap (λ v. length v.entries) c.self.view_is, ap (λ v. v.since) c.self.view_is);
       knows = subst (λ l. Knows l c.self.inside.partners) (sym c.compact.ensures.entries) c.self.invariant.knows;
       kept = subst (λ l. WasPlaced l c.self.inside.taken c.compact.new.self.held.front c.compact.new.self.held.places c.compact.new.self.held.whole_from) (sym c.compact.ensures.entries)

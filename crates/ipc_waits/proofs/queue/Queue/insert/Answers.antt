@@ -1,4 +1,4 @@
-use Rattle.std.proofs.Common.{◌≡◌, ◌∙◌, ap, lit<, subst, sym, true, false, ◌||◌, ◌≤◌, length}
+use Rattle.std.proofs.Common.{◌≡◌, ◌∙◌, ap, subst, sym, true, false, ◌||◌, ◌≤◌, ◌<◌, length, vec_len, vec_capacity, arith, rules}
 use Rattle.std.specs.List.Sorted.{IsPartitionPoint}
 use Rattle.ipc_waits.specs.Queues.{IsQueue, comes_before, is_in, is_placed, is_same}
 use Rattle.ipc_waits.proofs.Distinct.{room}
@@ -7,14 +7,16 @@ use Rattle.ipc_waits.proofs.queue.Queue.insert.Goals as goal
 
 pub insert-requires : goal.insert-requires
 insert-requires c =
+    let fits = subst (λ l. c.place_for-place.result ≤ length l) c.as_slice.ensures.value c.place_for-place.ensures.within in
+    omega (arith, fits)
+
+pub unreachable-requires : goal.unreachable-requires
+unreachable-requires c =
     let wait = c.args.wait in
-    let fresh = ap (λ l. is_placed l wait.place) c.self.view_is ∙ c.requires.fresh in (
-      lit< tt,
-      (
-        subst (λ l. c.place_for-place.result ≤ length l) c.as_slice.ensures.value c.place_for-place.ensures.within,
-        room c.self.inside.waits.items wait c.self.invariant c.requires.within fresh,
-      ),
-    )
+    let few = room c.self.inside.waits.items wait c.self.invariant.0 c.requires.within (ap (λ l. is_placed l wait.place) c.self.view_is ∙ c.requires.fresh) in
+    let spare : vec_len c.self.inside.waits < vec_capacity c.self.inside.waits = omega (arith, few, c.self.invariant.1) in
+    let ok = c.insert.ensures.succeeds spare in
+    search rules
 
 pub invariant_of-self : goal.invariant_of-self
 invariant_of-self c =
@@ -23,9 +25,9 @@ invariant_of-self c =
     let fresh = ap (λ l. is_placed l wait.place) c.self.view_is ∙ c.requires.fresh in
     let fits = subst (λ l. place ≤ length l) c.as_slice.ensures.value c.place_for-place.ensures.within in
     let point = subst (λ l. IsPartitionPoint (λ w. comes_before w wait ≡ true) (λ w. comes_before w wait ≡ false) l place) c.as_slice.ensures.value c.place_for-place.ensures.order in
-    subst IsQueue (sym c.insert.ensures.items) (queue_with c.self.inside.waits.items wait place point fits c.self.invariant c.requires.within fresh)
+    (subst IsQueue (sym c.in-Ok.ensures.items) (queue_with c.self.inside.waits.items wait place point fits c.self.invariant.0 c.requires.within fresh), omega (arith, c.self.invariant.1, c.insert.ensures.capacity))
 
 pub returns : goal.returns
 returns c w =
-    ap (λ l. is_in l w) c.insert.ensures.items ∙ in_inserted c.self.inside.waits.items c.place_for-place.result c.args.wait w
+    ap (λ l. is_in l w) c.in-Ok.ensures.items ∙ in_inserted c.self.inside.waits.items c.place_for-place.result c.args.wait w
     ∙ ap (λ l. is_in l w || is_same w c.args.wait) c.self.view_is

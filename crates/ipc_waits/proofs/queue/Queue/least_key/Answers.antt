@@ -6,5 +6,5 @@ use Rattle.ipc_waits.proofs.queue.Queue.least_key.Goals as goal
 pub returns-in-Some : goal.returns-in-Some
 returns-in-Some c moment =
     let first = c.in-Some.ensures.value ∙ ap (λ l. slice_get l 0) c.as_slice.ensures.value in
-    sym (due_first moment c.self.inside.waits.items c.in-Some.wait.now c.self.invariant.ordered first
+    sym (due_first moment c.self.inside.waits.items c.in-Some.wait.now c.self.invariant.0.ordered first
     ∙ ap (list_any (λ w. nat_le w.key moment)) c.self.view_is)

@@ -8,6 +8,6 @@ use Rattle.ipc_waits.proofs.waiting.Waiting.new.Goals as goal
 pub returns : goal.returns
 returns c = record {
   slots = c.new.ensures;
-  waits = no_calls c.new.result.table c.new-2.result (λ k. ap standing_in (c.new.ensures.table k) ∙ nothing_held k) c.new-2.ensures.senders c.new-2.ensures.watchers c.new-2.ensures.deadlines;
-  covers = quiet_covers_at [] c.new-3.result nothing_quiet;
+  waits = no_calls c.new.result.table c.in_ok-new.field-0 (λ k. ap standing_in (c.new.ensures.table k) ∙ nothing_held k) c.in_ok-new.ensures.senders c.in_ok-new.ensures.watchers c.in_ok-new.ensures.deadlines;
+  covers = quiet_covers_at [] _ nothing_quiet;
 }

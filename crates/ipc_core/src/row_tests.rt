@@ -85,10 +85,13 @@ fn with_string(alloc: Global, mut fields: CallFields) -> Result<CallFields, Fail
 
 fn with_buffer(alloc: Global, mut fields: CallFields) -> Result<CallFields, Fail> {
     let mut buffers = BufferList::new(alloc);
-    let _ = buffers.push_buffer(alloc, &[Substring {
-        length: 3,
-        pointer: 0x1000,
-    }])?;
+    let _ = buffers.push_buffer(
+        alloc,
+        &[Substring {
+            length: 3,
+            pointer: 0x1000,
+        }],
+    )?;
     fields.buffers = Some(buffers);
     Ok(fields)
 }

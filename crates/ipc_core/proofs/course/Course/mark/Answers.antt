@@ -8,7 +8,7 @@ use Rattle.ipc_core.proofs.course.Course.mark.Goals as goal
 pub invariant_of-self : goal.invariant_of-self
 invariant_of-self c =
     let was = c.self.invariant in
-    subst (λ h. IsHeldCourse h c.self.inside.waiting c.self.inside.desks c.self.inside.partners c.self.inside.taken c.self.inside.since c.self.inside.finished.items (vec_capacity c.self.inside.finished)) (sym c.mark.ensures) (record { course = was.course; front = was.front; knows = was.knows; kept = was.kept })
+    subst (λ h. IsHeldCourse h c.self.inside.waiting.value c.self.inside.desks c.self.inside.partners c.self.inside.taken c.self.inside.since c.self.inside.finished.items (vec_capacity c.self.inside.finished)) (sym c.mark.ensures) (record { course = was.course; front = was.front; knows = was.knows; kept = was.kept })
 
 pub returns : goal.returns
 returns c =

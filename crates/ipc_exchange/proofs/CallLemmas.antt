@@ -27,7 +27,7 @@ use Rattle.ipc_core.specs.declared.command.Command.{Command}
 use Rattle.ipc_core.specs.declared.command.Command.TheVariants.{Open, Enter, Exreg, Broke, At, Advance, Take}
 use Rattle.ipc_core.specs.declared.refusal.Refusal.{Refusal}
 use Rattle.ipc_core.specs.declared.refusal.Refusal.TheVariants.{NoMemory}
-use Rattle.ipc_exchange.specs.Serving.{Ample, AnswersIn, MayLack, Memory, ObeysIn, every_entry}
+use Rattle.ipc_exchange.specs.Serving.{Ample, AnswersIn, MayLack, Memory, ObeysIn}
 use Rattle.ipc_exchange.specs.Laws.{CallsAreAccepted, LegalStays, accepted, call_in, calls_in}
 use Rattle.ipc_exchange.proofs.Along.{events_along}
 
@@ -106,7 +106,7 @@ obeys_in_calls : (memory : Memory) (old new : KernelParts) (command : Command) (
 obeys_in_calls memory old new command answer obeys =
     ap (λ (k : KernelParts). calls_in k.history) obeys.new_is
     ∙ (obeyed_calls memory obeys.roomy obeys.after command answer obeys.answers
-    ∙ ap (λ H. calls_in H ++ filter_map accepted (record { command = command; answer = answer } ∷ [])) (room_history every_entry old obeys.roomy command obeys.makes_room))
+    ∙ ap (λ H. calls_in H ++ filter_map accepted (record { command = command; answer = answer } ∷ [])) (room_history old.held.mark old obeys.roomy command obeys.makes_room))
 
 pub calls_are_accepted : CallsAreAccepted
 calls_are_accepted memory old new events asked happen =
@@ -125,7 +125,7 @@ obeyed_legal MayLack old new command answer (inr lacks) legal = subst (λ (k : K
 pub obeys_in_legal : (memory : Memory) (old new : KernelParts) (command : Command) (answer : Answer) → ObeysIn memory old command answer new → Legal old.history → Legal new.history
 obeys_in_legal memory old new command answer obeys legal =
     subst (λ (k : KernelParts). Legal k.history) (sym obeys.new_is)
-    (obeyed_legal memory obeys.roomy obeys.after command answer obeys.answers (subst Legal (sym (room_history every_entry old obeys.roomy command obeys.makes_room)) legal))
+    (obeyed_legal memory obeys.roomy obeys.after command answer obeys.answers (subst Legal (sym (room_history old.held.mark old obeys.roomy command obeys.makes_room)) legal))
 
 pub legal_stays : LegalStays
 legal_stays memory old new events asked happen =

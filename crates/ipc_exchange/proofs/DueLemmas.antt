@@ -11,9 +11,10 @@ use Rattle.ipc_history.specs.Threads.{is_live, was_opened, has_broken}
 use Rattle.ipc_laws.proofs.OneLive.{one_live}
 use Rattle.ipc_laws.proofs.Tests.{not_both}
 use Rattle.ipc_core.specs.Again.{MakesRoom}
+use Rattle.ipc_exchange.specs.Serving.{first_kernel}
 use Rattle.ipc_core.specs.KernelParts.{KernelParts}
 use Rattle.ipc_core.specs.Laws.{IsSound, is_call_of, is_take_of}
-use Rattle.ipc_core.specs.Obeying.{MayObey, empty_kernel}
+use Rattle.ipc_core.specs.Obeying.{MayObey}
 use Rattle.ipc_core.specs.Outcomes.{is_among, is_finished, outcome_to_take}
 use Rattle.ipc_core.specs.Steps.{taken_after}
 use Rattle.ipc_core.specs.declared.command.Answer.{Answer}
@@ -30,7 +31,7 @@ dead_has_nothing : (kernel : KernelParts) (thread : ℕ) → is_live kernel.hist
 unfolding outcome_to_take
 dead_has_nothing kernel thread dead = rw dead refl
 
-pub nothing_yet : (entries calls : ℕ) (thread : ℕ) → outcome_to_take (empty_kernel entries calls) thread ≡ None
+pub nothing_yet : (entries calls : ℕ) (thread : ℕ) → outcome_to_take (first_kernel entries calls) thread ≡ None
 unfolding outcome_to_take is_live was_opened has_broken
 nothing_yet entries calls thread = refl
 
@@ -122,7 +123,7 @@ module _ (old : KernelParts) (thread : ℕ) (answer : Answer) (new : KernelParts
             others_nothing t (λ same. apart (ap number_of same)) within (sym (get_or-set_other after (number_of thread) (number_of t) false false apart) ∙ free)
 
 -- at first no number is marked
-pub new_due : (entries calls : ℕ) (kernel : KernelParts) (due : List Bool) → kernel ≡ empty_kernel entries calls → IsSound kernel → length due ≡ table_slots → AreDue kernel due
+pub new_due : (entries calls : ℕ) (kernel : KernelParts) (due : List Bool) → kernel ≡ first_kernel entries calls → IsSound kernel → length due ≡ table_slots → AreDue kernel due
 new_due entries calls kernel due is sound items = record {
   sound = sound;
   long = items;

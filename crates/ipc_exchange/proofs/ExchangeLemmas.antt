@@ -6,7 +6,6 @@ use Rattle.std.specs.Prelude.{slice_index_or, slice_set}
 use Rattle.ipc_frame.specs.Stream.{stream_of}
 use Rattle.ipc_frame.specs.declared.fault.FrameFault.{FrameFault}
 use Rattle.ipc_frame.specs.declared.kind.Side.TheVariants.{Server}
-use Rattle.ipc_core.specs.Obeying.{empty_kernel}
 use Rattle.ipc_core.specs.declared.command.Command.{Command}
 use Rattle.ipc_calls.specs.Hearing.{heard_at_end, heard_in, left_in}
 use Rattle.ipc_calls.specs.Taking.{Decoding, Holds}
@@ -18,7 +17,7 @@ use Rattle.ipc_connection.specs.declared.asking.Reaction.TheVariants.{Ask, Leave
 use Rattle.ipc_connection.specs.declared.stage.Stage.{Stage}
 use Rattle.ipc_connection.specs.declared.stage.Stage.TheVariants.{Greeting, Serving, Finished}
 use Rattle.ipc_exchange.specs.Service.{Line, ServiceParts, line_at, nobody, told_line, with_line, without_bytes}
-use Rattle.ipc_exchange.specs.Serving.{Answers, Asked, DoesAlone, MayLack, Memory, Serves, ServesAll, ServesBy, Tells}
+use Rattle.ipc_exchange.specs.Serving.{Answers, Asked, DoesAlone, MayLack, Memory, Serves, ServesAll, ServesBy, Tells, first_kernel}
 use Rattle.ipc_exchange.specs.Slots.{LineSlots, Ready, ServiceSlots, StaysReady, service_of, stage_at}
 use Rattle.ipc_exchange.specs.Events.{Commands, Connect, Event, ExchangeParts, Finish, Piece, connected, empty_exchange, held_at, holding, kept}
 use Rattle.ipc_exchange.specs.Feeding.{FeedsLine, HoldsFor, has_finished}
@@ -318,14 +317,14 @@ module _ (old : ExchangeSlots) (space : ℕ) (service : ServiceSlots) (decoder :
   connected_keeps ready count = still_exchange old _ (Connect space) is ready (ap length more ∙ (length-append old.decoders (decoder ∷ []) ∙ (ap (λ n. n + 1) is.long ∙ sym count))) connects_by
 
 -- an exchange without connections
-pub empty_shows : (service : ServiceSlots) (decoders : List Decoding) (entries_limit calls_limit : ℕ) → service_of service ≡ record { kernel = empty_kernel entries_limit calls_limit; lines = [] } → service.slots ≡ [] → decoders ≡ [] → Shows (record { service = service; decoders = decoders }) (empty_exchange entries_limit calls_limit)
+pub empty_shows : (service : ServiceSlots) (decoders : List Decoding) (entries_limit calls_limit : ℕ) → service_of service ≡ record { kernel = first_kernel entries_limit calls_limit; lines = [] } → service.slots ≡ [] → decoders ≡ [] → Shows (record { service = service; decoders = decoders }) (empty_exchange entries_limit calls_limit)
 empty_shows service decoders entries_limit calls_limit same none empty = record {
   service = sym same;
   long = sym (ap length empty);
   held = λ q. subst (λ s. ShowsHeld (stage_at s q) (decoder_at decoders q) []) (sym none) refl;
 }
 
-pub empty_is : (service : ServiceSlots) (decoders : List Decoding) (entries_limit calls_limit : ℕ) → service_of service ≡ record { kernel = empty_kernel entries_limit calls_limit; lines = [] } → service.slots ≡ [] → decoders ≡ [] → Ready service → IsExchange (record { service = service; decoders = decoders })
+pub empty_is : (service : ServiceSlots) (decoders : List Decoding) (entries_limit calls_limit : ℕ) → service_of service ≡ record { kernel = first_kernel entries_limit calls_limit; lines = [] } → service.slots ≡ [] → decoders ≡ [] → Ready service → IsExchange (record { service = service; decoders = decoders })
 empty_is service decoders entries_limit calls_limit same none empty ready = record {
   ready = ready;
   long = ap length empty ∙ sym (ap length none);

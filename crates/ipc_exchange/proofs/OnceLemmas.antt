@@ -5,6 +5,7 @@ use Rattle.ipc_history.specs.Legal.{Legal}
 use Rattle.ipc_frame.specs.declared.fault.FrameFault.{FrameFault}
 use Rattle.ipc_frame.specs.Stream.{stream_of}
 use Rattle.ipc_frame.specs.declared.kind.Side.TheVariants.{Server}
+use Rattle.ipc_core.specs.Again.{MakesRoom}
 use Rattle.ipc_core.specs.KernelParts.{KernelParts, without_room}
 use Rattle.ipc_core.specs.declared.command.Answer.{Answer}
 use Rattle.ipc_core.specs.declared.command.Command.{Command}
@@ -19,7 +20,7 @@ use Rattle.ipc_connection.specs.declared.asking.Reaction.TheVariants.{Ask, Leave
 use Rattle.ipc_connection.specs.declared.replying.Told.{Told}
 use Rattle.ipc_exchange.specs.Service.{Line, ServiceParts, at_rest, delivered, line_at, told_line}
 use Rattle.ipc_connection.specs.Replying.{told_of}
-use Rattle.ipc_exchange.specs.Serving.{Ample, Asked, Does, Leaves, ObeysIn, Serves, ServesAll, ServesBy, Tells, every_entry}
+use Rattle.ipc_exchange.specs.Serving.{Ample, Asked, Does, Leaves, ObeysIn, Serves, ServesAll, ServesBy, Tells}
 use Rattle.ipc_exchange.specs.Events.{Commands, Event, ExchangeParts, Happens, HappenAll, connected, held_at, holding, kept}
 use Rattle.ipc_exchange.specs.Events.{Connect, Piece, Finish, Reading, Copy}
 use Rattle.ipc_exchange.specs.Laws.{HappenOnce, without_history_room}
@@ -50,8 +51,8 @@ record Obeyed (one other : KernelParts) (a b : Answer) : Type 0 where
 
 obeys_in_once : (old old' one other : KernelParts) (command : Command) (a b : Answer) → Alike old old' → Legal old.history → ObeysIn Ample old command a one → ObeysIn Ample old' command b other → Obeyed one other a b
 obeys_in_once old old' one other command a b alike legal obeys again =
-    let roomy = room_once every_entry old old' obeys.roomy again.roomy command alike obeys.makes_room again.makes_room in
-    let here = subst Legal (sym (room_history every_entry old obeys.roomy command obeys.makes_room)) legal in
+    let roomy = room_once old.held.mark old old' obeys.roomy again.roomy command alike obeys.makes_room (subst (λ upto. MakesRoom upto old' command again.roomy) (sym (ap (λ (k : KernelParts). k.held.mark) alike)) again.makes_room) in
+    let here = subst Legal (sym (room_history old.held.mark old obeys.roomy command obeys.makes_room)) legal in
     let once = obeyed_alike obeys.roomy again.roomy obeys.after again.after command a b roomy here obeys.answers again.answers in
     record { answers = once.0; alike = ap without_room obeys.new_is ∙ (ap at_rest once.1 ∙ sym (ap without_room again.new_is)) }
 

@@ -20,7 +20,7 @@ use Rattle.ipc_core.specs.declared.refusal.Refusal.{Refusal}
 use Rattle.ipc_connection.specs.declared.stage.Stage.{Stage}
 use Rattle.ipc_connection.specs.declared.stage.Stage.TheVariants.{Greeting, Serving, Finished}
 use Rattle.ipc_exchange.specs.Service.{Line, at_rest, outcome_at}
-use Rattle.ipc_exchange.specs.Serving.{MayLack, ObeysIn, every_entry}
+use Rattle.ipc_exchange.specs.Serving.{MayLack, ObeysIn}
 use Rattle.ipc_exchange.proofs.MovedLemmas.{PassesTold}
 
 pub same_outcome : (kernel : KernelParts) (thread : ℕ) → outcome_to_take (at_rest kernel) thread ≡ outcome_to_take kernel thread
@@ -96,13 +96,13 @@ compacts_rested old new upto done c = record { history = c.history; held = c.hel
 lacking_rested : (old : KernelParts) (command : Command) → lacks_entries (at_rest old) command ≡ lacks_entries old command
 lacking_rested old command = ap is_history_full (cause_rested old command)
 
-pub rested_obeys : (old : KernelParts) (command : Command) (answer : Answer) (new : KernelParts) → MayObeyAgain every_entry old command answer new → ObeysIn MayLack (at_rest old) command answer (at_rest new)
+pub rested_obeys : (old : KernelParts) (command : Command) (answer : Answer) (new : KernelParts) → MayObeyAgain old.held.mark old command answer new → ObeysIn MayLack (at_rest old) command answer (at_rest new)
 rested_obeys old command answer new again = go (lacks_entries old command) refl again.makes_room
   where
-    go : (b : Bool) → lacks_entries old command ≡ b → MatchBool b ((done : Compacted) × Compacts old again.roomy every_entry done) (again.roomy ≡ old) → ObeysIn MayLack (at_rest old) command answer (at_rest new)
+    go : (b : Bool) → lacks_entries old command ≡ b → MatchBool b ((done : Compacted) × Compacts old again.roomy old.held.mark done) (again.roomy ≡ old) → ObeysIn MayLack (at_rest old) command answer (at_rest new)
     go true e (done, compacts) = record {
       roomy = again.roomy;
-      makes_room = subst (λ b. MatchBool b ((d : Compacted) × Compacts (at_rest old) again.roomy every_entry d) (again.roomy ≡ at_rest old)) (sym (lacking_rested old command ∙ e)) (done, compacts_rested old again.roomy every_entry done compacts);
+      makes_room = subst (λ b. MatchBool b ((d : Compacted) × Compacts (at_rest old) again.roomy old.held.mark d) (again.roomy ≡ at_rest old)) (sym (lacking_rested old command ∙ e)) (done, compacts_rested old again.roomy old.held.mark done compacts);
       after = new;
       answers = again.obeys;
       new_is = refl;
@@ -111,7 +111,7 @@ rested_obeys old command answer new again = go (lacks_entries old command) refl 
         let rested = obeys_rested old command answer new (subst (λ (k : KernelParts). MayObey k command answer new) same again.obeys) in
         record {
           roomy = at_rest old;
-          makes_room = subst (λ b. MatchBool b ((d : Compacted) × Compacts (at_rest old) (at_rest old) every_entry d) (at_rest old ≡ at_rest old)) (sym (lacking_rested old command ∙ e)) refl;
+          makes_room = subst (λ b. MatchBool b ((d : Compacted) × Compacts (at_rest old) (at_rest old) old.held.mark d) (at_rest old ≡ at_rest old)) (sym (lacking_rested old command ∙ e)) refl;
           after = rested.after;
           answers = rested.answers;
           new_is = rested.new_is;
@@ -121,7 +121,7 @@ rested_obeys old command answer new again = go (lacks_entries old command) refl 
 pub rested_alone : (old : KernelParts) (command : Command) (answer : Answer) (new : KernelParts) → lacks_entries old command ≡ false → MayObey old command answer new → ObeysIn MayLack (at_rest old) command answer (at_rest new)
 rested_alone old command answer new other obeys = rested_obeys old command answer new (record {
   roomy = old;
-  makes_room = subst (λ b. MatchBool b ((d : Compacted) × Compacts old old every_entry d) (old ≡ old)) (sym other) refl;
+  makes_room = subst (λ b. MatchBool b ((d : Compacted) × Compacts old old old.held.mark d) (old ≡ old)) (sym other) refl;
   obeys = obeys;
 })
 

@@ -26,7 +26,7 @@ use Rattle.ipc_connection.specs.declared.stage.Stage.TheVariants.{Greeting, Serv
 use Rattle.ipc_connection.specs.declared.replying.Told.{Told}
 use Rattle.ipc_connection.specs.declared.replying.Told.TheVariants as tells
 use Rattle.ipc_exchange.specs.Service.{Line, at_rest, delivered, line_at, nobody, told_line, without_bytes}
-use Rattle.ipc_exchange.specs.Serving.{Asked, Does, DoesAlone, Leaves, MayLack, Serves, ServesBy, Tells, every_entry}
+use Rattle.ipc_exchange.specs.Serving.{Asked, Does, DoesAlone, Leaves, MayLack, Serves, ServesBy, Tells}
 use Rattle.ipc_exchange.specs.Slots.{CanDo, CanReact, CanServe, CanTell, HasRoom, IsPlaced, LineSlots, MayGet, NoneServes, Ready, ServiceSlots, StaysReady, SuitsReaction, SuitsTold, WantsRoom, lines_of, no_slots, service_of, slot_at, stage_at, table_told}
 use Rattle.ipc_exchange.proofs.ReadyLemmas.{ample, ended, left_alone, obeyed_ready, opened_fresh, room_ready, roomier, told_ready}
 use Rattle.ipc_exchange.proofs.RestedLemmas.{rested_alone, rested_obeys}
@@ -118,12 +118,12 @@ pub told_free : (s now : ServiceSlots) (place : ℕ) (told : Told) → CanTell s
 told_free s now place told can placed = let one = suits_one _ told can.room in rw placed one
 
 -- a line whose request the kernel obeyed can be told the answer
-pub can_tell : (old middle : ServiceSlots) (place : ℕ) (command : Command) (told : Told) → CanDo old place command → IsSound middle.kernel → ((said : Answer) × MayObeyAgain every_entry old.kernel command said middle.kernel × (told ≡ told_of said)) → middle.slots ≡ old.slots → middle.table ≡ old.table → CanTell middle place told
+pub can_tell : (old middle : ServiceSlots) (place : ℕ) (command : Command) (told : Told) → CanDo old place command → IsSound middle.kernel → ((said : Answer) × MayObeyAgain old.kernel.held.mark old.kernel command said middle.kernel × (told ≡ told_of said)) → middle.slots ≡ old.slots → middle.table ≡ old.table → CanTell middle place told
 can_tell old middle place command told can after obeyed slots table =
     let there : record old { kernel = middle.kernel } ≡ middle = ap₂ (λ s t. record { kernel = middle.kernel; slots = s; table = t }) (sym slots) (sym table) in
     let again = obeyed.1 in
     let roomy : ServiceSlots = record old { kernel = again.roomy } in
-    let ready : Ready roomy = room_ready every_entry old command again.roomy again.makes_room can.ready in
+    let ready : Ready roomy = room_ready old.kernel.held.mark old command again.roomy again.makes_room can.ready in
     let fresh : MayGet middle.kernel old.slots place told = subst (MayGet middle.kernel old.slots place) (sym obeyed.2) (fresh_told roomy command obeyed.0 middle.kernel place ready after again.obeys) in
     subst (λ s. CanTell s place told) there (record {
       within = can.within;
@@ -153,7 +153,7 @@ tells_by old told_now left last place told kernel lines leaves slots is = (
 )
 
 -- a command that is obeyed, and told
-pub does_by : (old middle last : ServiceSlots) (place : ℕ) (given : Command) (told : Told) → ((said : Answer) × MayObeyAgain every_entry old.kernel given said middle.kernel × (told ≡ told_of said)) → middle.slots ≡ old.slots → ((asked : List Asked) × Tells MayLack (service_of middle) place told asked (service_of last)) → (asked : List Asked) × Does MayLack (service_of old) place given asked (service_of last)
+pub does_by : (old middle last : ServiceSlots) (place : ℕ) (given : Command) (told : Told) → ((said : Answer) × MayObeyAgain old.kernel.held.mark old.kernel given said middle.kernel × (told ≡ told_of said)) → middle.slots ≡ old.slots → ((asked : List Asked) × Tells MayLack (service_of middle) place told asked (service_of last)) → (asked : List Asked) × Does MayLack (service_of old) place given asked (service_of last)
 does_by old middle last place given told obeyed slots tells =
     let here : Tells MayLack (record { kernel = at_rest middle.kernel; lines = lines_of old.slots }) place told tells.0 (service_of last) = subst (λ (s : List LineSlots). Tells MayLack (record { kernel = at_rest middle.kernel; lines = lines_of s }) place told tells.0 (service_of last)) slots tells.1 in (
       record { command = given; answer = obeyed.0 } ∷ tells.0,

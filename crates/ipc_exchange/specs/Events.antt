@@ -3,7 +3,6 @@ use Rattle.std.specs.Prelude.{◌≡◌, ℕ, List, [], ◌∷◌, ◌++◌, sli
 use Rattle.ipc_frame.specs.Stream.{stream_of}
 use Rattle.ipc_frame.specs.declared.fault.FrameFault.{FrameFault}
 use Rattle.ipc_frame.specs.declared.kind.Side.TheVariants.{Server}
-use Rattle.ipc_core.specs.Obeying.{empty_kernel}
 use Rattle.ipc_core.specs.declared.command.Answer.{Answer}
 use Rattle.ipc_core.specs.declared.command.Command.{Command}
 use Rattle.ipc_core.specs.declared.command.Command.TheVariants as command
@@ -13,7 +12,7 @@ use Rattle.ipc_connection.specs.declared.stage.Stage.{Stage}
 use Rattle.ipc_connection.specs.declared.stage.Stage.TheVariants.{Greeting, Serving, Finished}
 use Rattle.ipc_calls.specs.declared.heard.Heard.{Heard}
 use Rattle.ipc_exchange.specs.Service.{ServiceParts, line_at, with_line}
-use Rattle.ipc_exchange.specs.Serving.{Answers, Asked, Hears, Memory, Serves, ServesAll}
+use Rattle.ipc_exchange.specs.Serving.{Answers, Asked, Hears, Memory, Serves, ServesAll, first_kernel}
 
 -- the service, and for each connection the bytes that came since its last whole frame
 pub record ExchangeParts : Type 0 where
@@ -74,7 +73,7 @@ connected space old = record { service = with_line space old.service; held = old
 -- an exchange without connections, whose kernel has these limits
 abbrev pub empty_exchange : ℕ → ℕ → ExchangeParts
 empty_exchange entries_limit calls_limit = record {
-  service = record { kernel = empty_kernel entries_limit calls_limit; lines = [] };
+  service = record { kernel = first_kernel entries_limit calls_limit; lines = [] };
   held = [];
 }
 

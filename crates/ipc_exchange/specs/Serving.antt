@@ -3,9 +3,10 @@ use Rattle.std.specs.Prelude.{◌≡◌, ℕ, ◌-◌, ◌^◌, List, [], ◌∷
 use Rattle.ipc_frame.specs.declared.fault.FrameFault.{FrameFault}
 use Rattle.ipc_frame.specs.declared.frame.Frame.{Frame}
 use Rattle.ipc_frame.specs.Stream.{Stream}
+use Rattle.ipc_history.specs.Holding.{marked_to}
 use Rattle.ipc_core.specs.Again.{MakesRoom}
-use Rattle.ipc_core.specs.KernelParts.{KernelParts}
-use Rattle.ipc_core.specs.Obeying.{Obeys, MayObey}
+use Rattle.ipc_core.specs.KernelParts.{KernelParts, nothing_held}
+use Rattle.ipc_core.specs.Obeying.{Obeys, MayObey, empty_kernel}
 use Rattle.ipc_core.specs.declared.command.Answer.{Answer}
 use Rattle.ipc_core.specs.declared.command.Command.{Command}
 use Rattle.ipc_core.specs.declared.command.Command.TheVariants as command
@@ -36,15 +37,18 @@ abbrev pub AnswersIn : Memory → KernelParts → Command → Answer → KernelP
 AnswersIn Ample old command answer new = Obeys old command answer new
 AnswersIn MayLack old command answer new = MayObey old command answer new
 
--- a compaction that an exchange asks for goes up to the last entry
+-- the kernel at first: no trace reads its entries, so each counts as marked
 abbrev pub every_entry : ℕ
 every_entry = 2 ^ 64 - 1
 
--- a command is obeyed. Where K5 is the first cause to refuse it, memory first lets go of what need not be held; the history stays what
+abbrev pub first_kernel : ℕ → ℕ → KernelParts
+first_kernel entries_limit calls_limit = record (empty_kernel entries_limit calls_limit) { held = marked_to every_entry nothing_held }
+
+-- a command is obeyed. Where K5 is the first cause to refuse it, memory first lets go of what is marked and need not be held; the history stays what
 -- it was. Between commands a kernel is seen at rest
 pub record ObeysIn (memory : Memory) (old : KernelParts) (command : Command) (answer : Answer) (new : KernelParts) : Type 0 where
   pub roomy : KernelParts
-  pub makes_room : MakesRoom every_entry old command roomy
+  pub makes_room : MakesRoom old.held.mark old command roomy
   pub after : KernelParts
   pub answers : AnswersIn memory roomy command answer after
   pub new_is : new ≡ at_rest after

@@ -4,13 +4,13 @@ ghost use Rattle.ipc_history.specs.Legal.{Legal, Quiet};
 ghost use Rattle.ipc_history.specs.Paired.{Paired};
 ghost use Rattle.ipc_core.specs.Again.{MayObeyAgain};
 ghost use Rattle.ipc_core.specs.Laws.{IsSound};
-ghost use Rattle.ipc_core.specs.Obeying.{MayObey, broke_answer, empty_kernel};
+ghost use Rattle.ipc_core.specs.Obeying.{MayObey, broke_answer};
 ghost use Rattle.ipc_core.specs.Outcomes.{outcome_to_take};
 ghost use Rattle.ipc_core.specs.Steps.{taken_after};
 ghost use Rattle.ipc_core.specs.declared.command.Answer.TheVariants.{Advanced, Done, Taken};
 ghost use Rattle.ipc_core.specs.declared.command.Command.TheVariants as command;
 ghost use Rattle.ipc_exchange.specs.Due.{NothingDue};
-ghost use Rattle.ipc_exchange.specs.Serving.{every_entry};
+ghost use Rattle.ipc_exchange.specs.Serving.{first_kernel};
 
 use crate::due::{mark_all, mark_one, own_thread};
 use ipc_core::{Advance, Answer, Command, Kernel, Limits, NoThread};
@@ -20,7 +20,7 @@ use ipc_words::limits::TABLE_SLOTS;
 use std::alloc::{AllocError, Global};
 use std::marker::Model;
 
-/// How far a compaction goes: up to the last entry.
+/// No trace reads the entries: each counts as marked.
 const EVERY_ENTRY: usize = usize::MAX;
 
 /// A kernel, seen as such, that knows which threads may have an outcome to take.
@@ -43,14 +43,15 @@ impl Model for Desk {
 }
 
 impl Desk {
-    /// A kernel with these limits. Err: there is no memory.
+    /// A kernel with these limits, of which every entry counts as marked. Err: there is no memory.
     pub(crate) fn new(alloc: Global, limits: Limits) -> Result<Desk, AllocError>
-        ensures { IfOk result (λ desk. desk ≡ empty_kernel (min limits.entries max_entries) (min limits.calls max_calls)) }
+        ensures { IfOk result (λ desk. desk ≡ first_kernel (min limits.entries max_entries) (min limits.calls max_calls)) }
     {
         let due = vec![in alloc; false; TABLE_SLOTS]?;
-        let Ok(kernel) = Kernel::new(alloc, limits) else {
+        let Ok(mut kernel) = Kernel::new(alloc, limits) else {
             return Err(AllocError);
         };
+        kernel.mark(EVERY_ENTRY);
         // its contract says that the kernel is sound
         let _ = kernel.history();
         Ok(Desk { kernel, due })
@@ -77,10 +78,11 @@ impl Desk {
 
     /// Obeys a command, and answers it; where it is refused with K5, once more after memory let go of all that need not be held.
     pub(crate) fn obey(&mut self, command: Command) -> Answer
-        ensures obeys { MayObeyAgain every_entry self.old command result self.new }
+        ensures obeys { MayObeyAgain self.old.held.mark self.old command result self.new }
     {
         let own = own_thread(&command);
-        let answer = self.kernel.obey_again(command, EVERY_ENTRY);
+        let marked = self.kernel.marked();
+        let answer = self.kernel.obey_again(command, marked);
         // its contract says that the kernel is sound
         let _ = self.kernel.history();
         mark_one(&mut self.due, own);

@@ -6,7 +6,7 @@ ghost use Rattle.ipc_history.specs.Legal.{Legal, Quiet};
 ghost use Rattle.ipc_history.specs.Paired.{Paired};
 ghost use Rattle.ipc_core.specs.Again.{MayObeyAgain};
 ghost use Rattle.ipc_core.specs.Laws.{IsSound};
-ghost use Rattle.ipc_core.specs.Obeying.{MayObey, empty_kernel, broke_answer};
+ghost use Rattle.ipc_core.specs.Obeying.{MayObey, broke_answer};
 ghost use Rattle.ipc_core.specs.declared.command.Answer.{Answer};
 ghost use Rattle.ipc_core.specs.declared.command.Answer.TheVariants as answer;
 ghost use Rattle.ipc_core.specs.declared.command.Command.TheVariants as command;
@@ -15,7 +15,7 @@ ghost use Rattle.ipc_exchange.specs.Feeding.{has_finished};
 ghost use Rattle.ipc_exchange.specs.Service.{at_rest, delivered, line_at, place_of};
 ghost use Rattle.ipc_exchange.specs.Service.{told_line, told_outcome, with_line, without_bytes};
 ghost use Rattle.ipc_exchange.specs.Serving.{Asked, Does, DoesAlone, Leaves, MayLack, Serves, ServesBy, Tells};
-ghost use Rattle.ipc_exchange.specs.Serving.{every_entry};
+ghost use Rattle.ipc_exchange.specs.Serving.{first_kernel};
 ghost use Rattle.ipc_exchange.specs.Slots.{CanDo, CanReact, CanServe, CanTell, NoneServes, Ready};
 ghost use Rattle.ipc_exchange.specs.Slots.{StaysReady, lines_of, service_of, slot_at, stage_at};
 ghost use Rattle.ipc_exchange.specs.Slots.{table_told};
@@ -55,7 +55,7 @@ impl Service {
     /// A kernel with these limits, and no connection.
     pub(crate) fn new(alloc: Global, limits: Limits) -> Result<Service, AllocError>
         ensures service { IfOk result (λ service. service_of service ≡ record {
-          kernel = empty_kernel (min limits.entries max_entries) (min limits.calls max_calls);
+          kernel = first_kernel (min limits.entries max_entries) (min limits.calls max_calls);
           lines = [];
         }) }
         ensures ready { IfOk result (λ service. Ready service) }
@@ -249,7 +249,8 @@ impl Service {
     }
 
     fn obey(&mut self, command: Command) -> Told
-        ensures kernel { (answer : Answer) × MayObeyAgain every_entry self.old.kernel command answer self.new.kernel
+        ensures kernel { (answer : Answer)
+            × MayObeyAgain self.old.kernel.held.mark self.old.kernel command answer self.new.kernel
             × (result ≡ told_of answer) }
         ensures slots { self.new.slots ≡ self.old.slots }
         ensures table { self.new.table ≡ self.old.table }

@@ -81,11 +81,10 @@ pub record Acts {C : Type 0} (old new : KernelParts) (now : ℕ) (seat : Option 
   pub ticks : Ticks old between now
   pub does : StepDoes between seat command answer new
 
--- before a step memory may let go of entries, which changes no answer
+-- before a step memory may let go of entries that are marked, which changes no answer
 pub record LetGo (old new : KernelParts) : Type 0 where
-  pub upto : ℕ
   pub done : Compacted
-  pub compacts : Compacts old new upto done
+  pub compacts : Compacts old new old.held.mark done
 
 abbrev pub MayLetGo : KernelParts → KernelParts → Type 0
 MayLetGo old new = (new ≡ old) ⊎ LetGo old new

@@ -3,6 +3,7 @@ ghost use Rattle.ipc_connection.specs.Asking.{command_of};
 ghost use Rattle.std.specs.Prelude.{◌≡◌, ◌+◌, ◌*◌, ◌≤◌, IfSome, IfNone, length};
 ghost use Rattle.ipc_core.specs.Effects.{Gives};
 ghost use Rattle.ipc_core.specs.Outcomes.{made_by};
+ghost use Rattle.ipc_history.specs.Holding.{marked_to};
 ghost use Rattle.ipc_history.specs.Paired.{Paired};
 ghost use Rattle.ipc_history.specs.Threads.{is_live};
 ghost use Rattle.ipc_lock.specs.Acting.{ActsOn, AnswersStep, Asked, AsksOn, GivesSeat, HandsBack, MayLetGo};
@@ -169,17 +170,21 @@ impl<C: Ledger, T: Ledger, P: PenPort + Drop> Inside<C, T, P> {
     fn let_go(&mut self)
         ensures lets_go { MayLetGo self.old.locked.kernel self.new.locked.kernel }
     {
-        if self.upkeep.is_due(self.locked.held()) {
-            let done = self.locked.compact(self.upkeep.marked());
-            self.upkeep.restart(done.left, self.locked.entries());
+        let marked = self.locked.marked();
+        if self.upkeep.is_due(self.locked.held(), marked) {
+            let done = self.locked.compact_marked();
+            let reached = marked.min(self.locked.entries());
+            self.upkeep.restart(done.left, reached);
         }
     }
 
     /// The entries before a place of the history, counted from 0, are not read any more.
     pub(crate) fn mark(&mut self, upto: usize)
-        ensures { self.new.locked ≡ self.old.locked }
+        ensures { self.new.locked.kernel ≡ record self.old.locked.kernel {
+          held = marked_to upto self.old.locked.kernel.held;
+        } }
     {
-        self.upkeep.mark(upto);
+        self.locked.mark(upto);
     }
 
     /// What is to be done after the last step: the pens of those whom it told something are taken out, first that of this box.

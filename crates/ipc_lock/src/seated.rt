@@ -2,7 +2,7 @@
 ghost use Rattle.std.specs.Prelude.{◌≡◌, ◌+◌, ◌*◌, ◌≤◌, ◌<◌, ◌^◌, [], ◌∷◌, false, None, Some, length, min, slice_get};
 ghost use Rattle.std.specs.Prelude.{IfOk, IfErr, IfSome, OnOk, OnErr, IfNone};
 ghost use Rattle.ipc_history.specs.Calls.{calls_made};
-ghost use Rattle.ipc_history.specs.Holding.{held_of};
+ghost use Rattle.ipc_history.specs.Holding.{held_of, marked_to};
 ghost use Rattle.ipc_history.specs.Legal.{Legal, Quiet};
 ghost use Rattle.ipc_history.specs.Paired.{Paired};
 ghost use Rattle.ipc_history.specs.Threads.{is_live};
@@ -625,13 +625,28 @@ impl<C: Ledger, T: Ledger> Locked<C, T> {
         self.kernel.held()
     }
 
-    /// Lets go of the entries before a place of the history, counted from 0, but of those that entered the calls that are open. No
-    /// later answer changes. Takes no memory.
-    pub fn compact(&mut self, upto: usize) -> Compacted
-        ensures { Compacts self.old.kernel self.new.kernel upto result }
+    /// Marks the entries before a place of the history, counted from 0: a compaction may let go of them. The mark does not go back, and
+    /// nothing else changes. Takes no memory.
+    pub fn mark(&mut self, upto: usize)
+        ensures { self.new.kernel ≡ record self.old.kernel { held = marked_to upto self.old.kernel.held } }
     {
         let Locked { kernel, .. } = self;
-        kernel.compact(upto)
+        kernel.mark(upto);
+    }
+
+    /// The place up to which the entries are marked, 0 at first.
+    pub(crate) fn marked(&self) -> usize
+        ensures { result ≡ self.now.kernel.held.mark }
+    {
+        self.kernel.marked()
+    }
+
+    /// Lets go of the entries before the mark that need not be kept. No later answer changes. Takes no memory.
+    pub fn compact_marked(&mut self) -> Compacted
+        ensures { Compacts self.old.kernel self.new.kernel self.old.kernel.held.mark result }
+    {
+        let Locked { kernel, .. } = self;
+        kernel.compact_marked()
     }
 
     /// A copy of the entry of this place of the history, counted from 0. None where the history has none there.

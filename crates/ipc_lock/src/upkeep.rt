@@ -1,6 +1,4 @@
 //! When memory lets go of entries of the history.
-ghost use Rattle.std.specs.Prelude.{◌≡◌};
-
 use ipc_core::Command;
 
 /// So many entries are held before any is let go.
@@ -16,8 +14,6 @@ const NEAR_THE_LIMIT: usize = 16_384;
 /// or near the limit, where many more may be let go than before.
 #[derive(Drop)]
 pub(crate) struct Upkeep {
-    // the entries before this place of the history may be let go
-    marked: usize,
     // the mark of the last time
     reached: usize,
     // so many entries are held the next time
@@ -32,24 +28,11 @@ impl Upkeep {
     /// Nothing may be let go yet.
     pub(crate) fn new(limit: u64) -> Upkeep {
         Upkeep {
-            marked: 0,
             reached: 0,
             next: FEW_ENTRIES,
             bytes: 0,
             near: (limit as usize).saturating_sub(NEAR_THE_LIMIT),
         }
-    }
-
-    /// The entries before a place of the history may be let go. The place never goes back.
-    pub(crate) fn mark(&mut self, upto: usize) {
-        self.marked = self.marked.max(upto);
-    }
-
-    /// The entries before this place may be let go.
-    pub(crate) fn marked(&self) -> usize
-        ensures { result ≡ self.now.marked }
-    {
-        self.marked
     }
 
     /// Counts the strings of a command.
@@ -59,15 +42,15 @@ impl Upkeep {
         }
     }
 
-    /// Whether entries are to be let go now, where so many are held.
-    pub(crate) fn is_due(&self, held: usize) -> bool {
-        let more = self.marked.saturating_sub(self.reached);
+    /// Whether entries are to be let go now, where so many are held, and the history is marked up to a place.
+    pub(crate) fn is_due(&self, held: usize, marked: usize) -> bool {
+        let more = marked.saturating_sub(self.reached);
         held >= self.next || self.bytes >= FEW_BYTES || held >= self.near && more >= FEW_ENTRIES
     }
 
-    /// Begins anew, where so many entries were left of so many.
-    pub(crate) fn restart(&mut self, left: usize, total: usize) {
-        self.reached = self.marked.min(total);
+    /// Begins anew, where so many entries were left, and those before a place had their chance to go.
+    pub(crate) fn restart(&mut self, left: usize, reached: usize) {
+        self.reached = reached;
         self.next = left.saturating_mul(2).max(FEW_ENTRIES);
         self.bytes = 0;
     }

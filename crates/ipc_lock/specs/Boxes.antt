@@ -1,5 +1,5 @@
 -- What a box gives its pen next, what becomes of its seat, and what a reader's end is told.
-use Rattle.std.specs.Prelude.{◌≡◌, ◌==◌, ◌+◌, ◌++◌, ◌∷◌, [], ℕ, List, Option, Some, None, Bool, true, false, ⊤}
+use Rattle.std.specs.Prelude.{◌≡◌, ◌==◌, ◌+◌, ◌++◌, ◌∷◌, ◌||◌, [], ℕ, List, Option, Some, None, Bool, MatchBool, true, false, is_some, not, ⊤}
 use Rattle.ipc_core.specs.KernelParts.{KernelParts}
 use Rattle.ipc_core.specs.Effects.{Gives}
 use Rattle.ipc_frame.specs.Frames.{spelling}
@@ -73,6 +73,17 @@ pub record Loads {T : Type 0} (old new : KernelParts) (seat : Option (TakeSeat T
   pub first : LooksFirst old new seat (Some next)
   pub out : ComesOut posted (Some next)
   pub goes_on : GoesOn before next pen
+
+-- the pen lies in its box and is at its end
+abbrev pub is_idle : Option Page → Bool
+is_idle None = false
+is_idle (Some pen) = not (is_some pen.rest || pen.failed)
+
+-- no pen comes out: it is out or not at its end, and nothing was taken; or there is nothing to tell, and nothing is left in the box
+abbrev pub TellsNothing : {T : Type 0} → KernelParts → KernelParts → Option (TakeSeat T) → Option Page
+    → Option Told → Option Told → Type 0
+TellsNothing old new seat pen posted left =
+    MatchBool (is_idle pen) (LooksFirst old new seat None × (left ≡ None)) ((new ≡ old) × (left ≡ posted))
 
 -- a pen of this box, to which nothing was given
 abbrev pub NewPen : Option Page → ℕ → Type 0

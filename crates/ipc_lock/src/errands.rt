@@ -1,4 +1,5 @@
 //! The pens that a step took out.
+use crate::entered::Entered;
 use ipc_pen::{Patience, Pen, PenPort};
 
 /// The pens with which a thread writes what its step told, its own connection's first. At most three: the writers of the others are
@@ -27,6 +28,14 @@ impl<P: PenPort + Drop> Errands<P> {
     /// Whether no more pens have room.
     pub(crate) fn is_full(&self) -> bool {
         self.third.is_some()
+    }
+
+    /// How far the call is that the connection of this box entered.
+    pub(crate) fn entered(&self, own: usize) -> Entered {
+        match &self.first {
+            Some(pen) if pen.place() == own => Entered::Over,
+            _ => Entered::Open,
+        }
     }
 
     /// Adds a pen behind the others. Where there is no room it is handed back.

@@ -13,7 +13,6 @@ ghost use Rattle.ipc_lock.specs.Seats.{TakesNothing};
 ghost use Rattle.ipc_pen.specs.Pens.{BeginsEmpty};
 ghost use Rattle.ipc_words.specs.Limits.{max_command_entries};
 
-use crate::entered::Entered;
 use crate::errands::Errands;
 use crate::not_given::NotGiven;
 use crate::post_box::{PostBox, Work};
@@ -30,11 +29,9 @@ use std::alloc::{AllocError, Global};
 use std::sync::ledger::Ledger;
 use std::sync::{Arc, Condvar};
 
-/// What is to be done once the lock is free again after a step.
+/// Who is to be woken once the lock is free again after a step.
 #[derive(Drop)]
-pub(crate) struct After<P: PenPort + Drop> {
-    /// What is to be written.
-    pub(crate) errands: Errands<P>,
+pub(crate) struct After {
     /// Whether those who wait for an outcome without a box are concerned.
     pub(crate) strays: bool,
     /// Whether the trace waits for the entries that came.
@@ -43,16 +40,6 @@ pub(crate) struct After<P: PenPort + Drop> {
     pub(crate) wakes_ticker: bool,
     /// Whether a transfer has begun.
     pub(crate) begun: bool,
-}
-
-impl<P: PenPort + Drop> After<P> {
-    /// How far the call is that the connection of this box entered.
-    pub(crate) fn entered(&self, own: usize) -> Entered {
-        match &self.errands.first {
-            Some(pen) if pen.place() == own => Entered::Over,
-            _ => Entered::Open,
-        }
-    }
 }
 
 /// The kernel with its books, the boxes, which of them are free, and for each thread number the box where its outcomes are told.
@@ -187,13 +174,12 @@ impl<C: Ledger, T: Ledger, P: PenPort + Drop> Inside<C, T, P> {
         self.locked.mark(upto);
     }
 
-    /// What is to be done after the last step: the pens of those whom it told something are taken out, first that of this box.
-    pub(crate) fn after(&mut self, own: Option<usize>) -> After<P>
+    /// Who is to be woken after the last step. The pens of those whom it told something are taken out, first that of this box.
+    pub(crate) fn after(&mut self, own: Option<usize>, errands: &mut Errands<P>) -> After
         ensures only { OnlyTakes self.old.locked.kernel self.new.locked.kernel }
     {
-        let errands = self.gather(own);
+        self.gather(own, errands);
         After {
-            errands,
             strays: self.strays,
             tells_trace: self.tells_trace(),
             wakes_ticker: self.wakes_ticker(),
@@ -202,17 +188,15 @@ impl<C: Ledger, T: Ledger, P: PenPort + Drop> Inside<C, T, P> {
     }
 
     /// The pens of this box, and of those whose calls the last step finished.
-    fn gather(&mut self, own: Option<usize>) -> Errands<P>
+    fn gather(&mut self, own: Option<usize>, errands: &mut Errands<P>)
         ensures only { OnlyTakes self.old.locked.kernel self.new.locked.kernel }
     {
-        let mut errands = Errands::none();
         if let Some(place) = own {
-            self.load(place, &mut errands);
+            self.load(place, errands);
         }
         'finished: for index in 0..self.finished.len() {
-            self.load_for(index, &mut errands);
+            self.load_for(index, errands);
         }
-        errands
     }
 
     /// The pen of one whose call the last step finished.
@@ -247,31 +231,28 @@ impl<C: Ledger, T: Ledger, P: PenPort + Drop> Inside<C, T, P> {
     }
 
     /// Lays pens down, each in its own box, and takes those out again for which something came meanwhile.
-    pub(crate) fn take_back(&mut self, errands: Errands<P>) -> Errands<P>
+    pub(crate) fn take_back(&mut self, errands: &mut Errands<P>)
         ensures only { OnlyTakes self.old.locked.kernel self.new.locked.kernel }
     {
-        let Errands {
-            first,
-            second,
-            third,
-        } = errands;
-        Errands {
-            first: self.look_again(first),
-            second: self.look_again(second),
-            third: self.look_again(third),
-        }
+        self.look_again(&mut errands.first);
+        self.look_again(&mut errands.second);
+        self.look_again(&mut errands.third);
     }
 
     /// Lays a pen down in its own box, and takes it out again where something came meanwhile.
-    fn look_again(&mut self, pen: Option<Pen<P>>) -> Option<Pen<P>>
+    fn look_again(&mut self, pen: &mut Option<Pen<P>>)
         ensures only { OnlyTakes self.old.locked.kernel self.new.locked.kernel }
     {
-        let pen = pen?;
+        if pen.is_none() {
+            return;
+        }
+        let Some(own) = pen.take() else {
+            return;
+        };
         let Inside { locked, boxes, .. } = self;
-        let post_box = boxes.get_mut(pen.place())?;
-        // the box is its own
-        let _ = post_box.lay(pen);
-        post_box.load(locked)
+        if let Some(post_box) = boxes.get_mut(own.place()) {
+            *pen = post_box.look_again(locked, own);
+        }
     }
 
     /// What a box's writer does next; None while there is nothing to do.

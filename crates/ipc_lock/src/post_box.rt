@@ -1,7 +1,7 @@
 //! The box of a connection: what its client is told next, and the pen that writes it.
-ghost use Rattle.std.specs.Prelude.{◌≡◌, None, Some, true, false, IfOk, OnOk, OnErr, IfErr, IfSome, IfNone, is_some, ◌||◌, not};
+ghost use Rattle.std.specs.Prelude.{◌≡◌, ◌≢◌, None, Some, true, false, IfOk, OnOk, OnErr, IfErr, IfSome, IfNone, is_some, ◌||◌, not};
 ghost use Rattle.ipc_connection.specs.declared.replying.Told.TheVariants as told;
-ghost use Rattle.ipc_lock.specs.Boxes.{ComesOut, Loads, LooksFirst, NewPen, OnlyTakes, SeatAfter, is_own};
+ghost use Rattle.ipc_lock.specs.Boxes.{ComesOut, Loads, LooksFirst, NewPen, OnlyTakes, SeatAfter, TellsNothing, is_idle, is_own};
 ghost use Rattle.ipc_pen.specs.Pens.{BeginsEmpty};
 
 use crate::seated::{Locked, TakeSeat};
@@ -166,23 +166,51 @@ impl<T: Ledger, P: PenPort + Drop> PostBox<T, P> {
         }
     }
 
+    /// Whether the pen lies here and is at its end.
+    fn is_idle(&self) -> bool
+        ensures { result ≡ is_idle self.now.pen }
+    {
+        match &self.pen {
+            Some(pen) => pen.is_ready(),
+            None => false,
+        }
+    }
+
     /// Takes the pen out with what the client is told next. None where the pen is out or not at its end, or nothing is there.
     pub(crate) fn load<C: Ledger>(&mut self, locked: &mut Locked<C, T>) -> Option<Pen<P>>
         ensures loads { IfSome result (λ pen.
             Loads locked.old.kernel locked.new.kernel self.old.seat self.old.posted self.old.pen pen) }
         ensures stays { IfNone result (self.new.pen ≡ self.old.pen) }
+        ensures nothing { IfNone result (TellsNothing locked.old.kernel locked.new.kernel
+            self.old.seat self.old.pen self.old.posted self.new.posted) }
         ensures only { OnlyTakes locked.old.kernel locked.new.kernel }
         ensures shut { self.new.shut ≡ self.old.shut }
     {
-        let mut pen = self.pen.take()?;
-        if pen.is_ready() {
-            if let Some(given) = self.next(locked) {
-                pen.give(given);
-                return Some(pen);
-            }
+        if !self.is_idle() {
+            return None;
         }
-        self.pen = Some(pen);
-        None
+        let given = self.next(locked)?;
+        let mut pen = self.pen.take()?;
+        pen.give(given);
+        Some(pen)
+    }
+
+    /// Lays the box's own pen down, and takes it out again where something came meanwhile.
+    pub(crate) fn look_again<C: Ledger>(
+        &mut self,
+        locked: &mut Locked<C, T>,
+        pen: Pen<P>,
+    ) -> Option<Pen<P>>
+        ensures looks { IfNone result (pen.place ≡ self.old.place → TellsNothing
+            locked.old.kernel locked.new.kernel self.old.seat (Some pen) self.old.posted self.new.posted) }
+        ensures only { OnlyTakes locked.old.kernel locked.new.kernel }
+        ensures shut { self.new.shut ≡ self.old.shut }
+    {
+        // the box is its own
+        if self.lay(pen).is_some() {
+            return None;
+        }
+        self.load(locked)
     }
 
     /// What the writer does next: it goes on with a frame that is not at its end, or takes the pen out with what is next. None while
@@ -215,6 +243,7 @@ impl<T: Ledger, P: PenPort + Drop> PostBox<T, P> {
     pub(crate) fn lay(&mut self, pen: Pen<P>) -> Option<Pen<P>>
         ensures laid { IfNone result ((pen.place ≡ self.old.place) × (self.new.pen ≡ Some pen)) }
         ensures back { IfSome result (λ back. (back ≡ pen) × (self.new.pen ≡ self.old.pen)) }
+        ensures other { IfSome result (λ _. pen.place ≢ self.old.place) }
         ensures posted { self.new.posted ≡ self.old.posted }
         ensures shut { self.new.shut ≡ self.old.shut }
         ensures seat { self.new.seat ≡ self.old.seat }

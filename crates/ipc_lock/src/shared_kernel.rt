@@ -119,14 +119,15 @@ impl<C: Ledger, T: Ledger, P: PenPort + Drop> SharedKernel<C, T, P> {
         ensures takes { GivesSeat result.answer result.takes }
         ensures back { HandsBack command result.answer result.back }
     {
+        let mut errands = Errands::none();
         let mut inside = self.inside(rt);
         let answered = inside.act(now, seat, command);
-        let after = inside.after(None);
+        let after = inside.after(None, &mut errands);
         drop(inside);
         if after.begun {
             self.work.notify_one();
         }
-        self.settle(rt, after);
+        self.settle(rt, after, &mut errands);
         answered
     }
 
@@ -191,11 +192,12 @@ impl<C: Ledger, T: Ledger, P: PenPort + Drop> SharedKernel<C, T, P> {
         };
         let (told, seat) = inside.ask(now, end.place, end.seat.take(), request, space);
         end.seat = seat;
-        let after = inside.after(Some(end.place));
+        let mut errands = Errands::none();
+        let after = inside.after(Some(end.place), &mut errands);
         drop(inside);
         let begun = after.begun;
-        let entered = after.entered(end.place);
-        self.settle(rt, after);
+        let entered = errands.entered(end.place);
+        self.settle(rt, after, &mut errands);
         if begun {
             self.move_blocks(rt, now);
         }
@@ -211,7 +213,7 @@ impl<C: Ledger, T: Ledger, P: PenPort + Drop> SharedKernel<C, T, P> {
         let mut errands = Errands::none();
         inside.load(end.place, &mut errands);
         drop(inside);
-        self.carry(rt, errands);
+        self.carry(rt, &mut errands);
     }
 
     /// Ends the thread of a reader's end, if there is one, and shuts its box.
@@ -231,12 +233,13 @@ impl<C: Ledger, T: Ledger, P: PenPort + Drop> SharedKernel<C, T, P> {
             return;
         };
         let _ = inside.act(now, None, Command::Broke(thread));
-        let after = inside.after(None);
+        let mut errands = Errands::none();
+        let after = inside.after(None, &mut errands);
         drop(inside);
         if after.begun {
             self.work.notify_one();
         }
-        self.settle(rt, after);
+        self.settle(rt, after, &mut errands);
     }
 
     /// Waits until a box's pen lies there with something to write that nobody else has taken, and takes it out. None once nothing more
@@ -261,8 +264,8 @@ impl<C: Ledger, T: Ledger, P: PenPort + Drop> SharedKernel<C, T, P> {
     pub fn give_back<R: Wait>(&self, rt: &R, pen: Pen<P>) {
         let mut errands = Errands::none();
         let _ = errands.add(pen);
-        let again = self.inside(rt).take_back(errands);
-        self.carry(rt, again);
+        self.inside(rt).take_back(&mut errands);
+        self.carry(rt, &mut errands);
     }
 
     /// Takes the lock once the box is empty. None once it is shut.
@@ -286,7 +289,7 @@ impl<C: Ledger, T: Ledger, P: PenPort + Drop> SharedKernel<C, T, P> {
     }
 
     /// Wakes those whom a step concerns, and writes what it told.
-    fn settle<R: Wait>(&self, rt: &R, after: After<P>) {
+    fn settle<R: Wait>(&self, rt: &R, after: After, errands: &mut Errands<P>) {
         if after.strays {
             self.strays.notify_all();
         }
@@ -296,18 +299,17 @@ impl<C: Ledger, T: Ledger, P: PenPort + Drop> SharedKernel<C, T, P> {
         if after.wakes_ticker {
             self.ticker.notify_all();
         }
-        self.carry(rt, after.errands);
+        self.carry(rt, errands);
     }
 
     /// Writes with pens, each as far as its device has room now, and lays them down; what came meanwhile is written, too.
-    fn carry<R: Wait>(&self, rt: &R, errands: Errands<P>) {
-        let mut errands = errands;
+    fn carry<R: Wait>(&self, rt: &R, errands: &mut Errands<P>) {
         for _ in rt.forever() {
             if errands.is_empty() {
                 return;
             }
             errands.write();
-            errands = self.inside(rt).take_back(errands);
+            self.inside(rt).take_back(errands);
         }
     }
 
@@ -316,9 +318,10 @@ impl<C: Ledger, T: Ledger, P: PenPort + Drop> SharedKernel<C, T, P> {
         for _ in 0..MOST_BLOCKS {
             let mut inside = self.inside(rt);
             let answered = inside.act(now, None, Command::Advance);
-            let after = inside.after(None);
+            let mut errands = Errands::none();
+            let after = inside.after(None, &mut errands);
             drop(inside);
-            self.settle(rt, after);
+            self.settle(rt, after, &mut errands);
             if !matches!(answered.answer(), Answer::Advanced(Advance::Moved)) {
                 return;
             }

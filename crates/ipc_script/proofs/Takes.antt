@@ -9,7 +9,7 @@ use Rattle.std.proofs.lemmas.List.Folds.{list_any-append}
 use Rattle.std.proofs.lemmas.Option.{none-some}
 use Rattle.ipc_history.specs.Words.{first_some}
 use Rattle.ipc_history.specs.Calls.{caller_of}
-use Rattle.ipc_history.specs.Outcomes.{OutcomeParts, outcome_in, outcome_of, nothing}
+use Rattle.ipc_history.specs.Outcomes.{OutcomeParts, end_moment, outcome_in, outcome_of, nothing, timed}
 use Rattle.ipc_history.specs.Phases.{is_over}
 use Rattle.ipc_history.specs.Threads.{has_broken, is_live, was_opened}
 use Rattle.ipc_history.specs.declared.entry.Entry.{Entry}
@@ -35,7 +35,7 @@ use Rattle.ipc_script.proofs.Stages.{Stage}
 told_of : (H : List Entry) (n : ℕ) → is_over H n ≡ true → has_broken H (caller_of H n) ≡ false
     → (o : OutcomeParts) × (outcome_of H n ≡ Some o)
 unfolding outcome_of
-told_of H n over alive = (unwrap_or (first_some (outcome_in H n) H) (nothing n), rw (over, alive) refl)
+told_of H n over alive = (timed (end_moment H n) (unwrap_or (first_some (outcome_in H n) H) (nothing n)), rw (over, alive) refl)
 
 -- what a thread has to take: the outcome of its last call, once that is over
 pub record HasLast (k : KernelParts) (thread : ℕ) : Type 0 where

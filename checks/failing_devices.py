@@ -146,6 +146,42 @@ def trace_wrongs(shim, l4sh, l4d):
         yield f"line {place} of standard output fails", wrong or (None if is_so else f"{status}, {out}, {told}")
 
 
+def migration_wrongs(shim, l4sh, trace, new):
+    """What was tried of the migration of a torn trace, and what is wrong with it or with the new trace."""
+    words = [l4sh, "migrate", trace, new]
+
+    def migrate(**wishes):
+        if os.path.exists(new):
+            os.remove(new)
+        ran = shim.run(words, **wishes)
+        if not os.path.exists(new):
+            return ran, b""
+        with open(new, "rb") as file:
+            return ran, file.read()
+
+    usual, whole = migrate()
+    yield "nothing fails", None if usual == (0, b"torn\n", b"") and whole.startswith(b"l4trace 2\n") else f"{usual}, {whole[:100]}"
+    for kind in ("read", "write", "open"):
+        count = shim.count(words, b"", fail_kind=kind)
+        for place in places(count):
+            ran, made = migrate(fail_kind=kind, fail_at=place, fail_errno=errno.EIO)
+            wrong = is_as_failed(ran, usual, "migrate", (trace, new)[place - 1] if kind == "open" else None)
+            yield f"{kind} {place} of {count} fails", wrong or (None if whole.startswith(made) else "the new trace is no front of the usual one")
+        if kind != "open":
+            ran = migrate(fail_kind=kind, one_byte=1)
+            yield f"each {kind} moves one byte", None if ran == (usual, whole) else f"it is not as usual: {ran}"
+
+
+def torn_trace(l4sh, room):
+    """The file of a trace whose last line lacks its newline."""
+    path = f"{room}/torn.trace"
+    with open(f"{ROOT}/examples/rendezvous.l4", "rb") as file:
+        printed = subprocess.run([l4sh, "run"], stdin=file, capture_output=True, check=True).stdout
+    with open(path, "wb") as file:
+        file.write(b"".join(line for line in printed.splitlines(keepends=True) if not line.startswith((b"=", b"!"))) + b"opened")
+    return path
+
+
 def commands(l4sh, every, room):
     """The name of each command that is looked at, its words, what it reads, and the file that it opens."""
     examples = sorted(glob.glob(f"{ROOT}/examples/*.l4"))
@@ -180,6 +216,7 @@ def main(words):
     with tempfile.TemporaryDirectory() as room:
         shim = Shim(room)
         looks = [(name, wrongs_of(shim, *more)) for name, *more in commands(l4sh, every, room)]
+        looks += [("migrate", migration_wrongs(shim, l4sh, torn_trace(l4sh, room), f"{room}/new"))]
         looks += [("l4d", trace_wrongs(shim, l4sh, l4d)) for l4d in others]
         for name, tried in looks:
             for what, wrong in tried:

@@ -4,7 +4,7 @@
     checks/made_traces.py [--seed N] SCRIPT..
 
 Takes the traces of the scripts and of scripts made at random, of which both say `yes`. Of each it makes others: an entry
-is left out, doubled, moved to another place, or changed in one field. Of each `l4sh check` has to say what the rules say:
+is left out, doubled, moved to another place, or changed in one field. They are written in both versions in turn. Of each `l4sh check` has to say what the rules say:
 `yes`, or the first line that does not follow and what was expected there. It builds l4sh first by running it; the seed makes
 it repeat a run."""
 import os
@@ -206,17 +206,20 @@ def made_traces(some, lines):
             yield "changed", place, lines[:place] + [other] + lines[place + 1 :]
 
 
-def told(lines, path):
-    """What l4sh check prints of these lines, and its status."""
+def told(header, lines, path):
+    """What l4sh check prints of these lines behind a header, and its status."""
     with open(path, "w") as file:
-        file.write("".join(line + "\n" for line in lines))
+        file.write("".join(line + "\n" for line in header + lines))
     return run(["check", path])
 
 
-def wanted(lines, good):
-    """What it has to print: of the lines the first so many are known to be good."""
+def wanted(header, lines, good):
+    """What it has to print: of the lines behind the header the first so many are known to be good."""
     found = rules.verdict(lines, good)
-    return (0, "yes\n") if found is None else (3, "no %d %s\n" % found)
+    if found is None:
+        return 0, "yes\n"
+    number, expected = found
+    return 3, f"no {number + len(header)} {expected}\n"
 
 
 def main(words):
@@ -238,7 +241,9 @@ def main(words):
                 outputs[line.split(" ")[0]] = outputs.get(line.split(" ")[0], 0) + 1
             for kind, good, made in [("whole", 0, lines), *made_traces(some, lines)]:
                 kinds[kind] += 1
-                said, right = told(made, path), wanted(made, good)
+                # both versions in turn
+                header = ["l4trace 2"] if sum(kinds.values()) % 2 else []
+                said, right = told(header, made, path), wanted(header, made, good)
                 yes += right[0] == 0
                 if said != right or kind == "whole" and right[0] != 0:
                     failed += 1

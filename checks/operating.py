@@ -347,7 +347,17 @@ def traces():
         assert (told[0], told[1]) == (1, ""), told
         has(told[2], "l4d: trace TR1\n", "cannot be opened", "No such file", "--trace-required")
         assert not os.path.exists(f"{folder}/space1")
-        with Server("--trace", "/dev/full", "--trace-required") as server:
+        told = run("--dir", folder, "--spaces", "1", "--trace", "/dev/full", "--trace-required")
+        assert (told[0], told[1]) == (1, ""), told
+        has(told[2], "l4d: trace TR1\n", "--trace-required")
+        assert not os.path.exists(f"{folder}/space1")
+
+        def little_room():
+            # room for the line of the version, and a write past it fails
+            signal.signal(signal.SIGXFSZ, signal.SIG_IGN)
+            resource.setrlimit(resource.RLIMIT_FSIZE, (len("l4trace 2\n"),) * 2)
+
+        with Server("--trace", f"{folder}/short", "--trace-required", preexec_fn=little_room) as server:
             try:
                 client = Client(server.path, 1)
                 assert client.is_shut(5)
@@ -356,7 +366,7 @@ def traces():
             status, out, err = server.end()
             assert status == 1 and not os.path.exists(server.path), (status, out, err)
             has(err, "l4d: trace TR1\n", "--trace-required")
-        return "mode 0600; at the start, and on a full device, status 1"
+        return "mode 0600; at the start, on a full device, and at a later write that fails, status 1"
 
 
 def signals():
@@ -375,7 +385,7 @@ def signals():
                 assert (status, out) == (0, "closed\n"), (status, out, err)
                 assert not os.path.exists(server.path)
                 text = open(f"{place}/trace").read()
-                assert text.endswith("\n") and "opened 1.1 1" in text and "broke 2.1\n" in text, text
+                assert text.startswith("l4trace 2\n") and text.endswith("\n") and "opened 1.1 1" in text and "broke 2.1\n" in text, text
     # one that is blocked alone ends it too
     alone = lambda: signal.pthread_sigmask(signal.SIG_BLOCK, (signal.SIGTERM,))
     with Server(preexec_fn=alone) as server:

@@ -305,9 +305,11 @@ def judged(trace):
     told = subprocess.run([ROOT + "/l4sh", "check", trace], capture_output=True)
     assert (told.returncode, told.stdout) == (0, b"yes\n"), told
     counts = {}
-    for line in open(trace):
-        kind = line.split(" ")[0]
-        counts[kind] = counts.get(kind, 0) + 1
+    with open(trace) as lines:
+        assert next(lines) == "l4trace 2\n"
+        for line in lines:
+            kind = line.split(" ")[0]
+            counts[kind] = counts.get(kind, 0) + 1
     print("a trace of %d entries: yes, in %.1f s" % (sum(counts.values()), time.time() - begin))
     return counts
 

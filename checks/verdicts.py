@@ -5,7 +5,8 @@
 
 The entry lines that a script prints, without its answer lines, are a trace of which `l4sh check` says `yes`. With one output line left
 out that is not the last line, it says `no N EXPECTED`, where N is the place of that line and EXPECTED the line itself. With the last
-newline left out, it says `torn` behind its verdict on the lines before. Anything else is told, and the status is then 1."""
+newline left out, it says `torn` behind its verdict on the lines before. All this holds of both versions of the trace, in version 2 with the
+first line counted. Anything else is told, and the status is then 1."""
 import os
 import subprocess
 import sys
@@ -13,6 +14,7 @@ import tempfile
 
 ROOT = os.path.dirname(os.path.dirname(os.path.abspath(__file__)))
 PROGRAM = f"{ROOT}/crates/ipc_shell/out/l4sh"
+VERSION_2 = b"l4trace 2\n"
 OUTPUTS = (b"began ", b"turned ", b"ended ", b"overflowed ", b"aborted ", b"failed ")
 
 
@@ -27,26 +29,27 @@ def trace_of(script):
     return [line for line in printed.splitlines(keepends=True) if not line.startswith((b"=", b"!"))]
 
 
-def verdict(lines, room):
-    """The exit status of a check of these lines, and what it prints."""
+def verdict(lines, room, header=b""):
+    """The exit status of a check of these lines behind a header, and what it prints."""
     path = os.path.join(room, "trace")
     with open(path, "wb") as file:
-        file.write(b"".join(lines))
+        file.write(header + b"".join(lines))
     return l4sh(["check", path])
 
 
-def wrongs_of(lines, room):
-    """How many verdicts on these lines were looked at, and what is wrong with them."""
+def wrongs_of(lines, room, header=b""):
+    """How many verdicts on these lines behind a header were looked at, and what is wrong with them."""
     wrongs = []
-    if verdict(lines, room) != (0, b"yes\n"):
+    if verdict(lines, room, header) != (0, b"yes\n"):
         wrongs.append("the trace is not judged yes")
-    if verdict(lines[:-1] + [lines[-1][:-1]], room)[1] != verdict(lines[:-1], room)[1] + b"torn\n":
+    if verdict(lines[:-1] + [lines[-1][:-1]], room, header)[1] != verdict(lines[:-1], room, header)[1] + b"torn\n":
         wrongs.append("a torn last line is not told, or changes the verdict")
     places = [place for place, line in enumerate(lines[:-1]) if line.startswith(OUTPUTS)]
     for place in places:
-        wanted = (3, b"no %d %s" % (place + 1, lines[place]))
-        if verdict(lines[:place] + lines[place + 1 :], room) != wanted:
-            wrongs.append(f"line {place + 1} is left out, and not expected")
+        number = place + 1 + header.count(b"\n")
+        wanted = (3, b"no %d %s" % (number, lines[place]))
+        if verdict(lines[:place] + lines[place + 1 :], room, header) != wanted:
+            wrongs.append(f"line {number} is left out, and not expected")
     return len(places) + 2, wrongs
 
 
@@ -60,11 +63,12 @@ def main():
                 lines = trace_of(file.read())
             if not lines:
                 continue
-            more, wrongs = wrongs_of(lines, room)
-            count += more
-            failed += len(wrongs)
-            for wrong in wrongs:
-                print(f"{path}: {wrong}")
+            for header in (b"", VERSION_2):
+                more, wrongs = wrongs_of(lines, room, header)
+                count += more
+                failed += len(wrongs)
+                for wrong in wrongs:
+                    print(f"{path}: {header.decode()}{wrong}")
     print(f"{count} verdicts, {failed} wrong")
     return 1 if failed or not count else 0
 

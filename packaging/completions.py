@@ -8,7 +8,7 @@ import re, subprocess, sys
 OPTION = re.compile(r"^ +(?:(-\w), +)?(--[\w-]+)(?: <(\w+)>)? +(.*)$")
 COMMAND = re.compile(r"^  ([a-z]\w*) +(\S.*)$")
 # the words that stand for a file or a folder
-PLACES = {"FILE": "file", "DIR": "folder"}
+PLACES = {"FILE": "file", "OLD": "file", "NEW": "file", "DIR": "folder"}
 
 
 class Words:

@@ -115,10 +115,13 @@ fn string_to(alloc: Global, room: u64) -> Result<Vec<Entry>, Fail> {
     let mut strings = StringList::new(alloc);
     let _ = strings.push(alloc, b"abc")?;
     let mut buffers = BufferList::new(alloc);
-    let _ = buffers.push_buffer(alloc, &[Substring {
-        length: room,
-        pointer: 0x1000,
-    }])?;
+    let _ = buffers.push_buffer(
+        alloc,
+        &[Substring {
+            length: room,
+            pointer: 0x1000,
+        }],
+    )?;
     let sends = Call::new(CallFields {
         to: first(2),
         from: ThreadId::NILTHREAD,

@@ -61,8 +61,9 @@ fn trace_fault(number: &[u8]) -> Option<&'static str> {
         b"TR1" => Some("the trace cannot be opened, read or written"),
         b"TR2" => Some("the trace stopped at an earlier fault"),
         b"TR3" => Some("the last line of the trace is torn: it has no newline"),
-        b"TR4" => Some("a line of the trace spells no entry"),
+        b"TR4" => Some("a line of the trace spells no entry, or none that its version may have"),
         b"TR5" => Some("no memory for the trace"),
+        b"TR6" => Some("the first line of the trace tells a version that is not known"),
         _ => None,
     }
 }

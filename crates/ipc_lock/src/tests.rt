@@ -39,10 +39,13 @@ fn receives(alloc: Global, from: ThreadId, receive_period: u16, length: u64) -> 
     let mut buffers = None;
     if length > 0 {
         let mut list = BufferList::new(alloc);
-        list.push_buffer(alloc, &[Substring {
-            length,
-            pointer: 0x10,
-        }])?;
+        list.push_buffer(
+            alloc,
+            &[Substring {
+                length,
+                pointer: 0x10,
+            }],
+        )?;
         buffers = Some(list);
     }
     let call = Call::new(CallFields {

@@ -32,6 +32,10 @@ number_rule id most default = record (new_rule id) {
 abbrev pub file_rule : Rule
 file_rule = record (new_rule (codes "file")) { value_names = 1; required = true }
 
+-- OLD or NEW, which has to be there
+abbrev pub place_rule : Text → Rule
+place_rule id = record (new_rule id) { value_names = 1; required = true }
+
 -- `--ID`, a flag
 abbrev pub flag_rule : Text → Rule
 flag_rule id = record (new_rule id) { long = Some id; action = Some SetTrue }
@@ -117,6 +121,11 @@ talk_places_app = with_rule (with_rule (new_app (codes "talk")) folder_rule)
 abbrev pub talk_app : App
 talk_app = with_rule talk_places_app (first_rule (codes "space") max_space)
 
+-- `migrate` with the trace that it reads and the one that it writes
+abbrev pub migrate_app : App
+migrate_app = with_rule (with_rule (new_app (codes "migrate")) (place_rule (codes "old")))
+    (place_rule (codes "new"))
+
 -- a subcommand of one word
 abbrev pub word_app : Text → App
 word_app name = with_rule (new_app name) word_rule
@@ -148,9 +157,13 @@ abbrev pub counting_app : App
 counting_app = with_subcommand (with_subcommand explaining_app (word_app (codes "period")).top)
     count_app.top
 
+-- `l4sh` with `follow` and `talk` too
+abbrev pub talking_app : App
+talking_app = with_subcommand (with_subcommand counting_app follow_app.top) talk_app.top
+
 -- `l4sh` with its subcommands, of which one has to be there
 abbrev pub shell_app : App
-shell_app = with_subcommand (with_subcommand counting_app follow_app.top) talk_app.top
+shell_app = with_subcommand talking_app migrate_app.top
 
 -- `--ID N`: a number from 1 up to most, by default the one that a text reads as
 abbrev pub count_rule : Text → ℕ → Text → Rule

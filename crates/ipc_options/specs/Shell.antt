@@ -12,7 +12,7 @@ use Rattle.ipc_options.specs.declared.shell.FollowOptions.{FollowOptions}
 use Rattle.ipc_options.specs.declared.shell.ScriptLimits.{ScriptLimits}
 use Rattle.ipc_options.specs.declared.shell.ShellOptions.{ShellOptions}
 use Rattle.ipc_options.specs.declared.shell.ShellOptions.TheVariants.{Run, Wire, Check, Chart, State}
-use Rattle.ipc_options.specs.declared.shell.ShellOptions.TheVariants.{Script, Explain, Tag, Period, Count, Follow, Talk, TalkTo}
+use Rattle.ipc_options.specs.declared.shell.ShellOptions.TheVariants.{Script, Explain, Tag, Period, Count, Follow, Talk, TalkTo, Migrate}
 use Rattle.ipc_options.specs.declared.shell.StateOptions.{StateOptions}
 use Rattle.ipc_options.specs.declared.shell.TalkOptions.{TalkOptions}
 
@@ -43,6 +43,7 @@ IsWithinLimits (Count file is_json) = ⊤
 IsWithinLimits (Follow follow) = ⊤
 IsWithinLimits Talk = ⊤
 IsWithinLimits (TalkTo talk) = AreNumbersWithin talk
+IsWithinLimits (Migrate old new) = ⊤
 
 -- the number that an option has among the matches of a subcommand
 abbrev pub number_in : List Row → Text → Option ℕ
@@ -119,6 +120,8 @@ HasMatchesIn name rows (Count file is_json) = (name ≡ codes "count")
 HasMatchesIn name rows (Follow follow) = (name ≡ codes "follow") × HasFollowIn rows follow
 HasMatchesIn name rows Talk = (name ≡ codes "talk") × HasNoServerIn rows
 HasMatchesIn name rows (TalkTo talk) = (name ≡ codes "talk") × HasTalkIn rows talk
+HasMatchesIn name rows (Migrate old new) = (name ≡ codes "migrate")
+    × (first_of (codes "old") rows ≡ Some old.now) × (first_of (codes "new") rows ≡ Some new.now)
 
 -- the matches have a decimal number within its limit for each limit of a script
 abbrev pub ReadsAsRun : List Row → Type 0
@@ -153,6 +156,10 @@ ReadsAsTalk rows = ReadsOneUpTo rows (codes "thread") max_thread_number
     × (IsNone (first_of (codes "dir") rows) → (number_in rows (codes "thread") ≡ Some 1)
     × (number_in rows (codes "space") ≡ Some 1))
 
+-- the matches have the two files of `migrate`
+abbrev pub ReadsAsMigrate : List Row → Type 0
+ReadsAsMigrate rows = IsSome (first_of (codes "old") rows) × IsSome (first_of (codes "new") rows)
+
 -- the matches have a word
 abbrev pub ReadsAsWord : List Row → Type 0
 ReadsAsWord rows = IsSome (first_of (codes "word") rows)
@@ -172,6 +179,7 @@ Reads name rows = ((name ≡ codes "run") × ReadsAsRun rows)
     ⊎ ((name ≡ codes "count") × ReadsAsCheck rows)
     ⊎ ((name ≡ codes "follow") × ReadsAsCheck rows)
     ⊎ ((name ≡ codes "talk") × ReadsAsTalk rows)
+    ⊎ ((name ≡ codes "migrate") × ReadsAsMigrate rows)
     ⊎ (TakesWord name × ReadsAsWord rows)
 
 -- the options are those that the words, or the defaults, give the subcommand that they name

@@ -12,8 +12,9 @@ ghost use Rattle.ipc_options.specs.Command.{wire_app, word_app, word_rule};
 ghost use Rattle.ipc_options.specs.Shell.{AreWithinLimits, AsksVersion, HasLimitsIn, HasMatchesIn, IsAskedBy, IsFlagIn};
 ghost use Rattle.ipc_options.specs.Shell.{IsTaken, IsWithinLimits, Reads, ReadsAsChart, ReadsAsCheck, ReadsAsRun};
 ghost use Rattle.ipc_options.specs.Shell.{ReadsAsState, ReadsAsWord, TakesWord, TellsVersion, number_in};
-ghost use Rattle.ipc_options.specs.Command.{first_rule, folder_rule, talk_places_app};
-ghost use Rattle.ipc_options.specs.Shell.{IsCountIn, ReadsAsTalk, ReadsOneUpTo};
+ghost use Rattle.ipc_options.specs.Command.{first_rule, folder_rule, migrate_app, place_rule, talk_places_app};
+ghost use Rattle.ipc_options.specs.Command.{talking_app};
+ghost use Rattle.ipc_options.specs.Shell.{IsCountIn, ReadsAsMigrate, ReadsAsTalk, ReadsOneUpTo};
 ghost use Rattle.ipc_words.specs.Limits.{max_space, max_thread_number};
 
 use crate::default_texts::{MAX_CALLS_TEXT, MAX_CHART_ENTRY_TEXT, MAX_ENTRIES_TEXT};
@@ -53,6 +54,8 @@ pub enum ShellOptions<'a> {
     Talk,
     /// `l4sh talk`, with the folder of a live server.
     TalkTo(TalkOptions<'a>),
+    /// `l4sh migrate`, with the path of a trace and that of the one that is written.
+    Migrate { old: &'a str, new: &'a str },
 }
 
 /// The limits of the kernel under a script.
@@ -146,6 +149,13 @@ pub fn shell_options<'a>(alloc: Global, words: &'a [String]) -> Result<ShellOpti
 
 fn shell_command<'a>(alloc: Global) -> Result<Command<'a>, AllocError>
     ensures { IfOk result (λ command. app_of command ≡ shell_app) }
+{
+    talking_command(alloc)?.subcommand(migrate_command(alloc)?)
+}
+
+/// `l4sh` with what it follows and whom it talks to.
+fn talking_command<'a>(alloc: Global) -> Result<Command<'a>, AllocError>
+    ensures { IfOk result (λ command. app_of command ≡ talking_app) }
 {
     counting_command(alloc)?
         .subcommand(follow_command(alloc)?)?
@@ -398,6 +408,26 @@ fn talk_places_command<'a>(alloc: Global) -> Result<Command<'a>, AllocError>
         ))
 }
 
+fn migrate_command<'a>(alloc: Global) -> Result<Command<'a>, AllocError>
+    ensures local { IfOk result (λ command. (fields_of command).has_globals ≡ false) }
+    ensures app { IfOk result (λ command. app_of command ≡ migrate_app) }
+{
+    Command::new(alloc, "migrate")
+        .about("Writes a trace anew, as one of version 2")
+        .arg(place_argument(
+            alloc,
+            "old",
+            "OLD",
+            "The trace that is read, of version 1 or 2",
+        ))?
+        .arg(place_argument(
+            alloc,
+            "new",
+            "NEW",
+            "The file that is written, which is made anew",
+        ))
+}
+
 /// A subcommand of one word.
 fn word_command<'a>(
     alloc: Global,
@@ -422,6 +452,17 @@ fn trace_file<'a>(alloc: Global) -> Arg<'a>
         .value_name("FILE")
         .required(true)
         .help("A trace: the lines of the entries of a history")
+}
+
+/// OLD or NEW.
+fn place_argument<'a>(alloc: Global, id: &'a str, name: &'a str, help: &'a str) -> Arg<'a>
+    ensures local { result.global ≡ false }
+    ensures rule { rule_of result ≡ place_rule id.entry.now }
+{
+    Arg::new(alloc, id)
+        .value_name(name)
+        .required(true)
+        .help(help)
 }
 
 /// DIR.
@@ -585,6 +626,7 @@ fn options_in<'a>(name: &str, found: &ArgMatches<'a>) -> Option<ShellOptions<'a>
         "count" => count_options(found),
         "follow" => follow_options(found),
         "talk" => talk_options(found),
+        "migrate" => migrate_options(found),
         _ => word_options(name, found),
     }
 }
@@ -713,6 +755,17 @@ fn talk_options<'a>(talk: &ArgMatches<'a>) -> Option<ShellOptions<'a>>
         None if thread == 1 && space == 1 => Some(ShellOptions::Talk),
         None => None,
     }
+}
+
+#[tactic(auto, unfolding(crate::specs::Shell::HasMatchesIn))]
+fn migrate_options<'a>(migrate: &ArgMatches<'a>) -> Option<ShellOptions<'a>>
+    ensures limits { IfSome result IsWithinLimits }
+    ensures matches { IfSome result (HasMatchesIn (codes "migrate") (rows_of (found_of migrate.now))) }
+    ensures found { ReadsAsMigrate (rows_of (found_of migrate.now)) → IsSome result }
+{
+    let old = text(migrate, "old")?;
+    let new = text(migrate, "new")?;
+    Some(ShellOptions::Migrate { old, new })
 }
 
 /// The options of the subcommand of this name, of those that take one word.
@@ -1011,7 +1064,14 @@ mod tests {
 
     #[test]
     fn explains_the_word_that_is_given(rt: HostRuntime) -> Result<(), Fail> {
-        let cases: [(&[&str], ShellOptions); 4] = [
+        let cases: [(&[&str], ShellOptions); 5] = [
+            (
+                &["l4sh", "migrate", "here/old", "new"],
+                ShellOptions::Migrate {
+                    old: "here/old",
+                    new: "new",
+                },
+            ),
             (
                 &["l4sh", "explain", "K6"],
                 ShellOptions::Explain { word: "K6" },
@@ -1036,8 +1096,17 @@ mod tests {
 
     #[test]
     fn refuses_words_of_a_trace_or_a_word(rt: HostRuntime) -> Result<(), Fail> {
-        let cases: [(&[&str], ErrorKind); 23] = [
+        let cases: [(&[&str], ErrorKind); 26] = [
             (&["l4sh", "follow"], ErrorKind::MissingRequiredArgument),
+            (&["l4sh", "migrate"], ErrorKind::MissingRequiredArgument),
+            (
+                &["l4sh", "migrate", "old"],
+                ErrorKind::MissingRequiredArgument,
+            ),
+            (
+                &["l4sh", "migrate", "old", "new", "third"],
+                ErrorKind::UnknownArgument,
+            ),
             (
                 &["l4sh", "follow", "trace", "--label"],
                 ErrorKind::InvalidValue,

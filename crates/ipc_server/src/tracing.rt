@@ -61,11 +61,12 @@ pub struct Trace<P: PortWrite> {
 /// The permissions of a trace that is made: its owner alone.
 const OWNER_ONLY: u32 = 0o600;
 
-/// The file of a trace, which is made anew. Where it was not there only its owner may read it.
+/// The file of a trace, which is made anew and has the line of the version. Where it was not there only its owner may
+/// read it.
 ///
 /// # Errors
 ///
-/// TR1: it cannot be opened. TR5: no memory for its lines.
+/// TR1: it cannot be opened or written. TR5: no memory for its lines.
 pub fn trace_file<R: Files<File = File>, L: Ledger>(
     rt: &R,
     alloc: Global,
@@ -84,7 +85,9 @@ pub fn trace_file<R: Files<File = File>, L: Ledger>(
     let Ok(file) = BufWriter::with_capacity(alloc, BUFFER, file) else {
         return Err(TraceFault::from(PutFault::NoMemory));
     };
-    Ok(Trace::new(alloc, WritePort::new(file, failures)))
+    let mut trace = Trace::new(alloc, WritePort::new(file, failures));
+    trace.begin()?;
+    Ok(trace)
 }
 
 fn made<R: Files<File = File>>(rt: &R, path: &str) -> io::Result<File> {
@@ -104,6 +107,12 @@ impl<P: PortWrite> Trace<P> {
             writer: TraceWriter::new(alloc, port),
             count: 0,
         }
+    }
+
+    // Puts the line of the version, and hands it on.
+    fn begin(&mut self) -> Result<(), PutFault> {
+        self.writer.put_header()?;
+        self.writer.flush()
     }
 
     /// Puts the entries of the history, as they come, until the kernel was closed and all are put, and notes how many stand. Where no

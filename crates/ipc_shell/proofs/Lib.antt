@@ -5,6 +5,7 @@ pub mod PutLemmas
 pub mod RunLemmas
 pub mod CheckLemmas
 pub mod LookLemmas
+pub mod MigrateLemmas
 pub mod ScriptLemmas
 pub mod WireLemmas
 pub mod Examples

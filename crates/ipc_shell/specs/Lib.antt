@@ -12,4 +12,5 @@ pub mod Failing
 pub mod Exits
 pub mod Checking
 pub mod Looking
+pub mod Migrating
 pub mod Talking

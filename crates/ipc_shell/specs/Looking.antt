@@ -2,35 +2,39 @@
 use Rattle.std.specs.Prelude.{◌≡◌, ℕ, ◌+◌, List, take, Bool, Option, IfSome, ⊤}
 use Rattle.ipc_history.specs.Legal.{Legal}
 use Rattle.ipc_history.specs.declared.entry.Entry.{Entry}
+use Rattle.ipc_trace.specs.Traces.{HasUnknownVersion}
+use Rattle.ipc_trace.specs.Versions.{header_lines}
+use Rattle.ipc_trace.specs.declared.version.TraceVersion.{TraceVersion}
 use Rattle.ipc_shell.specs.Checking.{HasLines, HasBadLine}
 use Rattle.ipc_shell.specs.declared.exit.Exit.{Exit}
-use Rattle.ipc_shell.specs.declared.exit.Exit.TheVariants.{Done, BadLine, NoMemory, DeviceFailed, Illegal, BadThreads, NoChart, BadWord, IllegalLine}
+use Rattle.ipc_shell.specs.declared.exit.Exit.TheVariants.{Done, BadLine, NoMemory, DeviceFailed, Illegal, BadThreads, NoChart, BadWord, UnknownVersion, IllegalLine}
 use Rattle.ipc_shell.specs.declared.looking.Look.{Look}
 use Rattle.ipc_shell.specs.declared.looking.Look.TheVariants.{Script, StateAt, Counts}
 
--- the entries before the line of this number, counted from 1, are legal, those up to it are not
-pub record IsFaultLine (entries : List Entry) (number : ℕ) : Type 0 where
-  pub place : ℕ
-  pub number_is : number ≡ place + 1
+-- the entries before the line of this number, counted from 1, are so many and legal, those up to it are not
+pub record IsFaultLine (version : TraceVersion) (entries : List Entry) (number place : ℕ) : Type 0 where
+  pub number_is : number ≡ header_lines version + place + 1
   pub before : Legal (take place entries)
   pub fault : Legal (take (place + 1) entries) → ⊥
 
 -- what is said of entries: that all is well only of a legal history, and a line only where it is at
 -- fault
-abbrev pub IsSaidOf : List Entry → Exit → Type 0
-IsSaidOf entries Done = Legal entries
-IsSaidOf entries (IllegalLine number) = IsFaultLine entries number
-IsSaidOf entries (BadLine number) = ⊥
-IsSaidOf entries NoMemory = ⊤
-IsSaidOf entries DeviceFailed = ⊤
-IsSaidOf entries Illegal = ⊥
-IsSaidOf entries BadThreads = ⊥
-IsSaidOf entries (NoChart fault) = ⊥
-IsSaidOf entries BadWord = ⊥
+abbrev pub IsSaidOf : TraceVersion → List Entry → Exit → Type 0
+IsSaidOf version entries Done = Legal entries
+IsSaidOf version entries UnknownVersion = ⊥
+IsSaidOf version entries (IllegalLine number place) = IsFaultLine version entries number place
+IsSaidOf version entries (BadLine number) = ⊥
+IsSaidOf version entries NoMemory = ⊤
+IsSaidOf version entries DeviceFailed = ⊤
+IsSaidOf version entries Illegal = ⊥
+IsSaidOf version entries BadThreads = ⊥
+IsSaidOf version entries (NoChart fault) = ⊥
+IsSaidOf version entries BadWord = ⊥
 
 -- what may be said of each legal history
 abbrev pub MayEnd : Exit → Type 0
-MayEnd exit = (entries : List Entry) → Legal entries → IsSaidOf entries exit
+MayEnd exit = (version : TraceVersion) (entries : List Entry) → Legal entries
+    → IsSaidOf version entries exit
 
 -- the entries of which something is told
 abbrev pub shown_of : Look → List Entry → List Entry
@@ -40,13 +44,14 @@ shown_of (Counts is_json) entries = entries
 
 -- the entries of the whole lines, of which this is said
 abbrev pub SaysOfTrace : Look → List ℕ → Exit → Type 0
-SaysOfTrace look bytes exit = (entries : List Entry) × ((is_torn : Bool)
-    × HasLines bytes entries is_torn × IsSaidOf (shown_of look entries) exit)
+SaysOfTrace look bytes exit = (version : TraceVersion) × ((entries : List Entry) × ((is_torn : Bool)
+    × HasLines bytes version entries is_torn × IsSaidOf version (shown_of look entries) exit))
 
 -- how a look at these bytes ends
 abbrev pub LooksAtBytes : Look → List ℕ → Exit → Type 0
 LooksAtBytes look bytes Done = SaysOfTrace look bytes Done
-LooksAtBytes look bytes (IllegalLine number) = SaysOfTrace look bytes (IllegalLine number)
+LooksAtBytes look bytes UnknownVersion = HasUnknownVersion bytes
+LooksAtBytes look bytes (IllegalLine number place) = SaysOfTrace look bytes (IllegalLine number place)
 LooksAtBytes look bytes (BadLine number) = HasBadLine bytes number
 LooksAtBytes look bytes NoMemory = ⊤
 LooksAtBytes look bytes DeviceFailed = ⊤
@@ -61,31 +66,34 @@ LooksAt look bytes exit = IfSome bytes (λ bytes. LooksAtBytes look bytes exit)
 
 -- what a chart's end says of the entries up to the last that it may show: it is drawn of a legal
 -- history alone, and a line is named only where it is at fault
-abbrev pub IsDrawnOf : List Entry → Exit → Type 0
-IsDrawnOf entries Done = Legal entries
-IsDrawnOf entries (NoChart fault) = Legal entries
-IsDrawnOf entries (IllegalLine number) = IsFaultLine entries number
-IsDrawnOf entries (BadLine number) = ⊥
-IsDrawnOf entries NoMemory = ⊤
-IsDrawnOf entries DeviceFailed = ⊤
-IsDrawnOf entries Illegal = ⊥
-IsDrawnOf entries BadThreads = ⊥
-IsDrawnOf entries BadWord = ⊥
+abbrev pub IsDrawnOf : TraceVersion → List Entry → Exit → Type 0
+IsDrawnOf version entries Done = Legal entries
+IsDrawnOf version entries (NoChart fault) = Legal entries
+IsDrawnOf version entries UnknownVersion = ⊥
+IsDrawnOf version entries (IllegalLine number place) = IsFaultLine version entries number place
+IsDrawnOf version entries (BadLine number) = ⊥
+IsDrawnOf version entries NoMemory = ⊤
+IsDrawnOf version entries DeviceFailed = ⊤
+IsDrawnOf version entries Illegal = ⊥
+IsDrawnOf version entries BadThreads = ⊥
+IsDrawnOf version entries BadWord = ⊥
 
 -- how a chart of each legal history may end
 abbrev pub MayDraw : Exit → Type 0
-MayDraw exit = (entries : List Entry) → Legal entries → IsDrawnOf entries exit
+MayDraw exit = (version : TraceVersion) (entries : List Entry) → Legal entries
+    → IsDrawnOf version entries exit
 
 -- the first entries of the whole lines, so many, of which this is said
 abbrev pub DrawsTrace : ℕ → List ℕ → Exit → Type 0
-DrawsTrace last bytes exit = (entries : List Entry) × ((is_torn : Bool)
-    × HasLines bytes entries is_torn × IsDrawnOf (take last entries) exit)
+DrawsTrace last bytes exit = (version : TraceVersion) × ((entries : List Entry) × ((is_torn : Bool)
+    × HasLines bytes version entries is_torn × IsDrawnOf version (take last entries) exit))
 
 -- how a chart of these bytes ends that shows no entry behind the last
 abbrev pub ChartsBytes : ℕ → List ℕ → Exit → Type 0
 ChartsBytes last bytes Done = DrawsTrace last bytes Done
 ChartsBytes last bytes (NoChart fault) = DrawsTrace last bytes (NoChart fault)
-ChartsBytes last bytes (IllegalLine number) = DrawsTrace last bytes (IllegalLine number)
+ChartsBytes last bytes UnknownVersion = HasUnknownVersion bytes
+ChartsBytes last bytes (IllegalLine number place) = DrawsTrace last bytes (IllegalLine number place)
 ChartsBytes last bytes (BadLine number) = HasBadLine bytes number
 ChartsBytes last bytes NoMemory = ⊤
 ChartsBytes last bytes DeviceFailed = ⊤

@@ -2,8 +2,9 @@
 use Rattle.std.specs.Prelude.{◌≡◌, ◌≢◌, ℕ, ◌-◌, ◌^◌, min, List, [], ◌∷◌, codes, Option, ◌⊎◌}
 use Rattle.std.specs.Fmt.{decimal}
 use Rattle.ipc_words.specs.Limits.{max_entries, max_calls}
+use Rattle.ipc_history.specs.Holding.{marked_to}
 use Rattle.ipc_core.specs.Compacting.{Compacts}
-use Rattle.ipc_core.specs.KernelParts.{KernelParts}
+use Rattle.ipc_core.specs.KernelParts.{KernelParts, nothing_held}
 use Rattle.ipc_core.specs.Obeying.{empty_kernel}
 use Rattle.ipc_core.specs.declared.answers.Compacted.{Compacted}
 use Rattle.ipc_core.specs.declared.kernel.Limits.{Limits}
@@ -14,9 +15,14 @@ use Rattle.ipc_shell.specs.Printing.{Answers, ended}
 use Rattle.ipc_shell.specs.Scripts.{EndsAtLine, RunsLines}
 use Rattle.ipc_shell.specs.declared.exit.Exit.{Exit}
 
+-- every entry counts as traced, so a kernel is compacted up to its end
+abbrev pub every_entry : ℕ
+every_entry = 2 ^ 64 - 1
+
 -- the kernel that a script begins with: more than the greatest limits counts as those
 abbrev pub first_kernel : Limits → KernelParts
-first_kernel limits = empty_kernel (min limits.entries max_entries) (min limits.calls max_calls)
+first_kernel limits =
+    record (empty_kernel (min limits.entries max_entries) (min limits.calls max_calls)) { held = marked_to every_entry nothing_held }
 
 -- a line that spells a command: the kernel obeys it, and this is printed
 pub record Commands (old : KernelParts) (line text : List ℕ) (new : KernelParts) : Type 0 where
@@ -31,14 +37,10 @@ compact_line = codes "compact"
 abbrev pub compacted_text : Compacted → List ℕ
 compacted_text done = ended (spaced (codes "=" ∷ decimal done.dropped ∷ decimal done.left ∷ []))
 
--- every entry counts as traced, so the kernel is compacted up to its end
-abbrev pub every_entry : ℕ
-every_entry = 2 ^ 64 - 1
-
 pub record IsCompacted (old : KernelParts) (line text : List ℕ) (new : KernelParts) : Type 0 where
   pub spells : line ≡ compact_line
   pub done : Compacted
-  pub compacts : Compacts old new every_entry done
+  pub compacts : Compacts old new old.held.mark done
   pub text_is : text ≡ compacted_text done
 
 -- a line that is obeyed, and what is printed for it

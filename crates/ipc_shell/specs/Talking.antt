@@ -1,7 +1,7 @@
 -- How a talk may end: no line that is typed is bad.
 use Rattle.std.specs.Prelude.{⊤}
 use Rattle.ipc_shell.specs.declared.exit.Exit.{Exit}
-use Rattle.ipc_shell.specs.declared.exit.Exit.TheVariants.{Done, BadLine, NoMemory, DeviceFailed, Illegal, BadThreads, NoChart, BadWord, IllegalLine}
+use Rattle.ipc_shell.specs.declared.exit.Exit.TheVariants.{Done, BadLine, NoMemory, DeviceFailed, Illegal, BadThreads, NoChart, BadWord, UnknownVersion, IllegalLine}
 
 -- at the end or where that is asked for, without memory, or where a device failed
 abbrev pub MayEndTalk : Exit → Type 0
@@ -13,4 +13,5 @@ MayEndTalk Illegal = ⊥
 MayEndTalk BadThreads = ⊥
 MayEndTalk (NoChart fault) = ⊥
 MayEndTalk BadWord = ⊥
-MayEndTalk (IllegalLine number) = ⊥
+MayEndTalk UnknownVersion = ⊥
+MayEndTalk (IllegalLine number place) = ⊥

@@ -5,7 +5,7 @@ ghost use Rattle.ipc_shell.specs.Looking.{ChartsTrace, IsDrawnOf, MayDraw};
 mod tests;
 
 use crate::exit::{ChartFault, Exit};
-use crate::looking::{front, line_of};
+use crate::looking::{front, illegal_at};
 use crate::output::put;
 use ipc_chart::{Emptiness, Scene, Selection, read_threads, scene_of};
 use ipc_check::{Verdict, check};
@@ -13,7 +13,7 @@ use ipc_draw::{draw_html, draw_svg, draw_text};
 use ipc_history::Entry;
 use ipc_options::ChartOptions;
 use ipc_ports::{PortRead, PortWrite};
-use ipc_trace::{TraceEnd, read_trace};
+use ipc_trace::{TraceEnd, TraceRead, read_trace};
 use std::alloc::{AllocError, Global};
 
 /// Draws the trace of a reader as a sequence chart and prints it, over the whole lines where the last
@@ -43,9 +43,10 @@ pub fn chart_trace<R: PortRead, W: PortWrite>(
     };
     let read = read_trace(alloc, reader);
     match read.end {
-        TraceEnd::Whole => print_chart(alloc, &read.entries, options, &selection, writer),
-        TraceEnd::Torn => print_chart(alloc, &read.entries, options, &selection, writer),
+        TraceEnd::Whole => print_chart(alloc, &read, options, &selection, writer),
+        TraceEnd::Torn => print_chart(alloc, &read, options, &selection, writer),
         TraceEnd::BadLine(number) => Exit::BadLine(number),
+        TraceEnd::UnknownVersion => Exit::UnknownVersion,
         TraceEnd::DeviceFailed => Exit::DeviceFailed,
         TraceEnd::NoMemory => Exit::NoMemory,
     }
@@ -70,22 +71,23 @@ fn selection_of(
     }))
 }
 
-// Draws entries and prints them, where those up to the last that may be shown are a legal history.
+// Draws the entries that were read and prints them, where those up to the last that may be shown are a legal
+// history.
 fn print_chart<W: PortWrite>(
     alloc: Global,
-    entries: &[Entry],
+    read: &TraceRead,
     options: &ChartOptions<'_>,
     selection: &Selection,
     writer: &mut W,
 ) -> Exit
-    ensures drawn { IsDrawnOf (take options.now.to entries.now) result }
+    ensures drawn { IsDrawnOf read.now.version (take options.now.to read.now.entries.items) result }
     ensures failed { result ≡ Exit.DeviceFailed → W.failures writer.old < W.failures writer.new }
     ensures silent { result ≢ Exit.Done → result ≢ Exit.DeviceFailed
         → W.written writer.new ≡ W.written writer.old }
 {
-    match check(front(entries, options.to as usize)) {
-        Verdict::Yes => print_legal(alloc, entries, options, selection, writer),
-        Verdict::No { index, .. } => Exit::IllegalLine(line_of(index)),
+    match check(front(&read.entries, options.to as usize)) {
+        Verdict::Yes => print_legal(alloc, &read.entries, options, selection, writer),
+        Verdict::No { index, .. } => illegal_at(read.version, index),
     }
 }
 

@@ -1,6 +1,7 @@
 ghost use Rattle.std.specs.Prelude.{◌≡◌, ◌≢◌, ◌+◌, ◌++◌, ◌<◌, ◌^◌, IfOk, OnOk, true};
 ghost use Rattle.std.specs.String.{string_bytes};
 ghost use Rattle.ipc_check.specs.Faults.{IfNo};
+ghost use Rattle.ipc_trace.specs.Versions.{header_lines};
 ghost use Rattle.ipc_shell.specs.Checking.{ChecksTrace, PrintsVerdict, expected_text, verdict_text};
 
 #[cfg(test)]
@@ -12,7 +13,7 @@ use ipc_check::{Verdict, check};
 use ipc_history::{Entry, Output};
 use ipc_lines::entry_line;
 use ipc_ports::{PortRead, PortWrite};
-use ipc_trace::{TraceEnd, read_trace};
+use ipc_trace::{TraceEnd, TraceRead, TraceVersion, read_trace};
 use std::alloc::{AllocError, Global};
 
 /// Checks the trace of a reader, and prints to the writer whether it is a legal history: `yes`, or
@@ -36,24 +37,26 @@ pub fn check_trace<R: PortRead, W: PortWrite>(alloc: Global, reader: &mut R, wri
 {
     let read = read_trace(alloc, reader);
     match read.end {
-        TraceEnd::Whole => judge(alloc, &read.entries, false, writer),
-        TraceEnd::Torn => judge(alloc, &read.entries, true, writer),
+        TraceEnd::Whole => judge(alloc, &read, false, writer),
+        TraceEnd::Torn => judge(alloc, &read, true, writer),
         TraceEnd::BadLine(number) => Exit::BadLine(number),
+        TraceEnd::UnknownVersion => Exit::UnknownVersion,
         TraceEnd::DeviceFailed => Exit::DeviceFailed,
         TraceEnd::NoMemory => Exit::NoMemory,
     }
 }
 
-/// Prints the verdict on entries, and whether a torn line stands behind them.
-fn judge<W: PortWrite>(alloc: Global, entries: &[Entry], is_torn: bool, writer: &mut W) -> Exit
-    ensures prints { PrintsVerdict entries.now is_torn (W.written writer.old) (W.written writer.new) result }
+/// Prints the verdict on the entries that were read, and whether a torn line stands behind them.
+fn judge<W: PortWrite>(alloc: Global, read: &TraceRead, is_torn: bool, writer: &mut W) -> Exit
+    ensures prints { PrintsVerdict read.now.version read.now.entries.items is_torn
+        (W.written writer.old) (W.written writer.new) result }
     ensures failed { result ≡ Exit.DeviceFailed → W.failures writer.old < W.failures writer.new }
     ensures kept { result ≢ Exit.DeviceFailed → W.failures writer.new ≡ W.failures writer.old }
     ensures flushed { result ≢ Exit.DeviceFailed
         → W.flushed writer.old ≡ true → W.flushed writer.new ≡ true }
 {
-    let verdict = check(entries);
-    let Ok(text) = verdict_lines(alloc, &verdict, is_torn) else {
+    let verdict = check(&read.entries);
+    let Ok(text) = verdict_lines(alloc, read.version, &verdict, is_torn) else {
         return Exit::NoMemory;
     };
     match put(writer, text.as_bytes()) {
@@ -65,16 +68,21 @@ fn judge<W: PortWrite>(alloc: Global, entries: &[Entry], is_torn: bool, writer: 
     }
 }
 
-// The lines of a verdict.
-fn verdict_lines(alloc: Global, verdict: &Verdict, is_torn: bool) -> Result<String, AllocError>
-    requires within { IfNo verdict.now (λ index expected. index + 1 < 2 ^ 64) }
-    ensures { IfOk result (λ text. string_bytes text ≡ verdict_text verdict.now is_torn) }
+// The lines of a verdict on a trace of this version.
+fn verdict_lines(
+    alloc: Global,
+    version: TraceVersion,
+    verdict: &Verdict,
+    is_torn: bool,
+) -> Result<String, AllocError>
+    requires within { IfNo verdict.now (λ index expected. index + 2 < 2 ^ 64) }
+    ensures { IfOk result (λ text. string_bytes text ≡ verdict_text version verdict.now is_torn) }
 {
     let mut text = String::new(alloc);
     match verdict {
         Verdict::Yes => text.push_str("yes")?,
         Verdict::No { index, expected } => {
-            let line = index + 1;
+            let line = version.line_of(*index);
             write!(text, "no {line} ")?;
             write_expected(alloc, &mut text, expected)?;
         }

@@ -19,8 +19,11 @@ pub enum Exit {
     NoChart(ChartFault),
     /// A word that was to be explained, or made a tag or a period of, is none: status 2.
     BadWord,
-    /// The line of this number, from 1, of a trace does not follow those before it: status 3.
-    IllegalLine(u64),
+    /// The first line of a trace tells a version that is not known: status 2.
+    UnknownVersion,
+    /// The line of this number, from 1, of a trace does not follow those before it, which are those of so many
+    /// entries and of the version: status 3.
+    IllegalLine { number: u64, entries: u64 },
 }
 
 /// Why nothing is drawn.
@@ -46,9 +49,13 @@ impl Exit {
     {
         match self {
             Exit::Done => 0,
-            Exit::BadLine(_) | Exit::BadThreads | Exit::NoChart(_) | Exit::BadWord => 2,
+            Exit::BadLine(_)
+            | Exit::BadThreads
+            | Exit::NoChart(_)
+            | Exit::BadWord
+            | Exit::UnknownVersion => 2,
             Exit::NoMemory | Exit::DeviceFailed => 1,
-            Exit::Illegal | Exit::IllegalLine(_) => 3,
+            Exit::Illegal | Exit::IllegalLine { .. } => 3,
         }
     }
 }
@@ -69,7 +76,8 @@ impl fmt::Display for Exit {
             Exit::BadThreads => write!(f, "l4sh: bad list of threads"),
             Exit::NoChart(_) => write!(f, "l4sh: nothing to draw"),
             Exit::BadWord => write!(f, "l4sh: this word says nothing"),
-            Exit::IllegalLine(number) => {
+            Exit::UnknownVersion => write!(f, "l4sh: unknown version"),
+            Exit::IllegalLine { number, .. } => {
                 write!(f, "l4sh: line {number} does not follow those before it")
             }
         }

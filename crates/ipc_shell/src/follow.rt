@@ -6,14 +6,14 @@ mod tests;
 use crate::exit::Exit;
 use crate::output::put;
 use ipc_follow::{Follower, Selection, read_label, read_threads};
-use ipc_lines::{LineFault, read_entry};
 use ipc_options::FollowOptions;
 use ipc_ports::{PieceBuffer, PortRead, PortWrite};
-use ipc_trace::{LineEnd, next_line};
+use ipc_trace::{LineEnd, LineFault, TraceLines, next_line};
 use std::alloc::Global;
 
 /// Tells the entries of the trace of a reader in words, each as soon as its line is there, to the end of the
-/// reader. A last line without its newline is left out. A bad line ends it, and what came before it was told.
+/// reader. A last line without its newline is left out. A bad line ends it, and what came before it was told. The
+/// line of the version, which may come first, is told of by nothing.
 ///
 /// It ends as `DeviceFailed` only where a call of the reader or of the writer failed in this run.
 pub fn follow_trace<R: PortRead, W: PortWrite>(
@@ -33,12 +33,13 @@ pub fn follow_trace<R: PortRead, W: PortWrite>(
     let mut follower = Follower::new(alloc, selection);
     let mut buffer = PieceBuffer::new();
     let mut line = Vec::new(alloc);
+    let mut lines = TraceLines::new(alloc);
     let mut number: u64 = 0;
     'lines: loop {
         number = number.saturating_add(1);
         match next_line(reader, &mut buffer, &mut line) {
             LineEnd::Newline => {
-                if let Some(exit) = follow_line(alloc, &mut follower, &line, number, writer) {
+                if let Some(exit) = follow_line(&mut follower, &mut lines, &line, number, writer) {
                     return exit;
                 }
             }
@@ -97,8 +98,8 @@ fn selection_of(alloc: Global, options: &FollowOptions<'_>) -> Result<Selection,
 
 // Tells the entry of a line. None where the next one may come.
 fn follow_line<W: PortWrite>(
-    alloc: Global,
     follower: &mut Follower,
+    lines: &mut TraceLines,
     line: &[u8],
     number: u64,
     writer: &mut W,
@@ -108,9 +109,11 @@ fn follow_line<W: PortWrite>(
     ensures kept { result ≢ Some Exit.DeviceFailed
         → W.failures writer.new ≡ W.failures writer.old }
 {
-    let entry = match read_entry(alloc, line) {
-        Ok(entry) => entry,
+    let entry = match lines.read(line) {
+        Ok(Some(entry)) => entry,
+        Ok(None) => return None,
         Err(LineFault::Bad) => return Some(Exit::BadLine(number)),
+        Err(LineFault::UnknownVersion) => return Some(Exit::UnknownVersion),
         Err(LineFault::NoMemory) => return Some(Exit::NoMemory),
     };
     match follower.tell(&entry) {

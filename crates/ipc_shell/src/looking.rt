@@ -1,6 +1,7 @@
-ghost use Rattle.std.specs.Prelude.{◌≡◌, ◌≢◌, ◌+◌, ◌^◌, ◌<◌, IfOk, IfSome, None, OnErr, Ok, take};
+ghost use Rattle.std.specs.Prelude.{◌≡◌, ◌≢◌, ◌+◌, ◌^◌, ◌<◌, IfOk, IfSome, None, Ok, take};
 ghost use Rattle.std.specs.Io.KnownBytes.{Appends};
 ghost use Rattle.std.specs.String.{string_bytes};
+ghost use Rattle.ipc_trace.specs.Versions.{header_lines};
 ghost use Rattle.ipc_shell.specs.Looking.{IsSaidOf, LooksAt, MayEnd, shown_of};
 
 #[cfg(test)]
@@ -14,7 +15,7 @@ use ipc_history::Entry;
 use ipc_ports::{PortRead, PortWrite};
 use ipc_script::script_of;
 use ipc_state::{state_of, tell_state};
-use ipc_trace::{TraceEnd, read_trace};
+use ipc_trace::{TraceEnd, TraceRead, TraceVersion, read_trace};
 use std::alloc::{AllocError, Global};
 
 /// What is asked of a trace.
@@ -48,9 +49,10 @@ pub fn look_at_trace<R: PortRead, W: PortWrite>(
 {
     let read = read_trace(alloc, reader);
     match read.end {
-        TraceEnd::Whole => tell(alloc, look, &read.entries, writer),
-        TraceEnd::Torn => tell(alloc, look, &read.entries, writer),
+        TraceEnd::Whole => tell(alloc, look, &read, writer),
+        TraceEnd::Torn => tell(alloc, look, &read, writer),
         TraceEnd::BadLine(number) => Exit::BadLine(number),
+        TraceEnd::UnknownVersion => Exit::UnknownVersion,
         TraceEnd::DeviceFailed => Exit::DeviceFailed,
         TraceEnd::NoMemory => Exit::NoMemory,
     }
@@ -75,35 +77,37 @@ pub fn print_answer<W: PortWrite>(
     }
 }
 
-// Prints what is asked of these entries.
-fn tell<W: PortWrite>(alloc: Global, look: Look, entries: &[Entry], writer: &mut W) -> Exit
-    ensures said { IsSaidOf (shown_of look entries.now) result }
+// Prints what is asked of the entries that were read.
+fn tell<W: PortWrite>(alloc: Global, look: Look, read: &TraceRead, writer: &mut W) -> Exit
+    ensures said { IsSaidOf read.now.version (shown_of look read.now.entries.items) result }
     ensures failed { result ≡ Exit.DeviceFailed → W.failures writer.old < W.failures writer.new }
     ensures silent { result ≢ Exit.Done → result ≢ Exit.DeviceFailed
         → W.written writer.new ≡ W.written writer.old }
 {
+    let (version, entries) = (read.version, read.entries.as_slice());
     match look {
-        Look::Script => print_script(alloc, entries, writer),
-        Look::StateAt(count) => print_state(alloc, front(entries, count), writer),
-        Look::Counts { is_json } => print_counts(alloc, entries, is_json, writer),
+        Look::Script => print_script(alloc, version, entries, writer),
+        Look::StateAt(count) => print_state(alloc, version, front(entries, count), writer),
+        Look::Counts { is_json } => print_counts(alloc, version, entries, is_json, writer),
     }
 }
 
 // Prints the counts of the pairs of threads of these entries.
 fn print_counts<W: PortWrite>(
     alloc: Global,
+    version: TraceVersion,
     entries: &[Entry],
     is_json: bool,
     writer: &mut W,
 ) -> Exit
-    ensures said { IsSaidOf entries.now result }
+    ensures said { IsSaidOf version entries.now result }
     ensures failed { result ≡ Exit.DeviceFailed → W.failures writer.old < W.failures writer.new }
     ensures silent { result ≢ Exit.Done → result ≢ Exit.DeviceFailed
         → W.written writer.new ≡ W.written writer.old }
 {
     match events_of(alloc, entries) {
         Ok(events) => print(counts_text(alloc, &events, is_json), writer),
-        Err(CountFault::Illegal(index)) => Exit::IllegalLine(line_of(index)),
+        Err(CountFault::Illegal(index)) => illegal_at(version, index),
         Err(CountFault::NoMemory) => Exit::NoMemory,
     }
 }
@@ -119,28 +123,38 @@ fn counts_text(alloc: Global, events: &[Event], is_json: bool) -> Result<String,
 }
 
 // Prints the commands whose history these entries are.
-fn print_script<W: PortWrite>(alloc: Global, entries: &[Entry], writer: &mut W) -> Exit
-    ensures said { IsSaidOf entries.now result }
+fn print_script<W: PortWrite>(
+    alloc: Global,
+    version: TraceVersion,
+    entries: &[Entry],
+    writer: &mut W,
+) -> Exit
+    ensures said { IsSaidOf version entries.now result }
     ensures failed { result ≡ Exit.DeviceFailed → W.failures writer.old < W.failures writer.new }
     ensures silent { result ≢ Exit.Done → result ≢ Exit.DeviceFailed
         → W.written writer.new ≡ W.written writer.old }
 {
     match check(entries) {
         Verdict::Yes => print(script_of(alloc, entries), writer),
-        Verdict::No { index, .. } => Exit::IllegalLine(line_of(index)),
+        Verdict::No { index, .. } => illegal_at(version, index),
     }
 }
 
 // Prints the state of the threads after these entries.
-fn print_state<W: PortWrite>(alloc: Global, entries: &[Entry], writer: &mut W) -> Exit
-    ensures said { IsSaidOf entries.now result }
+fn print_state<W: PortWrite>(
+    alloc: Global,
+    version: TraceVersion,
+    entries: &[Entry],
+    writer: &mut W,
+) -> Exit
+    ensures said { IsSaidOf version entries.now result }
     ensures failed { result ≡ Exit.DeviceFailed → W.failures writer.old < W.failures writer.new }
     ensures silent { result ≢ Exit.Done → result ≢ Exit.DeviceFailed
         → W.written writer.new ≡ W.written writer.old }
 {
     match state_of(entries) {
         Ok(state) => print(tell_state(alloc, &state), writer),
-        Err(index) => Exit::IllegalLine(line_of(index)),
+        Err(index) => illegal_at(version, index),
     }
 }
 
@@ -155,11 +169,15 @@ pub(crate) fn front(entries: &[Entry], count: usize) -> &[Entry]
     }
 }
 
-// The number of the line of the entry in a place.
-pub(crate) fn line_of(place: usize) -> u64
-    ensures { place + 1 < 2 ^ 64 → result ≡ place + 1 }
+// The entry in a place does not follow those before it, in a trace of this version.
+pub(crate) fn illegal_at(version: TraceVersion, place: usize) -> Exit
+    ensures { place + 2 < 2 ^ 64
+        → result ≡ Exit.IllegalLine (header_lines version + place + 1) place }
 {
-    (place as u64).saturating_add(1)
+    Exit::IllegalLine {
+        number: version.line_of(place),
+        entries: place as u64,
+    }
 }
 
 // Prints a text, where there was memory for it.

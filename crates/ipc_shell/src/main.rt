@@ -1,7 +1,7 @@
 //! The program `l4sh`: runs scripts of opens, calls, clock readings, cancels and breaks, and prints
 //! what happens; serves connections whose bytes a script gives; checks the trace of a history, draws it
-//! as a chart, tells the state of its threads, and gives back its script; explains numbers and words,
-//! and makes tags and periods.
+//! as a chart, tells the state of its threads, gives back its script, and writes it anew; explains numbers
+//! and words, and makes tags and periods.
 #![tactic(auto)]
 
 ghost use Rattle.std.specs.Prelude.{◌≡◌, ◌<◌};
@@ -14,6 +14,8 @@ mod kept;
 mod lines;
 mod live;
 mod looking;
+mod migrate;
+mod new_file;
 mod output;
 mod run;
 mod talk;
@@ -31,14 +33,17 @@ use ipc_options::{
 };
 use ipc_ports::{Failures, PortRead, PortWrite, ReadPort, WritePort};
 use ipc_reasons::{Grammar, reason_text};
+use ipc_trace::{MAX_THREAD_NUMBER_OF_VERSION_1, TraceWriter};
 use ipc_words::limits::{MAX_LINE_BYTES, MAX_SPACE};
 use kept::{KeptPort, Tail};
 use live::{Talked, talk_to_server};
 use looking::{Look, look_at_trace, print_answer};
+use migrate::migrate_trace;
+use new_file::NewFile;
 use run::run_script;
 use std::alloc::{AllocError, Global};
 use std::fs::{self, File};
-use std::io;
+use std::io::{self, BufWriter};
 use std::marker::Brand;
 use std::net::Net;
 use std::process::ExitCode;
@@ -62,12 +67,55 @@ impl From<Exit> for Ending {
     }
 }
 
-/// What is done with the trace in a file.
+/// How many bytes of a file that is written are handed on at once, at most.
+const BUFFER: usize = 65_536;
+
+/// What is done with the trace of a reader.
+trait Task {
+    /// Does it, and says how it ended.
+    fn perform<R: PortRead, W: PortWrite>(
+        &mut self,
+        alloc: Global,
+        reader: &mut R,
+        writer: &mut W,
+    ) -> Exit;
+}
+
+/// What is printed of a trace.
 #[derive(Clone, Copy)]
-enum Trace<'a> {
+enum Printing<'a> {
     Check,
     Chart(ChartOptions<'a>),
     Look(Look),
+    Follow(FollowOptions<'a>),
+}
+
+impl Task for Printing<'_> {
+    fn perform<R: PortRead, W: PortWrite>(
+        &mut self,
+        alloc: Global,
+        reader: &mut R,
+        writer: &mut W,
+    ) -> Exit {
+        match self {
+            Printing::Check => check_trace(alloc, reader, writer),
+            Printing::Chart(options) => chart_trace(alloc, options, reader, writer),
+            Printing::Look(look) => look_at_trace(alloc, *look, reader, writer),
+            Printing::Follow(options) => follow_trace(alloc, options, reader, writer),
+        }
+    }
+}
+
+/// A trace is written anew.
+impl<N: PortWrite> Task for TraceWriter<N> {
+    fn perform<R: PortRead, W: PortWrite>(
+        &mut self,
+        alloc: Global,
+        reader: &mut R,
+        writer: &mut W,
+    ) -> Exit {
+        migrate_trace(alloc, reader, self, writer)
+    }
 }
 
 fn main(rt: HostRuntime) -> io::Result<ExitCode> {
@@ -134,22 +182,32 @@ fn obey<L: Ledger, M: Ledger, R: Files + Input + Print + Net>(
             with_reason(alloc, exit, Grammar::Wire, reader.tail())
         }
         ShellOptions::Check { file } => {
-            look(rt, alloc, *file, &Trace::Check, reads, &mut writer)
+            look(rt, alloc, *file, &mut Printing::Check, reads, &mut writer)
         }
         ShellOptions::Chart(chart) => chart_file(rt, alloc, chart, reads, &mut writer),
         ShellOptions::State(state) => {
-            let trace = Trace::Look(Look::StateAt(state.at as usize));
-            look(rt, alloc, state.file, &trace, reads, &mut writer)
+            let mut task = Printing::Look(Look::StateAt(state.at as usize));
+            look(rt, alloc, state.file, &mut task, reads, &mut writer)
         }
         ShellOptions::Script { file } => {
-            let trace = Trace::Look(Look::Script);
-            look(rt, alloc, *file, &trace, reads, &mut writer)
+            let mut task = Printing::Look(Look::Script);
+            look(rt, alloc, *file, &mut task, reads, &mut writer)
         }
         ShellOptions::Count { file, is_json } => {
-            let trace = Trace::Look(Look::Counts { is_json: *is_json });
-            look(rt, alloc, *file, &trace, reads, &mut writer)
+            let mut task = Printing::Look(Look::Counts { is_json: *is_json });
+            look(rt, alloc, *file, &mut task, reads, &mut writer)
         }
-        ShellOptions::Follow(options) => follow_file(rt, alloc, options, reads, &mut writer),
+        ShellOptions::Follow(options) => {
+            let mut task = Printing::Follow(*options);
+            look(rt, alloc, options.file, &mut task, reads, &mut writer)
+        }
+        ShellOptions::Migrate { old, new } => {
+            let files = Migration {
+                old: *old,
+                new: *new,
+            };
+            migrate_file::<L, Brand, R, _>(rt, alloc, &files, reads, Blank::new(1), &mut writer)
+        }
         ShellOptions::Talk => {
             let limits = Limits {
                 entries: MAX_ENTRIES,
@@ -190,7 +248,7 @@ fn chart_file<L: Ledger, R: Files + Input, W: PortWrite>(
             rt,
             alloc,
             options.file,
-            &Trace::Chart(*options),
+            &mut Printing::Chart(*options),
             reads,
             writer,
         )
@@ -200,9 +258,8 @@ fn chart_file<L: Ledger, R: Files + Input, W: PortWrite>(
     };
     let reason = match exit {
         Exit::NoChart(fault) => chart_reason(alloc, options, fault).ok(),
-        Exit::IllegalLine(number) if number > 1 => {
-            let last = number - 1;
-            format!(in alloc; "--to {last} draws what comes before it").ok()
+        Exit::IllegalLine { entries, .. } if entries > 0 => {
+            format!(in alloc; "--to {entries} draws what comes before it").ok()
         }
         _ => return ending,
     };
@@ -218,17 +275,17 @@ fn exit_alone(ending: &Ending) -> Option<Exit> {
 }
 
 /// Opens the file of a trace, or takes standard input for `-`, and does this with it.
-fn look<L: Ledger, R: Files + Input, W: PortWrite>(
+fn look<T: Task, L: Ledger, R: Files + Input, W: PortWrite>(
     rt: &R,
     alloc: Global,
     file: &str,
-    trace: &Trace<'_>,
+    task: &mut T,
     reads: Failures<L>,
     writer: &mut W,
 ) -> Ending {
     if file == "-" {
         let mut reader = KeptPort::new(alloc, ReadPort::new(rt.reader(), reads));
-        let exit = look_at(alloc, trace, &mut reader, writer);
+        let exit = task.perform(alloc, &mut reader, writer);
         return with_reason(alloc, exit, Grammar::Trace, reader.tail());
     }
     let opened = match File::open(rt, file) {
@@ -236,50 +293,45 @@ fn look<L: Ledger, R: Files + Input, W: PortWrite>(
         Err(error) => return not_opened(alloc, file, &error),
     };
     let mut reader = KeptPort::new(alloc, ReadPort::new(opened, reads));
-    let exit = look_at(alloc, trace, &mut reader, writer);
+    let exit = task.perform(alloc, &mut reader, writer);
     if exit == Exit::DeviceFailed {
         return device_failed(rt, alloc, file);
     }
     with_reason(alloc, exit, Grammar::Trace, reader.tail())
 }
 
-/// Does this with the trace of a reader.
-fn look_at<R: PortRead, W: PortWrite>(
-    alloc: Global,
-    trace: &Trace<'_>,
-    reader: &mut R,
-    writer: &mut W,
-) -> Exit {
-    match trace {
-        Trace::Check => check_trace(alloc, reader, writer),
-        Trace::Chart(options) => chart_trace(alloc, options, reader, writer),
-        Trace::Look(look) => look_at_trace(alloc, *look, reader, writer),
-    }
+/// The files of a migration: the trace that is read, and the one that is written.
+#[derive(Clone, Copy)]
+struct Migration<'a> {
+    old: &'a str,
+    new: &'a str,
 }
 
-/// Tells the trace of a file, or of standard input, as it comes.
-fn follow_file<L: Ledger, R: Files + Input, W: PortWrite>(
+/// Writes the trace of a file, or of standard input, anew into a file, which is made at its first write. The count of
+/// the failures of that one begins as a blank.
+fn migrate_file<L: Ledger, N: Ledger, R: Files + Input, W: PortWrite>(
     rt: &R,
     alloc: Global,
-    options: &FollowOptions<'_>,
+    files: &Migration<'_>,
     reads: Failures<L>,
+    writes: Blank,
     writer: &mut W,
-) -> Ending {
-    if options.file == "-" {
-        let mut reader = KeptPort::new(alloc, ReadPort::new(rt.reader(), reads));
-        let exit = follow_trace(alloc, options, &mut reader, writer);
-        return with_reason(alloc, exit, Grammar::Trace, reader.tail());
-    }
-    let opened = match File::open(rt, options.file) {
-        Ok(opened) => opened,
-        Err(error) => return not_opened(alloc, options.file, &error),
+) -> Ending
+    requires writes_name { writes.name ≡ N.name }
+    requires writes_parts { (writes.parts ≡ N.parts) × (0 < writes.parts) }
+{
+    let Migration { old, new } = *files;
+    let Ok(mut file) = BufWriter::with_capacity(alloc, BUFFER, NewFile::new(rt, new)) else {
+        return Ending::from(Exit::NoMemory);
     };
-    let mut reader = KeptPort::new(alloc, ReadPort::new(opened, reads));
-    let exit = follow_trace(alloc, options, &mut reader, writer);
-    if exit == Exit::DeviceFailed {
-        return device_failed(rt, alloc, options.file);
+    let port = WritePort::new(&mut file, Failures::<N>::new(writes));
+    let mut trace = TraceWriter::new(alloc, port);
+    let ending = look(rt, alloc, old, &mut trace, reads, writer);
+    drop(trace);
+    match file.get_ref().fault() {
+        Some(fault) => not_opened(alloc, new, &fault),
+        None => ending,
     }
-    with_reason(alloc, exit, Grammar::Trace, reader.tail())
 }
 
 /// A device failed. The reason is the file where that is a folder, which can be opened and not read. Without memory
@@ -330,6 +382,7 @@ fn bad_line_reason(
     }
     match reason_text(alloc, grammar, line)? {
         None if grammar == Grammar::Wire => Ok(Some(wire_reason(alloc, line)?)),
+        None if grammar == Grammar::Trace => Ok(Some(trace_reason(alloc)?)),
         reason => Ok(reason),
     }
 }
@@ -344,6 +397,13 @@ fn wire_reason(alloc: Global, line: &[u8]) -> Result<String, AllocError> {
             "field 2, connection: no connection has come with this number",
         )
     }
+}
+
+/// Why a line of a trace is bad whose fields are well formed: the thread that it opens.
+fn trace_reason(alloc: Global) -> Result<String, AllocError> {
+    format!(in alloc;
+        "field 2, thread: a trace of version 1 opens no number above {MAX_THREAD_NUMBER_OF_VERSION_1}"
+    )
 }
 
 fn kernel_limits(limits: &ScriptLimits) -> Limits

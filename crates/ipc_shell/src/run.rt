@@ -19,7 +19,7 @@ use crate::lines::{NextLine, next_line};
 use crate::output::put;
 pub(crate) use answering::answer;
 pub(crate) use commands::read_command;
-use ipc_core::{Kernel, Limits};
+use ipc_core::{Kernel, Limits, Refusal};
 use ipc_ports::{PieceBuffer, PortRead, PortWrite};
 use std::alloc::{AllocError, Global};
 
@@ -49,7 +49,7 @@ pub fn run_script<R: PortRead, W: PortWrite>(
     ensures flushed { result ≢ Exit.DeviceFailed
         → W.flushed writer.old ≡ true → W.flushed writer.new ≡ true }
 {
-    let Ok(mut kernel) = Kernel::new(alloc, limits) else {
+    let Ok(mut kernel) = marked_kernel(alloc, limits) else {
         return Exit::NoMemory;
     };
     let mut buffer = PieceBuffer::new();
@@ -69,6 +69,15 @@ pub fn run_script<R: PortRead, W: PortWrite>(
         }
     }
     Exit::DeviceFailed
+}
+
+/// A kernel with these limits, of which every entry counts as traced.
+fn marked_kernel(alloc: Global, limits: Limits) -> Result<Kernel, Refusal>
+    ensures { IfOk result (λ kernel. kernel ≡ first_kernel limits) }
+{
+    let mut kernel = Kernel::new(alloc, limits)?;
+    kernel.mark(usize::MAX);
+    Ok(kernel)
 }
 
 /// Runs the command of a line, and writes what it gives. None where the script goes on.
@@ -127,11 +136,11 @@ fn asks_to_compact(line: &[u8]) -> bool
     }
 }
 
-/// Compacts a kernel whose entries were all traced, and says how many entries were dropped and how many are left.
+/// Compacts a kernel up to its mark, and says how many entries were dropped and how many are left.
 fn compact(alloc: Global, kernel: &mut Kernel) -> Result<String, AllocError>
     ensures { IfOk result (λ text. IsCompacted kernel.old compact_line (string_bytes text) kernel.new) }
 {
-    let done = kernel.compact(usize::MAX);
+    let done = kernel.compact_marked();
     let mut text = String::new(alloc);
     write!(text, "= {} {}\n", done.dropped, done.left)?;
     Ok(text)

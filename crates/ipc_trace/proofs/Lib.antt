@@ -1,2 +1,5 @@
 pub mod Pieces
+pub mod Stages
 pub mod Ends
+pub mod Unknown
+pub mod Puts

@@ -15,4 +15,5 @@ end_number end.Whole = None
 end_number end.DeviceFailed = Some 1
 end_number end.Torn = Some 3
 end_number (end.BadLine number) = Some 4
+end_number end.UnknownVersion = Some 6
 end_number end.NoMemory = Some 5

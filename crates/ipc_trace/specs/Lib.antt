@@ -1,4 +1,5 @@
 pub mod Faults
+pub mod Versions
 pub mod Traces
 pub mod Putting
 pub mod Reading

@@ -26,6 +26,17 @@ impl PutFault {
     }
 }
 
+/// Why a line of a trace is not read.
+#[derive(Clone, Copy, PartialEq, Eq, Debug)]
+pub enum LineFault {
+    /// It spells no entry which a trace of its version may have.
+    Bad,
+    /// It is the first line, and tells a version that is not known.
+    UnknownVersion,
+    /// No memory for its entry.
+    NoMemory,
+}
+
 /// How the reading of a trace ended.
 #[derive(Clone, Copy, PartialEq, Eq, Debug)]
 pub enum TraceEnd {
@@ -35,8 +46,10 @@ pub enum TraceEnd {
     DeviceFailed,
     /// TR3: at its end, in a last line that lacks its newline.
     Torn,
-    /// TR4: at a line that spells no entry, by its number from 1.
+    /// TR4: at a line that spells no entry which a trace of its version may have, by its number from 1.
     BadLine(u64),
+    /// TR6: at a first line that tells a version, and none that is known.
+    UnknownVersion,
     /// TR5: no memory.
     NoMemory,
 }
@@ -44,7 +57,7 @@ pub enum TraceEnd {
 impl TraceEnd {
     ghost use Rattle.std.specs.Prelude.{◌≡◌};
 
-    /// The number of the end: 1, 3, 4 or 5, printed after TR; None where the trace is whole.
+    /// The number of the end: 1, 3, 4, 5 or 6, printed after TR; None where the trace is whole.
     pub fn number(self) -> Option<u8>
         ensures { result ≡ end_number self }
     {
@@ -53,6 +66,7 @@ impl TraceEnd {
             TraceEnd::DeviceFailed => Some(1),
             TraceEnd::Torn => Some(3),
             TraceEnd::BadLine(_) => Some(4),
+            TraceEnd::UnknownVersion => Some(6),
             TraceEnd::NoMemory => Some(5),
         }
     }

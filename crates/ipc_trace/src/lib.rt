@@ -1,4 +1,4 @@
-//! A trace: the lines of the entries of a history, each ended by a newline, and nothing else.
+//! A trace: the lines of the entries of a history, each ended by a newline, behind the line of its version.
 #![tactic(auto)]
 
 mod fault;
@@ -6,9 +6,13 @@ mod lines;
 mod reading;
 #[cfg(test)]
 mod tests;
+mod version;
+mod whole;
 mod writing;
 
-pub use fault::{PutFault, TraceEnd};
+pub use fault::{LineFault, PutFault, TraceEnd};
 pub use lines::{LineEnd, next_line};
-pub use reading::{TraceRead, read_trace};
+pub use reading::{TraceLines, TraceRead, read_trace};
+pub use version::{MAX_THREAD_NUMBER_OF_VERSION_1, TraceVersion};
+pub use whole::put_trace;
 pub use writing::TraceWriter;

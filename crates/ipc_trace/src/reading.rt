@@ -1,18 +1,23 @@
 //! A trace that is read.
-ghost use Rattle.std.specs.Prelude.{◌≡◌, ◌≢◌, ◌<◌, length};
-ghost use Rattle.ipc_trace.specs.Taking.{TakesEntry};
-ghost use Rattle.ipc_trace.specs.Traces.{IsRead};
+ghost use Rattle.std.specs.Prelude.{◌≡◌, ◌≢◌, ◌<◌, length, IfSome, None};
+ghost use Rattle.ipc_trace.specs.Taking.{ReadsEntry, ReadsLine, TakesEntry};
+ghost use Rattle.ipc_trace.specs.Traces.{HasUnknownVersion, IsRead, MayEndAtUnknown};
+ghost use Rattle.ipc_trace.specs.Versions.{version_so_far};
 
-use crate::fault::TraceEnd;
+use crate::fault::{LineFault, TraceEnd};
 use crate::lines::{LineEnd, next_line};
+use crate::version::{FirstLine, TraceVersion, first_line};
 use ipc_history::Entry;
-use ipc_lines::{LineFault, lines_are_within_the_limit, read_entry};
+use ipc_lines::{lines_are_within_the_limit, lines_hold_no_newline, read_entry};
 use ipc_ports::{PieceBuffer, PortRead};
 use std::alloc::Global;
+use std::marker::Model;
 
 /// What was read of a trace.
 #[derive(Drop)]
 pub struct TraceRead {
+    /// The version that its first line tells; version 1 where none was told.
+    pub version: TraceVersion,
     /// The entries of the whole lines before the end, oldest first.
     pub entries: Vec<Entry>,
     /// How the reading ended.
@@ -23,22 +28,122 @@ pub struct TraceRead {
 /// keeps the entries, and of the lines no more than the one that is being read.
 pub fn read_trace<P: PortRead>(alloc: Global, port: &mut P) -> TraceRead
     ensures read { IsRead (P.remaining port.old) (P.remaining port.new)
-        result.entries.items result.end }
+        result.version result.entries.items result.end }
+    ensures unknown { IfSome (P.remaining port.old)
+        (λ bytes. HasUnknownVersion bytes → MayEndAtUnknown result.end) }
     ensures failed { result.end ≡ TraceEnd.DeviceFailed
         → P.failures port.old < P.failures port.new }
     ensures kept { result.end ≢ TraceEnd.DeviceFailed
         → P.failures port.new ≡ P.failures port.old }
 {
+    lines_hold_no_newline();
+    let mut reader = TraceLines::new(alloc);
     let mut entries = Vec::new(alloc);
-    let end = read_entries(alloc, port, &mut entries);
-    TraceRead { entries, end }
+    let end = read_entries(alloc, port, &mut reader, &mut entries);
+    let version = reader.version();
+    TraceRead {
+        version,
+        entries,
+        end,
+    }
+}
+
+/// Reads the lines of a trace, which are given one by one. A contract sees the version that was told: None
+/// before the first line.
+#[derive(Drop)]
+pub struct TraceLines {
+    alloc: Global,
+    version: Option<TraceVersion>,
+}
+
+impl Model for TraceLines {
+    ghost use Rattle.std.specs.Prelude.{Option};
+    ghost use Rattle.ipc_trace.specs.declared.version.TraceVersion.{TraceVersion};
+
+    ghost Value = { Option TraceVersion };
+
+    ghost view = { λ lines. lines.version };
+}
+
+impl TraceLines {
+    ghost use Rattle.std.specs.Prelude.{◌≡◌, None};
+    ghost use Rattle.ipc_trace.specs.Taking.{ReadsLine};
+    ghost use Rattle.ipc_trace.specs.Versions.{version_so_far};
+
+    /// Before the first line.
+    pub fn new(alloc: Global) -> TraceLines
+        ensures { result ≡ None }
+    {
+        TraceLines {
+            alloc,
+            version: None,
+        }
+    }
+
+    /// The version of the trace: 1 until its first line tells another one.
+    pub fn version(&self) -> TraceVersion
+        ensures { result ≡ version_so_far self.now }
+    {
+        self.version.unwrap_or(TraceVersion::One)
+    }
+
+    /// Reads the next line, without its newline. None where it tells the version, as the first one may.
+    ///
+    /// # Errors
+    ///
+    /// Why the line is not read; then it counts as read, but for a first one of a version that is not known.
+    pub fn read(&mut self, line: &[u8]) -> Result<Option<Entry>, LineFault>
+        ensures { ReadsLine self.old self.new line.now result }
+    {
+        match self.version {
+            Some(version) => Ok(Some(read_entry_of(self.alloc, version, line)?)),
+            None => self.read_first(line),
+        }
+    }
+
+    // Reads the first line.
+    fn read_first(&mut self, line: &[u8]) -> Result<Option<Entry>, LineFault>
+        requires first { self.old ≡ None }
+        ensures { ReadsLine self.old self.new line.now result }
+    {
+        match first_line(line) {
+            FirstLine::OfVersion2 => {
+                self.version = Some(TraceVersion::Two);
+                Ok(None)
+            }
+            FirstLine::OfOtherVersion => Err(LineFault::UnknownVersion),
+            FirstLine::OfNoVersion => {
+                self.version = Some(TraceVersion::One);
+                Ok(Some(read_entry_of(self.alloc, TraceVersion::One, line)?))
+            }
+        }
+    }
+}
+
+// The entry that a line of a trace of this version spells.
+fn read_entry_of(alloc: Global, version: TraceVersion, line: &[u8]) -> Result<Entry, LineFault>
+    ensures { ReadsEntry version line.now result }
+{
+    lines_are_within_the_limit();
+    match read_entry(alloc, line) {
+        Ok(entry) if version.may_hold(&entry) => Ok(entry),
+        Ok(_) => Err(LineFault::Bad),
+        Err(ipc_lines::LineFault::Bad) => Err(LineFault::Bad),
+        Err(ipc_lines::LineFault::NoMemory) => Err(LineFault::NoMemory),
+    }
 }
 
 // Appends the entries of a trace to none, and says how the reading ended.
-fn read_entries<P: PortRead>(alloc: Global, port: &mut P, entries: &mut Vec<Entry>) -> TraceEnd
+fn read_entries<P: PortRead>(
+    alloc: Global,
+    port: &mut P,
+    reader: &mut TraceLines,
+    entries: &mut Vec<Entry>,
+) -> TraceEnd
+    requires first { reader.old ≡ None }
     requires none { length entries.old.items ≡ 0 }
     ensures read { IsRead (P.remaining port.old) (P.remaining port.new)
-        entries.new.items result }
+        (version_so_far reader.new) entries.new.items result }
     ensures failed { result ≡ TraceEnd.DeviceFailed → P.failures port.old < P.failures port.new }
     ensures kept { result ≢ TraceEnd.DeviceFailed → P.failures port.new ≡ P.failures port.old }
 {
@@ -47,7 +152,7 @@ fn read_entries<P: PortRead>(alloc: Global, port: &mut P, entries: &mut Vec<Entr
     'lines: loop {
         match next_line(port, &mut buffer, &mut line) {
             LineEnd::Newline => {
-                if let Some(end) = take_entry(alloc, &line, entries) {
+                if let Some(end) = take_line(reader, &line, entries) {
                     return end;
                 }
             }
@@ -59,17 +164,18 @@ fn read_entries<P: PortRead>(alloc: Global, port: &mut P, entries: &mut Vec<Entr
     }
 }
 
-// Appends the entry that a line spells. Where there is none, the reading ends so.
-fn take_entry(alloc: Global, line: &[u8], entries: &mut Vec<Entry>) -> Option<TraceEnd>
-    ensures { TakesEntry entries.old.items entries.new.items line.now result }
+// Reads a line, and appends its entry. Where it is not read, the reading ends so.
+fn take_line(reader: &mut TraceLines, line: &[u8], entries: &mut Vec<Entry>) -> Option<TraceEnd>
+    ensures { TakesEntry reader.old reader.new entries.old.items entries.new.items line.now result }
 {
-    lines_are_within_the_limit();
-    match read_entry(alloc, line) {
-        Ok(entry) => match entries.push(entry) {
+    match reader.read(line) {
+        Ok(None) => None,
+        Ok(Some(entry)) => match entries.push(entry) {
             Ok(()) => None,
             Err(_) => Some(TraceEnd::NoMemory),
         },
-        Err(LineFault::Bad) => Some(TraceEnd::BadLine(entries.len() as u64 + 1)),
+        Err(LineFault::Bad) => Some(TraceEnd::BadLine(reader.version().line_of(entries.len()))),
+        Err(LineFault::UnknownVersion) => Some(TraceEnd::UnknownVersion),
         Err(LineFault::NoMemory) => Some(TraceEnd::NoMemory),
     }
 }

@@ -1,4 +1,6 @@
-use super::{PutFault, TraceEnd, TraceWriter, read_trace};
+use super::{
+    LineFault, PutFault, TraceEnd, TraceLines, TraceVersion, TraceWriter, put_trace, read_trace,
+};
 use ipc_history::{Entry, Input, Output};
 use ipc_ports::{MemoryPort, Trouble};
 use ipc_words::ThreadId;
@@ -11,12 +13,25 @@ fn opened() -> Entry {
     Entry::Given(Input::Opened(ThreadId::from_word(0x1_0000_0001), 1))
 }
 
-// A text is read as so many entries, and the reading ends so.
-fn assert_read(rt: &impl Abort, alloc: Global, text: &str, entries: usize, end: TraceEnd) {
+// A text is read as so many entries of a trace of this version, and the reading ends so.
+fn assert_read_as(
+    rt: &impl Abort,
+    alloc: Global,
+    text: &str,
+    version: TraceVersion,
+    entries: usize,
+    end: TraceEnd,
+) {
     let mut port = MemoryPort::new(alloc, text.as_bytes()).byte_by_byte();
     let read = read_trace(alloc, &mut port);
+    assert_eq!(rt; read.version, version);
     assert_eq!(rt; read.entries.len(), entries);
-    assert_eq!(rt; read.end, end);
+    assert_eq!(rt; read.end, end, "{text}");
+}
+
+// A text is read as so many entries of a trace of version 1, and the reading ends so.
+fn assert_read(rt: &impl Abort, alloc: Global, text: &str, entries: usize, end: TraceEnd) {
+    assert_read_as(rt, alloc, text, TraceVersion::One, entries, end);
 }
 
 #[test]
@@ -33,6 +48,96 @@ fn a_trace_ends_as_its_last_line_says(rt: HostRuntime) {
     for (text, entries, end) in cases {
         assert_read(&rt, rt.alloc(), text, entries, end);
     }
+}
+
+#[test]
+fn the_first_line_tells_the_version(rt: HostRuntime) {
+    let cases = [
+        ("l4trace 2\n", 0, TraceEnd::Whole),
+        ("l4trace 2\nopened 1.1 1\nbegan 1 2\n", 2, TraceEnd::Whole),
+        ("l4trace 2\nopened 1.1 1\nope", 1, TraceEnd::Torn),
+        ("l4trace 2\n\n", 0, TraceEnd::BadLine(2)),
+        ("l4trace 2\nl4trace 2\n", 0, TraceEnd::BadLine(2)),
+        ("l4trace 2\nopened 1.1 1\nbad\n", 1, TraceEnd::BadLine(3)),
+        ("l4trace 2\nopened 256.1 1\n", 1, TraceEnd::Whole),
+        ("l4trace 2\nopened 4294967295.1 1\n", 1, TraceEnd::Whole),
+    ];
+    for (text, entries, end) in cases {
+        assert_read_as(&rt, rt.alloc(), text, TraceVersion::Two, entries, end);
+    }
+}
+
+#[test]
+fn a_trace_of_version_1_has_no_line_of_a_version(rt: HostRuntime) {
+    let cases = [
+        ("l4trace 2", 0, TraceEnd::Torn),
+        ("l4trace 3", 0, TraceEnd::Torn),
+        ("opened 1.1 1\nl4trace 2\n", 1, TraceEnd::BadLine(2)),
+        ("l4trac 2\n", 0, TraceEnd::BadLine(1)),
+        ("opened 255.1 1\n", 1, TraceEnd::Whole),
+        ("opened 256.1 1\n", 0, TraceEnd::BadLine(1)),
+        ("opened any 1\nopened local 1\n", 2, TraceEnd::Whole),
+        ("opened 0x10000000040 1\n", 1, TraceEnd::Whole),
+        ("broke 256.1\nexreg 1.1 300.1 0x0\n", 2, TraceEnd::Whole),
+    ];
+    for (text, entries, end) in cases {
+        assert_read(&rt, rt.alloc(), text, entries, end);
+    }
+}
+
+#[test]
+fn another_version_is_told_apart(rt: HostRuntime) {
+    for text in [
+        "l4trace 1\n",
+        "l4trace 3\nopened 1.1 1\n",
+        "l4trace\n",
+        "l4tracer\n",
+        "l4trace 2 \n",
+        "l4trace 22\nbad\n",
+        "l4trace 2\r\n",
+    ] {
+        assert_read(&rt, rt.alloc(), text, 0, TraceEnd::UnknownVersion);
+    }
+}
+
+#[test]
+fn lines_are_read_one_by_one(rt: HostRuntime) {
+    let mut lines = TraceLines::new(rt.alloc());
+    let first = lines.read(b"l4trace 2");
+    assert!(&rt; first.is_ok_and(|entry| entry.is_none()));
+    let second = lines.read(b"opened 1.1 1");
+    assert!(&rt; second.is_ok_and(|entry| entry.is_some()));
+    assert!(&rt;
+        lines
+            .read(b"l4trace 2")
+            .is_err_and(|fault| fault == LineFault::Bad)
+    );
+    assert_eq!(&rt; lines.version(), TraceVersion::Two);
+    let mut lines = TraceLines::new(rt.alloc());
+    let first = lines.read(b"l4trace 4");
+    assert!(&rt; first.is_err_and(|fault| fault == LineFault::UnknownVersion));
+    assert_eq!(&rt; lines.version(), TraceVersion::One);
+}
+
+#[test]
+fn a_whole_trace_is_put_with_its_version(rt: HostRuntime) {
+    let alloc = rt.alloc();
+    let text = b"l4trace 2\nopened 1.1 1\nopened 1.1 1\n";
+    for call in 0..4u64 {
+        let mut port = MemoryPort::new(alloc, &[]).with_trouble(call, Trouble::Fails);
+        let mut trace = TraceWriter::new(alloc, &mut port);
+        let put = put_trace(&mut trace, &[opened(), opened()]);
+        assert_eq!(&rt; put, Err(PutFault::DeviceFailed));
+        assert_eq!(&rt; trace.put_header(), Err(PutFault::Stopped));
+        let written = (10 + 13 * call.saturating_sub(1) as usize).min(text.len());
+        let written = if call == 0 { 0 } else { written };
+        assert_eq!(&rt; port.output(), Some(&text[..written]));
+    }
+    let mut port = MemoryPort::new(alloc, &[]);
+    let mut trace = TraceWriter::new(alloc, &mut port);
+    assert_eq!(&rt; put_trace(&mut trace, &[opened(), opened()]), Ok(()));
+    assert_eq!(&rt; port.output(), Some(text.as_slice()));
+    assert!(&rt; port.is_flushed());
 }
 
 #[test]
@@ -107,5 +212,6 @@ fn a_line_past_the_limit_is_bad_only_with_its_newline(rt: HostRuntime) -> Result
 fn faults_have_their_numbers(rt: HostRuntime) {
     assert_eq!(&rt; PutFault::NoMemory.number(), 5);
     assert_eq!(&rt; TraceEnd::Torn.number(), Some(3));
+    assert_eq!(&rt; TraceEnd::UnknownVersion.number(), Some(6));
     assert_eq!(&rt; TraceEnd::Whole.number(), None);
 }

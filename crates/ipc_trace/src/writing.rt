@@ -1,9 +1,10 @@
 //! A trace that is written.
-ghost use Rattle.std.specs.Prelude.{◌≡◌, ◌↔◌, true, false, Err, OnOk, OnErr, IfOk, IfErr};
+ghost use Rattle.std.specs.Prelude.{◌≡◌, ◌≢◌, ◌↔◌, true, false, Err, OnOk, OnErr, IfOk, IfErr};
 ghost use Rattle.std.specs.String.{string_bytes};
 ghost use Rattle.ipc_lines.specs.Lines.{entry_text};
 ghost use Rattle.ipc_trace.specs.Putting.{FailsInLine, FailsToHandOn, HandsOn, IsNoDevice, PutsLine};
 ghost use Rattle.ipc_trace.specs.Traces.{ended};
+ghost use Rattle.ipc_trace.specs.Versions.{version_line};
 
 use crate::fault::PutFault;
 use ipc_history::Entry;
@@ -12,7 +13,7 @@ use ipc_ports::{PortWrite, write_all};
 use std::alloc::{AllocError, Global};
 use std::marker::Model;
 
-/// Writes the lines of entries to a port. After a failure of the device it writes nothing more.
+/// Writes the line of the version and the lines of entries to a port. After a failure of the device it writes nothing more.
 #[derive(Drop)]
 pub struct TraceWriter<P: PortWrite> {
     alloc: Global,
@@ -48,6 +49,25 @@ impl<P: PortWrite> TraceWriter<P> {
             port,
             is_stopped: false,
         }
+    }
+
+    /// Writes the line of the version, which stands before those of the entries. It takes no memory.
+    ///
+    /// # Errors
+    ///
+    /// TR1, only where the count of failures rose in this call; TR2.
+    pub fn put_header(&mut self) -> Result<(), PutFault>
+        ensures ok { OnOk result (PutsLine self.old self.new (ended version_line)) }
+        ensures device { result ≡ Err PutFault.DeviceFailed
+            → FailsInLine self.old self.new (ended version_line) }
+        ensures stopped { (result ≡ Err PutFault.Stopped) ↔ (self.old.is_stopped ≡ true) }
+        ensures same { IsNoDevice result → self.new ≡ self.old }
+        ensures takes_none { result ≢ Err PutFault.NoMemory }
+    {
+        if self.is_stopped {
+            return Err(PutFault::Stopped);
+        }
+        self.put_bytes(b"l4trace 2\n")
     }
 
     /// Writes the line of an entry.

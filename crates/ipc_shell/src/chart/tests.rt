@@ -68,7 +68,10 @@ fn a_trace_is_drawn_by_its_whole_lines(rt: HostRuntime) {
         (
             "opened 1.1 1\nbroke 2.1\n",
             of(None),
-            Exit::IllegalLine(2),
+            Exit::IllegalLine {
+                number: 2,
+                entries: 1,
+            },
             "",
         ),
         (TRACE, of(Some("9.1")), Exit::NoChart(ChartFault::NoRow), ""),

@@ -32,6 +32,18 @@ fn a_trace_is_judged_by_its_whole_lines(rt: HostRuntime) {
         ("broke 1.1\nopened 2", Exit::Illegal, "no 1 input\ntorn\n"),
         ("opened 01.1 1\n", Exit::BadLine(1), ""),
         ("broke 1.1\n\n", Exit::BadLine(2), ""),
+        ("l4trace 2\n", Exit::Done, "yes\n"),
+        ("l4trace 2", Exit::Done, "yes\ntorn\n"),
+        (
+            "l4trace 2\nopened 1.1 1\nbroke 1.1\nopened 1.1 1\n",
+            Exit::Illegal,
+            "no 4 input\n",
+        ),
+        ("opened 1.1 1\nl4trace 2\n", Exit::BadLine(2), ""),
+        ("l4trace 2\nopened 1.1 1\nl4trace 2\n", Exit::BadLine(3), ""),
+        ("opened 256.1 1\n", Exit::BadLine(1), ""),
+        ("l4trace 1\n", Exit::UnknownVersion, ""),
+        ("l4tracer\nopened 1.1 1\n", Exit::UnknownVersion, ""),
     ];
     for (trace, exit, text) in cases {
         assert_checked(&rt, rt.alloc(), trace.as_bytes(), exit, text);

@@ -62,6 +62,14 @@ any     1.1     1       0         0           0         -                   -
 all     all     2       1         0           0         0 0 0               0 0 0
 ";
 
+// The line of this number does not follow the entries before it, each of which has a line.
+fn illegal(number: u64) -> Exit {
+    Exit::IllegalLine {
+        number,
+        entries: number.saturating_sub(1),
+    }
+}
+
 // A look at a trace ends so and prints this text.
 fn assert_looked(rt: &impl Abort, alloc: Global, trace: &str, look: Look, exit: Exit, text: &str) {
     let mut reader = MemoryPort::new(alloc, trace.as_bytes()).byte_by_byte();
@@ -79,7 +87,7 @@ fn the_counts_are_told_of_a_legal_trace_alone(rt: HostRuntime) {
     let twice = "opened 1.1 1\nopened 1.1 1\n";
     for is_json in [false, true] {
         let look = Look::Counts { is_json };
-        assert_looked(&rt, alloc, twice, look, Exit::IllegalLine(2), "");
+        assert_looked(&rt, alloc, twice, look, illegal(2), "");
     }
 }
 
@@ -133,14 +141,19 @@ fn a_script_gives_the_commands_of_a_trace(rt: HostRuntime) {
 fn nothing_is_printed_of_a_trace_with_a_bad_or_illegal_line(rt: HostRuntime) {
     let all = Look::StateAt(usize::MAX);
     let cases = [
+        ("opened 1.1 1\nopened 1.1 1\n", Look::Script, illegal(2)),
+        ("opened 1.1 1\nopened 1.1 1\n", all, illegal(2)),
+        ("broke 1.1\nopened", Look::Script, illegal(1)),
+        ("broke 1.1\nopened", Look::StateAt(1), illegal(1)),
         (
-            "opened 1.1 1\nopened 1.1 1\n",
+            "l4trace 2\nopened 1.1 1\nopened 1.1 1\n",
             Look::Script,
-            Exit::IllegalLine(2),
+            Exit::IllegalLine {
+                number: 3,
+                entries: 1,
+            },
         ),
-        ("opened 1.1 1\nopened 1.1 1\n", all, Exit::IllegalLine(2)),
-        ("broke 1.1\nopened", Look::Script, Exit::IllegalLine(1)),
-        ("broke 1.1\nopened", Look::StateAt(1), Exit::IllegalLine(1)),
+        ("l4trace 3\nopened 1.1 1\n", all, Exit::UnknownVersion),
         (
             "opened 1.1 1\nopened 01.1 1\n",
             Look::Script,

@@ -145,8 +145,12 @@ fn an_end_is_told_by_its_status_and_words(rt: HostRuntime) -> Result<(), Fail> {
             "l4sh: nothing to draw",
         ),
         (Exit::BadWord, 2, "l4sh: this word says nothing"),
+        (Exit::UnknownVersion, 2, "l4sh: unknown version"),
         (
-            Exit::IllegalLine(7),
+            Exit::IllegalLine {
+                number: 7,
+                entries: 6,
+            },
             3,
             "l4sh: line 7 does not follow those before it",
         ),

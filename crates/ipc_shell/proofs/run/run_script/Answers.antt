@@ -123,7 +123,7 @@ lines-init g c =
     let bytes = g.R.PortRead.remaining c.args.reader.now in
     let start = first_kernel c.args.limits in
     record {
-      so_far = subst (λ kernel. ObeyedSoFar RunsLine start bytes (prepend_known c.new-buffer.result bytes) before before kernel 1) (sym c.in-Ok.ensures.ok)
+      so_far = subst (λ kernel. ObeyedSoFar RunsLine start bytes (prepend_known c.new-buffer.result bytes) before before kernel 1) (sym c.in-Ok.ensures)
           (none_obeyed KernelParts RunsLine IsNoCommand start bytes before c.new-buffer.result c.new-buffer.ensures);
       read = refl;
       written = refl;

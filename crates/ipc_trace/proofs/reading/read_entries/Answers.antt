@@ -2,26 +2,32 @@ use Rattle.std.proofs.Common.{◌≡◌, ◌<◌, length, None, Some, refl, subs
 use Rattle.std.proofs.lemmas.Grind.{common_steps}
 use Rattle.std.specs.Io.KnownBytes.{prepend_known}
 use Rattle.ipc_trace.specs.Taking.{TakesEntry}
-use Rattle.ipc_trace.proofs.Ends.{one_more, ends_whole, ends_torn, ends_at_line, newline_is_no_failure, input_is_no_newline, input_is_not_no_memory}
+use Rattle.ipc_trace.proofs.Ends.{ends_whole, ends_torn, ends_failed, ends_without_memory, ends_at_line, newline_is_no_failure, input_is_no_newline, input_is_not_no_memory}
+use Rattle.ipc_trace.proofs.Stages.{no_lines, one_more}
 use Rattle.ipc_trace.proofs.reading.read_entries.Goals as goal
 
 pub returns-in-Some-clause-read : goal.returns-in-Some-clause-read
 returns-in-Some-clause-read g c =
     let entries = c.lines.entries.items in
-    let more = c.take_entry.new.entries.items in
-    let taken = subst (λ l. TakesEntry entries more l (Some c.in-Some.end)) c.deref.ensures.value c.in-Some.ensures in
+    let more = c.take_line.new.entries.items in
+    let before = c.lines.reader in
+    let after = c.take_line.new.reader in
+    let taken = subst (λ l. TakesEntry before after entries more l (Some c.in-Some.end)) c.deref.ensures.value c.in-Some.ensures in
     ends_at_line (g.P.PortRead.remaining c.args.port.now) (prepend_known c.lines.buffer (g.P.PortRead.remaining c.lines.port))
     (prepend_known c.next_line.new.buffer (g.P.PortRead.remaining c.next_line.new.port)) (g.P.PortRead.remaining c.next_line.new.port)
-    entries more c.next_line.new.line.items c.in-Some.end c.lines.invariant.so_far c.in-Newline.ensures.line taken
+    before after entries more c.next_line.new.line.items c.in-Some.end c.lines.invariant.so_far c.in-Newline.ensures.line taken
 
 pub lines-preserved : goal.lines-preserved
 lines-preserved g c =
     let entries = c.lines.entries.items in
-    let more = c.take_entry.new.entries.items in
-    let taken = subst (λ l. TakesEntry entries more l None) c.deref.ensures.value (subst (TakesEntry entries more c.deref.result.now) c.in_default.is c.take_entry.ensures) in
+    let more = c.take_line.new.entries.items in
+    let before = c.lines.reader in
+    let after = c.take_line.new.reader in
+    let taken =
+    subst (λ l. TakesEntry before after entries more l None) c.deref.ensures.value (subst (TakesEntry before after entries more c.deref.result.now) c.in_default.is c.take_line.ensures) in
     record {
       so_far = one_more (g.P.PortRead.remaining c.args.port.now) (prepend_known c.lines.buffer (g.P.PortRead.remaining c.lines.port))
-          (prepend_known c.next_line.new.buffer (g.P.PortRead.remaining c.next_line.new.port)) entries more c.next_line.new.line.items
+          (prepend_known c.next_line.new.buffer (g.P.PortRead.remaining c.next_line.new.port)) before after entries more c.next_line.new.line.items
           c.lines.invariant.so_far c.in-Newline.ensures.line taken;
       failures = c.in-Newline.ensures.kept newline_is_no_failure ∙ c.lines.invariant.failures;
     }
@@ -30,12 +36,12 @@ pub returns-in-Input-clause-read : goal.returns-in-Input-clause-read
 returns-in-Input-clause-read g c =
     let empty : length c.next_line.new.line.items ≡ 0 = grind (arith, common_steps) in
     ends_whole (g.P.PortRead.remaining c.args.port.now) (prepend_known c.lines.buffer (g.P.PortRead.remaining c.lines.port)) (g.P.PortRead.remaining c.next_line.new.port)
-    c.next_line.new.buffer c.lines.entries.items c.next_line.new.line.items c.lines.invariant.so_far c.in-Input.ensures.line
+    c.next_line.new.buffer c.lines.reader c.lines.entries.items c.next_line.new.line.items c.lines.invariant.so_far c.in-Input.ensures.line
     (c.in-Input.ensures.used input_is_not_no_memory input_is_no_newline) empty
 
 pub returns-in-Input-2-clause-read : goal.returns-in-Input-2-clause-read
 returns-in-Input-2-clause-read g c =
     let some : 0 < length c.next_line.new.line.items = grind (arith, common_steps) in
     ends_torn (g.P.PortRead.remaining c.args.port.now) (prepend_known c.lines.buffer (g.P.PortRead.remaining c.lines.port)) (g.P.PortRead.remaining c.next_line.new.port)
-    c.next_line.new.buffer c.lines.entries.items c.next_line.new.line.items c.lines.invariant.so_far c.in-Input-2.ensures.line
+    c.next_line.new.buffer c.lines.reader c.lines.entries.items c.next_line.new.line.items c.lines.invariant.so_far c.in-Input-2.ensures.line
     (c.in-Input-2.ensures.used input_is_not_no_memory input_is_no_newline) some

@@ -1,13 +1,13 @@
--- What was taken is the lines of the entries.
+-- What was taken is the line of the version and those of the entries.
 use Rattle.std.proofs.Common.{◌≡◌}
-use Rattle.std.specs.Io.KnownBytes.{Consumes, prepend_known}
+use Rattle.std.specs.Io.KnownBytes.{prepend_known}
 use Rattle.ipc_ports.specs.Ports.{most_left}
-use Rattle.ipc_trace.specs.Traces.{trace_text}
+use Rattle.ipc_trace.proofs.Stages.{LinesSoFar}
 use Rattle.ipc_trace.proofs.reading.read_entries.Given as goal
 
 abbrev pub invariant-lines : goal.invariant-lines
 invariant-lines g l = record {
-  so_far : Consumes (g.P.PortRead.remaining l.fn.port) (prepend_known l.buffer (g.P.PortRead.remaining l.port)) (trace_text l.entries.items);
+  so_far : LinesSoFar (g.P.PortRead.remaining l.fn.port) (prepend_known l.buffer (g.P.PortRead.remaining l.port)) l.reader l.entries.items;
   failures : g.P.PortRead.failures l.port ≡ g.P.PortRead.failures l.fn.port;
 }
 

@@ -119,24 +119,33 @@ fn lines_are_read_one_by_one(rt: HostRuntime) {
     assert_eq!(&rt; lines.version(), TraceVersion::One);
 }
 
+// The trace of two entries.
+const TWO: &[u8] = b"l4trace 2\nopened 1.1 1\nopened 1.1 1\n";
+
+// Where this call of the device fails, so many bytes of the trace of two entries stand.
+fn assert_front(rt: &impl Abort, alloc: Global, call: u64, written: usize) {
+    let mut port = MemoryPort::new(alloc, &[]).with_trouble(call, Trouble::Fails);
+    let mut trace = TraceWriter::new(alloc, &mut port);
+    let put = put_trace(&mut trace, &[opened(), opened()]);
+    assert_eq!(rt; put, Err(PutFault::DeviceFailed));
+    assert_eq!(rt; trace.put_header(), Err(PutFault::Stopped));
+    assert_eq!(rt; port.output(), TWO.get(..written));
+}
+
+#[test]
+fn a_front_of_a_trace_stands_where_a_write_fails(rt: HostRuntime) {
+    for (call, written) in [(0, 0), (1, 10), (2, 23), (3, 36)] {
+        assert_front(&rt, rt.alloc(), call, written);
+    }
+}
+
 #[test]
 fn a_whole_trace_is_put_with_its_version(rt: HostRuntime) {
     let alloc = rt.alloc();
-    let text = b"l4trace 2\nopened 1.1 1\nopened 1.1 1\n";
-    for call in 0..4u64 {
-        let mut port = MemoryPort::new(alloc, &[]).with_trouble(call, Trouble::Fails);
-        let mut trace = TraceWriter::new(alloc, &mut port);
-        let put = put_trace(&mut trace, &[opened(), opened()]);
-        assert_eq!(&rt; put, Err(PutFault::DeviceFailed));
-        assert_eq!(&rt; trace.put_header(), Err(PutFault::Stopped));
-        let written = (10 + 13 * call.saturating_sub(1) as usize).min(text.len());
-        let written = if call == 0 { 0 } else { written };
-        assert_eq!(&rt; port.output(), Some(&text[..written]));
-    }
     let mut port = MemoryPort::new(alloc, &[]);
     let mut trace = TraceWriter::new(alloc, &mut port);
     assert_eq!(&rt; put_trace(&mut trace, &[opened(), opened()]), Ok(()));
-    assert_eq!(&rt; port.output(), Some(text.as_slice()));
+    assert_eq!(&rt; port.output(), Some(TWO));
     assert!(&rt; port.is_flushed());
 }
 

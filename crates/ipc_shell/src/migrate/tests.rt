@@ -12,6 +12,7 @@ fn assert_migrated(rt: &impl Abort, alloc: Global, old: &str, exit: Exit, new: &
     let mut file = MemoryPort::new(alloc, &[]).byte_by_byte();
     let mut trace = TraceWriter::new(alloc, &mut file);
     let ended = migrate_trace(alloc, &mut reader, &mut trace, &mut writer);
+    drop(trace);
     assert_eq!(rt; ended, exit, "{old}");
     assert_eq!(rt; file.output(), Some(new.as_bytes()));
     assert_eq!(rt; writer.output(), Some(told.as_bytes()));
@@ -59,24 +60,32 @@ fn nothing_is_written_of_a_trace_that_is_not_read(rt: HostRuntime) {
 }
 
 #[test]
-fn a_device_that_fails_ends_the_migration(rt: HostRuntime) {
+fn a_new_trace_that_fails_ends_the_migration(rt: HostRuntime) {
     let alloc = rt.alloc();
     let old = b"opened 1.1 1\nopened";
+    let mut reader = MemoryPort::new(alloc, old.as_slice());
     let mut writer = MemoryPort::new(alloc, &[]);
     let mut file = MemoryPort::new(alloc, &[]).with_trouble(1, Trouble::Fails);
     let mut trace = TraceWriter::new(alloc, &mut file);
-    let mut reader = old.as_slice();
     let ended = migrate_trace(alloc, &mut reader, &mut trace, &mut writer);
-    assert_eq!(&rt; ended, Exit::DeviceFailed);
-    assert_eq!(&rt; file.output(), Some(b"l4trace 2\n".as_slice()));
-    assert_eq!(&rt; writer.output(), Some(b"".as_slice()));
+    drop(trace);
+    assert_eq!(rt; ended, Exit::DeviceFailed);
+    assert_eq!(rt; file.output(), Some(b"l4trace 2\n".as_slice()));
+    assert_eq!(rt; writer.output(), Some(b"".as_slice()));
+}
+
+#[test]
+fn a_writer_that_fails_ends_the_migration(rt: HostRuntime) {
+    let alloc = rt.alloc();
+    let old = b"opened 1.1 1\nopened";
+    let mut reader = MemoryPort::new(alloc, old.as_slice());
     let mut writer = MemoryPort::new(alloc, &[]).with_trouble(0, Trouble::Fails);
     let mut file = MemoryPort::new(alloc, &[]);
     let mut trace = TraceWriter::new(alloc, &mut file);
-    let mut reader = old.as_slice();
     let ended = migrate_trace(alloc, &mut reader, &mut trace, &mut writer);
-    assert_eq!(&rt; ended, Exit::DeviceFailed);
-    assert_eq!(&rt;
+    drop(trace);
+    assert_eq!(rt; ended, Exit::DeviceFailed);
+    assert_eq!(rt;
         file.output(),
         Some(b"l4trace 2\nopened 1.1 1\n".as_slice())
     );

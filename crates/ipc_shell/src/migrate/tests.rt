@@ -60,21 +60,6 @@ fn nothing_is_written_of_a_trace_that_is_not_read(rt: HostRuntime) {
 }
 
 #[test]
-fn a_new_trace_that_fails_ends_the_migration(rt: HostRuntime) {
-    let alloc = rt.alloc();
-    let old = b"opened 1.1 1\nopened";
-    let mut reader = MemoryPort::new(alloc, old.as_slice());
-    let mut writer = MemoryPort::new(alloc, &[]);
-    let mut file = MemoryPort::new(alloc, &[]).with_trouble(1, Trouble::Fails);
-    let mut trace = TraceWriter::new(alloc, &mut file);
-    let ended = migrate_trace(alloc, &mut reader, &mut trace, &mut writer);
-    drop(trace);
-    assert_eq!(rt; ended, Exit::DeviceFailed);
-    assert_eq!(rt; file.output(), Some(b"l4trace 2\n".as_slice()));
-    assert_eq!(rt; writer.output(), Some(b"".as_slice()));
-}
-
-#[test]
 fn a_writer_that_fails_ends_the_migration(rt: HostRuntime) {
     let alloc = rt.alloc();
     let old = b"opened 1.1 1\nopened";

@@ -3,7 +3,7 @@
 
     bench/idle_connections.py IDLE ROUNDS
 
-There are 255 threads at most: the connections past that say hello for a number that has been given."""
+There are 1,023 threads at most: the connections past that say hello for a number that has been given."""
 import sys
 
 HELLO = "0000000301%04x"
@@ -25,7 +25,7 @@ def main():
     idle, rounds = int(sys.argv[1]), int(sys.argv[2])
     lines = ["connect 1", "connect 1", "feed 1 " + HELLO % 1, "feed 2 " + HELLO % 2]
     for connection in range(3, idle + 3):
-        lines += ["connect 1", f"feed {connection} " + HELLO % min(connection, 255)]
+        lines += ["connect 1", f"feed {connection} " + HELLO % min(connection, 1023)]
     lines.append("feed 2 " + RECEIVE)
     for _ in range(rounds):
         lines += ["feed 1 " + CALL, "feed 2 " + ANSWER]

@@ -24,7 +24,7 @@ SECONDS = 60
 
 NIL, ANY, LOCAL = 0, 0xFFFF_FFFF_FFFF_FFFF, 0xFFFF_FFFF_FFFF_FFC0
 FAILED, PROPAGATED, REDIRECTED, CROSSED = 0x8000, 0x1000, 0x2000, 0x4000
-WELCOME, IPCR, EXREGR, REFUSED, FAULT = 0x81, 0x82, 0x83, 0x84, 0x85
+WELCOME, IPCR, EXREGR, REFUSED, FAULT, IPCR_2, EXREGR_2 = 0x81, 0x82, 0x83, 0x84, 0x85, 0x86, 0x87
 NOT_CONNECTED, NO_REGISTER, LEFT_OUT_CONTROL, NOT_AN_ANSWER = 1, 2, 3, 4
 # as many bytes as the library reads first
 INPUT = 8192
@@ -137,6 +137,20 @@ def ipcr(tag, sender=0, actual=0, error=0, words=(), pieces=()):
     return frame(IPCR, body + b"".join(struct.pack(">QI", pointer, len(data)) + data for pointer, data in pieces))
 
 
+# what version 2 tells of a played call
+CALL, MOMENT = 0x1_0000_0007, 0x12_3456_789A
+
+
+def in_version_2(call, data):
+    """A right answer as it is in version 2, and the name of the call in that version."""
+    kind, rest = data[4], data[5:]
+    if kind == IPCR:
+        return call + "2", frame(IPCR_2, words_bytes((CALL, MOMENT)) + rest)
+    if kind == EXREGR:
+        return call + "2", frame(EXREGR_2, words_bytes((MOMENT,)) + rest)
+    return call + "2", data
+
+
 class Verdict(Exception):
     """What the library has to make of an answer, where it is not a message or an outcome."""
 
@@ -167,7 +181,7 @@ def refusal_in(stream, kind, body):
             raise Verdict("F", 3)
         told = stream.take(2)
         raise Verdict(*((chr(told[0]), told[1]) if told[0] in b"KFS" else ("C", NOT_AN_ANSWER)))
-    raise Verdict(*(("C", NOT_AN_ANSWER) if kind in (WELCOME, IPCR, EXREGR) else ("F", 2)))
+    raise Verdict(*(("C", NOT_AN_ANSWER) if kind in (WELCOME, IPCR, EXREGR, IPCR_2, EXREGR_2) else ("F", 2)))
 
 
 def pieces_of(call, items):
@@ -186,10 +200,13 @@ def pieces_of(call, items):
     return pieces
 
 
-def outcome_in(call, stream, body):
-    """Tag, ErrorCode, sender, ActualSender, words and the area after an IPCR frame."""
-    if body < 34:
+def outcome_in(call, stream, body, version):
+    """Tag, ErrorCode, sender, ActualSender, words, the area and what is told of the call after an IPCR frame."""
+    times = 16 * (version - 1)
+    if body < 34 + times:
         raise Verdict("F", 3)
+    told = struct.unpack(">QQ", stream.take(times)) if times else None
+    body -= times
     tag, sender, actual, error = struct.unpack(">QQQQ", stream.take(32))
     untyped, typed = tag & 63, tag >> 6 & 63
     if untyped + typed > 63:
@@ -215,11 +232,14 @@ def outcome_in(call, stream, body):
         if stream.take(12) != struct.pack(">QI", AREA + at, length):
             raise Verdict("C", NOT_AN_ANSWER)
         area[at : at + length] = stream.take(length)
-    return tag, error, sender, actual, words, bytes(area)
+    return tag, error, sender, actual, words, bytes(area), told
 
 
 def read_answer(call, data, first):
-    """What an answer tells the call, of which `first` bytes come at once: tag, ErrorCode, from, ActualSender, words, area."""
+    """What an answer tells the call, of which `first` bytes come at once: tag, ErrorCode, from, ActualSender, words, area, what
+    version 2 tells beside it."""
+    version = 2 if call.endswith("2") else 1
+    call = call.removesuffix("2")
     stream = Stream(data)
     (body,) = struct.unpack(">I", stream.take(4))
     if body == 0 or body > 2_097_152:
@@ -227,22 +247,23 @@ def read_answer(call, data, first):
     kind = stream.take(1)[0]
     if min(first, INPUT) > 4 + body:
         raise Verdict("C", NOT_AN_ANSWER)
-    wanted = {"connect": WELCOME, "exreg": EXREGR}.get(call, IPCR)
+    wanted = {"connect": (WELCOME, WELCOME), "exreg": (EXREGR, EXREGR_2)}.get(call, (IPCR, IPCR_2))[version - 1]
     if kind != wanted:
         refusal_in(stream, kind, body)
-    if kind == IPCR:
-        return outcome_in(call, stream, body)
-    if body != (9 if kind == WELCOME else 25):
+    if kind in (IPCR, IPCR_2):
+        return outcome_in(call, stream, body, version)
+    if body != {WELCOME: 9, EXREGR: 25, EXREGR_2: 33}[kind]:
         raise Verdict("F", 3)
     if kind == WELCOME:
         (thread,) = struct.unpack(">Q", stream.take(8))
         if thread >> 32 != 2 or not thread & 63:
             raise Verdict("C", NOT_AN_ANSWER)
-        return 0, 0, thread, 0, (), PRISTINE
+        return 0, 0, thread, 0, (), PRISTINE, None
+    told = (0, *struct.unpack(">Q", stream.take(8))) if version == 2 else None
     result, control, code = struct.unpack(">QQQ", stream.take(24))
     if control & ~6 or (result == NIL) != (code != 0) or (code == 0 and result != thread_id(2)):
         raise Verdict("C", NOT_AN_ANSWER)
-    return control, code, result, 0, (), PRISTINE
+    return control, code, result, 0, (), PRISTINE, told
 
 
 def right_answers():
@@ -313,7 +334,12 @@ def made_up(count):
 def all_cases():
     """Cases: call, bytes of the answer, where the server pauses (0: nowhere)."""
     cases = []
-    for call, data in right_answers():
+    answers = right_answers()
+    answers += [in_version_2(call, data) for call, data in answers]
+    # an answer of the other version is none
+    cases += [(call, in_version_2(call, data)[1], 0) for call, data in answers if not call.endswith("2")]
+    cases += [(call + "2", data, 0) for call, data in answers if not call.endswith("2")]
+    for call, data in answers:
         cases += [(call, data, 0), (call, data + b"\0", 0)]
         # a second answer is seen where it comes with the first; else it would be taken for that of the next call
         cases += [(call, data + data, 0)] if 2 * len(data) < INPUT else []
@@ -321,24 +347,25 @@ def all_cases():
         cuts = range(len(data)) if len(data) < 1000 else [*range(100), *random.sample(range(100, len(data)), 60)]
         cases += [(call, data[:cut], 0) for cut in cuts]
         cases += [(call, data, cut) for cut in cuts if cut > 0]
-    for call in ("send", "wait", "exreg", "connect"):
+    for call in ("send", "wait", "exreg", "connect", "send2", "exreg2", "connect2"):
         cases += [(call, frame(REFUSED, bytes([number])), 0) for number in range(10)]
         cases += [(call, frame(FAULT, bytes([ord(kind), number])), 0) for kind in "KFS" for number in range(17)]
         cases += [(call, frame(kind, b""), 0) for kind in range(256)]
-    return cases + [(call, data, 0) for call, data in made_up(3000)]
+    return cases + [(call, data, 0) for call, data in made_up(3000)] + [(*in_version_2(call, data), 0) for call, data in made_up(1000)]
 
 
 def check_played(call, data, cut, line):
     """One line of play, against what the answer tells."""
     head, again = line.split("; ")
-    fields = head.split(" ", 11)
-    connected, _, tag, code, came_from, actual, words, area, outside, myself, errno, text = fields
+    fields = head.split(" ", 12)
+    connected, _, tag, code, came_from, actual, words, times, area, outside, myself, errno, text = fields
     try:
         heard = read_answer(call, data, cut or len(data))
         verdict = None
     except Verdict as told:
         heard, verdict = None, told
     case = f"{call} {data.hex()[:400]} cut at {cut}: {line}"
+    call = call.removesuffix("2")
     alone = call in ("wait", "take", "big")
     count = AREA_BYTES if call == "big" else FRONT_BYTES
     assert int(outside, 16) == zlib.adler32(PRISTINE[:count]), "a byte outside of the buffers was written: " + case
@@ -346,13 +373,15 @@ def check_played(call, data, cut, line):
     lost = verdict is not None and (verdict.lost or call == "connect")
     assert (int(myself, 16) == 0) == lost, case
     assert int(again.split()[0], 16) == (code_of("C", NOT_CONNECTED) | 1 if lost else code_of("F", 9) | 1), case
+    told = heard[6] if heard else None
+    assert times == (f"{told[0]:x},{told[1]:x}" if told else "-"), (told, case)
     if verdict:
         wanted = verdict.code | (1 if alone else 0)
         assert int(code, 16) == wanted and int(tag, 16) == (0 if call in ("connect", "exreg") else FAILED), (hex(wanted), case)
         assert int(came_from, 16) == 0 and int(errno) != 0, case
         assert f"{chr(verdict.code >> 12)}{verdict.code >> 4 & 0xFF}:" in text, case
         return
-    wanted_tag, wanted_code, wanted_from, wanted_actual, wanted_words, wanted_area = heard
+    wanted_tag, wanted_code, wanted_from, wanted_actual, wanted_words, wanted_area, _ = heard
     assert int(tag, 16) == wanted_tag and int(code, 16) == wanted_code, case
     assert call == "connect" or int(came_from, 16) == wanted_from, case
     assert int(myself, 16) == (wanted_from if call == "connect" else thread_id(2)), case
@@ -369,7 +398,8 @@ def check_vectors(program, room):
     rows = {name: data.replace(" ", "") for name, data in rows.items()}
     vector = lambda begin: next(data for name, data in rows.items() if name.startswith(begin))
     answers = [("connect", vector("WELCOME 2.1")), ("send", vector("IPCR: failed")), ("exreg", vector("EXREGR: 2.1")),
-               ("propagate", "-"), ("strings", "-"), ("take", "-")]
+               ("propagate", "-"), ("strings", "-"), ("take", "-"), ("connect2", vector("WELCOME 2.1")),
+               ("send2", vector("IPCR of version 2: failed")), ("exreg2", vector("EXREGR of version 2: 2.1"))]
     lines = play(program, room, [f"{call} {data}" for call, data in answers])
     requests = [line.split()[1] for line in lines]
     assert requests[0] == vector("HELLO 2") and requests[1] == vector("IPC: to 1.1") and requests[2] == vector("EXREG: dest 2.1")
@@ -386,12 +416,14 @@ def check_vectors(program, room):
     assert requests[4] == wanted[1].hex(), requests[4]
     buffers = (3 << 10 | 1, AREA + 0x10, 2 << 10 | 0x200, AREA + 0x100, 3 << 10, AREA + 0x200)
     assert requests[5] == ipc(NIL, ANY, buffers=buffers).hex(), requests[5]
+    assert requests[6] == vector("HELLO of version 2: 2") and requests[7:9] == requests[1:3], requests[6:9]
+    assert lines[7].split()[7] == "1,0" and lines[8].split()[7] == "0,0", lines[7:9]
     return len(requests)
 
 
 def play(program, room, lines):
     folder = tempfile.mkdtemp(dir=room)
-    ran = subprocess.run([program, folder], input="\n".join(lines) + "\n", capture_output=True, text=True, timeout=SECONDS)
+    ran = subprocess.run([program, folder], input="\n".join(lines) + "\n", capture_output=True, text=True, timeout=4 * SECONDS)
     assert ran.returncode == 0, ran.stderr[-3000:]
     return ran.stdout.splitlines()
 
@@ -459,18 +491,22 @@ class Say:
 
     def __init__(self, program, dir, number=None, space=1):
         self.process = subprocess.Popen([program], stdin=subprocess.PIPE, stdout=subprocess.PIPE, text=True)
-        self.dir, self.thread = dir, None
-        # what each Ipc that the server was asked brought
-        self.outcomes = []
+        self.dir, self.thread, self.version = dir, None, None
+        # what each Ipc that the server was asked brought, and what version 2 told of it: (its number, its moment), None in version 1
+        self.outcomes, self.times = [], []
+        # the moment of each ExchangeRegisters, in version 2
+        self.exchanges = []
         if number is not None:
             self.connect(number, space)
 
-    def connect(self, number, space=1):
-        result, errno, text = self.ask(f"connect {self.dir} {space} {number}")
+    def connect(self, number, space=1, version=None):
+        """Threads of odd numbers speak version 2, the others version 1, unless another one is asked for."""
+        version = 1 + number % 2 if version is None else version
+        result, errno, text = self.ask(f"connect {self.dir} {space} {number} {version}")
         status, thread = result.split()
         self.thread = int(thread, 16) or None
         if status == "0":
-            self.outcomes = []
+            self.outcomes, self.times, self.exchanges, self.version = [], [], [], version
         return int(status), errno, text
 
     def tell(self, line):
@@ -498,10 +534,13 @@ class Say:
     def hear_ipc(self):
         """tag, sender, ActualSender, ErrorCode as words, and the text."""
         result, _, text = self.hear()
-        tag, sender, actual, code, words, strings = result.split()
+        tag, sender, actual, code, words, strings, times = result.split()
         # with e = 0 no outcome came: the call was refused, or was not made
-        if int(code, 16) == 0 or int(code, 16) >> 1 & 7:
+        is_outcome = int(code, 16) == 0 or int(code, 16) >> 1 & 7
+        assert (times != "-") == (bool(is_outcome) and self.version == 2), result
+        if is_outcome:
             self.outcomes.append((int(tag, 16), int(sender, 16), int(actual, 16), int(code, 16), words, strings))
+            self.times.append(None if times == "-" else tuple(int(word, 16) for word in times.split(",")))
         return int(tag, 16), int(sender, 16), int(actual, 16), int(code, 16), words, strings, text
 
     def ipc(self, **parts):
@@ -513,7 +552,10 @@ class Say:
 
     def exreg(self, target, control):
         result, errno, text = self.ask(f"exreg {target:x} {control:x}")
-        return tuple(int(word, 16) for word in result.split())
+        *words, times = result.split()
+        if times != "-":
+            self.exchanges.append(int(times.split(",")[1], 16))
+        return tuple(int(word, 16) for word in words)
 
     def end(self):
         if self.process.poll() is None:
@@ -539,9 +581,20 @@ class Past:
         self.calls, self.space, self.live, self.told = {}, {}, set(), {}
         # threads in the order in which they made calls: thread, number
         self.made = {}
+        # the moment, when each call was over, and the moments of the exchanges of registers by their threads
+        self.now, self.over, self.exchanges = 0, {}, {}
         for line in lines:
             word, *fields = line.split(" ")
             getattr(self, word, lambda *_: None)(*fields)
+
+    def at(self, moment):
+        self.now = int(moment)
+
+    def exreg(self, thread, *_):
+        self.exchanges.setdefault(word_of_id(thread), []).append(self.now)
+
+    def tells(self, number, outcome):
+        self.told[number], self.over[number] = outcome, self.now
 
     def opened(self, thread, space):
         thread = word_of_id(thread)
@@ -558,7 +611,7 @@ class Past:
         self.calls[number] = dict(thread=thread, tag=tag, shown=virtual if is_shown else None, words=words, strings=strings, receives=source != NIL)
         self.made[thread].append(number)
         if to == NIL and source == NIL:
-            self.told[number] = (0, NIL, NIL, 0, "-", "-")
+            self.tells(number, (0, NIL, NIL, 0, "-", "-"))
 
     def ended(self, n, m):
         call = self.calls[n]
@@ -567,12 +620,12 @@ class Past:
         tag = call["tag"] & ~0xFFFF | call["tag"] & 63 | strings * 2 << 6 | (PROPAGATED if shown is not None else 0)
         words = call["words"].replace("0x", "")
         sender, actual = (call["thread"], NIL) if shown is None else (shown, call["thread"])
-        self.told[m] = (tag, sender, actual, 0, words, call["strings"])
+        self.tells(m, (tag, sender, actual, 0, words, call["strings"]))
         if not call["receives"]:
-            self.told[n] = (0, NIL, NIL, 0, "-", "-")
+            self.tells(n, (0, NIL, NIL, 0, "-", "-"))
 
     def fails(self, number, code):
-        self.told[number] = (FAILED, NIL, NIL, code, "-", "-")
+        self.tells(number, (FAILED, NIL, NIL, code, "-", "-"))
 
     def failed(self, number, code):
         self.fails(number, int(code, 16))
@@ -588,12 +641,24 @@ class Past:
     def outcomes(self, thread):
         return [self.told[number] for number in self.made.get(thread, []) if number in self.told]
 
+    def times(self, thread):
+        """The number and the moment of each outcome."""
+        return [(int(number), self.over[number]) for number in self.made.get(thread, []) if number in self.told]
 
-def compare(server, l4sh, sayers):
+
+def told_to(*sayers):
+    """What each of them was told, by its thread."""
+    return [(sayer.thread, sayer.outcomes, sayer.times, sayer.exchanges if sayer.version == 2 else None) for sayer in sayers]
+
+
+def compare(server, l4sh, told):
     """What each sayer was told is what the trace says. How many outcomes that were."""
     past, count = Past(server.is_legal(l4sh)), 0
-    for thread, outcomes in sayers:
+    for thread, outcomes, times, exchanges in told:
         wanted = past.outcomes(thread)
+        assert exchanges in (None, past.exchanges.get(thread, [])), f"exchanges of {thread:x}: {exchanges} in place of {past.exchanges.get(thread)}"
+        for k, (got, want) in enumerate(zip(times, past.times(thread))):
+            assert got in (None, want), f"outcome {k} of thread {thread:x} was number and moment {got} in place of {want}"
         assert len(outcomes) == len(wanted), (hex(thread), len(outcomes), len(wanted))
         for k, (got, want) in enumerate(zip(outcomes, wanted)):
             assert got == want, f"outcome {k} of thread {thread:x}: {got} in place of {want}"
@@ -632,12 +697,14 @@ def check_refusals(programs, l4d, l4sh, room):
             assert got == wanted, (got, wanted)
 
         # HELLO
-        for number, text in ((0, "REFUSED K1"), (256, "REFUSED K1"), (65536, "K1"), (2, "REFUSED K2")):
+        for number, text in ((0, "REFUSED K1"), (1024, "REFUSED K1"), (65536, "K1"), (2, "REFUSED K2")):
             status, errno, said = other.connect(number)
             want((status, errno, said.split(":")[0]), (-1, 98 if "K2" in text else 22, text))
         want(other.connect(5, space=3)[:2], (-1, 2))
-        want(other.ask(f"connect {'x' * 200} 1 5")[1], 36)
-        want(one.ask(f"connect {server.dir} 1 5")[1:], (106, "C5: the thread is connected already"))
+        want(other.ask(f"connect {'x' * 200} 1 5 2")[1], 36)
+        want(one.ask(f"connect {server.dir} 1 5 1")[1:], (106, "C5: the thread is connected already"))
+        for version in (0, 3, 65536):
+            want(other.connect(5, version=version)[1:], (22, "C8: the wire has versions 1 and 2"))
         # timeouts, and partners that are not there
         want(one.code(to=b, snd=ZERO), 0x2)
         want(one.code(to=b, snd=0x5), 0x2)
@@ -687,18 +754,18 @@ def check_refusals(programs, l4d, l4sh, room):
         one.tell_ipc(source=three.thread)
         wait_until_waiting(three, a, 0x2)
         wait_until_waiting(three, b, 0x4)
-        told = [(three.thread, three.outcomes)]
+        told = told_to(three)
         three.kill()
         want(one.hear_ipc()[3], 0x5)
         want(two.hear_ipc()[3], 0x4)
         # the end, and the next version of the number
-        told += [(a, one.outcomes)]
+        told += [(a, *told_to(one)[0][1:])]
         want(one.ask("disconnect")[0], "-")
         want(one.ask("wait")[1:], (107, "C1: the thread is not connected"))
         want(one.connect(1)[0], 0)
         want(one.thread, thread_id(1, 2))
         want(one.exreg(a, 0), (0, 0, 2))
-        told += [(sayer.thread, sayer.outcomes) for sayer in (one, two, far)]
+        told += told_to(one, two, far)
         for sayer in (one, two, far, other):
             sayer.end()
         return count, compare(server, l4sh, told)
@@ -761,6 +828,7 @@ def check_own_refusals(one, two):
         assert said[2].startswith(text), said
         if text.startswith("receive"):
             one.outcomes.append((FAILED, NIL, NIL, 0x3, "-", "-"))
+            one.times.append(None)
         count += 1
     for control in (0x1, 0x8, 0x106, 1 << 63):
         assert one.exreg(two.thread, control) == (0, 0, code_of("C", LEFT_OUT_CONTROL))
@@ -781,16 +849,19 @@ class Relay:
     def run(self):
         client, server = self.listener.accept()[0], socket.socket(socket.AF_UNIX)
         server.connect(self.path)
-        server.sendall(client.recv(7, socket.MSG_WAITALL))
+        server.sendall(self.frame_of(client))
         client.sendall(server.recv(13, socket.MSG_WAITALL))
-        head = client.recv(4, socket.MSG_WAITALL)
-        body = client.recv(struct.unpack(">I", head)[0], socket.MSG_WAITALL)
-        server.sendall(self.spoil(head + body))
+        server.sendall(self.spoil(self.frame_of(client)))
         if self.closes:
             server.shutdown(socket.SHUT_WR)
         while data := server.recv(65536):
             client.sendall(data)
         client.close()
+
+    @staticmethod
+    def frame_of(line):
+        head = line.recv(4, socket.MSG_WAITALL)
+        return head + line.recv(struct.unpack(">I", head)[0], socket.MSG_WAITALL)
 
 
 def check_faults(programs, l4d, room):
@@ -884,7 +955,7 @@ def check_traffic(programs, l4d, l4sh, room, calls):
             raise troubles[0]
         for sayer in sayers:
             sayer.end()
-        count = compare(server, l4sh, [(sayer.thread, sayer.outcomes) for sayer in sayers])
+        count = compare(server, l4sh, told_to(*sayers))
         received = sum(1 for sayer in sayers for outcome in sayer.outcomes if outcome[1] != NIL)
         assert received > calls / 4, "too few messages"
         return count, received
@@ -917,7 +988,7 @@ def check_l4x(programs, l4d, l4sh, l4x, room):
             # the gateway's request is answered by the server itself, for which the wait is turned
             got = sayer.ipc(to=to, source=to, label=2, words=(7,))
             assert got[:5] == (3 << 16 | 1, thread_id(1), 0, 0, "46"), got
-        told = [(sayer.thread, sayer.outcomes)]
+        told = told_to(sayer)
         sayer.end()
         for process in serving:
             process.kill()

@@ -4,7 +4,8 @@
 It runs the client's own tests, installs the package into a folder, and then, with servers of its own: each example of
 clients/python/examples, each refusal and fault that a client can meet, each error of each phase, strings, propagation, and names over the
 restart of a server and of the name server. Each call of a thread in this process is written down with its outcome. At the end `l4sh check`
-judges the trace, and each call and each outcome is looked for in it.
+judges the trace, and each call and each outcome is looked for in it. Threads of odd numbers speak version 2 of the wire, the others version 1:
+what version 2 tells of each call, its number and the moment at which it was over, is what the trace says.
 
 Its last line is `N checked, M failed`; the status is 0 where M is 0. K3, K4, K6 and K8 are not reached: they need 2^32 connections, want of memory, a
 thread that asks after its end, and 2^32 calls.
@@ -63,8 +64,20 @@ def told(what, does, kind, **parts):
     check(what, type(error) is kind and seen == parts, f"{error!r}, {seen}")
 
 
-# What is written down of each call: by the thread, the line of its CALL and what came of it.
+# What is written down of each call: by the thread, the line of its CALL, what came of it, and what version 2 of the wire tells: (its number,
+# its moment), else None. The same of each ExchangeRegisters: its moment.
 seen = defaultdict(list)
+seen_exchanges = defaultdict(list)
+
+
+def times_of(thread, told):
+    """What was told of a call by the thread and by what came of it; it has to be one and the same, and only in version 2."""
+    times = thread.last_call, thread.last_moment
+    same(f"call and moment of {thread}", (told.call, told.moment) if told else times, times)
+    if thread.version == 1:
+        same(f"call and moment of {thread} in version 1", times, (None, None))
+        return None
+    return times
 
 
 class Seen(l4ipc.Thread):
@@ -75,10 +88,15 @@ class Seen(l4ipc.Thread):
         try:
             received = super().ipc(to, from_specifier, message, send_timeout, receive_timeout, buffers)
         except l4ipc.IpcError as error:
-            seen[str(self.id)].append((line, ("failed", error.code)))
+            seen[str(self.id)].append((line, ("failed", error.code), times_of(self, error)))
             raise
-        seen[str(self.id)].append((line, received and outcome_text(received)))
+        seen[str(self.id)].append((line, received and outcome_text(received), times_of(self, received)))
         return received
+
+    def exchange_registers(self, dest, send=False, receive=False):
+        answer = super().exchange_registers(dest, send, receive)
+        seen_exchanges[str(self.id)].append(None if self.version == 1 else self.last_moment)
+        return answer
 
 
 def id_text(thread):
@@ -137,7 +155,7 @@ class Server:
         return self.start([sys.executable, f"{CLIENT}/examples/{name}.py", self.folder, *map(str, said)])
 
     def thread(self, number, space=1):
-        return Seen(self.folder, number, space)
+        return Seen(self.folder, number, space, version=1 + number % 2)
 
     def next_thread(self, number):
         """A thread of a number whose last thread has just ended, which the server sees a moment after its connection."""
@@ -290,7 +308,7 @@ def first_program(l4d):
 def refusals(server):
     with server.thread(60) as thread:
         told("K1 of 0", lambda: server.thread(0), l4ipc.Refused, number=1)
-        told("K1 of 256", lambda: server.thread(256), l4ipc.Refused, number=1)
+        told("K1 of 1024", lambda: server.thread(1024), l4ipc.Refused, number=1)
         told("K2", lambda: server.thread(60), l4ipc.Refused, number=2)
         check("the thread goes on", raised(lambda: thread.sleep(0)) is None)
 
@@ -347,6 +365,20 @@ def faults(server):
     raw.sendall(ipc_frame())
     same("fault S1 before HELLO", raw.recv(100).hex(), "00000003855301")
     raw.close()
+
+
+def versions(server):
+    """Version 2 where it is asked for, F15 for a version that there is not, and an answer that an old client never gets."""
+    with server.thread(63) as thread:
+        check("version 2", thread.version == 2 and thread.last_call is None)
+        told("a call of version 2", lambda: thread.receive(thread.id, 0), l4ipc.Timeout, phase="receive")
+        check("its number and moment", isinstance(thread.last_call, int) and isinstance(thread.last_moment, int), f"{thread.last_call}, {thread.last_moment}")
+    for version in (0, 1, 3, 65_535):
+        raw = socket.socket(socket.AF_UNIX)
+        raw.connect(f"{server.folder}/space1")
+        raw.sendall(struct.pack(">IBHH", 5, 1, 63, version))
+        same(f"HELLO of version {version}", raw.recv(100).hex(), "0000000385460f")
+        raw.close()
 
 
 # Errors of both phases.
@@ -732,27 +764,37 @@ def documented_frames(l4d, l4x):
 
 
 def read_trace(lines):
-    """The calls of a trace by their threads: each call's fields, and what came of it."""
-    calls, by_thread, spaces = {}, defaultdict(list), {}
+    """The calls of a trace by their threads: each call's number and fields, what came of it and when it was over; and the moments of the
+    exchanges of registers by their threads."""
+    calls, by_thread, exchanges, spaces, now = {}, defaultdict(list), defaultdict(list), {}, 0
     for line in lines:
         kind, *rest = line.split(" ")
-        if kind == "opened":
+        if kind == "at":
+            now = int(rest[0])
+        elif kind == "exreg":
+            exchanges[rest[0]].append(now)
+        elif kind == "opened":
             spaces[rest[0]] = rest[1]
         elif kind == "broke":
             spaces.pop(rest[0], None)
         elif kind == "called":
             own, _, _, _, _, originator, *_ = fields = rest[1:]
             permitted = originator != "nil" and spaces.get(originator) == spaces[own]
-            calls[rest[0]] = call = {"fields": fields, "shown": originator if permitted else own, "actual": own if permitted else None, "came": None}
+            call = {"fields": fields, "shown": originator if permitted else own, "actual": own if permitted else None, "came": None}
+            calls[rest[0]] = call
+            call.update(number=int(rest[0]), over=now if fields[1] == fields[2] == "nil" else None)
             by_thread[own].append(call)
         elif kind == "failed":
-            calls[rest[0]]["came"] = ("failed", int(rest[1], 16))
+            calls[rest[0]].update(came=("failed", int(rest[1], 16)), over=now)
         elif kind == "ended":
-            calls[rest[1]]["came"] = received_in(calls[rest[0]])
+            calls[rest[1]].update(came=received_in(calls[rest[0]]), over=now)
+            if calls[rest[0]]["fields"][2] == "nil":
+                calls[rest[0]]["over"] = now
         elif kind in ("overflowed", "aborted"):
             code = (4 if kind == "overflowed" else 7) << 1 | int(rest[2]) << 4
-            calls[rest[0]]["came"], calls[rest[1]]["came"] = ("failed", code), ("failed", code | 1)
-    return by_thread
+            calls[rest[0]].update(came=("failed", code), over=now)
+            calls[rest[1]].update(came=("failed", code | 1), over=now)
+    return by_thread, exchanges
 
 
 def received_in(call):
@@ -773,15 +815,21 @@ def trace(server, l4sh):
     ran = subprocess.run([l4sh, "check", server.trace], capture_output=True, text=True)
     same("l4sh check", (ran.returncode, ran.stdout), (0, "yes\n"))
     with open(server.trace, encoding="ascii") as file:
-        by_thread = read_trace(line.rstrip("\n") for line in file)
-    count = 0
+        by_thread, exchanges = read_trace(line.rstrip("\n") for line in file)
+    count = of_version_2 = 0
+    for own, moments in seen_exchanges.items():
+        check(f"the exchanges of {own}", len(moments) == len(exchanges[own]) and all(a in (None, b) for a, b in zip(moments, exchanges[own])),
+              f"{moments[:9]} and not {exchanges[own][:9]}")
     for own, said in seen.items():
-        wanted = [(" ".join(call["fields"]), call["came"]) for call in by_thread[own]]
+        # (version 1 tells neither number nor moment)
+        wanted = [(" ".join(call["fields"]), call["came"], (call["number"], call["over"])) for call in by_thread[own]]
+        wanted = [(line, came, times if one[2] else None) for (line, came, times), one in zip(wanted, said)] + wanted[len(said):]
         count += len(said)
+        of_version_2 += sum(one[2] is not None for one in said)
         check(f"the calls of {own}", said == wanted, next((f"call {place}: {a} and not {b}" for place, (a, b) in enumerate(zip(said, wanted)) if a != b),
                                                             f"{len(said)} and not {len(wanted)} calls"))
-    check("calls were compared", count > 1000, str(count))
-    print(f"trace: {size} bytes; {count} calls of {len(seen)} threads are in it as they were seen", flush=True)
+    check("calls were compared", count > 1000 and of_version_2 > 100, f"{count}, {of_version_2} of version 2")
+    print(f"trace: {size} bytes; {count} calls of {len(seen)} threads are in it as they were seen, {of_version_2} with their moments", flush=True)
 
 
 def run(l4d, l4sh, l4x):
@@ -793,6 +841,7 @@ def run(l4d, l4sh, l4x):
     examples(server)
     refusals(server)
     faults(server)
+    versions(server)
     errors(server)
     strings(server)
     propagation(server)

@@ -9,8 +9,9 @@ def frame(kind, body=b""):
     return struct.pack(">IB", len(body) + 1, kind) + body
 
 
-def hello(number):
-    return frame(1, struct.pack(">H", number))
+def hello(number, version=1):
+    """HELLO, of version 1 or of any other one that a frame can name."""
+    return frame(1, struct.pack(">H", number) if version == 1 else struct.pack(">HH", number, version))
 
 
 def ipc(to, source, words=(), timeouts=0, sender=0, tag=None, buffers=(), payload=b""):

@@ -73,7 +73,7 @@ def fault_rows():
         ("255 buffer words", head(46 + 8 * 255, tag=0, buffers=255), 4, 50),
         ("64 words and 33 buffer words", head(46, tag=0x7F, buffers=33), 4, 50),
     ]
-    rows += [(f"kind {kind:#04x}", frame(kind), 2, 5) for kind in (0, 5, 6, 0x7F, 0x80, 0x81, 0x82, 0x83, 0x84, 0x85, 0x86, 0xFF)]
+    rows += [(f"kind {kind:#04x}", frame(kind), 2, 5) for kind in (0, 5, 6, 0x7F, 0x80, 0x81, 0x82, 0x83, 0x84, 0x85, 0x86, 0x87, 0xFF)]
     lengths = [("HELLO", 1, (1, 2, 4, 6, MOST)), ("EXREG", 3, (1, 16, 18, MOST)), ("BYE", 4, (2, 3, MOST))]
     for name, kind, wrong in lengths + ([] if has_versions() else [("HELLO", 1, (5,))]):
         rows += [(f"{name} of length {length}", struct.pack(">IB", length, kind), 3, 5) for length in wrong]
@@ -99,7 +99,7 @@ def fault_rows():
     ]
     rows += [(name, data, number, len(data)) for name, data, number in whole]
     if has_versions():
-        rows += [(f"HELLO of version {version}", frame(1, struct.pack(">HH", 9, version)), 15, 9) for version in (0, 1, 3, 0xFFFF)]
+        rows += [(f"HELLO of version {version}", frame(1, struct.pack(">HH", 9, version)), 15, 9) for version in (0, 1, 3, 258, 512, 0xFFFF)]
     return rows
 
 
@@ -115,6 +115,10 @@ def placed_rows():
         ("EXREG before HELLO", [(exreg(ONE, 2), fault(1, "S"))], True),
         ("BYE before HELLO", [(BYE, b"")], True),
         ("HELLO behind WELCOME", [(hello(9), welcome(9)), (hello(10), fault(1, "S"))], True),
+        ("HELLO of version 2 behind WELCOME", [(hello(9), welcome(9)), (hello(9, 2), fault(1, "S"))], True),
+        ("HELLO of version 1 behind WELCOME of version 2", [(hello(9, 2), welcome(9)), (hello(9), fault(1, "S"))], True),
+        ("HELLO of version 2, refused, comes again as one of version 1",
+         [(hello(0, 2), refused(1)), (hello(1, 2), refused(2)), (hello(9), welcome(9)), (word, failed)], False),
         ("the same HELLO behind WELCOME", [(hello(9), welcome(9)), (hello(9), fault(1, "S"))], True),
         ("an IPC behind HELLO 0", [(hello(0), refused(1)), (word, fault(1, "S"))], True),
         ("an IPC behind HELLO of a number that is too large", [(hello(0xFFFF), refused(1)), (word, fault(1, "S"))], True),
@@ -137,7 +141,7 @@ def placed_rows():
 
 
 # The frames of FORMATS whose fronts are cut.
-FRAMES = [("HELLO", hello(9)), ("IPC with a word", ipc(ONE, 0, [7])), ("EXREG", exreg(ONE, 4)), ("BYE", BYE),
+FRAMES = [("HELLO", hello(9)), ("HELLO of version 2", hello(9, 2)), ("IPC with a word", ipc(ONE, 0, [7])), ("EXREG", exreg(ONE, 4)), ("BYE", BYE),
           ("IPC with a buffer", ipc(0, ANY, buffers=[0x1000, 0x1000])), ("IPC with a string", strings(0xC00, 0x0, payload=b"abc"))]
 
 

@@ -179,7 +179,7 @@ def nearby(some, fields, place):
 
 def is_kept(fields, place, other):
     """Whether a call with this value stays in normal form: its phases are the same, and an absent one has no timeout. Any
-    other entry may have any value of its kind; an opened thread's number is at most 255."""
+    other entry may have any value of its kind; in a trace of version 1, as these are, an opened thread's number is at most 255."""
     if fields[0] == "opened" and place == 1:
         return "." in other and int(other.split(".")[0]) <= 255
     if fields[0] != "called":

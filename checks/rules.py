@@ -257,7 +257,7 @@ class Past:
 
     def admits_open(self, thread, space):
         named = number_of(thread)
-        if named is None or not 1 <= named[0] <= 255 or not 1 <= space <= 64:
+        if named is None or not 1 <= named[0] <= 1023 or not 1 <= space <= 64:
             return False
         of_number = [number_of(other)[1] for other in self.opens if number_of(other)[0] == named[0]]
         is_taken = any(self.is_live(other) and number_of(other)[0] == named[0] for other in self.opens)

@@ -33,7 +33,7 @@ DIALOGUES = [
     ("nobody is there in no time", [(1, hello(1)), (2, hello(2)), (1, ipc(TWO, 0, [1], ZERO_SEND)), (1, ipc(0, ANY, (), ZERO_RECEIVE)), (1, BYE), (2, BYE)]),
     ("a partner that is not live", [(1, hello(1)), (1, ipc(THREE, 0, [1])), (1, ipc(0, THREE)), (1, BYE)]),
     ("a partner that ends", [(1, hello(1)), (2, hello(2)), (1, ipc(0, TWO)), (2, BYE), (1, BYE)]),
-    ("HELLO is refused, and said again", [(1, hello(1)), (2, hello(1)), (2, hello(256)), (2, hello(0)), (2, hello(2)), (2, BYE), (1, BYE)]),
+    ("HELLO is refused, and said again", [(1, hello(1)), (2, hello(1)), (2, hello(1024)), (2, hello(0)), (2, hello(2)), (2, BYE), (1, BYE)]),
     ("ExchangeRegisters stops a receive and a send", [
         (1, hello(1)), (2, hello(2)), (1, ipc(0, ANY)), (2, exreg(ONE, 2)), (1, ipc(TWO, 0, [1])), (2, exreg(ONE, 4)),
         (2, exreg(THREE, 6)), (1, BYE), (2, BYE)]),

@@ -7,21 +7,22 @@ import subprocess
 import tempfile
 import time
 
-from frames import ANY, BYE, hello, ipc
+from frames import ANY, BYE, exreg, hello, ipc
 
-WELCOME, IPCR, EXREGR, REFUSED, FAULT = 0x81, 0x82, 0x83, 0x84, 0x85
+WELCOME, IPCR, EXREGR, REFUSED, FAULT, IPCR_2, EXREGR_2 = 0x81, 0x82, 0x83, 0x84, 0x85, 0x86, 0x87
 FAILED = 0x8000
 
 
 class Client:
-    """A connection to a path; with a number it is a thread."""
+    """A connection to a path; with a number it is a thread. It speaks version 1 of the frames, or version 2 where that is asked for."""
 
-    def __init__(self, path, number=None, seconds=120):
+    def __init__(self, path, number=None, seconds=120, version=1):
+        self.version = version
         self.line = socket.socket(socket.AF_UNIX, socket.SOCK_STREAM)
         self.line.settimeout(seconds)
         self.line.connect(path)
         if number is not None:
-            kind, body = self.ask(hello(number))
+            kind, body = self.ask(hello(number, version))
             assert kind == WELCOME, (hex(kind), body.hex())
             self.thread = struct.unpack(">Q", body)[0]
 
@@ -45,14 +46,20 @@ class Client:
 
     def call(self, *arguments, **named):
         """One Ipc, as `frames.ipc` has it: its outcome."""
-        kind, body = self.ask(ipc(*arguments, **named))
-        assert kind == IPCR, (hex(kind), body.hex())
-        return Outcome(body)
+        self.line.sendall(ipc(*arguments, **named))
+        return self.outcome()
 
     def outcome(self):
         kind, body = self.hear()
-        assert kind == IPCR, (hex(kind), body.hex())
-        return Outcome(body)
+        assert kind == (IPCR if self.version == 1 else IPCR_2), (hex(kind), body.hex())
+        return Outcome(body, self.version)
+
+    def exreg(self, target, control):
+        """ExchangeRegisters: the moment, None in version 1; the result, the control and the code."""
+        kind, body = self.ask(exreg(target, control))
+        assert kind == (EXREGR if self.version == 1 else EXREGR_2), (hex(kind), body.hex())
+        words = struct.unpack(f">{2 + self.version}Q", body)
+        return words if self.version == 2 else (None, *words)
 
     def to_the_end(self):
         """All bytes until the input ends."""
@@ -97,9 +104,13 @@ def opened(path, number, version=0, seconds=120):
 
 
 class Outcome:
-    """What an IPCR says."""
+    """What an IPCR says: in version 2 also the number of the call and the moment at which it was over, None in version 1."""
 
-    def __init__(self, body):
+    def __init__(self, body, version=1):
+        self.call = self.moment = None
+        if version == 2:
+            self.call, self.moment = struct.unpack(">QQ", body[:16])
+            body = body[16:]
         self.tag, self.sender, self.actual, self.error = struct.unpack(">QQQQ", body[:32])
         count = (self.tag & 63) + (self.tag >> 6 & 63)
         self.words = struct.unpack(f">{count}Q", body[32 : 32 + 8 * count])

@@ -4,12 +4,12 @@
 checks/sockets.py PROGRAM          runs PROGRAM (l4d) in a folder of its own
 checks/sockets.py --at PATH        asks the server that listens on PATH, but for what needs its number of threads and files
 
-Exit 0 where every answer was right: half frames, refusals, a full table, a reconnection, ExchangeRegisters over connections,
+Exit 0 where every answer was right: half frames, refusals, 1,023 live threads and one more, a reconnection, ExchangeRegisters over connections,
 100 processes in pairs and 100 in a star with each answer checked, and processes that are killed at random moments. At the end
 the server has as many threads and files as before, and its memory is told. The server writes a trace meanwhile, of which
 l4sh, which is built first where it is missing, says that it is a legal history.
 """
-import os, random, signal, socket, struct, subprocess, sys, tempfile, time
+import os, random, resource, signal, socket, struct, subprocess, sys, tempfile, time
 
 from frames import ANY, exreg, frame, hello, ipc
 
@@ -20,6 +20,10 @@ ROOT = os.path.dirname(os.path.dirname(os.path.abspath(__file__)))
 CALLS = 20_000
 # for so long processes are killed
 KILLING = 6
+# the greatest number of a thread, and how many there are
+LAST = 1023
+# so many descriptors does a process need that has a connection for each of them; the server needs about as many
+DESCRIPTORS = LAST + 200
 
 
 class Client:
@@ -229,18 +233,64 @@ def again(path):
     print("a live number: REFUSED K2; after BYE: a later version, and the id of before is not live")
 
 
+def refused(path, number):
+    """What a HELLO is answered."""
+    client = Client(path)
+    client.line.sendall(hello(number))
+    heard = client.hear()
+    client.line.close()
+    return heard
+
+
+def round_of(live, word):
+    """A word goes from each thread to the next one, and grows by 1 each time: what the first one gets from the last one."""
+    for sender, receiver in zip(live, live[1:] + live[:1]):
+        receiver.line.sendall(ipc(0, sender.thread, []))
+        tag, _, body = sender.call(receiver.thread, 0, [word])
+        assert tag == 0, f"a send from {sender.thread:#x}: {body.hex()}"
+        tag, shown, body = receiver.outcome()
+        assert (tag, shown, word_of(body)) == (1, sender.thread, word), f"a receive by {receiver.thread:#x}: {body.hex()}"
+        word += 1
+    return word
+
+
 def full(path):
-    live = [Client(path, number) for number in range(1, 256)]
-    for number, refusal in ((256, b"\x01"), (0, b"\x01"), (255, b"\x02")):
-        one_more = Client(path)
-        one_more.line.sendall(hello(number))
-        assert one_more.hear() == (0x84, refusal)
-        one_more.line.close()
-    for client in live:
+    """As many threads as there are numbers: each sends and receives, no number is left, and one ends for which all others wait."""
+    live = [Client(path, number) for number in range(1, LAST + 1)]
+    assert [client.thread >> 32 for client in live] == list(range(1, LAST + 1))
+    got = round_of(live, 7)
+    assert got == 7 + LAST, got
+    for number, refusal in ((LAST + 1, b"\x01"), (0, b"\x01"), (65535, b"\x01"), (LAST, b"\x02"), (1, b"\x02"), (256, b"\x02")):
+        heard = refused(path, number)
+        assert heard == (0x84, refusal), f"number {number} beside {LAST} threads: {heard}"
+    first, others = live[0], live[1:]
+    # all send to one, which takes them one after the other: each message comes once
+    for client in others:
+        client.line.sendall(ipc(first.thread, 0, [client.thread]))
+    senders = set()
+    for _ in others:
+        tag, shown, body = first.call(0, ANY, [])
+        assert (tag, word_of(body)) == (1, shown), f"one of {len(others)} that send: {body.hex()}"
+        senders.add(shown)
+    assert senders == {client.thread for client in others}, f"{len(senders)} of {len(others)} senders were received"
+    for client in others:
+        tag, _, body = client.outcome()
+        assert tag == 0, f"the send of {client.thread:#x}: {body.hex()}"
+    for client in others:
+        client.line.sendall(ipc(0, first.thread, []))
+    # (the last one waits, too, once it can be seen to wait)
+    while first.ask(exreg(others[-1].thread, 0), 0x83)[1] != STOP_RECEIVE:
+        time.sleep(0.01)
+    first.line.close()
+    for client in others:
+        tag, _, body = client.outcome()
+        assert tag == 0x8000 and struct.unpack(">Q", body[24:32]) == (5,), f"{client.thread:#x} waited for one that ended: {body.hex()}"
+    wait_free(path, 1)
+    for client in others:
         client.line.close()
-    for number in (1, 255):
+    for number in (2, LAST):
         wait_free(path, number)
-    print("255 live threads; number 256: REFUSED K1, 255: REFUSED K2")
+    print("%d live threads, and messages through all of them; number %d: REFUSED K1, a live one: REFUSED K2" % (LAST, LAST + 1))
 
 
 def stop(path):
@@ -274,6 +324,11 @@ def counted(pid):
 def main():
     if sys.argv[1] == "--at":
         return check_all(sys.argv[2])
+    _, most = resource.getrlimit(resource.RLIMIT_NOFILE)
+    if most != resource.RLIM_INFINITY and most < DESCRIPTORS:
+        sys.exit("sockets: the system gives a process %d descriptors, and %d threads need %d" % (most, LAST, DESCRIPTORS))
+    # the server has the same limit
+    resource.setrlimit(resource.RLIMIT_NOFILE, (DESCRIPTORS, most))
     traces(sys.argv[1])
     folder = tempfile.mkdtemp()
     trace = folder + "/trace"

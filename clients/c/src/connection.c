@@ -154,6 +154,8 @@ int l4_read_refusal(struct thread *thread, unsigned kind, size_t body)
 	case WELCOME:
 	case IPCR:
 	case EXREGR:
+	case IPCR_2:
+	case EXREGR_2:
 		return l4_lose(thread, FOUND_HERE, 'C', NOT_AN_ANSWER, 0);
 	default:
 		return l4_lose(thread, FOUND_HERE, 'F', 2, 0);
@@ -211,7 +213,7 @@ static int open_socket(const struct sockaddr_un *address)
 }
 
 /* The registers of a new thread, and the key that ends its connection with it. */
-static int begin(struct thread *thread, int socket)
+static int begin(struct thread *thread, int socket, unsigned version)
 {
 	int error = pthread_once(&socket_key_once, make_socket_key);
 
@@ -222,6 +224,8 @@ static int begin(struct thread *thread, int socket)
 	thread->socket = socket;
 	thread->is_connected = true;
 	thread->is_misused = false;
+	thread->version = version;
+	thread->last_call = thread->last_exchange = (struct told) { .is_told = false };
 	thread->lost = (struct failure) { .source = NOBODY };
 	thread->virtual_sender = L4_nilthread;
 	thread->name_server = L4_nilthread;
@@ -232,12 +236,17 @@ static int begin(struct thread *thread, int socket)
 
 static int hello(struct thread *thread, unsigned number)
 {
-	unsigned char frame[] = { 0, 0, 0, 3, HELLO, (unsigned char) (number >> 8), (unsigned char) number };
+	unsigned char frame[] = { 0, 0, 0, 5, HELLO, (unsigned char) (number >> 8), (unsigned char) number, 0, 2 };
 	struct iovec part = { frame, sizeof frame };
 	const unsigned char *bytes;
 	unsigned kind;
 	size_t body;
 
+	if (thread->version == 1) {
+		/* version 1 has no field for it */
+		frame[3] = 3;
+		part.iov_len -= 2;
+	}
 	if (l4_write(thread, &part, 1) < 0 || l4_read_head(thread, &kind, &body) < 0)
 		return -1;
 	if (kind != WELCOME)
@@ -254,12 +263,19 @@ static int hello(struct thread *thread, unsigned number)
 
 int l4_connect(const char *dir, unsigned space, unsigned number)
 {
+	return l4_connect_version(dir, space, number, 1);
+}
+
+int l4_connect_version(const char *dir, unsigned space, unsigned number, unsigned version)
+{
 	struct thread *thread = &l4_thread;
 	struct sockaddr_un address = { .sun_family = AF_UNIX };
 	int socket, length;
 
 	if (thread->is_connected)
 		return l4_refuse(thread, FOUND_HERE, 'C', IS_CONNECTED);
+	if (version != 1 && version != 2)
+		return l4_refuse(thread, FOUND_HERE, 'C', NO_VERSION);
 	/* what a HELLO can ask for; whether there is such a thread the server says */
 	if (number > 0xffff)
 		return l4_refuse(thread, FOUND_HERE, 'K', 1);
@@ -269,7 +285,7 @@ int l4_connect(const char *dir, unsigned space, unsigned number)
 	socket = open_socket(&address);
 	if (socket < 0)
 		return l4_lose(thread, FOUND_HERE, 'F', 10, errno);
-	if (begin(thread, socket) == 0 && hello(thread, number) == 0)
+	if (begin(thread, socket, version) == 0 && hello(thread, number) == 0)
 		return 0;
 	l4_close(thread);
 	errno = thread->last.saved_errno;
@@ -301,6 +317,26 @@ L4_ThreadId_t L4_Myself(void)
 L4_ThreadId_t L4_MyGlobalId(void)
 {
 	return l4_thread.id;
+}
+
+/* What was told of the last one, and whether anything was. */
+static bool give_told(const struct told *told, L4_Word_t *number, L4_Word64_t *moment)
+{
+	if (number != NULL)
+		*number = told->is_told ? told->call : 0;
+	if (moment != NULL)
+		*moment = told->is_told ? told->moment : 0;
+	return told->is_told;
+}
+
+L4_Bool_t l4_last_call(L4_Word_t *number, L4_Word64_t *moment)
+{
+	return give_told(&l4_thread.last_call, number, moment);
+}
+
+L4_Bool_t l4_last_exchange(L4_Word64_t *moment)
+{
+	return give_told(&l4_thread.last_exchange, NULL, moment);
 }
 
 L4_Word_t L4_ErrorCode(void)

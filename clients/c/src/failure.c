@@ -13,7 +13,7 @@ struct meaning {
 };
 
 static const struct meaning meanings[] = {
-	{ 'K', 1, EINVAL, "a thread number outside 1 to 255, or a space outside 1 to 64" },
+	{ 'K', 1, EINVAL, "a thread number outside 1 to 1,023, or a space outside 1 to 64" },
 	{ 'K', 2, EADDRINUSE, "a thread of that number is live" },
 	{ 'K', 3, EADDRNOTAVAIL, "the versions of the number are used up" },
 	{ 'K', 4, ENOMEM, "the server has no memory" },
@@ -35,6 +35,7 @@ static const struct meaning meanings[] = {
 	{ 'F', 12, EINVAL, "a timeout that is no period" },
 	{ 'F', 13, EPROTO, "asked again after a fault" },
 	{ 'F', 14, ENOMEM, "the server has no memory" },
+	{ 'F', 15, EPROTO, "a version of the wire that the server does not have" },
 	{ 'S', 1, EPROTO, "a frame that may not come there" },
 	{ 'C', NOT_CONNECTED, ENOTCONN, "the thread is not connected" },
 	{ 'C', NO_REGISTER, EINVAL, "a register that is not there" },
@@ -43,6 +44,7 @@ static const struct meaning meanings[] = {
 	{ 'C', IS_CONNECTED, EISCONN, "the thread is connected already" },
 	{ 'C', NO_PATH, ENAMETOOLONG, "the path of the space is too long for a socket" },
 	{ 'C', NOBODY_THERE, ESRCH, "ExchangeRegisters of what is no live thread of the caller's space" },
+	{ 'C', NO_VERSION, EINVAL, "the wire has versions 1 and 2" },
 	{ 'N', 1, EPROTO, "no request of a name server" },
 	{ 'N', BAD_NAME, EINVAL, "a name has 1 to 64 bytes of printable ASCII without the space" },
 	{ 'N', 3, EADDRINUSE, "another live thread has the name" },

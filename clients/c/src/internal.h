@@ -31,6 +31,9 @@ enum kind {
 	EXREGR = 0x83,
 	REFUSED = 0x84,
 	FAULT = 0x85,
+	/* what version 2 of the wire has in the place of IPCR and EXREGR */
+	IPCR_2 = 0x86,
+	EXREGR_2 = 0x87,
 };
 
 /* Bits of tags and descriptors. */
@@ -55,6 +58,7 @@ enum client_fault {
 	IS_CONNECTED = 5,
 	NO_PATH = 6,
 	NOBODY_THERE = 7,
+	NO_VERSION = 8,
 };
 
 /* What the name server answers, and what is found of it: class N. */
@@ -83,9 +87,19 @@ struct failure {
 	int saved_errno;
 };
 
+/* What version 2 tells of the last Ipc or ExchangeRegisters. */
+struct told {
+	bool is_told;
+	/* of an Ipc */
+	L4_Word_t call;
+	L4_Word64_t moment;
+};
+
 /* A thread of the process: its virtual registers and its connection. */
 struct thread {
 	bool is_connected;
+	/* of the wire, 1 or 2 */
+	unsigned version;
 	/* a register that is not there was used: the next Ipc tells it */
 	bool is_misused;
 	int socket;
@@ -95,6 +109,8 @@ struct thread {
 	L4_Word_t error_code;
 	/* the manual's one register: VirtualSender before a send, ActualSender after a receive */
 	L4_ThreadId_t virtual_sender;
+	struct told last_call;
+	struct told last_exchange;
 	struct failure last;
 	/* why the connection was lost, told by each later call */
 	struct failure lost;

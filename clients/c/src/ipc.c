@@ -13,6 +13,10 @@ enum {
 	IPCR_HEAD = 32,
 	IPCR_BODY = 34,
 	PIECE_HEAD = 12,
+	/* what version 2 puts before them: the number of the call, and the moment; and the latter before what EXREGR has */
+	IPCR_TIMES = 16,
+	EXREGR_TIMES = 8,
+	EXREGR_BODY = 25,
 	TIME_POINT = 0x8000,
 };
 
@@ -181,6 +185,7 @@ static int ask(struct thread *thread, struct phases *phases, L4_ThreadId_t to, L
 
 /* What an outcome says before its words. */
 struct outcome {
+	struct told told;
 	L4_Word_t tag;
 	L4_ThreadId_t sender;
 	L4_ThreadId_t actual_sender;
@@ -196,17 +201,22 @@ struct outcome {
 static int read_outcome(struct thread *thread, struct outcome *outcome)
 {
 	const unsigned char *bytes;
+	bool has_times = thread->version == 2;
+	size_t times = has_times ? IPCR_TIMES : 0, body, words;
 	unsigned kind;
-	size_t body, words;
 
 	if (l4_read_head(thread, &kind, &body) < 0)
 		return -1;
-	if (kind != IPCR)
+	if (kind != (has_times ? IPCR_2 : IPCR))
 		return l4_read_refusal(thread, kind, body);
-	if (body < IPCR_BODY)
+	if (body < IPCR_BODY + times)
 		return l4_lose(thread, FOUND_HERE, 'F', 3, 0);
-	if (l4_take(thread, IPCR_HEAD, &bytes) < 0)
+	if (l4_take(thread, IPCR_HEAD + times, &bytes) < 0)
 		return -1;
+	if (has_times)
+		outcome->told = (struct told) { true, get_word(bytes), get_word(bytes + 8) };
+	bytes += times;
+	body -= times;
 	outcome->tag = get_word(bytes);
 	outcome->sender.raw = get_word(bytes + 8);
 	outcome->actual_sender.raw = get_word(bytes + 16);
@@ -322,6 +332,7 @@ static int hear(struct thread *thread, const struct phases *phases, L4_ThreadId_
 		return l4_lose(thread, FOUND_HERE, 'C', NOT_AN_ANSWER, 0);
 	if (read_pieces(thread, &outcome, &places) < 0)
 		return -1;
+	thread->last_call = outcome.told;
 	thread->mr[0] = outcome.tag;
 	if (outcome.tag & TAG_FAILED)
 		return l4_tell_outcome(thread, outcome.error);
@@ -341,6 +352,7 @@ L4_MsgTag_t L4_Ipc(L4_ThreadId_t to, L4_ThreadId_t FromSpecifier, L4_Word_t Time
 
 	if (from != NULL)
 		*from = L4_nilthread;
+	thread->last_call.is_told = false;
 	if (!thread->is_connected)
 		status = l4_refuse(thread, FOUND_HERE, 'C', NOT_CONNECTED);
 	else if (thread->is_misused)
@@ -355,6 +367,7 @@ L4_MsgTag_t L4_Ipc(L4_ThreadId_t to, L4_ThreadId_t FromSpecifier, L4_Word_t Time
 
 /* What ExchangeRegisters answers. */
 struct exchanged {
+	struct told told;
 	L4_ThreadId_t result;
 	L4_Word_t control;
 	L4_Word_t code;
@@ -363,17 +376,21 @@ struct exchanged {
 static int read_exchanged(struct thread *thread, L4_ThreadId_t dest, struct exchanged *exchanged)
 {
 	const unsigned char *bytes;
+	bool has_moment = thread->version == 2;
+	size_t times = has_moment ? EXREGR_TIMES : 0, body;
 	unsigned kind;
-	size_t body;
 
 	if (l4_read_head(thread, &kind, &body) < 0)
 		return -1;
-	if (kind != EXREGR)
+	if (kind != (has_moment ? EXREGR_2 : EXREGR))
 		return l4_read_refusal(thread, kind, body);
-	if (body != 25)
+	if (body != EXREGR_BODY + times)
 		return l4_lose(thread, FOUND_HERE, 'F', 3, 0);
-	if (l4_take(thread, 24, &bytes) < 0)
+	if (l4_take(thread, EXREGR_BODY - 1 + times, &bytes) < 0)
 		return -1;
+	if (has_moment)
+		exchanged->told = (struct told) { .is_told = true, .moment = get_word(bytes) };
+	bytes += times;
 	exchanged->result.raw = get_word(bytes);
 	exchanged->control = get_word(bytes + 8);
 	exchanged->code = get_word(bytes + 16);
@@ -412,12 +429,14 @@ L4_ThreadId_t L4_ExchangeRegisters(L4_ThreadId_t dest, L4_Word_t control, L4_Wor
 	struct thread *thread = &l4_thread;
 	struct exchanged exchanged = { .result = L4_nilthread };
 
+	thread->last_exchange.is_told = false;
 	/* the control bits that would give these a meaning are refused */
 	(void) sp, (void) ip, (void) flags, (void) UserDefinedHandle, (void) pager;
 	if (exchange(thread, dest, control, &exchanged) < 0) {
 		exchanged.result = L4_nilthread;
 		exchanged.control = 0;
 	} else {
+		thread->last_exchange = exchanged.told;
 		if (L4_IsNilThread(exchanged.result))
 			(void) l4_refuse(thread, FOUND_HERE, 'C', NOBODY_THERE);
 		thread->error_code = exchanged.code;

@@ -3,8 +3,8 @@
  *     play DIR < CASES
  *
  * A case is a line `CALL ANSWER`: the call that is made, and the bytes that answer it, in hexadecimal, `-` for none; where
- * there is a `/` in them the server pauses. Then it ends the connection. For each case a line says what the library made of
- * it. Buffers lie in an area at a fixed address, so that a script can name them; what is outside of them is watched. */
+ * there is a `/` in them the server pauses. Then it ends the connection. A call with a 2 behind its name, as `send2`, is made in
+ * version 2 of the wire. For each case a line says what the library made of it. Buffers lie in an area at a fixed address, so that a script can name them; what is outside of them is watched. */
 #define _GNU_SOURCE
 
 #include <l4.h>
@@ -242,6 +242,19 @@ static void print_words(L4_MsgTag_t tag)
 	}
 }
 
+/* What version 2 tells of the call: its number, or 0 of an ExchangeRegisters, and the moment; `-` where it tells nothing. */
+static void print_told(const char *call)
+{
+	L4_Word_t number = 0;
+	L4_Word64_t moment;
+	bool is_told = strcmp(call, "exreg") == 0 ? l4_last_exchange(&moment) : l4_last_call(&number, &moment);
+
+	if (is_told)
+		printf(" %llx,%llx", (unsigned long long) number, (unsigned long long) moment);
+	else
+		printf(number == 0 && moment == 0 ? " -" : " a number of nothing");
+}
+
 static void print_case(const char *call, const struct script *script, int connected, int cause, L4_ThreadId_t from)
 {
 	L4_MsgTag_t tag = L4_MsgTag();
@@ -252,6 +265,7 @@ static void print_case(const char *call, const struct script *script, int connec
 	printf(" %llx %llx %llx %llx", (unsigned long long) tag.raw, (unsigned long long) L4_ErrorCode(),
 	       (unsigned long long) from.raw, (unsigned long long) L4_ActualSender().raw);
 	print_words(tag);
+	print_told(call);
 	print_area(call);
 	printf(" %llx %d", (unsigned long long) L4_Myself().raw, cause);
 	/* what the next call says: the connection has ended, or the thread is none any more */
@@ -262,20 +276,24 @@ static void print_case(const char *call, const struct script *script, int connec
 
 static void play(const char *dir, char *line)
 {
-	struct script script = { .greets = strncmp(line, "connect ", 8) != 0 };
 	char *answer = strchr(line, ' ');
+	bool is_of_version_2 = answer[-1] == '2';
+	struct script script = { .greets = true };
 	L4_ThreadId_t from = L4_nilthread;
 	pthread_t server;
 	int connected;
 
 	*answer++ = 0;
+	if (is_of_version_2)
+		line[strlen(line) - 1] = 0;
+	script.greets = strcmp(line, "connect") != 0;
 	script.answer = answer;
 	memset(area, FILLING, AREA_BYTES);
 	if (pthread_create(&server, NULL, serve, &script) != 0)
 		die("pthread_create");
 	L4_Set_MsgTag(L4_Niltag);
 	errno = 0;
-	connected = l4_connect(dir, 1, 2);
+	connected = is_of_version_2 ? l4_connect_version(dir, 1, 2, 2) : l4_connect(dir, 1, 2);
 	if (connected == 0)
 		make(line, &from);
 	print_case(line, &script, connected, errno, from);

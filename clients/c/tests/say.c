@@ -1,6 +1,6 @@
 /* Makes the calls that checks/clients_c.py says, one a line, and prints what each of them brought. Words are hexadecimal.
  *
- *     connect DIR SPACE NUMBER
+ *     connect DIR SPACE NUMBER VERSION
  *     disconnect
  *     ipc TO FROM TIMEOUTS LABEL VIRTUAL WORDS STRINGS BUFFERS
  *     exreg DEST CONTROL
@@ -169,12 +169,23 @@ static void check_rest(size_t k, size_t length)
 		}
 }
 
+/* What version 2 tells of a call: its number, or 0, and its moment; `-` where it tells nothing. */
+static void print_told(bool is_told, L4_Word_t number, L4_Word64_t moment)
+{
+	if (is_told)
+		printf(" %llx,%llx", (unsigned long long) number, (unsigned long long) moment);
+	else
+		printf(" -");
+}
+
 static void print_outcome(L4_MsgTag_t tag, L4_ThreadId_t from)
 {
 	static const L4_Msg_t nothing;
 	L4_ThreadId_t actual = L4_IpcPropagated(tag) ? L4_ActualSender() : L4_nilthread;
 	L4_Msg_t msg = nothing;
-	L4_Word_t u = L4_UntypedWords(tag), t = 0, size;
+	L4_Word_t u = L4_UntypedWords(tag), t = 0, size, number;
+	L4_Word64_t moment;
+	bool is_told;
 	L4_StringItem_t item;
 	size_t count = 0;
 
@@ -194,6 +205,8 @@ static void print_outcome(L4_MsgTag_t tag, L4_ThreadId_t from)
 	for (size_t i = count; i < buffers && L4_IpcSucceeded(tag); i++)
 		check_rest(i, 0);
 	printf(count == 0 ? "-" : "");
+	is_told = l4_last_call(&number, &moment);
+	print_told(is_told, number, moment);
 }
 
 static void ipc(char *line)
@@ -237,6 +250,8 @@ static void exchange(char *line)
 {
 	L4_ThreadId_t dest = thread(part(&line, " ")), result, pager = L4_anythread;
 	L4_Word_t old[5] = { 1, 1, 1, 1, 1 };
+	L4_Word64_t moment;
+	bool is_told;
 
 	result = L4_ExchangeRegisters(dest, word(part(&line, " ")), 0, 0, 0, 0, L4_nilthread, &old[0], &old[1], &old[2],
 				      &old[3], &old[4], &pager);
@@ -244,13 +259,16 @@ static void exchange(char *line)
 		die("a register of another thread");
 	printf("%llx %llx %llx", (unsigned long long) result.raw, (unsigned long long) old[0],
 	       (unsigned long long) L4_ErrorCode());
+	is_told = l4_last_exchange(&moment);
+	print_told(is_told, 0, moment);
 }
 
 static void connect_to(char *line)
 {
 	char *dir = part(&line, " ");
 	unsigned space = (unsigned) atoi(part(&line, " ")), number = (unsigned) atoi(part(&line, " "));
-	int status = l4_connect(dir, space, number);
+	unsigned version = (unsigned) atoi(part(&line, " "));
+	int status = version == 1 ? l4_connect(dir, space, number) : l4_connect_version(dir, space, number, version);
 
 	printf("%d %llx", status, (unsigned long long) L4_Myself().raw);
 }

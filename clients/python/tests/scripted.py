@@ -31,13 +31,20 @@ def failed(error: int) -> bytes:
     return outcome(0x8000, error=error)
 
 
-def scripted(answers: bytes, number: int = 2, ends: bool = True) -> Tuple[Thread, socket.socket]:
+def in_version_2(frame: bytes, call: int = 5, moment: int = 1_000_000) -> bytes:
+    """An IPCR or EXREGR frame of version 1, as it is in version 2."""
+    kind, times = {0x82: (b"\x86", (call, moment)), 0x83: (b"\x87", (moment,))}[frame[4]]
+    body = kind + b"".join(word.to_bytes(8, "big") for word in times) + frame[5:]
+    return len(body).to_bytes(4, "big") + body
+
+
+def scripted(answers: bytes, number: int = 2, ends: bool = True, version: int = 1) -> Tuple[Thread, socket.socket]:
     """A thread whose HELLO is answered WELCOME 2.1, and whose next calls are answered by these bytes; and the server's side."""
     client, server = socket.socketpair()
     server.sendall(WELCOME + answers)
     if ends:
         server.shutdown(socket.SHUT_WR)
-    return Thread.over(client, number), server
+    return Thread.over(client, number, version), server
 
 
 def said(server: socket.socket) -> List[bytes]:

@@ -1,12 +1,14 @@
 """What is written, against the vectors of docs/FORMATS.md."""
 
+import socket
 import unittest
 
+import l4ipc
 from l4ipc import ANYLOCALTHREAD, ANYTHREAD, NILTHREAD, Message, Thread, ThreadId, period, seconds_of
 from l4ipc import frames
 from l4ipc.message import BufferStrings
 
-from .scripted import DONE, EXREGR, WORDS, said, scripted
+from .scripted import DONE, EXREGR, FAILED, WORDS, in_version_2, said, scripted
 
 FIRST, SECOND = ThreadId.of(1, 1), ThreadId.of(2, 1)
 
@@ -172,6 +174,75 @@ class Frames(unittest.TestCase):
                 else:
                     with self.assertRaises(frames.BadFrame):
                         frames.check_kind(kind, frames.body_length(bytes.fromhex(head)))
+
+
+class Version2(unittest.TestCase):
+    """What version 2 of the wire has beside version 1."""
+
+    def test_hello(self):
+        thread, server = scripted(b"", version=2)
+        thread.close()
+        self.assertEqual(said(server)[0].hex(), "000000050100020002")
+        self.assertEqual(thread.version, 2)
+        server.close()
+        for version in (0, 3, 65_535, -1):
+            with self.subTest(version=version), self.assertRaises(ValueError):
+                frames.hello(2, version)
+
+    def test_frames_are_those_of_the_document(self):
+        rows = [
+            (FAILED, 1, 0, "00000032 86 0000000000000001 0000000000000000 0000000000008000 0000000000000000 0000000000000000 0000000000000004 00"),
+            (EXREGR, 1, 0, "00000021 87 0000000000000000 0000000200000001 0000000000000004 0000000000000000"),
+        ]
+        for frame, call, moment, wanted in rows:
+            self.assertEqual(in_version_2(frame, call, moment), bytes.fromhex(wanted))
+
+    def test_what_is_told_of_each_call(self):
+        answers = (WORDS, FAILED, DONE, EXREGR)
+        thread, server = scripted(b"".join(in_version_2(frame, 7 + at, 100 + at) for at, frame in enumerate(answers)), version=2)
+        self.assertEqual((thread.last_call, thread.last_moment), (None, None))
+        received = thread.wait()
+        self.assertEqual((received.words, received.call, received.moment), ((7, 8), 7, 100))
+        with self.assertRaises(l4ipc.NoPartner) as failure:
+            thread.send(FIRST)
+        self.assertEqual((failure.exception.call, failure.exception.moment), (8, 101))
+        thread.send(FIRST)
+        self.assertEqual((thread.last_call, thread.last_moment), (9, 102))
+        exchanged = thread.exchange_registers(SECOND, send=True)
+        self.assertEqual((exchanged.was_sending, exchanged.moment, thread.last_call, thread.last_moment), (True, 103, 9, 103))
+        thread.close()
+        server.close()
+
+    def test_in_version_1_they_are_none(self):
+        thread, server = scripted(WORDS + FAILED + EXREGR)
+        received = thread.wait()
+        with self.assertRaises(l4ipc.NoPartner) as failure:
+            thread.send(FIRST)
+        exchanged = thread.exchange_registers(SECOND)
+        told = (received.call, received.moment, failure.exception.call, failure.exception.moment, exchanged.moment, thread.last_call, thread.last_moment)
+        self.assertEqual(told, (None,) * 7)
+        thread.close()
+        server.close()
+
+    def test_an_answer_of_the_other_version_is_none(self):
+        for version in (1, 2):
+            for does, frame in ((lambda thread: thread.wait(), WORDS), (lambda thread: thread.exchange_registers(SECOND), EXREGR)):
+                answer = frame if version == 2 else in_version_2(frame)
+                for sent in (answer, answer[:5]):
+                    thread, server = scripted(sent, version=version)
+                    with self.subTest(version=version, answer=sent.hex()), self.assertRaises(l4ipc.BadFrame):
+                        does(thread)
+                    self.assertTrue(thread.is_closed)
+                    server.close()
+
+    def test_an_old_server(self):
+        client, server = socket.socketpair()
+        server.sendall(bytes.fromhex("00000003 85 46 03"))
+        server.shutdown(socket.SHUT_WR)
+        with self.assertRaises(l4ipc.Fault) as fault:
+            Thread.over(client, 2, version=2)
+        self.assertEqual((fault.exception.letter, fault.exception.number), ("F", 3))
+        server.close()
 
 
 class Interface(unittest.TestCase):

@@ -6,7 +6,7 @@ import unittest
 import l4ipc
 from l4ipc import Message, Thread, ThreadId
 
-from .scripted import DONE, EXREGR, FAILED, FAULT, REFUSED, STRING, WELCOME, WORDS, failed, outcome, said, scripted
+from .scripted import DONE, EXREGR, FAILED, FAULT, REFUSED, STRING, WELCOME, WORDS, failed, in_version_2, outcome, said, scripted
 
 FIRST = ThreadId.of(1, 1)
 
@@ -20,13 +20,19 @@ CALLS = {
     "a refusal": (lambda thread, memory: thread.wait(buffers=[memory]), REFUSED),
     "a fault": (lambda thread, memory: thread.wait(buffers=[memory]), FAULT),
 }
+# The same in both versions of the wire: the name, the version, what is called, and the answer.
+IN_BOTH = [
+    (name, version, does, in_version_2(answer) if version == 2 and answer[4] in (0x82, 0x83) else answer)
+    for version in (1, 2)
+    for name, (does, answer) in CALLS.items()
+]
 ROOM = 4
 
 
-def tried(does, answer):
+def tried(does, answer, version=1):
     """What a call raises or answers where these bytes come; and that nothing went beyond its memory."""
     whole = bytearray(b"\xee" * (ROOM + 16))
-    thread, server = scripted(answer)
+    thread, server = scripted(answer, version=version)
     try:
         came = does(thread, memoryview(whole)[:ROOM])
     except l4ipc.L4Error as error:
@@ -52,25 +58,25 @@ class Hostile(unittest.TestCase):
             "a string": l4ipc.Received, "words": l4ipc.Received, "an end": type(None), "a failure": l4ipc.NoPartner,
             "registers": l4ipc.Exchanged, "a refusal": l4ipc.Refused, "a fault": l4ipc.Fault,
         }
-        for name, (does, answer) in CALLS.items():
-            with self.subTest(name):
-                self.assertIs(type(tried(does, answer)), expected[name])
+        for name, version, does, answer in IN_BOTH:
+            with self.subTest(name, version=version):
+                self.assertIs(type(tried(does, answer, version)), expected[name])
 
     def test_cut_at_each_byte(self):
-        for name, (does, answer) in CALLS.items():
+        for name, version, does, answer in IN_BOTH:
             for cut in range(len(answer)):
-                with self.subTest(name, cut=cut):
-                    self.assertIsInstance(tried(does, answer[:cut]), (l4ipc.Closed, l4ipc.BadFrame))
+                with self.subTest(name, version=version, cut=cut):
+                    self.assertIsInstance(tried(does, answer[:cut], version), (l4ipc.Closed, l4ipc.BadFrame))
 
     def test_wrong_at_each_byte(self):
         kinds = set()
-        for name, (does, answer) in CALLS.items():
+        for _, version, does, answer in IN_BOTH:
             for place in range(len(answer)):
                 for value in range(256):
                     if value == answer[place]:
                         continue
                     wrong = answer[:place] + bytes([value]) + answer[place + 1 :]
-                    kinds.add(type(tried(does, wrong)).__name__)
+                    kinds.add(type(tried(does, wrong, version)).__name__)
         for kind in ("BadFrame", "Closed", "Received", "Refused", "Fault", "Timeout", "Cancelled", "Overflow", "Aborted"):
             self.assertIn(kind, kinds)
 

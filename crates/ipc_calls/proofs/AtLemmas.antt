@@ -1,18 +1,21 @@
 -- Where the numbers and words of a whole frame stand among its bytes.
-use Rattle.std.proofs.Common.{◌≡◌, ℕ, zero, suc, ◌+◌, ◌*◌, ◌-◌, ◌<◌, ◌≤◌, List, [], ◌∷◌, ◌++◌, length, take, drop, sum, slice_index, replicate, refl, sym, ap, ap₂, subst, ◌∙◌, arith, length-append, length-drop}
+use Rattle.std.proofs.Common.{◌≡◌, ℕ, zero, suc, ◌+◌, ◌*◌, ◌-◌, ◌<◌, ◌≤◌, List, [], ◌∷◌, ◌++◌, Option, Some, None, length, take, drop, sum, slice_index, replicate, refl, sym, ap, ap₂, subst, ◌∙◌, arith, length-append, length-drop}
 use Rattle.std.proofs.lemmas.List.{append-nil, append_assoc, take-take, drop-drop, drop_at, drop_all, drop-append-le, get_or-drop, nil_from_length, length-take-le, take-append-drop, length-replicate}
 use Rattle.ipc_frame.specs.declared.frame.Frame.{Frame}
 use Rattle.ipc_frame.specs.declared.frame.Frame.TheVariants as frame
 use Rattle.ipc_frame.specs.declared.kind.Side.TheVariants.{Server, Client}
 use Rattle.ipc_frame.specs.Numbers.{IsBytes, number_text, number_in, fields_text, fields_in, words_text, words_in, AreWords}
 use Rattle.ipc_frame.specs.Parts.{IpcParts, words_of}
-use Rattle.ipc_frame.specs.Frames.{kind_byte, kind_of, side_of, widths, fields_of, tail_of, size_of, body_of, spelling, IsFrame}
+use Rattle.ipc_frame.specs.declared.version.CallEnd.{CallEnd}
+use Rattle.ipc_frame.specs.declared.version.WireVersion.{WireVersion}
+use Rattle.ipc_frame.specs.declared.version.WireVersion.TheVariants.{One, Two}
+use Rattle.ipc_frame.specs.Frames.{kind_byte, ipcr_kind, kind_of, side_of, widths, fields_of, tail_of, size_of, body_of, spelling, IsFrame}
 use Rattle.ipc_frame.proofs.NumberLemmas.{bytes_append, length_number, number_again, number_more}
 use Rattle.ipc_frame.proofs.FieldLemmas.{fields_again, length_fields, sum_eights}
 use Rattle.ipc_frame.proofs.JudgeLemmas.{number_one, fields_more}
 use Rattle.ipc_frame.proofs.SpellingLemmas.{kind_byte_below, length_spelling}
 use Rattle.ipc_frame.proofs.FoundLemmas.{reading_begins}
-use Rattle.ipc_calls.specs.Holding.{Kept, AreGone, FrameAt, IpcAt, IsWhole, start_size}
+use Rattle.ipc_calls.specs.Holding.{Kept, AreGone, FrameAt, IpcAt, IsWhole, start_size, version_at}
 
 number_at : (width place : ℕ) (held rest : List ℕ) → place + width ≤ length held → number_in width (drop place (held ++ rest)) ≡ number_in width (drop place held)
 number_at width place held rest h =
@@ -80,12 +83,19 @@ small f held rest s at few =
     let none : rest ≡ [] = nil_from_length rest zero_rest in
     record { none = none; held_is = sym (s.text ∙ (ap (λ xs. held ++ xs) none ∙ append-nil held)) }
 
-hello_at : (held rest : List ℕ) (number : ℕ) → Spells (frame.Hello number) (held ++ rest) → Stands held rest → FrameAt held rest (frame.Hello number)
-hello_at held rest number s at =
-    let f = frame.Hello number in
+hello_at : (held rest : List ℕ) (number : ℕ) (version : WireVersion) → Spells (frame.Hello number version) (held ++ rest) → Stands held rest → FrameAt held rest (frame.Hello number version)
+hello_at held rest number One s at =
+    let f = frame.Hello number One in
     let m = small f held rest s at (omega arith) in
     let fields = ap (λ xs. fields_in (2 ∷ []) (drop 5 xs)) m.held_is ∙ fields_at f s.is in
-    (ap (λ xs. slice_index xs 4) m.held_is ∙ kind_at f, omega (arith, ap length m.held_is, length_spelling f), m.none, sym (ap (λ xs. slice_index xs 0) fields))
+    let size : length held ≡ 7 = ap length m.held_is ∙ length_spelling f in
+    (ap (λ xs. slice_index xs 4) m.held_is ∙ kind_at f, omega (arith, size), m.none, sym (ap (λ xs. slice_index xs 0) fields), ap version_at (sym size))
+hello_at held rest number Two s at =
+    let f = frame.Hello number Two in
+    let m = small f held rest s at (omega arith) in
+    let fields = ap (λ xs. fields_in (2 ∷ 2 ∷ []) (drop 5 xs)) m.held_is ∙ fields_at f s.is in
+    let size : length held ≡ 9 = ap length m.held_is ∙ length_spelling f in
+    (ap (λ xs. slice_index xs 4) m.held_is ∙ kind_at f, omega (arith, size), m.none, sym (ap (λ xs. slice_index xs 0) fields), ap version_at (sym size))
 
 exreg_at : (held rest : List ℕ) (target control : ℕ) → Spells (frame.Exreg target control) (held ++ rest) → Stands held rest → FrameAt held rest (frame.Exreg target control)
 exreg_at held rest target control s at =
@@ -232,14 +242,20 @@ module _ (held rest : List ℕ) (ipc : IpcParts) (s : Spells (frame.Ipc ipc) (he
     few_buffer_words = s.is.tail.0.few_buffer_words;
   }
 
+-- an outcome is for clients
+no_outcome : (end : Option CallEnd) → side_of (ipcr_kind end) ≡ Server → ⊥
+no_outcome None e = cc
+no_outcome (Some end) e = cc
+
 spelled_at : (held rest : List ℕ) (f : Frame) → Spells f (held ++ rest) → Stands held rest → FrameAt held rest f
-spelled_at held rest (frame.Hello number) s at = hello_at held rest number s at
+spelled_at held rest (frame.Hello number version) s at = hello_at held rest number version s at
 spelled_at held rest (frame.Ipc ipc) s at = ipc_at held rest ipc s at
 spelled_at held rest (frame.Exreg target control) s at = exreg_at held rest target control s at
 spelled_at held rest frame.Bye s at = bye_at held rest s at
 spelled_at held rest (frame.Welcome id) s at = let no = s.side in absurd (cc)
-spelled_at held rest (frame.Ipcr ipcr) s at = let no = s.side in absurd (cc)
-spelled_at held rest (frame.Exregr result control code) s at = let no = s.side in absurd (cc)
+spelled_at held rest (frame.Ipcr ipcr) s at = absurd (no_outcome ipcr.end s.side)
+spelled_at held rest (frame.Exregr result control code None) s at = let no = s.side in absurd (cc)
+spelled_at held rest (frame.Exregr result control code (Some moment)) s at = let no = s.side in absurd (cc)
 spelled_at held rest (frame.Refused n) s at = let no = s.side in absurd (cc)
 spelled_at held rest (frame.Fault class n) s at = let no = s.side in absurd (cc)
 

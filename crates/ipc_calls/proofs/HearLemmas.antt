@@ -6,9 +6,10 @@ use Rattle.ipc_frame.specs.declared.fault.FrameFault.{FrameFault}
 use Rattle.ipc_frame.specs.declared.fault.FrameFault.TheVariants.{NoMemory, TimePoint}
 use Rattle.ipc_frame.specs.declared.frame.Frame.{Frame}
 use Rattle.ipc_frame.specs.declared.frame.Frame.TheVariants as frame
-use Rattle.ipc_calls.specs.Holding.{FrameAt, IpcAt, HearsOf, head_in}
+use Rattle.ipc_calls.specs.Holding.{FrameAt, IpcAt, HearsOf, head_in, version_at}
 use Rattle.ipc_calls.specs.declared.calls.IpcHead.{IpcHead}
 use Rattle.ipc_calls.specs.declared.heard.Heard.TheVariants.{Hello, Call, Exreg, Bye}
+use Rattle.ipc_frame.specs.declared.version.WireVersion.{WireVersion}
 use Rattle.ipc_frame.specs.Numbers.{number_in}
 use Rattle.ipc_calls.specs.Hearing.{heard_of}
 use Rattle.ipc_history.specs.CallParts.{CallParts}
@@ -30,17 +31,20 @@ made_timely ipc call e = elim (cases_Bool (has_time_point ipc)) [
 ]
 
 module _ (start rest : List ℕ) where
-  pub hears_hello : (number : ℕ) → slice_index start 4 ≡ 1 → number ≡ number_in 2 (drop 5 start) → (f : Frame) → FrameAt start rest f → HearsOf f (Ok (Hello number))
+  pub hears_hello : (number : ℕ) (version : WireVersion) → slice_index start 4 ≡ 1 → number ≡ number_in 2 (drop 5 start) → version ≡ version_at (length start) → (f : Frame) → FrameAt start rest f → HearsOf f (Ok (Hello number version))
   unfolding heard_of
-  hears_hello number kind e (frame.Hello other) h = let same : number ≡ other = e ∙ sym h.3 in inl (ap (λ n. Ok (Hello n)) same)
-  hears_hello number kind e (frame.Ipc ipc) h = absurd (omega (arith, kind, h.kind))
-  hears_hello number kind e (frame.Exreg target control) h = absurd (omega (arith, kind, h.0))
-  hears_hello number kind e frame.Bye h = absurd (omega (arith, kind, h.0))
-  hears_hello number kind e (frame.Welcome id) h = absurd h
-  hears_hello number kind e (frame.Ipcr ipcr) h = absurd h
-  hears_hello number kind e (frame.Exregr result control code) h = absurd h
-  hears_hello number kind e (frame.Refused n) h = absurd h
-  hears_hello number kind e (frame.Fault class n) h = absurd h
+  hears_hello number version kind e v (frame.Hello other named) h =
+      let same : number ≡ other = e ∙ sym h.3 in
+      let as_named : version ≡ named = v ∙ sym h.4 in
+      inl (ap₂ (λ n k. Ok (Hello n k)) same as_named)
+  hears_hello number version kind e v (frame.Ipc ipc) h = absurd (omega (arith, kind, h.kind))
+  hears_hello number version kind e v (frame.Exreg target control) h = absurd (omega (arith, kind, h.0))
+  hears_hello number version kind e v frame.Bye h = absurd (omega (arith, kind, h.0))
+  hears_hello number version kind e v (frame.Welcome id) h = absurd h
+  hears_hello number version kind e v (frame.Ipcr ipcr) h = absurd h
+  hears_hello number version kind e v (frame.Exregr result control code moment) h = absurd h
+  hears_hello number version kind e v (frame.Refused n) h = absurd h
+  hears_hello number version kind e v (frame.Fault class n) h = absurd h
 
   pub hears_exreg : (a b : ℕ) → slice_index start 4 ≡ 3 → a ≡ number_in 8 (drop 5 start) → b ≡ number_in 8 (drop 13 start) → (f : Frame) → FrameAt start rest f → HearsOf f (Ok (Exreg a b))
   unfolding heard_of
@@ -48,24 +52,24 @@ module _ (start rest : List ℕ) where
       let one : a ≡ target = e1 ∙ sym h.3 in
       let two : b ≡ control = e2 ∙ sym h.4 in
       inl (ap₂ (λ x y. Ok (Exreg x y)) one two)
-  hears_exreg a b kind e1 e2 (frame.Hello number) h = absurd (omega (arith, kind, h.0))
+  hears_exreg a b kind e1 e2 (frame.Hello number version) h = absurd (omega (arith, kind, h.0))
   hears_exreg a b kind e1 e2 (frame.Ipc ipc) h = absurd (omega (arith, kind, h.kind))
   hears_exreg a b kind e1 e2 frame.Bye h = absurd (omega (arith, kind, h.0))
   hears_exreg a b kind e1 e2 (frame.Welcome id) h = absurd h
   hears_exreg a b kind e1 e2 (frame.Ipcr ipcr) h = absurd h
-  hears_exreg a b kind e1 e2 (frame.Exregr result control code) h = absurd h
+  hears_exreg a b kind e1 e2 (frame.Exregr result control code moment) h = absurd h
   hears_exreg a b kind e1 e2 (frame.Refused n) h = absurd h
   hears_exreg a b kind e1 e2 (frame.Fault class n) h = absurd h
 
   pub hears_bye : slice_index start 4 ≢ 1 → slice_index start 4 ≢ 2 → slice_index start 4 ≢ 3 → (f : Frame) → FrameAt start rest f → HearsOf f (Ok Bye)
   unfolding heard_of
   hears_bye n1 n2 n3 frame.Bye h = inl refl
-  hears_bye n1 n2 n3 (frame.Hello number) h = absurd (n1 h.0)
+  hears_bye n1 n2 n3 (frame.Hello number version) h = absurd (n1 h.0)
   hears_bye n1 n2 n3 (frame.Ipc ipc) h = absurd (n2 h.kind)
   hears_bye n1 n2 n3 (frame.Exreg target control) h = absurd (n3 h.0)
   hears_bye n1 n2 n3 (frame.Welcome id) h = absurd h
   hears_bye n1 n2 n3 (frame.Ipcr ipcr) h = absurd h
-  hears_bye n1 n2 n3 (frame.Exregr result control code) h = absurd h
+  hears_bye n1 n2 n3 (frame.Exregr result control code moment) h = absurd h
   hears_bye n1 n2 n3 (frame.Refused n) h = absurd h
   hears_bye n1 n2 n3 (frame.Fault class n) h = absurd h
 
@@ -84,12 +88,12 @@ module _ (start rest : List ℕ) where
   pub hears_call : (call : CallParts) → slice_index start 4 ≡ 2 → Answers (Ok call) → (f : Frame) → FrameAt start rest f → HearsOf f (Ok (Call call))
   unfolding heard_of
   hears_call call kind h (frame.Ipc ipc) at = let e = read_ok ipc call (h ipc at) in inl (rw e refl)
-  hears_call call kind h (frame.Hello number) at = absurd (omega (arith, kind, at.0))
+  hears_call call kind h (frame.Hello number version) at = absurd (omega (arith, kind, at.0))
   hears_call call kind h (frame.Exreg target control) at = absurd (omega (arith, kind, at.0))
   hears_call call kind h frame.Bye at = absurd (omega (arith, kind, at.0))
   hears_call call kind h (frame.Welcome id) at = absurd at
   hears_call call kind h (frame.Ipcr ipcr) at = absurd at
-  hears_call call kind h (frame.Exregr result control code) at = absurd at
+  hears_call call kind h (frame.Exregr result control code moment) at = absurd at
   hears_call call kind h (frame.Refused n) at = absurd at
   hears_call call kind h (frame.Fault class n) at = absurd at
 
@@ -104,12 +108,12 @@ module _ (start rest : List ℕ) where
 
   pub hears_fault : (fault : FrameFault) → slice_index start 4 ≡ 2 → Answers (Err fault) → (f : Frame) → FrameAt start rest f → HearsOf f (Err fault)
   hears_fault fault kind h (frame.Ipc ipc) at = fault_heard ipc fault (h ipc at)
-  hears_fault fault kind h (frame.Hello number) at = absurd (omega (arith, kind, at.0))
+  hears_fault fault kind h (frame.Hello number version) at = absurd (omega (arith, kind, at.0))
   hears_fault fault kind h (frame.Exreg target control) at = absurd (omega (arith, kind, at.0))
   hears_fault fault kind h frame.Bye at = absurd (omega (arith, kind, at.0))
   hears_fault fault kind h (frame.Welcome id) at = absurd at
   hears_fault fault kind h (frame.Ipcr ipcr) at = absurd at
-  hears_fault fault kind h (frame.Exregr result control code) at = absurd at
+  hears_fault fault kind h (frame.Exregr result control code moment) at = absurd at
   hears_fault fault kind h (frame.Refused n) at = absurd at
   hears_fault fault kind h (frame.Fault class n) at = absurd at
 
@@ -123,11 +127,11 @@ lacks_ipc ipc fault some e = elim (cases_Bool (has_time_point ipc)) [
 
 pub hears_lack : (start rest : List ℕ) (fault : FrameFault) → 0 < length rest → ((ipc : IpcParts) (behind : List ℕ) → IpcAt start behind ipc → fault ≡ (if has_time_point ipc then TimePoint else NoMemory)) → (f : Frame) → FrameAt start rest f → HearsOf f (Err fault)
 hears_lack start rest fault some h (frame.Ipc ipc) at = lacks_ipc ipc fault (omega (arith, some, ap length at.payload)) (h ipc rest at)
-hears_lack start rest fault some h (frame.Hello number) at = absurd (omega (arith, some, ap length at.2))
+hears_lack start rest fault some h (frame.Hello number version) at = absurd (omega (arith, some, ap length at.2))
 hears_lack start rest fault some h (frame.Exreg target control) at = absurd (omega (arith, some, ap length at.2))
 hears_lack start rest fault some h frame.Bye at = absurd (omega (arith, some, ap length at.2))
 hears_lack start rest fault some h (frame.Welcome id) at = absurd at
 hears_lack start rest fault some h (frame.Ipcr ipcr) at = absurd at
-hears_lack start rest fault some h (frame.Exregr result control code) at = absurd at
+hears_lack start rest fault some h (frame.Exregr result control code moment) at = absurd at
 hears_lack start rest fault some h (frame.Refused n) at = absurd at
 hears_lack start rest fault some h (frame.Fault class n) at = absurd at

@@ -16,7 +16,7 @@ call_heard (Err fault) = Err fault
 
 -- what a frame says; one that is sent to clients alone is no frame here
 unfoldable pub heard_of : Frame → Result Heard FrameFault
-heard_of (frame.Hello number) = Ok (Hello number)
+heard_of (frame.Hello number version) = Ok (Hello number version)
 heard_of (frame.Ipc ipc) = call_heard (call_of ipc)
 heard_of (frame.Exreg target control) = Ok (Exreg target control)
 heard_of frame.Bye = Ok Bye

@@ -1,6 +1,6 @@
 -- The bytes that a decoder holds of a frame, and what filling them up with a piece does.
 use Rattle.std.specs.Prelude.{◌≡◌, ◌⊎◌, ℕ, ◌+◌, ◌*◌, ◌≤◌, Bool, true, false, min, List, [], ◌++◌}
-use Rattle.std.specs.Prelude.{length, take, drop, slice_index, Result, Ok, Err}
+use Rattle.std.specs.Prelude.{length, take, drop, slice_index, Result, Ok, Err, ◌==◌, if◌then◌else◌}
 use Rattle.ipc_words.specs.Limits.{max_buffer_words, max_message_words}
 use Rattle.ipc_frame.specs.Numbers.{IsBytes, number_in, words_in}
 use Rattle.ipc_frame.specs.Parts.{IpcParts, words_of}
@@ -11,6 +11,8 @@ use Rattle.ipc_frame.specs.declared.kind.Side.TheVariants.{Server}
 use Rattle.ipc_frame.specs.declared.fault.FrameFault.TheVariants.{NoMemory}
 use Rattle.ipc_frame.specs.declared.frame.Frame.{Frame}
 use Rattle.ipc_frame.specs.declared.frame.Frame.TheVariants as frame
+use Rattle.ipc_frame.specs.declared.version.WireVersion.{WireVersion}
+use Rattle.ipc_frame.specs.declared.version.WireVersion.TheVariants.{One, Two}
 use Rattle.ipc_calls.specs.Hearing.{heard_of}
 use Rattle.ipc_calls.specs.Taking.{IsUnfinished, MayLack}
 use Rattle.ipc_calls.specs.declared.calls.IpcHead.{IpcHead}
@@ -97,10 +99,15 @@ pub record IpcAt (start rest : List ℕ) (ipc : IpcParts) : Type 0 where
   pub few_words : words_of ipc.tag ≤ max_message_words
   pub few_buffer_words : length ipc.buffer_words ≤ max_buffer_words
 
+-- the version of a HELLO of so many bytes
+abbrev pub version_at : ℕ → WireVersion
+version_at size = (if size == 9 then Two else One)
+
 -- the frame that bytes are, a payload apart
 abbrev pub FrameAt : List ℕ → List ℕ → Frame → Type 0
-FrameAt start rest (frame.Hello number) =
+FrameAt start rest (frame.Hello number version) =
     (slice_index start 4 ≡ 1) × (7 ≤ length start) × (rest ≡ []) × (number ≡ number_in 2 (drop 5 start))
+    × (version ≡ version_at (length start))
 FrameAt start rest (frame.Ipc ipc) = IpcAt start rest ipc
 FrameAt start rest (frame.Exreg target control) =
     (slice_index start 4 ≡ 3) × (21 ≤ length start) × (rest ≡ [])

@@ -5,12 +5,12 @@ ghost use Rattle.ipc_frame.specs.Parts.{IpcParts};
 ghost use Rattle.ipc_calls.specs.CallOf.{call_of, asks_memory, has_time_point};
 ghost use Rattle.ipc_calls.specs.Reads.{Reads};
 ghost use Rattle.ipc_calls.specs.Holding.{Keeps, ForGone, AreGone, IsWhole, TellsOf, IpcAt};
-ghost use Rattle.ipc_calls.specs.Holding.{FrameAt, HearsOf, head_in, max_start, start_size};
+ghost use Rattle.ipc_calls.specs.Holding.{FrameAt, HearsOf, head_in, max_start, start_size, version_at};
 
 use crate::calls::IpcHead;
 use crate::heard::Heard;
 use byteorder::{BigEndian, ByteOrder};
-use ipc_frame::{Frame, FrameFault, Judgement, Side, judge};
+use ipc_frame::{Frame, FrameFault, Judgement, Side, WireVersion, judge};
 use ipc_history::Call;
 use ipc_words::limits::{MAX_BUFFER_WORDS, MAX_MESSAGE_WORDS};
 use ipc_words::{Control, MsgTag, ThreadId, Timeouts};
@@ -149,6 +149,17 @@ fn hear_call(alloc: Global, start: &[u8], payload: &[u8]) -> Result<Call, FrameF
     head.call(alloc, words, buffer_words, payload)
 }
 
+// The version of a whole HELLO of so many bytes.
+fn version_at(size: usize) -> WireVersion
+    ensures { result ≡ version_at size }
+{
+    if size == 9 {
+        WireVersion::Two
+    } else {
+        WireVersion::One
+    }
+}
+
 // What a whole frame says.
 fn hear(alloc: Global, start: &[u8], payload: &[u8]) -> Result<Heard, FrameFault>
     requires { (f : Frame) × FrameAt start.now payload.now f }
@@ -156,7 +167,7 @@ fn hear(alloc: Global, start: &[u8], payload: &[u8]) -> Result<Heard, FrameFault
 {
     let kind = start[4];
     if kind == 0x01 {
-        return Ok(Heard::Hello(read_u16(&start[5..])));
+        return Ok(Heard::Hello(read_u16(&start[5..]), version_at(start.len())));
     }
     if kind == 0x02 {
         return match hear_call(alloc, start, payload) {

@@ -21,7 +21,7 @@ const CALL: [u8; 58] = [
 // 4,000 and the number of a fault; 5,000 where nothing is heard.
 fn told(answer: Result<(usize, Option<Heard>), FrameFault>) -> u64 {
     match answer {
-        Ok((_, Some(Heard::Hello(number)))) => u64::from(number),
+        Ok((_, Some(Heard::Hello(number, _)))) => u64::from(number),
         Ok((_, Some(Heard::Call(call)))) => 1_000 + call.words().len() as u64,
         Ok((_, Some(Heard::Exreg(_, _)))) => 2_000,
         Ok((_, Some(Heard::Bye))) => 3_000,

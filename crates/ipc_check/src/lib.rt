@@ -2,8 +2,10 @@
 #![tactic(auto)]
 
 mod checker;
+mod compacted;
 
 pub use checker::{Verdict, check};
+pub use compacted::check_from;
 
 #[cfg(test)]
 mod tests;

@@ -7,7 +7,7 @@ use Rattle.std.proofs.lemmas.List.Sums.{sum_by-set}
 use Rattle.std.proofs.lemmas.Bool.{eqb-true, eqb-false}
 use Rattle.std.specs.Prelude.{◌==◌}
 use Rattle.std.proofs.Math.ListN.{length-set}
-use Rattle.ipc_circles.specs.Waits.{awaited_at, follow, ComesBack, GoesRound}
+use Rattle.ipc_circles.specs.Waits.{awaited_at, follow, places, ComesBack, GoesRound}
 
 -- one for a place that was not seen
 abbrev pub unseen : Bool → ℕ
@@ -23,12 +23,12 @@ pub record GoesOn (waits : List (Option ℕ)) (start : ℕ) (seen : List Bool) (
 
 -- so many steps from the start the walk is at the current place, and has not come back
 pub record IsWalking (waits : List (Option ℕ)) (start : ℕ) (seen : List Bool) (current steps : ℕ) : Type 0 where
-  pub whole : length seen ≡ 256
+  pub whole : length seen ≡ places
   pub here : follow waits start steps ≡ Some current
   pub fresh : (m : ℕ) → 0 < m → m ≤ steps → follow waits start m ≡ Some start → ⊥
   pub begun : (get_or seen start false ≡ true) ⊎ (current ≡ start)
   pub goes : (i : ℕ) → get_or seen i false ≡ true → GoesOn waits start seen current i
-  pub counted : steps + sum_by unseen seen ≡ 256
+  pub counted : steps + sum_by unseen seen ≡ places
 
 pub follow_next : (waits : List (Option ℕ)) (k n i : ℕ) → follow waits k n ≡ Some i → follow waits k (n + 1) ≡ awaited_at waits i
 unfolding follow
@@ -43,14 +43,14 @@ nothing_seen zero i seen = cc
 nothing_seen (suc n) zero seen = cc
 nothing_seen (suc n) (suc i) seen = nothing_seen n i seen
 
-pub walk_start : (waits : List (Option ℕ)) (start : ℕ) → IsWalking waits start (replicate 256 false) start 0
+pub walk_start : (waits : List (Option ℕ)) (start : ℕ) → IsWalking waits start (replicate places false) start 0
 unfolding follow
 walk_start waits start = record {
   whole = refl;
   here = refl;
   fresh = λ m some most back. absurd (omega arith);
   begun = inr refl;
-  goes = λ i seen. absurd (nothing_seen 256 i seen);
+  goes = λ i seen. absurd (nothing_seen places i seen);
   counted = refl;
 }
 
@@ -129,7 +129,7 @@ never_yet waits start current steps next here fresh is other m some most back = 
         fresh m some (omega arith) back
 
 pub walk_on : (waits : List (Option ℕ)) (start : ℕ) (seen : List Bool) (current steps next : ℕ) → IsWalking waits start seen current steps
-    → current < 256 → get_or seen current false ≡ false → awaited_at waits current ≡ Some next → (next ≡ start → ⊥)
+    → current < places → get_or seen current false ≡ false → awaited_at waits current ≡ Some next → (next ≡ start → ⊥)
     → IsWalking waits start (set seen current true) next (steps + 1)
 walk_on waits start seen current steps next walking below new is other =
     let within : current < length seen = rw walking.whole below in

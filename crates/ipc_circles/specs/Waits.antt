@@ -1,11 +1,12 @@
 -- Places of which each waits for at most one other.
 use Rattle.std.specs.Prelude.{◌≡◌, ℕ, zero, suc, ◌<◌, List, Option, Some, None, IsSome, slice_index_or, option_and_then}
+use Rattle.ipc_words.specs.Limits.{table_slots}
 use Rattle.ipc_circles.specs.declared.courses.Course.{Course}
 use Rattle.ipc_circles.specs.declared.courses.Course.TheVariants.{Ends, Returns, Enters}
 
--- how many places there are
+-- how many places there are: one for each thread number
 abbrev pub places : ℕ
-places = 256
+places = table_slots
 
 -- the place for which a place waits; none for a place past the last one
 abbrev pub awaited_at : List (Option ℕ) → ℕ → Option ℕ

@@ -1,8 +1,10 @@
 ghost use Rattle.std.specs.Prelude.{◌≡◌, length, IsSome};
 ghost use Rattle.ipc_circles.specs.Waits.{IsCourse, awaited_at, places};
 
+use ipc_words::limits::TABLE_SLOTS;
+
 /// How many places there are.
-pub const PLACES: usize = 256;
+pub const PLACES: usize = TABLE_SLOTS;
 
 /// Where following from a place leads.
 #[derive(Clone, Copy, PartialEq, Eq, Debug)]
@@ -79,8 +81,8 @@ mod tests {
             (&[Some(1), Some(2), Some(1)], 0, Course::Enters),
             (&[Some(1), Some(2), Some(1)], 2, Course::Returns(2)),
             (&[Some(1), Some(2), None], 0, Course::Ends),
-            (&[Some(1), Some(300)], 0, Course::Ends),
-            (&[Some(0)], 256, Course::Ends),
+            (&[Some(1), Some(PLACES + 44)], 0, Course::Ends),
+            (&[Some(0)], PLACES, Course::Ends),
         ];
         for (first, start, course) in cases {
             let waits = waits_of(first);
@@ -99,10 +101,13 @@ mod tests {
         for place in 0..PLACES {
             waits[place] = Some((place + 1) % PLACES);
         }
-        assert_eq!(rt; course_from(&waits, 7), Course::Returns(256));
-        waits[255] = Some(1);
+        assert_eq!(rt; course_from(&waits, 7), Course::Returns(PLACES));
+        waits[PLACES - 1] = Some(1);
         assert_eq!(rt; course_from(&waits, 0), Course::Enters);
-        assert_eq!(rt; course_from(&waits, 255), Course::Returns(255));
+        assert_eq!(rt;
+            course_from(&waits, PLACES - 1),
+            Course::Returns(PLACES - 1)
+        );
         Ok(())
     }
 }

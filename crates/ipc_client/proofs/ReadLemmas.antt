@@ -55,6 +55,7 @@ format_shows fault.TooLong r new h bad = bad
 format_shows fault.UnknownKind r new h bad = bad
 format_shows fault.WrongSize r new h bad = bad
 format_shows fault.TooManyWords r new h bad = bad
+format_shows fault.UnknownVersion r new h bad = bad
 format_shows fault.PastWords r new h bad = bad
 format_shows fault.ReservedBit r new h bad = bad
 format_shows fault.OutsidePayload r new h bad = bad

@@ -1,10 +1,12 @@
 -- One frame out, one frame in.
-use Rattle.std.specs.Prelude.{◌≡◌, ◌<◌, Bool, true, false, Some, IfSome, Result, Err, ◌⊎◌}
+use Rattle.std.specs.Prelude.{◌≡◌, ◌<◌, Bool, true, false, not, is_some, Some, IfSome, Result, Err, ◌⊎◌}
 use Rattle.std.specs.Io.KnownBytes.{Appends}
 use Rattle.ipc_frame.specs.declared.fault.FrameFault.{FrameFault}
 use Rattle.ipc_frame.specs.declared.frame.Frame.{Frame}
 use Rattle.ipc_frame.specs.declared.frame.Frame.TheVariants as frame
 use Rattle.ipc_frame.specs.declared.kind.Side.TheVariants.{Client}
+use Rattle.ipc_frame.specs.declared.version.WireVersion.{WireVersion}
+use Rattle.ipc_frame.specs.declared.version.WireVersion.TheVariants.{One, Two}
 use Rattle.ipc_frame.specs.Frames.{spelling}
 use Rattle.ipc_frame.specs.Making.{ipc_fault}
 use Rattle.ipc_frame.specs.Parts.{IpcParts}
@@ -31,7 +33,7 @@ answer_frame (answer.Outcome ipcr) = frame.Ipcr ipcr
 answer_frame (answer.Refused number) = frame.Refused number
 
 abbrev pub registers_frame : Registers → Frame
-registers_frame (registers.Exchanged result control code) = frame.Exregr result control code
+registers_frame (registers.Exchanged result control code moment) = frame.Exregr result control code moment
 registers_frame (registers.Refused number) = frame.Refused number
 
 -- exactly the bytes of one frame went out, the next frame was read and no byte behind it, and no device failed
@@ -72,21 +74,31 @@ abbrev pub IsOther : (Frame → Bool) → Frame → Type 0
 IsOther is_answer (frame.Fault class number) = ⊥
 IsOther is_answer other = is_answer other ≡ false
 
--- the answers to HELLO, to a call, to ExchangeRegisters
+-- the answers to HELLO, and, in a version, to a call and to ExchangeRegisters
 abbrev pub greets : Frame → Bool
 greets (frame.Welcome id) = true
 greets (frame.Refused number) = true
 greets _ = false
 
-abbrev pub answers_call : Frame → Bool
-answers_call (frame.Ipcr ipcr) = true
-answers_call (frame.Refused number) = true
-answers_call _ = false
+-- whether a version tells calls and moments as it is told here
+abbrev pub tells_so : WireVersion → Bool → Bool
+tells_so One told = not told
+tells_so Two told = told
 
-abbrev pub answers_exchange : Frame → Bool
-answers_exchange (frame.Exregr result control code) = true
-answers_exchange (frame.Refused number) = true
-answers_exchange _ = false
+abbrev pub answers_call : WireVersion → Frame → Bool
+answers_call version (frame.Ipcr ipcr) = tells_so version (is_some ipcr.end)
+answers_call version (frame.Refused number) = true
+answers_call version _ = false
+
+abbrev pub answers_exchange : WireVersion → Frame → Bool
+answers_exchange version (frame.Exregr result control code moment) = tells_so version (is_some moment)
+answers_exchange version (frame.Refused number) = true
+answers_exchange version _ = false
+
+-- the version in which a client is answered after its HELLO named this one and was answered so
+abbrev pub version_after : WireVersion → WireVersion → Greeting → WireVersion
+version_after old named (greeting.Welcome id) = named
+version_after old named (greeting.Refused number) = old
 
 -- what it tells
 abbrev pub error_at : Frame → ClientError
@@ -109,8 +121,8 @@ Fails is_answer old new asked error = (old.is_closed ≡ false) × (new.is_close
 abbrev pub FailsCall : ClientParts → ClientParts → IpcParts → ClientError → Type 0
 FailsCall old new parts (error.Frame fault) =
     (old.is_closed ≡ false) × (new.is_closed ≡ true)
-    × (IsPastLimits old new parts fault ⊎ FailsBy answers_call old new (frame.Ipc parts) (error.Frame fault))
-FailsCall old new parts error = Fails answers_call old new (frame.Ipc parts) error
+    × (IsPastLimits old new parts fault ⊎ FailsBy (answers_call old.version) old new (frame.Ipc parts) (error.Frame fault))
+FailsCall old new parts error = Fails (answers_call old.version) old new (frame.Ipc parts) error
 
 -- a call that is past the limits fails so, and nothing is written or read
 abbrev pub IsWithheld : ClientParts → ClientParts → IpcParts → Result Answer ClientError → Type 0

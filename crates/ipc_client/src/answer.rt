@@ -31,6 +31,8 @@ pub enum Registers {
         control: Control,
         /// 0, or 2 where the destination is no thread of the caller's space.
         code: u64,
+        /// Its moment, in microseconds; None in version 1.
+        moment: Option<u64>,
     },
     /// The kernel refused: the number after K. The thread goes on.
     Refused(u8),

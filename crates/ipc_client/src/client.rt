@@ -8,6 +8,8 @@ ghost use Rattle.ipc_frame.specs.Frames.{spelling};
 ghost use Rattle.ipc_client.specs.Asking.{Answers, Exchanges, Fails, FailsBy, FailsCall, FailsToRead};
 ghost use Rattle.ipc_client.specs.Asking.{FailsToSend, FailsBye, IsWithheld, SaysBye};
 ghost use Rattle.ipc_client.specs.Asking.{answer_frame, answers_call, answers_exchange, error_at};
+ghost use Rattle.ipc_client.specs.Asking.{tells_so, version_after};
+ghost use Rattle.ipc_frame.specs.declared.version.WireVersion.TheVariants.{One};
 ghost use Rattle.ipc_client.specs.Asking.{greeting_frame, greets, registers_frame};
 ghost use Rattle.ipc_client.specs.Messages.{ipc_of, no_buffers, no_message};
 ghost use Rattle.ipc_words.specs.Time.{no_time};
@@ -18,7 +20,7 @@ use crate::message::{Buffers, Message};
 use crate::reading::read_frame;
 use crate::timeout::Timeout;
 use crate::writing::write_frame;
-use ipc_frame::{Frame, FrameFault, IpcFrame, IpcParts, Side};
+use ipc_frame::{Frame, FrameFault, IpcFrame, IpcParts, Side, WireVersion};
 use ipc_ports::{PortRead, PortWrite};
 use ipc_words::{Control, Period, ThreadId, Timeouts};
 use std::alloc::Global;
@@ -33,6 +35,7 @@ pub struct Client<R: PortRead, W: PortWrite> {
     alloc: Global,
     reader: R,
     writer: W,
+    version: WireVersion,
     is_closed: bool,
 }
 
@@ -46,6 +49,7 @@ impl<R: PortRead, W: PortWrite> Model for Client<R, W> {
       written = W.written client.writer;
       read_failures = R.failures client.reader;
       write_failures = W.failures client.writer;
+      version = client.version;
       is_closed = client.is_closed;
     } };
 }
@@ -58,6 +62,7 @@ impl<R: PortRead, W: PortWrite> Client<R, W> {
           written = W.written writer;
           read_failures = R.failures reader;
           write_failures = W.failures writer;
+          version = One;
           is_closed = false;
         } }
     {
@@ -65,6 +70,7 @@ impl<R: PortRead, W: PortWrite> Client<R, W> {
             alloc,
             reader,
             writer,
+            version: WireVersion::One,
             is_closed: false,
         }
     }
@@ -76,6 +82,7 @@ impl<R: PortRead, W: PortWrite> Client<R, W> {
         ensures err { IfErr result (λ fault. FailsToSend self.old self.new frame fault
             ⊎ FailsToRead self.old self.new frame fault) }
         ensures open { self.new.is_closed ≡ false }
+        ensures version { self.new.version ≡ self.old.version }
     {
         match write_frame(&mut self.writer, frame) {
             Ok(()) => read_frame(self.alloc, Side::Client, &mut self.reader),
@@ -87,6 +94,7 @@ impl<R: PortRead, W: PortWrite> Client<R, W> {
     fn ask(&mut self, frame: Frame) -> Result<Frame, ClientError>
         ensures ok { IfOk result (λ answered. Answers self.old self.new frame answered) }
         ensures err { IfErr result (λ error. (is_answer : AnyFrame → Bool) → Fails is_answer self.old self.new frame error) }
+        ensures version { self.new.version ≡ self.old.version }
     {
         if self.is_closed {
             return Err(ClientError::Closed);
@@ -112,22 +120,58 @@ impl<R: PortRead, W: PortWrite> Client<R, W> {
         }
     }
 
-    /// Says which thread number the connection wants, and answers the thread's id.
+    /// Whether an answer of the client's version tells calls and moments as it is told here.
+    fn tells(&self, told: bool) -> bool
+        ensures { result ≡ tells_so self.now.version told }
+    {
+        match self.version {
+            WireVersion::One => !told,
+            WireVersion::Two => told,
+        }
+    }
+
+    /// Says which thread number the connection wants, and answers the thread's id. A client that is
+    /// welcomed so is answered in version 1.
     ///
     /// # Errors
     ///
     /// As [`ClientError`] says. The client is then closed.
     pub fn hello(&mut self, number: u16) -> Result<Greeting, ClientError>
-        ensures ok { IfOk result (λ greeting. Answers self.old self.new (Frame.Hello number) (greeting_frame greeting)) }
-        ensures err { IfErr result (λ error. Fails greets self.old self.new (Frame.Hello number) error) }
+        ensures ok { IfOk result (λ greeting. Answers self.old self.new (Frame.Hello number One) (greeting_frame greeting)) }
+        ensures version { IfOk result (λ greeting. self.new.version ≡ version_after self.old.version One greeting) }
+        ensures err { IfErr result (λ error. Fails greets self.old self.new (Frame.Hello number One) error) }
+        ensures still { OnErr result (self.new.version ≡ self.old.version) }
         ensures closed { self.old.is_closed ≡ true → (result ≡ Err ClientError.Closed) × (self.new ≡ self.old) }
     {
-        let answered = match self.ask(Frame::Hello(number)) {
+        self.hello_version(number, WireVersion::One)
+    }
+
+    /// Says which thread number the connection wants, and in which version it is answered from the
+    /// WELCOME on, and answers the thread's id. An answer of the other version is then `Unexpected`.
+    ///
+    /// # Errors
+    ///
+    /// As [`ClientError`] says. The client is then closed.
+    pub fn hello_version(
+        &mut self,
+        number: u16,
+        version: WireVersion,
+    ) -> Result<Greeting, ClientError>
+        ensures ok { IfOk result (λ greeting. Answers self.old self.new (Frame.Hello number version) (greeting_frame greeting)) }
+        ensures version { IfOk result (λ greeting. self.new.version ≡ version_after self.old.version version greeting) }
+        ensures err { IfErr result (λ error. Fails greets self.old self.new (Frame.Hello number version) error) }
+        ensures still { OnErr result (self.new.version ≡ self.old.version) }
+        ensures closed { self.old.is_closed ≡ true → (result ≡ Err ClientError.Closed) × (self.new ≡ self.old) }
+    {
+        let answered = match self.ask(Frame::Hello(number, version)) {
             Ok(answered) => answered,
             Err(error) => return Err(error),
         };
         match answered {
-            Frame::Welcome(id) => Ok(Greeting::Welcome(id)),
+            Frame::Welcome(id) => {
+                self.version = version;
+                Ok(Greeting::Welcome(id))
+            }
             Frame::Refused(number) => Ok(Greeting::Refused(number)),
             other => Err(self.close_at(other)),
         }
@@ -140,7 +184,9 @@ impl<R: PortRead, W: PortWrite> Client<R, W> {
     /// As [`ClientError`] says. The client is then closed.
     pub fn ipc(&mut self, frame: IpcFrame) -> Result<Answer, ClientError>
         ensures ok { IfOk result (λ answer. Answers self.old self.new (Frame.Ipc frame) (answer_frame answer)) }
-        ensures err { IfErr result (λ error. Fails answers_call self.old self.new (Frame.Ipc frame) error) }
+        ensures told { IfOk result (λ answer. answers_call self.old.version (answer_frame answer) ≡ true) }
+        ensures version { self.new.version ≡ self.old.version }
+        ensures err { IfErr result (λ error. Fails (answers_call self.old.version) self.old self.new (Frame.Ipc frame) error) }
         ensures closed { self.old.is_closed ≡ true → (result ≡ Err ClientError.Closed) × (self.new ≡ self.old) }
     {
         let answered = match self.ask(Frame::Ipc(frame)) {
@@ -148,7 +194,13 @@ impl<R: PortRead, W: PortWrite> Client<R, W> {
             Err(error) => return Err(error),
         };
         match answered {
-            Frame::Ipcr(outcome) => Ok(Answer::Outcome(outcome)),
+            Frame::Ipcr(outcome) => {
+                if self.tells(outcome.end().is_some()) {
+                    Ok(Answer::Outcome(outcome))
+                } else {
+                    Err(self.close_at(Frame::Ipcr(outcome)))
+                }
+            }
             Frame::Refused(number) => Ok(Answer::Refused(number)),
             other => Err(self.close_at(other)),
         }
@@ -165,7 +217,9 @@ impl<R: PortRead, W: PortWrite> Client<R, W> {
         control: Control,
     ) -> Result<Registers, ClientError>
         ensures ok { IfOk result (λ answer. Answers self.old self.new (Frame.Exreg dest control) (registers_frame answer)) }
-        ensures err { IfErr result (λ error. Fails answers_exchange self.old self.new (Frame.Exreg dest control) error) }
+        ensures told { IfOk result (λ answer. answers_exchange self.old.version (registers_frame answer) ≡ true) }
+        ensures version { self.new.version ≡ self.old.version }
+        ensures err { IfErr result (λ error. Fails (answers_exchange self.old.version) self.old self.new (Frame.Exreg dest control) error) }
         ensures closed { self.old.is_closed ≡ true → (result ≡ Err ClientError.Closed) × (self.new ≡ self.old) }
     {
         let answered = match self.ask(Frame::Exreg(dest, control)) {
@@ -173,11 +227,18 @@ impl<R: PortRead, W: PortWrite> Client<R, W> {
             Err(error) => return Err(error),
         };
         match answered {
-            Frame::Exregr(result, control, code) => Ok(Registers::Exchanged {
-                result,
-                control,
-                code,
-            }),
+            Frame::Exregr(result, control, code, moment) => {
+                if self.tells(moment.is_some()) {
+                    Ok(Registers::Exchanged {
+                        result,
+                        control,
+                        code,
+                        moment,
+                    })
+                } else {
+                    Err(self.close_at(Frame::Exregr(result, control, code, moment)))
+                }
+            }
             Frame::Refused(number) => Ok(Registers::Refused(number)),
             other => Err(self.close_at(other)),
         }
@@ -194,6 +255,8 @@ impl<R: PortRead, W: PortWrite> Client<R, W> {
     ) -> Result<Answer, ClientError>
         ensures ok { IfOk result (λ answer. Answers self.old self.new
             (Frame.Ipc (ipc_of to from timeouts message buffers)) (answer_frame answer)) }
+        ensures told { IfOk result (λ answer. answers_call self.old.version (answer_frame answer) ≡ true) }
+        ensures version { self.new.version ≡ self.old.version }
         ensures err { IfErr result (λ error. FailsCall self.old self.new (ipc_of to from timeouts message buffers) error) }
         ensures limits { IsWithheld self.old self.new (ipc_of to from timeouts message buffers) result }
         ensures closed { self.old.is_closed ≡ true → (result ≡ Err ClientError.Closed) × (self.new ≡ self.old) }
@@ -234,6 +297,8 @@ impl<R: PortRead, W: PortWrite> Client<R, W> {
     ) -> Result<Answer, ClientError>
         ensures ok { IfOk result (λ answer. Answers self.old self.new
             (Frame.Ipc (ipc_of to 0 (timeouts_of 0 send) message no_buffers)) (answer_frame answer)) }
+        ensures told { IfOk result (λ answer. answers_call self.old.version (answer_frame answer) ≡ true) }
+        ensures version { self.new.version ≡ self.old.version }
         ensures err { IfErr result (λ error. FailsCall self.old self.new
             (ipc_of to 0 (timeouts_of 0 send) message no_buffers) error) }
         ensures limits { IsWithheld self.old self.new (ipc_of to 0 (timeouts_of 0 send) message no_buffers) result }
@@ -257,6 +322,8 @@ impl<R: PortRead, W: PortWrite> Client<R, W> {
     ) -> Result<Answer, ClientError>
         ensures ok { IfOk result (λ answer. Answers self.old self.new
             (Frame.Ipc (ipc_of 0 from (timeouts_of receive 0) no_message buffers)) (answer_frame answer)) }
+        ensures told { IfOk result (λ answer. answers_call self.old.version (answer_frame answer) ≡ true) }
+        ensures version { self.new.version ≡ self.old.version }
         ensures err { IfErr result (λ error. FailsCall self.old self.new
             (ipc_of 0 from (timeouts_of receive 0) no_message buffers) error) }
         ensures limits { IsWithheld self.old self.new (ipc_of 0 from (timeouts_of receive 0) no_message buffers) result }
@@ -282,6 +349,8 @@ impl<R: PortRead, W: PortWrite> Client<R, W> {
     ) -> Result<Answer, ClientError>
         ensures ok { IfOk result (λ answer. Answers self.old self.new
             (Frame.Ipc (ipc_of to to (timeouts_of receive send) message buffers)) (answer_frame answer)) }
+        ensures told { IfOk result (λ answer. answers_call self.old.version (answer_frame answer) ≡ true) }
+        ensures version { self.new.version ≡ self.old.version }
         ensures err { IfErr result (λ error. FailsCall self.old self.new
             (ipc_of to to (timeouts_of receive send) message buffers) error) }
         ensures limits { IsWithheld self.old self.new (ipc_of to to (timeouts_of receive send) message buffers) result }
@@ -305,6 +374,8 @@ impl<R: PortRead, W: PortWrite> Client<R, W> {
     ) -> Result<Answer, ClientError>
         ensures ok { IfOk result (λ answer. Answers self.old self.new
             (Frame.Ipc (ipc_of to anythread (timeouts_of receive no_time) message buffers)) (answer_frame answer)) }
+        ensures told { IfOk result (λ answer. answers_call self.old.version (answer_frame answer) ≡ true) }
+        ensures version { self.new.version ≡ self.old.version }
         ensures err { IfErr result (λ error. FailsCall self.old self.new
             (ipc_of to anythread (timeouts_of receive no_time) message buffers) error) }
         ensures limits { IsWithheld self.old self.new (ipc_of to anythread (timeouts_of receive no_time) message buffers) result }

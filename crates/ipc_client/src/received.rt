@@ -6,7 +6,7 @@ ghost use Rattle.ipc_items.specs.Strings.{strings_of};
 ghost use Rattle.ipc_client.specs.Receiving.{item_strings, message_in, received_strings};
 
 use crate::answer::{Answer, Failure};
-use ipc_frame::{IpcrFrame, Placed};
+use ipc_frame::{CallEnd, IpcrFrame, Placed};
 use ipc_words::ThreadId;
 use std::alloc::{AllocError, Global};
 use std::marker::Model;
@@ -45,6 +45,13 @@ impl Answer {
 }
 
 impl Received {
+    /// Which call it was and when it was over; None in version 1.
+    pub fn end(&self) -> Option<CallEnd>
+        ensures { result ≡ self.now.end }
+    {
+        self.outcome.end()
+    }
+
     /// The label, 48 bits.
     pub fn label(&self) -> u64
         ensures { result ≡ label_of self.now.tag }

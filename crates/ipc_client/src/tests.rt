@@ -1,5 +1,5 @@
 use super::*;
-use ipc_frame::{Frame, FrameFault, Side};
+use ipc_frame::{CallEnd, Frame, FrameFault, Side, WireVersion};
 use ipc_ports::{MemoryPort, Trouble};
 use ipc_words::{Control, MsgTag, Period, ThreadId};
 use std::alloc::Global;
@@ -34,6 +34,19 @@ const EXREG: [u8; 21] = [
 
 const EXREGR: [u8; 29] = [
     0, 0, 0, 0x19, 0x83, 0, 0, 0, 2, 0, 0, 0, 1, 0, 0, 0, 0, 0, 0, 0, 4, 0, 0, 0, 0, 0, 0, 0, 0,
+];
+
+// version 2: HELLO 2; EXREGR 2.1, S, code 0 at moment 7; the outcome of call 3 at moment 9
+const HELLO_TWO: [u8; 9] = [0, 0, 0, 5, 0x01, 0, 2, 0, 2];
+
+const EXREGR_TWO: [u8; 37] = [
+    0, 0, 0, 0x21, 0x87, 0, 0, 0, 0, 0, 0, 0, 7, 0, 0, 0, 2, 0, 0, 0, 1, 0, 0, 0, 0, 0, 0, 0, 4, 0,
+    0, 0, 0, 0, 0, 0, 0,
+];
+
+const IPCR_TWO: [u8; 54] = [
+    0, 0, 0, 0x32, 0x86, 0, 0, 0, 0, 0, 0, 0, 3, 0, 0, 0, 0, 0, 0, 0, 9, 0, 0, 0, 0, 0, 0, 0x80, 0,
+    0, 0, 0, 0, 0, 0, 0, 0, 0, 0, 0, 0, 0, 0, 0, 0, 0, 0, 0, 0, 0, 0, 0, 4, 0,
 ];
 
 // REFUSED K2, FAULT F1, BYE
@@ -263,6 +276,7 @@ fn registers_are_exchanged(rt: HostRuntime) -> Result<(), Fail> {
         result: second,
         control,
         code: 0,
+        moment: None,
     };
     assert_eq!(rt; registers, exchanged);
     assert_text(&rt, writer.output(), &[&EXREG]);
@@ -283,4 +297,67 @@ fn a_period_is_the_least_that_is_long_enough(rt: HostRuntime) {
     for (micros, word) in cases {
         assert_eq!(rt; Timeout::micros(micros).period().to_word(), word);
     }
+}
+
+// A client that is welcomed in a version, after a HELLO that was refused in the other one, and then
+// exchanges the registers of 2.1.
+fn welcomed_and_exchanged(
+    alloc: Global,
+    version: WireVersion,
+    refused: WireVersion,
+    answer: &[u8],
+) -> Result<Result<Registers, ClientError>, Fail> {
+    let mut input = Vec::new(alloc);
+    input.extend_from_slice(&REFUSED)?;
+    input.extend_from_slice(&WELCOME)?;
+    input.extend_from_slice(answer)?;
+    let mut reader = MemoryPort::new(alloc, &input);
+    let mut writer = MemoryPort::new(alloc, &[]);
+    let mut client = Client::new(alloc, &mut reader, &mut writer);
+    let _ = client.hello_version(2, refused)?;
+    let _ = client.hello_version(2, version)?;
+    Ok(client.exchange_registers(ThreadId::from_word(SECOND), Control::from_word(4)))
+}
+
+// What an ExchangeRegisters of 2.1 answers, with its moment.
+fn exchanged_at(moment: Option<u64>) -> Registers {
+    Registers::Exchanged {
+        result: ThreadId::from_word(SECOND),
+        control: Control::from_word(4),
+        code: 0,
+        moment,
+    }
+}
+
+#[test]
+fn an_answer_is_of_the_version_that_was_welcomed(rt: HostRuntime) -> Result<(), Fail> {
+    let alloc = rt.alloc();
+    let (one, two) = (WireVersion::One, WireVersion::Two);
+    let same = welcomed_and_exchanged(alloc, two, one, &EXREGR_TWO)?;
+    assert_eq!(rt; same, Ok(exchanged_at(Some(7))));
+    let older = welcomed_and_exchanged(alloc, two, one, &EXREGR)?;
+    assert_eq!(rt; older, Err(ClientError::Unexpected));
+    let first = welcomed_and_exchanged(alloc, one, two, &EXREGR)?;
+    assert_eq!(rt; first, Ok(exchanged_at(None)));
+    let newer = welcomed_and_exchanged(alloc, one, two, &EXREGR_TWO)?;
+    assert_eq!(rt; newer, Err(ClientError::Unexpected));
+    Ok(())
+}
+
+#[test]
+fn an_outcome_of_version_2_has_its_call_and_its_moment(rt: HostRuntime) -> Result<(), Fail> {
+    let alloc = rt.alloc();
+    let mut input = Vec::new(alloc);
+    input.extend_from_slice(&WELCOME)?;
+    input.extend_from_slice(&IPCR_TWO)?;
+    let mut reader = MemoryPort::new(alloc, &input);
+    let mut writer = MemoryPort::new(alloc, &[]);
+    let mut client = Client::new(alloc, &mut reader, &mut writer);
+    let _ = client.hello_version(2, WireVersion::Two)?;
+    let answer = client.receive(ThreadId::ANYTHREAD, Timeout::never(), Buffers::none(alloc))?;
+    let Answer::Outcome(outcome) = answer else {
+        return Err(Fail::new("no outcome"));
+    };
+    assert_eq!(rt; outcome.end(), Some(CallEnd { call: 3, moment: 9 }));
+    Ok(())
 }

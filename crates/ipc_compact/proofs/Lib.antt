@@ -24,3 +24,6 @@ pub mod StandingReading
 pub mod SlotReading
 pub mod Counting
 pub mod PlaceLemmas
+pub mod SayingLemmas
+pub mod MakingLemmas
+pub mod Rebuilding

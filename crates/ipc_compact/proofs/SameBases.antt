@@ -3,6 +3,7 @@ use Rattle.std.proofs.lemmas.Bool.{ne_eqb}
 use Rattle.std.proofs.lemmas.Bool.Decides.{nat_tests}
 use Rattle.std.proofs.Common.{◌≡◌, refl, sym, ap, ◌∙◌, subst, ℕ, zero, suc, ◌+◌, ◌<◌, ◌≤◌, ◌&&◌, Bool, true, List, ◌++◌, map, get_or, drop, None, nat_le, inl, inr, arith}
 use Rattle.std.proofs.lemmas.Bool.{cases_order}
+use Rattle.ipc_words.specs.Limits.{max_thread_number, table_slots}
 use Rattle.ipc_words.specs.ThreadId.{number_of}
 use Rattle.ipc_history.specs.Words.{last_some}
 use Rattle.ipc_history.specs.Entries.{thread_in}
@@ -24,13 +25,13 @@ from_same f g k (suc c) h (suc i) l = subst (λ j. f j ≡ g j) (omega arith) (f
 second_of : (a b c d e f : Bool) → (a && b && c && d && e && f) ≡ true → b ≡ true
 second_of a b c d e f h = grind arith
 
-low : (n : ℕ) → nat_le n 255 ≡ true → n ≤ 255
+low : (n : ℕ) → nat_le n max_thread_number ≡ true → n ≤ max_thread_number
 low n h = grind (arith, nat_tests)
 
-none_in : (P : List Entry) (e : Entry) → Follows P e → (k : ℕ) → 256 ≤ k → thread_in k e ≡ None
+none_in : (P : List Entry) (e : Entry) → Follows P e → (k : ℕ) → table_slots ≤ k → thread_in k e ≡ None
 unfolding Follows is_admissible may_open
 none_in P (Given (Opened t space)) follows k h =
-    let few : number_of t ≤ 255 = low (number_of t) (second_of (nat_le 1 (number_of t)) (nat_le (number_of t) 255) _ _ _ _ follows.1) in
+    let few : number_of t ≤ max_thread_number = low (number_of t) (second_of (nat_le 1 (number_of t)) (nat_le (number_of t) max_thread_number) _ _ _ _ follows.1) in
     rw (ne_eqb (number_of t) k (λ same. omega (arith, few, h, same))) refl
 none_in P (Given (At moment)) follows k h = refl
 none_in P (Given (Called n thread call)) follows k h = refl
@@ -39,21 +40,21 @@ none_in P (Given (Broke thread)) follows k h = refl
 none_in P (Given (Moved n count)) follows k h = refl
 none_in P (Written output) follows k h = refl
 
-last_none : (P : List Entry) → Legal P → (k : ℕ) → 256 ≤ k → last_some (thread_in k) P ≡ None
-last_none = legal_induction (λ P. (k : ℕ) → 256 ≤ k → last_some (thread_in k) P ≡ None) (λ k h. refl) (λ P e legal before follows k h. last_some_push (thread_in k) P e ∙ rw (none_in P e follows k h) (before k h))
+last_none : (P : List Entry) → Legal P → (k : ℕ) → table_slots ≤ k → last_some (thread_in k) P ≡ None
+last_none = legal_induction (λ P. (k : ℕ) → table_slots ≤ k → last_some (thread_in k) P ≡ None) (λ k h. refl) (λ P e legal before follows k h. last_some_push (thread_in k) P e ∙ rw (none_in P e follows k h) (before k h))
 
-version_none : (P : List Entry) → Legal P → (k : ℕ) → 256 ≤ k → last_version P k ≡ 0
+version_none : (P : List Entry) → Legal P → (k : ℕ) → table_slots ≤ k → last_version P k ≡ 0
 unfolding last_version
 version_none P legal k h = rw (last_none P legal k h) refl
 
-versions_same : (P Q : List Entry) → Legal P → Legal Q → map (last_version P) (from 0 256) ≡ map (last_version Q) (from 0 256) → (k : ℕ) → last_version P k ≡ last_version Q k
-versions_same P Q legal legal' h k = elim (cases_order k 256) [
+versions_same : (P Q : List Entry) → Legal P → Legal Q → map (last_version P) (from 0 table_slots) ≡ map (last_version Q) (from 0 table_slots) → (k : ℕ) → last_version P k ≡ last_version Q k
+versions_same P Q legal legal' h k = elim (cases_order k table_slots) [
   | inl same ↦ above (omega (arith, same))
-  | inr (inl less) ↦ subst (λ j. last_version P j ≡ last_version Q j) (omega arith) (from_same (last_version P) (last_version Q) 0 256 h k less)
+  | inr (inl less) ↦ subst (λ j. last_version P j ≡ last_version Q j) (omega arith) (from_same (last_version P) (last_version Q) 0 table_slots h k less)
   | inr (inr more) ↦ above (omega (arith, more))
 ]
   where
-    above : 256 ≤ k → last_version P k ≡ last_version Q k
+    above : table_slots ≤ k → last_version P k ≡ last_version Q k
     above h = version_none P legal k h ∙ sym (version_none Q legal' k h)
 
 pub same_compact : (P Q : List Entry) (one other : List ℕ) → Legal P → Legal Q → compact P one ≡ compact Q other → SameCompact P Q one other

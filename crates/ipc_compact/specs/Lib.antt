@@ -9,3 +9,4 @@ pub mod Standings
 pub mod SlotsKept
 pub mod Counted
 pub mod Places
+pub mod Making

@@ -1,4 +1,9 @@
 //! What is kept of a quiet history when it is compacted, and the base that stands beside it.
 #![tactic(auto)]
 
+mod base;
 pub mod laws;
+mod making;
+mod saying;
+
+pub use base::Base;

@@ -5,7 +5,7 @@ use Rattle.ipc_frame.specs.declared.frame.Frame.{Frame}
 use Rattle.ipc_frame.specs.declared.frame.Frame.TheVariants as frame
 use Rattle.ipc_connection.specs.Asking.{asks}
 use Rattle.ipc_connection.specs.Chain.{Chain}
-use Rattle.ipc_connection.specs.Replying.{next_stage, reply}
+use Rattle.ipc_connection.specs.Replying.{frame_of, next_stage}
 use Rattle.ipc_connection.specs.declared.asking.Reaction.{Reaction}
 use Rattle.ipc_connection.specs.declared.asking.Reaction.TheVariants.{Ask, Leave, Refuse, Nothing}
 use Rattle.ipc_connection.specs.declared.asking.Request.{Request}
@@ -33,10 +33,10 @@ post_of None = []
 post_of (Some frame) = Posts frame ∷ []
 
 abbrev pub posted : Told → Option Frame
-posted (Opened thread) = None
+posted (Opened thread version) = None
 posted Entered = None
-posted (Exchanged result control code) = None
-posted (Refused refusal) = reply (Refused refusal)
+posted (Exchanged result control code moment) = None
+posted (Refused refusal) = frame_of refusal
 posted (Faulted class number) = Some (frame.Fault class number)
 posted Left = None
 

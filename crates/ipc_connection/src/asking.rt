@@ -1,19 +1,19 @@
 ghost use Rattle.std.specs.Prelude.{◌≡◌, Ok};
-ghost use Rattle.ipc_connection.specs.Asking.{asks, command_of};
+ghost use Rattle.ipc_connection.specs.Asking.{asks, command_of, version_asked};
 
 use crate::fault::{FRAME, OUT_OF_PLACE, SESSION};
 use crate::stage::Stage;
 use ipc_calls::Heard;
 use ipc_core::Command;
-use ipc_frame::FrameFault;
+use ipc_frame::{FrameFault, WireVersion};
 use ipc_history::Call;
 use ipc_words::{Control, ThreadId};
 
 /// What a connection asks of the kernel.
 #[derive(Drop)]
 pub enum Request {
-    /// Open the thread of a number.
-    Open(u16),
+    /// Open the thread of a number, for a connection that is then answered in a version.
+    Open(u16, WireVersion),
     /// Enter a call of a thread.
     Enter(ThreadId, Call),
     /// Stop phases of a target for a thread.
@@ -61,7 +61,7 @@ fn greeted(said: Heard) -> Reaction
     ensures { result ≡ asks Stage.Greeting (Ok said) }
 {
     match said {
-        Heard::Hello(number) => Reaction::Ask(Request::Open(number)),
+        Heard::Hello(number, version) => Reaction::Ask(Request::Open(number, version)),
         Heard::Bye => Reaction::Leave,
         Heard::Call(_) | Heard::Exreg(_, _) => Reaction::Refuse(SESSION, OUT_OF_PLACE),
     }
@@ -72,7 +72,7 @@ fn served(thread: ThreadId, said: Heard) -> Reaction
     ensures { result ≡ asks (Stage.Serving thread) (Ok said) }
 {
     match said {
-        Heard::Hello(_) => Reaction::Refuse(SESSION, OUT_OF_PLACE),
+        Heard::Hello(_, _) => Reaction::Refuse(SESSION, OUT_OF_PLACE),
         Heard::Call(call) => Reaction::Ask(Request::Enter(thread, call)),
         Heard::Exreg(target, control) => Reaction::Ask(Request::Exreg {
             thread,
@@ -83,12 +83,23 @@ fn served(thread: ThreadId, said: Heard) -> Reaction
     }
 }
 
+/// The version in which a connection is answered that makes a request: a HELLO names it, and another
+/// request leaves it as it was. Before a HELLO is accepted all answers are the same in each version.
+pub fn version_asked(request: &Request, version: WireVersion) -> WireVersion
+    ensures { result ≡ version_asked request.now version }
+{
+    match request {
+        Request::Open(_, named) => *named,
+        Request::Enter(_, _) | Request::Exreg { .. } => version,
+    }
+}
+
 /// The command of the kernel that a request of a connection is which came from a space, 1 to 64.
 pub fn command_of(request: Request, space: u64) -> Command
     ensures { result ≡ command_of request space }
 {
     match request {
-        Request::Open(number) => Command::Open {
+        Request::Open(number, _version) => Command::Open {
             number: u64::from(number),
             space,
         },

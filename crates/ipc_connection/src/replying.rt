@@ -1,23 +1,23 @@
 ghost use Rattle.std.specs.Prelude.{◌≡◌, is_some};
 ghost use Rattle.ipc_connection.specs.Desk.{posted};
-ghost use Rattle.ipc_connection.specs.Replying.{ends_by, next_stage, reply, thread_left, told_of};
+ghost use Rattle.ipc_connection.specs.Replying.{ends_by, frame_of, moment_in, next_stage, next_version, reply, thread_left, told_of};
 
 use crate::fault::KERNEL;
 use crate::stage::Stage;
 use ipc_core::{Answer, Refusal};
-use ipc_frame::Frame;
+use ipc_frame::{Frame, WireVersion};
 use ipc_words::{Control, ThreadId};
 
 /// What becomes of a request: what the kernel, or a desk in front of it, answered, or how the
 /// connection ends.
 #[derive(Clone, Copy, PartialEq, Eq, Debug)]
 pub enum Told {
-    /// The thread that was opened.
-    Opened(ThreadId),
+    /// The thread that was opened, and the version in which the connection is answered from here on.
+    Opened(ThreadId, WireVersion),
     /// The call was entered: its outcome is told later.
     Entered,
-    /// What ExchangeRegisters answers: result, control and code.
-    Exchanged(ThreadId, Control, u64),
+    /// What ExchangeRegisters answers: result, control and code; and its moment, in microseconds.
+    Exchanged(ThreadId, Control, u64, u64),
     /// The kernel refused it.
     Refused(Refusal),
     /// A fault, by its class and number: the connection ends.
@@ -26,14 +26,16 @@ pub enum Told {
     Left,
 }
 
-/// What a kernel's answer tells a connection. What answers no request tells it nothing, as an entered call does.
-pub fn told_of(answer: Answer) -> Told
-    ensures { result ≡ told_of answer }
+/// What a kernel's answer tells a connection, where its request named this version, and the kernel's
+/// moment after it is this, in microseconds. What answers no request tells it nothing, as an entered
+/// call does.
+pub fn told_of(version: WireVersion, moment: u64, answer: Answer) -> Told
+    ensures { result ≡ told_of version moment answer }
 {
     match answer {
-        Answer::Opened(thread) => Told::Opened(thread),
+        Answer::Opened(thread) => Told::Opened(thread, version),
         Answer::Exchanged(exchanged) => {
-            Told::Exchanged(exchanged.result, exchanged.control, exchanged.code)
+            Told::Exchanged(exchanged.result, exchanged.control, exchanged.code, moment)
         }
         Answer::Refused(refusal) => Told::Refused(refusal),
         Answer::Entered(_) => Told::Entered,
@@ -43,24 +45,39 @@ pub fn told_of(answer: Answer) -> Told
     }
 }
 
-/// The frame that tells it, if any. K7 is a fault; K6 is told to nobody, as the thread is gone.
+/// The frame that tells it in a version, if any. K7 is a fault; K6 is told to nobody, as the thread is gone.
 #[tactic(auto, unfolding(crate::specs::Replying::reply))]
-pub fn reply(told: Told) -> Option<Frame>
-    ensures { result ≡ reply told }
+pub fn reply(version: WireVersion, told: Told) -> Option<Frame>
+    ensures { result ≡ reply version told }
 {
     match told {
-        Told::Opened(thread) => Some(Frame::Welcome(thread)),
+        Told::Opened(thread, _) => Some(Frame::Welcome(thread)),
         Told::Entered => None,
-        Told::Exchanged(result, control, code) => Some(Frame::Exregr(result, control, code)),
+        Told::Exchanged(result, control, code, moment) => Some(Frame::Exregr(
+            result,
+            control,
+            code,
+            moment_in(version, moment),
+        )),
         Told::Refused(refusal) => refused(refusal),
         Told::Faulted(class, number) => Some(Frame::Fault(class, number)),
         Told::Left => None,
     }
 }
 
+/// The moment of an ExchangeRegisters, where a version tells it.
+fn moment_in(version: WireVersion, moment: u64) -> Option<u64>
+    ensures { result ≡ moment_in version moment }
+{
+    match version {
+        WireVersion::One => None,
+        WireVersion::Two => Some(moment),
+    }
+}
+
 #[tactic(auto, unfolding(crate::specs::Replying::reply))]
 fn refused(refusal: Refusal) -> Option<Frame>
-    ensures { result ≡ reply (Told.Refused refusal) }
+    ensures { result ≡ frame_of refusal }
 {
     let number = refusal.number();
     match refusal {
@@ -84,7 +101,7 @@ pub fn is_posted(told: Told) -> bool
     match told {
         Told::Refused(refusal) => refused(refusal).is_some(),
         Told::Faulted(_, _) => true,
-        Told::Opened(_) | Told::Entered | Told::Exchanged(_, _, _) | Told::Left => false,
+        Told::Opened(_, _) | Told::Entered | Told::Exchanged(_, _, _, _) | Told::Left => false,
     }
 }
 
@@ -95,9 +112,9 @@ pub fn next_stage(stage: Stage, told: Told) -> Stage
     ensures { result ≡ next_stage stage told }
 {
     match told {
-        Told::Opened(thread) => Stage::Serving(thread),
+        Told::Opened(thread, _) => Stage::Serving(thread),
         Told::Entered => stage,
-        Told::Exchanged(_, _, _) => stage,
+        Told::Exchanged(_, _, _, _) => stage,
         Told::Refused(refusal) => {
             if ends_by(refusal) {
                 Stage::Finished
@@ -107,6 +124,18 @@ pub fn next_stage(stage: Stage, told: Told) -> Stage
         }
         Told::Faulted(_, _) => Stage::Finished,
         Told::Left => Stage::Finished,
+    }
+}
+
+/// The version in which a connection is answered after it was told this.
+#[tactic(auto, unfolding(crate::specs::Replying::next_version))]
+pub fn next_version(version: WireVersion, told: Told) -> WireVersion
+    ensures { result ≡ next_version version told }
+{
+    match told {
+        Told::Opened(_, named) => named,
+        Told::Entered | Told::Exchanged(_, _, _, _) => version,
+        Told::Refused(_) | Told::Faulted(_, _) | Told::Left => version,
     }
 }
 

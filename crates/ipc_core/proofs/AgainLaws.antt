@@ -2,6 +2,7 @@
 use Rattle.std.proofs.lemmas.Bool.{false≢true}
 use Rattle.std.proofs.Common.{◌≡◌, refl, sym, ap, ap₂, subst, ◌∙◌, ℕ, ◌+◌, ◌≤◌, Bool, true, false, if◌then◌else◌, List, [], ◌∷◌, ◌++◌, Option, Some, None, inl, inr, length, min, drop, arith}
 use Rattle.std.specs.Prelude.{MatchBool}
+use Rattle.ipc_words.specs.Limits.{max_command_entries}
 use Rattle.ipc_history.specs.HistoryParts.{HeldParts}
 use Rattle.ipc_history.specs.Holding.{held_of}
 use Rattle.ipc_history.specs.Legal.{Legal}
@@ -135,7 +136,7 @@ module _ (upto : ℕ) (old : KernelParts) (command : Command) where
     obeys = obeys;
   }
 
-pub again_few : (upto : ℕ) (old : KernelParts) (command : Command) (answer : Answer) (new : KernelParts) → MayObeyAgain upto old command answer new → Legal new.history → length new.history ≤ length old.history + 1022
+pub again_few : (upto : ℕ) (old : KernelParts) (command : Command) (answer : Answer) (new : KernelParts) → MayObeyAgain upto old command answer new → Legal new.history → length new.history ≤ length old.history + max_command_entries
 again_few upto old command answer new again legal = omega (arith, obeys_few again.roomy command answer new again.obeys legal, ap length (room_history upto old again.roomy command again.makes_room))
 
 pub again_sound : StaysSoundAgain

@@ -3,6 +3,7 @@ use Rattle.std.proofs.lemmas.Bool.{false≢true}
 use Rattle.std.proofs.Common.{◌≡◌, refl, sym, ap, ap₂, ◌∙◌, subst, ℕ, ◌+◌, ◌-◌, ◌^◌, ◌<◌, ◌≤◌, Bool, true, false, ◌==◌, List, [], ◌∷◌, ◌++◌, length, length-append, take, drop, if◌then◌else◌, arith}
 use Rattle.std.proofs.lemmas.List.{append-nil, append_assoc, length-drop, length-take-le}
 use Rattle.std.proofs.lemmas.List.Folds.{list_any-append}
+use Rattle.ipc_words.specs.Limits.{table_slots}
 use Rattle.ipc_history.specs.CallParts.{CallParts}
 use Rattle.ipc_history.specs.Entries.{calls}
 use Rattle.ipc_history.specs.Holding.{compacted, held_before, held_of, marked_to, reached}
@@ -45,7 +46,7 @@ open_kept H taken legal n (Given (Moved k count)) opened is = absurd (false≢tr
 open_kept H taken legal n (Written output) opened is = absurd (false≢true is)
 
 -- what the last calls tell is what is kept
-pub passes_is : (H : List Entry) (taken : List ℕ) (desks : List Desk) → Legal H → DesksKeep H taken desks → TookOthers H taken → (kept : KeptParts) → kept ≡ kept_upto H taken 256 → (e : Entry) → passes kept e ≡ is_kept H taken e
+pub passes_is : (H : List Entry) (taken : List ℕ) (desks : List Desk) → Legal H → DesksKeep H taken desks → TookOthers H taken → (kept : KeptParts) → kept ≡ kept_upto H taken table_slots → (e : Entry) → passes kept e ≡ is_kept H taken e
 unfolding TookOthers
 passes_is H taken desks legal keeps others kept is e = ap (λ k. passes k e) is ∙ kept_is H taken legal keeps.over others e
 

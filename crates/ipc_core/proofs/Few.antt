@@ -2,6 +2,7 @@
 use Rattle.std.proofs.Common.{◌≡◌, ap, subst, ◌∙◌, ℕ, ◌+◌, ◌≤◌, Bool, true, false, if◌then◌else◌, List, [], ◌∷◌, ◌++◌, append_assoc, length, map, Option, Some, None, inl, inr, arith}
 use Rattle.std.proofs.lemmas.List.{length-append, length-map}
 use Rattle.std.specs.Prelude.{nat_lt, MatchBool}
+use Rattle.ipc_words.specs.Limits.{max_command_entries, max_outputs}
 use Rattle.ipc_history.specs.Legal.{Legal}
 use Rattle.ipc_history.specs.Settled.{Settled}
 use Rattle.ipc_history.specs.Threads.{now}
@@ -21,7 +22,7 @@ use Rattle.ipc_core.specs.declared.command.Command.TheVariants.{Open, Enter, Exr
 use Rattle.ipc_core.specs.declared.refusal.Refusal.{Refusal}
 
 -- an input and what it brings about
-settled_few : (P new : List Entry) (input : Input) → Settled (P ++ Given input ∷ []) new → Legal new → length new ≤ length P + 1021
+settled_few : (P new : List Entry) (input : Input) → Settled (P ++ Given input ∷ []) new → Legal new → length new ≤ length P + (max_outputs + 1)
 settled_few P new input settled legal =
     let whole = settled.appended ∙ append_assoc P (Given input ∷ []) (map Written settled.outputs) in
     omega (arith, ap length whole, length-append P (Given input ∷ map Written settled.outputs), length-map settled.outputs Written, outputs_most P input settled.outputs (subst Legal whole legal))
@@ -34,19 +35,19 @@ at_most_one H moment = go (nat_lt (now H) moment)
     go false = omega (arith, length-append H [])
 
 -- with the At before it
-takes_few : (H new : List Entry) (moment : ℕ) (input : Input) → Settled (with_input H moment input) new → Legal new → length new ≤ length H + 1022
+takes_few : (H new : List Entry) (moment : ℕ) (input : Input) → Settled (with_input H moment input) new → Legal new → length new ≤ length H + max_command_entries
 takes_few H new moment input settled legal =
     let few = settled_few (H ++ at_if_later H moment) new input settled legal in
     omega (arith, few, at_most_one H moment)
 
-same_few : (old new : KernelParts) → new ≡ old → length new.history ≤ length old.history + 1022
+same_few : (old new : KernelParts) → new ≡ old → length new.history ≤ length old.history + max_command_entries
 same_few old new same = rw same (omega arith)
 
-ticks_few : (H new : List Entry) (moment : ℕ) (b : Bool) → MatchBool b (Settled (H ++ Given (input.At moment) ∷ []) new) (new ≡ H) → Legal new → length new ≤ length H + 1022
+ticks_few : (H new : List Entry) (moment : ℕ) (b : Bool) → MatchBool b (Settled (H ++ Given (input.At moment) ∷ []) new) (new ≡ H) → Legal new → length new ≤ length H + max_command_entries
 ticks_few H new moment true settled legal = omega (arith, settled_few H new (input.At moment) settled legal)
 ticks_few H new moment false same legal = rw same (omega arith)
 
-does_few : (old : KernelParts) (command : Command) (answer : Answer) (new : KernelParts) → Does old command answer new → Legal new.history → length new.history ≤ length old.history + 1022
+does_few : (old : KernelParts) (command : Command) (answer : Answer) (new : KernelParts) → Does old command answer new → Legal new.history → length new.history ≤ length old.history + max_command_entries
 unfolding Does
 does_few old (Open number space) (Opened thread) new does legal = takes_few old.history new.history old.moment (input.Opened thread space) does.takes.history legal
 does_few old (Enter thread call) (Entered number) new does legal = takes_few old.history new.history old.moment (input.Called number thread call) does.takes.history legal
@@ -58,14 +59,14 @@ does_few old Advance (Advanced Idle) new does legal = rw does.1 (omega arith)
 does_few old (Take thread) (Taken outcome) new does legal = rw does.taken (omega arith)
 does_few old _ _ new does legal = absurd does
 
-pub obeys_few : (old : KernelParts) (command : Command) (answer : Answer) (new : KernelParts) → MayObey old command answer new → Legal new.history → length new.history ≤ length old.history + 1022
+pub obeys_few : (old : KernelParts) (command : Command) (answer : Answer) (new : KernelParts) → MayObey old command answer new → Legal new.history → length new.history ≤ length old.history + max_command_entries
 unfolding Obeys
 obeys_few old command answer new may legal = elim may [
   | inl obeys ↦ go (cause_of old command) obeys
   | inr lacks ↦ same_few old new lacks.stays
 ]
   where
-    go : (cause : Option Refusal) → ObeysOr cause old command answer new → length new.history ≤ length old.history + 1022
+    go : (cause : Option Refusal) → ObeysOr cause old command answer new → length new.history ≤ length old.history + max_command_entries
     go (Some refusal) refused = same_few old new refused.1
     go None does = does_few old command answer new does legal
 

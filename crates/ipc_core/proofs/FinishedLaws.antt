@@ -10,6 +10,7 @@ use Rattle.std.proofs.Common.{◌≡◌, refl, sym, ap, ap₂, ◌∙◌, subst,
 use Rattle.std.specs.Prelude.{nat_lt}
 use Rattle.std.specs.List.{IsDistinct, cons_option, list_any}
 use Rattle.std.specs.Option.{option_map_or}
+use Rattle.ipc_words.specs.Limits.{max_thread_number}
 use Rattle.ipc_history.specs.Entries.{breaks, calls, opened_in, opens}
 use Rattle.ipc_history.specs.CallParts.{CallParts}
 use Rattle.ipc_history.specs.Calls.{is_called}
@@ -284,7 +285,7 @@ live_here : (H : List Entry) (t : ℕ) → is_live H t ≡ true → list_any (λ
 unfolding threads
 live_here H t live = sym (either_way t (filter (is_live H) (filter_map opened_in H))) ∙ any_left (λ k. k == t) (is_live H) (filter_map opened_in H) (λ k same. ap (is_live H) (eqb-true k t same) ∙ live) (opened_among H t (live_opened H t live))
 
-pub names_few : (H : List Entry) → Legal H → (names : List ℕ) (t : ℕ) → IsDistinct (λ a b. a == b) names → ((s : ℕ) → is_among s names ≡ true → is_live H s ≡ true) → is_live H t ≡ true → is_among t names ≡ false → length names < 255
+pub names_few : (H : List Entry) → Legal H → (names : List ℕ) (t : ℕ) → IsDistinct (λ a b. a == b) names → ((s : ℕ) → is_among s names ≡ true → is_live H s ≡ true) → is_live H t ≡ true → is_among t names ≡ false → length names < max_thread_number
 unfolding live_threads
 names_few H legal names t once lives live fresh =
     let more = IsDistinct-push eqb_equivalence names t once (sym (either_way t names) ∙ fresh) in

@@ -2,6 +2,7 @@
 use Rattle.std.proofs.lemmas.Bool.{le-leb}
 use Rattle.std.proofs.Common.{◌≡◌, refl, sym, ap, ◌∙◌, ℕ, ◌≤◌, eq-eqb, ◌==◌, not, Bool, true, false, List, IsTrue, Some, None, nat_le}
 use Rattle.std.specs.Option.{option_map_or}
+use Rattle.ipc_words.specs.Limits.{max_space, max_thread_number}
 use Rattle.ipc_words.specs.ThreadId.{number_of, version_of}
 use Rattle.ipc_words.specs.Control.{control_of, is_masked, masked_of, stops_receive, stops_send}
 use Rattle.ipc_history.specs.Threads.{is_live, is_taken, next_version}
@@ -10,12 +11,12 @@ use Rattle.ipc_history.specs.Legal.{is_admissible, is_free, may_open}
 use Rattle.ipc_history.specs.declared.entry.Entry.{Entry}
 use Rattle.ipc_history.specs.declared.entry.Input.TheVariants.{Opened, Exreg}
 
--- a number of 1 to 255 and a space of 1 to 64
+-- a number and a space within the limits
 pub record InRange (number space : ℕ) : Type 0 where
   pub least : 1 ≤ number
-  pub most : number ≤ 255
+  pub most : number ≤ max_thread_number
   pub inner : 1 ≤ space
-  pub outer : space ≤ 64
+  pub outer : space ≤ max_space
 
 -- a thread of a number that is not taken, with its next version, may open
 pub may_open_next : (H : List Entry) (thread number version space : ℕ) → InRange number space → number_of thread ≡ number → version_of thread ≡ version → is_taken H number ≡ false → next_version H number ≡ Some version → IsTrue (is_admissible H (Opened thread space))
@@ -24,9 +25,9 @@ may_open_next H thread number version space range number_is version_is free next
     let taken : not (is_taken H (number_of thread)) ≡ true = ap not (ap (is_taken H) number_is ∙ free) in
     let versions : option_map_or (λ v. v == version_of thread) (next_version H (number_of thread)) false ≡ true = ap (λ o. option_map_or (λ v. v == version_of thread) o false) (ap (next_version H) number_is ∙ next) ∙ eq-eqb version (version_of thread) (sym version_is) in
     let least : nat_le 1 (number_of thread) ≡ true = ap (nat_le 1) number_is ∙ le-leb 1 number range.least in
-    let most : nat_le (number_of thread) 255 ≡ true = ap (λ k. nat_le k 255) number_is ∙ le-leb number 255 range.most in
+    let most : nat_le (number_of thread) max_thread_number ≡ true = ap (λ k. nat_le k max_thread_number) number_is ∙ le-leb number max_thread_number range.most in
     let inner = le-leb 1 space range.inner in
-    let outer = le-leb space 64 range.outer in
+    let outer = le-leb space max_space range.outer in
     rw (least, most, taken, versions, inner, outer) refl
 
 -- a control word of the bits R and S alone

@@ -1,6 +1,7 @@
 -- Which cause a refusal has.
 use Rattle.std.proofs.lemmas.Bool.{le-ltb, ltb-false, false_from_ne_true, true≢false}
 use Rattle.std.proofs.Common.{◌≡◌, refl, ℕ, ◌||◌, Bool, true, false, Option, Some, None, is_some, nat_lt, arith}
+use Rattle.ipc_words.specs.Limits.{max_space, max_thread_number}
 use Rattle.ipc_history.specs.Threads.{is_live, is_taken, next_version}
 use Rattle.ipc_history.specs.Phases.{open_call}
 use Rattle.ipc_laws.proofs.Tests.{neither_left}
@@ -34,8 +35,8 @@ not_since b h = false_from_ne_true b (λ e. true≢false (h e))
 
 -- Opens
 
-range_tests : (number space : ℕ) → InRange number space → (nat_lt number 1 || nat_lt 255 number || nat_lt space 1 || nat_lt 64 space) ≡ false
-range_tests number space range = rw (le-ltb number 1 range.least, le-ltb 255 number range.most, le-ltb space 1 range.inner, le-ltb 64 space range.outer) refl
+range_tests : (number space : ℕ) → InRange number space → (nat_lt number 1 || nat_lt max_thread_number number || nat_lt space 1 || nat_lt max_space space) ≡ false
+range_tests number space range = rw (le-ltb number 1 range.least, le-ltb max_thread_number number range.most, le-ltb space 1 range.inner, le-ltb max_space space range.outer) refl
 
 none_passes : (a b c d : Bool) → (a || b || c || d) ≡ false → (a ≡ false) × (b ≡ false) × (c ≡ false) × (d ≡ false)
 none_passes true b c d none = (cc, cc, cc, cc)
@@ -43,17 +44,17 @@ none_passes false true c d none = (cc, cc, cc, cc)
 none_passes false false true d none = (cc, cc, cc, cc)
 none_passes false false false d none = (refl, refl, refl, none)
 
-range_from : (number space : ℕ) → (nat_lt number 1 || nat_lt 255 number || nat_lt space 1 || nat_lt 64 space) ≡ false → InRange number space
+range_from : (number space : ℕ) → (nat_lt number 1 || nat_lt max_thread_number number || nat_lt space 1 || nat_lt max_space space) ≡ false → InRange number space
 range_from number space tests =
-    let each = none_passes (nat_lt number 1) (nat_lt 255 number) (nat_lt space 1) (nat_lt 64 space) tests in
-    record { least = ltb-false number 1 each.0; most = ltb-false 255 number each.1; inner = ltb-false space 1 each.2; outer = ltb-false 64 space each.3 }
+    let each = none_passes (nat_lt number 1) (nat_lt max_thread_number number) (nat_lt space 1) (nat_lt max_space space) tests in
+    record { least = ltb-false number 1 each.0; most = ltb-false max_thread_number number each.1; inner = ltb-false space 1 each.2; outer = ltb-false max_space space each.3 }
 
 module _ (kernel : KernelParts) (number space : ℕ) where
   pub open_bad : (InRange number space → ⊥) → open_refusal kernel number space ≡ Some BadNumber
   unfolding open_refusal
-  open_bad out = go (nat_lt number 1 || nat_lt 255 number || nat_lt space 1 || nat_lt 64 space) refl
+  open_bad out = go (nat_lt number 1 || nat_lt max_thread_number number || nat_lt space 1 || nat_lt max_space space) refl
     where
-      go : (b : Bool) → (nat_lt number 1 || nat_lt 255 number || nat_lt space 1 || nat_lt 64 space) ≡ b → open_refusal kernel number space ≡ Some BadNumber
+      go : (b : Bool) → (nat_lt number 1 || nat_lt max_thread_number number || nat_lt space 1 || nat_lt max_space space) ≡ b → open_refusal kernel number space ≡ Some BadNumber
       go true tests = rw tests refl
       go false tests = absurd (out (range_from number space tests))
 

@@ -6,7 +6,7 @@ use ipc_words::{Control, ThreadId};
 /// A command to a kernel: one of its calls, with what it is given.
 #[derive(Drop)]
 pub enum Command {
-    /// Opens the thread of a number, 1 to 255, in a space, 1 to 64.
+    /// Opens the thread of a number, 1 to `MAX_THREAD_NUMBER`, in a space, 1 to `MAX_SPACE`.
     Open {
         number: u64,
         space: u64,

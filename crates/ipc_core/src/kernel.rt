@@ -257,8 +257,8 @@ impl Kernel {
         room_within(left, live, self.course.pledged_for_calls(), need)
     }
 
-    /// Opens the thread of a number, 1 to 255, in a space, 1 to 64, and answers its id, with the next version of the
-    /// number. The refusals are K1, K2, K3, K5 and K4, the first that applies; K4 only where the history has less room
+    /// Opens the thread of a number, 1 to [`MAX_THREAD_NUMBER`], in a space, 1 to [`MAX_SPACE`], and answers its id, with
+    /// the next version of the number. The refusals are K1, K2, K3, K5 and K4, the first that applies; K4 only where the history has less room
     /// than for its entries, what is pledged and what an open needs.
     pub fn open(&mut self, number: u64, space: u64) -> Result<ThreadId, Refusal>
         ensures ok { IfOk result (λ thread. (open_refusal self.old number space ≡ None)

@@ -17,7 +17,7 @@ use ipc_words::{Control, ThreadId};
 use std::alloc::Global;
 
 impl Kernel {
-    /// Obeys a command and answers it. A command that is refused changes nothing; one that is not writes at most 1,022 entries. Memory
+    /// Obeys a command and answers it. A command that is refused changes nothing; one that is not writes at most `MAX_COMMAND_ENTRIES`. Memory
     /// lets go of none.
     pub fn obey(&mut self, command: Command) -> Answer
         ensures obeys { MayObey self.old command result self.new }

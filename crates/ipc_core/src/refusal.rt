@@ -4,7 +4,7 @@ ghost use Rattle.ipc_core.specs.RefusalNumbers.{refusal_number};
 /// Why the kernel refuses a command. A refused command changes nothing.
 #[derive(Clone, Copy, PartialEq, Eq, Debug)]
 pub enum Refusal {
-    /// K1: a thread number outside 1 to 255, or a space outside 1 to 64.
+    /// K1: a thread number outside 1 to `MAX_THREAD_NUMBER`, or a space outside 1 to `MAX_SPACE`.
     BadNumber,
     /// K2: the number is live.
     NumberTaken,

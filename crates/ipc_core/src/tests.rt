@@ -71,10 +71,10 @@ fn refusal_of(kernel: &mut Kernel, thread: ThreadId, call: Call) -> Option<Refus
 fn numbers_and_spaces_have_bounds(rt: HostRuntime) -> Result<(), Fail> {
     let mut kernel = kernel(rt.alloc(), MAX_ENTRIES, MAX_CALLS)?;
     assert_eq!(rt; kernel.open(0, 1), Err(Refusal::BadNumber));
-    assert_eq!(rt; kernel.open(256, 1), Err(Refusal::BadNumber));
+    assert_eq!(rt; kernel.open(1024, 1), Err(Refusal::BadNumber));
     assert_eq!(rt; kernel.open(1, 0), Err(Refusal::BadNumber));
     assert_eq!(rt; kernel.open(1, 65), Err(Refusal::BadNumber));
-    assert_eq!(rt; kernel.open(255, 64), Ok(first(255)));
+    assert_eq!(rt; kernel.open(1023, 64), Ok(first(1023)));
     Ok(())
 }
 
@@ -258,13 +258,13 @@ fn commands_are_run(rt: HostRuntime) -> Result<(), Fail> {
     Ok(())
 }
 
-// A kernel with the threads 1 to 255, of which all but the first send it their number.
+// A kernel with all threads, of which all but the first send it their number.
 fn senders(alloc: Global, send_period: u16) -> Result<Kernel, Fail> {
     let mut kernel = kernel(alloc, MAX_ENTRIES, MAX_CALLS)?;
-    for number in 1..=255_u32 {
+    for number in 1..=1023_u32 {
         let _ = kernel.open(u64::from(number), 1);
     }
-    for number in 2..=255_u32 {
+    for number in 2..=1023_u32 {
         let send = sends(alloc, first(1), u64::from(number), send_period)?;
         let _ = kernel.enter(first(number), send);
     }
@@ -274,16 +274,16 @@ fn senders(alloc: Global, send_period: u16) -> Result<Kernel, Fail> {
 #[test]
 fn waiting_senders_are_received_in_turn(rt: HostRuntime) -> Result<(), Fail> {
     let mut kernel = senders(rt.alloc(), 0)?;
-    assert_eq!(rt; kernel.total(), 509);
-    assert_eq!(rt; kernel.open_calls(), 254);
-    for number in 2..=255_u32 {
+    assert_eq!(rt; kernel.total(), 2045);
+    assert_eq!(rt; kernel.open_calls(), 1022);
+    for number in 2..=1023_u32 {
         let receive = receives(rt.alloc(), ThreadId::ANYTHREAD, 0)?;
         assert_eq!(rt; refusal_of(&mut kernel, first(1), receive), None);
         let outcome = kernel.take(first(1)).ok_or("an outcome")?;
-        assert_eq!(rt; outcome.call, 253 + u64::from(number));
+        assert_eq!(rt; outcome.call, 1021 + u64::from(number));
         assert_eq!(rt; outcome.sender, first(number));
     }
-    assert_eq!(rt; kernel.total(), 1271);
+    assert_eq!(rt; kernel.total(), 5111);
     Ok(())
 }
 
@@ -292,15 +292,15 @@ fn deadlines_come_together(rt: HostRuntime) -> Result<(), Fail> {
     let mut kernel = senders(rt.alloc(), 5)?;
     kernel.at(3);
     kernel.at(4);
-    assert_eq!(rt; kernel.total(), 509);
+    assert_eq!(rt; kernel.total(), 2045);
     kernel.at(5);
-    assert_eq!(rt; kernel.total(), 764);
+    assert_eq!(rt; kernel.total(), 3068);
     let outputs = outputs(rt.alloc(), &kernel)?;
-    assert_eq!(rt; outputs.len(), 254);
-    for (output, number) in outputs.iter().zip(1..=254_u64) {
+    assert_eq!(rt; outputs.len(), 1022);
+    for (output, number) in outputs.iter().zip(1..=1022_u64) {
         assert_eq!(rt; *output, failed(number, 0x2));
     }
-    assert_eq!(rt; kernel.finished().len(), 254);
+    assert_eq!(rt; kernel.finished().len(), 1022);
     assert_eq!(rt; kernel.open_calls(), 0);
     Ok(())
 }

@@ -3,6 +3,7 @@ use Rattle.std.proofs.lemmas.Bool.{false≢true}
 use Rattle.std.proofs.lemmas.List.{length-replicate}
 use Rattle.std.proofs.Common.{◌≡◌, refl, sym, ap, ◌∙◌, ℕ, zero, suc, zero-le, List, [], length}
 use Rattle.std.specs.Prelude.{replicate}
+use Rattle.ipc_words.specs.Limits.{table_slots}
 use Rattle.ipc_slots.specs.Slots.{live_of}
 use Rattle.ipc_desks.specs.CallsOf.{is_busy, last_call, made_by, taken_by}
 use Rattle.ipc_desks.specs.Desks.{Keeps, blank_desk, desk_at, desk_of}
@@ -17,7 +18,7 @@ desk_none : (k : ℕ) → desk_of [] [] k ≡ blank_desk
 unfolding desk_of live_of
 desk_none k = refl
 
-pub kept_none : (desks : List Desk) (n : ℕ) → desks ≡ replicate n blank_desk → n ≡ 256 → Keeps [] [] desks
+pub kept_none : (desks : List Desk) (n : ℕ) → desks ≡ replicate n blank_desk → n ≡ table_slots → Keeps [] [] desks
 unfolding taken_by is_busy last_call made_by
 kept_none desks n is all = record {
   size = ap length is ∙ (length-replicate n blank_desk ∙ all);

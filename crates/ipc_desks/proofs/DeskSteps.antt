@@ -4,6 +4,7 @@ use Rattle.std.proofs.lemmas.Option.{none-some, same_Some}
 use Rattle.std.proofs.Common.{◌≡◌, ◌≢◌, refl, sym, ap, ◌∙◌, ℕ, ◌+◌, ◌≤◌, ◌<◌, Bool, true, false, ◌||◌, ◌&&◌, ◌==◌, not, eqb-true, eq-eqb, if◌then◌else◌, List, [], ◌∷◌, ◌++◌, length, count_by, Option, Some, None, option_and_then, inl, inr, ◌⊎◌, arith}
 use Rattle.std.specs.List.{list_any}
 use Rattle.std.specs.Option.{option_map_or, option_or}
+use Rattle.ipc_words.specs.Limits.{table_slots}
 use Rattle.ipc_words.specs.ThreadId.{nilthread, number_of}
 use Rattle.ipc_history.specs.Words.{last_some}
 use Rattle.ipc_history.specs.Entries.{breaks, closes, ends_send, number_in, opens, thread_in}
@@ -89,7 +90,7 @@ module _ (P : List Entry) (e : Entry) (legal : Legal P) (follows : Follows P e) 
         rw (lives, live, last_kept P e t enters, made_kept P e t enters, taken_kept t, open_is_last P legal n o) refl
 
     -- and so the desks of the longer history are kept
-    pub keeps_step : (old new : List Desk) → Keeps P taken old → length new ≡ 256 → ((k : ℕ) → desk_at new k ≡ desk_of Q taken k) → Keeps Q taken new
+    pub keeps_step : (old new : List Desk) → Keeps P taken old → length new ≡ table_slots → ((k : ℕ) → desk_at new k ≡ desk_of Q taken k) → Keeps Q taken new
     unfolding is_busy
     keeps_step old new keeps size table = record {
       size = size;

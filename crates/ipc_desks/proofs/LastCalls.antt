@@ -5,6 +5,7 @@ use Rattle.std.proofs.lemmas.List.Sums.{sum_by_push, sum_by-cons}
 use Rattle.std.proofs.Common.{◌≡◌, ◌≢◌, refl, sym, ap, ◌∙◌, ℕ, suc, zero-le, ◌+◌, ◌≤◌, ◌<◌, add-zero, Bool, true, false, ◌==◌, ◌&&◌, not, eqb-true, eq-eqb, cond, if◌then◌else◌, List, [], ◌∷◌, ◌++◌, length, count_by, Option, Some, None, is_some, arith}
 use Rattle.std.specs.List.{list_any}
 use Rattle.std.specs.Option.{option_or}
+use Rattle.ipc_words.specs.Limits.{table_slots}
 use Rattle.ipc_words.specs.ThreadId.{number_of}
 use Rattle.ipc_history.specs.CallParts.{CallParts}
 use Rattle.ipc_history.specs.Words.{last_some, first_some}
@@ -165,11 +166,11 @@ open_is_last H legal = legal_induction OpenIsLast last_start last_step H legal
 
 -- The number of a live thread
 
-pub live_below : (P : List Entry) → Legal P → (t : ℕ) → is_live P t ≡ true → number_of t < 256
+pub live_below : (P : List Entry) → Legal P → (t : ℕ) → is_live P t ≡ true → number_of t < table_slots
 unfolding was_opened
 live_below P legal t live = let p = any_place (opens t) P (live_opened P t live) in go p.0 p.1 p.2
   where
-    go : (e : Entry) → Place P e → opens t e ≡ true → number_of t < 256
+    go : (e : Entry) → Place P e → opens t e ≡ true → number_of t < table_slots
     go (Given (Opened u space)) at h = let same : u ≡ t = eqb-true u t h in rw (← same) (opened_within at.front u space (follows_at P legal (Given (Opened u space)) at))
     go _ at h = absurd (false≢true h)
 

@@ -529,6 +529,7 @@ fn assert_heard(rt: &impl Abort, alloc: Global, came: Came, hear: Hear) -> Resul
                 result: ThreadId::from_word(id),
                 control: Control::from_word(word),
                 code: 0,
+                moment: None,
             };
             assert_eq!(rt; registers_of(&came), Some(registers));
         }

@@ -1,6 +1,7 @@
 -- What goes along with each command goes along with each list of events.
 use Rattle.std.proofs.Common.{◌≡◌, List, [], ◌∷◌, ◌++◌, ℕ, zero, suc, sym, ap, subst, ◌∙◌, Option, Some, None, Result}
 use Rattle.std.proofs.lemmas.List.{append-nil}
+use Rattle.ipc_frame.specs.declared.version.WireVersion.{WireVersion}
 use Rattle.ipc_frame.specs.declared.fault.FrameFault.{FrameFault}
 use Rattle.ipc_core.specs.KernelParts.{KernelParts}
 use Rattle.ipc_core.specs.declared.command.Answer.{Answer}
@@ -61,15 +62,15 @@ module _
         subst (λ k. R old.kernel asked k) (sym (ap (λ (s : ServiceParts). s.kernel) tells.new_is))
         (then_nothing old.kernel tells.kernel _ asked (leaves_along old.kernel tells.kernel _ asked tells.leaves) (delivered_along _ tells.kernel))
 
-    does_along : (old new : ServiceParts) (place : ℕ) (command : Command) (asked : List Asked) → Does memory old place command asked new → R old.kernel asked new.kernel
-    does_along old new place command asked does =
+    does_along : (old new : ServiceParts) (place : ℕ) (version : WireVersion) (command : Command) (asked : List Asked) → Does memory old place version command asked new → R old.kernel asked new.kernel
+    does_along old new place version command asked does =
         subst (λ a. R old.kernel a new.kernel) (sym does.asked_is)
         (both _ _ _ (record { command = command; answer = does.answer } ∷ []) does.rest (one old.kernel does.between command does.answer does.obeys)
-        (tells_along (record { kernel = does.between; lines = old.lines }) new place (told_of does.answer) does.rest does.tells))
+        (tells_along (record { kernel = does.between; lines = old.lines }) new place (told_of version does.between.moment does.answer) does.rest does.tells))
 
     by_along : (reaction : Reaction) (old new : ServiceParts) (place : ℕ) (asked : List Asked) → ServesBy memory old place reaction asked new → R old.kernel asked new.kernel
     by_along Nothing old new place asked serves = stays _ _ asked serves.0 (ap (λ (s : ServiceParts). s.kernel) serves.1)
-    by_along (Ask request) old new place asked serves = does_along old new place _ asked serves
+    by_along (Ask request) old new place asked serves = does_along old new place _ _ asked serves
     by_along Leave old new place asked serves = tells_along old new place _ asked serves
     by_along (Refuse class number) old new place asked serves = tells_along old new place _ asked serves
 

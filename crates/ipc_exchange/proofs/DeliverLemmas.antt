@@ -107,7 +107,7 @@ pub past_told : (s : ServiceSlots) (place : ℕ) → length s.slots ≤ place �
 past_told s place past = nobody_told s place (λ t e. (let f = past_stage s.slots place past in absurd cc))
 
 -- where it has an outcome to take
-pub outcome_told : (s : ServiceSlots) (place thread : ℕ) (outcome : OutcomeParts) (kernel : KernelParts) (slot : LineSlots) → stage_at s.slots place ≡ Serving thread → Some outcome ≡ outcome_to_take s.kernel thread → kernel ≡ taking s.kernel (Some outcome) → slot.line ≡ record (slot_at s.slots place).line { out = (slot_at s.slots place).line.out ++ spelling (ipcr_of outcome) } → service_of (record s { kernel = kernel; slots = slice_set s.slots place slot }) ≡ told_outcome place (service_of s)
+pub outcome_told : (s : ServiceSlots) (place thread : ℕ) (outcome : OutcomeParts) (kernel : KernelParts) (slot : LineSlots) → stage_at s.slots place ≡ Serving thread → Some outcome ≡ outcome_to_take s.kernel thread → kernel ≡ taking s.kernel (Some outcome) → slot.line ≡ record (slot_at s.slots place).line { out = (slot_at s.slots place).line.out ++ spelling (ipcr_of (slot_at s.slots place).line.version outcome) } → service_of (record s { kernel = kernel; slots = slice_set s.slots place slot }) ≡ told_outcome place (service_of s)
 outcome_told s place thread outcome kernel slot e told is line =
     let outcome_is : outcome_at (at_rest s.kernel) (line_at (lines_of s.slots) place).stage ≡ Some outcome = ap (outcome_at (at_rest s.kernel)) (ap (λ (l : Line). l.stage) (line_there s.slots place) ∙ e) ∙ (same_outcome s.kernel thread ∙ sym told) in
     let kernels : at_rest kernel ≡ without_outcome (at_rest s.kernel) (Some outcome) = ap at_rest is in
@@ -152,12 +152,12 @@ stage_is slots place thread slot within e f = ap (λ (l : LineSlots). l.line.sta
 module _ (s : ServiceSlots) (place thread : ℕ) (slot read new : LineSlots) (outcome : OutcomeParts) (kernel : KernelParts) (answer : List ℕ)
     (within : place < length s.slots) (there : slot ≡ slice_index_or s.slots place slot) (serving : Serving thread ≡ slot.line.stage)
     (told : Some outcome ≡ outcome_to_take s.kernel thread) (is : kernel ≡ taking s.kernel (Some outcome))
-    (again : read ≡ slice_index_or s.slots place read) (spelled : answer ≡ spelling (ipcr_of outcome))
+    (again : read ≡ slice_index_or s.slots place read) (spelled : answer ≡ spelling (ipcr_of read.line.version outcome))
     (line : new.line ≡ record read.line { out = read.line.out ++ answer })
   where
     pub deliver_told : service_of (record s { kernel = kernel; slots = slice_set s.slots place new }) ≡ told_outcome place (service_of s)
     deliver_told = outcome_told s place thread outcome kernel new (stage_is s.slots place thread slot within there serving) told is
-        (line ∙ ap₂ (λ (l : Line) (bytes : List ℕ). record l { out = l.out ++ bytes }) (ap (λ (l : LineSlots). l.line) (sym (at_line s.slots place read within again))) spelled)
+        (line ∙ (ap (λ (bytes : List ℕ). record read.line { out = read.line.out ++ bytes }) spelled ∙ ap (λ (l : Line). record l { out = l.out ++ spelling (ipcr_of l.version outcome) }) (ap (λ (l : LineSlots). l.line) (sym (at_line s.slots place read within again)))))
 
     pub deliver_ready : (said : Answer) → Ready s → IsSound kernel → MayObey s.kernel (Take thread) said kernel → read.free ≡ new.free + 1 → StaysReady s (record s { kernel = kernel; slots = slice_set s.slots place new })
     deliver_ready said ready sound obeys free = record {

@@ -2,6 +2,8 @@
 use Rattle.std.proofs.Common.{◌≡◌, ℕ, zero, suc, ◌+◌, ◌<◌, ◌≤◌, List, [], ◌∷◌, ◌++◌, length, take, drop, refl, sym, ap, ap₂, subst, ◌∙◌, append_assoc, arith, length-append, length-set}
 use Rattle.std.specs.Prelude.{cond, not, slice_set}
 use Rattle.std.proofs.lemmas.List.{append-nil, length-take-le, take-append-drop}
+use Rattle.ipc_frame.specs.declared.version.WireVersion.{WireVersion}
+use Rattle.ipc_frame.specs.declared.version.WireVersion.TheVariants.{One}
 use Rattle.ipc_core.specs.KernelParts.{KernelParts}
 use Rattle.ipc_connection.specs.declared.stage.Stage.{Stage}
 use Rattle.ipc_connection.specs.declared.stage.Stage.TheVariants.{Greeting}
@@ -27,12 +29,17 @@ front_space front [] place = refl
 front_space front (line ∷ lines) zero = refl
 front_space front (line ∷ lines) (suc place) = front_space (next front) lines place
 
-front_more : (front : ℕ → List ℕ) (lines : List Line) (place : ℕ) (to : Stage → Stage) (text : List ℕ) → with_more (with_front front lines) place to text ≡ with_front front (with_more lines place to text)
-front_more front [] place to text = refl
-front_more front (line ∷ lines) zero to text =
-    ap (λ (out : List ℕ). record { space = line.space; stage = to line.stage; out = out } ∷ with_front (next front) lines) (append_assoc (front 0) line.out text)
-front_more front (line ∷ lines) (suc place) to text =
-    ap (λ (more : List Line). record { space = line.space; stage = line.stage; out = front 0 ++ line.out } ∷ more) (front_more (next front) lines place to text)
+front_version : (front : ℕ → List ℕ) (lines : List Line) (place : ℕ) → (line_at (with_front front lines) place).version ≡ (line_at lines place).version
+front_version front [] place = refl
+front_version front (line ∷ lines) zero = refl
+front_version front (line ∷ lines) (suc place) = front_version (next front) lines place
+
+front_more : (front : ℕ → List ℕ) (lines : List Line) (place : ℕ) (to : Stage → Stage) (speaks : WireVersion → WireVersion) (text : List ℕ) → with_more (with_front front lines) place to speaks text ≡ with_front front (with_more lines place to speaks text)
+front_more front [] place to speaks text = refl
+front_more front (line ∷ lines) zero to speaks text =
+    ap (λ (out : List ℕ). record { space = line.space; stage = to line.stage; version = speaks line.version; out = out } ∷ with_front (next front) lines) (append_assoc (front 0) line.out text)
+front_more front (line ∷ lines) (suc place) to speaks text =
+    ap (λ (more : List Line). record { space = line.space; stage = line.stage; version = line.version; out = front 0 ++ line.out } ∷ more) (front_more (next front) lines place to speaks text)
 
 none_next : (front : ℕ → List ℕ) (line : Line) (lines : List Line) → NoneCame front (line ∷ lines) → NoneCame (next front) lines
 none_next front line lines none place past = none (suc place) (omega (arith, past))
@@ -41,9 +48,9 @@ pub none_more : (front : ℕ → List ℕ) (lines : List Line) (place : ℕ) (li
 none_more front lines place line none other past = none other (subst (λ n. n ≤ other) (length-set lines place line) past)
 
 front_new : (front : ℕ → List ℕ) (lines : List Line) (space : ℕ) → NoneCame front lines → with_front front lines ++ newcomer space ∷ [] ≡ with_front front (lines ++ newcomer space ∷ [])
-front_new front [] space none = ap (λ (bytes : List ℕ). record { space = space; stage = Greeting; out = bytes ++ [] } ∷ []) (sym (none 0 (omega arith)))
+front_new front [] space none = ap (λ (bytes : List ℕ). record { space = space; stage = Greeting; version = One; out = bytes ++ [] } ∷ []) (sym (none 0 (omega arith)))
 front_new front (line ∷ lines) space none =
-    ap (λ (more : List Line). record { space = line.space; stage = line.stage; out = front 0 ++ line.out } ∷ more) (front_new (next front) lines space (none_next front line lines none))
+    ap (λ (more : List Line). record { space = line.space; stage = line.stage; version = line.version; out = front 0 ++ line.out } ∷ more) (front_new (next front) lines space (none_next front line lines none))
 
 none_new : (front : ℕ → List ℕ) (lines : List Line) (space : ℕ) → NoneCame front lines → NoneCame front (lines ++ newcomer space ∷ [])
 none_new front lines space none place past = none place (omega (arith, past, length-append lines (newcomer space ∷ [])))
@@ -60,8 +67,10 @@ fronted front = record {
   taken = λ kernel outcome. refl;
   stage = front_stage front;
   space = front_space front;
-  more = λ lines place to text none. front_more front lines place to text;
-  fits_more = λ lines place to text none. none_more front lines place _ none;
+  version = front_version front;
+  moment = λ kernel. refl;
+  more = λ lines place to speaks text none. front_more front lines place to speaks text;
+  fits_more = λ lines place to speaks text none. none_more front lines place _ none;
   new = front_new front;
   fits_new = none_new front;
   place = front_place front;
@@ -91,17 +100,17 @@ joined front more place = front place ++ more place
 joined_none : (front : ℕ → List ℕ) (lines : List Line) → with_front (λ place. front place ++ []) lines ≡ with_front front lines
 joined_none front [] = refl
 joined_none front (line ∷ lines) =
-    ap₂ (λ (bytes : List ℕ) (more : List Line). record { space = line.space; stage = line.stage; out = bytes ++ line.out } ∷ more) (append-nil (front 0)) (joined_none (next front) lines)
+    ap₂ (λ (bytes : List ℕ) (more : List Line). record { space = line.space; stage = line.stage; version = line.version; out = bytes ++ line.out } ∷ more) (append-nil (front 0)) (joined_none (next front) lines)
 
 -- bytes that went out stand in front of what they left
 pub front_out : (front : ℕ → List ℕ) (lines : List Line) (place : ℕ) (bytes rest : List ℕ) → bytes ++ rest ≡ (line_at lines place).out
     → with_front (joined front (bytes_at place bytes)) (slice_set lines place (record (line_at lines place) { out = rest })) ≡ with_front front lines
 front_out front [] place bytes rest is = refl
 front_out front (line ∷ lines) zero bytes rest is =
-    ap₂ (λ (out : List ℕ) (more : List Line). record { space = line.space; stage = line.stage; out = out } ∷ more)
+    ap₂ (λ (out : List ℕ) (more : List Line). record { space = line.space; stage = line.stage; version = line.version; out = out } ∷ more)
     (append_assoc (front 0) bytes rest ∙ ap (λ (out : List ℕ). front 0 ++ out) is) (joined_none (next front) lines)
 front_out front (line ∷ lines) (suc place) bytes rest is =
-    ap₂ (λ (out : List ℕ) (more : List Line). record { space = line.space; stage = line.stage; out = out ++ line.out } ∷ more)
+    ap₂ (λ (out : List ℕ) (more : List Line). record { space = line.space; stage = line.stage; version = line.version; out = out ++ line.out } ∷ more)
     (append-nil (front 0)) (front_out (next front) lines place bytes rest is)
 
 -- what is in front of a line, and what waits on it
@@ -147,7 +156,7 @@ put_back exchange place count =
 dropped : (place : ℕ) (bytes : List ℕ) (lines : List Line) → slice_set (with_front (bytes_at place bytes) lines) place (record (line_at (with_front (bytes_at place bytes) lines) place) { out = drop (length bytes) (line_at (with_front (bytes_at place bytes) lines) place).out }) ≡ lines
 dropped place bytes [] = refl
 dropped zero bytes (line ∷ lines) =
-    ap₂ (λ (out : List ℕ) (more : List Line). record { space = line.space; stage = line.stage; out = out } ∷ more) (drop_front bytes line.out) (front_nothing lines)
+    ap₂ (λ (out : List ℕ) (more : List Line). record { space = line.space; stage = line.stage; version = line.version; out = out } ∷ more) (drop_front bytes line.out) (front_nothing lines)
   where
     drop_front : (front back : List ℕ) → drop (length front) (front ++ back) ≡ back
     drop_front [] back = refl

@@ -4,6 +4,7 @@ use Rattle.std.specs.Prelude.{nat_lt, MatchBool, if◌then◌else◌}
 use Rattle.std.specs.List.{list_any}
 use Rattle.std.proofs.lemmas.Bool.{false≢true, ltb-false}
 use Rattle.std.proofs.lemmas.List.Folds.{list_any-append}
+use Rattle.ipc_words.specs.Limits.{max_space, max_thread_number, table_slots}
 use Rattle.ipc_words.specs.ThreadId.{number_of}
 use Rattle.ipc_history.specs.Calls.{numbers}
 use Rattle.ipc_history.specs.Entries.{breaks, opens}
@@ -105,17 +106,17 @@ live_stays old new command answer t (inl obeys) none live = go (cause_of old com
     go None does = does_live old new command answer t does none live
     go (Some refusal) refused = same_live old new t (ap (λ (k : KernelParts). k.history) refused.1) live
 
--- a number that may be opened is 1 to 255, and has no live thread
+-- a number that may be opened is within the limit, and has no live thread
 record MayOpen (kernel : KernelParts) (number : ℕ) : Type 0 where
-  pub within : number < 256
+  pub within : number < table_slots
   pub free : is_taken kernel.history number ≡ false
 
 may_open : (kernel : KernelParts) (number space : ℕ) → open_refusal kernel number space ≡ None → MayOpen kernel number
 unfolding open_refusal
-may_open kernel number space none = go (nat_lt number 1) (nat_lt 255 number) (nat_lt space 1) (nat_lt 64 space) (is_taken kernel.history number) refl refl none
+may_open kernel number space none = go (nat_lt number 1) (nat_lt max_thread_number number) (nat_lt space 1) (nat_lt max_space space) (is_taken kernel.history number) refl refl none
   where
-    go : (a b c d e : Bool) → nat_lt 255 number ≡ b → is_taken kernel.history number ≡ e → (if a || b || c || d then Some BadNumber else (if e then Some NumberTaken else (if is_none (next_version kernel.history number) then Some NumberWorn else (if is_full kernel open_need then Some HistoryFull else None)))) ≡ None → MayOpen kernel number
-    go false false false false false f g h = let le = ltb-false 255 number f in record { within = omega arith; free = g }
+    go : (a b c d e : Bool) → nat_lt max_thread_number number ≡ b → is_taken kernel.history number ≡ e → (if a || b || c || d then Some BadNumber else (if e then Some NumberTaken else (if is_none (next_version kernel.history number) then Some NumberWorn else (if is_full kernel open_need then Some HistoryFull else None)))) ≡ None → MayOpen kernel number
+    go false false false false false f g h = let le = ltb-false max_thread_number number f in record { within = omega arith; free = g }
     go true b c d e f g h = absurd cc
     go false true c d e f g h = absurd cc
     go false false true d e f g h = absurd cc
@@ -125,7 +126,7 @@ may_open kernel number space none = go (nat_lt number 1) (nat_lt 255 number) (na
 -- what an open that was accepted opened
 pub record HasOpened (old new : KernelParts) (number thread : ℕ) : Type 0 where
   pub number_is : number_of thread ≡ number
-  pub within : number < 256
+  pub within : number < table_slots
   pub live : is_live new.history thread ≡ true
   pub alone : (other : ℕ) → is_live old.history other ≡ true → number_of other ≢ number
 

@@ -1,6 +1,8 @@
 -- What happens does not depend on the room of the history, nor on bytes that went out.
 use Rattle.std.proofs.Common.{◌≡◌, ℕ, zero, suc, List, [], ◌∷◌, ◌++◌, refl, sym, ap, ap₂, subst, ◌∙◌, Option, Some, None, Result}
 use Rattle.std.specs.Prelude.{option_map, slice_set}
+use Rattle.ipc_frame.specs.declared.version.WireVersion.{WireVersion}
+use Rattle.ipc_frame.specs.declared.version.WireVersion.TheVariants.{One}
 use Rattle.ipc_frame.specs.Replies.{ipcr_of}
 use Rattle.ipc_frame.specs.Stream.{stream_of}
 use Rattle.ipc_frame.specs.declared.fault.FrameFault.{FrameFault}
@@ -13,9 +15,9 @@ use Rattle.ipc_core.specs.declared.command.Command.{Command}
 use Rattle.ipc_core.specs.declared.command.Command.TheVariants as command
 use Rattle.ipc_calls.specs.Hearing.{heard_at_end, left_in}
 use Rattle.ipc_calls.specs.declared.heard.Heard.{Heard}
-use Rattle.ipc_connection.specs.Asking.{asks, command_of}
+use Rattle.ipc_connection.specs.Asking.{asks, command_of, version_asked}
 use Rattle.ipc_connection.specs.Chain.{Chain}
-use Rattle.ipc_connection.specs.Replying.{next_stage, reply, thread_left, told_of}
+use Rattle.ipc_connection.specs.Replying.{next_stage, next_version, reply, thread_left, told_of}
 use Rattle.ipc_connection.specs.declared.asking.Reaction.{Reaction}
 use Rattle.ipc_connection.specs.declared.asking.Reaction.TheVariants.{Ask, Leave, Refuse, Nothing}
 use Rattle.ipc_connection.specs.declared.replying.Told.{Told}
@@ -28,15 +30,15 @@ use Rattle.ipc_exchange.specs.Events.{Commands, Event, ExchangeParts, HappenAll,
 use Rattle.ipc_exchange.specs.Events.{Connect, Copy, Finish, Piece, Reading}
 
 -- a line to which more is told
-abbrev pub more_told : (Stage → Stage) → List ℕ → Line → Line
-more_told next text line = record { space = line.space; stage = next line.stage; out = line.out ++ text }
+abbrev pub more_told : (Stage → Stage) → (WireVersion → WireVersion) → List ℕ → Line → Line
+more_told next speaks text line = record { space = line.space; stage = next line.stage; version = speaks line.version; out = line.out ++ text }
 
-abbrev pub with_more : List Line → ℕ → (Stage → Stage) → List ℕ → List Line
-with_more lines place next text = slice_set lines place (more_told next text (line_at lines place))
+abbrev pub with_more : List Line → ℕ → (Stage → Stage) → (WireVersion → WireVersion) → List ℕ → List Line
+with_more lines place next speaks text = slice_set lines place (more_told next speaks text (line_at lines place))
 
 -- a connection that came
 abbrev pub newcomer : ℕ → Line
-newcomer space = record { space = space; stage = Greeting; out = [] }
+newcomer space = record { space = space; stage = Greeting; version = One; out = [] }
 
 -- another view of kernels, and one of lines that fit: what is told is the same in it
 pub record PassesTold (kernel_to : KernelParts → KernelParts) (lines_to : List Line → List Line) (Fits : List Line → Type 0) : Type 0 where
@@ -44,8 +46,10 @@ pub record PassesTold (kernel_to : KernelParts → KernelParts) (lines_to : List
   pub taken : (kernel : KernelParts) (outcome : Option OutcomeParts) → without_outcome (kernel_to kernel) outcome ≡ kernel_to (without_outcome kernel outcome)
   pub stage : (lines : List Line) (place : ℕ) → (line_at (lines_to lines) place).stage ≡ (line_at lines place).stage
   pub space : (lines : List Line) (place : ℕ) → (line_at (lines_to lines) place).space ≡ (line_at lines place).space
-  pub more : (lines : List Line) (place : ℕ) (next : Stage → Stage) (text : List ℕ) → Fits lines → with_more (lines_to lines) place next text ≡ lines_to (with_more lines place next text)
-  pub fits_more : (lines : List Line) (place : ℕ) (next : Stage → Stage) (text : List ℕ) → Fits lines → Fits (with_more lines place next text)
+  pub moment : (kernel : KernelParts) → (kernel_to kernel).moment ≡ kernel.moment
+  pub version : (lines : List Line) (place : ℕ) → (line_at (lines_to lines) place).version ≡ (line_at lines place).version
+  pub more : (lines : List Line) (place : ℕ) (next : Stage → Stage) (speaks : WireVersion → WireVersion) (text : List ℕ) → Fits lines → with_more (lines_to lines) place next speaks text ≡ lines_to (with_more lines place next speaks text)
+  pub fits_more : (lines : List Line) (place : ℕ) (next : Stage → Stage) (speaks : WireVersion → WireVersion) (text : List ℕ) → Fits lines → Fits (with_more lines place next speaks text)
   pub new : (lines : List Line) (space : ℕ) → Fits lines → lines_to lines ++ newcomer space ∷ [] ≡ lines_to (lines ++ newcomer space ∷ [])
   pub fits_new : (lines : List Line) (space : ℕ) → Fits lines → Fits (lines ++ newcomer space ∷ [])
   pub place : (number : ℕ) (lines : List Line) → place_of number (lines_to lines) ≡ place_of number lines
@@ -67,8 +71,10 @@ module _ (kernel_to : KernelParts → KernelParts) (lines_to : List Line → Lis
       let outcome = outcome_at service.kernel (line_at service.lines place).stage in
       let same : outcome_at (kernel_to service.kernel) (line_at (lines_to service.lines) place).stage ≡ outcome =
       ap (outcome_at (kernel_to service.kernel)) (passes.stage service.lines place) ∙ passes.outcome service.kernel (line_at service.lines place).stage in
+      let version = (line_at service.lines place).version in
       ap (λ (o : Option OutcomeParts). record { kernel = without_outcome (kernel_to service.kernel) o; lines = slice_set (lines_to service.lines) place (with_outcome o (line_at (lines_to service.lines) place)) }) same
-      ∙ ap₂ (λ (k : KernelParts) (l : List Line). record { kernel = k; lines = l }) (passes.taken service.kernel outcome) (passes.more service.lines place (λ s. s) (text_of (option_map ipcr_of outcome)) fits)
+      ∙ (ap (λ (v : WireVersion). record { kernel = without_outcome (kernel_to service.kernel) outcome; lines = with_more (lines_to service.lines) place (λ s. s) (λ v. v) (text_of (option_map (ipcr_of v) outcome)) }) (passes.version service.lines place)
+      ∙ ap₂ (λ (k : KernelParts) (l : List Line). record { kernel = k; lines = l }) (passes.taken service.kernel outcome) (passes.more service.lines place (λ s. s) (λ v. v) (text_of (option_map (ipcr_of version) outcome)) fits))
 
   pub record Delivers (old new changed : ServiceParts) : Type 0 where
     pub is : changed ≡ seen new
@@ -83,7 +89,7 @@ module _ (kernel_to : KernelParts → KernelParts) (lines_to : List Line → Lis
       record {
         is = ap (λ (s : ServiceParts). told_outcome (place_of number s.lines) s) first.is
             ∙ (ap (λ (p : ℕ). told_outcome p (seen before)) (passes.place number before.lines) ∙ told_seen (place_of number before.lines) before first.fits);
-        fits = passes.fits_more before.lines (place_of number before.lines) (λ s. s) _ first.fits;
+        fits = passes.fits_more before.lines (place_of number before.lines) (λ s. s) (λ v. v) _ first.fits;
       }
 
   pub delivered_seen : (kernel : KernelParts) (lines : List Line) → Fits lines → Delivers (record { kernel = kernel; lines = lines }) (delivered kernel lines) (delivered (kernel_to kernel) (lines_to lines))
@@ -102,27 +108,28 @@ module _ (kernel_to : KernelParts → KernelParts) (lines_to : List Line → Lis
     tells_seen : (old new : ServiceParts) (place : ℕ) (told : Told) (asked : List Asked) → Fits old.lines → Tells memory old place told asked new → TellsSeen old place told asked new
     tells_seen old new place told asked fits tells =
         let next : Stage → Stage = λ stage. next_stage stage told in
-        let text = text_of (reply told) in
-        let lines : List Line = with_more old.lines place next text in
-        let after = delivered_seen tells.kernel lines (passes.fits_more old.lines place next text fits) in (
+        let speaks : WireVersion → WireVersion = λ version. next_version version told in
+        let text = text_of (reply (line_at old.lines place).version told) in
+        let lines : List Line = with_more old.lines place next speaks text in
+        let after = delivered_seen tells.kernel lines (passes.fits_more old.lines place next speaks text fits) in (
           record {
             kernel = kernel_to tells.kernel;
             leaves = subst (λ (stage : Stage). Leaves memory (kernel_to old.kernel) (thread_left stage (next_stage stage told)) asked (kernel_to tells.kernel)) (sym (passes.stage old.lines place)) (leaves_seen old.kernel tells.kernel _ asked tells.leaves);
-            new_is = ap seen tells.new_is ∙ (sym after.is ∙ ap (λ (l : List Line). delivered (kernel_to tells.kernel) l) (sym (passes.more old.lines place next text fits)));
+            new_is = ap seen tells.new_is ∙ (sym after.is ∙ ap (λ (l : List Line). delivered (kernel_to tells.kernel) l) (sym (ap (λ (v : WireVersion). with_more (lines_to old.lines) place next speaks (text_of (reply v told))) (passes.version old.lines place) ∙ passes.more old.lines place next speaks text fits)));
           },
           subst (λ (s : ServiceParts). Fits s.lines) (sym tells.new_is) after.fits,
         )
 
-    does_seen : (old new : ServiceParts) (place : ℕ) (command : Command) (asked : List Asked) → Fits old.lines → Does memory old place command asked new → Does memory (seen old) place command asked (seen new) × Fits new.lines
-    does_seen old new place command asked fits does =
-        let tells = tells_seen (record { kernel = does.between; lines = old.lines }) new place (told_of does.answer) does.rest fits does.tells in (
+    does_seen : (old new : ServiceParts) (place : ℕ) (version : WireVersion) (command : Command) (asked : List Asked) → Fits old.lines → Does memory old place version command asked new → Does memory (seen old) place version command asked (seen new) × Fits new.lines
+    does_seen old new place version command asked fits does =
+        let tells = tells_seen (record { kernel = does.between; lines = old.lines }) new place (told_of version does.between.moment does.answer) does.rest fits does.tells in (
           record {
             answer = does.answer;
             between = kernel_to does.between;
             obeys = obeyed old.kernel does.between command does.answer does.obeys;
             rest = does.rest;
             asked_is = does.asked_is;
-            tells = tells.0;
+            tells = subst (λ (m : ℕ). Tells memory (record { kernel = kernel_to does.between; lines = lines_to old.lines }) place (told_of version m does.answer) does.rest (seen new)) (sym (passes.moment does.between)) tells.0;
           },
           tells.1,
         )
@@ -130,8 +137,8 @@ module _ (kernel_to : KernelParts → KernelParts) (lines_to : List Line → Lis
     by_seen : (reaction : Reaction) (old new : ServiceParts) (place : ℕ) (asked : List Asked) → Fits old.lines → ServesBy memory old place reaction asked new → ServesBy memory (seen old) place reaction asked (seen new) × Fits new.lines
     by_seen Nothing old new place asked fits s = ((s.0, ap seen s.1), subst (λ (x : ServiceParts). Fits x.lines) (sym s.1) fits)
     by_seen (Ask request) old new place asked fits s =
-        let does = does_seen old new place (command_of request (line_at old.lines place).space) asked fits s in
-        (subst (λ (space : ℕ). Does memory (seen old) place (command_of request space) asked (seen new)) (sym (passes.space old.lines place)) does.0, does.1)
+        let does = does_seen old new place (version_asked request One) (command_of request (line_at old.lines place).space) asked fits s in
+        (subst (λ (space : ℕ). Does memory (seen old) place (version_asked request One) (command_of request space) asked (seen new)) (sym (passes.space old.lines place)) does.0, does.1)
     by_seen Leave old new place asked fits s = tells_seen old new place Left asked fits s
     by_seen (Refuse class number) old new place asked fits s = tells_seen old new place (Faulted class number) asked fits s
 

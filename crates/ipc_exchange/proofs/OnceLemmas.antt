@@ -1,6 +1,7 @@
 -- Without want of memory what happens is a function.
 use Rattle.std.proofs.Common.{◌≡◌, List, [], ◌∷◌, ◌++◌, ℕ, refl, sym, ap, ap₂, subst, ◌∙◌, Option, Some, None, Result}
 use Rattle.std.specs.Prelude.{slice_set}
+use Rattle.ipc_frame.specs.declared.version.WireVersion.{WireVersion}
 use Rattle.ipc_history.specs.Legal.{Legal}
 use Rattle.ipc_frame.specs.declared.fault.FrameFault.{FrameFault}
 use Rattle.ipc_frame.specs.Stream.{stream_of}
@@ -78,18 +79,19 @@ tells_once k l lines one other place told xs ys alike legal t u =
     let once = leaves_once k l t.kernel u.kernel _ xs ys alike legal t.leaves u.leaves in
     (once.asked, ap bare t.new_is ∙ (delivered_once t.kernel u.kernel (slice_set lines place (told_line told (line_at lines place))) once.alike ∙ sym (ap bare u.new_is)))
 
-does_once : (k l : KernelParts) (lines : List Line) (one other : ServiceParts) (place : ℕ) (command : Command) (xs ys : List Asked) → Alike k l → Legal k.history → Does Ample (with_lines k lines) place command xs one → Does Ample (with_lines l lines) place command ys other → Same xs ys one other
-does_once k l lines one other place command xs ys alike legal d e =
+does_once : (k l : KernelParts) (lines : List Line) (one other : ServiceParts) (place : ℕ) (version : WireVersion) (command : Command) (xs ys : List Asked) → Alike k l → Legal k.history → Does Ample (with_lines k lines) place version command xs one → Does Ample (with_lines l lines) place version command ys other → Same xs ys one other
+does_once k l lines one other place version command xs ys alike legal d e =
     let once = obeys_in_once k l d.between e.between command d.answer e.answer alike legal d.obeys e.obeys in
-    let tells : Tells Ample (with_lines e.between lines) place (told_of d.answer) e.rest other = subst (λ (a : Answer). Tells Ample (with_lines e.between lines) place (told_of a) e.rest other) (sym once.answers) e.tells in
+    let told = ap₂ (told_of version) (ap (λ (x : KernelParts). x.moment) once.alike) once.answers in
+    let tells : Tells Ample (with_lines e.between lines) place (told_of version d.between.moment d.answer) e.rest other = subst (λ (t : Told). Tells Ample (with_lines e.between lines) place t e.rest other) (sym told) e.tells in
     let after = obeys_in_legal Ample k d.between command d.answer d.obeys legal in
-    let rest = tells_once d.between e.between lines one other place (told_of d.answer) d.rest e.rest once.alike after d.tells tells in
+    let rest = tells_once d.between e.between lines one other place (told_of version d.between.moment d.answer) d.rest e.rest once.alike after d.tells tells in
     (d.asked_is ∙ (ap₂ (λ (a : Answer) (l : List Asked). record { command = command; answer = a } ∷ l) once.answers rest.0 ∙ sym e.asked_is), rest.1)
 
 by_once : (reaction : Reaction) (k l : KernelParts) (lines : List Line) (one other : ServiceParts) (place : ℕ) (xs ys : List Asked) → Alike k l → Legal k.history → ServesBy Ample (with_lines k lines) place reaction xs one → ServesBy Ample (with_lines l lines) place reaction ys other → Same xs ys one other
 by_once Nothing k l lines one other place xs ys alike legal s t =
     (s.0 ∙ sym t.0, ap bare s.1 ∙ (ap (λ (x : KernelParts). with_lines x lines) alike ∙ sym (ap bare t.1)))
-by_once (Ask request) k l lines one other place xs ys alike legal s t = does_once k l lines one other place _ xs ys alike legal s t
+by_once (Ask request) k l lines one other place xs ys alike legal s t = does_once k l lines one other place _ _ xs ys alike legal s t
 by_once Leave k l lines one other place xs ys alike legal s t = tells_once k l lines one other place _ xs ys alike legal s t
 by_once (Refuse class number) k l lines one other place xs ys alike legal s t = tells_once k l lines one other place _ xs ys alike legal s t
 

@@ -54,7 +54,7 @@ grow_new (l ∷ lines) line (suc place) = grow_new lines line place
 told_grows : (place : ℕ) (service : ServiceParts) → Grow service.lines (told_outcome place service).lines
 told_grows place service =
     let outcome = outcome_at service.kernel (line_at service.lines place).stage in
-    grow_one service.lines place (with_outcome outcome (line_at service.lines place)) (text_of (option_map ipcr_of outcome)) refl
+    grow_one service.lines place (with_outcome outcome (line_at service.lines place)) (text_of (option_map (ipcr_of (line_at service.lines place).version) outcome)) refl
 
 delivered_to_grows : (numbers : ℕ) (service : ServiceParts) → Grow service.lines (delivered_to numbers service).lines
 unfolding delivered_to
@@ -73,7 +73,7 @@ module _ (memory : Memory) where
       let line : Line = told_line told (line_at old.lines place) in
       subst (λ (s : ServiceParts). Grow old.lines s.lines) (sym tells.new_is)
       (grow_both old.lines (slice_set old.lines place line) (delivered tells.kernel (slice_set old.lines place line)).lines
-      (grow_one old.lines place line (text_of (reply told)) refl)
+      (grow_one old.lines place line (text_of (reply (line_at old.lines place).version told)) refl)
       (delivered_grows tells.kernel (slice_set old.lines place line)))
 
   serves_grows : (place : ℕ) (old new : ServiceParts) (heard : Result Heard FrameFault) (asked : List Asked) → Serves memory old place heard asked new → Grow old.lines new.lines

@@ -181,16 +181,16 @@ module _ (s : ServiceSlots) (place : ℕ) (slot : LineSlots) (within : place < l
     table_after = table_told told place s.table
 
     other_found : (told : Told) → MayGet s.kernel s.slots place told → (q t : ℕ) → q ≢ place → stage_at s.slots q ≡ Serving t → slice_index_or (table_told told place s.table) (number_of t) 0 ≡ slice_index_or s.table (number_of t) 0
-    other_found (tells.Opened thread) fresh q t other e = get_or-set_other s.table (number_of thread) (number_of t) (suc place) 0 (fresh.alone q t other e)
+    other_found (tells.Opened thread version) fresh q t other e = get_or-set_other s.table (number_of thread) (number_of t) (suc place) 0 (fresh.alone q t other e)
     other_found tells.Entered fresh q t other e = refl
-    other_found (tells.Exchanged result control code) fresh q t other e = refl
+    other_found (tells.Exchanged result control code moment) fresh q t other e = refl
     other_found (tells.Refused refusal) fresh q t other e = refl
     other_found (tells.Faulted class number) fresh q t other e = refl
     other_found tells.Left fresh q t other e = refl
 
     here_placed : (told : Told) → MayGet s.kernel s.slots place told → (t : ℕ) → next_stage old told ≡ Serving t → IsPlaced s.kernel (table_told told place s.table) place t
     unfolding next_stage
-    here_placed (tells.Opened thread) fresh t e =
+    here_placed (tells.Opened thread version) fresh t e =
         let same : thread ≡ t = cc in
         subst (IsPlaced s.kernel (slice_set s.table (number_of thread) (suc place)) place) same (record {
           live = fresh.live;
@@ -198,7 +198,7 @@ module _ (s : ServiceSlots) (place : ℕ) (slot : LineSlots) (within : place < l
           found = get_or-set_same s.table (number_of thread) (suc place) 0 (rw (ready.table) fresh.within);
         })
     here_placed tells.Entered fresh t e = ready.placed place t (sym was ∙ e)
-    here_placed (tells.Exchanged result control code) fresh t e = ready.placed place t (sym was ∙ e)
+    here_placed (tells.Exchanged result control code moment) fresh t e = ready.placed place t (sym was ∙ e)
     here_placed (tells.Refused refusal) fresh t e = go (ends_by refusal) e
       where
         go : (b : Bool) → (if b then Finished else old) ≡ Serving t → IsPlaced s.kernel s.table place t
@@ -208,9 +208,9 @@ module _ (s : ServiceSlots) (place : ℕ) (slot : LineSlots) (within : place < l
     here_placed tells.Left fresh t e = absurd cc
 
     table_length : (told : Told) → length (table_told told place s.table) ≡ table_slots
-    table_length (tells.Opened thread) = length-set s.table (number_of thread) (suc place) ∙ ready.table
+    table_length (tells.Opened thread version) = length-set s.table (number_of thread) (suc place) ∙ ready.table
     table_length tells.Entered = ready.table
-    table_length (tells.Exchanged result control code) = ready.table
+    table_length (tells.Exchanged result control code moment) = ready.table
     table_length (tells.Refused refusal) = ready.table
     table_length (tells.Faulted class number) = ready.table
     table_length tells.Left = ready.table

@@ -2,6 +2,7 @@
 use Rattle.std.proofs.Common.{false, ◌≡◌, ℕ, ◌+◌, ◌<◌, ◌≤◌, List, [], ◌∷◌, ◌++◌, drop, length, refl, sym, ap, ap₂, subst, ◌∙◌, Option, Some, None, inl, inr, arith, zero, suc}
 use Rattle.std.specs.Prelude.{slice_set, slice_index_or, Result, Ok, Err, IfSome}
 use Rattle.std.proofs.lemmas.List.{length-set, map-set, set-get_or}
+use Rattle.ipc_frame.specs.declared.version.WireVersion.{WireVersion}
 use Rattle.ipc_frame.specs.declared.fault.FrameFault.{FrameFault}
 use Rattle.ipc_core.specs.Again.{MayObeyAgain, lacks_entries}
 use Rattle.ipc_core.specs.KernelParts.{KernelParts}
@@ -45,12 +46,12 @@ slot_self (s ∷ slots) (suc place) h = slot_self slots place (omega arith)
 asks_suits : (kernel : KernelParts) (slot : LineSlots) (stage : Stage) (said : Result Heard FrameFault) → slot.line.stage ≡ stage → HasRoom kernel slot → (WantsRoom said → 3 ≤ slot.free) → SuitsReaction stage slot.free (asks stage said)
 unfolding asks
 asks_suits kernel slot Greeting (Err fault) e has room = has.greeting e
-asks_suits kernel slot Greeting (Ok (heard.Hello number)) e has room = room tt
+asks_suits kernel slot Greeting (Ok (heard.Hello number version)) e has room = room tt
 asks_suits kernel slot Greeting (Ok (heard.Call call)) e has room = has.greeting e
 asks_suits kernel slot Greeting (Ok (heard.Exreg target control)) e has room = has.greeting e
 asks_suits kernel slot Greeting (Ok heard.Bye) e has room = has.greeting e
 asks_suits kernel slot (Serving thread) (Err fault) e has room = has.serving thread e
-asks_suits kernel slot (Serving thread) (Ok (heard.Hello number)) e has room = has.serving thread e
+asks_suits kernel slot (Serving thread) (Ok (heard.Hello number version)) e has room = has.serving thread e
 asks_suits kernel slot (Serving thread) (Ok (heard.Call call)) e has room = (room tt, refl)
 asks_suits kernel slot (Serving thread) (Ok (heard.Exreg target control)) e has room = room tt
 asks_suits kernel slot (Serving thread) (Ok heard.Bye) e has room = has.serving thread e
@@ -68,11 +69,11 @@ pub can_end : (s : ServiceSlots) (place : ℕ) (told : Told) → place < length 
 can_end s place told within ready room fresh = record { within = within; ready = record { sound = ready.sound; placed = ready.placed; table = ready.table; room = λ q other. ready.room q }; room = room; fresh = fresh }
 
 -- a thread that an answer tells of was opened
-fresh_told : (s : ServiceSlots) (command : Command) (said : Answer) (new : KernelParts) (place : ℕ) → Ready s → IsSound new → MayObey s.kernel command said new → MayGet new s.slots place (told_of said)
+fresh_told : (version : WireVersion) (moment : ℕ) (s : ServiceSlots) (command : Command) (said : Answer) (new : KernelParts) (place : ℕ) → Ready s → IsSound new → MayObey s.kernel command said new → MayGet new s.slots place (told_of version moment said)
 unfolding Obeys KernelDoes
-fresh_told s command (answer.Opened thread) new place ready after obeys = at_first command obeys obeys
+fresh_told version moment s command (answer.Opened thread) new place ready after obeys = at_first command obeys obeys
   where
-    go : (cause : Option Refusal) (command : Command) → MayObey s.kernel command (answer.Opened thread) new → ObeysOr cause s.kernel command (answer.Opened thread) new → MayGet new s.slots place (told_of (answer.Opened thread))
+    go : (cause : Option Refusal) (command : Command) → MayObey s.kernel command (answer.Opened thread) new → ObeysOr cause s.kernel command (answer.Opened thread) new → MayGet new s.slots place (told_of version moment (answer.Opened thread))
     go (Some refusal) command all refused = let e = refused.0 in absurd cc
     go None (Open number space) all does = opened_fresh s number space thread new place ready after all
     go None (Enter caller call) all does = absurd does
@@ -82,28 +83,28 @@ fresh_told s command (answer.Opened thread) new place ready after obeys = at_fir
     go None Advance all does = absurd does
     go None (Take taker) all does = absurd does
 
-    at_first : (command : Command) → MayObey s.kernel command (answer.Opened thread) new → MayObey s.kernel command (answer.Opened thread) new → MayGet new s.slots place (told_of (answer.Opened thread))
+    at_first : (command : Command) → MayObey s.kernel command (answer.Opened thread) new → MayObey s.kernel command (answer.Opened thread) new → MayGet new s.slots place (told_of version moment (answer.Opened thread))
     at_first command all (inr lacks) = let e = lacks.answer_is in absurd cc
     at_first command all (inl obeys) = go (cause_of s.kernel command) command all obeys
-fresh_told s command (answer.Entered number) new place ready after obeys = tt
-fresh_told s command (answer.Exchanged exchanged) new place ready after obeys = tt
-fresh_told s command (answer.Refused refusal) new place ready after obeys = tt
-fresh_told s command answer.Done new place ready after obeys = tt
-fresh_told s command (answer.Advanced advance) new place ready after obeys = tt
-fresh_told s command (answer.Taken outcome) new place ready after obeys = tt
+fresh_told version moment s command (answer.Entered number) new place ready after obeys = tt
+fresh_told version moment s command (answer.Exchanged exchanged) new place ready after obeys = tt
+fresh_told version moment s command (answer.Refused refusal) new place ready after obeys = tt
+fresh_told version moment s command answer.Done new place ready after obeys = tt
+fresh_told version moment s command (answer.Advanced advance) new place ready after obeys = tt
+fresh_told version moment s command (answer.Taken outcome) new place ready after obeys = tt
 
 suits_any : (free : ℕ) (told : Told) → 3 ≤ free → SuitsTold free told
-suits_any free (tells.Opened thread) three = three
+suits_any free (tells.Opened thread version) three = three
 suits_any free tells.Entered three = three
-suits_any free (tells.Exchanged result control code) three = three
+suits_any free (tells.Exchanged result control code moment) three = three
 suits_any free (tells.Refused refusal) three = three
 suits_any free (tells.Faulted class number) three = omega (arith, three)
 suits_any free tells.Left three = omega (arith, three)
 
 suits_one : (free : ℕ) (told : Told) → SuitsTold free told → 1 ≤ free
-suits_one free (tells.Opened thread) room = omega (arith, room)
+suits_one free (tells.Opened thread version) room = omega (arith, room)
 suits_one free tells.Entered room = omega (arith, room)
-suits_one free (tells.Exchanged result control code) room = omega (arith, room)
+suits_one free (tells.Exchanged result control code moment) room = omega (arith, room)
 suits_one free (tells.Refused refusal) room = omega (arith, room)
 suits_one free (tells.Faulted class number) room = room
 suits_one free tells.Left room = room
@@ -118,13 +119,13 @@ pub told_free : (s now : ServiceSlots) (place : ℕ) (told : Told) → CanTell s
 told_free s now place told can placed = let one = suits_one _ told can.room in rw placed one
 
 -- a line whose request the kernel obeyed can be told the answer
-pub can_tell : (old middle : ServiceSlots) (place : ℕ) (command : Command) (told : Told) → CanDo old place command → IsSound middle.kernel → ((said : Answer) × MayObeyAgain old.kernel.held.mark old.kernel command said middle.kernel × (told ≡ told_of said)) → middle.slots ≡ old.slots → middle.table ≡ old.table → CanTell middle place told
-can_tell old middle place command told can after obeyed slots table =
+pub can_tell : (version : WireVersion) (old middle : ServiceSlots) (place : ℕ) (command : Command) (told : Told) → CanDo old place command → IsSound middle.kernel → ((said : Answer) × MayObeyAgain old.kernel.held.mark old.kernel command said middle.kernel × (told ≡ told_of version middle.kernel.moment said)) → middle.slots ≡ old.slots → middle.table ≡ old.table → CanTell middle place told
+can_tell version old middle place command told can after obeyed slots table =
     let there : record old { kernel = middle.kernel } ≡ middle = ap₂ (λ s t. record { kernel = middle.kernel; slots = s; table = t }) (sym slots) (sym table) in
     let again = obeyed.1 in
     let roomy : ServiceSlots = record old { kernel = again.roomy } in
     let ready : Ready roomy = room_ready old.kernel.held.mark old command again.roomy again.makes_room can.ready in
-    let fresh : MayGet middle.kernel old.slots place told = subst (MayGet middle.kernel old.slots place) (sym obeyed.2) (fresh_told roomy command obeyed.0 middle.kernel place ready after again.obeys) in
+    let fresh : MayGet middle.kernel old.slots place told = subst (MayGet middle.kernel old.slots place) (sym obeyed.2) (fresh_told version middle.kernel.moment roomy command obeyed.0 middle.kernel place ready after again.obeys) in
     subst (λ s. CanTell s place told) there (record {
       within = can.within;
       ready = obeyed_ready roomy command obeyed.0 middle.kernel place ready can.suits after again.obeys;
@@ -153,8 +154,8 @@ tells_by old told_now left last place told kernel lines leaves slots is = (
 )
 
 -- a command that is obeyed, and told
-pub does_by : (old middle last : ServiceSlots) (place : ℕ) (given : Command) (told : Told) → ((said : Answer) × MayObeyAgain old.kernel.held.mark old.kernel given said middle.kernel × (told ≡ told_of said)) → middle.slots ≡ old.slots → ((asked : List Asked) × Tells MayLack (service_of middle) place told asked (service_of last)) → (asked : List Asked) × Does MayLack (service_of old) place given asked (service_of last)
-does_by old middle last place given told obeyed slots tells =
+pub does_by : (version : WireVersion) (old middle last : ServiceSlots) (place : ℕ) (given : Command) (told : Told) → ((said : Answer) × MayObeyAgain old.kernel.held.mark old.kernel given said middle.kernel × (told ≡ told_of version middle.kernel.moment said)) → middle.slots ≡ old.slots → ((asked : List Asked) × Tells MayLack (service_of middle) place told asked (service_of last)) → (asked : List Asked) × Does MayLack (service_of old) place version given asked (service_of last)
+does_by version old middle last place given told obeyed slots tells =
     let here : Tells MayLack (record { kernel = at_rest middle.kernel; lines = lines_of old.slots }) place told tells.0 (service_of last) = subst (λ (s : List LineSlots). Tells MayLack (record { kernel = at_rest middle.kernel; lines = lines_of s }) place told tells.0 (service_of last)) slots tells.1 in (
       record { command = given; answer = obeyed.0 } ∷ tells.0,
       record {
@@ -203,9 +204,9 @@ module _ (s now : ServiceSlots) (place : ℕ) (told : Told) (read new : LineSlot
         kept three = ample s.kernel new (omega (arith, three, ap (λ (l : LineSlots). l.free) here, free))
 
         go : (t : Told) → SuitsTold (slot_at s.slots place).free t → new.line.stage ≡ next_stage read.line.stage t → HasRoom s.kernel new
-        go (tells.Opened thread) room e = kept room
+        go (tells.Opened thread version) room e = kept room
         go tells.Entered room e = kept room
-        go (tells.Exchanged result control code) room e = kept room
+        go (tells.Exchanged result control code moment) room e = kept room
         go (tells.Refused refusal) room e = kept room
         go (tells.Faulted class number) room e = ended s.kernel new e
         go tells.Left room e = ended s.kernel new e
@@ -235,7 +236,7 @@ stage_read slots items place slot stage within same there is = ap (λ (l : LineS
 
 -- a line that may ask can give the kernel the command
 pub do_asked : (s : ServiceSlots) (place space : ℕ) (asked : Request) → CanReact s place (Ask asked) → CanDo s place (command_of asked space)
-do_asked s place space (request.Open number) can = record { within = can.within; ready = can.ready; room = can.suits; suits = tt }
+do_asked s place space (request.Open number version) can = record { within = can.within; ready = can.ready; room = can.suits; suits = tt }
 do_asked s place space (request.Enter thread call) can = record { within = can.within; ready = can.ready; room = can.suits.0; suits = can.suits.1 }
 do_asked s place space (request.Exreg thread target control) can = record { within = can.within; ready = can.ready; room = can.suits; suits = tt }
 

@@ -19,7 +19,7 @@ bytes_at (suc place) bytes (suc other) = bytes_at place bytes other
 abbrev pub with_front : (ℕ → List ℕ) → List Line → List Line
 with_front front [] = []
 with_front front (line ∷ lines) =
-    record { space = line.space; stage = line.stage; out = front 0 ++ line.out }
+    record { space = line.space; stage = line.stage; version = line.version; out = front 0 ++ line.out }
     ∷ with_front (λ place. front (suc place)) lines
 
 abbrev pub in_front : (ℕ → List ℕ) → ExchangeParts → ExchangeParts

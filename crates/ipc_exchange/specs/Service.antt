@@ -1,4 +1,5 @@
--- A service: one kernel, and the lines of the connections, each with its space, its stage and the bytes that it has to put out.
+-- A service: one kernel, and the lines of the connections, each with its space, its stage, the version in which it is answered, and the
+-- bytes that it has to put out.
 use Rattle.std.specs.Prelude.{ℕ, zero, suc, Bool, false, ◌==◌, List, [], ◌∷◌, ◌++◌, drop, Option}
 use Rattle.std.specs.Prelude.{Some, None, slice_index_or, slice_set, option_map}
 use Rattle.std.specs.List.{position_or_len}
@@ -7,12 +8,14 @@ use Rattle.ipc_words.specs.ThreadId.{number_of}
 use Rattle.ipc_history.specs.Outcomes.{OutcomeParts}
 use Rattle.ipc_frame.specs.Frames.{spelling}
 use Rattle.ipc_frame.specs.declared.frame.Frame.{Frame}
+use Rattle.ipc_frame.specs.declared.version.WireVersion.{WireVersion}
+use Rattle.ipc_frame.specs.declared.version.WireVersion.TheVariants.{One}
 use Rattle.ipc_core.specs.KernelParts.{KernelParts}
 use Rattle.ipc_core.specs.Obeying.{rested}
 use Rattle.ipc_core.specs.Outcomes.{outcome_to_take}
 use Rattle.ipc_core.specs.Steps.{taken_after}
 use Rattle.ipc_frame.specs.Replies.{ipcr_of}
-use Rattle.ipc_connection.specs.Replying.{next_stage, reply}
+use Rattle.ipc_connection.specs.Replying.{next_stage, next_version, reply}
 use Rattle.ipc_connection.specs.declared.stage.Stage.{Stage}
 use Rattle.ipc_connection.specs.declared.stage.Stage.TheVariants.{Greeting, Serving, Finished}
 use Rattle.ipc_connection.specs.declared.replying.Told.{Told}
@@ -20,6 +23,7 @@ use Rattle.ipc_connection.specs.declared.replying.Told.{Told}
 pub record Line : Type 0 where
   pub space : ℕ
   pub stage : Stage
+  pub version : WireVersion
   pub out : List ℕ
 
 -- a kernel between commands: where the last command began isn't seen
@@ -32,7 +36,7 @@ pub record ServiceParts : Type 0 where
 
 -- the line in a place; one that is not there has ended
 abbrev pub nobody : Line
-nobody = record { space = 0; stage = Finished; out = [] }
+nobody = record { space = 0; stage = Finished; version = One; out = [] }
 
 abbrev pub line_at : List Line → ℕ → Line
 line_at lines place = slice_index_or lines place nobody
@@ -41,7 +45,7 @@ line_at lines place = slice_index_or lines place nobody
 abbrev pub with_line : ℕ → ServiceParts → ServiceParts
 with_line space old = record {
   kernel = old.kernel;
-  lines = old.lines ++ record { space = space; stage = Greeting; out = [] } ∷ [];
+  lines = old.lines ++ record { space = space; stage = Greeting; version = One; out = [] } ∷ [];
 }
 
 -- so many bytes of the line in a place went out
@@ -59,7 +63,12 @@ text_of (Some frame) = spelling frame
 
 -- a line to which something is told
 abbrev pub told_line : Told → Line → Line
-told_line told line = record { space = line.space; stage = next_stage line.stage told; out = line.out ++ text_of (reply told) }
+told_line told line = record {
+  space = line.space;
+  stage = next_stage line.stage told;
+  version = next_version line.version told;
+  out = line.out ++ text_of (reply line.version told);
+}
 
 -- the outcome that the thread of a stage may take
 abbrev pub outcome_at : KernelParts → Stage → Option OutcomeParts
@@ -72,7 +81,7 @@ abbrev pub without_outcome : KernelParts → Option OutcomeParts → KernelParts
 without_outcome kernel outcome = record kernel { taken = taken_after outcome kernel.taken }
 
 abbrev pub with_outcome : Option OutcomeParts → Line → Line
-with_outcome outcome line = record line { out = line.out ++ text_of (option_map ipcr_of outcome) }
+with_outcome outcome line = record line { out = line.out ++ text_of (option_map (ipcr_of line.version) outcome) }
 
 -- the line in a place is told the outcome that its thread may take
 abbrev pub told_outcome : ℕ → ServiceParts → ServiceParts

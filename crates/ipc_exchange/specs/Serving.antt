@@ -2,6 +2,8 @@
 use Rattle.std.specs.Prelude.{◌≡◌, ℕ, ◌-◌, ◌^◌, List, [], ◌∷◌, ◌++◌, Option, Some, None, Result, slice_set, ◌⊎◌}
 use Rattle.ipc_frame.specs.declared.fault.FrameFault.{FrameFault}
 use Rattle.ipc_frame.specs.declared.frame.Frame.{Frame}
+use Rattle.ipc_frame.specs.declared.version.WireVersion.{WireVersion}
+use Rattle.ipc_frame.specs.declared.version.WireVersion.TheVariants.{One}
 use Rattle.ipc_frame.specs.Stream.{Stream}
 use Rattle.ipc_history.specs.Holding.{marked_to}
 use Rattle.ipc_core.specs.Again.{MakesRoom}
@@ -10,7 +12,7 @@ use Rattle.ipc_core.specs.Obeying.{Obeys, MayObey, empty_kernel}
 use Rattle.ipc_core.specs.declared.command.Answer.{Answer}
 use Rattle.ipc_core.specs.declared.command.Command.{Command}
 use Rattle.ipc_core.specs.declared.command.Command.TheVariants as command
-use Rattle.ipc_connection.specs.Asking.{asks, command_of}
+use Rattle.ipc_connection.specs.Asking.{asks, command_of, version_asked}
 use Rattle.ipc_connection.specs.Chain.{Chain}
 use Rattle.ipc_connection.specs.Replying.{next_stage, thread_left, told_of}
 use Rattle.ipc_connection.specs.declared.asking.Reaction.{Reaction}
@@ -69,15 +71,16 @@ pub record Tells (memory : Memory) (old : ServiceParts) (place : ℕ) (told : To
       (next_stage (line_at old.lines place).stage told)) asked kernel
   pub new_is : new ≡ delivered kernel (slice_set old.lines place (told_line told (line_at old.lines place)))
 
--- the kernel obeys a command for the line in a place, and its answer is told
-pub record Does (memory : Memory) (old : ServiceParts) (place : ℕ) (command : Command)
+-- the kernel obeys a command for the line in a place that named a version, and its answer is told, at the moment after it
+pub record Does (memory : Memory) (old : ServiceParts) (place : ℕ) (version : WireVersion) (command : Command)
     (asked : List Asked) (new : ServiceParts) : Type 0 where
   pub answer : Answer
   pub between : KernelParts
   pub obeys : ObeysIn memory old.kernel command answer between
   pub rest : List Asked
   pub asked_is : asked ≡ record { command = command; answer = answer } ∷ rest
-  pub tells : Tells memory (record { kernel = between; lines = old.lines }) place (told_of answer) rest new
+  pub tells : Tells memory (record { kernel = between; lines = old.lines }) place
+      (told_of version between.moment answer) rest new
 
 -- a command of nobody's is obeyed, and each thread is told its outcome
 abbrev pub Answers : Memory → ServiceParts → Command → Answer → ServiceParts → Type 0
@@ -91,7 +94,7 @@ DoesAlone memory old command new = (answer : Answer) × Answers memory old comma
 abbrev pub ServesBy : Memory → ServiceParts → ℕ → Reaction → List Asked → ServiceParts → Type 0
 ServesBy memory old place Nothing asked new = (asked ≡ []) × (new ≡ old)
 ServesBy memory old place (Ask request) asked new =
-    Does memory old place (command_of request (line_at old.lines place).space) asked new
+    Does memory old place (version_asked request One) (command_of request (line_at old.lines place).space) asked new
 ServesBy memory old place Leave asked new = Tells memory old place Left asked new
 ServesBy memory old place (Refuse class number) asked new = Tells memory old place (Faulted class number) asked new
 

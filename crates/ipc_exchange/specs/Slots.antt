@@ -88,18 +88,18 @@ pub record IsFresh (kernel : KernelParts) (slots : List LineSlots) (place thread
 
 -- where a thread was opened, it is such a one
 abbrev pub MayGet : KernelParts → List LineSlots → ℕ → Told → Type 0
-MayGet kernel slots place (Opened thread) = IsFresh kernel slots place thread
+MayGet kernel slots place (Opened thread version) = IsFresh kernel slots place thread
 MayGet kernel slots place Entered = ⊤
-MayGet kernel slots place (Exchanged result control code) = ⊤
+MayGet kernel slots place (Exchanged result control code moment) = ⊤
 MayGet kernel slots place (Refused refusal) = ⊤
 MayGet kernel slots place (Faulted class number) = ⊤
 MayGet kernel slots place Left = ⊤
 
 -- the table after something is told to the line in a place
 abbrev pub table_told : Told → ℕ → List ℕ → List ℕ
-table_told (Opened thread) place table = slice_set table (number_of thread) (suc place)
+table_told (Opened thread version) place table = slice_set table (number_of thread) (suc place)
 table_told Entered place table = table
-table_told (Exchanged result control code) place table = table
+table_told (Exchanged result control code moment) place table = table
 table_told (Refused refusal) place table = table
 table_told (Faulted class number) place table = table
 table_told Left place table = table
@@ -120,7 +120,7 @@ SuitsStage stage (Take thread) = ⊤
 
 -- what may be done for a line at a stage, with room for so many answers
 abbrev pub SuitsReaction : Stage → ℕ → Reaction → Type 0
-SuitsReaction stage free (reaction.Ask (request.Open number)) = 3 ≤ free
+SuitsReaction stage free (reaction.Ask (request.Open number version)) = 3 ≤ free
 SuitsReaction stage free (reaction.Ask (request.Enter thread call)) = (3 ≤ free) × (stage ≡ Serving thread)
 SuitsReaction stage free (reaction.Ask (request.Exreg thread target control)) = 3 ≤ free
 SuitsReaction stage free reaction.Leave = 1 ≤ free
@@ -129,16 +129,16 @@ SuitsReaction stage free reaction.Nothing = ⊤
 
 -- what is told with room for so many answers: what ends a connection needs no more than one
 abbrev pub SuitsTold : ℕ → Told → Type 0
-SuitsTold free (Opened thread) = 3 ≤ free
+SuitsTold free (Opened thread version) = 3 ≤ free
 SuitsTold free Entered = 3 ≤ free
-SuitsTold free (Exchanged result control code) = 3 ≤ free
+SuitsTold free (Exchanged result control code moment) = 3 ≤ free
 SuitsTold free (Refused refusal) = 3 ≤ free
 SuitsTold free (Faulted class number) = 1 ≤ free
 SuitsTold free Left = 1 ≤ free
 
 -- room for an answer, a fault and an outcome is wanted for a frame that the kernel is asked about
 abbrev pub WantsRoom : Result Heard FrameFault → Type 0
-WantsRoom (Ok (heard.Hello number)) = ⊤
+WantsRoom (Ok (heard.Hello number version)) = ⊤
 WantsRoom (Ok (heard.Call call)) = ⊤
 WantsRoom (Ok (heard.Exreg target control)) = ⊤
 WantsRoom (Ok heard.Bye) = ⊥

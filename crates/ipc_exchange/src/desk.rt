@@ -57,6 +57,13 @@ impl Desk {
         Ok(Desk { kernel, due })
     }
 
+    /// The moment, in microseconds.
+    pub(crate) fn now(&self) -> u64
+        ensures { result ≡ self.now.moment }
+    {
+        self.kernel.now()
+    }
+
     /// The history, oldest entry first.
     pub(crate) fn history(&self) -> Entries<'_>
         ensures entries { result ≡ self.now.history }

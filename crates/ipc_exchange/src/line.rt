@@ -3,10 +3,11 @@ ghost use Rattle.std.specs.Prelude.{IfOk, OnOk};
 ghost use Rattle.ipc_frame.specs.Frames.{spelling};
 ghost use Rattle.ipc_frame.specs.Replies.{ipcr_of};
 ghost use Rattle.ipc_connection.specs.declared.stage.Stage.TheVariants.{Greeting};
+ghost use Rattle.ipc_frame.specs.declared.version.WireVersion.TheVariants.{One};
 ghost use Rattle.ipc_exchange.specs.Service.{serves_number, told_line};
 
-use ipc_connection::{Stage, Told, next_stage, reply};
-use ipc_frame::Encoder;
+use ipc_connection::{Stage, Told, next_stage, next_version, reply};
+use ipc_frame::{Encoder, WireVersion};
 use ipc_history::Outcome;
 use std::alloc::{AllocError, Global};
 use std::collections::VecDeque;
@@ -17,6 +18,7 @@ use std::marker::Model;
 pub(crate) struct Line {
     space: u32,
     stage: Stage,
+    version: WireVersion,
     // the bytes of the answers that wait to be put out
     queue: VecDeque<Encoder>,
 }
@@ -33,6 +35,7 @@ impl Model for Line {
       line = record {
         space = l.space;
         stage = l.stage;
+        version = l.version;
         out = flat_map (λ bytes. bytes) l.queue.items;
       };
       free = deque_capacity l.queue - deque_len l.queue;
@@ -42,12 +45,13 @@ impl Model for Line {
 impl Line {
     /// A connection that comes from a space, with room for a fault.
     pub(crate) fn new(alloc: Global, space: u32) -> Result<Line, AllocError>
-        ensures line { IfOk result (λ line. line.line ≡ record { space = space; stage = Greeting; out = [] }) }
+        ensures line { IfOk result (λ line. line.line ≡ record { space = space; stage = Greeting; version = One; out = [] }) }
         ensures free { IfOk result (λ line. 1 ≤ line.free) }
     {
         Ok(Line {
             space,
             stage: Stage::Greeting,
+            version: WireVersion::One,
             queue: VecDeque::with_capacity(alloc, 1)?,
         })
     }
@@ -99,10 +103,10 @@ impl Line {
     /// Is told an outcome. There is room for it.
     pub(crate) fn push_outcome(&mut self, outcome: Outcome)
         requires { 0 < self.old.free }
-        ensures line { self.new.line ≡ record self.old.line { out = self.old.line.out ++ spelling (ipcr_of outcome) } }
+        ensures line { self.new.line ≡ record self.old.line { out = self.old.line.out ++ spelling (ipcr_of self.old.line.version outcome) } }
         ensures free { self.old.free ≡ self.new.free + 1 }
     {
-        self.push(Encoder::reply(outcome));
+        self.push(Encoder::reply(self.version, outcome));
     }
 
     /// Is told what becomes of its request.
@@ -112,10 +116,12 @@ impl Line {
         ensures free { self.old.free ≤ self.new.free + 1 }
     {
         let said = told;
-        if let Some(frame) = reply(said) {
+        let named = told;
+        if let Some(frame) = reply(self.version, said) {
             self.push(Encoder::new(frame));
         }
         let before = self.stage;
+        self.version = next_version(self.version, named);
         self.stage = next_stage(before, told);
     }
 

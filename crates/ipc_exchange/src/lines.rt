@@ -2,6 +2,7 @@ ghost use Rattle.std.specs.Prelude.{◌≡◌, ◌<◌, ◌≤◌, ◌+◌, ℕ,
 ghost use Rattle.std.specs.Prelude.{IfSome, IsNone, OnOk, OnErr};
 ghost use Rattle.ipc_frame.specs.Frames.{spelling};
 ghost use Rattle.ipc_frame.specs.Replies.{ipcr_of};
+ghost use Rattle.ipc_frame.specs.declared.version.WireVersion.TheVariants.{One};
 ghost use Rattle.ipc_connection.specs.declared.stage.Stage.TheVariants.{Greeting};
 ghost use Rattle.ipc_exchange.specs.Service.{serves_number, told_line};
 ghost use Rattle.ipc_exchange.specs.Slots.{LineSlots, slot_at, stage_at};
@@ -88,7 +89,7 @@ impl Lines {
     /// One more line, from a space, with room for a fault.
     pub(crate) fn push(&mut self, alloc: Global, space: u32) -> Result<(), AllocError>
         ensures ok { OnOk result ((slot : LineSlots) × (self.new ≡ self.old ++ slot ∷ [])
-            × (slot.line ≡ record { space = space; stage = Greeting; out = [] }) × (1 ≤ slot.free)) }
+            × (slot.line ≡ record { space = space; stage = Greeting; version = One; out = [] }) × (1 ≤ slot.free)) }
         ensures err { OnErr result (self.new ≡ self.old) }
     {
         let line = Line::new(alloc, space)?;
@@ -115,7 +116,7 @@ impl Lines {
         requires room { 0 < (slot_at self.old place).free }
         ensures { (slot : LineSlots) × (self.new ≡ slice_set self.old place slot)
             × (slot.line ≡ record (slot_at self.old place).line
-            { out = (slot_at self.old place).line.out ++ spelling (ipcr_of outcome) })
+            { out = (slot_at self.old place).line.out ++ spelling (ipcr_of (slot_at self.old place).line.version outcome) })
             × ((slot_at self.old place).free ≡ slot.free + 1) }
     {
         self.lines[place].push_outcome(outcome);

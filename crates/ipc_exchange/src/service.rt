@@ -25,9 +25,10 @@ use crate::lines::Lines;
 use ipc_calls::Heard;
 use ipc_connection::{
     Reaction, Request, Stage, Told, asks, command_of, next_stage, thread_left, told_of,
+    version_asked,
 };
 use ipc_core::{Advance, Command, Limits, NoThread};
-use ipc_frame::FrameFault;
+use ipc_frame::{FrameFault, WireVersion};
 use ipc_history::Entries;
 use ipc_words::ThreadId;
 use ipc_words::limits::TABLE_SLOTS;
@@ -235,23 +236,24 @@ impl Service {
         ensures ready { StaysReady self.old self.new }
     {
         let space = u64::from(self.lines.space(place));
-        self.command(place, command_of(request, space));
+        let version = version_asked(&request, WireVersion::One);
+        self.command(place, version, command_of(request, space));
     }
 
-    /// The kernel obeys a command, and its answer is told.
-    fn command(&mut self, place: usize, command: Command)
+    /// The kernel obeys a command of a line that named a version, and its answer is told.
+    fn command(&mut self, place: usize, version: WireVersion, command: Command)
         requires { CanDo self.old place command }
-        ensures done { (asked : List Asked) × Does MayLack (service_of self.old) place command asked (service_of self.new) }
+        ensures done { (asked : List Asked) × Does MayLack (service_of self.old) place version command asked (service_of self.new) }
         ensures ready { StaysReady self.old self.new }
     {
-        let told = self.obey(command);
+        let told = self.obey(version, command);
         self.tell(place, told);
     }
 
-    fn obey(&mut self, command: Command) -> Told
+    fn obey(&mut self, version: WireVersion, command: Command) -> Told
         ensures kernel { (answer : Answer)
             × MayObeyAgain self.old.kernel.held.mark self.old.kernel command answer self.new.kernel
-            × (result ≡ told_of answer) }
+            × (result ≡ told_of version self.new.kernel.moment answer) }
         ensures slots { self.new.slots ≡ self.old.slots }
         ensures table { self.new.table ≡ self.old.table }
         ensures sound { IsSound self.new.kernel }
@@ -259,7 +261,7 @@ impl Service {
         let answer = self.kernel.obey(command);
         // its contract says that the kernel is sound
         let _ = self.kernel.history();
-        told_of(answer)
+        told_of(version, self.kernel.now(), answer)
     }
 
     /// Something is told to the line in a place. Where the connection ends so, its thread ends.
@@ -299,7 +301,7 @@ impl Service {
         requires { CanTell self.old place told }
         ensures { self.new ≡ record self.old { table = table_told told place self.old.table } }
     {
-        if let Told::Opened(thread) = told {
+        if let Told::Opened(thread, _) = told {
             self.table[thread.number() as usize] = self.lines.number(place);
         }
     }

@@ -16,6 +16,11 @@ const HELLO_1: &[u8] = b"\x00\x00\x00\x03\x01\x00\x01";
 
 const HELLO_2: &[u8] = b"\x00\x00\x00\x03\x01\x00\x02";
 
+// HELLO 1 of version 2, and one of a version that there is not
+const HELLO_1_TWO: &[u8] = b"\x00\x00\x00\x05\x01\x00\x01\x00\x02";
+
+const HELLO_1_THREE: &[u8] = b"\x00\x00\x00\x05\x01\x00\x01\x00\x03";
+
 // from anythread
 const RECEIVE: &[u8] = &[
     0, 0, 0, 0x2e, 0x02, 0, 0, 0, 0, 0, 0, 0, 0, 0xff, 0xff, 0xff, 0xff, 0xff, 0xff, 0xff, 0xff, 0,
@@ -63,8 +68,10 @@ const K2: &[u8] = b"\x00\x00\x00\x02\x84\x02";
 // the refusal K5
 const K5: &[u8] = b"\x00\x00\x00\x02\x84\x05";
 
-// the faults F3, F9, K7, S1
+// the faults F3, F15, F9, K7, S1
 const F3: &[u8] = b"\x00\x00\x00\x03\x85\x46\x03";
+
+const F15: &[u8] = b"\x00\x00\x00\x03\x85\x46\x0f";
 
 const F9: &[u8] = b"\x00\x00\x00\x03\x85\x46\x09";
 
@@ -76,6 +83,12 @@ const S1: &[u8] = b"\x00\x00\x00\x03\x85\x53\x01";
 const RECEIVED: &[u8] = &[
     0, 0, 0, 0x2a, 0x82, 0, 0, 0, 0, 0, 0, 0, 0x01, 0, 0, 0, 0x02, 0, 0, 0, 0x01, 0, 0, 0, 0, 0, 0,
     0, 0, 0, 0, 0, 0, 0, 0, 0, 0, 0, 0, 0, 0, 0, 0, 0, 0x07, 0,
+];
+
+// the same in version 2: call 1, at moment 0
+const RECEIVED_TWO: &[u8] = &[
+    0, 0, 0, 0x3a, 0x86, 0, 0, 0, 0, 0, 0, 0, 1, 0, 0, 0, 0, 0, 0, 0, 0, 0, 0, 0, 0, 0, 0, 0, 1, 0,
+    0, 0, 2, 0, 0, 0, 1, 0, 0, 0, 0, 0, 0, 0, 0, 0, 0, 0, 0, 0, 0, 0, 0, 0, 0, 0, 0, 0, 0, 0, 7, 0,
 ];
 
 // a send that was successful
@@ -276,6 +289,32 @@ fn a_word_goes_from_thread_to_thread(rt: HostRuntime) -> Result<(), Fail> {
     let first = [WELCOME_1, RECEIVED];
     let second = [WELCOME_2, SENT];
     assert_dialogue(&rt, rt.alloc(), &steps, &first, &second)
+}
+
+#[test]
+fn each_connection_is_answered_in_its_version(rt: HostRuntime) -> Result<(), Fail> {
+    let steps = [
+        Step::Connect,
+        Step::Connect,
+        Step::Piece(1, HELLO_1_TWO),
+        Step::Piece(2, HELLO_2),
+        Step::Piece(1, RECEIVE),
+        Step::Piece(2, SEND),
+    ];
+    let first = [WELCOME_1, RECEIVED_TWO];
+    let second = [WELCOME_2, SENT];
+    assert_dialogue(&rt, rt.alloc(), &steps, &first, &second)
+}
+
+#[test]
+fn a_version_that_is_not_there_is_a_fault(rt: HostRuntime) -> Result<(), Fail> {
+    let steps = [
+        Step::Connect,
+        Step::Connect,
+        Step::Piece(1, HELLO_1_THREE),
+        Step::Piece(2, HELLO_1),
+    ];
+    assert_dialogue(&rt, rt.alloc(), &steps, &[F15], &[WELCOME_1])
 }
 
 #[test]

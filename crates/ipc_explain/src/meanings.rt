@@ -1,3 +1,5 @@
+use ipc_words::limits::THREADS_AND_SPACES;
+
 /// What a number of a refusal or of a fault means, as K6, F4, S1 or TR3.
 pub fn meaning_of(number: &[u8]) -> Option<&'static str> {
     match number {
@@ -11,7 +13,7 @@ pub fn meaning_of(number: &[u8]) -> Option<&'static str> {
 
 fn refusal(number: &[u8]) -> Option<&'static str> {
     match number {
-        b"K1" => Some("the thread number is not 1 to 255, or the space is not 1 to 64"),
+        b"K1" => Some(THREADS_AND_SPACES),
         b"K2" => Some("a thread of that number is live"),
         b"K3" => Some("the versions of that thread number are used up"),
         b"K4" => Some("no memory"),
@@ -39,6 +41,7 @@ fn frame_fault(number: &[u8]) -> Option<&'static str> {
         b"F12" => Some("a timeout is a time point; only periods are accepted"),
         b"F13" => Some("the reader was asked again after a fault"),
         b"F14" => Some("no memory"),
+        b"F15" => Some("a HELLO names a version that there is not"),
         _ => None,
     }
 }

@@ -1,22 +1,23 @@
 -- What a reading of a whole frame shows of its parts, by their places.
-use Rattle.std.proofs.Common.{◌≡◌, ℕ, suc, ◌+◌, ◌*◌, ◌-◌, ◌<◌, ◌≤◌, inl, inr, List, [], ◌∷◌, ◌++◌, length, take, drop, sum, slice_index, Option, Some, Ok, Err, refl, sym, ap, ap₂, subst, ◌∙◌, arith, length-drop}
+use Rattle.std.proofs.Common.{◌≡◌, ℕ, suc, ◌+◌, ◌*◌, ◌-◌, ◌<◌, ◌≤◌, inl, inr, List, [], ◌∷◌, ◌++◌, length, take, drop, sum, slice_index, Option, Some, None, Ok, Err, refl, sym, ap, ap₂, subst, ◌∙◌, arith, length-drop}
 use Rattle.std.proofs.lemmas.List.{append-nil, append_assoc, drop-drop, get_or-drop, length-take-le, take-append-drop, take_at, take_rest}
 use Rattle.ipc_words.specs.MsgTag.{untyped_of, typed_of}
 use Rattle.ipc_items.specs.Pieces.{PlacedBytes}
 use Rattle.ipc_frame.specs.declared.fault.FrameFault.{FrameFault}
 use Rattle.ipc_frame.specs.declared.fault.FrameFault.TheVariants.{NoMemory}
 use Rattle.ipc_frame.specs.declared.kind.FrameKind.{FrameKind}
-use Rattle.ipc_frame.specs.declared.kind.FrameKind.TheVariants.{Ipc, Ipcr}
+use Rattle.ipc_frame.specs.declared.kind.FrameKind.TheVariants.{Ipc, Ipcr, IpcrTwo}
 use Rattle.ipc_frame.specs.declared.kind.Side.{Side}
 use Rattle.ipc_frame.specs.declared.frame.Frame.{Frame}
 use Rattle.ipc_frame.specs.declared.frame.Frame.TheVariants as frame
 use Rattle.ipc_frame.specs.declared.judging.Judgement.{Judgement}
 use Rattle.ipc_frame.specs.Numbers.{IsBytes, number_in, fields_in, words_in}
-use Rattle.ipc_frame.specs.Parts.{IpcParts, IpcrParts, FitsIpcr, words_of, ipc_size, ipcr_size}
-use Rattle.ipc_frame.specs.Frames.{kinds, widths, kind_of, size_of, HasTail}
-use Rattle.ipc_frame.specs.Reading.{Short, Bad, Whole, kind_among, pieces_in, ipc_parts, ipcr_parts, reading, Tells, TellsBefore}
+use Rattle.ipc_frame.specs.declared.version.CallEnd.{CallEnd}
+use Rattle.ipc_frame.specs.Parts.{IpcParts, IpcrParts, FitsIpcr, words_of, end_size, ipc_size, ipcr_size}
+use Rattle.ipc_frame.specs.Frames.{widths, kind_of, size_of, HasTail}
+use Rattle.ipc_frame.specs.Reading.{Short, Bad, Whole, kind_in, pieces_in, ipc_parts, ipcr_parts, reading, Tells, TellsBefore}
 use Rattle.ipc_frame.specs.Stream.{Stream, Rest, Stopped, put_front, frames_within, stream_of}
-use Rattle.ipc_frame.specs.Decoding.{Decodes, MakesFrame, stream_at, StopsAt}
+use Rattle.ipc_frame.specs.Decoding.{Decodes, MakesFrame, MakesIpcr, stream_at, StopsAt}
 use Rattle.ipc_frame.proofs.NumberLemmas.{number_more}
 use Rattle.ipc_frame.proofs.FieldLemmas.{length_words_in}
 use Rattle.ipc_frame.proofs.FoundLemmas.{whole_shown, shown_found, whole_within, wrong_fixed, least_is_head, some_mapped}
@@ -41,8 +42,8 @@ ipc_room fields tail e =
 pub same_ipc : (p : IpcParts) (to from timeouts originator tag acceptor : ℕ) (words buffer_words payload : List ℕ) → to ≡ p.to → from ≡ p.from → timeouts ≡ p.timeouts → originator ≡ p.originator → tag ≡ p.tag → acceptor ≡ p.acceptor → words ≡ p.words → buffer_words ≡ p.buffer_words → payload ≡ p.payload → record { to = to; from = from; timeouts = timeouts; originator = originator; tag = tag; acceptor = acceptor; words = words; buffer_words = buffer_words; payload = payload } ≡ p
 same_ipc p to from timeouts originator tag acceptor words buffer_words payload a b c d e f g h i = rw (a, b, c, d, e, f, g, h, i) refl
 
-pub same_ipcr : (p : IpcrParts) (tag sender actual error : ℕ) (words : List ℕ) (pieces : List PlacedBytes) → tag ≡ p.tag → sender ≡ p.sender → actual ≡ p.actual → error ≡ p.error → words ≡ p.words → pieces ≡ p.pieces → record { tag = tag; sender = sender; actual = actual; error = error; words = words; pieces = pieces } ≡ p
-same_ipcr p tag sender actual error words pieces a b c d e f = rw (a, b, c, d, e, f) refl
+pub same_ipcr : (p : IpcrParts) (end : Option CallEnd) (tag sender actual error : ℕ) (words : List ℕ) (pieces : List PlacedBytes) → end ≡ p.end → tag ≡ p.tag → sender ≡ p.sender → actual ≡ p.actual → error ≡ p.error → words ≡ p.words → pieces ≡ p.pieces → record { end = end; tag = tag; sender = sender; actual = actual; error = error; words = words; pieces = pieces } ≡ p
+same_ipcr p end tag sender actual error words pieces z a b c d e f = rw (z, a, b, c, d, e, f) refl
 
 -- a call by its parts, as they are read
 pub record ReadsCall (head : List ℕ) (tag untyped typed few : ℕ) : Type 0 where
@@ -62,18 +63,25 @@ reads_call head r1 r2 r3 r4 r5 r6 tag word untyped typed e1 e2 e3 e4 e5 e6 is_wo
     }
 
 -- an outcome that was found, with its pieces
-pub record IpcrMade (fields tail : List ℕ) : Type 0 where
+pub record IpcrMade (end : Option CallEnd) (fields tail : List ℕ) : Type 0 where
   pub pieces : List PlacedBytes
   pub found : pieces_in (number_in 1 (drop (8 * words_of (slice_index fields 0)) tail)) (drop 1 (drop (8 * words_of (slice_index fields 0)) tail)) ≡ Some pieces
-  pub fits : FitsIpcr (ipcr_parts fields tail pieces)
+  pub fits : FitsIpcr (ipcr_parts end fields tail pieces)
   pub room : 8 * words_of (slice_index fields 0) + 1 ≤ length tail
 
-pub ipcr_made : (fields tail : List ℕ) (f : Frame) → MakesFrame Ipcr fields tail f → IpcrMade fields tail
-ipcr_made fields tail f made =
-    let found = some_mapped (λ pieces. frame.Ipcr (ipcr_parts fields tail pieces)) _ f made.made in
+pub ipcr_made : (end : Option CallEnd) (fields tail : List ℕ) (f : Frame) → MakesIpcr end fields tail f → IpcrMade end fields tail
+ipcr_made end fields tail f made =
+    let found = some_mapped (λ pieces. frame.Ipcr (ipcr_parts end fields tail pieces)) _ f made.made in
     let fits = subst HasTail (sym found.2) made.has in
-    let size : ipcr_size (ipcr_parts fields tail found.0) ≡ 1 + (32 + length tail) = ap size_of found.2 ∙ made.size in
+    let size : ipcr_size (ipcr_parts end fields tail found.0) ≡ 33 + end_size end + length tail = ap size_of found.2 ∙ made.size in
     record { pieces = found.0; found = found.1; fits = fits; room = omega (arith, size, length_words_in (words_of (slice_index fields 0)) tail) }
+
+-- of version 1, and of version 2
+pub makes_first : (fields tail : List ℕ) (f : Frame) → MakesFrame Ipcr fields tail f → MakesIpcr None fields tail f
+makes_first fields tail f made = let size : size_of f ≡ 1 + (32 + length tail) = made.size in record { made = made.made; has = made.has; size = omega (arith, size) }
+
+pub makes_second : (fields tail : List ℕ) (f : Frame) → MakesFrame IpcrTwo fields tail f → MakesIpcr (Some (record { call = slice_index fields 0; moment = slice_index fields 1 })) (drop 2 fields) tail f
+makes_second fields tail f made = let size : size_of f ≡ 1 + (48 + length tail) = made.size in record { made = made.made; has = made.has; size = omega (arith, size) }
 
 pub pieces_there : (behind tail : List ℕ) (count words : ℕ) (pieces : List PlacedBytes) → behind ≡ drop (8 * count) tail → count ≡ words → pieces_in (number_in 1 (drop (8 * words) tail)) (drop 1 (drop (8 * words) tail)) ≡ Some pieces → pieces_in (slice_index behind 0) (take (length behind - 1) (drop 1 behind)) ≡ Some pieces
 pieces_there behind tail count words pieces is_behind is_count found =
@@ -91,7 +99,7 @@ front_number width bytes h =
 pub record WholeAt (side : Side) (bytes : List ℕ) (kind : FrameKind) (f : Frame) (n : ℕ) : Type 0 where
   pub there : 4 + number_in 4 bytes ≤ length bytes
   pub least : 1 + sum (widths kind) ≤ number_in 4 bytes
-  pub kind_is : kind_among (kinds side) (slice_index bytes 4) ≡ Some kind
+  pub kind_is : kind_in side (number_in 4 bytes) (slice_index bytes 4) ≡ Some kind
   pub is : kind_of f ≡ kind
   pub count : n ≡ 4 + number_in 4 bytes
   pub makes : MakesFrame kind (fields_in (widths kind) (take (sum (widths kind)) (drop 5 bytes))) (take (number_in 4 bytes - (1 + sum (widths kind))) (drop (sum (widths kind)) (drop 5 bytes))) f
@@ -116,14 +124,14 @@ whole_at side bytes f n h e =
       record {
         there = omega (arith, within, count, size_is);
         least = omega (arith, least, right, size_is);
-        kind_is = ap (kind_among (kinds side)) (sym byte_is) ∙ s.kind_is;
+        kind_is = ap₂ (kind_in side) (sym size_is) (sym byte_is) ∙ s.kind_is;
         is = found.kind_is;
         count = count ∙ ap (λ k. 4 + k) size_is;
         makes = subst (λ k. MakesFrame kind (fields_in (widths kind) (take (sum (widths kind)) (drop 5 bytes))) (take (k - (1 + sum (widths kind))) (drop (sum (widths kind)) (drop 5 bytes))) f) size_is m2;
       },
     )
 
-pub whole_of : (side : Side) (bytes : List ℕ) (f : Frame) (n : ℕ) (kind : FrameKind) → IsBytes bytes → reading side bytes ≡ Whole f n → kind_among (kinds side) (slice_index bytes 4) ≡ Some kind → WholeAt side bytes kind f n
+pub whole_of : (side : Side) (bytes : List ℕ) (f : Frame) (n : ℕ) (kind : FrameKind) → IsBytes bytes → reading side bytes ≡ Whole f n → kind_in side (number_in 4 bytes) (slice_index bytes 4) ≡ Some kind → WholeAt side bytes kind f n
 whole_of side bytes f n kind h e k =
     let at = whole_at side bytes f n h e in
     let both : Some at.0 ≡ Some kind = sym at.1.kind_is ∙ k in

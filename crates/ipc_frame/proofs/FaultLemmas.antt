@@ -5,18 +5,20 @@ use Rattle.ipc_frame.specs.declared.fault.FrameFault.{FrameFault}
 use Rattle.ipc_frame.specs.declared.fault.FrameFault.TheVariants as fault
 use Rattle.ipc_frame.specs.declared.frame.Frame.{Frame}
 use Rattle.ipc_frame.specs.declared.kind.FrameKind.{FrameKind}
+use Rattle.ipc_frame.specs.declared.kind.FrameKind.TheVariants.{Hello, HelloTwo, Ipc, Exreg, Bye, Welcome, Ipcr, Exregr, Refused, Fault, IpcrTwo, ExregrTwo}
 use Rattle.ipc_frame.specs.declared.kind.Side.{Side}
-use Rattle.ipc_frame.specs.Reading.{Reading, Short, Bad, Whole, once, bad_if, whole_if, body_known, fields_known, kind_known, size_known, reading, kind_among, is_wrong_size, has_too_many_words, least_size_with, frame_of}
-use Rattle.ipc_frame.specs.Frames.{kinds, widths}
+use Rattle.ipc_frame.specs.Reading.{Reading, Short, Bad, Whole, once, bad_if, whole_if, body_known, fields_known, kind_known, size_known, reading, kind_in, is_wrong_size, has_too_many_words, least_size_with, frame_of, missing}
+use Rattle.ipc_frame.specs.Frames.{widths}
 use Rattle.ipc_frame.specs.Numbers.{number_in, fields_in}
 use Rattle.ipc_words.specs.Limits.{max_frame_body}
 
--- F1 to F4
+-- F1 to F4 and F15
 abbrev pub IsFormatFault : FrameFault → Type 0
 IsFormatFault fault.TooLong = Unit {0}
 IsFormatFault fault.UnknownKind = Unit {0}
 IsFormatFault fault.WrongSize = Unit {0}
 IsFormatFault fault.TooManyWords = Unit {0}
+IsFormatFault fault.UnknownVersion = Unit {0}
 IsFormatFault _ = ⊥
 
 abbrev Formats : Reading → Type 0
@@ -34,18 +36,32 @@ bad_if_formats : (test : Bool) (shown : FrameFault) (next : Reading) → IsForma
 bad_if_formats true shown next h k = h
 bad_if_formats false shown next h k = k
 
-whole_if_formats : (size : ℕ) (o : Option Frame) → Formats (whole_if size o)
-whole_if_formats size None = tt
-whole_if_formats size (Some f) = tt
+whole_if_formats : (shown : FrameFault) (size : ℕ) (o : Option Frame) → IsFormatFault shown → Formats (whole_if shown size o)
+whole_if_formats shown size None h = h
+whole_if_formats shown size (Some f) h = tt
+
+missing_formats : (kind : FrameKind) → IsFormatFault (missing kind)
+missing_formats Hello = tt
+missing_formats HelloTwo = tt
+missing_formats Ipc = tt
+missing_formats Exreg = tt
+missing_formats Bye = tt
+missing_formats Welcome = tt
+missing_formats Ipcr = tt
+missing_formats Exregr = tt
+missing_formats Refused = tt
+missing_formats Fault = tt
+missing_formats IpcrTwo = tt
+missing_formats ExregrTwo = tt
 
 fields_format : (kind : FrameKind) (size : ℕ) (fields rest : List ℕ) → Formats (fields_known kind size fields rest)
 unfolding fields_known body_known
 fields_format kind size fields rest =
-    let tail : Reading = once (size - (1 + sum (widths kind))) rest (λ tail behind. whole_if size (frame_of kind fields tail)) in
+    let tail : Reading = once (size - (1 + sum (widths kind))) rest (λ tail behind. whole_if (missing kind) size (frame_of kind fields tail)) in
     let long : Bool = nat_lt size (least_size_with kind fields) in
     bad_if_formats (has_too_many_words kind fields) fault.TooManyWords (bad_if long fault.WrongSize tail) tt (
     bad_if_formats long fault.WrongSize tail tt (
-    once_formats (size - (1 + sum (widths kind))) rest (λ tail behind. whole_if size (frame_of kind fields tail)) (λ tail behind. whole_if_formats size (frame_of kind fields tail))))
+    once_formats (size - (1 + sum (widths kind))) rest (λ tail behind. whole_if (missing kind) size (frame_of kind fields tail)) (λ tail behind. whole_if_formats (missing kind) size (frame_of kind fields tail) (missing_formats kind))))
 
 kind_formats : (size : ℕ) (o : Option FrameKind) (rest : List ℕ) → Formats (kind_known size o rest)
 unfolding kind_known
@@ -57,10 +73,10 @@ kind_formats size (Some kind) rest =
 size_formats : (side : Side) (size : ℕ) (rest : List ℕ) → Formats (size_known side size rest)
 unfolding size_known
 size_formats side size rest =
-    let next : List ℕ → List ℕ → Reading = λ kind behind. kind_known size (kind_among (kinds side) (number_in 1 kind)) behind in
+    let next : List ℕ → List ℕ → Reading = λ kind behind. kind_known size (kind_in side size (number_in 1 kind)) behind in
     bad_if_formats (nat_lt max_frame_body size) fault.TooLong (bad_if (size == 0) fault.WrongSize (once 1 rest next)) tt (
     bad_if_formats (size == 0) fault.WrongSize (once 1 rest next) tt (
-    once_formats 1 rest next (λ kind behind. kind_formats size (kind_among (kinds side) (number_in 1 kind)) behind)))
+    once_formats 1 rest next (λ kind behind. kind_formats size (kind_in side size (number_in 1 kind)) behind)))
 
 reading_formats : (side : Side) (bytes : List ℕ) → Formats (reading side bytes)
 unfolding reading

@@ -1,20 +1,24 @@
 -- What is read as a frame begins with the spelling of that frame.
-use Rattle.std.proofs.Common.{◌≡◌, ℕ, zero, suc, ◌+◌, ◌*◌, ◌-◌, ◌<◌, ◌≤◌, ◌^◌, ◌==◌, inl, inr, false, List, [], ◌∷◌, ◌++◌, length, take, drop, sum, replicate, slice_index, Option, Some, None, refl, sym, ap, ap₂, subst, ◌∙◌, arith, length-drop, nat_lt}
+use Rattle.std.proofs.Common.{◌≡◌, ℕ, zero, suc, ◌+◌, ◌*◌, ◌-◌, ◌<◌, ◌≤◌, ◌^◌, ◌==◌, inl, inr, Bool, true, false, if◌then◌else◌, List, [], ◌∷◌, ◌++◌, length, take, drop, sum, replicate, slice_index, Option, Some, None, refl, sym, ap, ap₂, subst, ◌∙◌, arith, length-drop, nat_lt}
 use Rattle.std.specs.List.{AllByRecursion}
 use Rattle.std.specs.Option.{option_map}
 use Rattle.std.proofs.lemmas.List.{append_assoc, drop-drop, length-take-le, nil_from_length, take-append-drop}
 use Rattle.std.proofs.lemmas.Bool.{cases_Bool, eqb-true, ltb-false, or_parts}
 use Rattle.ipc_items.specs.Pieces.{PlacedBytes}
 use Rattle.ipc_frame.specs.declared.kind.FrameKind.{FrameKind}
-use Rattle.ipc_frame.specs.declared.kind.FrameKind.TheVariants.{Hello, Ipc, Exreg, Bye, Welcome, Ipcr, Exregr, Refused, Fault}
+use Rattle.ipc_frame.specs.declared.kind.FrameKind.TheVariants.{Hello, HelloTwo, Ipc, Exreg, Bye, Welcome, Ipcr, Exregr, Refused, Fault, IpcrTwo, ExregrTwo}
 use Rattle.ipc_frame.specs.declared.kind.Side.{Side}
 use Rattle.ipc_frame.specs.declared.kind.Side.TheVariants.{Server, Client}
 use Rattle.ipc_frame.specs.declared.frame.Frame.{Frame}
 use Rattle.ipc_frame.specs.declared.frame.Frame.TheVariants as frame
 use Rattle.ipc_frame.specs.Numbers.{IsBytes, number_text, number_in, fields_text, fields_in, AreWords, words_text, words_in}
-use Rattle.ipc_frame.specs.Parts.{IsPiece, words_of, piece_text, pieces_text}
-use Rattle.ipc_frame.specs.Frames.{kind_byte, side_of, kinds, widths, kind_of, fields_of, tail_of, size_of, body_of, spelling, HasTail, IsFrame}
-use Rattle.ipc_frame.specs.Reading.{Whole, kind_among, is_wrong_size, is_longer, least_size, has_too_many_words, least_size_with, pieces_in, ipc_parts, ipcr_parts, frame_of, whole_if, body_known, fields_known, kind_known, size_known, reading}
+use Rattle.ipc_frame.specs.declared.fault.FrameFault.{FrameFault}
+use Rattle.ipc_frame.specs.declared.version.CallEnd.{CallEnd}
+use Rattle.ipc_frame.specs.declared.version.WireVersion.TheVariants.{One, Two}
+use Rattle.ipc_frame.specs.Versions.{version_of}
+use Rattle.ipc_frame.specs.Parts.{IsPiece, words_of, piece_text, pieces_text, end_size}
+use Rattle.ipc_frame.specs.Frames.{kind_byte, side_of, kinds, widths, ipcr_kind, end_fields, kind_of, fields_of, tail_of, size_of, body_of, spelling, HasTail, IsFrame}
+use Rattle.ipc_frame.specs.Reading.{Whole, kind_among, kind_in, kind_with, is_wrong_size, is_longer, least_size, has_too_many_words, least_size_with, pieces_in, ipc_parts, ipcr_parts, ipcr_in, frame_of, missing, whole_if, body_known, fields_known, kind_known, size_known, reading}
 use Rattle.ipc_frame.proofs.NumberLemmas.{number_below, number_spelled, number_taken, bytes_drop, bytes_take}
 use Rattle.ipc_frame.proofs.FieldLemmas.{fields_fit, fields_taken, length_words_in, words_spelled}
 use Rattle.ipc_frame.proofs.StageLemmas.{once_whole, bad_if_whole}
@@ -36,17 +40,64 @@ kind_among_all P (k ∷ ks) byte kind h e = elim (cases_Bool (kind_byte k == byt
   | inr other ↦ kind_among_all P ks byte kind h.1 (rw other at e)
 ]
 
-pub side_found : (side : Side) (byte : ℕ) (kind : FrameKind) → kind_among (kinds side) byte ≡ Some kind → side_of kind ≡ side
-side_found Server byte kind e = kind_among_all (λ k. side_of k ≡ Server) (kinds Server) byte kind (refl, (refl, (refl, (refl, tt)))) e
-side_found Client byte kind e = kind_among_all (λ k. side_of k ≡ Client) (kinds Client) byte kind (refl, (refl, (refl, (refl, (refl, tt))))) e
-
--- words of any bytes
-are_words_in : (count : ℕ) (bytes : List ℕ) → IsBytes bytes → AreWords (words_in count bytes)
-are_words_in count bytes h = rw (length_words_in count bytes) (fields_fit (replicate count 8) bytes h)
+side_among : (side : Side) (byte : ℕ) (kind : FrameKind) → kind_among (kinds side) byte ≡ Some kind → side_of kind ≡ side
+side_among Server byte kind e = kind_among_all (λ k. side_of k ≡ Server) (kinds Server) byte kind (refl, (refl, (refl, (refl, tt)))) e
+side_among Client byte kind e = kind_among_all (λ k. side_of k ≡ Client) (kinds Client) byte kind (refl, (refl, (refl, (refl, (refl, (refl, (refl, tt))))))) e
 
 pub some_mapped : {X Y : Type 0} (f : X → Y) (o : Option X) (y : Y) → option_map f o ≡ Some y → (x : X) × (o ≡ Some x) × (f x ≡ y)
 some_mapped f None y e = absurd (cc)
 some_mapped f (Some x) y e = (x, refl, cc)
+
+-- a kind that its length decides has the same byte and the same side
+with_byte : (kind : FrameKind) (size : ℕ) → kind_byte (kind_with kind size) ≡ kind_byte kind
+with_byte Hello size = of_five (size == 5)
+  where
+    of_five : (b : Bool) → kind_byte (if b then HelloTwo else Hello) ≡ 1
+    of_five true = refl
+    of_five false = refl
+with_byte HelloTwo size = refl
+with_byte Ipc size = refl
+with_byte Exreg size = refl
+with_byte Bye size = refl
+with_byte Welcome size = refl
+with_byte Ipcr size = refl
+with_byte Exregr size = refl
+with_byte Refused size = refl
+with_byte Fault size = refl
+with_byte IpcrTwo size = refl
+with_byte ExregrTwo size = refl
+
+with_side : (kind : FrameKind) (size : ℕ) → side_of (kind_with kind size) ≡ side_of kind
+with_side Hello size = of_five (size == 5)
+  where
+    of_five : (b : Bool) → side_of (if b then HelloTwo else Hello) ≡ Server
+    of_five true = refl
+    of_five false = refl
+with_side HelloTwo size = refl
+with_side Ipc size = refl
+with_side Exreg size = refl
+with_side Bye size = refl
+with_side Welcome size = refl
+with_side Ipcr size = refl
+with_side Exregr size = refl
+with_side Refused size = refl
+with_side Fault size = refl
+with_side IpcrTwo size = refl
+with_side ExregrTwo size = refl
+
+kind_in_byte : (side : Side) (size byte : ℕ) (kind : FrameKind) → kind_in side size byte ≡ Some kind → kind_byte kind ≡ byte
+kind_in_byte side size byte kind e =
+    let found = some_mapped (λ k. kind_with k size) (kind_among (kinds side) byte) kind e in
+    ap kind_byte (sym found.2) ∙ (with_byte found.0 size ∙ kind_among_byte (kinds side) byte found.0 found.1)
+
+pub side_found : (side : Side) (size byte : ℕ) (kind : FrameKind) → kind_in side size byte ≡ Some kind → side_of kind ≡ side
+side_found side size byte kind e =
+    let found = some_mapped (λ k. kind_with k size) (kind_among (kinds side) byte) kind e in
+    ap side_of (sym found.2) ∙ (with_side found.0 size ∙ side_among side byte found.0 found.1)
+
+-- words of any bytes
+are_words_in : (count : ℕ) (bytes : List ℕ) → IsBytes bytes → AreWords (words_in count bytes)
+are_words_in count bytes h = rw (length_words_in count bytes) (fields_fit (replicate count 8) bytes h)
 
 -- pieces
 pub record Pieces (count : ℕ) (bytes : List ℕ) (pieces : List PlacedBytes) : Type 0 where
@@ -139,9 +190,24 @@ ipc_found head tail asked =
       has = (record { words = l1; few_words = few_words; few_buffer_words = omega arith; within = omega (arith, asked.within, total) }, are_words_in count tail asked.tail_bytes, are_words_in few rest b2, bytes_drop (8 * few) rest b2);
     }
 
-ipcr_found : (head tail : List ℕ) (pieces : List PlacedBytes) → Asked Ipcr head tail → pieces_in (number_in 1 (drop (8 * words_of (slice_index (fields_in (widths Ipcr) head) 0)) tail)) (drop 1 (drop (8 * words_of (slice_index (fields_in (widths Ipcr) head) 0)) tail)) ≡ Some pieces → Found Ipcr head tail (frame.Ipcr (ipcr_parts (fields_in (widths Ipcr) head) tail pieces))
-ipcr_found head tail pieces asked e =
-    let fields = fields_in (widths Ipcr) head in
+-- the numbers of an outcome from the tag on, and of what stands before them
+record AskedIpcr (end : Option CallEnd) (fields tail : List ℕ) : Type 0 where
+  pub tail_bytes : IsBytes tail
+  pub within : 33 + end_size end + length tail ≤ 2 ^ 21
+  pub few_words : nat_lt 63 (words_of (slice_index fields 0)) ≡ false
+  pub room : 34 + 8 * words_of (slice_index fields 0) ≤ 33 + length tail
+
+record FoundIpcr (end : Option CallEnd) (fields tail : List ℕ) (f : Frame) : Type 0 where
+  pub kind_is : kind_of f ≡ ipcr_kind end
+  pub numbers : fields_of f ≡ end_fields end (slice_index fields 0 ∷ slice_index fields 1 ∷ slice_index fields 2 ∷ slice_index fields 3 ∷ [])
+  pub tail_is : tail_of f ≡ tail
+  pub size : size_of f ≡ 33 + end_size end + length tail
+  pub has : HasTail f
+
+ipcr_found : (end : Option CallEnd) (fields tail : List ℕ) (f : Frame) → AskedIpcr end fields tail → ipcr_in end fields tail ≡ Some f → FoundIpcr end fields tail f
+ipcr_found end fields tail f asked made =
+    let got = some_mapped (λ pieces. frame.Ipcr (ipcr_parts end fields tail pieces)) _ f made in
+    let pieces = got.0 in
     let count = words_of (slice_index fields 0) in
     let rest = drop (8 * count) tail in
     let few_words : count ≤ 63 = ltb-false 63 count asked.few_words in
@@ -151,34 +217,56 @@ ipcr_found head tail pieces asked e =
     let b2 = bytes_drop (8 * count) tail asked.tail_bytes in
     let t1 = words_spelled count tail asked.tail_bytes (omega arith) in
     let t2 = number_spelled 1 rest b2 (omega arith) in
-    let found = pieces_found (number_in 1 rest) (drop 1 rest) pieces (bytes_drop 1 rest b2) e in
+    let found = pieces_found (number_in 1 rest) (drop 1 rest) pieces (bytes_drop 1 rest b2) got.1 in
     let small = number_below 1 rest b2 in
     let behind : number_text 1 (length pieces) ++ pieces_text pieces ≡ rest = ap₂ (λ n xs. number_text 1 n ++ xs) found.number found.text ∙ t2 in
-    let total : 34 + 8 * length (words_in count tail) + length (pieces_text pieces) ≡ 1 + (32 + length tail) = omega (arith, ap length found.text, length-drop 1 rest) in
-    record {
+    let total : 34 + end_size end + 8 * length (words_in count tail) + length (pieces_text pieces) ≡ 33 + end_size end + length tail = omega (arith, ap length found.text, length-drop 1 rest) in
+    subst (FoundIpcr end fields tail) got.2 (record {
       kind_is = refl;
-      fields = refl;
+      numbers = refl;
       tail_is = append_assoc (words_text (words_in count tail)) (number_text 1 (length pieces)) (pieces_text pieces) ∙ (ap (λ xs. words_text (words_in count tail) ++ xs) behind ∙ t1);
       size = total;
       has = (record { words = l1; few_words = few_words; few_pieces = omega (arith, found.number); within = omega (arith, asked.within, total) }, are_words_in count tail asked.tail_bytes, found.each);
-    }
+    })
+
+-- a HELLO that names its version
+version_found : (number named : ℕ) (f : Frame) → option_map (frame.Hello number) (version_of named) ≡ Some f → (frame.Hello number Two ≡ f) × (named ≡ 2)
+version_found number named f e = elim (cases_Bool (named == 2)) [
+  | inl two ↦ let e2 = rw two at e in (cc, eqb-true named 2 two)
+  | inr other ↦ let e2 = rw other at e in absurd (cc)
+]
 
 frame_found : (kind : FrameKind) (head tail : List ℕ) (f : Frame) → Asked kind head tail → frame_of kind (fields_in (widths kind) head) tail ≡ Some f → Found kind head tail f
 frame_found Ipc head tail f asked e = let same : frame.Ipc (ipc_parts (fields_in (widths Ipc) head) tail) ≡ f = cc in subst (λ g. Found Ipc head tail g) same (ipc_found head tail asked)
 frame_found Ipcr head tail f asked e =
-    let found = some_mapped (λ pieces. frame.Ipcr (ipcr_parts (fields_in (widths Ipcr) head) tail pieces)) _ f e in
-    subst (λ g. Found Ipcr head tail g) found.2 (ipcr_found head tail found.0 asked found.1)
+    let within : 1 + (32 + length tail) ≤ 2 ^ 21 = asked.within in
+    let room : 34 + 8 * words_of (number_in 8 head) ≤ 1 + (32 + length tail) = asked.room in
+    let found = ipcr_found None (fields_in (widths Ipcr) head) tail f (record { tail_bytes = asked.tail_bytes; within = omega (arith, within); few_words = asked.few_words; room = omega (arith, room) }) e in
+    record { kind_is = found.kind_is; fields = found.numbers; tail_is = found.tail_is; size = let size : size_of f ≡ 33 + 0 + length tail = found.size in omega (arith, size); has = found.has }
+frame_found IpcrTwo head tail f asked e =
+    let fields = fields_in (widths IpcrTwo) head in
+    let end : CallEnd = record { call = slice_index fields 0; moment = slice_index fields 1 } in
+    let within : 1 + (48 + length tail) ≤ 2 ^ 21 = asked.within in
+    let room : 50 + 8 * words_of (number_in 8 (drop 8 (drop 8 head))) ≤ 1 + (48 + length tail) = asked.room in
+    let found = ipcr_found (Some end) (drop 2 fields) tail f (record { tail_bytes = asked.tail_bytes; within = omega (arith, within); few_words = asked.few_words; room = omega (arith, room) }) e in
+    record { kind_is = found.kind_is; fields = found.numbers; tail_is = found.tail_is; size = let size : size_of f ≡ 33 + 16 + length tail = found.size in omega (arith, size); has = found.has }
+frame_found HelloTwo head tail f asked e =
+    let fields = fields_in (widths HelloTwo) head in
+    let found = version_found (slice_index fields 0) (slice_index fields 1) f e in
+    let none = nil_from_length tail (asked.no_tail refl) in
+    subst (Found HelloTwo head tail) found.0 (record { kind_is = refl; fields = ap (λ n. slice_index fields 0 ∷ n ∷ []) (sym found.1); tail_is = sym none; size = ap (λ n. 1 + (4 + n)) (sym (asked.no_tail refl)); has = tt })
 frame_found Hello head tail f asked e = fixed_found Hello head tail f _ asked refl e refl refl refl refl tt
 frame_found Exreg head tail f asked e = fixed_found Exreg head tail f _ asked refl e refl refl refl refl tt
 frame_found Bye head tail f asked e = fixed_found Bye head tail f _ asked refl e refl refl refl refl tt
 frame_found Welcome head tail f asked e = fixed_found Welcome head tail f _ asked refl e refl refl refl refl tt
 frame_found Exregr head tail f asked e = fixed_found Exregr head tail f _ asked refl e refl refl refl refl tt
+frame_found ExregrTwo head tail f asked e = fixed_found ExregrTwo head tail f _ asked refl e refl refl refl refl tt
 frame_found Refused head tail f asked e = fixed_found Refused head tail f _ asked refl e refl refl refl refl tt
 frame_found Fault head tail f asked e = fixed_found Fault head tail f _ asked refl e refl refl refl refl tt
 
-whole_if_shown : (size : ℕ) (o : Option Frame) (f : Frame) (n : ℕ) → whole_if size o ≡ Whole f n → (o ≡ Some f) × (n ≡ 4 + size)
-whole_if_shown size None f n e = absurd (cc)
-whole_if_shown size (Some g) f n e = (cc, cc)
+whole_if_shown : (fault : FrameFault) (size : ℕ) (o : Option Frame) (f : Frame) (n : ℕ) → whole_if fault size o ≡ Whole f n → (o ≡ Some f) × (n ≡ 4 + size)
+whole_if_shown fault size None f n e = absurd (cc)
+whole_if_shown fault size (Some g) f n e = (cc, cc)
 
 -- what a reading of a whole frame has gone through, stage by stage: its numbers, and what comes after them
 pub record FieldsShown (kind : FrameKind) (size : ℕ) (fields rest : List ℕ) (f : Frame) (n : ℕ) : Type 0 where
@@ -194,7 +282,7 @@ fields_shown kind size fields rest f n e =
     let a = bad_if_whole (has_too_many_words kind fields) _ _ f n e in
     let b = bad_if_whole (nat_lt size (least_size_with kind fields)) _ _ f n a.1 in
     let c = once_whole (size - (1 + sum (widths kind))) rest (λ tail behind. body_known kind size fields tail) f n b.1 in
-    let d = whole_if_shown size _ f n c.1 in
+    let d = whole_if_shown (missing kind) size _ f n c.1 in
     record { few_words = a.0; room = ltb-false _ _ b.0; there = c.0; made = d.0; count = d.1 }
 
 pub record KindShown (size : ℕ) (kind : FrameKind) (rest : List ℕ) (f : Frame) (n : ℕ) : Type 0 where
@@ -214,7 +302,7 @@ pub record Shown (side : Side) (bytes : List ℕ) (f : Frame) (n : ℕ) (kind : 
   pub size_there : 4 ≤ length bytes
   pub within : number_in 4 (take 4 bytes) ≤ 2 ^ 21
   pub kind_there : 1 ≤ length (drop 4 bytes)
-  pub kind_is : kind_among (kinds side) (number_in 1 (take 1 (drop 4 bytes))) ≡ Some kind
+  pub kind_is : kind_in side (number_in 4 (take 4 bytes)) (number_in 1 (take 1 (drop 4 bytes))) ≡ Some kind
   pub behind : KindShown (number_in 4 (take 4 bytes)) kind (drop 1 (drop 4 bytes)) f n
 
 pub whole_shown : (side : Side) (bytes : List ℕ) (f : Frame) (n : ℕ) → reading side bytes ≡ Whole f n → (kind : FrameKind) × Shown side bytes f n kind
@@ -224,7 +312,7 @@ whole_shown side bytes f n e =
     let size = number_in 4 (take 4 bytes) in
     let b = bad_if_whole (nat_lt (2 ^ 21) size) _ _ f n a.1 in
     let c = bad_if_whole (size == 0) _ _ f n b.1 in
-    let d = once_whole 1 (drop 4 bytes) (λ kind behind. kind_known size (kind_among (kinds side) (number_in 1 kind)) behind) f n c.1 in
+    let d = once_whole 1 (drop 4 bytes) (λ kind behind. kind_known size (kind_in side size (number_in 1 kind)) behind) f n c.1 in
     let k = kind_shown size _ _ f n d.1 in
     (k.0, record { size_there = a.0; within = ltb-false _ _ b.0; kind_there = d.0; kind_is = k.1; behind = k.2 })
 
@@ -244,6 +332,9 @@ least_is_head Ipcr = omega arith
 least_is_head Exregr = omega arith
 least_is_head Refused = omega arith
 least_is_head Fault = omega arith
+least_is_head HelloTwo = omega arith
+least_is_head IpcrTwo = omega arith
+least_is_head ExregrTwo = omega arith
 
 head_is_least : (kind : FrameKind) → is_longer kind ≡ false → least_size kind ≤ 1 + sum (widths kind)
 head_is_least Hello e = omega arith
@@ -255,6 +346,9 @@ head_is_least Ipcr e = absurd (cc)
 head_is_least Exregr e = omega arith
 head_is_least Refused e = omega arith
 head_is_least Fault e = omega arith
+head_is_least HelloTwo e = omega arith
+head_is_least IpcrTwo e = absurd (cc)
+head_is_least ExregrTwo e = omega arith
 
 -- the frame ends within the bytes
 pub whole_within : (side : Side) (bytes : List ℕ) (f : Frame) (n : ℕ) → reading side bytes ≡ Whole f n → (5 ≤ n) × (n ≤ length bytes)
@@ -331,7 +425,7 @@ frame_begins side bytes f n kind h s =
     let tail_length : length tail ≡ size - (1 + sum (widths kind)) = length-take-le (size - (1 + sum (widths kind))) rest3 fields.there in
     let body : 1 + (sum (widths kind) + length tail) ≡ size = omega arith in
     let found = shown_found side bytes f n kind h s in
-    let byte_is = kind_among_byte (kinds side) (number_in 1 (take 1 rest1)) kind s.kind_is in
+    let byte_is = kind_in_byte side size (number_in 1 (take 1 rest1)) kind s.kind_is in
     let size_is : size_of f ≡ size = found.size ∙ body in
     let t_size : number_text 4 (size_of f) ≡ take 4 bytes = ap (number_text 4) size_is ∙ number_taken 4 bytes h s.size_there in
     let t_kind : number_text 1 (kind_byte (kind_of f)) ≡ take 1 rest1 = ap (λ k. number_text 1 (kind_byte k)) found.kind_is ∙ (ap (number_text 1) byte_is ∙ number_taken 1 rest1 b1 s.kind_there) in
@@ -350,7 +444,7 @@ frame_begins side bytes f n kind h s =
     let is : IsFrame f = record { fields = rw (found.kind_is, found.fields) (fields_fit (widths kind) head head_bytes); tail = found.has } in
     record {
       is = is;
-      side_is = ap side_of found.kind_is ∙ side_found side _ kind s.kind_is;
+      side_is = ap side_of found.kind_is ∙ side_found side size _ kind s.kind_is;
       count = omega (arith, length_spelling f, size_is, count_is);
       text = whole;
     }

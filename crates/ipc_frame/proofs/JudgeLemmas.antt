@@ -2,20 +2,25 @@
 use Rattle.std.proofs.Common.{◌≡◌, ◌≢◌, ℕ, zero, suc, ◌+◌, ◌*◌, ◌-◌, ◌<◌, ◌≤◌, ◌^◌, ◌==◌, ◌||◌, inl, inr, true, false, List, [], ◌∷◌, ◌++◌, length, take, drop, sum, slice_index, Option, Some, None, is_some, Bool, refl, sym, ap, ap₂, subst, ◌∙◌, arith, length-append, length-drop, nat_lt, if◌then◌else◌}
 use Rattle.std.proofs.lemmas.List.{append-nil, drop-append-le, drop-drop, get_or-drop, nil_from_length, take-append-le, length-take-le, take-append-drop}
 use Rattle.std.proofs.lemmas.List.Sums.{sum_by-cons}
-use Rattle.std.proofs.lemmas.Bool.{cases_Bool, lt-ltb, le-ltb, ne_eqb, or_parts}
+use Rattle.std.proofs.lemmas.Bool.{cases_Bool, lt-ltb, le-ltb, ltb-false, ne_eqb, or_parts}
 use Rattle.ipc_frame.specs.declared.fault.FrameFault.{FrameFault}
-use Rattle.ipc_frame.specs.declared.fault.FrameFault.TheVariants.{TooLong, UnknownKind, WrongSize, TooManyWords}
+use Rattle.ipc_frame.specs.declared.fault.FrameFault.TheVariants.{TooLong, UnknownKind, WrongSize, TooManyWords, UnknownVersion}
 use Rattle.ipc_frame.specs.declared.kind.FrameKind.{FrameKind}
-use Rattle.ipc_frame.specs.declared.kind.FrameKind.TheVariants.{Hello, Ipc, Exreg, Bye, Welcome, Ipcr, Exregr, Refused, Fault}
+use Rattle.ipc_frame.specs.declared.kind.FrameKind.TheVariants.{Hello, HelloTwo, Ipc, Exreg, Bye, Welcome, Ipcr, Exregr, Refused, Fault, IpcrTwo, ExregrTwo}
 use Rattle.ipc_frame.specs.declared.kind.Side.{Side}
 use Rattle.ipc_frame.specs.declared.judging.Judgement.{Judgement}
 use Rattle.ipc_frame.specs.declared.judging.Judgement.TheVariants as judged
 use Rattle.ipc_frame.specs.declared.frame.Frame.{Frame}
+use Rattle.ipc_frame.specs.declared.frame.Frame.TheVariants as frame
+use Rattle.ipc_frame.specs.declared.version.CallEnd.{CallEnd}
+use Rattle.ipc_frame.specs.declared.version.WireVersion.TheVariants.{Two}
+use Rattle.ipc_frame.specs.Versions.{version_of}
+use Rattle.std.specs.Option.{option_map}
 use Rattle.ipc_frame.specs.Numbers.{number_in, fields_in}
 use Rattle.ipc_frame.specs.Parts.{words_of}
 use Rattle.ipc_frame.specs.declared.kind.Side.TheVariants.{Server, Client}
-use Rattle.ipc_frame.specs.Frames.{side_of, kinds, widths}
-use Rattle.ipc_frame.specs.Reading.{Reading, Short, Bad, once, kind_among, least_size, is_wrong_size, has_too_many_words, least_size_with, pieces_in, frame_of, whole_if, words_fault, body_known, fields_known, kind_known, size_known, reading, Tells, TellsBefore}
+use Rattle.ipc_frame.specs.Frames.{side_of, widths}
+use Rattle.ipc_frame.specs.Reading.{Reading, Short, Bad, once, kind_in, least_size, is_wrong_size, is_pieced, tag_in, has_too_many_words, least_size_with, pieces_in, ipcr_in, frame_of, missing, whole_if, words_fault, body_known, fields_known, kind_known, size_known, reading, Tells, TellsBefore}
 use Rattle.ipc_frame.proofs.NumberLemmas.{number_more}
 use Rattle.ipc_frame.proofs.FoundLemmas.{side_found}
 use Rattle.ipc_frame.proofs.PieceLemmas.{some_mapped_too}
@@ -84,16 +89,33 @@ no_fault_told kind size fields rest e = elim (cases_Bool (has_too_many_words kin
   ]
 ]
 
-made : (kind : FrameKind) (fields tail : List ℕ) → kind ≢ Ipcr → (f : Frame) × (frame_of kind fields tail ≡ Some f)
-made Hello fields tail other = (_, refl)
-made Ipc fields tail other = (_, refl)
-made Exreg fields tail other = (_, refl)
-made Bye fields tail other = (_, refl)
-made Welcome fields tail other = (_, refl)
-made Ipcr fields tail other = absurd (other refl)
-made Exregr fields tail other = (_, refl)
-made Refused fields tail other = (_, refl)
-made Fault fields tail other = (_, refl)
+made : (kind : FrameKind) (fields tail : List ℕ) → is_pieced kind ≡ false → kind ≢ HelloTwo → (f : Frame) × (frame_of kind fields tail ≡ Some f)
+made Hello fields tail whole named = (_, refl)
+made HelloTwo fields tail whole named = absurd (named refl)
+made Ipc fields tail whole named = (_, refl)
+made Exreg fields tail whole named = (_, refl)
+made Bye fields tail whole named = (_, refl)
+made Welcome fields tail whole named = (_, refl)
+made Ipcr fields tail whole named = absurd (cc)
+made Exregr fields tail whole named = (_, refl)
+made Refused fields tail whole named = (_, refl)
+made Fault fields tail whole named = (_, refl)
+made IpcrTwo fields tail whole named = absurd (cc)
+made ExregrTwo fields tail whole named = (_, refl)
+
+missing_pieces : (kind : FrameKind) → is_pieced kind ≡ true → missing kind ≡ WrongSize
+missing_pieces Hello e = absurd (cc)
+missing_pieces HelloTwo e = absurd (cc)
+missing_pieces Ipc e = absurd (cc)
+missing_pieces Exreg e = absurd (cc)
+missing_pieces Bye e = absurd (cc)
+missing_pieces Welcome e = absurd (cc)
+missing_pieces Ipcr e = refl
+missing_pieces Exregr e = absurd (cc)
+missing_pieces Refused e = absurd (cc)
+missing_pieces Fault e = absurd (cc)
+missing_pieces IpcrTwo e = refl
+missing_pieces ExregrTwo e = absurd (cc)
 
 module _ (kind : FrameKind) (size behind : ℕ) (rest : List ℕ) (right : is_wrong_size kind size ≡ false) where
   pub short_head : length rest < sum (widths kind) → behind ≡ 0 → TellsBefore (judged.Short (sum (widths kind) - length rest)) behind (λ more. kind_known size (Some kind) (rest ++ more))
@@ -109,15 +131,31 @@ module _ (kind : FrameKind) (size behind : ℕ) (rest : List ℕ) (right : is_wr
       let total : length back ≡ there = length-append (drop (sum (widths kind)) rest) more ∙ (let d = length-drop (sum (widths kind)) rest in omega arith) in
       head_told kind size rest more right h ∙ (no_fault_told kind size _ _ e ∙ (once_short (size - (1 + sum (widths kind))) back (λ tail behind. body_known kind size (fields_in (widths kind) rest) tail) (omega arith) ∙ ap₂ (λ a b. Short (a - b)) (sym is_wanted) total))
 
-  pub whole_tail : sum (widths kind) ≤ length rest → words_fault kind size (fields_in (widths kind) rest) ≡ None → (wanted there : ℕ) → wanted ≡ size - (1 + sum (widths kind)) → there ≡ (length rest - sum (widths kind)) + behind → wanted ≤ there → kind ≢ Ipcr → TellsBefore judged.Whole behind (λ more. kind_known size (Some kind) (rest ++ more))
+  -- the body is there, whatever so many bytes behind are
+  body_there : sum (widths kind) ≤ length rest → words_fault kind size (fields_in (widths kind) rest) ≡ None → (wanted there : ℕ) → wanted ≡ size - (1 + sum (widths kind)) → there ≡ (length rest - sum (widths kind)) + behind → wanted ≤ there → (more : List ℕ) → length more ≡ behind → kind_known size (Some kind) (rest ++ more) ≡ whole_if (missing kind) size (frame_of kind (fields_in (widths kind) rest) (take (size - (1 + sum (widths kind))) (drop (sum (widths kind)) rest ++ more)))
   unfolding body_known
-  whole_tail h e wanted there is_wanted is_there enough other more l =
+  body_there h e wanted there is_wanted is_there enough more l =
       let back = drop (sum (widths kind)) rest ++ more in
       let total : length back ≡ there = length-append (drop (sum (widths kind)) rest) more ∙ (let d = length-drop (sum (widths kind)) rest in omega arith) in
-      let fields = fields_in (widths kind) rest in
-      let tail = take (size - (1 + sum (widths kind))) back in
-      let f = made kind fields tail other in
-      (f.0, (4 + size, head_told kind size rest more right h ∙ (no_fault_told kind size _ _ e ∙ (once_enough (size - (1 + sum (widths kind))) back (λ tail behind. body_known kind size fields tail) (omega arith) ∙ ap (whole_if size) f.1))))
+      head_told kind size rest more right h ∙ (no_fault_told kind size _ _ e ∙ once_enough (size - (1 + sum (widths kind))) back (λ tail behind. body_known kind size (fields_in (widths kind) rest) tail) (omega arith))
+
+  pub whole_tail : sum (widths kind) ≤ length rest → words_fault kind size (fields_in (widths kind) rest) ≡ None → (wanted there : ℕ) → wanted ≡ size - (1 + sum (widths kind)) → there ≡ (length rest - sum (widths kind)) + behind → wanted ≤ there → is_pieced kind ≡ false → kind ≢ HelloTwo → TellsBefore judged.Whole behind (λ more. kind_known size (Some kind) (rest ++ more))
+  whole_tail h e wanted there is_wanted is_there enough whole named more l =
+      let f = made kind (fields_in (widths kind) rest) (take (size - (1 + sum (widths kind))) (drop (sum (widths kind)) rest ++ more)) whole named in
+      (f.0, (4 + size, body_there h e wanted there is_wanted is_there enough more l ∙ ap (whole_if (missing kind) size) f.1))
+
+-- the version that a HELLO names
+module _ (size behind : ℕ) (rest : List ℕ) (right : is_wrong_size HelloTwo size ≡ false) where
+  abbrev named : ℕ
+  named = number_in 2 (drop 2 rest)
+
+  told_by : (b : Bool) → (named == 2) ≡ b → (reading : Reading) → reading ≡ whole_if UnknownVersion size (option_map (frame.Hello (number_in 2 rest)) (version_of named)) → Tells (if b then judged.Whole else judged.Bad UnknownVersion) reading
+  told_by true two reading e = (frame.Hello (number_in 2 rest) Two, (4 + size, rw two at e))
+  told_by false other reading e = rw other at e
+
+  pub version_tail : 4 ≤ length rest → words_fault HelloTwo size (fields_in (widths HelloTwo) rest) ≡ None → (wanted there : ℕ) → wanted ≡ size - 5 → there ≡ (length rest - 4) + behind → wanted ≤ there → TellsBefore (if named == 2 then judged.Whole else judged.Bad UnknownVersion) behind (λ more. kind_known size (Some HelloTwo) (rest ++ more))
+  version_tail h e wanted there is_wanted is_there enough more l =
+      told_by (named == 2) refl _ (body_there HelloTwo size behind rest right h e wanted there is_wanted is_there enough more l)
 
 some_there : (o : Option Frame) → is_some o ≡ true → (f : Frame) × (o ≡ Some f)
 some_there None h = absurd (cc)
@@ -129,70 +167,174 @@ none_there (Some f) h = absurd (cc)
 
 -- the last test of a body that is at hand
 module _ (kind : FrameKind) (size behind : ℕ) (rest : List ℕ) (right : is_wrong_size kind size ≡ false) where
-  abbrev made_of : FrameKind → Option Frame
-  made_of k = frame_of k (fields_in (widths k) rest) (take (size - (1 + sum (widths k))) (drop (sum (widths k)) rest))
+  abbrev made_here : Option Frame
+  made_here = frame_of kind (fields_in (widths kind) rest) (take (size - (1 + sum (widths kind))) (drop (sum (widths kind)) rest))
 
-  tail_told : sum (widths kind) ≤ length rest → words_fault kind size (fields_in (widths kind) rest) ≡ None → size ≤ 1 + length rest → behind ≡ 0 → kind ≡ Ipcr → (more : List ℕ) → length more ≡ behind → kind_known size (Some kind) (rest ++ more) ≡ whole_if size (made_of Ipcr)
-  unfolding body_known
-  tail_told h e there none is more l =
+  tail_told : sum (widths kind) ≤ length rest → words_fault kind size (fields_in (widths kind) rest) ≡ None → size ≤ 1 + length rest → behind ≡ 0 → (more : List ℕ) → length more ≡ behind → kind_known size (Some kind) (rest ++ more) ≡ whole_if (missing kind) size made_here
+  tail_told h e there none more l =
       let back = drop (sum (widths kind)) rest in
       let nothing : more ≡ [] = nil_from_length more (l ∙ none) in
       let behind_head : back ++ more ≡ back = ap (λ xs. back ++ xs) nothing ∙ append-nil back in
-      let room = length-drop (sum (widths kind)) rest in
-      let fields = fields_in (widths kind) rest in
-      head_told kind size rest more right h ∙ (no_fault_told kind size _ _ e ∙ (ap (λ xs. once (size - (1 + sum (widths kind))) xs (λ tail behind. body_known kind size fields tail)) behind_head ∙ (once_enough (size - (1 + sum (widths kind))) back (λ tail behind. body_known kind size fields tail) (omega arith) ∙ ap (λ k. whole_if size (made_of k)) is)))
+      body_there kind size behind rest right h e (size - (1 + sum (widths kind))) ((length rest - sum (widths kind)) + behind) refl refl (omega arith) more l
+      ∙ ap (λ xs. whole_if (missing kind) size (frame_of kind (fields_in (widths kind) rest) (take (size - (1 + sum (widths kind))) xs))) behind_head
 
-  pub pieces_end : sum (widths kind) ≤ length rest → words_fault kind size (fields_in (widths kind) rest) ≡ None → size ≤ 1 + length rest → behind ≡ 0 → kind ≡ Ipcr → is_some (made_of Ipcr) ≡ true → TellsBefore judged.Whole behind (λ more. kind_known size (Some kind) (rest ++ more))
-  pieces_end h e there none is some more l =
-      let f = some_there (made_of Ipcr) some in
-      (f.0, (4 + size, tail_told h e there none is more l ∙ ap (whole_if size) f.1))
+  pub pieces_end : sum (widths kind) ≤ length rest → words_fault kind size (fields_in (widths kind) rest) ≡ None → size ≤ 1 + length rest → behind ≡ 0 → is_some made_here ≡ true → TellsBefore judged.Whole behind (λ more. kind_known size (Some kind) (rest ++ more))
+  pieces_end h e there none some more l =
+      let f = some_there made_here some in
+      (f.0, (4 + size, tail_told h e there none more l ∙ ap (whole_if (missing kind) size) f.1))
 
-  pub pieces_past : sum (widths kind) ≤ length rest → words_fault kind size (fields_in (widths kind) rest) ≡ None → size ≤ 1 + length rest → behind ≡ 0 → kind ≡ Ipcr → is_some (made_of Ipcr) ≡ false → TellsBefore (judged.Bad WrongSize) behind (λ more. kind_known size (Some kind) (rest ++ more))
-  pieces_past h e there none is some more l = tail_told h e there none is more l ∙ ap (whole_if size) (none_there (made_of Ipcr) some)
+  pub pieces_past : sum (widths kind) ≤ length rest → words_fault kind size (fields_in (widths kind) rest) ≡ None → size ≤ 1 + length rest → behind ≡ 0 → is_pieced kind ≡ true → is_some made_here ≡ false → TellsBefore (judged.Bad WrongSize) behind (λ more. kind_known size (Some kind) (rest ++ more))
+  pieces_past h e there none pieced some more l =
+      tail_told h e there none more l ∙ (ap (whole_if (missing kind) size) (none_there made_here some) ∙ ap Bad (missing_pieces kind pieced))
+
+-- the tag of an IPCR comes 32 bytes before its words
+pub tag_there : (kind : FrameKind) (head : List ℕ) → is_pieced kind ≡ true → number_in 8 (drop (sum (widths kind) - 32) head) ≡ tag_in kind (fields_in (widths kind) head)
+tag_there Ipcr head e = refl
+tag_there IpcrTwo head e = ap (number_in 8) (sym (drop-drop 8 8 head))
+tag_there Hello head e = absurd (cc)
+tag_there HelloTwo head e = absurd (cc)
+tag_there Ipc head e = absurd (cc)
+tag_there Exreg head e = absurd (cc)
+tag_there Bye head e = absurd (cc)
+tag_there Welcome head e = absurd (cc)
+tag_there Exregr head e = absurd (cc)
+tag_there Refused head e = absurd (cc)
+tag_there Fault head e = absurd (cc)
+tag_there ExregrTwo head e = absurd (cc)
+
+pub pieced_head : (kind : FrameKind) → is_pieced kind ≡ true → 32 ≤ sum (widths kind)
+pieced_head Ipcr e = omega arith
+pieced_head IpcrTwo e = omega arith
+pieced_head Hello e = absurd (cc)
+pieced_head HelloTwo e = absurd (cc)
+pieced_head Ipc e = absurd (cc)
+pieced_head Exreg e = absurd (cc)
+pieced_head Bye e = absurd (cc)
+pieced_head Welcome e = absurd (cc)
+pieced_head Exregr e = absurd (cc)
+pieced_head Refused e = absurd (cc)
+pieced_head Fault e = absurd (cc)
+pieced_head ExregrTwo e = absurd (cc)
+
+-- of an IPCR: too many words, or a body that is too short for them
+pub words_of_ipcr : (kind : FrameKind) (size words : ℕ) (fields : List ℕ) → is_pieced kind ≡ true → words ≡ words_of (tag_in kind fields) → (if nat_lt 63 words then Some TooManyWords else if nat_lt size (sum (widths kind) + 2 + 8 * words) then Some WrongSize else None) ≡ words_fault kind size fields
+words_of_ipcr Ipcr size words fields e is = rw is refl
+words_of_ipcr IpcrTwo size words fields e is = rw is refl
+words_of_ipcr Hello size words fields e is = absurd (cc)
+words_of_ipcr HelloTwo size words fields e is = absurd (cc)
+words_of_ipcr Ipc size words fields e is = absurd (cc)
+words_of_ipcr Exreg size words fields e is = absurd (cc)
+words_of_ipcr Bye size words fields e is = absurd (cc)
+words_of_ipcr Welcome size words fields e is = absurd (cc)
+words_of_ipcr Exregr size words fields e is = absurd (cc)
+words_of_ipcr Refused size words fields e is = absurd (cc)
+words_of_ipcr Fault size words fields e is = absurd (cc)
+words_of_ipcr ExregrTwo size words fields e is = absurd (cc)
 
 -- the pieces of an IPCR body behind its words
-pub pieces_behind : (words : ℕ) (fields tail behind : List ℕ) (fit : Bool) → words ≡ words_of (slice_index fields 0) → behind ≡ drop (8 * words) tail → fit ≡ is_some (pieces_in (slice_index behind 0) (drop 1 behind)) → fit ≡ is_some (frame_of Ipcr fields tail)
-pieces_behind words fields tail behind fit is_words is_behind is_fit =
+pieces_of_ipcr : (end : Option CallEnd) (words : ℕ) (fields tail behind : List ℕ) (fit : Bool) → words ≡ words_of (slice_index fields 0) → behind ≡ drop (8 * words) tail → fit ≡ is_some (pieces_in (slice_index behind 0) (drop 1 behind)) → fit ≡ is_some (ipcr_in end fields tail)
+pieces_of_ipcr end words fields tail behind fit is_words is_behind is_fit =
     let there : behind ≡ drop (8 * words_of (slice_index fields 0)) tail = is_behind ∙ ap (λ n. drop (8 * n) tail) is_words in
     is_fit ∙ (ap (λ n. is_some (pieces_in n (drop 1 behind))) (sym (number_one behind)) ∙ (ap (λ xs. is_some (pieces_in (number_in 1 xs) (drop 1 xs))) there ∙ sym (some_mapped_too _ _)))
+
+pub pieces_behind : (kind : FrameKind) (words : ℕ) (fields tail behind : List ℕ) (fit : Bool) → is_pieced kind ≡ true → words ≡ words_of (tag_in kind fields) → behind ≡ drop (8 * words) tail → fit ≡ is_some (pieces_in (slice_index behind 0) (drop 1 behind)) → fit ≡ is_some (frame_of kind fields tail)
+pieces_behind Ipcr words fields tail behind fit e is_words is_behind is_fit = pieces_of_ipcr None words fields tail behind fit is_words is_behind is_fit
+pieces_behind IpcrTwo words fields tail behind fit e is_words is_behind is_fit =
+    pieces_of_ipcr _ words (drop 2 fields) tail behind fit (is_words ∙ ap words_of (sym (get_or-drop 2 fields 0 0))) is_behind is_fit
+pieces_behind Hello words fields tail behind fit e is_words is_behind is_fit = absurd (cc)
+pieces_behind HelloTwo words fields tail behind fit e is_words is_behind is_fit = absurd (cc)
+pieces_behind Ipc words fields tail behind fit e is_words is_behind is_fit = absurd (cc)
+pieces_behind Exreg words fields tail behind fit e is_words is_behind is_fit = absurd (cc)
+pieces_behind Bye words fields tail behind fit e is_words is_behind is_fit = absurd (cc)
+pieces_behind Welcome words fields tail behind fit e is_words is_behind is_fit = absurd (cc)
+pieces_behind Exregr words fields tail behind fit e is_words is_behind is_fit = absurd (cc)
+pieces_behind Refused words fields tail behind fit e is_words is_behind is_fit = absurd (cc)
+pieces_behind Fault words fields tail behind fit e is_words is_behind is_fit = absurd (cc)
+pieces_behind ExregrTwo words fields tail behind fit e is_words is_behind is_fit = absurd (cc)
+
+-- an IPCR body has room for its words and its count byte
+pub words_room : (kind : FrameKind) (size : ℕ) (fields : List ℕ) → is_pieced kind ≡ true → words_fault kind size fields ≡ None → sum (widths kind) + 2 + 8 * words_of (tag_in kind fields) ≤ size
+words_room kind size fields pieced e =
+    go (nat_lt 63 (words_of (tag_in kind fields))) (nat_lt size (sum (widths kind) + 2 + 8 * words_of (tag_in kind fields))) refl (words_of_ipcr kind size (words_of (tag_in kind fields)) fields pieced refl ∙ e)
+  where
+    go : (many short : Bool) → nat_lt size (sum (widths kind) + 2 + 8 * words_of (tag_in kind fields)) ≡ short → (if many then Some TooManyWords else if short then Some WrongSize else None) ≡ None → sum (widths kind) + 2 + 8 * words_of (tag_in kind fields) ≤ size
+    go true short is none = absurd (cc)
+    go false true is none = absurd (cc)
+    go false false is none = ltb-false size _ is
 
 -- only IPC and IPCR have words to judge
 room_left : (kind : FrameKind) (size : ℕ) → is_wrong_size kind size ≡ false → nat_lt size (least_size kind) ≡ false
 room_left kind size right = (or_parts _ _ right).0
 
-pub no_words : (kind : FrameKind) (size : ℕ) (fields : List ℕ) → is_wrong_size kind size ≡ false → kind ≢ Ipc → kind ≢ Ipcr → None ≡ words_fault kind size fields
+pub no_words : (kind : FrameKind) (size : ℕ) (fields : List ℕ) → is_wrong_size kind size ≡ false → kind ≢ Ipc → is_pieced kind ≡ false → None ≡ words_fault kind size fields
 no_words Hello size fields right a b = rw (room_left Hello size right) refl
 no_words Ipc size fields right a b = absurd (a refl)
 no_words Exreg size fields right a b = rw (room_left Exreg size right) refl
 no_words Bye size fields right a b = rw (room_left Bye size right) refl
 no_words Welcome size fields right a b = rw (room_left Welcome size right) refl
-no_words Ipcr size fields right a b = absurd (b refl)
+no_words Ipcr size fields right a b = absurd (cc)
 no_words Exregr size fields right a b = rw (room_left Exregr size right) refl
 no_words Refused size fields right a b = rw (room_left Refused size right) refl
 no_words Fault size fields right a b = rw (room_left Fault size right) refl
+no_words HelloTwo size fields right a b = rw (room_left HelloTwo size right) refl
+no_words IpcrTwo size fields right a b = absurd (cc)
+no_words ExregrTwo size fields right a b = rw (room_left ExregrTwo size right) refl
 
 -- what the tag and b show, by their places
 pub words_by_place : (size : ℕ) (head : List ℕ) (tag few : ℕ) → tag ≡ number_in 8 (drop 28 head) → few ≡ slice_index head 44 → (if nat_lt 63 (words_of tag) || nat_lt 32 few then Some TooManyWords else if nat_lt size (46 + 8 * words_of tag + 8 * few) then Some WrongSize else None) ≡ words_fault Ipc size (fields_in (widths Ipc) head)
 words_by_place size head tag few t f =
     ap₂ (λ x y. if nat_lt 63 (words_of x) || nat_lt 32 y then Some TooManyWords else if nat_lt size (46 + 8 * words_of x + 8 * y) then Some WrongSize else None) (t ∙ sym (ipc_tag head)) (f ∙ sym (ipc_few head))
 
--- the server is sent no IPCR
-pub not_ipcr : (byte : ℕ) (kind : FrameKind) → kind_among (kinds Server) byte ≡ Some kind → kind ≢ Ipcr
-not_ipcr byte kind e is =
-    let side = side_found Server byte kind e in
-    let other : Client ≡ Server = ap side_of (sym is) ∙ side in
-    cc
+pub not_pieced : (kind : FrameKind) → kind ≢ Ipcr → kind ≢ IpcrTwo → is_pieced kind ≡ false
+not_pieced Ipcr a b = absurd (a refl)
+not_pieced IpcrTwo a b = absurd (b refl)
+not_pieced Hello a b = refl
+not_pieced HelloTwo a b = refl
+not_pieced Ipc a b = refl
+not_pieced Exreg a b = refl
+not_pieced Bye a b = refl
+not_pieced Welcome a b = refl
+not_pieced Exregr a b = refl
+not_pieced Refused a b = refl
+not_pieced Fault a b = refl
+not_pieced ExregrTwo a b = refl
 
-head_within : (kind : FrameKind) → sum (widths kind) ≤ 45
-head_within Hello = omega arith
-head_within Ipc = omega arith
-head_within Exreg = omega arith
-head_within Bye = omega arith
-head_within Welcome = omega arith
-head_within Ipcr = omega arith
-head_within Exregr = omega arith
-head_within Refused = omega arith
-head_within Fault = omega arith
+-- the server is sent no IPCR
+side_pieced : (kind : FrameKind) → is_pieced kind ≡ true → side_of kind ≡ Client
+side_pieced Ipcr e = refl
+side_pieced IpcrTwo e = refl
+side_pieced Hello e = absurd (cc)
+side_pieced HelloTwo e = absurd (cc)
+side_pieced Ipc e = absurd (cc)
+side_pieced Exreg e = absurd (cc)
+side_pieced Bye e = absurd (cc)
+side_pieced Welcome e = refl
+side_pieced Exregr e = refl
+side_pieced Refused e = refl
+side_pieced Fault e = refl
+side_pieced ExregrTwo e = refl
+
+pub pieced_side : (side : Side) (size byte : ℕ) (kind : FrameKind) → kind_in side size byte ≡ Some kind → is_pieced kind ≡ true → side ≡ Client
+pieced_side side size byte kind e pieced = sym (side_found side size byte kind e) ∙ side_pieced kind pieced
+
+head_within : (kind : FrameKind) → side_of kind ≡ Server → sum (widths kind) ≤ 45
+head_within Hello e = omega arith
+head_within Ipc e = omega arith
+head_within Exreg e = omega arith
+head_within Bye e = omega arith
+head_within Welcome e = absurd (cc)
+head_within Ipcr e = absurd (cc)
+head_within Exregr e = absurd (cc)
+head_within Refused e = absurd (cc)
+head_within Fault e = absurd (cc)
+head_within HelloTwo e = omega arith
+head_within IpcrTwo e = absurd (cc)
+head_within ExregrTwo e = absurd (cc)
+
+-- the bytes that come behind are a payload, so the numbers are there
+pub head_there : (side : Side) (size byte behind n : ℕ) (kind : FrameKind) → kind_in side size byte ≡ Some kind → (side ≡ Client → behind ≡ 0) → (0 < behind → 46 ≤ suc n) → 0 < behind → sum (widths kind) ≤ n
+head_there Server size byte behind n kind e none there some = omega (arith, head_within kind (side_found Server size byte kind e), there some)
+head_there Client size byte behind n kind e none there some = absurd (omega (arith, none refl, some))
 
 -- behind the length
 module _ (side : Side) (size behind : ℕ) (within : size ≤ 2 ^ 21) (some : 0 < size) where
@@ -203,23 +345,23 @@ module _ (side : Side) (size behind : ℕ) (within : size ≤ 2 ^ 21) (some : 0 
       let b : (size == 0) ≡ false = ne_eqb size 0 (λ e. omega arith) in
       rw (a, b, nil_from_length more (l ∙ none)) refl
 
-  pub body_told : (byte : ℕ) (rest more : List ℕ) → size_known side size ((byte ∷ rest) ++ more) ≡ kind_known size (kind_among (kinds side) byte) (rest ++ more)
+  pub body_told : (byte : ℕ) (rest more : List ℕ) → size_known side size ((byte ∷ rest) ++ more) ≡ kind_known size (kind_in side size byte) (rest ++ more)
   unfolding size_known
   body_told byte rest more =
       let a : nat_lt (2 ^ 21) size ≡ false = le-ltb (2 ^ 21) size within in
       let b : (size == 0) ≡ false = ne_eqb size 0 (λ e. omega arith) in
       let c : nat_lt (suc (length (rest ++ more))) 1 ≡ false = le-ltb _ 1 (omega arith) in
-      rw (a, b, c) (ap (λ k. kind_known size (kind_among (kinds side) k) (rest ++ more)) (number_one (byte ∷ [])))
+      rw (a, b, c) (ap (λ k. kind_known size (kind_in side size k) (rest ++ more)) (number_one (byte ∷ [])))
 
-  pub bad_kind : (byte : ℕ) (rest : List ℕ) → kind_among (kinds side) byte ≡ None → TellsBefore (judged.Bad UnknownKind) behind (λ more. size_known side size ((byte ∷ rest) ++ more))
+  pub bad_kind : (byte : ℕ) (rest : List ℕ) → kind_in side size byte ≡ None → TellsBefore (judged.Bad UnknownKind) behind (λ more. size_known side size ((byte ∷ rest) ++ more))
   unfolding kind_known
   bad_kind byte rest e more l = body_told byte rest more ∙ ap (λ k. kind_known size k (rest ++ more)) e
 
-  pub bad_size : (byte : ℕ) (rest : List ℕ) (kind : FrameKind) → kind_among (kinds side) byte ≡ Some kind → is_wrong_size kind size ≡ true → TellsBefore (judged.Bad WrongSize) behind (λ more. size_known side size ((byte ∷ rest) ++ more))
+  pub bad_size : (byte : ℕ) (rest : List ℕ) (kind : FrameKind) → kind_in side size byte ≡ Some kind → is_wrong_size kind size ≡ true → TellsBefore (judged.Bad WrongSize) behind (λ more. size_known side size ((byte ∷ rest) ++ more))
   unfolding kind_known
   bad_size byte rest kind e wrong more l = body_told byte rest more ∙ (ap (λ k. kind_known size k (rest ++ more)) e ∙ rw wrong refl)
 
-  pub right_kind : (byte : ℕ) (rest : List ℕ) (kind : FrameKind) (j : Judgement) → kind_among (kinds side) byte ≡ Some kind → TellsBefore j behind (λ more. kind_known size (Some kind) (rest ++ more)) → TellsBefore j behind (λ more. size_known side size ((byte ∷ rest) ++ more))
+  pub right_kind : (byte : ℕ) (rest : List ℕ) (kind : FrameKind) (j : Judgement) → kind_in side size byte ≡ Some kind → TellsBefore j behind (λ more. kind_known size (Some kind) (rest ++ more)) → TellsBefore j behind (λ more. size_known side size ((byte ∷ rest) ++ more))
   right_kind byte rest kind j e told more l =
       let same : kind_known size (Some kind) (rest ++ more) ≡ size_known side size ((byte ∷ rest) ++ more) = sym (body_told byte rest more ∙ ap (λ k. kind_known size k (rest ++ more)) e) in
       subst (λ r. Tells j r) same (told more l)

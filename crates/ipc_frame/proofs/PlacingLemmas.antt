@@ -13,9 +13,11 @@ use Rattle.ipc_items.specs.Buffers.{AreBuffers}
 use Rattle.ipc_items.specs.Pieces.{PlacedBytes, put_piece, pieces, pieces_of_all}
 use Rattle.ipc_history.specs.Outcomes.{OutcomeParts, HasItsWords, pieces_in}
 use Rattle.ipc_frame.specs.declared.fault.FrameFault.{FrameFault}
-use Rattle.ipc_frame.specs.Parts.{IpcrParts, IsIpcr, words_of, pieces_text}
+use Rattle.ipc_frame.specs.declared.version.WireVersion.{WireVersion}
+use Rattle.ipc_frame.specs.declared.version.WireVersion.TheVariants.{One, Two}
+use Rattle.ipc_frame.specs.Parts.{IpcrParts, IsIpcr, words_of, pieces_text, end_size}
 use Rattle.ipc_frame.specs.Making.{ipcr_fault}
-use Rattle.ipc_frame.specs.Replies.{reply_of}
+use Rattle.ipc_frame.specs.Replies.{reply_of, end_of}
 use Rattle.ipc_frame.proofs.WindowLemmas.{piece_size}
 use Rattle.std.proofs.lemmas.List.Sums.{sum_by-cons}
 use Rattle.std.proofs.lemmas.Bool.{le-ltb, eq-eqb}
@@ -114,24 +116,28 @@ all_size (buffer ∷ buffers) (string ∷ strings) =
     omega (arith, pieces_text_joined (pieces buffer string) (flat_map (λ ps. ps) (pieces_of_all buffers strings)), string_size buffer string, all_size buffers strings, sum_by-cons (λ (parts : List Substring). length parts) buffer buffers, sum_by-cons (λ (s : List ℕ). length s) string strings)
 
 -- an outcome within its limits makes a frame
-pub reply_is : (o : OutcomeParts) → AreStrings o.strings → AreBuffers o.buffers → HasItsWords o.tag o.words → IsIpcr (reply_of o)
-reply_is o strings buffers words =
+end_small : (version : WireVersion) (o : OutcomeParts) → end_size (end_of version o) ≤ 16
+end_small One o = omega arith
+end_small Two o = omega arith
+
+pub reply_is : (version : WireVersion) (o : OutcomeParts) → AreStrings o.strings → AreBuffers o.buffers → HasItsWords o.tag o.words → IsIpcr (reply_of version o)
+reply_is version o strings buffers words =
     let count = all_count o.buffers o.strings in
     let size = all_size o.buffers o.strings in
     record {
       words = words.counted;
       few_words = omega (arith, words.counted, words.few);
       few_pieces = omega (arith, count, buffers.1);
-      within = omega (arith, size, buffers.1, strings.1, words.few);
+      within = omega (arith, end_small version o, size, buffers.1, strings.1, words.few);
     }
 
-pub reply_fits : (o : OutcomeParts) → IsIpcr (reply_of o) → ipcr_fault (reply_of o) ≡ None
-reply_fits o is =
+pub reply_fits : (version : WireVersion) (o : OutcomeParts) → IsIpcr (reply_of version o) → ipcr_fault (reply_of version o) ≡ None
+reply_fits version o is =
     let few : nat_lt 63 (words_of o.tag) ≡ false = le-ltb 63 (words_of o.tag) is.few_words in
     let counted : (length o.words == words_of o.tag) ≡ true = eq-eqb (length o.words) (words_of o.tag) is.words in
     let all = flat_map (λ ps. ps) (pieces_in o) in
     let few_pieces : nat_lt 255 (length all) ≡ false = le-ltb 255 (length all) is.few_pieces in
-    let short : nat_lt (2 ^ 21) (34 + 8 * length o.words + length (pieces_text all)) ≡ false = le-ltb (2 ^ 21) (34 + 8 * length o.words + length (pieces_text all)) is.within in
+    let short : nat_lt (2 ^ 21) (34 + end_size (end_of version o) + 8 * length o.words + length (pieces_text all)) ≡ false = le-ltb (2 ^ 21) (34 + end_size (end_of version o) + 8 * length o.words + length (pieces_text all)) is.within in
     rw (few, counted, few_pieces, short) refl
 
 -- one more copy
@@ -139,8 +145,8 @@ pub copy_step : (pieces : List Piece) (i : ℕ) (d : Piece) (copies new : List P
 copy_step pieces i d copies new copy h is_copy is_new e =
     is_new ∙ (ap₂ (λ xs x. xs ++ x ∷ []) e is_copy ∙ (sym (map-append placed (take i pieces) (get_or pieces i d ∷ [])) ∙ ap (λ xs. map placed xs) (sym (take_more pieces i d h))))
 
-pub made_of : (o : OutcomeParts) (parts : IpcrParts) (result : Result IpcrParts FrameFault) → ipcr_fault (reply_of o) ≡ None → parts ≡ reply_of o → IfNone (ipcr_fault parts) (result ≡ Ok parts) → result ≡ Ok (reply_of o)
-made_of o parts result none same made =
+pub made_of : (version : WireVersion) (o : OutcomeParts) (parts : IpcrParts) (result : Result IpcrParts FrameFault) → ipcr_fault (reply_of version o) ≡ None → parts ≡ reply_of version o → IfNone (ipcr_fault parts) (result ≡ Ok parts) → result ≡ Ok (reply_of version o)
+made_of version o parts result none same made =
     let no_fault : ipcr_fault parts ≡ None = ap ipcr_fault same ∙ none in
     let made2 = rw no_fault at made in
     made2 ∙ ap Ok same

@@ -3,12 +3,12 @@ use Rattle.std.proofs.Common.{◌≡◌, ◌⊎◌, inl, inr, ℕ, ◌+◌, ◌-
 use Rattle.std.proofs.lemmas.Bool.{cases_lt, lt-ltb, le-ltb, ltb-false}
 use Rattle.ipc_frame.specs.declared.fault.FrameFault.{FrameFault}
 use Rattle.ipc_frame.specs.declared.kind.FrameKind.{FrameKind}
-use Rattle.ipc_frame.specs.declared.kind.FrameKind.TheVariants.{Hello, Ipc, Exreg, Bye, Welcome, Ipcr, Exregr, Refused, Fault}
+use Rattle.ipc_frame.specs.declared.kind.FrameKind.TheVariants.{Hello, HelloTwo, Ipc, Exreg, Bye, Welcome, Ipcr, Exregr, Refused, Fault, IpcrTwo, ExregrTwo}
 use Rattle.ipc_frame.specs.declared.kind.Side.{Side}
 use Rattle.ipc_frame.specs.declared.frame.Frame.{Frame}
 use Rattle.ipc_frame.specs.Numbers.{number_in, fields_in}
-use Rattle.ipc_frame.specs.Frames.{kinds, widths}
-use Rattle.ipc_frame.specs.Reading.{Reading, Short, once, bad_if, kind_among, is_wrong_size, least_size, has_too_many_words, least_size_with, whole_if, body_known, fields_known, kind_known, size_known, reading}
+use Rattle.ipc_frame.specs.Frames.{widths}
+use Rattle.ipc_frame.specs.Reading.{Reading, Short, once, bad_if, kind_in, is_wrong_size, least_size, has_too_many_words, least_size_with, whole_if, body_known, fields_known, kind_known, size_known, reading}
 
 once_short : (count : ℕ) (bytes : List ℕ) (next : List ℕ → List ℕ → Reading) (wanted : ℕ) → once count bytes next ≡ Short wanted → ((length bytes < count) × (length bytes + wanted ≡ count)) ⊎ ((count ≤ length bytes) × (next (take count bytes) (drop count bytes) ≡ Short wanted))
 once_short count bytes next wanted e = elim (cases_lt (length bytes) count) [
@@ -24,9 +24,9 @@ bad_if_short : (test : Bool) (fault : FrameFault) (next : Reading) (wanted : ℕ
 bad_if_short true fault next wanted e = absurd (cc)
 bad_if_short false fault next wanted e = (refl, e)
 
-whole_if_not : (size : ℕ) (o : Option Frame) (wanted : ℕ) → whole_if size o ≡ Short wanted → ⊥
-whole_if_not size None wanted e = cc
-whole_if_not size (Some f) wanted e = cc
+whole_if_not : (fault : FrameFault) (size : ℕ) (o : Option Frame) (wanted : ℕ) → whole_if fault size o ≡ Short wanted → ⊥
+whole_if_not fault size None wanted e = cc
+whole_if_not fault size (Some f) wanted e = cc
 
 either : (a b : Bool) → (a || b) ≡ false → a ≡ false
 either false b h = refl
@@ -42,6 +42,9 @@ least_head Ipcr = omega arith
 least_head Exregr = omega arith
 least_head Refused = omega arith
 least_head Fault = omega arith
+least_head HelloTwo = omega arith
+least_head IpcrTwo = omega arith
+least_head ExregrTwo = omega arith
 
 fields_short : (kind : FrameKind) (size : ℕ) (fields rest : List ℕ) (wanted : ℕ) → fields_known kind size fields rest ≡ Short wanted → length rest + wanted ≡ size - (1 + sum (widths kind))
 unfolding fields_known body_known
@@ -50,7 +53,7 @@ fields_short kind size fields rest wanted e =
     let b = bad_if_short (nat_lt size (least_size_with kind fields)) _ _ wanted a.1 in
     elim (once_short (size - (1 + sum (widths kind))) rest (λ tail behind. body_known kind size fields tail) wanted b.1) [
       | inl short ↦ short.1
-      | inr there ↦ absurd (whole_if_not size _ wanted there.1)
+      | inr there ↦ absurd (whole_if_not _ size _ wanted there.1)
     ]
 
 kind_short : (size : ℕ) (o : Option FrameKind) (rest : List ℕ) (wanted : ℕ) → kind_known size o rest ≡ Short wanted → length rest + wanted ≤ size
@@ -76,7 +79,7 @@ short_within side bytes wanted e =
           let c = bad_if_short (size == 0) _ _ wanted b.1 in
           let few : size ≤ 2 ^ 21 = ltb-false (2 ^ 21) size b.0 in
           let rest = length-drop 4 bytes in
-          elim (once_short 1 (drop 4 bytes) (λ kind behind. kind_known size (kind_among (kinds side) (number_in 1 kind)) behind) wanted c.1) [
+          elim (once_short 1 (drop 4 bytes) (λ kind behind. kind_known size (kind_in side size (number_in 1 kind)) behind) wanted c.1) [
             | inl short ↦ omega (arith, short.1, there.0)
             | inr more ↦ omega (arith, kind_short size _ _ wanted more.1, length-drop 1 (drop 4 bytes), more.0, there.0)
           ]

@@ -7,7 +7,9 @@ use Rattle.ipc_frame.specs.declared.kind.FrameKind.{FrameKind}
 use Rattle.ipc_frame.specs.declared.kind.Side.{Side}
 use Rattle.ipc_frame.specs.declared.frame.Frame.{Frame}
 use Rattle.ipc_frame.specs.Frames.{kind_of, widths, size_of, HasTail}
-use Rattle.ipc_frame.specs.Reading.{Reading, Short, Bad, Whole, is_longer, frame_of}
+use Rattle.ipc_frame.specs.declared.version.CallEnd.{CallEnd}
+use Rattle.ipc_frame.specs.Parts.{end_size}
+use Rattle.ipc_frame.specs.Reading.{Reading, Short, Bad, Whole, is_longer, frame_of, ipcr_in}
 use Rattle.ipc_frame.specs.Stream.{Stream, Rest, Stopped, put_front, stream_of}
 
 -- F9 for a prefix that shows no fault, the fault that it shows, or the frame and its length; F14 only for IPC and IPCR, which
@@ -22,6 +24,12 @@ pub record MakesFrame (kind : FrameKind) (fields tail : List ℕ) (f : Frame) : 
   pub made : frame_of kind fields tail ≡ Some f
   pub has : HasTail f
   pub size : size_of f ≡ 1 + (sum (widths kind) + length tail)
+
+-- the same of an IPCR, of its numbers from the tag on
+pub record MakesIpcr (end : Option CallEnd) (fields tail : List ℕ) (f : Frame) : Type 0 where
+  pub made : ipcr_in end fields tail ≡ Some f
+  pub has : HasTail f
+  pub size : size_of f ≡ 33 + end_size end + length tail
 
 -- a decoder: who reads, the bytes behind the last whole frame, and whether it has answered a fault
 pub record Decoding : Type 0 where

@@ -6,7 +6,7 @@ use Rattle.ipc_frame.specs.declared.fault.FrameFault.TheVariants.{TooManyWords, 
 use Rattle.ipc_frame.specs.declared.fault.FrameFault.TheVariants.{ReservedBit, OutsidePayload}
 use Rattle.ipc_frame.specs.declared.fault.FrameFault.TheVariants.{TooManyBytes, Unfinished, Device}
 use Rattle.ipc_frame.specs.declared.fault.FrameFault.TheVariants.{Interrupted, TimePoint, Spent}
-use Rattle.ipc_frame.specs.declared.fault.FrameFault.TheVariants.{NoMemory}
+use Rattle.ipc_frame.specs.declared.fault.FrameFault.TheVariants.{NoMemory, UnknownVersion}
 
 abbrev pub fault_number : FrameFault → ℕ
 fault_number TooLong = 1
@@ -23,3 +23,4 @@ fault_number Interrupted = 11
 fault_number TimePoint = 12
 fault_number Spent = 13
 fault_number NoMemory = 14
+fault_number UnknownVersion = 15

@@ -1,4 +1,5 @@
 pub mod Numbers
+pub mod Versions
 pub mod Parts
 pub mod Making
 pub mod Frames

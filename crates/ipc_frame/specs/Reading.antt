@@ -5,14 +5,17 @@ use Rattle.std.specs.Prelude.{Option, Some, None, option_map, if◌then◌else�
 use Rattle.ipc_words.specs.Limits.{max_message_words, max_buffer_words, max_frame_body}
 use Rattle.ipc_items.specs.Pieces.{PlacedBytes}
 use Rattle.ipc_frame.specs.declared.fault.FrameFault.{FrameFault}
-use Rattle.ipc_frame.specs.declared.fault.FrameFault.TheVariants.{TooLong, UnknownKind, WrongSize, TooManyWords}
+use Rattle.ipc_frame.specs.declared.fault.FrameFault.TheVariants.{TooLong, UnknownKind, WrongSize, TooManyWords, UnknownVersion}
 use Rattle.ipc_frame.specs.declared.kind.FrameKind.{FrameKind}
-use Rattle.ipc_frame.specs.declared.kind.FrameKind.TheVariants.{Hello, Ipc, Exreg, Bye, Welcome, Ipcr, Exregr, Refused, Fault}
+use Rattle.ipc_frame.specs.declared.kind.FrameKind.TheVariants.{Hello, HelloTwo, Ipc, Exreg, Bye, Welcome, Ipcr, Exregr, Refused, Fault, IpcrTwo, ExregrTwo}
 use Rattle.ipc_frame.specs.declared.kind.Side.{Side}
 use Rattle.ipc_frame.specs.declared.judging.Judgement.{Judgement}
 use Rattle.ipc_frame.specs.declared.judging.Judgement.TheVariants as judged
 use Rattle.ipc_frame.specs.declared.frame.Frame.{Frame}
 use Rattle.ipc_frame.specs.declared.frame.Frame.TheVariants as frame
+use Rattle.ipc_frame.specs.declared.version.CallEnd.{CallEnd}
+use Rattle.ipc_frame.specs.declared.version.WireVersion.TheVariants.{One, Two}
+use Rattle.ipc_frame.specs.Versions.{version_of}
 use Rattle.ipc_frame.specs.Numbers.{number_in, fields_in, words_in}
 use Rattle.ipc_frame.specs.Parts.{IpcParts, IpcrParts, words_of}
 use Rattle.ipc_frame.specs.Frames.{kind_byte, kinds, widths}
@@ -39,9 +42,19 @@ abbrev pub kind_among : List FrameKind → ℕ → Option FrameKind
 kind_among [] byte = None
 kind_among (kind ∷ kinds) byte = (if kind_byte kind == byte then Some kind else kind_among kinds byte)
 
+-- the kind of a body of this length: a HELLO of five bytes names its version
+abbrev pub kind_with : FrameKind → ℕ → FrameKind
+kind_with Hello size = (if size == 5 then HelloTwo else Hello)
+kind_with kind size = kind
+
+-- the kind of a byte and a body length
+abbrev pub kind_in : Side → ℕ → ℕ → Option FrameKind
+kind_in side size byte = option_map (λ kind. kind_with kind size) (kind_among (kinds side) byte)
+
 -- the body length of a kind; the least one of IPC and IPCR
 abbrev pub least_size : FrameKind → ℕ
 least_size Hello = 3
+least_size HelloTwo = 5
 least_size Ipc = 46
 least_size Exreg = 17
 least_size Bye = 1
@@ -50,28 +63,44 @@ least_size Ipcr = 34
 least_size Exregr = 25
 least_size Refused = 2
 least_size Fault = 3
+least_size IpcrTwo = 50
+least_size ExregrTwo = 33
 
 abbrev pub is_longer : FrameKind → Bool
 is_longer Ipc = true
 is_longer Ipcr = true
+is_longer IpcrTwo = true
 is_longer _ = false
 
 -- a kind doesn't have this body length
 abbrev pub is_wrong_size : FrameKind → ℕ → Bool
 is_wrong_size kind size = nat_lt size (least_size kind) || (not (is_longer kind) && nat_lt (least_size kind) size)
 
--- the numbers after the kind: IPC has the tag in place 4 and b in place 6, IPCR the tag in place 0
+-- the numbers after the kind: IPC has the tag in place 4 and b in place 6, IPCR the tag in place 0, in version 2 in place 2
 abbrev pub has_too_many_words : FrameKind → List ℕ → Bool
 has_too_many_words Ipc fields =
     nat_lt max_message_words (words_of (slice_index fields 4))
     || nat_lt max_buffer_words (slice_index fields 6)
 has_too_many_words Ipcr fields = nat_lt max_message_words (words_of (slice_index fields 0))
+has_too_many_words IpcrTwo fields = nat_lt max_message_words (words_of (slice_index fields 2))
 has_too_many_words _ fields = false
+
+-- the tag of an IPCR
+abbrev pub tag_in : FrameKind → List ℕ → ℕ
+tag_in IpcrTwo fields = slice_index fields 2
+tag_in kind fields = slice_index fields 0
+
+-- the kinds of an IPCR, with its pieces behind its words
+abbrev pub is_pieced : FrameKind → Bool
+is_pieced Ipcr = true
+is_pieced IpcrTwo = true
+is_pieced _ = false
 
 -- the body length that their words ask for at least
 abbrev pub least_size_with : FrameKind → List ℕ → ℕ
 least_size_with Ipc fields = 46 + 8 * words_of (slice_index fields 4) + 8 * slice_index fields 6
 least_size_with Ipcr fields = 34 + 8 * words_of (slice_index fields 0)
+least_size_with IpcrTwo fields = 50 + 8 * words_of (slice_index fields 2)
 least_size_with kind fields = least_size kind
 
 -- pieces that end with the bytes
@@ -99,8 +128,10 @@ ipc_parts fields tail =
       payload = drop (8 * slice_index fields 6) (drop (8 * count) tail);
     }
 
-abbrev pub ipcr_parts : List ℕ → List ℕ → List PlacedBytes → IpcrParts
-ipcr_parts fields tail pieces = record {
+-- of the numbers from the tag on
+abbrev pub ipcr_parts : Option CallEnd → List ℕ → List ℕ → List PlacedBytes → IpcrParts
+ipcr_parts end fields tail pieces = record {
+  end = end;
   tag = slice_index fields 0;
   sender = slice_index fields 1;
   actual = slice_index fields 2;
@@ -109,27 +140,40 @@ ipcr_parts fields tail pieces = record {
   pieces = pieces;
 }
 
--- the frame of a kind, of its numbers and what comes after them; none where pieces don't end there
+abbrev pub ipcr_in : Option CallEnd → List ℕ → List ℕ → Option Frame
+ipcr_in end fields tail =
+    let rest = drop (8 * words_of (slice_index fields 0)) tail in
+    option_map (λ pieces. frame.Ipcr (ipcr_parts end fields tail pieces)) (pieces_in (number_in 1 rest) (drop 1 rest))
+
+-- the frame of a kind, of its numbers and what comes after them; none where pieces don't end there, or a version is not there
 abbrev pub frame_of : FrameKind → List ℕ → List ℕ → Option Frame
-frame_of Hello fields tail = Some (frame.Hello (slice_index fields 0))
+frame_of Hello fields tail = Some (frame.Hello (slice_index fields 0) One)
+frame_of HelloTwo fields tail = option_map (frame.Hello (slice_index fields 0)) (version_of (slice_index fields 1))
 frame_of Ipc fields tail = Some (frame.Ipc (ipc_parts fields tail))
 frame_of Exreg fields tail = Some (frame.Exreg (slice_index fields 0) (slice_index fields 1))
 frame_of Bye fields tail = Some frame.Bye
 frame_of Welcome fields tail = Some (frame.Welcome (slice_index fields 0))
-frame_of Ipcr fields tail =
-    let rest = drop (8 * words_of (slice_index fields 0)) tail in
-    option_map (λ pieces. frame.Ipcr (ipcr_parts fields tail pieces)) (pieces_in (number_in 1 rest) (drop 1 rest))
-frame_of Exregr fields tail = Some (frame.Exregr (slice_index fields 0) (slice_index fields 1) (slice_index fields 2))
+frame_of Ipcr fields tail = ipcr_in None fields tail
+frame_of Exregr fields tail = Some (frame.Exregr (slice_index fields 0) (slice_index fields 1) (slice_index fields 2) None)
 frame_of Refused fields tail = Some (frame.Refused (slice_index fields 0))
 frame_of Fault fields tail = Some (frame.Fault (slice_index fields 0) (slice_index fields 1))
+frame_of IpcrTwo fields tail =
+    ipcr_in (Some (record { call = slice_index fields 0; moment = slice_index fields 1 })) (drop 2 fields) tail
+frame_of ExregrTwo fields tail =
+    Some (frame.Exregr (slice_index fields 1) (slice_index fields 2) (slice_index fields 3) (Some (slice_index fields 0)))
 
--- the body is whole: F3 for pieces that don't end with it
-abbrev pub whole_if : ℕ → Option Frame → Reading
-whole_if size None = Bad WrongSize
-whole_if size (Some frame) = Whole frame (4 + size)
+-- what is wrong where there is none
+abbrev pub missing : FrameKind → FrameFault
+missing HelloTwo = UnknownVersion
+missing kind = WrongSize
+
+-- the body is whole: F3 for pieces that don't end with it, F15 for another version
+abbrev pub whole_if : FrameFault → ℕ → Option Frame → Reading
+whole_if fault size None = Bad fault
+whole_if fault size (Some frame) = Whole frame (4 + size)
 
 unfoldable pub body_known : FrameKind → ℕ → List ℕ → List ℕ → Reading
-body_known kind size fields tail = whole_if size (frame_of kind fields tail)
+body_known kind size fields tail = whole_if (missing kind) size (frame_of kind fields tail)
 
 -- the numbers after the kind are there: F4, and F3 for a body that is too short for its words and its count byte
 unfoldable pub fields_known : FrameKind → ℕ → List ℕ → List ℕ → Reading
@@ -150,7 +194,7 @@ unfoldable pub size_known : Side → ℕ → List ℕ → Reading
 size_known side size rest =
     bad_if (nat_lt max_frame_body size) TooLong (
     bad_if (size == 0) WrongSize (
-    once 1 rest (λ kind behind. kind_known size (kind_among (kinds side) (number_in 1 kind)) behind)))
+    once 1 rest (λ kind behind. kind_known size (kind_in side size (number_in 1 kind)) behind)))
 
 -- what bytes show of the frame that they begin with
 unfoldable pub reading : Side → List ℕ → Reading

@@ -6,4 +6,4 @@ use Rattle.ipc_frame.specs.Replies.{ipcr_of}
 
 abbrev pub frame_of_source : Source → Frame
 frame_of_source (source.Frame frame) = frame
-frame_of_source (source.Outcome outcome) = ipcr_of outcome
+frame_of_source (source.Outcome version outcome) = ipcr_of version outcome

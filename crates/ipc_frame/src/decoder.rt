@@ -44,7 +44,7 @@ impl Decoder {
     /// Takes a piece, and appends each frame that is whole now, those before a fault too. The frames so far and the bytes
     /// behind them are those of the stream so far and the piece.
     ///
-    /// F1 to F4: the fault that the stream shows; F14: no memory. After an error it answers F13 for good.
+    /// F1 to F4 and F15: the fault that the stream shows; F14: no memory. After an error it answers F13 for good.
     pub fn feed(&mut self, piece: &[u8], frames: &mut Vec<Frame>) -> Result<(), FrameFault>
         ensures fed { self.old.is_spent ≡ false →
             Feeds (more self.old.side (stream_at frames.old.items self.old.bytes) piece.now) frames.new.items self.new result }

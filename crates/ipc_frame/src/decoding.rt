@@ -3,31 +3,23 @@ ghost use Rattle.std.specs.Prelude.{true, is_some, sum, take, ◌≡◌, ◌≤�
 ghost use Rattle.std.specs.Prelude.{length, drop, slice_index};
 ghost use Rattle.ipc_items.specs.Pieces.{PlacedBytes};
 ghost use Rattle.ipc_frame.specs.Numbers.{number_in, fields_in, words_in};
-ghost use Rattle.ipc_frame.specs.Parts.{IsIpc, IsIpcr, words_of, ipc_size, ipcr_size};
+ghost use Rattle.ipc_frame.specs.Parts.{IsIpc, ipc_size};
 ghost use Rattle.ipc_frame.specs.Frames.{widths};
-ghost use Rattle.ipc_frame.specs.Reading.{Tells, pieces_in, ipc_parts, ipcr_parts, frame_of, is_longer, reading};
+ghost use Rattle.ipc_frame.specs.Reading.{Tells, ipc_parts, ipcr_in, frame_of, is_longer, reading};
 ghost use Rattle.ipc_frame.specs.Stream.{put_front, stream_of};
-ghost use Rattle.ipc_frame.specs.Decoding.{Decodes, MakesFrame, TakesFrame, Unreads};
+ghost use Rattle.ipc_frame.specs.Decoding.{Decodes, MakesFrame, MakesIpcr, TakesFrame, Unreads};
 
 use crate::cutting::{copied, read_words, split_u32, split_u64};
 use crate::fault::FrameFault;
 use crate::frame::Frame;
 use crate::ipc::{IpcFrame, IpcParts};
 use crate::ipcr::{IpcrFrame, IpcrParts};
-use crate::judging::{Judgement, judge, read_u32};
+use crate::judging::{Judgement, judge, read_u16, read_u32};
 use crate::kind::{FrameKind, Side};
 use crate::pieces::read_pieces;
-use byteorder::{BigEndian, ByteOrder};
+use crate::version::{CallEnd, WireVersion};
 use ipc_words::{Control, IpcError, MsgTag, ThreadId, Timeouts};
 use std::alloc::{AllocError, Global};
-
-#[tactic(auto, unfolding(crate::specs::Numbers::number_in))]
-fn read_u16(bytes: &[u8]) -> u16
-    requires { 2 ≤ length bytes.now }
-    ensures { result ≡ number_in 2 bytes.now }
-{
-    BigEndian::read_u16(bytes)
-}
 
 // The words, the buffer words and the payload of a call.
 fn read_registers(
@@ -79,14 +71,16 @@ fn read_ipc(alloc: Global, head: &[u8], tail: &[u8]) -> Result<IpcFrame, AllocEr
     }))
 }
 
-// An outcome, of its numbers and what comes after them.
-fn read_ipcr(alloc: Global, head: &[u8], tail: &[u8]) -> Result<IpcrFrame, AllocError>
+// An outcome, of its numbers from the tag on and what comes after them.
+fn read_ipcr(
+    alloc: Global,
+    end: Option<CallEnd>,
+    head: &[u8],
+    tail: &[u8],
+) -> Result<IpcrFrame, AllocError>
     requires head { 32 ≤ length head.now }
-    requires made { (f : Frame) × MakesFrame FrameKind.Ipcr (fields_in (widths FrameKind.Ipcr) head.now) tail.now f }
-    ensures { IfOk result
-        (λ ipcr.
-        frame_of FrameKind.Ipcr (fields_in (widths FrameKind.Ipcr) head.now) tail.now
-        ≡ Some (Frame.Ipcr ipcr)) }
+    requires made { (f : Frame) × MakesIpcr end (fields_in (widths FrameKind.Ipcr) head.now) tail.now f }
+    ensures { IfOk result (λ ipcr. ipcr_in end (fields_in (widths FrameKind.Ipcr) head.now) tail.now ≡ Some (Frame.Ipcr ipcr)) }
 {
     let (tag, head) = split_u64(head);
     let (sender, head) = split_u64(head);
@@ -96,6 +90,7 @@ fn read_ipcr(alloc: Global, head: &[u8], tail: &[u8]) -> Result<IpcrFrame, Alloc
     let count = tag.untyped() as usize + tag.typed() as usize;
     let (_, behind) = tail.split_at(8 * count);
     Ok(IpcrFrame::of(IpcrParts {
+        end,
         tag,
         sender: ThreadId::from_word(sender),
         actual: ThreadId::from_word(actual),
@@ -105,14 +100,28 @@ fn read_ipcr(alloc: Global, head: &[u8], tail: &[u8]) -> Result<IpcrFrame, Alloc
     }))
 }
 
+// An outcome of version 2.
+fn read_ended(alloc: Global, head: &[u8], tail: &[u8]) -> Result<IpcrFrame, AllocError>
+    requires head { 48 ≤ length head.now }
+    requires made { (f : Frame) × MakesFrame FrameKind.IpcrTwo (fields_in (widths FrameKind.IpcrTwo) head.now) tail.now f }
+    ensures { IfOk result (λ ipcr. frame_of FrameKind.IpcrTwo (fields_in (widths FrameKind.IpcrTwo) head.now) tail.now
+        ≡ Some (Frame.Ipcr ipcr)) }
+{
+    let (call, head) = split_u64(head);
+    let (moment, head) = split_u64(head);
+    read_ipcr(alloc, Some(CallEnd { call, moment }), head, tail)
+}
+
 // A frame of a fixed length, of its numbers.
 fn read_numbers(kind: FrameKind, head: &[u8]) -> Frame
     requires head { sum (widths kind) ≤ length head.now }
     requires fixed { is_longer kind ≡ false }
+    requires known { (tail : List ℕ) → is_some (frame_of kind (fields_in (widths kind) head.now) tail) ≡ true }
     ensures { (tail : List ℕ) → frame_of kind (fields_in (widths kind) head.now) tail ≡ Some result }
 {
     match kind {
-        FrameKind::Hello => Frame::Hello(read_u16(head)),
+        FrameKind::Hello => Frame::Hello(read_u16(head), WireVersion::One),
+        FrameKind::HelloTwo => Frame::Hello(read_u16(head), WireVersion::Two),
         FrameKind::Exreg => {
             let (dest, head) = split_u64(head);
             let (control, _) = split_u64(head);
@@ -130,6 +139,19 @@ fn read_numbers(kind: FrameKind, head: &[u8]) -> Frame
                 ThreadId::from_word(result),
                 Control::from_word(control),
                 code,
+                None,
+            )
+        }
+        FrameKind::ExregrTwo => {
+            let (moment, head) = split_u64(head);
+            let (result, head) = split_u64(head);
+            let (control, head) = split_u64(head);
+            let (code, _) = split_u64(head);
+            Frame::Exregr(
+                ThreadId::from_word(result),
+                Control::from_word(control),
+                code,
+                Some(moment),
             )
         }
         FrameKind::Refused => Frame::Refused(head[0]),
@@ -147,7 +169,8 @@ fn read_frame(alloc: Global, kind: FrameKind, head: &[u8], tail: &[u8]) -> Resul
 {
     match kind {
         FrameKind::Ipc => Ok(Frame::Ipc(read_ipc(alloc, head, tail)?)),
-        FrameKind::Ipcr => Ok(Frame::Ipcr(read_ipcr(alloc, head, tail)?)),
+        FrameKind::Ipcr => Ok(Frame::Ipcr(read_ipcr(alloc, None, head, tail)?)),
+        FrameKind::IpcrTwo => Ok(Frame::Ipcr(read_ended(alloc, head, tail)?)),
         _ => Ok(read_numbers(kind, head)),
     }
 }
@@ -158,7 +181,7 @@ fn whole_frame(alloc: Global, side: Side, bytes: &[u8]) -> Result<(Frame, usize)
     ensures { Decodes (reading side bytes.now) result }
 {
     let size = read_u32(bytes) as usize;
-    let Some(kind) = FrameKind::from_byte(side, bytes[4]) else {
+    let Some(kind) = FrameKind::of(side, size, bytes[4]) else {
         return Err(FrameFault::UnknownKind);
     };
     let (head, rest) = bytes[5..].split_at(kind.head());
@@ -170,7 +193,7 @@ fn whole_frame(alloc: Global, side: Side, bytes: &[u8]) -> Result<(Frame, usize)
 
 /// The frame that the bytes begin with, as a side reads them, and how many bytes it has.
 ///
-/// F1 to F4: the fault that the bytes show. F9: they end before a frame does. F14: there is no memory for the words, the
+/// F1 to F4 and F15: the fault that the bytes show. F9: they end before a frame does. F14: there is no memory for the words, the
 /// payload or the pieces of an IPC or IPCR frame.
 pub fn decode(alloc: Global, side: Side, bytes: &[u8]) -> Result<(Frame, usize), FrameFault>
     ensures { Decodes (reading side bytes.now) result }

@@ -1,8 +1,8 @@
-ghost use Rattle.std.specs.Prelude.{IfOk, IfSome, IfNone, Ok, Err, true, ◌≡◌, ◌≤◌, ◌<◌, ◌^◌, not, nat_lt, length};
+ghost use Rattle.std.specs.Prelude.{IfOk, IfSome, IfNone, Ok, Err, true, ◌≡◌, ◌+◌, ◌≤◌, ◌<◌, ◌^◌, not, nat_lt, length};
 ghost use Rattle.std.specs.List.{AllByRecursion};
 ghost use Rattle.ipc_words.specs.Limits.{max_frame_body, max_pieces};
 ghost use Rattle.ipc_frame.specs.Numbers.{IsBytes, byte_values};
-ghost use Rattle.ipc_frame.specs.Parts.{IsPiece, IsIpcr, pieces_text, ipcr_size};
+ghost use Rattle.ipc_frame.specs.Parts.{IsEnd, IsPiece, IsIpcr, end_size, pieces_text, ipcr_size};
 ghost use Rattle.ipc_frame.specs.Frames.{IsFrame};
 ghost use Rattle.ipc_frame.specs.Making.{ipcr_fault};
 
@@ -10,6 +10,7 @@ use crate::cutting::copied;
 use crate::fault::FrameFault;
 use crate::fitting::{are_bytes, are_words};
 use crate::frame::Frame;
+use crate::version::CallEnd;
 use ipc_words::limits::{MAX_FRAME_BODY, MAX_MESSAGE_WORDS, MAX_PIECES};
 use ipc_words::{IpcError, MsgTag, ThreadId};
 use std::alloc::{AllocError, Global};
@@ -66,6 +67,8 @@ impl Placed {
 /// The parts of an outcome as it is sent, whatever they are.
 #[derive(Drop)]
 pub struct IpcrParts {
+    /// In version 2 which call it was, and when it was over; None in version 1.
+    pub end: Option<CallEnd>,
     /// The tag of the message that was received.
     pub tag: MsgTag,
     /// The sender that is shown.
@@ -87,6 +90,7 @@ impl Model for IpcrParts {
 
     ghost view = { λ p.
         record {
+          end = p.end;
           tag = p.tag;
           sender = p.sender;
           actual = p.actual;
@@ -129,6 +133,22 @@ fn pieces_within(pieces: &[Placed], most: usize) -> bool
     true
 }
 
+// Each number of an end is one of 64 bits. They are read so that the prover knows it.
+fn end_fits(end: Option<CallEnd>)
+    ensures { IsEnd end }
+{
+    if let Some(end) = end {
+        let _numbers = (end.call, end.moment);
+    }
+}
+
+// How many bytes of the body are neither words nor pieces: the kind, the numbers and the count of the pieces.
+fn head_of(end: Option<CallEnd>) -> usize
+    ensures { result ≡ 34 + end_size end }
+{
+    if end.is_some() { 50 } else { 34 }
+}
+
 impl IpcrFrame {
     /// The frame of these parts. Where it answers F4, F3 or F1, in this order, the parts are
     /// dropped. More than [`MAX_PIECES`] pieces are F3.
@@ -143,7 +163,10 @@ impl IpcrFrame {
         if parts.words.len() != words || parts.pieces.len() > MAX_PIECES {
             return Err(FrameFault::WrongSize);
         }
-        if !pieces_within(&parts.pieces, MAX_FRAME_BODY - (34 + 8 * words)) {
+        if !pieces_within(
+            &parts.pieces,
+            MAX_FRAME_BODY - (head_of(parts.end) + 8 * words),
+        ) {
             return Err(FrameFault::TooLong);
         }
         Ok(IpcrFrame::of(parts))
@@ -157,6 +180,20 @@ impl IpcrFrame {
     {
         are_words(&parts.words);
         IpcrFrame { parts }
+    }
+
+    /// Which call it was and when it was over; None in version 1.
+    pub fn end(&self) -> Option<CallEnd>
+        ensures { result ≡ self.now.end }
+    {
+        self.parts.end
+    }
+
+    // How many bytes of its body are neither words nor pieces.
+    pub(crate) fn head(&self) -> usize
+        ensures { result ≡ 34 + end_size self.now.end }
+    {
+        head_of(self.parts.end)
     }
 
     /// The tag of the message that was received.
@@ -210,5 +247,6 @@ impl IpcrFrame {
         let parts = &self.parts;
         let _threads = (parts.sender.to_word(), parts.actual.to_word());
         let _registers = (parts.tag.to_word(), parts.error.to_word());
+        end_fits(parts.end);
     }
 }

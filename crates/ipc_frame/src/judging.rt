@@ -1,12 +1,12 @@
 ghost use Rattle.std.specs.Prelude.{◌≡◌, ◌<◌, ◌≤◌, ◌+◌, ◌*◌, ◌^◌, ◌++◌, ◌≢◌, ◌||◌, ◌-◌, nat_lt};
-ghost use Rattle.std.specs.Prelude.{sum, slice_index, is_some, if◌then◌else◌, length, Some, None};
+ghost use Rattle.std.specs.Prelude.{sum, is_some, if◌then◌else◌, length, Some, None, true, ◌==◌};
 ghost use Rattle.std.specs.Prelude.{false, take, drop};
 ghost use Rattle.ipc_words.specs.Limits.{max_buffer_words, max_frame_body, max_message_words};
 ghost use Rattle.ipc_frame.specs.Numbers.{number_in, fields_in};
 ghost use Rattle.ipc_frame.specs.Parts.{words_of};
 ghost use Rattle.ipc_frame.specs.Frames.{widths};
 ghost use Rattle.ipc_frame.specs.Reading.{TellsBefore, words_fault, is_wrong_size};
-ghost use Rattle.ipc_frame.specs.Reading.{has_too_many_words, least_size_with, frame_of};
+ghost use Rattle.ipc_frame.specs.Reading.{has_too_many_words, is_pieced, least_size_with, frame_of, tag_in};
 ghost use Rattle.ipc_frame.specs.Reading.{fields_known, kind_known, size_known, reading};
 
 use crate::fault::FrameFault;
@@ -24,6 +24,14 @@ pub enum Judgement {
     Bad(FrameFault),
     /// A whole frame.
     Whole,
+}
+
+#[tactic(auto, unfolding(crate::specs::Numbers::number_in))]
+pub(crate) fn read_u16(bytes: &[u8]) -> u16
+    requires { 2 ≤ length bytes.now }
+    ensures { result ≡ number_in 2 bytes.now }
+{
+    BigEndian::read_u16(bytes)
 }
 
 #[tactic(auto, unfolding(crate::specs::Numbers::number_in))]
@@ -68,24 +76,26 @@ fn ipc_fault(size: usize, head: &[u8]) -> Option<FrameFault>
     words_fault(size, words, head[44] as usize)
 }
 
-// How many words the tag of an IPCR frame counts.
-fn ipcr_words(head: &[u8]) -> usize
-    requires { 32 ≤ length head.now }
-    ensures { result ≡ words_of (slice_index (fields_in (widths FrameKind.Ipcr) head.now) 0) }
+// How many words the tag of an IPCR frame counts: it comes 32 bytes before the words.
+fn ipcr_words(kind: FrameKind, head: &[u8]) -> usize
+    requires pieced { is_pieced kind ≡ true }
+    requires head { sum (widths kind) ≤ length head.now }
+    ensures { result ≡ words_of (tag_in kind (fields_in (widths kind) head.now)) }
 {
-    let tag = MsgTag::from_word(read_u64(head));
+    let tag = MsgTag::from_word(read_u64(&head[kind.head() - 32..]));
     tag.untyped() as usize + tag.typed() as usize
 }
 
 // Of an IPCR frame: too many words, or a body that is too short for them and its count byte.
-fn ipcr_fault(size: usize, head: &[u8]) -> Option<FrameFault>
-    requires { 32 ≤ length head.now }
-    ensures { result ≡ words_fault FrameKind.Ipcr size (fields_in (widths FrameKind.Ipcr) head.now) }
+fn ipcr_fault(size: usize, kind: FrameKind, head: &[u8]) -> Option<FrameFault>
+    requires pieced { is_pieced kind ≡ true }
+    requires head { sum (widths kind) ≤ length head.now }
+    ensures { result ≡ words_fault kind size (fields_in (widths kind) head.now) }
 {
-    let words = ipcr_words(head);
+    let words = ipcr_words(kind, head);
     if words > MAX_MESSAGE_WORDS {
         Some(FrameFault::TooManyWords)
-    } else if size < 34 + 8 * words {
+    } else if size < kind.head() + 2 + 8 * words {
         Some(FrameFault::WrongSize)
     } else {
         None
@@ -100,43 +110,56 @@ fn fields_fault(size: usize, kind: FrameKind, rest: &[u8]) -> Option<FrameFault>
 {
     match kind {
         FrameKind::Ipc => ipc_fault(size, rest),
-        FrameKind::Ipcr => ipcr_fault(size, rest),
+        FrameKind::Ipcr | FrameKind::IpcrTwo => ipcr_fault(size, kind, rest),
         _ => None,
     }
 }
 
 // Whether the pieces of an IPCR frame end with its body.
-fn ends_with_pieces(size: usize, rest: &[u8]) -> bool
-    requires right { words_fault FrameKind.Ipcr size (fields_in (widths FrameKind.Ipcr) rest.now) ≡ None }
+fn ends_with_pieces(size: usize, kind: FrameKind, rest: &[u8]) -> bool
+    requires pieced { is_pieced kind ≡ true }
+    requires right { words_fault kind size (fields_in (widths kind) rest.now) ≡ None }
     requires whole { size ≤ 1 + length rest.now }
-    requires head { 32 ≤ length rest.now }
-    ensures { result ≡ is_some (frame_of FrameKind.Ipcr (fields_in (widths FrameKind.Ipcr) rest.now)
-        (take (size - 33) (drop 32 rest.now))) }
+    requires head { sum (widths kind) ≤ length rest.now }
+    ensures { result ≡ is_some (frame_of kind (fields_in (widths kind) rest.now)
+        (take (size - (1 + sum (widths kind))) (drop (sum (widths kind)) rest.now))) }
 {
-    let tail = &rest[32..size - 1];
-    let behind = &tail[8 * ipcr_words(rest)..];
+    let tail = &rest[kind.head()..size - 1];
+    let behind = &tail[8 * ipcr_words(kind, rest)..];
     pieces_fit(behind[0], &behind[1..])
 }
 
 // What the whole body of an IPCR frame shows that has room for its words and its count byte.
-fn judge_pieces(size: usize, rest: &[u8]) -> Judgement
-    requires least { is_wrong_size FrameKind.Ipcr size ≡ false }
-    requires right { words_fault FrameKind.Ipcr size (fields_in (widths FrameKind.Ipcr) rest.now) ≡ None }
+fn judge_pieces(size: usize, kind: FrameKind, rest: &[u8]) -> Judgement
+    requires pieced { is_pieced kind ≡ true }
+    requires least { is_wrong_size kind size ≡ false }
+    requires right { words_fault kind size (fields_in (widths kind) rest.now) ≡ None }
     requires whole { size ≤ 1 + length rest.now }
-    requires head { 32 ≤ length rest.now }
-    ensures { TellsBefore result 0 (λ more. kind_known size (Some FrameKind.Ipcr) (rest.now ++ more)) }
+    requires head { sum (widths kind) ≤ length rest.now }
+    ensures { TellsBefore result 0 (λ more. kind_known size (Some kind) (rest.now ++ more)) }
 {
-    if ends_with_pieces(size, rest) {
+    if ends_with_pieces(size, kind, rest) {
         Judgement::Whole
     } else {
         Judgement::Bad(FrameFault::WrongSize)
     }
 }
 
+// What the version shows that a HELLO names.
+fn judge_version(number: u16) -> Judgement
+    ensures { result ≡ (if number == 2 then Judgement.Whole else Judgement.Bad FrameFault.UnknownVersion) }
+{
+    if number == 2 {
+        Judgement::Whole
+    } else {
+        Judgement::Bad(FrameFault::UnknownVersion)
+    }
+}
+
 // What the bytes behind the kind show, with so many more behind them.
 fn judge_kind(size: usize, kind: FrameKind, rest: &[u8], behind: usize) -> Judgement
     requires right { is_wrong_size kind size ≡ false }
-    requires server { kind ≡ FrameKind.Ipcr → behind ≡ 0 }
+    requires server { is_pieced kind ≡ true → behind ≡ 0 }
     requires head { 0 < behind → sum (widths kind) ≤ length rest.now }
     requires few { length rest.now + behind < 2 ^ 64 }
     ensures { TellsBefore result behind (λ more. kind_known size (Some kind) (rest.now ++ more)) }
@@ -153,8 +176,11 @@ fn judge_kind(size: usize, kind: FrameKind, rest: &[u8], behind: usize) -> Judge
     if there < wanted {
         return Judgement::Short(wanted - there);
     }
+    if kind.is_pieced() {
+        return judge_pieces(size, kind, rest);
+    }
     match kind {
-        FrameKind::Ipcr => judge_pieces(size, rest),
+        FrameKind::HelloTwo => judge_version(read_u16(&rest[2..])),
         _ => Judgement::Whole,
     }
 }
@@ -171,7 +197,7 @@ fn judge_body(side: Side, size: usize, body: &[u8], behind: usize) -> Judgement
     let Some((byte, rest)) = body.split_first() else {
         return Judgement::Short(1);
     };
-    let Some(kind) = FrameKind::from_byte(side, *byte) else {
+    let Some(kind) = FrameKind::of(side, size, *byte) else {
         return Judgement::Bad(FrameFault::UnknownKind);
     };
     if kind.is_wrong_size(size) {

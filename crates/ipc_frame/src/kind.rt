@@ -1,7 +1,7 @@
 ghost use Rattle.std.specs.Prelude.{◌≡◌};
 ghost use Rattle.std.specs.Prelude.{sum, ◌≤◌};
 ghost use Rattle.ipc_frame.specs.Frames.{kind_byte, kinds, widths};
-ghost use Rattle.ipc_frame.specs.Reading.{kind_among, is_wrong_size};
+ghost use Rattle.ipc_frame.specs.Reading.{kind_among, kind_in, kind_with, is_pieced, is_wrong_size};
 
 /// Who reads a stream.
 #[derive(Clone, Copy, Debug, PartialEq, Eq)]
@@ -12,10 +12,11 @@ pub enum Side {
     Client,
 }
 
-/// The kinds of frames.
+/// The kinds of frames; those of version 2 whose fields differ are kinds of their own.
 #[derive(Clone, Copy, PartialEq, Eq)]
 pub(crate) enum FrameKind {
     Hello,
+    HelloTwo,
     Ipc,
     Exreg,
     Bye,
@@ -24,6 +25,8 @@ pub(crate) enum FrameKind {
     Exregr,
     Refused,
     Fault,
+    IpcrTwo,
+    ExregrTwo,
 }
 
 impl FrameKind {
@@ -32,7 +35,7 @@ impl FrameKind {
         ensures { result ≡ kind_byte self }
     {
         match self {
-            FrameKind::Hello => 0x01,
+            FrameKind::Hello | FrameKind::HelloTwo => 0x01,
             FrameKind::Ipc => 0x02,
             FrameKind::Exreg => 0x03,
             FrameKind::Bye => 0x04,
@@ -41,11 +44,13 @@ impl FrameKind {
             FrameKind::Exregr => 0x83,
             FrameKind::Refused => 0x84,
             FrameKind::Fault => 0x85,
+            FrameKind::IpcrTwo => 0x86,
+            FrameKind::ExregrTwo => 0x87,
         }
     }
 
-    /// The kind of a byte, among those that a side reads.
-    pub(crate) fn from_byte(side: Side, byte: u8) -> Option<FrameKind>
+    /// The kind of a byte, among those that a side reads; a HELLO is one of version 1.
+    fn from_byte(side: Side, byte: u8) -> Option<FrameKind>
         ensures { result ≡ kind_among (kinds side) byte }
     {
         match side {
@@ -62,9 +67,38 @@ impl FrameKind {
                 0x83 => Some(FrameKind::Exregr),
                 0x84 => Some(FrameKind::Refused),
                 0x85 => Some(FrameKind::Fault),
+                0x86 => Some(FrameKind::IpcrTwo),
+                0x87 => Some(FrameKind::ExregrTwo),
                 _ => None,
             },
         }
+    }
+
+    /// The kind of a body of this length: a HELLO of five bytes is one that names its version.
+    fn with(self, size: usize) -> FrameKind
+        ensures { result ≡ kind_with self size }
+    {
+        match self {
+            FrameKind::Hello if size == 5 => FrameKind::HelloTwo,
+            kind => kind,
+        }
+    }
+
+    /// The kind of a byte, among those that a side reads, of a body of this length.
+    pub(crate) fn of(side: Side, size: usize, byte: u8) -> Option<FrameKind>
+        ensures { result ≡ kind_in side size byte }
+    {
+        match FrameKind::from_byte(side, byte) {
+            Some(kind) => Some(kind.with(size)),
+            None => None,
+        }
+    }
+
+    /// Whether it is an IPCR.
+    pub(crate) fn is_pieced(self) -> bool
+        ensures { result ≡ is_pieced self }
+    {
+        matches!(self, FrameKind::Ipcr | FrameKind::IpcrTwo)
     }
 
     /// Whether a body of this length is no body of this kind.
@@ -73,6 +107,7 @@ impl FrameKind {
     {
         match self {
             FrameKind::Hello => size != 3,
+            FrameKind::HelloTwo => size != 5,
             FrameKind::Ipc => size < 46,
             FrameKind::Exreg => size != 17,
             FrameKind::Bye => size != 1,
@@ -81,6 +116,8 @@ impl FrameKind {
             FrameKind::Exregr => size != 25,
             FrameKind::Refused => size != 2,
             FrameKind::Fault => size != 3,
+            FrameKind::IpcrTwo => size < 50,
+            FrameKind::ExregrTwo => size != 33,
         }
     }
 
@@ -90,6 +127,7 @@ impl FrameKind {
     {
         match self {
             FrameKind::Hello => 2,
+            FrameKind::HelloTwo => 4,
             FrameKind::Ipc => 45,
             FrameKind::Exreg => 16,
             FrameKind::Bye => 0,
@@ -98,6 +136,8 @@ impl FrameKind {
             FrameKind::Exregr => 24,
             FrameKind::Refused => 1,
             FrameKind::Fault => 2,
+            FrameKind::IpcrTwo => 48,
+            FrameKind::ExregrTwo => 32,
         }
     }
 }

@@ -17,6 +17,7 @@ mod pieces;
 mod replies;
 mod scattering;
 mod telling;
+mod version;
 mod window;
 
 pub use decoder::Decoder;
@@ -32,6 +33,7 @@ pub use laws::{
     any_pieces, none_begins_another, read_is_spelled, short_is_exact, spelled_is_read, told_stays,
 };
 pub use replies::ipcr_of;
+pub use version::{CallEnd, WireVersion};
 
 #[cfg(test)]
 mod tests;

@@ -4,10 +4,11 @@ ghost use Rattle.ipc_items.specs.Pieces.{pieces_of_all};
 ghost use Rattle.ipc_items.specs.Placed.{placed};
 ghost use Rattle.ipc_frame.specs.Parts.{IsIpcr};
 ghost use Rattle.ipc_frame.specs.Making.{ipcr_fault};
-ghost use Rattle.ipc_frame.specs.Replies.{reply_of};
+ghost use Rattle.ipc_frame.specs.Replies.{end_of, reply_of};
 
 use crate::fault::FrameFault;
 use crate::ipcr::{IpcrFrame, IpcrParts, Placed};
+use crate::version::{CallEnd, WireVersion};
 use ipc_history::Outcome;
 use ipc_items::{BufferList, Piece, StringList, scatter};
 use std::alloc::{AllocError, Global};
@@ -42,14 +43,32 @@ fn owned(alloc: Global, pieces: &[Piece<'_>]) -> Result<Vec<Placed>, AllocError>
     Ok(copies)
 }
 
+/// What version 2 tells of the end of a call; version 1 tells nothing of it.
+pub(crate) fn end_of(version: WireVersion, outcome: &Outcome) -> Option<CallEnd>
+    ensures { result ≡ end_of version outcome.now }
+{
+    match version {
+        WireVersion::One => None,
+        WireVersion::Two => Some(CallEnd {
+            call: outcome.call,
+            moment: outcome.moment,
+        }),
+    }
+}
+
 // The parts of the frame that tells an outcome.
-fn reply_parts(alloc: Global, outcome: &Outcome) -> Result<IpcrParts, AllocError>
-    ensures { IfOk result (λ parts. parts ≡ reply_of outcome.now) }
+fn reply_parts(
+    alloc: Global,
+    version: WireVersion,
+    outcome: &Outcome,
+) -> Result<IpcrParts, AllocError>
+    ensures { IfOk result (λ parts. parts ≡ reply_of version outcome.now) }
 {
     let mut words = Vec::with_capacity(alloc, outcome.words.len())?;
     words.extend_from_slice(&outcome.words)?;
     let pieces = scattered(alloc, &outcome.buffers, &outcome.strings)?;
     Ok(IpcrParts {
+        end: end_of(version, outcome),
         tag: outcome.tag,
         sender: outcome.sender,
         actual: outcome.actual,
@@ -60,22 +79,27 @@ fn reply_parts(alloc: Global, outcome: &Outcome) -> Result<IpcrParts, AllocError
 }
 
 /// An outcome within its limits makes a frame. The limits are read from its fields.
-pub(crate) fn fits(outcome: &Outcome)
-    ensures is { IsIpcr (reply_of outcome.now) }
-    ensures fault { ipcr_fault (reply_of outcome.now) ≡ None }
+pub(crate) fn fits(version: WireVersion, outcome: &Outcome)
+    ensures is { IsIpcr (reply_of version outcome.now) }
+    ensures fault { ipcr_fault (reply_of version outcome.now) ≡ None }
 {
     let _words = &outcome.words;
     let strings = outcome.strings.len();
     let buffers = outcome.buffers.len();
 }
 
-/// The frame that tells the caller its outcome. F14: there is no memory.
-pub fn ipcr_of(alloc: Global, outcome: &Outcome) -> Result<IpcrFrame, FrameFault>
-    ensures ok { IfOk result (λ ipcr. ipcr ≡ reply_of outcome.now) }
+/// The frame that tells the caller its outcome, in the version of its connection. F14: there is no
+/// memory.
+pub fn ipcr_of(
+    alloc: Global,
+    version: WireVersion,
+    outcome: &Outcome,
+) -> Result<IpcrFrame, FrameFault>
+    ensures ok { IfOk result (λ ipcr. ipcr ≡ reply_of version outcome.now) }
     ensures memory { IfErr result (λ fault. fault ≡ FrameFault.NoMemory) }
 {
-    fits(outcome);
-    match reply_parts(alloc, outcome) {
+    fits(version, outcome);
+    match reply_parts(alloc, version, outcome) {
         Ok(parts) => IpcrFrame::new(parts),
         Err(_) => Err(FrameFault::NoMemory),
     }

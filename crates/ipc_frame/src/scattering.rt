@@ -1,5 +1,5 @@
 ghost use Rattle.std.specs.Prelude.{◌≡◌};
-ghost use Rattle.ipc_frame.specs.Replies.{reply_of};
+ghost use Rattle.ipc_frame.specs.Replies.{pieces_told};
 
 use ipc_history::Outcome;
 use ipc_items::{BufferList, Piece, Pieces, StringList, scatter};
@@ -33,7 +33,7 @@ impl<'a> Model for Scattered<'a> {
 impl<'a> Scattered<'a> {
     /// The pieces of an outcome.
     pub(crate) fn of(outcome: &'a Outcome) -> Self
-        ensures { result ≡ (reply_of outcome.now).pieces }
+        ensures { result ≡ pieces_told outcome.now }
     {
         Scattered {
             buffers: &outcome.buffers,

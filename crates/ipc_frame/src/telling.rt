@@ -1,14 +1,16 @@
 ghost use Rattle.std.specs.Prelude.{◌≡◌, ◌≤◌, ◌^◌, length};
 ghost use Rattle.ipc_words.specs.Limits.{max_frame_body};
 ghost use Rattle.ipc_frame.specs.Parts.{pieces_text, ipcr_size};
-ghost use Rattle.ipc_frame.specs.Frames.{kind_of, widths, fields_of, tail_of, spelling};
-ghost use Rattle.ipc_frame.specs.Replies.{reply_of, ipcr_of};
+ghost use Rattle.ipc_history.specs.Outcomes.{OutcomeParts};
+ghost use Rattle.ipc_frame.specs.Frames.{kind_byte, kind_of, widths, fields_of, tail_of, spelling};
+ghost use Rattle.ipc_frame.specs.Replies.{pieces_told, reply_of, ipcr_of};
 ghost use Rattle.ipc_frame.specs.Window.{page, passed, passed_numbers};
 
-use crate::encoding::put_words;
+use crate::encoding::{put_end, put_words};
 use crate::kind::FrameKind;
-use crate::replies::fits;
+use crate::replies::{end_of, fits};
 use crate::scattering::Scattered;
+use crate::version::WireVersion;
 use crate::window::Window;
 use ipc_history::Outcome;
 
@@ -21,10 +23,10 @@ pub(crate) struct Measure {
 
 /// The measure of the pieces of an outcome.
 fn measure_of(outcome: &Outcome) -> Measure
-    ensures pieces { result.pieces ≡ length (reply_of outcome.now).pieces }
-    ensures bytes { result.bytes ≡ length (pieces_text (reply_of outcome.now).pieces) }
+    ensures pieces { result.pieces ≡ length (pieces_told outcome.now) }
+    ensures bytes { result.bytes ≡ length (pieces_text (pieces_told outcome.now)) }
 {
-    fits(outcome);
+    fits(WireVersion::One, outcome);
     let mut measure = Measure {
         pieces: 0,
         bytes: 0,
@@ -37,23 +39,27 @@ fn measure_of(outcome: &Outcome) -> Measure
 }
 
 /// The body length of the frame that tells an outcome.
-pub(crate) fn reply_size(outcome: &Outcome) -> usize
-    ensures value { result ≡ ipcr_size (reply_of outcome.now) }
+pub(crate) fn reply_size(version: WireVersion, outcome: &Outcome) -> usize
+    ensures value { result ≡ ipcr_size (reply_of version outcome.now) }
     ensures within { result ≤ max_frame_body }
 {
-    fits(outcome);
+    fits(version, outcome);
     let measure = measure_of(outcome);
-    34 + 8 * outcome.words.len() + measure.bytes
+    let head = match version {
+        WireVersion::One => 34,
+        WireVersion::Two => 50,
+    };
+    head + 8 * outcome.words.len() + measure.bytes
 }
 
 // The pieces of the strings.
 fn put_scattered(window: &mut Window, out: &mut [u8], outcome: &Outcome)
     requires { window.old.filled ≤ length out.old }
     ensures shown { page window.new out.new
-        ≡ passed (pieces_text (reply_of outcome.now).pieces) (page window.old out.old) }
+        ≡ passed (pieces_text (pieces_told outcome.now)) (page window.old out.old) }
     ensures within { window.new.filled ≤ length out.new }
 {
-    fits(outcome);
+    fits(WireVersion::One, outcome);
     for piece in Scattered::of(outcome) {
         window.put_u64(out, piece.pointer);
         window.put_u32(out, piece.bytes.len() as u32);
@@ -65,10 +71,10 @@ fn put_scattered(window: &mut Window, out: &mut [u8], outcome: &Outcome)
 fn put_reply_tail(window: &mut Window, out: &mut [u8], outcome: &Outcome)
     requires { window.old.filled ≤ length out.old }
     ensures shown { page window.new out.new
-        ≡ passed (tail_of (ipcr_of outcome.now)) (page window.old out.old) }
+        ≡ passed (tail_of (ipcr_of WireVersion.One outcome.now)) (page window.old out.old) }
     ensures within { window.new.filled ≤ length out.new }
 {
-    fits(outcome);
+    fits(WireVersion::One, outcome);
     let measure = measure_of(outcome);
     put_words(window, out, &outcome.words);
     window.put_u8(out, measure.pieces as u8);
@@ -76,13 +82,14 @@ fn put_reply_tail(window: &mut Window, out: &mut [u8], outcome: &Outcome)
 }
 
 // The numbers after the kind, and the rest.
-fn put_reply_parts(window: &mut Window, out: &mut [u8], outcome: &Outcome)
+fn put_reply_parts(window: &mut Window, out: &mut [u8], version: WireVersion, outcome: &Outcome)
     requires { window.old.filled ≤ length out.old }
-    ensures shown { page window.new out.new ≡ passed (tail_of (ipcr_of outcome.now))
-        (passed_numbers (widths (kind_of (ipcr_of outcome.now))) (fields_of (ipcr_of outcome.now))
+    ensures shown { page window.new out.new ≡ passed (tail_of (ipcr_of version outcome.now))
+        (passed_numbers (widths (kind_of (ipcr_of version outcome.now))) (fields_of (ipcr_of version outcome.now))
         (page window.old out.old)) }
     ensures within { window.new.filled ≤ length out.new }
 {
+    put_end(window, out, end_of(version, outcome));
     window.put_u64(out, outcome.tag.to_word());
     window.put_u64(out, outcome.sender.to_word());
     window.put_u64(out, outcome.actual.to_word());
@@ -90,14 +97,29 @@ fn put_reply_parts(window: &mut Window, out: &mut [u8], outcome: &Outcome)
     put_reply_tail(window, out, outcome);
 }
 
-/// The spelling of the frame that tells an outcome.
-pub(crate) fn put_reply(window: &mut Window, out: &mut [u8], outcome: &Outcome)
+// The kind byte of the frame that tells an outcome.
+fn reply_byte(version: WireVersion) -> u8
+    ensures { (outcome : OutcomeParts) → result ≡ kind_byte (kind_of (ipcr_of version outcome)) }
+{
+    match version {
+        WireVersion::One => FrameKind::Ipcr.byte(),
+        WireVersion::Two => FrameKind::IpcrTwo.byte(),
+    }
+}
+
+/// The spelling of the frame that tells an outcome in a version.
+pub(crate) fn put_reply(
+    window: &mut Window,
+    out: &mut [u8],
+    version: WireVersion,
+    outcome: &Outcome,
+)
     requires { window.old.filled ≤ length out.old }
     ensures shown { page window.new out.new
-        ≡ passed (spelling (ipcr_of outcome.now)) (page window.old out.old) }
+        ≡ passed (spelling (ipcr_of version outcome.now)) (page window.old out.old) }
     ensures within { window.new.filled ≤ length out.new }
 {
-    window.put_u32(out, reply_size(outcome) as u32);
-    window.put_u8(out, FrameKind::Ipcr.byte());
-    put_reply_parts(window, out, outcome);
+    window.put_u32(out, reply_size(version, outcome) as u32);
+    window.put_u8(out, reply_byte(version));
+    put_reply_parts(window, out, version, outcome);
 }

@@ -103,6 +103,13 @@ none_there number (e ∷ held) called none =
     let here : call_in number e ≡ None = silent_call number e (none 0 (omega arith) e) in
     none_there number held (rw here at called) (λ k h d. none (suc k) (omega (arith, h)) d)
 
+pub not_called : (number : ℕ) (held : List Entry) → ((k : ℕ) → k < length held → (d : Entry) → calls number (slice_index_or held k d) ≡ false) → is_called held number ≡ false
+not_called number held none = go (is_called held number) refl
+  where
+    go : (b : Bool) → is_called held number ≡ b → is_called held number ≡ false
+    go false is = is
+    go true is = absurd (none_there number held is none)
+
 nil_is_over : (a b s f t : Bool) → f ≡ true → t ≡ true → (a || b || (f && (s || t))) ≡ true
 nil_is_over a b s f t p q = grind arith
 

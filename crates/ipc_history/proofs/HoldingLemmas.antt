@@ -1,24 +1,25 @@
 -- What is held: at the start, after one more entry, and where some are let go.
 use Rattle.std.proofs.lemmas.Bool.{false≢true, true≢false}
 use Rattle.std.proofs.lemmas.List.{drop-append-le, drop-drop, length_push, take-append-drop}
-use lib.Seq.{take-add}
+use lib.Seq.{take-add, take-append_seam, drop-append_seam}
 use Rattle.std.proofs.lemmas.List.Elements.{All-nil, All-append, All-cons, All-head, All-tail, All-take, All-drop, All-push, All-weaker, All-contains_itself, Contains-append_left, Contains-push}
-use Rattle.std.proofs.Common.{◌≡◌, refl, sym, ap, ◌∙◌, ℕ, ◌+◌, ◌-◌, ◌^◌, ◌<◌, ◌≤◌, Bool, true, false, ◌||◌, ◌&&◌, List, [], ◌∷◌, ◌++◌, length, take, drop, Option, Some, None, is_some, All, Contains, if◌then◌else◌, nat_lt, arith}
+use Rattle.std.proofs.Common.{◌≡◌, refl, sym, ap, ◌∙◌, subst, slice_index_or, ℕ, ◌+◌, ◌-◌, ◌^◌, ◌<◌, ◌≤◌, Bool, true, false, ◌||◌, ◌&&◌, List, [], ◌∷◌, ◌++◌, length, take, drop, Option, Some, None, is_some, All, Contains, if◌then◌else◌, nat_lt, arith}
 use Rattle.std.specs.List.{list_any}
 use Rattle.std.specs.Option.{option_or}
 use Rattle.ipc_history.specs.CallParts.{CallParts}
 use Rattle.ipc_history.specs.Calls.{call_at, caller_of, from_of, is_called, to_of}
 use Rattle.ipc_history.specs.Entries.{call_in, calls, closes, ends_send, breaks}
-use Rattle.ipc_history.specs.Holding.{Holds, IsHeld, reached}
+use Rattle.ipc_history.specs.Holding.{HasCall, Holds, IsHeld, reached}
 use Rattle.ipc_history.specs.Keeping.{is_at, keeps, kept_ahead}
 use Rattle.ipc_history.specs.HistoryParts.{HeldParts, HistoryParts}
+use Rattle.ipc_history.specs.Legal.{Legal}
 use Rattle.ipc_history.specs.Phases.{is_over, is_sent}
 use Rattle.ipc_history.specs.Threads.{has_broken}
 use Rattle.ipc_history.specs.Words.{first_some}
 use Rattle.ipc_history.specs.declared.entry.Entry.{Entry}
 use Rattle.ipc_history.specs.declared.entry.Entry.TheVariants.{Given, Written}
 use Rattle.ipc_history.specs.declared.entry.Input.TheVariants.{At, Opened, Called, Exreg, Broke, Moved}
-use Rattle.ipc_history.proofs.EnteredOnce.{open_was_entered, silent_call}
+use Rattle.ipc_history.proofs.EnteredOnce.{entered_once, open_was_entered, silent_call}
 
 any_first : (b : Bool) (xs ys : Bool) → (xs ≡ true → ys ≡ true) → (b || xs) ≡ true → (b || ys) ≡ true
 any_first true xs ys up h = refl
@@ -134,7 +135,7 @@ or_either : (a b c : Bool) → (a ≡ true → c ≡ true) → (a || b) ≡ true
 or_either true b c h o = let up = h refl in grind arith
 or_either false b c h o = grind arith
 
-called_is : (n : ℕ) (e : Entry) → is_some (call_in n e) ≡ true → calls n e ≡ true
+pub called_is : (n : ℕ) (e : Entry) → is_some (call_in n e) ≡ true → calls n e ≡ true
 called_is n e h = go (calls n e) refl
   where
     go : (b : Bool) → calls n e ≡ b → calls n e ≡ true
@@ -160,6 +161,28 @@ kept_holds P held now test behind kept holds keeps front rest =
       among = All-append (Contains P) few (drop behind held) (All-kept (Contains P) test (take behind held) (drop behind held) (All-take (Contains P) behind held holds.among)) (All-drop (Contains P) behind held holds.among);
       called = λ n o. some_any n _ ∙ (any_append _ few (drop behind held) ∙ or_either _ _ _ (any_kept test (λ e. is_some (call_in n e)) P (take behind held) (drop behind held) (λ e inside h. (no_moment n e (called_is n e h), keeps n e o inside (called_is n e h))) (All-take (Contains P) behind held holds.among)) (sym (any_append _ (take behind held) (drop behind held)) ∙ (ap (list_any _) (take-append-drop behind held) ∙ (sym (some_any n held) ∙ holds.called n o))));
     })
+
+called_both : (xs ys : List Entry) (n : ℕ) → is_called (xs ++ ys) n ≡ (is_called xs n || is_called ys n)
+called_both xs ys n = some_any n (xs ++ ys) ∙ (any_append _ xs ys ∙ rw (some_any n xs, some_any n ys) refl)
+
+-- the entries that are held in two pieces: those of each are of the past, and each open call is in one
+module _ (P held since : List Entry) (holds : Holds P (held ++ since)) where
+  pub first_among : All (Contains P) held
+  first_among = subst (All (Contains P)) (take-append_seam held since) (All-take (Contains P) (length held) (held ++ since) holds.among)
+
+  pub second_among : All (Contains P) since
+  second_among = subst (All (Contains P)) (drop-append_seam held since) (All-drop (Contains P) (length held) (held ++ since) holds.among)
+
+  pub in_neither : (n : ℕ) → is_over P n ≡ false → is_called held n ≡ false → is_called since n ≡ false → ⊥
+  in_neither n o one other = false≢true (sym (called_both held since n ∙ rw (one, other) refl) ∙ holds.called n o)
+
+-- an entry of a legal past that enters a call
+pub entered_by : (P piece : List Entry) → Legal P → All (Contains P) piece → (n place : ℕ) (found : Entry) → HasCall piece place n → found ≡ slice_index_or piece place found → call_at P n ≡ call_in n found
+entered_by P piece legal all n place found has is =
+    let here : slice_index_or piece place found ≡ found = sym is in
+    let among : Contains P found = subst (Contains P) here (all place found has.0) in
+    let enters = ap (calls n) among.2 ∙ (ap (calls n) (sym here) ∙ has.1 found) in
+    entered_once P legal n among.0 among.1 found enters ∙ ap (call_in n) among.2
 
 module _ (P items : List Entry) (kept gone : ℕ) (was : IsHeld P items kept gone) where
   -- what stands from a place of the past on

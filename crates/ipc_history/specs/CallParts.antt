@@ -1,5 +1,5 @@
 -- A call of Ipc (L4 X.2 manual, Ipc), and which calls are in normal form.
-use Rattle.std.specs.Prelude.{ℕ, ◌+◌, ◌*◌, ◌^◌, List, [], Bool, ◌&&◌, ◌||◌, not, Option, is_none}
+use Rattle.std.specs.Prelude.{ℕ, ◌+◌, ◌*◌, List, [], Bool, ◌&&◌, ◌||◌, not, Option, is_none}
 use Rattle.std.specs.Prelude.{unwrap_or, length, sum_by, nat_lt, nat_le, ◌==◌}
 use Rattle.ipc_words.specs.ThreadId.{nilthread}
 use Rattle.ipc_words.specs.MsgTag.{untyped_of, typed_of, propagates, redirects, crosses, has_failed}

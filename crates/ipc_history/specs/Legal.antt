@@ -1,14 +1,14 @@
 -- What may follow, and what a history is.
-use Rattle.std.specs.Prelude.{◌≡◌, ℕ, ◌+◌, ◌-◌, ◌^◌, List, ◌∷◌, ◌++◌, Bool, false, ◌&&◌, not}
-use Rattle.std.specs.Prelude.{Option, Some, None, find, min, is_none, IsTrue, nat_lt, nat_le, ◌==◌}
+use Rattle.std.specs.Prelude.{◌≡◌, ℕ, ◌+◌, List, ◌∷◌, ◌++◌, Bool, false, ◌&&◌, not}
+use Rattle.std.specs.Prelude.{Option, Some, None, find, is_none, IsTrue, nat_lt, nat_le, ◌==◌}
 use Rattle.std.specs.Option.{option_map_or}
 use Rattle.ipc_words.specs.Limits.{max_thread_number, max_space, last_moment}
 use Rattle.ipc_words.specs.ThreadId.{number_of, version_of}
 use Rattle.ipc_words.specs.Control.{is_masked}
 use Rattle.ipc_history.specs.CallParts.{is_normal}
-use Rattle.ipc_history.specs.Calls.{numbers, calls_made, message_size}
+use Rattle.ipc_history.specs.Calls.{numbers, calls_made}
 use Rattle.ipc_history.specs.Threads.{now, is_live, is_taken, next_version}
-use Rattle.ipc_history.specs.Phases.{receiver_of, open_call, is_transferring, moved_bytes}
+use Rattle.ipc_history.specs.Phases.{receiver_of, open_call, is_transferring}
 use Rattle.ipc_history.specs.Blocks.{block_of}
 use Rattle.ipc_history.specs.NextOutput.{next_output}
 use Rattle.ipc_history.specs.declared.entry.Entry.{Entry}

@@ -1,6 +1,6 @@
 -- The one output that comes next. Our choice (docs/PROFILE.md): the six rules, their order, and of
 -- several calls the least number first.
-use Rattle.std.specs.Prelude.{ℕ, ◌+◌, ◌*◌, ◌≤◌, List, [], ◌∷◌, Bool, ◌&&◌, ◌||◌, not, Option, Some}
+use Rattle.std.specs.Prelude.{ℕ, ◌≤◌, List, [], ◌∷◌, Bool, ◌&&◌, ◌||◌, not, Option, Some}
 use Rattle.std.specs.Prelude.{None, option_map, option_and_then, ◌==◌, if◌then◌else◌}
 use Rattle.std.specs.List.{list_any}
 use Rattle.std.specs.Option.{option_or, option_map_or}

@@ -1,4 +1,4 @@
-ghost use Rattle.std.specs.Prelude.{◌≡◌, Some, IsFalse, IsTrue};
+ghost use Rattle.std.specs.Prelude.{◌≡◌, ◌++◌, Some, IfSome, IsFalse, IsNone, IsTrue};
 ghost use Rattle.ipc_history.specs.Calls.{call_at, is_called};
 ghost use Rattle.ipc_history.specs.Entries.{call_in, calls};
 ghost use Rattle.ipc_history.specs.Holding.{HasCall, Holds};
@@ -16,11 +16,13 @@ use std::marker::Model;
 #[derive(Drop)]
 pub struct Entries<'a> {
     past: &'a Past<Entry>,
+    // what memory holds, in two pieces
     held: &'a [Entry],
+    since: &'a [Entry],
 }
 
 impl<'a> Model for Entries<'a> {
-    ghost use Rattle.std.specs.Prelude.{List};
+    ghost use Rattle.std.specs.Prelude.{List, ◌++◌};
     ghost use Rattle.ipc_history.specs.Holding.{Holds};
     ghost use Rattle.ipc_history.specs.declared.entry.Entry.{Entry};
 
@@ -28,31 +30,31 @@ impl<'a> Model for Entries<'a> {
 
     ghost view = { λ e. e.past.now };
 
-    ghost invariant = { λ e. Holds e.past.now e.held.now };
+    ghost invariant = { λ e. Holds e.past.now (e.held.now ++ e.since.now) };
 }
 
-/// The place of the entry that enters a call, by a walk.
-fn place_by_walk(held: &[Entry], number: u64) -> usize
-    requires { IsTrue (is_called held.now number) }
-    ensures { HasCall held.now result number }
+/// The place of the entry that enters a call, by a walk; None where there is none.
+fn place_by_walk(held: &[Entry], number: u64) -> Option<usize>
+    ensures found { IfSome result (λ place. HasCall held.now place number) }
+    ensures none { IsNone result → IsFalse (is_called held.now number) }
 {
     for place in 0..held.len() {
         if held[place].calls(number) {
-            return place;
+            return Some(place);
         }
     }
-    unreachable!()
+    None
 }
 
-/// The place of the entry that enters a call, which is looked for first at a place.
-fn place_of(held: &[Entry], number: u64, hint: usize) -> usize
-    requires { IsTrue (is_called held.now number) }
-    ensures { HasCall held.now result number }
+/// A place, where the entry there enters a call.
+fn place_at(held: &[Entry], number: u64, hint: usize) -> Option<usize>
+    ensures { IfSome result (λ place. HasCall held.now place number) }
 {
     if hint < held.len() && held[hint].calls(number) {
-        return hint;
+        Some(hint)
+    } else {
+        None
     }
-    place_by_walk(held, number)
 }
 
 /// The caller and the call of an entry that enters it.
@@ -72,7 +74,11 @@ impl<'a> Entries<'a> {
         requires { held.now ≡ past.now }
         ensures { result ≡ past.now }
     {
-        Entries { past, held }
+        Entries {
+            past,
+            held,
+            since: &[],
+        }
     }
 
     /// A past, and what memory holds of it.
@@ -80,7 +86,19 @@ impl<'a> Entries<'a> {
         requires { Holds past.now held.now }
         ensures { result ≡ past.now }
     {
-        Entries { past, held }
+        Entries {
+            past,
+            held,
+            since: &[],
+        }
+    }
+
+    /// A past, and what memory holds of it in two pieces: entries of it alone, and that of each open call.
+    pub fn of_pieces(past: &'a Past<Entry>, held: &'a [Entry], since: &'a [Entry]) -> Entries<'a>
+        requires { Holds past.now (held.now ++ since.now) }
+        ensures { result ≡ past.now }
+    {
+        Entries { past, held, since }
     }
 
     /// The caller and the parts of an open call, whose entry is looked for first at a place among those that memory holds. Any
@@ -91,12 +109,24 @@ impl<'a> Entries<'a> {
         ensures { call_at self.now number ≡ Some (result.0, result.1.now) }
     {
         let held = self.held;
-        let place = place_of(held, number, hint);
-        call_of(&held[place], number)
+        let since = self.since;
+        if let Some(place) = place_at(held, number, hint) {
+            return call_of(&held[place], number);
+        }
+        if let Some(place) = place_at(since, number, hint.wrapping_sub(held.len())) {
+            return call_of(&since[place], number);
+        }
+        if let Some(place) = place_by_walk(held, number) {
+            return call_of(&held[place], number);
+        }
+        match place_by_walk(since, number) {
+            Some(place) => call_of(&since[place], number),
+            None => unreachable!(),
+        }
     }
 
     /// Where memory will hold the next entry: the place for [`Entries::call`], where that enters a call.
     pub fn next_place(&self) -> usize {
-        self.held.len()
+        self.held.len().saturating_add(self.since.len())
     }
 }

@@ -1,10 +1,11 @@
--- Each number has at most one live thread, and the numbers are from 1 to 255.
+-- Each number has at most one live thread, and the numbers are from 1 to the greatest.
 use Rattle.std.proofs.lemmas.Bool.{false≢true, false_from_ne_true, leb-true, eqb-false}
 use Rattle.std.proofs.lemmas.List.Folds.{list_any-append}
 use Rattle.std.proofs.lemmas.List.Elements.{filter_map-append}
 use Rattle.std.proofs.lemmas.List.Sums.{sum_by_push, sum_by-le-sum_by}
 use Rattle.std.proofs.Common.{◌≡◌, refl, sym, ap, ◌∙◌, ℕ, ◌+◌, ◌≤◌, zero, suc, zero-le, le_trans, Bool, true, false, not, ◌||◌, ◌&&◌, ◌==◌, eq-eqb, eqb-true, cond, List, [], ◌∷◌, ◌++◌, append_assoc, map, length, Option, Some, None, filter_map, sum_by, count_by, arith}
 use Rattle.std.specs.List.{list_any, cons_option}
+use Rattle.ipc_words.specs.Limits.{max_outputs, max_thread_number}
 use Rattle.ipc_words.specs.ThreadId.{number_of}
 use Rattle.ipc_history.specs.Entries.{opened_in, opens, breaks, thread_in}
 use Rattle.ipc_history.specs.Threads.{has_broken, was_opened, is_live, is_taken}
@@ -66,9 +67,9 @@ pub opened_free : (P : List Entry) (t space : ℕ) → is_admissible P (Opened t
 unfolding is_admissible may_open
 opened_free P t space h = refuted _ (right _ _ (left _ _ (left _ _ (left _ _ h))))
 
-opened_within : (P : List Entry) (t space : ℕ) → is_admissible P (Opened t space) ≡ true → (1 ≤ number_of t) × (number_of t ≤ 255)
+opened_within : (P : List Entry) (t space : ℕ) → is_admissible P (Opened t space) ≡ true → (1 ≤ number_of t) × (number_of t ≤ max_thread_number)
 unfolding is_admissible may_open
-opened_within P t space h = let both = left _ _ (left _ _ (left _ _ (left _ _ h))) in (leb-true 1 (number_of t) (left _ _ both), leb-true (number_of t) 255 (right _ _ both))
+opened_within P t space h = let both = left _ _ (left _ _ (left _ _ (left _ _ h))) in (leb-true 1 (number_of t) (left _ _ both), leb-true (number_of t) max_thread_number (right _ _ both))
 
 -- Each entry keeps it
 
@@ -137,7 +138,7 @@ ones f zero h = zero-le
 ones f (suc k) h = omega (arith, sum_by_push f (up_to k) (suc k), h (suc k), ones f k h)
 
 module _ (P : List Entry) (h : Legal P) where
-  within : (x : ℕ) → Place (threads P) x → (1 ≤ number_of x) × (number_of x ≤ 255)
+  within : (x : ℕ) → Place (threads P) x → (1 ≤ number_of x) × (number_of x ≤ max_thread_number)
   within x at =
       let p = opened_at P x (thread_was_opened P x at) in
       opened_within p.1.front x p.0 (admitted_at P h (Opened x p.0) p.1)
@@ -157,10 +158,10 @@ module _ (P : List Entry) (h : Legal P) where
           same : (b : Bool) → cond b 1 0 ≤ cond (b && true) 1 0
           same b = grind arith
 
-  pub live_bound : live_threads P ≤ 255
-  live_bound = counted 255 within
+  pub live_bound : live_threads P ≤ max_thread_number
+  live_bound = counted max_thread_number within
 
-pub outputs_most : (P : List Entry) (i : Input) (os : List Output) → Legal (P ++ Given i ∷ map Written os) → length os ≤ 1020
+pub outputs_most : (P : List Entry) (i : Input) (os : List Output) → Legal (P ++ Given i ∷ map Written os) → length os ≤ max_outputs
 outputs_most P i os h =
     let legal : Legal (P ++ Given i ∷ []) = legal_front (P ++ Given i ∷ []) (map Written os) (rw (append_assoc P (Given i ∷ []) (map Written os)) h) in
     omega (arith, outputs_bound P i os h, live_bound (P ++ Given i ∷ []) legal)

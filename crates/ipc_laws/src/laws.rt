@@ -105,7 +105,7 @@ pub fn inputs_touch_few()
     ensures moved { MovedEnds }
 {}
 
-/// The outputs after an input come to an end: at most four for each live thread, so 1,020.
+/// The outputs after an input come to an end: at most four for each live thread.
 pub fn outputs_end()
     ensures fall { StepsFall }
     ensures bound { StepsBound }

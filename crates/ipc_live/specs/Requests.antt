@@ -38,4 +38,4 @@ FailsRequest old new (request.Call to message send receive buffers) error =
 FailsRequest old new (request.ReplyWait to message receive buffers) error =
     FailsCall old new (ipc_of to anythread (timeouts_of receive no_time) message buffers) error
 FailsRequest old new (request.ExchangeRegisters dest control) error =
-    Fails answers_exchange old new (frame.Exreg dest control) error
+    Fails (answers_exchange old.version) old new (frame.Exreg dest control) error

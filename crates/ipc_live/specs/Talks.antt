@@ -2,6 +2,7 @@
 use Rattle.std.specs.Prelude.{◌≡◌, ℕ, List, [], ◌∷◌, Result, Ok, Err, Option, Some, None, ⊤, ◌⊎◌}
 use Rattle.ipc_frame.specs.declared.frame.Frame.{Frame}
 use Rattle.ipc_frame.specs.declared.frame.Frame.TheVariants as frame
+use Rattle.ipc_frame.specs.declared.version.WireVersion.TheVariants.{One}
 use Rattle.ipc_client.specs.Asking.{Answers, Fails, FailsBye, SaysBye, greets}
 use Rattle.ipc_client.specs.ClientParts.{ClientParts}
 use Rattle.ipc_live.specs.Requests.{FailsRequest, request_frame}
@@ -69,12 +70,12 @@ EndsVisit old new other = ⊥
 -- HELLO went out and was answered with an id, and then the talk of that thread ended so
 abbrev pub EndsWelcomed : ℕ → ClientParts → ClientParts → Ending → Type 0
 EndsWelcomed number old new ending = (id : ℕ) × (greeted : ClientParts)
-    × Answers old greeted (frame.Hello number) (frame.Welcome id) × EndsVisit greeted new ending
+    × Answers old greeted (frame.Hello number One) (frame.Welcome id) × EndsVisit greeted new ending
 
 -- how a talk ended, and what went over the connection
 abbrev pub EndsTalk : ℕ → ClientParts → ClientParts → Ending → Type 0
 EndsTalk number old new NoMemory = ⊤
-EndsTalk number old new (Refused refusal) = Answers old new (frame.Hello number) (frame.Refused refusal)
-EndsTalk number old new (Ended error) = Fails greets old new (frame.Hello number) error
+EndsTalk number old new (Refused refusal) = Answers old new (frame.Hello number One) (frame.Refused refusal)
+EndsTalk number old new (Ended error) = Fails greets old new (frame.Hello number One) error
     ⊎ EndsWelcomed number old new (Ended error)
 EndsTalk number old new ending = EndsWelcomed number old new ending

@@ -42,6 +42,7 @@ fn tell_registers(
             result,
             control,
             code,
+            moment: _,
         } => {
             let phases = HexText(control.to_word());
             write!(text, "= {} {phases} {}    ", IdText(result), HexText(code))?;

@@ -13,6 +13,7 @@ use Rattle.ipc_core.specs.declared.command.Answer.TheVariants.{Opened, Entered, 
 use Rattle.ipc_core.specs.declared.command.Command.{Command}
 use Rattle.ipc_core.specs.declared.command.Command.TheVariants.{Open, Enter, Exreg, Broke, At, Advance, Take}
 use Rattle.ipc_core.specs.declared.refusal.Refusal.TheVariants.{NoThread}
+use Rattle.ipc_frame.specs.declared.version.WireVersion.{WireVersion}
 use Rattle.ipc_connection.specs.Replying.{told_of}
 use Rattle.ipc_connection.specs.declared.asking.Request.{Request}
 use Rattle.ipc_connection.specs.declared.asking.Request.TheVariants as request
@@ -95,12 +96,12 @@ pub record ActsOn {C : Type 0} (old new : KernelParts) (now : ℕ) (seat : Optio
   pub lets_go : MayLetGo old before
   pub acts : Acts before new now seat command answer
 
--- a step of a connection's reader, told as its answer is
-pub record AsksOn {C : Type 0} (old new : KernelParts) (now : ℕ) (seat : Option (CallSeat C)) (command : Command)
-    (said : Told) : Type 0 where
+-- a step of a connection's reader, told as its answer is, at the moment after it
+pub record AsksOn {C : Type 0} (old new : KernelParts) (now : ℕ) (seat : Option (CallSeat C)) (version : WireVersion)
+    (command : Command) (said : Told) : Type 0 where
   pub answer : Answer
   pub acts : ActsOn old new now seat command answer
-  pub told_is : said ≡ told_of answer
+  pub told_is : said ≡ told_of version new.moment answer
 
 -- an answer to a step: of its kind and of its thread. The seat rises by an accepted call and stays else; an open makes one
 unfoldable pub AnswersStep : {C : Type 0} → Option (CallSeat C) → Command → Answer → Option (CallSeat C) → Type 0
@@ -131,9 +132,10 @@ HandsBack command answer back = ⊤
 -- a reader's request, what it was told, and the seat of its end: of the request's kind, and by the seat of its own thread
 unfoldable pub Asked : {C : Type 0} → Told → Request → Option (CallSeat C) → Option (CallSeat C) → Type 0
 Asked (told.Refused refusal) asked seat after = SitsStill seat after
-Asked (told.Opened thread) (request.Open number) seat after = Sits after thread × (number_of thread ≡ number)
+Asked (told.Opened thread named) (request.Open number version) seat after =
+    Sits after thread × (number_of thread ≡ number) × (named ≡ version)
 Asked told.Entered (request.Enter thread call) seat after = RisesFor thread seat after
-Asked (told.Exchanged result stopped code) (request.Exreg thread target control) seat after =
+Asked (told.Exchanged result stopped code moment) (request.Exreg thread target control) seat after =
     SitsFor seat thread × SitsStill seat after
 Asked _ _ seat after = ⊥
 

@@ -4,6 +4,7 @@ use Rattle.ipc_core.specs.KernelParts.{KernelParts}
 use Rattle.ipc_core.specs.Effects.{Gives}
 use Rattle.ipc_frame.specs.Frames.{spelling}
 use Rattle.ipc_frame.specs.declared.frame.Frame.{Frame}
+use Rattle.ipc_frame.specs.declared.version.WireVersion.{WireVersion}
 use Rattle.ipc_connection.specs.Replying.{reply}
 use Rattle.ipc_connection.specs.declared.replying.Told.{Told}
 use Rattle.ipc_pen.specs.declared.given.Given.{Given}
@@ -24,8 +25,8 @@ pub record RisenTake {T : Type 0} (seat after : TakeSeat T) : Type 0 where
 
 -- the seat of a box that gave this: an outcome is given by a seat alone
 abbrev pub SeatAfter : {T : Type 0} → Option (TakeSeat T) → Option Given → Option (TakeSeat T) → Type 0
-SeatAfter None (Some (given.Outcome outcome)) after = ⊥
-SeatAfter (Some seat) (Some (given.Outcome outcome)) (Some after) = RisenTake seat after
+SeatAfter None (Some (given.Outcome version outcome)) after = ⊥
+SeatAfter (Some seat) (Some (given.Outcome version outcome)) (Some after) = RisenTake seat after
 SeatAfter (Some seat) next (Some after) = StillSeat seat after
 SeatAfter None next None = ⊤
 SeatAfter _ _ _ = ⊥
@@ -33,19 +34,19 @@ SeatAfter _ _ _ = ⊥
 -- an outcome goes first: it is that of the last call of the seat's thread, and where anything else comes there was none to take
 abbrev pub LooksFirst : {T : Type 0} → KernelParts → KernelParts → Option (TakeSeat T) → Option Given → Type 0
 LooksFirst old new None next = new ≡ old
-LooksFirst old new (Some seat) (Some (given.Outcome outcome)) = Gives old new seat.thread (Some outcome)
+LooksFirst old new (Some seat) (Some (given.Outcome version outcome)) = Gives old new seat.thread (Some outcome)
 LooksFirst old new (Some seat) next = TakesNothing old new seat.thread seat.taken
 
--- the frame of what was posted
-abbrev pub frame_posted : Option Told → Option Frame
-frame_posted None = None
-frame_posted (Some told) = reply told
+-- the frame of what was posted, in the version of the box
+abbrev pub frame_posted : WireVersion → Option Told → Option Frame
+frame_posted version None = None
+frame_posted version (Some told) = reply version told
 
--- a frame that is given is that of what was posted
-abbrev pub ComesOut : Option Told → Option Given → Type 0
-ComesOut posted (Some (given.Frame frame)) = frame_posted posted ≡ Some frame
-ComesOut posted (Some (given.Outcome outcome)) = ⊤
-ComesOut posted None = frame_posted posted ≡ None
+-- a frame that is given is that of what was posted, in the version of the box, and so is an outcome
+abbrev pub ComesOut : WireVersion → Option Told → Option Given → Type 0
+ComesOut version posted (Some (given.Frame frame)) = frame_posted version posted ≡ Some frame
+ComesOut version posted (Some (given.Outcome told outcome)) = told ≡ version
+ComesOut version posted None = frame_posted version posted ≡ None
 
 -- outcomes may have been taken, and nothing else was done: no step was made
 pub record OnlyTakes (old new : KernelParts) : Type 0 where
@@ -67,11 +68,11 @@ GoesOn None next pen = ⊥
 GoesOn (Some before) next pen = GivesOne before next pen
 
 -- the pen of a box was taken out with what is told next
-pub record Loads {T : Type 0} (old new : KernelParts) (seat : Option (TakeSeat T)) (posted : Option Told)
-    (before : Option Page) (pen : Page) : Type 0 where
+pub record Loads {T : Type 0} (old new : KernelParts) (seat : Option (TakeSeat T)) (version : WireVersion)
+    (posted : Option Told) (before : Option Page) (pen : Page) : Type 0 where
   pub next : Given
   pub first : LooksFirst old new seat (Some next)
-  pub out : ComesOut posted (Some next)
+  pub out : ComesOut version posted (Some next)
   pub goes_on : GoesOn before next pen
 
 -- the pen lies in its box and is at its end

@@ -1,5 +1,5 @@
 //! What stands under the lock: the kernel with its books, and the boxes of the connections.
-ghost use Rattle.ipc_connection.specs.Asking.{command_of};
+ghost use Rattle.ipc_connection.specs.Asking.{command_of, version_asked};
 ghost use Rattle.std.specs.Prelude.{◌≡◌, ◌+◌, ◌*◌, ◌≤◌, IfSome, IfNone, length};
 ghost use Rattle.ipc_core.specs.Effects.{Gives};
 ghost use Rattle.ipc_core.specs.Outcomes.{made_by};
@@ -19,8 +19,9 @@ use crate::post_box::{PostBox, Work};
 use crate::rest::Rest;
 use crate::seated::{Answered, CallSeat, Locked, TakeSeat, Taken};
 use crate::upkeep::Upkeep;
-use ipc_connection::{Request, Told, command_of, told_of};
+use ipc_connection::{Request, Told, command_of, told_of, version_asked};
 use ipc_core::Command;
+use ipc_frame::WireVersion;
 use ipc_history::Entry;
 use ipc_pen::{Pen, PenPort};
 use ipc_words::ThreadId;
@@ -126,12 +127,14 @@ impl<C: Ledger, T: Ledger, P: PenPort + Drop> Inside<C, T, P> {
         request: Request,
         space: u64,
     ) -> (Told, Option<CallSeat<C>>)
-        ensures asks { AsksOn self.old.locked.kernel self.new.locked.kernel now seat (command_of request space) result.0 }
+        ensures asks { AsksOn self.old.locked.kernel self.new.locked.kernel now seat
+            (version_asked request WireVersion.One) (command_of request space) result.0 }
         ensures asked { Asked result.0 request seat result.1 }
     {
+        let version = version_asked(&request, WireVersion::One);
         let command = command_of(request, space);
         let (answer, calls, takes) = self.act(now, seat, command).into_parts();
-        let told = told_of(answer);
+        let told = told_of(version, self.locked.now(), answer);
         let said = told;
         self.tell(place, said, takes);
         (told, calls)
@@ -143,12 +146,12 @@ impl<C: Ledger, T: Ledger, P: PenPort + Drop> Inside<C, T, P> {
         ensures locked { self.new.locked ≡ self.old.locked }
     {
         match told {
-            Told::Opened(_) => {
+            Told::Opened(_, version) => {
                 if let Some(seat) = takes {
-                    self.welcome(place, seat);
+                    self.welcome(place, seat, version);
                 }
             }
-            Told::Exchanged(_, _, _) => self.post(place, told),
+            Told::Exchanged(_, _, _, _) => self.post(place, told),
             Told::Entered | Told::Refused(_) | Told::Faulted(_, _) | Told::Left => {}
         }
     }
@@ -294,14 +297,14 @@ impl<C: Ledger, T: Ledger, P: PenPort + Drop> Inside<C, T, P> {
     }
 
     /// The seat's thread is told in this box from here on, first of all its WELCOME.
-    fn welcome(&mut self, place: usize, seat: TakeSeat<T>)
+    fn welcome(&mut self, place: usize, seat: TakeSeat<T>, version: WireVersion)
         ensures locked { self.new.locked ≡ self.old.locked }
     {
         if let Some(owner) = self.owners.get_mut(seat.thread().number() as usize) {
             *owner = Some(place);
         }
         if let Some(post_box) = self.boxes.get_mut(place) {
-            post_box.welcome(seat);
+            post_box.welcome(seat, version);
         }
     }
 

@@ -1,11 +1,13 @@
 //! The box of a connection: what its client is told next, and the pen that writes it.
 ghost use Rattle.std.specs.Prelude.{◌≡◌, ◌≢◌, None, Some, true, false, IfOk, OnOk, OnErr, IfErr, IfSome, IfNone, is_some, ◌||◌, not};
 ghost use Rattle.ipc_connection.specs.declared.replying.Told.TheVariants as told;
+ghost use Rattle.ipc_frame.specs.declared.version.WireVersion.TheVariants.{One};
 ghost use Rattle.ipc_lock.specs.Boxes.{ComesOut, Loads, LooksFirst, NewPen, OnlyTakes, SeatAfter, TellsNothing, is_idle, is_own};
 ghost use Rattle.ipc_pen.specs.Pens.{BeginsEmpty};
 
 use crate::seated::{Locked, TakeSeat};
 use ipc_connection::{Told, reply};
+use ipc_frame::WireVersion;
 use ipc_pen::{Given, Pen, PenPort};
 use ipc_words::ThreadId;
 use std::alloc::{AllocError, Global};
@@ -25,6 +27,8 @@ pub(crate) enum Work<P: PenPort + Drop> {
 #[derive(Drop)]
 pub(crate) struct PostBox<T: Ledger, P: PenPort + Drop> {
     place: usize,
+    // the version in which its client is answered; until a HELLO is accepted all answers are the same in each
+    version: WireVersion,
     posted: Option<Told>,
     shut: bool,
     seat: Option<TakeSeat<T>>,
@@ -39,10 +43,12 @@ impl<T: Ledger, P: PenPort + Drop> PostBox<T, P> {
     pub(crate) fn new(alloc: Global, port: P, place: usize) -> Result<Self, AllocError>
         requires { BeginsEmpty (P.written port) }
         ensures empty { IfOk result (λ b. (b.posted ≡ None) × (b.shut ≡ false)) }
+        ensures version { IfOk result (λ b. b.version ≡ One) }
         ensures pen { IfOk result (λ b. NewPen b.pen place) }
     {
         Ok(PostBox {
             place,
+            version: WireVersion::One,
             posted: None,
             shut: false,
             seat: None,
@@ -56,9 +62,11 @@ impl<T: Ledger, P: PenPort + Drop> PostBox<T, P> {
     pub(crate) fn reopen(&mut self, port: P, place: usize)
         requires { BeginsEmpty (P.written port) }
         ensures empty { (self.new.posted ≡ None) × (self.new.shut ≡ false) }
+        ensures version { self.new.version ≡ One }
         ensures pen { NewPen self.new.pen place }
     {
         self.place = place;
+        self.version = WireVersion::One;
         self.posted = None;
         self.shut = false;
         self.seat = None;
@@ -83,6 +91,7 @@ impl<T: Ledger, P: PenPort + Drop> PostBox<T, P> {
         ensures back { IfErr result (λ back. back ≡ told) }
         ensures full { OnErr result (is_some self.old.posted || self.old.shut ≡ true) }
         ensures err { OnErr result (self.new.posted ≡ self.old.posted) }
+        ensures version { self.new.version ≡ self.old.version }
         ensures shut { self.new.shut ≡ self.old.shut }
         ensures pen { self.new.pen ≡ self.old.pen }
     {
@@ -93,20 +102,23 @@ impl<T: Ledger, P: PenPort + Drop> PostBox<T, P> {
         Ok(())
     }
 
-    /// Leaves that a seat's thread was opened, and keeps the seat.
-    pub(crate) fn welcome(&mut self, seat: TakeSeat<T>)
-        ensures posted { self.new.posted ≡ Some (told.Opened seat.thread) }
+    /// Leaves that a seat's thread was opened, and keeps the seat. From here on the client is answered in this version.
+    pub(crate) fn welcome(&mut self, seat: TakeSeat<T>, version: WireVersion)
+        ensures posted { self.new.posted ≡ Some (told.Opened seat.thread version) }
         ensures seat { self.new.seat ≡ Some seat }
+        ensures version { self.new.version ≡ version }
         ensures shut { self.new.shut ≡ self.old.shut }
         ensures pen { self.new.pen ≡ self.old.pen }
     {
-        self.posted = Some(Told::Opened(seat.thread()));
+        self.version = version;
+        self.posted = Some(Told::Opened(seat.thread(), version));
         self.seat = Some(seat);
     }
 
     /// Nothing more can be posted. What is in it can still be taken.
     pub(crate) fn shut(&mut self)
         ensures shut { self.new.shut ≡ true }
+        ensures version { self.new.version ≡ self.old.version }
         ensures posted { self.new.posted ≡ self.old.posted }
         ensures pen { self.new.pen ≡ self.old.pen }
     {
@@ -143,7 +155,8 @@ impl<T: Ledger, P: PenPort + Drop> PostBox<T, P> {
     /// What the client is told next: the outcome of its thread's last call before what was posted.
     fn next<C: Ledger>(&mut self, locked: &mut Locked<C, T>) -> Option<Given>
         ensures first { LooksFirst locked.old.kernel locked.new.kernel self.old.seat result }
-        ensures out { ComesOut self.old.posted result }
+        ensures out { ComesOut self.old.version self.old.posted result }
+        ensures version { self.new.version ≡ self.old.version }
         ensures only { OnlyTakes locked.old.kernel locked.new.kernel }
         ensures seat { SeatAfter self.old.seat result self.new.seat }
         ensures none { IfNone result (self.new.posted ≡ None) }
@@ -153,14 +166,14 @@ impl<T: Ledger, P: PenPort + Drop> PostBox<T, P> {
     {
         if let Some(seat) = &mut self.seat {
             if let Some(taken) = locked.take_seated(seat) {
-                return Some(Given::Outcome(taken.into_outcome()));
+                return Some(Given::Outcome(self.version, taken.into_outcome()));
             }
         }
         let Some(told) = self.posted.take() else {
             return None;
         };
         self.emptied.notify_one();
-        match reply(told) {
+        match reply(self.version, told) {
             Some(frame) => Some(Given::Frame(frame)),
             None => None,
         }
@@ -179,7 +192,8 @@ impl<T: Ledger, P: PenPort + Drop> PostBox<T, P> {
     /// Takes the pen out with what the client is told next. None where the pen is out or not at its end, or nothing is there.
     pub(crate) fn load<C: Ledger>(&mut self, locked: &mut Locked<C, T>) -> Option<Pen<P>>
         ensures loads { IfSome result (λ pen.
-            Loads locked.old.kernel locked.new.kernel self.old.seat self.old.posted self.old.pen pen) }
+            Loads locked.old.kernel locked.new.kernel self.old.seat self.old.version self.old.posted self.old.pen pen) }
+        ensures version { self.new.version ≡ self.old.version }
         ensures stays { IfNone result (self.new.pen ≡ self.old.pen) }
         ensures nothing { IfNone result (TellsNothing locked.old.kernel locked.new.kernel
             self.old.seat self.old.pen self.old.posted self.new.posted) }
@@ -244,6 +258,7 @@ impl<T: Ledger, P: PenPort + Drop> PostBox<T, P> {
         ensures laid { IfNone result ((pen.place ≡ self.old.place) × (self.new.pen ≡ Some pen)) }
         ensures back { IfSome result (λ back. (back ≡ pen) × (self.new.pen ≡ self.old.pen)) }
         ensures other { IfSome result (λ _. pen.place ≢ self.old.place) }
+        ensures version { self.new.version ≡ self.old.version }
         ensures posted { self.new.posted ≡ self.old.posted }
         ensures shut { self.new.shut ≡ self.old.shut }
         ensures seat { self.new.seat ≡ self.old.seat }

@@ -597,6 +597,13 @@ impl<C: Ledger, T: Ledger> Locked<C, T> {
         self.kernel.is_live(thread)
     }
 
+    /// The kernel's moment, in microseconds.
+    pub(crate) fn now(&self) -> u64
+        ensures { result ≡ self.now.kernel.moment }
+    {
+        self.kernel.now()
+    }
+
     /// How many entries the history has, with those that were let go.
     pub(crate) fn entries(&self) -> usize
         ensures { result ≡ length self.now.kernel.history }

@@ -3,7 +3,7 @@ ghost use Rattle.std.specs.Prelude.{◌≡◌, ◌^◌, None, Some};
 use super::*;
 use ipc_connection::{Request, Told};
 use ipc_core::{Advance, Answer, Command, Limits, Refusal};
-use ipc_frame::{Frame, encode};
+use ipc_frame::{Frame, WireVersion, encode};
 use ipc_history::{Call, CallFields};
 use ipc_items::{BufferList, StringList, Substring};
 use ipc_lines::{entry_line, outcome_line};
@@ -536,8 +536,11 @@ fn boxes<C: Ledger, T: Ledger, R: Wait + Abort>(
         .ok_or("a kernel")?;
     let (mut posts, takes) = kernel.connect(rt, slow(alloc, false)).ok().ok_or("a box")?;
     let one = first(1);
-    let opened = kernel.ask(rt, 0, &mut posts, Request::Open(1), 1);
-    assert_eq!(rt; opened, (Told::Opened(one), Entered::Over));
+    let opened = kernel.ask(rt, 0, &mut posts, Request::Open(1, WireVersion::One), 1);
+    assert_eq!(rt;
+        opened,
+        (Told::Opened(one, WireVersion::One), Entered::Over)
+    );
     let send = sends(alloc, first(3), 0, 1)?;
     let strange = kernel.ask(rt, 0, &mut posts, Request::Enter(first(2), send), 1);
     assert_eq!(rt; strange.0, Told::Refused(Refusal::NoThread));
@@ -580,10 +583,10 @@ fn shut_boxes<C: Ledger, T: Ledger, R: Wait + Abort>(
 ) -> Result<(), Fail> {
     for _ in 0..2 {
         let (mut posts, takes) = kernel.connect(rt, slow(alloc, true)).ok().ok_or("a box")?;
-        let (opened, _) = kernel.ask(rt, 0, &mut posts, Request::Open(2), 1);
-        assert!(rt; matches!(opened, Told::Opened(_)));
+        let (opened, _) = kernel.ask(rt, 0, &mut posts, Request::Open(2, WireVersion::One), 1);
+        assert!(rt; matches!(opened, Told::Opened(_, _)));
         kernel.hang_up(rt, 0, &posts);
-        let (shut, _) = kernel.ask(rt, 0, &mut posts, Request::Open(4), 1);
+        let (shut, _) = kernel.ask(rt, 0, &mut posts, Request::Open(4, WireVersion::One), 1);
         assert_eq!(rt; shut, Told::Refused(Refusal::NoThread));
         assert!(rt; kernel.wait_pen(rt, &takes).is_none());
         kernel.leave(rt, 0, &takes);

@@ -404,7 +404,7 @@ fn talk_places_command<'a>(alloc: Global) -> Result<Command<'a>, AllocError>
             alloc,
             "thread",
             MAX_THREAD_NUMBER,
-            "The number of the server's thread, 1 to 255",
+            "The number of the server's thread",
         ))
 }
 
@@ -905,8 +905,8 @@ mod tests {
         let cases: [(&[&str], ShellOptions); 4] = [
             (&["l4sh", "talk", "meet"], of("meet", 1, 1)),
             (
-                &["l4sh", "talk", "--thread", "255", "/run/l4d"],
-                of("/run/l4d", 255, 1),
+                &["l4sh", "talk", "--thread", "1023", "/run/l4d"],
+                of("/run/l4d", 1023, 1),
             ),
             (
                 &["l4sh", "talk", "meet", "--space=64", "--thread=2"],
@@ -1120,7 +1120,7 @@ mod tests {
                 ErrorKind::ValueValidation,
             ),
             (
-                &["l4sh", "talk", "here", "--thread", "256"],
+                &["l4sh", "talk", "here", "--thread", "1024"],
                 ErrorKind::ValueValidation,
             ),
             (

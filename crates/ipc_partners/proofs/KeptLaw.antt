@@ -5,6 +5,7 @@ use Rattle.std.proofs.lemmas.List.Folds.{list_any-append}
 use Rattle.std.proofs.Common.{◌≡◌, ◌≢◌, refl, sym, ap, ap₂, ◌∙◌, subst, ℕ, zero, suc, ◌+◌, ◌<◌, ◌≤◌, Bool, true, false, not, ◌&&◌, ◌||◌, ◌==◌, eqb-true, eq-eqb, if◌then◌else◌, List, [], ◌∷◌, ◌++◌, length, Option, Some, None, option_map, option_and_then, filter, ◌⊎◌, inl, inr, arith}
 use Rattle.std.specs.List.{list_any}
 use Rattle.std.specs.Option.{option_map_or}
+use Rattle.ipc_words.specs.Limits.{table_slots}
 use Rattle.ipc_words.specs.ThreadId.{number_of}
 use Rattle.ipc_history.specs.Entries.{names}
 use Rattle.ipc_history.specs.Calls.{caller_of, is_called, last_call, numbers}
@@ -77,7 +78,7 @@ module _ (H : List Entry) (taken : List ℕ) (legal : Legal H) (over : (n : ℕ)
   further = further_calls H taken
 
   abbrev found : KeptParts
-  found = kept_upto H taken 256
+  found = kept_upto H taken table_slots
 
   -- the last call of a live thread, which was not taken
   record IsLast (n : ℕ) : Type 0 where
@@ -88,7 +89,7 @@ module _ (H : List Entry) (taken : List ℕ) (legal : Legal H) (over : (n : ℕ)
     caller : caller_of H n ≡ thread
     called : is_called H n ≡ true
     untaken : is_among n taken ≡ false
-    within : number_of thread < 256
+    within : number_of thread < table_slots
 
   is_last : (k t n : ℕ) → live_of H k ≡ Some t → kept_call H taken t ≡ Some n → IsLast n
   unfolding kept_call
@@ -147,7 +148,7 @@ module _ (H : List Entry) (taken : List ℕ) (legal : Legal H) (over : (n : ℕ)
   -- the calls
   calls_kept : (n : ℕ) → is_among n found.calls ≡ is_among n kept
   unfolding kept_upto
-  calls_kept n = same_tests _ _ (λ h. let at = gathered_from (calls_at H taken) n 256 h in there at.0 (live_of H at.0) refl at.1) (λ h. let last = kept_last n h in among_gathered (calls_at H taken) n (number_of last.thread) 256 last.within (rw (last.live, last.call) (one_among n)))
+  calls_kept n = same_tests _ _ (λ h. let at = gathered_from (calls_at H taken) n table_slots h in there at.0 (live_of H at.0) refl at.1) (λ h. let last = kept_last n h in among_gathered (calls_at H taken) n (number_of last.thread) table_slots last.within (rw (last.live, last.call) (one_among n)))
     where
       there : (k : ℕ) (o : Option ℕ) → live_of H k ≡ o → is_among n (option_map_or (λ t. calls_for H (kept_call H taken t)) o []) ≡ true → is_among n kept ≡ true
       there k None live h = absurd (false≢true h)
@@ -184,7 +185,7 @@ module _ (H : List Entry) (taken : List ℕ) (legal : Legal H) (over : (n : ℕ)
 
   partners_met : (k : ℕ) → is_among k found.partners ≡ true → (n : ℕ) × IsLast n × IsMet n k
   unfolding kept_upto
-  partners_met k h = let at = gathered_from (partners_at H taken) k 256 h in there at.0 (live_of H at.0) refl at.1
+  partners_met k h = let at = gathered_from (partners_at H taken) k table_slots h in there at.0 (live_of H at.0) refl at.1
     where
       there : (i : ℕ) (o : Option ℕ) → live_of H i ≡ o → is_among k (option_map_or (λ t. partners_for H (kept_call H taken t)) o []) ≡ true → (n : ℕ) × IsLast n × IsMet n k
       there i None live h = absurd (false≢true h)
@@ -196,7 +197,7 @@ module _ (H : List Entry) (taken : List ℕ) (legal : Legal H) (over : (n : ℕ)
 
   met_partners : (n k : ℕ) → IsLast n → IsMet n k → is_among k found.partners ≡ true
   unfolding kept_upto
-  met_partners n k last met = among_gathered (partners_at H taken) k (number_of last.thread) 256 last.within (rw (last.live, last.call) (are_partners n k met))
+  met_partners n k last met = among_gathered (partners_at H taken) k (number_of last.thread) table_slots last.within (rw (last.live, last.call) (are_partners n k met))
 
   -- such a call is kept, or named beside one that is
   met_joins : (n k : ℕ) → IsMet n k → (e : Entry) × Place H e × (names n e ≡ true) × (names k e ≡ true)
@@ -334,15 +335,15 @@ module _ (H : List Entry) (taken : List ℕ) (legal : Legal H) (over : (n : ℕ)
 
   live_thread : (t : ℕ) → is_live H t ≡ true → is_among t found.threads ≡ true
   unfolding kept_upto
-  live_thread t l = among_gathered (threads_at H taken) t (number_of t) 256 (live_below H legal t l) (rw (live_of_at H legal t l) (or_left (t == t) _ (eq-eqb t t refl)))
+  live_thread t l = among_gathered (threads_at H taken) t (number_of t) table_slots (live_below H legal t l) (rw (live_of_at H legal t l) (or_left (t == t) _ (eq-eqb t t refl)))
 
   last_thread : (n t : ℕ) → IsLast n → is_among t (threads_for H (Some n)) ≡ true → is_among t found.threads ≡ true
   unfolding kept_upto
-  last_thread n t last h = among_gathered (threads_at H taken) t (number_of last.thread) 256 last.within (rw (last.live, last.call) (or_right (last.thread == t) _ h))
+  last_thread n t last h = among_gathered (threads_at H taken) t (number_of last.thread) table_slots last.within (rw (last.live, last.call) (or_right (last.thread == t) _ h))
 
   thread_same : (t : ℕ) → is_among t found.threads ≡ stays t
   unfolding kept_upto
-  thread_same t = same_tests _ _ (λ h. let at = gathered_from (threads_at H taken) t 256 h in there at.0 (live_of H at.0) refl at.1) back
+  thread_same t = same_tests _ _ (λ h. let at = gathered_from (threads_at H taken) t table_slots h in there at.0 (live_of H at.0) refl at.1) back
     where
       there : (i : ℕ) (o : Option ℕ) → live_of H i ≡ o → is_among t (option_map_or (λ u. u ∷ threads_for H (kept_call H taken u)) o []) ≡ true → stays t ≡ true
       there i None live h = absurd (false≢true h)

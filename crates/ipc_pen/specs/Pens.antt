@@ -24,7 +24,7 @@ Passes old new before after =
 -- the frame of what is given: an outcome goes out as IPCR
 abbrev pub frame_of : Given → Frame
 frame_of (given.Frame frame) = frame
-frame_of (given.Outcome outcome) = ipcr_of outcome
+frame_of (given.Outcome version outcome) = ipcr_of version outcome
 
 -- the encodings of what was given, one after the other
 unfoldable pub text_of : List Given → List ℕ

@@ -3,7 +3,7 @@ ghost use Rattle.std.specs.Prelude.{◌≡◌};
 ghost use Rattle.ipc_frame.specs.Frames.{spelling};
 ghost use Rattle.ipc_pen.specs.Pens.{frame_of};
 
-use ipc_frame::{Encoder, Frame};
+use ipc_frame::{Encoder, Frame, WireVersion};
 use ipc_history::Outcome;
 
 /// From so many bytes of strings on, the frame of an outcome goes out in long pieces.
@@ -14,8 +14,8 @@ const LONG_STRINGS: u64 = 512;
 pub enum Given {
     /// A frame.
     Frame(Frame),
-    /// The outcome of a call, which goes out as IPCR.
-    Outcome(Outcome),
+    /// The outcome of a call, which goes out as IPCR of a version.
+    Outcome(WireVersion, Outcome),
 }
 
 impl Given {
@@ -23,7 +23,7 @@ impl Given {
     pub(crate) fn is_long(&self) -> bool {
         match self {
             Given::Frame(_) => false,
-            Given::Outcome(outcome) => outcome.strings.size() >= LONG_STRINGS,
+            Given::Outcome(_, outcome) => outcome.strings.size() >= LONG_STRINGS,
         }
     }
 
@@ -33,7 +33,7 @@ impl Given {
     {
         match self {
             Given::Frame(frame) => Encoder::new(frame),
-            Given::Outcome(outcome) => Encoder::reply(outcome),
+            Given::Outcome(version, outcome) => Encoder::reply(version, outcome),
         }
     }
 }

@@ -3,7 +3,7 @@ ghost use Rattle.std.specs.Prelude.{None};
 use crate::server::Server;
 use crate::serving::Line;
 use ipc_connection::{Request, Told, reply};
-use ipc_frame::Frame;
+use ipc_frame::{Frame, WireVersion};
 use ipc_host::class_letter;
 use ipc_lock::{Entered, PostEnd};
 use ipc_pen::PenPort;
@@ -52,20 +52,19 @@ where
 /// Notes on a line what became of a request, and keeps the thread that was opened.
 fn note<G: Line>(line: &G, thread: &mut Option<ThreadId>, told: Told, entered: Entered) {
     match told {
-        Told::Opened(opened) => {
+        Told::Opened(opened, _version) => {
             *thread = Some(opened);
             line.welcomes(opened);
         }
-        Told::Exchanged(_, _, _) => line.tells(ipc_host::Told::Exchanged, *thread),
+        Told::Exchanged(_, _, _, _) => line.tells(ipc_host::Told::Exchanged, *thread),
         Told::Entered if entered == Entered::Over => line.sees_outcome(),
         _ => {}
     }
 }
 
-/// Says on a line what a client is told by EXREGR, REFUSED or FAULT.
+/// Says on a line what a client is told by REFUSED or FAULT, which are the same in each version.
 fn say<G: Line>(line: &G, told: Told, thread: Option<ThreadId>) {
-    match reply(told) {
-        Some(Frame::Exregr(_, _, _)) => line.tells(ipc_host::Told::Exchanged, thread),
+    match reply(WireVersion::One, told) {
         Some(Frame::Refused(number)) => line.tells(ipc_host::Told::Refused(number), thread),
         Some(Frame::Fault(class, number)) => {
             line.tells(ipc_host::Told::Fault(class_letter(class), number), thread)

@@ -1,5 +1,5 @@
 //! A client of the program's own: one message over two connections.
-use ipc_frame::{Decoder, Frame, IpcFrame, IpcParts, IpcrFrame, Side, encode};
+use ipc_frame::{Decoder, Frame, IpcFrame, IpcParts, IpcrFrame, Side, WireVersion, encode};
 use ipc_words::{MsgTag, ThreadId, Timeouts};
 use std::alloc::Global;
 use std::io::{Read, Write};
@@ -44,7 +44,7 @@ pub fn probe<R: Threads + Wait + Net<Listener = TcpListener, Stream = TcpStream>
 
 /// Says HELLO, and answers the thread's id.
 fn hello(alloc: Global, stream: &UnixStream, number: u16) -> Option<ThreadId> {
-    say(alloc, stream, Frame::Hello(number))?;
+    say(alloc, stream, Frame::Hello(number, WireVersion::One))?;
     match hear(alloc, stream)? {
         Frame::Welcome(thread) => Some(thread),
         _ => None,

@@ -3,6 +3,7 @@ use Rattle.std.proofs.Common.{◌≡◌, ◌≢◌, inl, inr, ℕ, false, List, 
 use Rattle.ipc_frame.specs.declared.fault.FrameFault.{FrameFault}
 use Rattle.ipc_calls.specs.declared.heard.Heard.{Heard}
 use Rattle.ipc_calls.specs.declared.heard.Heard.TheVariants as said
+use Rattle.ipc_frame.specs.declared.version.WireVersion.{WireVersion}
 use Rattle.ipc_connection.specs.Asking.{asks}
 use Rattle.ipc_connection.specs.Desk.{Asks, DeskCall, left_to_post}
 use Rattle.ipc_connection.specs.Faults.{fault_number, of_frame, of_session, out_of_place}
@@ -62,9 +63,9 @@ refused stage request ending heard before NoMemory is_on e = goes_on ending stag
 refused stage request ending heard before HistoryFull is_on e = goes_on ending stage (e ∙ refused_on stage HistoryFull is_on refl)
 refused stage request ending heard before CallsSpent is_on e = goes_on ending stage (e ∙ refused_on stage CallsSpent is_on refl)
 
-opened_on : (stage : Stage) (thread : ℕ) → ends_with (told.Opened thread) stage ≡ On (Serving thread)
+opened_on : (stage : Stage) (thread : ℕ) (version : WireVersion) → ends_with (told.Opened thread version) stage ≡ On (Serving thread)
 unfolding next_stage
-opened_on stage thread = refl
+opened_on stage thread version = refl
 
 entered_on : (stage : Stage) → stage ≢ Finished → ends_with told.Entered stage ≡ On stage
 unfolding next_stage
@@ -72,26 +73,26 @@ entered_on Greeting is_on = refl
 entered_on (Serving thread) is_on = refl
 entered_on Finished is_on = absurd (is_on refl)
 
-exchanged_on : (stage : Stage) (result control code : ℕ) → stage ≢ Finished → ends_with (told.Exchanged result control code) stage ≡ On stage
+exchanged_on : (stage : Stage) (result control code moment : ℕ) → stage ≢ Finished → ends_with (told.Exchanged result control code moment) stage ≡ On stage
 unfolding next_stage
-exchanged_on Greeting result control code is_on = refl
-exchanged_on (Serving thread) result control code is_on = refl
-exchanged_on Finished result control code is_on = absurd (is_on refl)
+exchanged_on Greeting result control code moment is_on = refl
+exchanged_on (Serving thread) result control code moment is_on = refl
+exchanged_on Finished result control code moment is_on = absurd (is_on refl)
 
 answered : (stage : Stage) (r : Request) (t : Told) (ending : Ending) (heard : HeardList) (before : List DeskCall) → stage ≢ Finished → IsAnswer r t → Over ending ≡ ends_with t stage → IsCause ending heard (before ++ Asks r t ∷ left_to_post t)
 answered stage r (told.Refused refusal) ending heard before is_on is e = refused stage r ending heard before refusal is_on e
-answered stage (request.Open number) (told.Opened thread) ending heard before is_on is e = goes_on ending (Serving thread) (e ∙ opened_on stage thread)
+answered stage (request.Open number version) (told.Opened thread named) ending heard before is_on is e = goes_on ending (Serving thread) (e ∙ opened_on stage thread named)
 answered stage (request.Enter thread call) told.Entered ending heard before is_on is e = goes_on ending stage (e ∙ entered_on stage is_on)
-answered stage (request.Exreg thread target control) (told.Exchanged result other code) ending heard before is_on is e = goes_on ending stage (e ∙ exchanged_on stage result other code is_on)
-answered stage (request.Open number) told.Entered ending heard before is_on is e = absurd is
-answered stage (request.Open number) (told.Exchanged result control code) ending heard before is_on is e = absurd is
-answered stage (request.Open number) (told.Faulted class fault) ending heard before is_on is e = absurd is
-answered stage (request.Open number) told.Left ending heard before is_on is e = absurd is
-answered stage (request.Enter thread call) (told.Opened other) ending heard before is_on is e = absurd is
-answered stage (request.Enter thread call) (told.Exchanged result control code) ending heard before is_on is e = absurd is
+answered stage (request.Exreg thread target control) (told.Exchanged result other code moment) ending heard before is_on is e = goes_on ending stage (e ∙ exchanged_on stage result other code moment is_on)
+answered stage (request.Open number version) told.Entered ending heard before is_on is e = absurd is
+answered stage (request.Open number version) (told.Exchanged result control code moment) ending heard before is_on is e = absurd is
+answered stage (request.Open number version) (told.Faulted class fault) ending heard before is_on is e = absurd is
+answered stage (request.Open number version) told.Left ending heard before is_on is e = absurd is
+answered stage (request.Enter thread call) (told.Opened other named) ending heard before is_on is e = absurd is
+answered stage (request.Enter thread call) (told.Exchanged result control code moment) ending heard before is_on is e = absurd is
 answered stage (request.Enter thread call) (told.Faulted class fault) ending heard before is_on is e = absurd is
 answered stage (request.Enter thread call) told.Left ending heard before is_on is e = absurd is
-answered stage (request.Exreg thread target control) (told.Opened other) ending heard before is_on is e = absurd is
+answered stage (request.Exreg thread target control) (told.Opened other named) ending heard before is_on is e = absurd is
 answered stage (request.Exreg thread target control) told.Entered ending heard before is_on is e = absurd is
 answered stage (request.Exreg thread target control) (told.Faulted class fault) ending heard before is_on is e = absurd is
 answered stage (request.Exreg thread target control) told.Left ending heard before is_on is e = absurd is
@@ -120,12 +121,12 @@ pub cause_of : (stage : Stage) (heard : Result Heard FrameFault) (calls : List D
 unfolding Serves asks
 cause_of Finished heard calls ending front before is_on s = absurd (is_on refl)
 cause_of Greeting (Err fault) calls ending front before is_on s = by_fault Greeting fault calls ending front before s.0 s.1
-cause_of Greeting (Ok (said.Hello number)) calls ending front before is_on s = by_desk Greeting (request.Open number) calls ending _ before is_on s
+cause_of Greeting (Ok (said.Hello number version)) calls ending front before is_on s = by_desk Greeting (request.Open number version) calls ending _ before is_on s
 cause_of Greeting (Ok (said.Call call)) calls ending front before is_on s = by_place Greeting _ calls ending front before s.0 s.1
 cause_of Greeting (Ok (said.Exreg target control)) calls ending front before is_on s = by_place Greeting _ calls ending front before s.0 s.1
 cause_of Greeting (Ok said.Bye) calls ending front before is_on s = by_bye calls ending front before s.1
 cause_of (Serving thread) (Err fault) calls ending front before is_on s = by_fault (Serving thread) fault calls ending front before s.0 s.1
-cause_of (Serving thread) (Ok (said.Hello number)) calls ending front before is_on s = by_place (Serving thread) _ calls ending front before s.0 s.1
+cause_of (Serving thread) (Ok (said.Hello number version)) calls ending front before is_on s = by_place (Serving thread) _ calls ending front before s.0 s.1
 cause_of (Serving thread) (Ok (said.Call call)) calls ending front before is_on s = by_desk (Serving thread) (request.Enter thread call) calls ending _ before is_on s
 cause_of (Serving thread) (Ok (said.Exreg target control)) calls ending front before is_on s = by_desk (Serving thread) (request.Exreg thread target control) calls ending _ before is_on s
 cause_of (Serving thread) (Ok said.Bye) calls ending front before is_on s = by_bye calls ending front before s.1

@@ -2,7 +2,8 @@
 use Rattle.std.proofs.Common.{◌≡◌, true, false, is_some, List, [], ◌∷◌, ◌++◌, Option, Some, None, refl, sym, ap, subst, ◌∙◌}
 use Rattle.std.proofs.lemmas.List.{append-nil, append_assoc}
 use Rattle.ipc_frame.specs.declared.frame.Frame.{Frame}
-use Rattle.ipc_connection.specs.Desk.{Asks, DeskCall, TellsMore, left_to_post, post_of, posted}
+use Rattle.ipc_frame.specs.declared.version.WireVersion.{WireVersion}
+use Rattle.ipc_connection.specs.Desk.{Asks, Posts, DeskCall, TellsMore, left_to_post, post_of, posted}
 use Rattle.ipc_connection.specs.Replying.{reply}
 use Rattle.ipc_connection.specs.declared.asking.Request.{Request}
 use Rattle.ipc_connection.specs.declared.stage.Stage.{Stage}
@@ -21,18 +22,21 @@ tells_both a None (Some c) xs ys h k = absurd k
 tells_both None (Some b) (Some c) xs ys h k = absurd h
 tells_both (Some a) (Some b) (Some c) xs ys h k = k ∙ (ap (λ (l : List DeskCall). l ++ ys) h ∙ append_assoc a xs ys)
 
--- what a desk leaves to be posted is told by its frame
-leaves : (t : Told) → is_some (posted t) ≡ true → posted t ≡ reply t
+-- what a desk leaves to be posted is told by its frame, in any version
+pub leaves : (version : WireVersion) (t : Told) → is_some (posted t) ≡ true → posted t ≡ reply version t
 unfolding reply
-leaves (told.Opened thread) e = absurd cc
-leaves told.Entered e = absurd cc
-leaves (told.Exchanged result control code) e = absurd cc
-leaves (told.Refused refusal) e = refl
-leaves (told.Faulted class number) e = refl
-leaves told.Left e = absurd cc
+leaves version (told.Opened thread named) e = absurd cc
+leaves version told.Entered e = absurd cc
+leaves version (told.Exchanged result control code moment) e = absurd cc
+leaves version (told.Refused refusal) e = refl
+leaves version (told.Faulted class number) e = refl
+leaves version told.Left e = absurd cc
 
-pub leaves_one : (old new : Option (List DeskCall)) (t : Told) → is_some (posted t) ≡ true → TellsMore old new (post_of (reply t)) → TellsMore old new (left_to_post t)
-leaves_one old new t some tells = subst (λ (f : Option Frame). TellsMore old new (post_of f)) (sym (leaves t some)) tells
+pub leaves_one : (version : WireVersion) (t : Told) (frame : Frame) → is_some (posted t) ≡ true → reply version t ≡ Some frame → Posts frame ∷ [] ≡ left_to_post t
+leaves_one version t frame some e = sym (ap post_of (leaves version t some ∙ e))
+
+pub leaves_some : {A : Type 0} (version : WireVersion) (t : Told) → is_some (posted t) ≡ true → reply version t ≡ None → A
+leaves_some version t some e = let no = sym (ap is_some (leaves version t some ∙ e)) ∙ some in absurd (cc)
 
 pub leaves_none : (log : Option (List DeskCall)) (t : Told) → is_some (posted t) ≡ false → TellsMore log log (left_to_post t)
 leaves_none log t none = go (posted t) none

@@ -116,18 +116,18 @@ text_of_one frame = append-nil (spelling frame)
 -- what was given went out whole, or in part
 pub wrote_given : (a b : Option (List TakeCall)) (p q : Option (List ℕ)) (next : Next) (bytes : List ℕ) → TellsTaken a b (given_by next) → Encodes next (Some bytes) → Appends p q bytes → Wrote a b p q [] true
 wrote_given a b p q (next.Frame frame) bytes tells is appends = wrote_whole a b p q (frame ∷ []) tells (rw is appends)
-wrote_given a b p q (next.Outcome outcome) bytes tells is appends = wrote_whole a b p q (ipcr_of outcome ∷ []) tells (rw is appends)
+wrote_given a b p q (next.Outcome version outcome) bytes tells is appends = wrote_whole a b p q (ipcr_of version outcome ∷ []) tells (rw is appends)
 wrote_given a b p q next.Gone bytes tells is appends = absurd is
 
 pub wrote_given_part : (a b c : Option (List TakeCall)) (p q : Option (List ℕ)) (next : Next) (bytes : List ℕ) → TellsTaken a b (given_by next) → Encodes next (Some bytes) → TellsTaken b c (Breaks ∷ []) → AppendsPart p q bytes → Wrote a c p q (Breaks ∷ []) false
 wrote_given_part a b c p q (next.Frame frame) bytes tells is breaks part = wrote_part a b c p q (frame ∷ []) tells breaks (rw is part)
-wrote_given_part a b c p q (next.Outcome outcome) bytes tells is breaks part = wrote_part a b c p q (ipcr_of outcome ∷ []) tells breaks (rw is part)
+wrote_given_part a b c p q (next.Outcome version outcome) bytes tells is breaks part = wrote_part a b c p q (ipcr_of version outcome ∷ []) tells breaks (rw is part)
 wrote_given_part a b c p q next.Gone bytes tells is breaks part = absurd is
 
 -- nothing more comes
 pub wrote_gone : (a b : Option (List TakeCall)) (p : Option (List ℕ)) (next : Next) → TellsTaken a b (given_by next) → Encodes next None → Wrote a b p p [] true
 wrote_gone a b p (next.Frame frame) tells is = absurd is
-wrote_gone a b p (next.Outcome outcome) tells is = absurd is
+wrote_gone a b p (next.Outcome version outcome) tells is = absurd is
 wrote_gone a b p next.Gone tells is = wrote_none a b p tells
 
 -- of no bytes none are left

@@ -36,9 +36,9 @@ ends_with told stage = turned_at told (next_stage stage told)
 
 -- what a desk answers: the thread that it opened, that it entered the call, what ExchangeRegisters answers, or a refusal
 abbrev pub IsAnswer : Request → Told → Type 0
-IsAnswer (Open number) (Opened thread) = ⊤
+IsAnswer (Open number version) (Opened thread named) = named ≡ version
 IsAnswer (Enter thread call) Entered = ⊤
-IsAnswer (Exreg thread target control) (Exchanged result stopped code) = ⊤
+IsAnswer (Exreg thread target control) (Exchanged result stopped code moment) = ⊤
 IsAnswer request (Refused refusal) = ⊤
 IsAnswer request told = ⊥
 

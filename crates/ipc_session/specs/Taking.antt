@@ -24,7 +24,7 @@ TellsTaken (Some xs) (Some ys) calls = ys ≡ xs ++ calls
 -- the frame of what is given
 abbrev pub frames_of : Next → List Frame
 frames_of (next.Frame frame) = frame ∷ []
-frames_of (next.Outcome outcome) = ipcr_of outcome ∷ []
+frames_of (next.Outcome version outcome) = ipcr_of version outcome ∷ []
 frames_of next.Gone = []
 
 abbrev pub given_by : Next → List TakeCall

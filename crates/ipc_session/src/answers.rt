@@ -7,11 +7,13 @@ ghost use Rattle.ipc_session.specs.Taking.{TellsTaken};
 use crate::next::Next;
 use crate::taking::TakeDesk;
 use ipc_connection::{Told, reply};
+use ipc_frame::WireVersion;
 use std::alloc::Global;
 
-/// Gives the frames of these answers, in order, up to the first that is told to nobody, and keeps what it gave.
+/// Gives the frames of these answers in a version, in order, up to the first that is told to nobody, and keeps what it gave.
 #[derive(Drop)]
 pub struct MemoryAnswers<'a> {
+    version: WireVersion,
     answers: &'a [Told],
     // What it gave, and None for each break.
     takes: Vec<Option<Told>>,
@@ -20,12 +22,14 @@ pub struct MemoryAnswers<'a> {
 }
 
 impl<'a> MemoryAnswers<'a> {
-    /// A desk that gives these.
-    pub fn new(alloc: Global, answers: &'a [Told]) -> MemoryAnswers<'a>
+    /// A desk that gives these to a client of a version.
+    pub fn new(alloc: Global, version: WireVersion, answers: &'a [Told]) -> MemoryAnswers<'a>
         ensures answers { result.answers.now ≡ answers.now }
-        ensures takes { takes_of result.is_complete result.takes.items ≡ Some [] }
+        ensures version { result.version ≡ version }
+        ensures takes { takes_of result.version result.is_complete result.takes.items ≡ Some [] }
     {
         MemoryAnswers {
+            version,
             answers,
             takes: Vec::new(alloc),
             is_complete: true,
@@ -36,16 +40,17 @@ impl<'a> MemoryAnswers<'a> {
     /// What it gave, in order, with None for each break; None where a growth was refused.
     pub fn takes(&self) -> Option<&[Option<Told>]>
         ensures kept { IfSome result (λ takes.
-            takes_of self.now.is_complete self.now.takes.items ≡ Some (flat_map take_of takes.now)) }
-        ensures lost { IfNone result (takes_of self.now.is_complete self.now.takes.items ≡ None) }
+            takes_of self.now.version self.now.is_complete self.now.takes.items ≡ Some (flat_map (take_of self.now.version) takes.now)) }
+        ensures lost { IfNone result (takes_of self.now.version self.now.is_complete self.now.takes.items ≡ None) }
     {
         self.is_complete.then_some(self.takes.as_slice())
     }
 
     fn note(&mut self, take: Option<Told>)
         ensures gone { self.new.is_gone ≡ self.old.is_gone }
-        ensures told { TellsTaken (takes_of self.old.is_complete self.old.takes.items)
-            (takes_of self.new.is_complete self.new.takes.items) (take_of take) }
+        ensures version { self.new.version ≡ self.old.version }
+        ensures told { TellsTaken (takes_of self.old.version self.old.is_complete self.old.takes.items)
+            (takes_of self.new.version self.new.is_complete self.new.takes.items) (take_of self.old.version take) }
     {
         if self.takes.push(take).is_err() {
             self.is_complete = false;
@@ -54,7 +59,7 @@ impl<'a> MemoryAnswers<'a> {
 }
 
 impl TakeDesk for MemoryAnswers<'_> {
-    ghost log = { λ desk. takes_of desk.is_complete desk.takes.items };
+    ghost log = { λ desk. takes_of desk.version desk.is_complete desk.takes.items };
 
     ghost gone = { λ desk. desk.is_gone };
 
@@ -65,7 +70,7 @@ impl TakeDesk for MemoryAnswers<'_> {
         };
         let told = *told;
         let answered = told;
-        match reply(answered) {
+        match reply(self.version, answered) {
             Some(frame) => {
                 self.answers = rest;
                 self.note(Some(told));

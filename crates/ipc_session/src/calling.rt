@@ -1,6 +1,5 @@
 ghost use Rattle.std.specs.Prelude.{◌≡◌, List, [], ◌∷◌, Option};
-ghost use Rattle.ipc_connection.specs.Desk.{DeskCall, TellsMore, Asks, Breaks, post_of};
-ghost use Rattle.ipc_connection.specs.Replying.{reply};
+ghost use Rattle.ipc_connection.specs.Desk.{DeskCall, TellsMore, Asks, Breaks, left_to_post};
 ghost use Rattle.ipc_session.specs.Serving.{IsAnswer};
 
 use ipc_connection::{Request, Told};
@@ -19,9 +18,9 @@ pub trait CallDesk {
         ensures told { TellsMore (log self.old) (log self.new) (Asks request result ∷ []) }
         ensures answer { IsAnswer request result };
 
-    /// Posts the frame of what is told, if it has one.
+    /// Posts the frame of a refusal that is told, or of a fault. Nothing else is left to be posted.
     fn post(&mut self, told: Told)
-        ensures told { TellsMore (log self.old) (log self.new) (post_of (reply told)) };
+        ensures told { TellsMore (log self.old) (log self.new) (left_to_post told) };
 
     /// Ends the thread, if there is one.
     fn broke(&mut self)

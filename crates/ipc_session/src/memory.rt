@@ -6,8 +6,9 @@ ghost use Rattle.ipc_session.specs.Serving.{IsAnswer};
 
 use crate::calling::CallDesk;
 use crate::deed::Deed;
-use ipc_connection::{Request, Told, reply};
+use ipc_connection::{Request, Told, is_posted, reply};
 use ipc_core::Refusal;
+use ipc_frame::WireVersion;
 use ipc_words::{Control, ThreadId};
 use std::alloc::Global;
 
@@ -83,9 +84,9 @@ fn accepted(request: &Request, thread: ThreadId) -> Told
     ensures { IsAnswer request.now result }
 {
     match request {
-        Request::Open(_) => Told::Opened(thread),
+        Request::Open(_, version) => Told::Opened(thread, *version),
         Request::Enter(_, _) => Told::Entered,
-        Request::Exreg { target, .. } => Told::Exchanged(*target, Control::from_word(0), 0),
+        Request::Exreg { target, .. } => Told::Exchanged(*target, Control::from_word(0), 0, 0),
     }
 }
 
@@ -105,8 +106,11 @@ impl CallDesk for MemoryDesk {
     }
 
     fn post(&mut self, told: Told) {
-        if let Some(frame) = reply(told) {
-            self.note(Deed::Posted(frame));
+        let left = told;
+        if is_posted(left) {
+            if let Some(frame) = reply(WireVersion::One, told) {
+                self.note(Deed::Posted(frame));
+            }
         }
     }
 

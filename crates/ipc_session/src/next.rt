@@ -1,4 +1,4 @@
-use ipc_frame::Frame;
+use ipc_frame::{Frame, WireVersion};
 use ipc_history::Outcome;
 
 /// What a writer writes next.
@@ -6,8 +6,8 @@ use ipc_history::Outcome;
 pub enum Next {
     /// An answer that was posted.
     Frame(Frame),
-    /// The outcome of a call, which goes out as IPCR.
-    Outcome(Outcome),
+    /// The outcome of a call, which goes out as IPCR of the connection's version.
+    Outcome(WireVersion, Outcome),
     /// Nothing more comes.
     Gone,
 }

@@ -3,7 +3,7 @@ ghost use Rattle.std.specs.Prelude.{◌≡◌, None, true};
 use super::*;
 use ipc_connection::{Request, Told};
 use ipc_core::Refusal;
-use ipc_frame::Frame;
+use ipc_frame::{Frame, WireVersion};
 use ipc_ports::{MemoryPort, PortFault, PortRead, Trouble};
 use ipc_words::ThreadId;
 use std::alloc::Global;
@@ -67,7 +67,7 @@ fn brief_of(deed: &Deed) -> Brief {
 
 fn brief_request(request: &Request) -> Brief {
     match request {
-        Request::Open(number) => Brief::Opened(*number),
+        Request::Open(number, _) => Brief::Opened(*number),
         Request::Enter(_, call) => Brief::Called(call.words().len()),
         Request::Exreg { target, .. } => Brief::Exchanged(target.to_word()),
     }
@@ -163,7 +163,7 @@ fn assert_written(
     let mut port = MemoryPort::new(alloc, &[])
         .byte_by_byte()
         .with_trouble(call as u64, trouble);
-    let mut desk = MemoryAnswers::new(alloc, &GIVEN);
+    let mut desk = MemoryAnswers::new(alloc, WireVersion::One, &GIVEN);
     let ending = write_loop(&mut port, &mut desk, &mut Open::new(turns));
     assert_eq!(rt; ending, end);
     assert_eq!(rt; port.output(), Some(text));

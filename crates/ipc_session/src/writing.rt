@@ -82,7 +82,7 @@ fn write_frame<P: PortWrite>(port: &mut P, encoder: Encoder, is_long: bool) -> R
 /// Whether the frame of what is given is better written in long pieces.
 fn is_long(next: &Next) -> bool {
     match next {
-        Next::Outcome(outcome) => outcome.strings.size() >= LONG_STRINGS,
+        Next::Outcome(_, outcome) => outcome.strings.size() >= LONG_STRINGS,
         _ => false,
     }
 }
@@ -93,7 +93,7 @@ fn encoder_of(next: Next) -> Option<Encoder>
 {
     match next {
         Next::Frame(frame) => Some(Encoder::new(frame)),
-        Next::Outcome(outcome) => Some(Encoder::reply(outcome)),
+        Next::Outcome(version, outcome) => Some(Encoder::reply(version, outcome)),
         Next::Gone => None,
     }
 }

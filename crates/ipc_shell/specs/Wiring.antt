@@ -129,7 +129,7 @@ said_text said new =
 
 -- all bytes of a connection went out
 abbrev pub emptied : Line → Line
-emptied line = record { space = line.space; stage = line.stage; out = [] }
+emptied line = record { space = line.space; stage = line.stage; version = line.version; out = [] }
 
 abbrev pub with_lines : ExchangeParts → List Line → ExchangeParts
 with_lines old lines = record {

@@ -4,6 +4,7 @@ use Rattle.std.proofs.lemmas.Option.{none-some}
 use Rattle.std.proofs.lemmas.List.{get_or-set_same, get_or-set_other, length-set, length-append}
 use Rattle.std.proofs.Common.{◌≡◌, ◌≢◌, refl, sym, ap, ◌∙◌, ℕ, ◌+◌, ◌<◌, ◌==◌, ◌||◌, ◌&&◌, eq-eqb, if◌then◌else◌, Bool, true, false, List, [], ◌∷◌, ◌++◌, append-nil, length, Option, Some, None, is_some, option_map, slice_set, ◌⊎◌, inl, inr, arith}
 use Rattle.std.specs.List.{list_any}
+use Rattle.ipc_words.specs.Limits.{table_slots}
 use Rattle.ipc_words.specs.ThreadId.{nilthread, number_of}
 use Rattle.ipc_history.specs.CallParts.{CallParts}
 use Rattle.ipc_history.specs.Words.{first_some}
@@ -211,7 +212,7 @@ module _ (P : List Entry) (n t : ℕ) (call : CallParts) (legal : Legal P) (foll
   unfolding Follows
   numbered = (entered_free P n t call follows.1).1
 
-  pub noted_called : (slots : Slots) → Stands P slots → number_of t < 256 → Stands Q (record slots { table = slice_set slots.table (number_of t) (calling (entered P n t call) (slot_at slots.table (number_of t))); calls_made = n; last = Nothing })
+  pub noted_called : (slots : Slots) → Stands P slots → number_of t < table_slots → Stands Q (record slots { table = slice_set slots.table (number_of t) (calling (entered P n t call) (slot_at slots.table (number_of t))); calls_made = n; last = Nothing })
   noted_called slots stands within = record {
     size = length-set slots.table (number_of t) _ ∙ stands.size;
     moment = stands.moment ∙ sym ((changes P e).moment);

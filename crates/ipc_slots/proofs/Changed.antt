@@ -3,6 +3,7 @@ use Rattle.std.proofs.lemmas.Bool.{eqb-false, false≢true, ne_eqb}
 use Rattle.std.proofs.lemmas.List.{get_or-set_other}
 use Rattle.std.proofs.lemmas.Option.{none-some, same_Some}
 use Rattle.std.proofs.Common.{◌≡◌, ◌≢◌, refl, sym, ap, ◌∙◌, ℕ, ◌<◌, ◌==◌, true, false, List, Some, None, slice_set}
+use Rattle.ipc_words.specs.Limits.{table_slots}
 use Rattle.ipc_history.specs.Phases.{receiver_of}
 use Rattle.ipc_history.specs.Matching.{matches}
 use Rattle.ipc_history.specs.Legal.{Legal, Follows}
@@ -27,7 +28,7 @@ pub unchanged : (table : List Slot) → HaveChanged table table (record { first 
 unchanged table = record { first = tt; second = tt; apart = λ a b p q. absurd (none-some a p); elsewhere = λ k h. refl }
 
 -- one slot was set
-pub one_changed : (table : List Slot) (i : ℕ) (slot : Slot) → i < 256 → HaveChanged table (slice_set table i slot) (record { first = Some (change_at table i); second = None })
+pub one_changed : (table : List Slot) (i : ℕ) (slot : Slot) → i < table_slots → HaveChanged table (slice_set table i slot) (record { first = Some (change_at table i); second = None })
 one_changed table i slot within = record {
   first = (within, refl);
   second = tt;
@@ -36,7 +37,7 @@ one_changed table i slot within = record {
 }
 
 -- two slots were set
-pub two_changed : (table : List Slot) (i j : ℕ) (first second : Slot) → i < 256 → j < 256 → i ≢ j → HaveChanged table (slice_set (slice_set table i first) j second) (record { first = Some (change_at table i); second = Some (change_at table j) })
+pub two_changed : (table : List Slot) (i j : ℕ) (first second : Slot) → i < table_slots → j < table_slots → i ≢ j → HaveChanged table (slice_set (slice_set table i first) j second) (record { first = Some (change_at table i); second = Some (change_at table j) })
 two_changed table i j first second within_i within_j apart = record {
   first = (within_i, refl);
   second = (within_j, refl);

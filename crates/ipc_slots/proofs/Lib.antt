@@ -15,6 +15,7 @@ pub mod OutputSteps
 pub mod OutputCalls
 pub mod LiveCounts
 pub mod ThreadSteps
+pub mod MadeSlots
 pub mod CallSteps
 pub mod Lookups
 pub mod PhaseFacts

@@ -1,11 +1,12 @@
 -- A sum over the slots is the sum over the calls.
 use Rattle.std.proofs.lemmas.Bool.{cases_eq, ne_eqb}
 use Rattle.std.proofs.lemmas.List.Sums.{sum_by_push}
-use Rattle.std.proofs.Common.{◌≡◌, ◌≢◌, refl, sym, ap, ◌∙◌, ℕ, zero, suc, ◌+◌, ◌<◌, ◌≤◌, ◌==◌, eq-eqb, nat_le, if◌then◌else◌, Bool, true, false, not, cond, List, Option, Some, None, sum_by, ◌⊎◌, inl, inr, arith}
+use Rattle.std.proofs.Common.{◌≡◌, ◌≢◌, refl, sym, ap, subst, ◌∙◌, ℕ, zero, suc, ◌+◌, ◌<◌, ◌≤◌, ◌==◌, eq-eqb, nat_le, if◌then◌else◌, Bool, true, false, not, cond, List, Option, Some, None, sum_by, ◌⊎◌, inl, inr, arith}
 use Rattle.std.specs.Option.{option_map_or}
 use Rattle.std.proofs.lemmas.Bool.Decides.{nat_tests}
 use Rattle.std.proofs.lemmas.Grind.{common_steps}
 use Rattle.std.proofs.lemmas.Option.{same_Some}
+use Rattle.ipc_words.specs.Limits.{table_slots}
 use Rattle.ipc_words.specs.ThreadId.{number_of}
 use Rattle.ipc_history.specs.Calls.{numbers, calls_made, caller_of}
 use Rattle.ipc_history.specs.Phases.{is_over}
@@ -97,12 +98,12 @@ pub record Counts (P : List Entry) (by : Standing → ℕ) (of : ℕ → ℕ) : 
   pub opened : (n : ℕ) → is_over P n ≡ false → by (standing_of P n) ≡ of n
   pub over : (n : ℕ) → is_over P n ≡ true → of n ≡ 0
 
-module _ (P : List Entry) (slots : Slots) (legal : Legal P) (stands : Stands P slots) (by : Standing → ℕ) (of : ℕ → ℕ) (counts : Counts P by of) where
+module _ (P : List Entry) (slots : Slots) (legal : Legal P) (stands : Stands P slots) (by : Standing → ℕ) (of : ℕ → ℕ) (counts : Counts P by of) (size : ℕ) (whole : size ≡ table_slots) where
   positive : (n : ℕ) → is_over P n ≡ false → 0 < n
   positive n o = let made = called_place P n (open_is_called P n o) in let at = number_at P legal n made.thread made.call made.at in omega arith
 
   -- what the slots hold of the number n counts for it
-  one_number : (n : ℕ) → sum_below (λ k. weight by (λ x. x == n) (standing_in (slot_at slots.table k))) 256 ≡ of n
+  one_number : (n : ℕ) → sum_below (λ k. weight by (λ x. x == n) (standing_in (slot_at slots.table k))) size ≡ of n
   one_number n = go (is_over P n) refl
     where
       over : is_over P n ≡ true → (k : ℕ) → weight by (λ x. x == n) (standing_in (slot_at slots.table k)) ≡ 0
@@ -120,27 +121,27 @@ module _ (P : List Entry) (slots : Slots) (legal : Legal P) (stands : Stands P s
           only : (s : Standing) → Some (standing_of P n) ≡ Some s → (s.number == n) ≡ true
           only s e = eq-eqb s.number n (sym (ap (λ s. s.number) (same_Some (standing_of P n) s e)) ∙ standing_number P n)
 
-      go : (b : Bool) → is_over P n ≡ b → sum_below (λ k. weight by (λ x. x == n) (standing_in (slot_at slots.table k))) 256 ≡ of n
-      go true o = no_sum (λ k. weight by (λ x. x == n) (standing_in (slot_at slots.table k))) (over o) 256 ∙ sym (counts.over n o)
-      go false o = sum_past (λ k. weight by (λ x. x == n) (standing_in (slot_at slots.table k))) (number_of (caller_of P n)) (of n) (here o) (other o) 256 (live_within P slots legal stands (caller_of P n) (caller_lives P legal n o))
+      go : (b : Bool) → is_over P n ≡ b → sum_below (λ k. weight by (λ x. x == n) (standing_in (slot_at slots.table k))) size ≡ of n
+      go true o = no_sum (λ k. weight by (λ x. x == n) (standing_in (slot_at slots.table k))) (over o) size ∙ sym (counts.over n o)
+      go false o = sum_past (λ k. weight by (λ x. x == n) (standing_in (slot_at slots.table k))) (number_of (caller_of P n)) (of n) (here o) (other o) size (subst (λ k. number_of (caller_of P n) < k) (sym whole) (live_within P slots legal stands (caller_of P n) (caller_lives P legal n o)))
 
-  up_to_sum : (m : ℕ) → sum_below (λ k. weight by (λ n. nat_le n m) (standing_in (slot_at slots.table k))) 256 ≡ sum_by of (up_to m)
-  up_to_sum zero = no_sum (λ k. weight by (λ n. nat_le n 0) (standing_in (slot_at slots.table k))) (λ k. weight_none by (λ n. nat_le n 0) (standing_in (slot_at slots.table k)) (λ s e. low s.number (positive s.number (slot_standing P slots stands k s e).opened))) 256
+  up_to_sum : (m : ℕ) → sum_below (λ k. weight by (λ n. nat_le n m) (standing_in (slot_at slots.table k))) size ≡ sum_by of (up_to m)
+  up_to_sum zero = no_sum (λ k. weight by (λ n. nat_le n 0) (standing_in (slot_at slots.table k))) (λ k. weight_none by (λ n. nat_le n 0) (standing_in (slot_at slots.table k)) (λ s e. low s.number (positive s.number (slot_standing P slots stands k s e).opened))) size
     where
       low : (n : ℕ) → 0 < n → nat_le n 0 ≡ false
       low n h = grind (arith, nat_tests)
   up_to_sum (suc m) =
-      both_sums (λ k. weight by (λ n. nat_le n (suc m)) (standing_in (slot_at slots.table k))) (λ k. weight by (λ n. nat_le n m) (standing_in (slot_at slots.table k))) (λ k. weight by (λ n. n == suc m) (standing_in (slot_at slots.table k))) (λ k. one_more by m (standing_in (slot_at slots.table k))) 256
+      both_sums (λ k. weight by (λ n. nat_le n (suc m)) (standing_in (slot_at slots.table k))) (λ k. weight by (λ n. nat_le n m) (standing_in (slot_at slots.table k))) (λ k. weight by (λ n. n == suc m) (standing_in (slot_at slots.table k))) (λ k. one_more by m (standing_in (slot_at slots.table k))) size
       ∙ rw (up_to_sum m, one_number (suc m)) (sym (sum_by_push of (up_to m) (suc m)))
 
-  pub sums_are : sum_below (λ k. option_map_or by (standing_in (slot_at slots.table k)) 0) 256 ≡ sum_by of (numbers P)
-  sums_are = same_sum (λ k. option_map_or by (standing_in (slot_at slots.table k)) 0) (λ k. weight by (λ n. nat_le n (calls_made P)) (standing_in (slot_at slots.table k))) (λ k. sym (weight_all by (λ n. nat_le n (calls_made P)) (standing_in (slot_at slots.table k)) (λ s e. low s.number (called_below P legal s.number (open_is_called P s.number (slot_standing P slots stands k s e).opened))))) 256 ∙ (up_to_sum (calls_made P) ∙ ap (sum_by of) (sym (numbered P legal)))
+  pub sums_are : sum_below (λ k. option_map_or by (standing_in (slot_at slots.table k)) 0) size ≡ sum_by of (numbers P)
+  sums_are = same_sum (λ k. option_map_or by (standing_in (slot_at slots.table k)) 0) (λ k. weight by (λ n. nat_le n (calls_made P)) (standing_in (slot_at slots.table k))) (λ k. sym (weight_all by (λ n. nat_le n (calls_made P)) (standing_in (slot_at slots.table k)) (λ s e. low s.number (called_below P legal s.number (open_is_called P s.number (slot_standing P slots stands k s e).opened))))) size ∙ (up_to_sum (calls_made P) ∙ ap (sum_by of) (sym (numbered P legal)))
     where
       low : (n : ℕ) → n ≤ calls_made P → nat_le n (calls_made P) ≡ true
       low n h = grind (arith, nat_tests)
 
   pub sum_told : (i total : ℕ) → slots.top ≤ i → i ≤ slots.top → total ≡ sum_below (λ k. option_map_or by (standing_in (slot_at slots.table k)) 0) i → total ≡ sum_by of (numbers P)
-  sum_told i total past within e = let all : i ≡ slots.top = omega arith in e ∙ (ap (sum_below (λ k. option_map_or by (standing_in (slot_at slots.table k)) 0)) all ∙ (sym (sum_tail (λ k. option_map_or by (standing_in (slot_at slots.table k)) 0) slots.top above 256 stands.top) ∙ sums_are))
+  sum_told i total past within e = let all : i ≡ slots.top = omega arith in e ∙ (ap (sum_below (λ k. option_map_or by (standing_in (slot_at slots.table k)) 0)) all ∙ (sym (sum_tail (λ k. option_map_or by (standing_in (slot_at slots.table k)) 0) slots.top above size (subst (λ k. slots.top ≤ k) (sym whole) stands.top)) ∙ sums_are))
     where
       above : (k : ℕ) → slots.top ≤ k → option_map_or by (standing_in (slot_at slots.table k)) 0 ≡ 0
       above k far = go (standing_in (slot_at slots.table k)) refl
@@ -155,11 +156,11 @@ unfolding pledge_of standing_of
 pledges_count P = record { opened = λ n o. rw o refl; over = λ n o. rw o refl }
 
 pub pledges_told : (P : List Entry) (slots : Slots) → Legal P → Stands P slots → (i total : ℕ) → slots.top ≤ i → i ≤ slots.top → total ≡ sum_below (λ k. pledge_in (slot_at slots.table k)) i → total ≡ sum_by (pledge_of P) (numbers P)
-pledges_told P slots legal stands i total past within e = sum_told P slots legal stands pledge_by (pledge_of P) (pledges_count P) i total past within e
+pledges_told P slots legal stands i total past within e = sum_told P slots legal stands pledge_by (pledge_of P) (pledges_count P) table_slots refl i total past within e
 
 opens_count : (P : List Entry) → Counts P (λ s. 1) (λ n. cond (not (is_over P n)) 1 0)
 opens_count P = record { opened = λ n o. rw o refl; over = λ n o. rw o refl }
 
 pub opens_told : (P : List Entry) (slots : Slots) → Legal P → Stands P slots → (i total : ℕ) → slots.top ≤ i → i ≤ slots.top → total ≡ sum_below (λ k. open_in (slot_at slots.table k)) i → total ≡ open_calls P
 unfolding open_calls
-opens_told P slots legal stands i total past within e = sum_told P slots legal stands (λ s. 1) (λ n. cond (not (is_over P n)) 1 0) (opens_count P) i total past within e
+opens_told P slots legal stands i total past within e = sum_told P slots legal stands (λ s. 1) (λ n. cond (not (is_over P n)) 1 0) (opens_count P) table_slots refl i total past within e

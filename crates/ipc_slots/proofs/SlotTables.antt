@@ -270,3 +270,15 @@ both_calling first second table i j =
     let c = standing_in (with_call first (slot_at table i)) in
     ap (slice_set (slice_set table i (calling c (slot_at table i))) j) (calling_beside table i j (standing_in (with_call second (slot_at table j))) c ∙ calling_after second (slot_at table j))
     ∙ ap (λ slot. slice_set (slice_set table i slot) j (with_call second (slot_at table j))) (calling_after first (slot_at table i))
+
+-- a number that is set, with the open call of its live thread
+pub made_is : (xs : List Numbered) (cs : List (Option Standing)) (table : List Slot) (k version : ℕ) (live : Live) → slots_from 0 xs cs ≡ table → live.thread ≡ id_of k version → slots_from 0 (slice_set xs k (record { last = version; space = Some live.space })) (slice_set cs k live.call) ≡ slice_set table k (record { version = next_version_of version; live = Some live })
+made_is xs cs table k version live slots thread =
+    both_set 0 k xs cs (record { last = version; space = Some live.space }) live.call
+    ∙ (ap (λ l. slice_set l k (slot_from (0 + k) (record { last = version; space = Some live.space }) live.call)) slots
+    ∙ ap (λ t. slice_set table k (record { version = next_version_of version; live = Some (record { thread = t; space = live.space; call = live.call }) })) (ap (λ j. id_of j version) (at_zero k) ∙ sym thread))
+
+pub made_none : (xs : List Numbered) (cs : List (Option Standing)) (table : List Slot) (k version : ℕ) → slots_from 0 xs cs ≡ table → slots_from 0 (slice_set xs k (record { last = version; space = None })) (slice_set cs k None) ≡ slice_set table k (record { version = next_version_of version; live = None })
+made_none xs cs table k version slots =
+    both_set 0 k xs cs (record { last = version; space = None }) None
+    ∙ ap (λ l. slice_set l k (record { version = next_version_of version; live = None })) slots

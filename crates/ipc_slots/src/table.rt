@@ -1,6 +1,7 @@
-ghost use Rattle.std.specs.Prelude.{◌≡◌, ◌<◌, IsSome, is_some, option_copied, replicate, slice_set};
+ghost use Rattle.std.specs.Prelude.{◌≡◌, ◌<◌, None, IsSome, is_some, option_copied, replicate, slice_set};
 ghost use Rattle.ipc_words.specs.Limits.{table_slots};
 ghost use Rattle.ipc_words.specs.ThreadId.{number_of};
+ghost use Rattle.ipc_slots.specs.Making.{IsOfNumber, made_slot};
 ghost use Rattle.ipc_slots.specs.Steps.{calling, standing_in};
 ghost use Rattle.ipc_slots.specs.Table.{MayOpen, blank, ended, fresh, live_in, live_slots, slot_at};
 
@@ -10,7 +11,7 @@ use ipc_words::limits::TABLE_SLOTS;
 use ipc_words::{ThreadId, next_version};
 use std::marker::Model;
 
-/// The threads by their numbers, each with its open call; seen as the list of the slots of the numbers 0 to 255.
+/// The threads by their numbers, each with its open call; seen as the list of the slots of the numbers, [`TABLE_SLOTS`] from 0 on.
 #[derive(Drop)]
 pub(crate) struct SlotTable {
     threads: ThreadTable,
@@ -119,6 +120,26 @@ impl SlotTable {
     {
         if let Some(known) = self.hints.get_mut(place) {
             *known = hint;
+        }
+    }
+
+    /// Sets what a number has that has no live thread: its last version, and a live thread, if there is one.
+    pub(crate) fn make(&mut self, place: usize, version: u32, live: Option<Live>)
+        requires within { place < table_slots }
+        requires free { (slot_at self.old place).live ≡ None }
+        requires live { IsOfNumber place version live }
+        ensures { self.new ≡ slice_set self.old place (made_slot version live) }
+    {
+        match live {
+            Some(live) => {
+                self.threads
+                    .set(place as u32, version, Some(live.space as u32));
+                self.calls[place] = live.call;
+            }
+            None => {
+                self.threads.set(place as u32, version, None);
+                self.calls[place] = None;
+            }
         }
     }
 

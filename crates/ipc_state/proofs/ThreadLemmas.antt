@@ -4,6 +4,7 @@ use Rattle.std.specs.Prelude.{replicate}
 use Rattle.std.specs.Option.{option_or}
 use Rattle.std.proofs.Math.ListN.{set}
 use Rattle.std.proofs.lemmas.List.{get_or-set_same, get_or-set_other}
+use Rattle.ipc_words.specs.Limits.{table_slots}
 use Rattle.ipc_words.specs.ThreadId.{number_of}
 use Rattle.ipc_history.specs.Words.{last_some}
 use Rattle.ipc_history.specs.Entries.{thread_in}
@@ -42,14 +43,14 @@ none_at (suc n) zero = refl
 none_at (suc n) (suc k) = none_at n k
 
 -- no thread was opened yet
-pub opened_start : (P : List Entry) (k : ℕ) → k < 256 → get_or (replicate 256 None) k None ≡ last_some (thread_in k) (take 0 P)
-opened_start P k below = none_at 256 k
+pub opened_start : (P : List Entry) (k : ℕ) → k < table_slots → get_or (replicate table_slots None) k None ≡ last_some (thread_in k) (take 0 P)
+opened_start P k below = none_at table_slots k
 
 -- one entry more
 pub opened_more : (P : List Entry) (i : ℕ) (e : Entry) (old new : List (Option ℕ)) → i < length P → e ≡ get_or P i e
-    → ((k : ℕ) → k < 256 → get_or new k None ≡ option_or (thread_in k e) (get_or old k None))
-    → ((k : ℕ) → k < 256 → get_or old k None ≡ last_some (thread_in k) (take i P))
-    → (k : ℕ) → k < 256 → get_or new k None ≡ last_some (thread_in k) (take (i + 1) P)
+    → ((k : ℕ) → k < table_slots → get_or new k None ≡ option_or (thread_in k e) (get_or old k None))
+    → ((k : ℕ) → k < table_slots → get_or old k None ≡ last_some (thread_in k) (take i P))
+    → (k : ℕ) → k < table_slots → get_or new k None ≡ last_some (thread_in k) (take (i + 1) P)
 opened_more P i e old new within at step before k below =
     step k below ∙ ap (option_or (thread_in k e)) (before k below)
     ∙ ap (λ x. option_or (thread_in k x) (last_some (thread_in k) (take i P))) at ∙ sym (last_some_more (thread_in k) P i e within)

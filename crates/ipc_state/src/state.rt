@@ -14,7 +14,7 @@ use ipc_words::limits::TABLE_SLOTS;
 /// What a history says of its threads.
 #[derive(Clone, Copy)]
 pub struct State {
-    /// The live thread of each number from 0 to 255, with its open call; None where none is live.
+    /// The live thread of each number from 0 on, with its open call; None where none is live.
     pub threads: [Option<Live>; TABLE_SLOTS],
     /// The moment, in microseconds.
     pub moment: u64,

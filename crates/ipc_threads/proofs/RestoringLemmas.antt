@@ -8,6 +8,7 @@ use Rattle.std.proofs.lemmas.List.Folds.{find-append}
 use Rattle.std.proofs.lemmas.Bool.{ne_eqb}
 use Rattle.std.proofs.lemmas.Bool.Decides.{eqb_tells, nat_tests}
 use Rattle.std.proofs.lemmas.Grind.{common_steps}
+use Rattle.ipc_words.specs.Limits.{table_slots}
 use Rattle.ipc_threads.specs.Restoring.{IsFirstFault, IsRestoredFrom, fault_at, fault_of, given, is_last_version}
 use Rattle.ipc_threads.specs.Threads.{blank, last_version_of, live_count, slot_of}
 use Rattle.ipc_threads.specs.declared.table.Slot.{Slot}
@@ -33,10 +34,10 @@ live_count-replicate (suc n) = live_count-replicate n
 length-blank : (n : ℕ) → length (replicate n blank) ≡ n
 length-blank n = grind (arith, common_steps)
 
-pub restored_none : (pairs : List (ℕ × ℕ)) → IsRestoredUpTo pairs 0 (replicate 256 blank)
+pub restored_none : (pairs : List (ℕ × ℕ)) → IsRestoredUpTo pairs 0 (replicate table_slots blank)
 restored_none pairs = record {
-  restored = record { size = length-blank 256; slots = slot_of-replicate 256 };
-  quiet = live_count-replicate 256;
+  restored = record { size = length-blank table_slots; slots = slot_of-replicate table_slots };
+  quiet = live_count-replicate table_slots;
   faultless = λ k h. absurd (omega arith);
   versions = λ number e. cc;
 }
@@ -70,10 +71,10 @@ choose true true h = cc
 choose true false h = (refl, refl)
 choose false taken h = cc
 
-good_pair : (number version : ℕ) → is_last_version (number, version) ≡ true → (number < 256) × (version ≢ 0)
+good_pair : (number version : ℕ) → is_last_version (number, version) ≡ true → (number < table_slots) × (version ≢ 0)
 good_pair number version h = grind (arith, nat_tests)
 
-faultless_pair : (taken : Bool) (pair : ℕ × ℕ) → fault_of taken pair ≡ None → (taken ≡ false) × (pair.0 < 256) × (pair.1 ≢ 0)
+faultless_pair : (taken : Bool) (pair : ℕ × ℕ) → fault_of taken pair ≡ None → (taken ≡ false) × (pair.0 < table_slots) × (pair.1 ≢ 0)
 faultless_pair taken pair h =
     let both = choose (is_last_version pair) taken h in
     let good = good_pair pair.0 pair.1 both.0 in
@@ -109,7 +110,7 @@ free_number (Some v) h = cc
 abbrev restored_slot : Option ℕ → Slot
 restored_slot version = record { last = unwrap_or version 0; space = None }
 
-more_slots : (xs : List (ℕ × ℕ)) (x : ℕ × ℕ) (table : List Slot) → IsRestoredFrom xs table → given xs x.0 ≡ None → x.0 < 256
+more_slots : (xs : List (ℕ × ℕ)) (x : ℕ × ℕ) (table : List Slot) → IsRestoredFrom xs table → given xs x.0 ≡ None → x.0 < table_slots
     → (number : ℕ) → slot_of (set table x.0 (restored_slot (Some x.1))) number ≡ restored_slot (given (xs ++ x ∷ []) number)
 more_slots xs x table h none within number = go (eqb_tells number x.0)
   where
@@ -145,7 +146,7 @@ restored_more pairs i table new within h sound written quiet =
     let good = faultless_pair (not (last_version_of table (slice_index_or pairs i (0, 0)).0 == 0)) (slice_index_or pairs i (0, 0)) sound in
     let free = free_number (given (take i pairs) (slice_index_or pairs i (0, 0)).0) (taken_is pairs i table (slice_index_or pairs i (0, 0)).0 h ∙ good.0) in
     let more : take (i + 1) pairs ≡ take i pairs ++ (slice_index_or pairs i (0, 0) ∷ []) = rw add-one (take-suc pairs i (0, 0) within) in
-    let size : length new ≡ 256 = ap length written ∙ length-set table _ _ ∙ h.restored.size in
+    let size : length new ≡ table_slots = ap length written ∙ length-set table _ _ ∙ h.restored.size in
     let slots : (number : ℕ) → slot_of new number ≡ restored_slot (given (take i pairs ++ (slice_index_or pairs i (0, 0) ∷ [])) number) =
     λ number. ap (λ (t : List Slot). slot_of t number) written ∙ more_slots (take i pairs) (slice_index_or pairs i (0, 0)) table h.restored free good.1 number in
     record {

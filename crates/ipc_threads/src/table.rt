@@ -21,7 +21,7 @@ pub struct Slot {
     pub space: Option<u32>,
 }
 
-/// The threads by their numbers, seen as the list of the slots of the numbers 0 to 255.
+/// The threads by their numbers, seen as the list of the slots of the numbers, [`TABLE_SLOTS`] from 0 on.
 #[derive(Drop)]
 pub struct ThreadTable {
     slots: [Slot; TABLE_SLOTS],
@@ -60,8 +60,8 @@ impl ThreadTable {
     }
 
     /// A table with these last versions, each beside its number, and with no thread live. Refusals:
-    /// K1 for a number that is not 1 to 255 or a version whose low six bits are zero, K2 for a
-    /// number that an earlier pair names. The first pair at fault decides, and of one pair K1
+    /// K1 for a number that is not 1 to [`MAX_THREAD_NUMBER`] or a version whose low six bits are
+    /// zero, K2 for a number that an earlier pair names. The first pair at fault decides, and of one pair K1
     /// before K2.
     pub fn restore(pairs: &[(u32, u32)]) -> Result<ThreadTable, ThreadRefusal>
         ensures faultless { IfOk result (λ _. (k : ℕ) → k < length pairs.now
@@ -101,6 +101,22 @@ impl ThreadTable {
             space: None,
         };
         Ok(())
+    }
+
+    /// Sets what a number has: its last version, and the space of its live thread, if one lives. For a table that is made
+    /// from what was kept of another one.
+    pub fn set(&mut self, number: u32, version: u32, space: Option<u32>)
+        requires within { number < table_slots }
+        requires free { (slot_of self.old number).space ≡ None }
+        ensures { self.new ≡ slice_set self.old number (record { last = version; space = space }) }
+    {
+        self.slots[number as usize] = Slot {
+            last: version,
+            space,
+        };
+        if space.is_some() {
+            self.live += 1;
+        }
     }
 
     /// How many threads are live.
@@ -164,8 +180,8 @@ impl ThreadTable {
     }
 
     /// The id that `open` would give a thread of this number in this space. Refusals, in this
-    /// order: K1 where the number is not 1 to 255 or the space not 1 to 64, K2 where a thread of
-    /// the number is live, K3 where the last version of the number has none after it.
+    /// order: K1 where the number is not 1 to [`MAX_THREAD_NUMBER`] or the space not 1 to
+    /// [`MAX_SPACE`], K2 where a thread of the number is live, K3 where the last version of the number has none after it.
     pub fn next_id(&self, number: u32, space: u32) -> Result<ThreadId, ThreadRefusal>
         ensures answer { result ≡ next_id_of self.now number space }
         ensures bad_number { (result ≡ Err ThreadRefusal.BadNumber) ↔ (¬ IsPlace number space) }
@@ -267,7 +283,7 @@ mod tests {
     #[test]
     fn opens_and_closes(rt: HostRuntime) -> Result<(), Fail> {
         let mut table = ThreadTable::new();
-        for (number, space) in [(256, 1), (0, 1), (1, 0), (1, 65)] {
+        for (number, space) in [(1024, 1), (0, 1), (1, 0), (1, 65)] {
             let refused = word(table.open(number, space));
             assert_eq!(rt;
                 refused,
@@ -279,7 +295,7 @@ mod tests {
         let first = table.open(1, 1)?;
         assert_eq!(rt; first.to_word(), 0x1_0000_0001);
         assert_eq!(rt; word(table.open(1, 1)), Err(ThreadRefusal::NumberTaken));
-        assert_eq!(rt; word(table.open(255, 64)), Ok(0xff_0000_0001));
+        assert_eq!(rt; word(table.open(1023, 64)), Ok(0x3ff_0000_0001));
         assert_eq!(rt; table.live(), 2);
         assert_eq!(rt; table.space_of(first), Some(1));
         assert!(rt; table.close(first));
@@ -310,7 +326,7 @@ mod tests {
     fn refuses_to_restore(rt: HostRuntime) {
         let cases: [(&[(u32, u32)], u8); 6] = [
             (&[(0, 1)], 1),
-            (&[(256, 1)], 1),
+            (&[(1024, 1)], 1),
             (&[(1, 0)], 1),
             (&[(1, 64)], 1),
             (&[(1, 1), (2, 1), (1, 2), (0, 1)], 2),

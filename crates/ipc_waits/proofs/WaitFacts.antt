@@ -4,6 +4,7 @@ use Rattle.std.proofs.lemmas.Option.{cond_some}
 use Rattle.std.proofs.Common.{◌≡◌, refl, sym, ap, ◌∙◌, subst, ℕ, ◌-◌, ◌^◌, ◌<◌, ◌≤◌, ◌==◌, ◌&&◌, eq-eqb, eqb-true, nat_le, Bool, true, false, List, Option, Some, None, map, arith}
 use Rattle.std.specs.List.{list_any}
 use Rattle.std.specs.Option.{option_map_or}
+use Rattle.ipc_words.specs.Limits.{table_slots}
 use Rattle.ipc_words.specs.ThreadId.{anythread, anylocalthread, number_of}
 use Rattle.ipc_history.specs.Calls.{numbers, caller_of, to_of}
 use Rattle.ipc_history.specs.Threads.{is_live}
@@ -135,7 +136,7 @@ live_is_neither P slots legal stands t live =
     let within = live_within P slots legal stands t live in
     (other anythread (omega arith) within, other anylocalthread (omega arith) within)
   where
-    other : (id : ℕ) → 256 ≤ number_of id → number_of t < 256 → (t == id) ≡ false
+    other : (id : ℕ) → table_slots ≤ number_of id → number_of t < table_slots → (t == id) ≡ false
     other id far near = false_from_ne_true (t == id) (λ same. (let e : number_of t ≡ number_of id = ap number_of (eqb-true t id same) in absurd (omega arith)))
 
 module _ (P : List Entry) (slots : Slots) (legal : Legal P) (stands : Stands P slots) (ws : List Wait) (mirrors : Mirrors watches_under slots.table ws) where

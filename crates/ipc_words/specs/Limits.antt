@@ -3,14 +3,14 @@ use Rattle.std.specs.Prelude.{ℕ, ◌^◌}
 
 -- Threads and spaces. Our choice: the greatest thread number and the greatest space; both are counted from 1
 abbrev pub max_thread_number : ℕ
-max_thread_number = 255
+max_thread_number = 1023
 
 abbrev pub max_space : ℕ
 max_space = 64
 
 -- the slots of a table of threads: one for each number from 0
 abbrev pub table_slots : ℕ
-table_slots = 256
+table_slots = 1024
 
 -- our choice: the greatest number of a connection, counted from 1; a number is never used twice
 abbrev pub max_connections : ℕ
@@ -57,11 +57,11 @@ block_bytes = 65536
 
 -- an input brings at most four outputs for each thread number
 abbrev pub max_outputs : ℕ
-max_outputs = 1020
+max_outputs = 4092
 
 -- a command appends at most an At, its input, and the outputs that it brings
 abbrev pub max_command_entries : ℕ
-max_command_entries = 1022
+max_command_entries = 4094
 
 -- Room, in entries. What an open, a call, each block of its strings, and an ExchangeRegisters may need
 abbrev pub need_of_open : ℕ

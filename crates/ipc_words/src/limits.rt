@@ -12,13 +12,17 @@ ghost use Rattle.ipc_words.specs.Limits.{max_line_bytes, max_frame_body, max_pie
 ghost use Rattle.ipc_words.specs.Limits.{max_chart_entry};
 
 /// The greatest thread number; the least is 1.
-pub const MAX_THREAD_NUMBER: u32 = 255;
+pub const MAX_THREAD_NUMBER: u32 = 1_023;
+
+/// What K1 means, for people: the limits of thread numbers and spaces.
+pub const THREADS_AND_SPACES: &str =
+    "the thread number is not 1 to 1023, or the space is not 1 to 64";
 
 /// The greatest address space; the least is 1.
 pub const MAX_SPACE: u32 = 64;
 
 /// The slots of a table of threads, one for each number from 0.
-pub const TABLE_SLOTS: usize = 256;
+pub const TABLE_SLOTS: usize = 1_024;
 
 /// The greatest number of a connection; the first is 1, and none is used twice.
 pub const MAX_CONNECTIONS: u32 = 65_535;
@@ -54,10 +58,10 @@ pub const MAX_CALLS: u64 = 4_294_967_295;
 pub const BLOCK_BYTES: u64 = 65_536;
 
 /// The most outputs that an input brings: four for each thread number.
-pub const MAX_OUTPUTS: usize = 1_020;
+pub const MAX_OUTPUTS: usize = 4_092;
 
 /// The most entries that a command appends: an `At`, its input, and its outputs.
-pub const MAX_COMMAND_ENTRIES: usize = 1_022;
+pub const MAX_COMMAND_ENTRIES: usize = 4_094;
 
 /// The entries that an open may need.
 pub const NEED_OF_OPEN: u64 = 4;

@@ -57,11 +57,24 @@ static inline L4_Bool_t L4_IsGlobalId(L4_ThreadId_t t)
 	return (t.raw & 0x3f) != 0;
 }
 
-/* Makes the calling thread the L4 thread of this number (1 to 255) in this space (1 to 64) of the server whose folder
+/* Makes the calling thread the L4 thread of this number (1 to 1023) in this space (1 to 64) of the server whose folder
  * is dir: it connects to dir/spaceN. 0, or -1 with errno: that of connect(2) or socket(2); EISCONN where the thread is
  * connected; EINVAL, EADDRINUSE, EADDRNOTAVAIL, ENOMEM, ENOSPC for REFUSED K1 to K5; EPROTO for a FAULT or another
  * answer. The connection, and so the L4 thread, ends with the thread of the process at the latest. */
 int l4_connect(const char *dir, unsigned space, unsigned number);
+
+/* The same, and the version of the wire that is spoken: 1, which l4_connect speaks, or 2; EINVAL for another one. A server that
+ * has version 1 alone answers FAULT F3, so errno is EPROTO and l4_error begins with it: call l4_connect then. */
+int l4_connect_version(const char *dir, unsigned space, unsigned number, unsigned version);
+
+/* What version 2 tells of the last Ipc of the calling thread, also of one that was made for l4/names.h: the number of the
+ * call, which is that in the trace of the server, and the moment at which it was over, in microseconds since the server began.
+ * False, and 0 in both places, where nothing was told: in version 1, before the first Ipc, and where the last one was refused or
+ * was not made. Either pointer may be null. */
+L4_Bool_t l4_last_call(L4_Word_t *number, L4_Word64_t *moment);
+
+/* The moment of the last ExchangeRegisters of the calling thread, in the same way. */
+L4_Bool_t l4_last_exchange(L4_Word64_t *moment);
 
 /* Ends the L4 thread. Nothing happens where the calling thread is none. */
 void l4_disconnect(void);

@@ -14,13 +14,16 @@ class IpcError(L4Error):
     """A phase of a call failed, as the ErrorCode says. The thread goes on.
 
     ``phase`` is ``"send"`` or ``"receive"``. Where the send phase failed no receive phase took place. ``code`` is the word of the
-    ErrorCode, and ``offset`` its offset: a number of bytes for `Overflow` and `Aborted`, else 0.
+    ErrorCode, and ``offset`` its offset: a number of bytes for `Overflow` and `Aborted`, else 0. ``call`` and ``moment`` are the number
+    of the call and the moment at which it was over, in microseconds of the server; in version 1 of the wire they are ``None``.
     """
 
     text = "an error that has no name"
 
-    def __init__(self, code: int) -> None:
+    def __init__(self, code: int, call: Optional[int] = None, moment: Optional[int] = None) -> None:
         self.code = code
+        self.call = call
+        self.moment = moment
         self.phase = RECEIVE if code & 1 else SEND
         self.offset = code >> 4
         super().__init__(code)
@@ -80,7 +83,7 @@ class Refused(L4Error):
     """The kernel refused the command, and nothing changed: the number after K. The thread goes on."""
 
     MEANINGS = {
-        1: "no thread number of 1 to 255",
+        1: "no thread number of 1 to 1,023",
         2: "a thread of that number is live",
         3: "the versions of the number are used up",
         4: "no memory",
@@ -121,9 +124,9 @@ class BadFrame(L4Error):
 _KINDS = {1: Timeout, 2: NoPartner, 3: Cancelled, 4: Overflow, 7: Aborted}
 
 
-def ipc_error(code: int) -> IpcError:
+def ipc_error(code: int, call: Optional[int] = None, moment: Optional[int] = None) -> IpcError:
     """The exception of an ErrorCode."""
-    return _KINDS.get(code >> 1 & 7, IpcError)(code)
+    return _KINDS.get(code >> 1 & 7, IpcError)(code, call, moment)
 
 
 def kinds() -> Tuple[type, ...]:

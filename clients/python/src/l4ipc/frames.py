@@ -1,4 +1,4 @@
-"""Frames: what goes over the socket. docs/FORMATS.md has them."""
+"""Frames: what goes over the socket, in both versions of the wire. docs/FORMATS.md has them."""
 
 import struct
 from dataclasses import dataclass
@@ -13,17 +13,23 @@ MAX_BODY = 2_097_152
 
 HELLO, IPC, EXREG, BYE = 0x01, 0x02, 0x03, 0x04
 WELCOME, IPCR, EXREGR, REFUSED, FAULT = 0x81, 0x82, 0x83, 0x84, 0x85
+IPCR_2, EXREGR_2 = 0x86, 0x87
+"""What version 2 has in the place of IPCR and EXREGR."""
+
+VERSIONS = (1, 2)
 
 _IPC_HEAD = struct.Struct(">IBQQIQQQB")
 _IPCR_HEAD = struct.Struct(">QQQQ")
+_TIMES = struct.Struct(">QQ")
 _PIECE = struct.Struct(">QI")
-_LENGTHS = {WELCOME: 9, EXREGR: 25, REFUSED: 2, FAULT: 3}
-_IPCR_LEAST = 34
+_LENGTHS = {WELCOME: 9, EXREGR: 25, EXREGR_2: 33, REFUSED: 2, FAULT: 3}
+_IPCR_LEAST = {IPCR: 34, IPCR_2: 50}
+_OF_ANOTHER_VERSION = {1: (IPCR_2, EXREGR_2), 2: (IPCR, EXREGR)}
 
 
 @dataclass(frozen=True)
 class Outcome:
-    """An IPCR frame: what became of a call."""
+    """An IPCR frame: what became of a call. In version 2 with the number of the call, and the moment at which it was over."""
 
     tag: int
     sender: ThreadId
@@ -31,6 +37,8 @@ class Outcome:
     error: int
     words: Tuple[int, ...]
     pieces: Tuple[Tuple[int, memoryview], ...]
+    call: Optional[int] = None
+    moment: Optional[int] = None
 
 
 @dataclass(frozen=True)
@@ -42,11 +50,12 @@ class Welcome:
 
 @dataclass(frozen=True)
 class Exchanged:
-    """An EXREGR frame: what ExchangeRegisters answers."""
+    """An EXREGR frame: what ExchangeRegisters answers. In version 2 with its moment."""
 
     result: ThreadId
     control: int
     code: int
+    moment: Optional[int] = None
 
 
 @dataclass(frozen=True)
@@ -67,11 +76,15 @@ class FaultTold:
 Answer = Union[Welcome, Outcome, Exchanged, Refusal, FaultTold]
 
 
-def hello(number: int) -> bytes:
-    """HELLO: asks for the thread of a number."""
+def hello(number: int, version: int = 1) -> bytes:
+    """HELLO: asks for the thread of a number, and for answers of a version."""
     if not 0 <= number < 1 << 16:
         raise ValueError(f"{number} is no number of 16 bits")
-    return struct.pack(">IBH", 3, HELLO, number)
+    if version not in VERSIONS:
+        raise ValueError(f"the wire has versions 1 and 2, and not {version}")
+    if version == 1:
+        return struct.pack(">IBH", 3, HELLO, number)
+    return struct.pack(">IBHH", 5, HELLO, number, version)
 
 
 def bye() -> bytes:
@@ -112,10 +125,12 @@ def body_length(head: bytes) -> int:
     return int(length)
 
 
-def check_kind(kind: int, length: int) -> None:
-    """Looks whether a body of this kind may have this length."""
-    if kind == IPCR:
-        fits = length >= _IPCR_LEAST
+def check_kind(kind: int, length: int, version: int = 1) -> None:
+    """Looks whether a body of this kind may come in this version, and have this length."""
+    if kind in _OF_ANOTHER_VERSION[version]:
+        raise BadFrame(f"a frame of kind {kind:#x}, which version {version} does not have")
+    if kind in _IPCR_LEAST:
+        fits = length >= _IPCR_LEAST[kind]
     elif kind in _LENGTHS:
         fits = length == _LENGTHS[kind]
     else:
@@ -124,24 +139,26 @@ def check_kind(kind: int, length: int) -> None:
         raise BadFrame(f"a frame of kind {kind:#x} with a body of {length} bytes")
 
 
-def read(body: Bytes) -> Answer:
+def read(body: Bytes, version: int = 1) -> Answer:
     """The frame of a body. Its kind and its length were looked at before."""
     body = memoryview(body)
-    check_kind(body[0], len(body))
+    check_kind(body[0], len(body), version)
     kind = body[0]
     if kind == IPCR:
         return _outcome(body[1:])
+    if kind == IPCR_2:
+        return _outcome(body[1 + _TIMES.size :], *_TIMES.unpack_from(body, 1))
     if kind == WELCOME:
         return Welcome(ThreadId.from_bytes(body[1:9], "big"))
-    if kind == EXREGR:
-        result, control, code = struct.unpack(">QQQ", body[1:])
-        return Exchanged(ThreadId(result), control, code)
+    if kind in (EXREGR, EXREGR_2):
+        *moment, result, control, code = struct.unpack(f">{len(body) // 8}Q", body[1:])
+        return Exchanged(ThreadId(result), control, code, *moment)
     if kind == REFUSED:
         return Refusal(body[1])
     return FaultTold(body[1], body[2])
 
 
-def _outcome(body: memoryview) -> Outcome:
+def _outcome(body: memoryview, call: Optional[int] = None, moment: Optional[int] = None) -> Outcome:
     tag, sender, actual_sender, error = _IPCR_HEAD.unpack_from(body)
     count = (tag & 0x3F) + (tag >> 6 & 0x3F)
     if count > MAX_MESSAGE_WORDS:
@@ -151,7 +168,7 @@ def _outcome(body: memoryview) -> Outcome:
         raise BadFrame("an outcome that is too short for its words")
     words = struct.unpack_from(f">{count}Q", body, _IPCR_HEAD.size)
     pieces = _pieces(body[place + 1 :], body[place])
-    return Outcome(tag, ThreadId(sender), ThreadId(actual_sender), error, words, pieces)
+    return Outcome(tag, ThreadId(sender), ThreadId(actual_sender), error, words, pieces, call, moment)
 
 
 def _pieces(body: memoryview, count: int) -> Tuple[Tuple[int, memoryview], ...]:

@@ -64,7 +64,8 @@ class Received:
 
     ``sender`` is the thread that is shown as its sender, to whom a reply goes. ``actual_sender`` is who sent it where it was propagated,
     else ``None``. A string is ``bytes`` where its buffer was given by a size or by parts, and a ``memoryview`` of the filled front of the
-    buffer where that was memory.
+    buffer where that was memory. ``call`` and ``moment`` are the number of the call that received it and the moment at which that was
+    over, in microseconds of the server; in version 1 of the wire they are ``None``.
     """
 
     sender: ThreadId
@@ -72,6 +73,8 @@ class Received:
     words: Tuple[int, ...]
     strings: Tuple[Union[bytes, memoryview], ...] = ()
     actual_sender: Optional[ThreadId] = None
+    call: Optional[int] = None
+    moment: Optional[int] = None
 
 
 class BufferStrings:

@@ -24,37 +24,45 @@ _MOST_READ = 65_536
 class Thread:
     """A thread of l4d: one connection, which is live until it is closed.
 
-    ``directory`` is the folder of the server, ``number`` the thread number that is asked for (1 to 255), ``space`` the space whose path is
+    ``directory`` is the folder of the server, ``number`` the thread number that is asked for (1 to 1,023), ``space`` the space whose path is
     connected to. ``id`` is the thread's id. As a context manager it says BYE at the end.
+
+    ``version`` is that of the wire, 1 or 2. In version 2 the server tells of each call its number and the moment at which it was over, in
+    microseconds since the server began; in version 1 these are ``None``. A server that has version 1 alone raises `Fault` F3: connect again.
+    ``last_call`` is the number of the Ipc that was over last, and ``last_moment`` the moment of the last answer to an Ipc or an
+    ExchangeRegisters: also for `send` and `sleep`, which answer nothing.
 
     One call is open at a time. A call that is interrupted, as by KeyboardInterrupt, closes the thread, since its answer would be taken for
     that of the next call. Timeouts are in seconds: ``None`` is never, 0 is zero time, and each other one is the shortest period that
     is not shorter.
     """
 
-    def __init__(self, directory: Union[str, "os.PathLike[str]"], number: int, space: int = 1) -> None:
+    def __init__(self, directory: Union[str, "os.PathLike[str]"], number: int, space: int = 1, version: int = 1) -> None:
         connection = socket.socket(socket.AF_UNIX, socket.SOCK_STREAM)
         try:
             connection.connect(os.path.join(os.fspath(directory), f"space{space}"))
         except BaseException:
             connection.close()
             raise
-        self._begin(connection, number)
+        self._begin(connection, number, version)
 
     @classmethod
-    def over(cls, connection: socket.socket, number: int) -> "Thread":
+    def over(cls, connection: socket.socket, number: int, version: int = 1) -> "Thread":
         """A thread over a connection that is there, and on which nothing was said yet."""
         thread = cls.__new__(cls)
-        thread._begin(connection, number)
+        thread._begin(connection, number, version)
         return thread
 
-    def _begin(self, connection: socket.socket, number: int) -> None:
+    def _begin(self, connection: socket.socket, number: int, version: int) -> None:
         self._connection = connection
+        self.version = version
+        self.last_call: Optional[int] = None
+        self.last_moment: Optional[int] = None
         self._taken = bytearray()
         self._is_closed = False
         self._call = threading.Lock()
         try:
-            answer = self._ask(frames.hello(number), frames.Welcome)
+            answer = self._ask(frames.hello(number, version), frames.Welcome)
         except BaseException:
             self._close()
             raise
@@ -144,9 +152,10 @@ class Thread:
         """
         control = (CANCEL_SEND if send else 0) | (CANCEL_RECEIVE if receive else 0)
         answer = self._ask(frames.exreg(_word(dest), control), frames.Exchanged)
+        self.last_moment = answer.moment
         if answer.code:
             return None
-        return Exchanged(answer.result, bool(answer.control & CANCEL_SEND), bool(answer.control & CANCEL_RECEIVE))
+        return Exchanged(answer.result, bool(answer.control & CANCEL_SEND), bool(answer.control & CANCEL_RECEIVE), answer.moment)
 
     def ipc(
         self,
@@ -179,8 +188,9 @@ class Thread:
             message.payload(),
         )
         outcome = self._ask(frame, frames.Outcome)
+        self.last_call, self.last_moment = outcome.call, outcome.moment
         if outcome.tag & FAILED:
-            raise ipc_error(outcome.error)
+            raise ipc_error(outcome.error, outcome.call, outcome.moment)
         return self._received(outcome, strings) if has_receive else None
 
     def _received(self, outcome: frames.Outcome, buffers: BufferStrings) -> Received:
@@ -199,7 +209,7 @@ class Thread:
             self._fail(BadFrame("a string that does not begin where its buffer does"))
         strings = buffers.fill(lengths, b"".join(data for _, data in outcome.pieces))
         actual_sender = outcome.actual_sender if outcome.tag & PROPAGATED else None
-        return Received(outcome.sender, outcome.tag >> 16, outcome.words[:untyped], strings, actual_sender)
+        return Received(outcome.sender, outcome.tag >> 16, outcome.words[:untyped], strings, actual_sender, outcome.call, outcome.moment)
 
     def _message(self, received: Optional[Received]) -> Received:
         if received is None:
@@ -245,8 +255,8 @@ class Thread:
             # the server has ended the thread; what it said of that is still to be read
             pass
         length = frames.body_length(self._take(4))
-        frames.check_kind(self._peek(), length)
-        return frames.read(self._take(length))
+        frames.check_kind(self._peek(), length, self.version)
+        return frames.read(self._take(length), self.version)
 
     def _peek(self) -> int:
         self._fetch(1)
@@ -268,14 +278,15 @@ class Thread:
 
 
 class Exchanged:
-    """What ExchangeRegisters answers: the thread, and in which phase it was."""
+    """What ExchangeRegisters answers: the thread, and in which phase it was; and when, in version 2 of the wire."""
 
-    __slots__ = ("thread", "was_sending", "was_receiving")
+    __slots__ = ("thread", "was_sending", "was_receiving", "moment")
 
-    def __init__(self, thread: ThreadId, was_sending: bool, was_receiving: bool) -> None:
+    def __init__(self, thread: ThreadId, was_sending: bool, was_receiving: bool, moment: Optional[int] = None) -> None:
         self.thread = thread
         self.was_sending = was_sending
         self.was_receiving = was_receiving
+        self.moment = moment
 
     def __repr__(self) -> str:
         return f"Exchanged({self.thread}, was_sending={self.was_sending}, was_receiving={self.was_receiving})"

@@ -986,8 +986,11 @@ failed 1 0x7
 ";
 
 pub(crate) const OPENS_ARE_REFUSED_WITH_THEIR_NUMBERS: &str = "\
-> open 256 1
+> open 1024 1
 ! K1
+> open 256 1
+opened 256.1 1
+= 256.1
 > open 18446744073709551615 1
 ! K1
 > open 1 1

@@ -5,7 +5,7 @@ use Rattle.ipc_calls.proofs.HearLemmas.{hears_hello, hears_exreg, hears_bye, hea
 use Rattle.ipc_calls.proofs.held.hear.Goals as goal
 
 pub returns-then-kind-eq1 : goal.returns-then-kind-eq1
-returns-then-kind-eq1 c = hears_hello c.args.start.now c.args.payload.now _ c.if-kind-eq1.true (c.read_u16.ensures ∙ ap (number_in 2) (take_rest c.args.start.now 5))
+returns-then-kind-eq1 c = hears_hello c.args.start.now c.args.payload.now _ _ c.if-kind-eq1.true (c.read_u16.ensures ∙ ap (number_in 2) (take_rest c.args.start.now 5)) c.version_at.ensures
 
 pub returns-then-kind-eq3 : goal.returns-then-kind-eq3
 returns-then-kind-eq3 c =

@@ -1,4 +1,4 @@
-use Rattle.std.proofs.Common.{◌≡◌, ◌+◌, ◌-◌, Some, is_some, slice_index, length, take, drop, sym, ap, ap₂, subst, ◌∙◌}
+use Rattle.std.proofs.Common.{◌≡◌, ◌+◌, ◌-◌, Some, is_some, slice_index, length, take, drop, refl, sym, ap, ap₂, subst, ◌∙◌}
 use Rattle.std.specs.List.{AllByRecursion}
 use Rattle.ipc_frame.specs.declared.kind.FrameKind.TheVariants.{Ipcr}
 use Rattle.ipc_frame.specs.declared.frame.Frame.TheVariants as frame
@@ -13,7 +13,7 @@ pub read_pieces-requires : goal.read_pieces-requires
 read_pieces-requires c =
     let h = c.args.head.now in
     let tail = c.args.tail.now in
-    let made = ipcr_made (fields_in (widths Ipcr) h) tail c.requires.made.0 c.requires.made.1 in
+    let made = ipcr_made c.args.end (fields_in (widths Ipcr) h) tail c.requires.made.0 c.requires.made.1 in
     let tag : c.from_word-tag.result ≡ number_in 8 h = cc in
     let count : c.untyped.result + c.typed.result ≡ words_of (number_in 8 h) = ap₂ (λ a b. a + b) c.untyped.ensures c.typed.ensures ∙ ap words_of tag in
     let behind = c.split_at.result.1.now in
@@ -24,20 +24,20 @@ pub of-requires-clause-is : goal.of-requires-clause-is
 of-requires-clause-is c =
     let h = c.args.head.now in
     let tail = c.args.tail.now in
-    let made = ipcr_made (fields_in (widths Ipcr) h) tail c.requires.made.0 c.requires.made.1 in
+    let made = ipcr_made c.args.end (fields_in (widths Ipcr) h) tail c.requires.made.0 c.requires.made.1 in
     let tag : c.from_word-tag.result ≡ number_in 8 h = cc in
     let count : c.untyped.result + c.typed.result ≡ words_of (number_in 8 h) = ap₂ (λ a b. a + b) c.untyped.ensures c.typed.ensures ∙ ap words_of tag in
     let behind = c.split_at.result.1.now in
     let found : pieces_in (slice_index behind 0) (take (length behind - 1) (drop 1 behind)) ≡ Some made.pieces = pieces_there behind tail _ _ made.pieces c.split_at.ensures.back count made.found in
     let pieces : c.in_ok-read_pieces.field-0.items ≡ made.pieces = one_value _ _ _ c.in_ok-read_pieces.ensures found in
-    let same = same_ipcr (ipcr_parts (fields_in (widths Ipcr) h) tail made.pieces) _ _ _ _ _ _ tag (cc) (cc) (cc) (c.in_ok-read_words.ensures ∙ ap (λ k. words_in k tail) count) pieces in
+    let same = same_ipcr (ipcr_parts c.args.end (fields_in (widths Ipcr) h) tail made.pieces) _ _ _ _ _ _ _ refl tag (cc) (cc) (cc) (c.in_ok-read_words.ensures ∙ ap (λ k. words_in k tail) count) pieces in
     subst IsIpcr (sym same) made.fits.0
 
 pub of-requires-clause-pieces : goal.of-requires-clause-pieces
 of-requires-clause-pieces c =
     let h = c.args.head.now in
     let tail = c.args.tail.now in
-    let made = ipcr_made (fields_in (widths Ipcr) h) tail c.requires.made.0 c.requires.made.1 in
+    let made = ipcr_made c.args.end (fields_in (widths Ipcr) h) tail c.requires.made.0 c.requires.made.1 in
     let tag : c.from_word-tag.result ≡ number_in 8 h = cc in
     let count : c.untyped.result + c.typed.result ≡ words_of (number_in 8 h) = ap₂ (λ a b. a + b) c.untyped.ensures c.typed.ensures ∙ ap words_of tag in
     let behind = c.split_at.result.1.now in
@@ -49,11 +49,11 @@ pub returns : goal.returns
 returns c =
     let h = c.args.head.now in
     let tail = c.args.tail.now in
-    let made = ipcr_made (fields_in (widths Ipcr) h) tail c.requires.made.0 c.requires.made.1 in
+    let made = ipcr_made c.args.end (fields_in (widths Ipcr) h) tail c.requires.made.0 c.requires.made.1 in
     let tag : c.from_word-tag.result ≡ number_in 8 h = cc in
     let count : c.untyped.result + c.typed.result ≡ words_of (number_in 8 h) = ap₂ (λ a b. a + b) c.untyped.ensures c.typed.ensures ∙ ap words_of tag in
     let behind = c.split_at.result.1.now in
     let found : pieces_in (slice_index behind 0) (take (length behind - 1) (drop 1 behind)) ≡ Some made.pieces = pieces_there behind tail _ _ made.pieces c.split_at.ensures.back count made.found in
     let pieces : c.in_ok-read_pieces.field-0.items ≡ made.pieces = one_value _ _ _ c.in_ok-read_pieces.ensures found in
-    let same = same_ipcr (ipcr_parts (fields_in (widths Ipcr) h) tail made.pieces) _ _ _ _ _ _ tag (cc) (cc) (cc) (c.in_ok-read_words.ensures ∙ ap (λ k. words_in k tail) count) pieces in
+    let same = same_ipcr (ipcr_parts c.args.end (fields_in (widths Ipcr) h) tail made.pieces) _ _ _ _ _ _ _ refl tag (cc) (cc) (cc) (c.in_ok-read_words.ensures ∙ ap (λ k. words_in k tail) count) pieces in
     rw made.found (ap (λ q. Some (frame.Ipcr q)) (sym (c.of.ensures ∙ same)))

@@ -1,12 +1,18 @@
-use Rattle.std.proofs.Common.{◌≡◌, ◌+◌, ◌-◌, true, inl, inr, Ok, Some, None, length, take, drop, sum, refl, sym, ap, ap₂, subst, ◌∙◌, arith, length-drop}
+use Rattle.std.proofs.Common.{◌≡◌, ◌+◌, ◌-◌, ℕ, List, Option, true, inl, inr, Ok, Some, None, length, take, drop, slice_index, sum, refl, sym, ap, ap₂, subst, ◌∙◌, arith, length-drop}
 use Rattle.std.proofs.lemmas.List.{take_rest, length-take-le}
 use Rattle.std.proofs.lemmas.Bool.{cases_Bool}
+use Rattle.ipc_frame.specs.declared.kind.FrameKind.{FrameKind}
+use Rattle.ipc_frame.specs.declared.kind.Side.{Side}
 use Rattle.ipc_frame.specs.Numbers.{number_in, fields_in}
 use Rattle.ipc_frame.specs.Frames.{widths, kind_of}
-use Rattle.ipc_frame.specs.Reading.{frame_of, is_longer}
+use Rattle.ipc_frame.specs.Reading.{frame_of, is_longer, kind_in}
 use Rattle.ipc_frame.specs.Decoding.{MakesFrame}
 use Rattle.ipc_frame.proofs.DecodeLemmas.{whole_at, whole_of, one_value}
 use Rattle.ipc_frame.proofs.decoding.whole_frame.Goals as goal
+
+-- the kind is that of the byte and the length
+of_kind : (side : Side) (bytes : List ℕ) (size : ℕ) (kind : Option FrameKind) → kind ≡ kind_in side size (slice_index bytes 4) → size ≡ number_in 4 bytes → kind ≡ kind_in side (number_in 4 bytes) (slice_index bytes 4)
+of_kind side bytes size kind e same = e ∙ ap (λ n. kind_in side n (slice_index bytes 4)) same
 
 pub read_u32-size-requires : goal.read_u32-size-requires
 read_u32-size-requires c =
@@ -21,22 +27,22 @@ bounds-bytes-4 c =
 pub returns-in_default : goal.returns-in_default
 returns-in_default c =
     let at = whole_at c.args.side c.args.bytes.now c.requires.0 c.requires.1.0 (λ i. omega (arith, c.type_inv.bytes i)) c.requires.1.1 in
-    let none : None ≡ Some at.0 = sym c.in_default.is ∙ (c.from_byte.ensures ∙ at.1.kind_is) in
+    let none : None ≡ Some at.0 = sym c.in_default.is ∙ (of_kind c.args.side c.args.bytes.now c.read_u32-size.result c.of.result c.of.ensures c.read_u32-size.ensures ∙ at.1.kind_is) in
     absurd (cc)
 
 pub split_at-requires : goal.split_at-requires
 split_at-requires c =
-    let w = whole_of c.args.side c.args.bytes.now c.requires.0 c.requires.1.0 c.in-Some.kind (λ i. omega (arith, c.type_inv.bytes i)) c.requires.1.1 (sym c.from_byte.ensures ∙ c.in-Some.is) in
+    let w = whole_of c.args.side c.args.bytes.now c.requires.0 c.requires.1.0 c.in-Some.kind (λ i. omega (arith, c.type_inv.bytes i)) c.requires.1.1 (sym (of_kind c.args.side c.args.bytes.now c.read_u32-size.result c.of.result c.of.ensures c.read_u32-size.ensures) ∙ c.in-Some.is) in
     rw (take_rest c.args.bytes.now 5) (omega (arith, w.there, w.least, c.head.ensures, length-drop 5 c.args.bytes.now))
 
 pub slice_bounds-read_frame-count : goal.slice_bounds-read_frame-count
 slice_bounds-read_frame-count c =
-    let w = whole_of c.args.side c.args.bytes.now c.requires.0 c.requires.1.0 c.in-Some.kind (λ i. omega (arith, c.type_inv.bytes i)) c.requires.1.1 (sym c.from_byte.ensures ∙ c.in-Some.is) in
+    let w = whole_of c.args.side c.args.bytes.now c.requires.0 c.requires.1.0 c.in-Some.kind (λ i. omega (arith, c.type_inv.bytes i)) c.requires.1.1 (sym (of_kind c.args.side c.args.bytes.now c.read_u32-size.result c.of.result c.of.ensures c.read_u32-size.ensures) ∙ c.in-Some.is) in
     omega (arith, w.least, c.head-2.ensures, c.read_u32-size.ensures)
 
 pub slice_bounds-read_frame-length : goal.slice_bounds-read_frame-length
 slice_bounds-read_frame-length c =
-    let w = whole_of c.args.side c.args.bytes.now c.requires.0 c.requires.1.0 c.in-Some.kind (λ i. omega (arith, c.type_inv.bytes i)) c.requires.1.1 (sym c.from_byte.ensures ∙ c.in-Some.is) in
+    let w = whole_of c.args.side c.args.bytes.now c.requires.0 c.requires.1.0 c.in-Some.kind (λ i. omega (arith, c.type_inv.bytes i)) c.requires.1.1 (sym (of_kind c.args.side c.args.bytes.now c.read_u32-size.result c.of.result c.of.ensures c.read_u32-size.ensures) ∙ c.in-Some.is) in
     let bytes = c.args.bytes.now in
     let kind = c.in-Some.kind in
     let back : c.split_at.result.1.now ≡ drop (sum (widths kind)) (drop 5 bytes) = c.split_at.ensures.back ∙ ap₂ (λ n xs. drop n xs) c.head.ensures (take_rest bytes 5) in
@@ -46,7 +52,7 @@ slice_bounds-read_frame-length c =
 
 pub read_frame-requires-clause-made : goal.read_frame-requires-clause-made
 read_frame-requires-clause-made c =
-    let w = whole_of c.args.side c.args.bytes.now c.requires.0 c.requires.1.0 c.in-Some.kind (λ i. omega (arith, c.type_inv.bytes i)) c.requires.1.1 (sym c.from_byte.ensures ∙ c.in-Some.is) in
+    let w = whole_of c.args.side c.args.bytes.now c.requires.0 c.requires.1.0 c.in-Some.kind (λ i. omega (arith, c.type_inv.bytes i)) c.requires.1.1 (sym (of_kind c.args.side c.args.bytes.now c.read_u32-size.result c.of.result c.of.ensures c.read_u32-size.ensures) ∙ c.in-Some.is) in
     let bytes = c.args.bytes.now in
     let kind = c.in-Some.kind in
     let eq0 : c.split_at.result.0.now ≡ take (sum (widths kind)) (drop 5 bytes) = c.split_at.ensures.front ∙ ap₂ (λ n xs. take n xs) c.head.ensures (take_rest bytes 5) in
@@ -56,7 +62,7 @@ read_frame-requires-clause-made c =
 
 pub returns-in-Ok : goal.returns-in-Ok
 returns-in-Ok c =
-    let w = whole_of c.args.side c.args.bytes.now c.requires.0 c.requires.1.0 c.in-Some.kind (λ i. omega (arith, c.type_inv.bytes i)) c.requires.1.1 (sym c.from_byte.ensures ∙ c.in-Some.is) in
+    let w = whole_of c.args.side c.args.bytes.now c.requires.0 c.requires.1.0 c.in-Some.kind (λ i. omega (arith, c.type_inv.bytes i)) c.requires.1.1 (sym (of_kind c.args.side c.args.bytes.now c.read_u32-size.result c.of.result c.of.ensures c.read_u32-size.ensures) ∙ c.in-Some.is) in
     let bytes = c.args.bytes.now in
     let kind = c.in-Some.kind in
     let eq0 : c.split_at.result.0.now ≡ take (sum (widths kind)) (drop 5 bytes) = c.split_at.ensures.front ∙ ap₂ (λ n xs. take n xs) c.head.ensures (take_rest bytes 5) in
@@ -68,7 +74,7 @@ returns-in-Ok c =
 
 pub returns-in-Err : goal.returns-in-Err
 returns-in-Err c =
-    let w = whole_of c.args.side c.args.bytes.now c.requires.0 c.requires.1.0 c.in-Some.kind (λ i. omega (arith, c.type_inv.bytes i)) c.requires.1.1 (sym c.from_byte.ensures ∙ c.in-Some.is) in
+    let w = whole_of c.args.side c.args.bytes.now c.requires.0 c.requires.1.0 c.in-Some.kind (λ i. omega (arith, c.type_inv.bytes i)) c.requires.1.1 (sym (of_kind c.args.side c.args.bytes.now c.read_u32-size.result c.of.result c.of.ensures c.read_u32-size.ensures) ∙ c.in-Some.is) in
     let longer : is_longer (kind_of c.requires.0) ≡ true = elim (cases_Bool (is_longer (kind_of c.requires.0))) [
       | inl here ↦ here
       | inr other ↦ (let refused = c.in-Err.ensures.memory (ap is_longer (sym w.is) ∙ other) in absurd (cc))

@@ -7,4 +7,4 @@ pub returns-in-Frame : goal.returns-in-Frame
 returns-in-Frame c = rw c.in-Frame.is (text_of_one c.in-Frame.frame ∙ sym c.new.ensures)
 
 pub returns-in-Outcome : goal.returns-in-Outcome
-returns-in-Outcome c = rw c.in-Outcome.is (text_of_one (ipcr_of c.in-Outcome.outcome) ∙ sym c.reply.ensures)
+returns-in-Outcome c = rw c.in-Outcome.is (text_of_one (ipcr_of c.in-Outcome.version c.in-Outcome.outcome) ∙ sym c.reply.ensures)

@@ -7,6 +7,7 @@ invariant-loop-filled l = record {
   put : HasPut l.fn.self.line.out l.initial.out l.self-inside.queue.items l.out l.filled;
   space : l.self-inside.space ≡ l.fn.self.line.space;
   stage : l.self-inside.stage ≡ l.fn.self.line.stage;
+  version : l.self-inside.version ≡ l.fn.self.line.version;
   free : l.fn.self.free ≤ l.self-inside.queue.cap - l.self-inside.queue.len;
 }
 

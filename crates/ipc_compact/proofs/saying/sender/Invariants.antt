@@ -1,0 +1,7 @@
+use Rattle.std.proofs.Common.{◌≡◌, take}
+use Rattle.ipc_history.specs.Words.{first_some}
+use Rattle.ipc_history.specs.Entries.{sender_in}
+use Rattle.ipc_compact.proofs.saying.sender.Given as goal
+
+abbrev pub invariant-loop-place : goal.invariant-loop-place
+invariant-loop-place l = l.found ≡ first_some (sender_in l.number) (take l.place l.held)

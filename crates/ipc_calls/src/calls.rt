@@ -9,9 +9,11 @@ ghost use Rattle.ipc_calls.specs.CallOf.{of_items, sends, receives, accepts_stri
 ghost use Rattle.ipc_calls.specs.CallOf.{has_time_point, period_if, strings_in, buffers_in};
 ghost use Rattle.ipc_calls.specs.CallOf.{normal_call, normal_tag, normal_words, normal_originator};
 ghost use Rattle.ipc_calls.specs.CallOf.{lists_in, both_lists, call_of, asks_memory};
+ghost use Rattle.ipc_calls.specs.Payloads.{payload_of};
 ghost use Rattle.ipc_calls.specs.Reads.{Reads};
 ghost use Rattle.ipc_items.specs.Buffers.{AreBuffers};
 
+use crate::payload::Payload;
 use ipc_frame::{FrameFault, IpcFrame};
 use ipc_history::{Call, CallFields};
 use ipc_items::{BufferList, ItemFault, StringList};
@@ -103,12 +105,17 @@ impl IpcHead {
 
     // The strings that the words behind the untyped ones spell over the payload.
     #[tactic(auto, unfolding(ipc_items::specs::ItemWords::items_of))]
-    fn strings(&self, alloc: Global, words: &[u64], payload: &[u8]) -> Result<StringList, ItemFault>
+    fn strings(
+        &self,
+        alloc: Global,
+        words: &[u64],
+        payload: Payload<'_>,
+    ) -> Result<StringList, ItemFault>
         requires few { length words.now ≤ max_message_words }
         requires untyped { untyped_of self.now.tag ≤ length words.now }
-        ensures ok { IfOk result (λ list. strings_in (parts_of self.now words.now [] payload.now) ≡ Ok list) }
-        ensures fault { IfErr (strings_in (parts_of self.now words.now [] payload.now)) (λ fault. result ≡ Err fault) }
-        ensures memory { IsOk (strings_in (parts_of self.now words.now [] payload.now))
+        ensures ok { IfOk result (λ list. strings_in (parts_of self.now words.now [] (payload_of payload.entry)) ≡ Ok list) }
+        ensures fault { IfErr (strings_in (parts_of self.now words.now [] (payload_of payload.entry))) (λ fault. result ≡ Err fault) }
+        ensures memory { IsOk (strings_in (parts_of self.now words.now [] (payload_of payload.entry)))
             → IsOkUnless result ItemFault.NoMemory }
         ensures lean { sends (head_of self.now) && nat_lt 0 (length words.now) ≡ false → IsOk result }
     {
@@ -119,7 +126,7 @@ impl IpcHead {
         if items.is_empty() {
             return Ok(StringList::new(alloc));
         }
-        StringList::read(alloc, items, payload)
+        payload.strings(alloc, items)
     }
 
     // The buffer strings that the buffer words spell, None where no strings are accepted.
@@ -150,13 +157,13 @@ impl IpcHead {
         alloc: Global,
         words: &[u64],
         buffer_words: &[u64],
-        payload: &[u8],
+        payload: Payload<'_>,
     ) -> Result<(StringList, Option<BufferList>), ItemFault>
         requires few { length words.now ≤ max_message_words }
         requires untyped { untyped_of self.now.tag ≤ length words.now }
         requires few_buffer_words { length buffer_words.now ≤ max_buffer_words }
         ensures accepted { IfOk result (λ lists. is_some lists.1 ≡ accepts_strings (head_of self.now)) }
-        ensures reads { Reads ItemFault.NoMemory (lists_in (parts_of self.now words.now buffer_words.now payload.now))
+        ensures reads { Reads ItemFault.NoMemory (lists_in (parts_of self.now words.now buffer_words.now (payload_of payload.entry)))
             (asks_memory (parts_of self.now words.now buffer_words.now [])) (both_lists result) }
     {
         let buffers = self.buffers(alloc, buffer_words);
@@ -275,12 +282,12 @@ impl IpcHead {
         alloc: Global,
         words: &[u64],
         buffer_words: &[u64],
-        payload: &[u8],
+        payload: Payload<'_>,
     ) -> Result<Call, FrameFault>
         requires words { length words.now ≡ words_of self.now.tag }
         requires few_words { words_of self.now.tag ≤ max_message_words }
         requires few_buffer_words { length buffer_words.now ≤ max_buffer_words }
-        ensures { Reads FrameFault.NoMemory (call_of (parts_of self.now words.now buffer_words.now payload.now))
+        ensures { Reads FrameFault.NoMemory (call_of (parts_of self.now words.now buffer_words.now (payload_of payload.entry)))
             (asks_memory (parts_of self.now words.now buffer_words.now [])) result }
     {
         let Some(periods) = self.periods() else {
@@ -319,5 +326,10 @@ pub fn call_of(alloc: Global, ipc: &IpcFrame) -> Result<Call, FrameFault>
         tag: ipc.tag(),
         acceptor: ipc.acceptor(),
     };
-    head.call(alloc, ipc.words(), ipc.buffer_words(), ipc.payload())
+    head.call(
+        alloc,
+        ipc.words(),
+        ipc.buffer_words(),
+        Payload::Lent(ipc.payload()),
+    )
 }

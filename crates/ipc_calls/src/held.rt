@@ -9,6 +9,7 @@ ghost use Rattle.ipc_calls.specs.Holding.{FrameAt, HearsOf, head_in, max_start, 
 
 use crate::calls::IpcHead;
 use crate::heard::Heard;
+use crate::payload::Payload;
 use byteorder::{BigEndian, ByteOrder};
 use ipc_frame::{Frame, FrameFault, Judgement, Side, WireVersion, judge};
 use ipc_history::Call;
@@ -16,6 +17,7 @@ use ipc_words::limits::{MAX_BUFFER_WORDS, MAX_MESSAGE_WORDS};
 use ipc_words::{Control, MsgTag, ThreadId, Timeouts};
 use std::alloc::{AllocError, Global};
 use std::marker::Model;
+use std::mem;
 
 /// The bytes of an IPC frame before its words: length, kind and numbers.
 const HEAD: usize = 50;
@@ -132,9 +134,9 @@ fn read_words(start: &[u8], place: usize, count: usize, words: &mut [u64])
 }
 
 // The call of a whole IPC frame.
-fn hear_call(alloc: Global, start: &[u8], payload: &[u8]) -> Result<Call, FrameFault>
-    requires { (ipc : IpcParts) × IpcAt start.now payload.now ipc }
-    ensures { (ipc : IpcParts) → IpcAt start.now payload.now ipc
+fn hear_call(alloc: Global, start: &[u8], payload: Vec<u8>) -> Result<Call, FrameFault>
+    requires { (ipc : IpcParts) × IpcAt start.now payload.items ipc }
+    ensures { (ipc : IpcParts) → IpcAt start.now payload.items ipc
         → Reads FrameFault.NoMemory (call_of ipc) (asks_memory ipc) result }
 {
     let head = read_head(start);
@@ -146,7 +148,7 @@ fn hear_call(alloc: Global, start: &[u8], payload: &[u8]) -> Result<Call, FrameF
     let mut buffer_words = [0; MAX_BUFFER_WORDS];
     let buffer_words = &mut buffer_words[..few];
     read_words(start, HEAD + 8 * count, few, buffer_words);
-    head.call(alloc, words, buffer_words, payload)
+    head.call(alloc, words, buffer_words, Payload::Given(payload))
 }
 
 // The version of a whole HELLO of so many bytes.
@@ -161,9 +163,9 @@ fn version_at(size: usize) -> WireVersion
 }
 
 // What a whole frame says.
-fn hear(alloc: Global, start: &[u8], payload: &[u8]) -> Result<Heard, FrameFault>
-    requires { (f : Frame) × FrameAt start.now payload.now f }
-    ensures { (f : Frame) → FrameAt start.now payload.now f → HearsOf f result }
+fn hear(alloc: Global, start: &[u8], payload: Vec<u8>) -> Result<Heard, FrameFault>
+    requires { (f : Frame) × FrameAt start.now payload.items f }
+    ensures { (f : Frame) → FrameAt start.now payload.items f → HearsOf f result }
 {
     let kind = start[4];
     if kind == 0x01 {
@@ -251,17 +253,18 @@ impl Held {
         front(&self.start, self.len).is_empty()
     }
 
-    /// What the frame says, which is whole.
-    pub(crate) fn hear(&self, alloc: Global) -> Result<Heard, FrameFault>
-        requires { (gone : List ℕ) × (f : Frame) × AreGone self.now gone × IsWhole (self.now.bytes ++ gone) f }
-        ensures { (gone : List ℕ) (f : Frame) → AreGone self.now gone
-            → IsWhole (self.now.bytes ++ gone) f → HearsOf f result }
+    /// What the frame says, which is whole. It takes the payload with it.
+    pub(crate) fn hear(&mut self, alloc: Global) -> Result<Heard, FrameFault>
+        requires { (gone : List ℕ) × (f : Frame) × AreGone self.old gone × IsWhole (self.old.bytes ++ gone) f }
+        ensures { (gone : List ℕ) (f : Frame) → AreGone self.old gone
+            → IsWhole (self.old.bytes ++ gone) f → HearsOf f result }
     {
         let start = front(&self.start, self.len);
         are_bytes(start, &self.payload);
         if self.lost > 0 {
             return Err(lack(start));
         }
-        hear(alloc, start, &self.payload)
+        let payload = mem::replace(&mut self.payload, Vec::new(alloc));
+        hear(alloc, start, payload)
     }
 }

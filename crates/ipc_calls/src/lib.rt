@@ -6,6 +6,7 @@ mod calls;
 mod heard;
 mod held;
 mod laws;
+mod payload;
 
 pub use call_decoder::CallDecoder;
 pub use calls::call_of;

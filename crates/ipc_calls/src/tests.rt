@@ -2,7 +2,19 @@ use crate::{CallDecoder, Heard};
 use ipc_frame::{Frame, FrameFault, IpcFrame, IpcParts, encode};
 use ipc_words::{MsgTag, ThreadId, Timeouts};
 use std::alloc::Global;
+use std::fmt::Debug;
+use std::process::Abort;
 use std::test::Fail;
+
+// Fails the test where the two differ. A call of it is proved much faster than the macro in its place.
+fn same<T: PartialEq + Debug + Drop>(rt: &impl Abort, left: T, right: T) {
+    assert_eq!(*rt; left, right);
+}
+
+// Fails the test where this is not so.
+fn holds(rt: &impl Abort, is_so: bool) {
+    assert!(*rt; is_so);
+}
 
 const HELLO: [u8; 7] = [0, 0, 0, 3, 1, 0, 2];
 
@@ -33,19 +45,19 @@ fn told(answer: Result<(usize, Option<Heard>), FrameFault>) -> u64 {
 #[test]
 fn frames_are_heard_in_turn(rt: HostRuntime) {
     let mut decoder = CallDecoder::new(rt.alloc());
-    assert_eq!(rt; 2, told(decoder.take(&HELLO)));
-    assert_eq!(rt; 1_001, told(decoder.take(&CALL)));
-    assert_eq!(rt; 2_000, told(decoder.take(&EXREG)));
-    assert_eq!(rt; 3_000, told(decoder.take(&BYE)));
-    assert!(rt; decoder.finish().is_ok());
+    same(&rt, 2, told(decoder.take(&HELLO)));
+    same(&rt, 1_001, told(decoder.take(&CALL)));
+    same(&rt, 2_000, told(decoder.take(&EXREG)));
+    same(&rt, 3_000, told(decoder.take(&BYE)));
+    holds(&rt, decoder.finish().is_ok());
 }
 
 #[test]
 fn each_cut_in_two_is_heard_alike(rt: HostRuntime) {
     for cut in 0..CALL.len() {
         let mut decoder = CallDecoder::new(rt.alloc());
-        assert_eq!(rt; 5_000, told(decoder.take(&CALL[..cut])));
-        assert_eq!(rt; 1_001, told(decoder.take(&CALL[cut..])));
+        same(&rt, 5_000, told(decoder.take(&CALL[..cut])));
+        same(&rt, 1_001, told(decoder.take(&CALL[cut..])));
     }
 }
 
@@ -56,36 +68,51 @@ fn a_frame_comes_byte_by_byte(rt: HostRuntime) {
     for byte in &EXREG {
         heard = told(decoder.take(&[*byte]));
     }
-    assert_eq!(rt; 2_000, heard);
+    same(&rt, 2_000, heard);
 }
 
 #[test]
 fn a_proper_prefix_is_unfinished(rt: HostRuntime) {
     for cut in 1..CALL.len() {
         let mut decoder = CallDecoder::new(rt.alloc());
-        assert_eq!(rt; 5_000, told(decoder.take(&CALL[..cut])));
-        assert!(rt; decoder.finish().is_err());
-        assert_eq!(rt; 4_013, told(decoder.take(&BYE)));
+        same(&rt, 5_000, told(decoder.take(&CALL[..cut])));
+        holds(&rt, decoder.finish().is_err());
+        same(&rt, 4_013, told(decoder.take(&BYE)));
     }
 }
 
 #[test]
 fn faults_are_told_at_the_byte_that_shows_them(rt: HostRuntime) {
     let alloc = rt.alloc();
-    assert_eq!(rt; 4_003, told(CallDecoder::new(alloc).take(&[0, 0, 0, 0])));
-    assert_eq!(rt;
-        4_002,
-        told(CallDecoder::new(alloc).take(&[0, 0x20, 0, 0, 5]))
-    );
-    assert_eq!(rt; 4_001, told(CallDecoder::new(alloc).take(&[0, 0x20, 0, 1])));
-    assert_eq!(rt;
-        4_002,
-        told(CallDecoder::new(alloc).take(&[0, 0, 0, 9, 0x81]))
-    );
-    assert_eq!(rt; 4_003, told(CallDecoder::new(alloc).take(&[0, 0, 0, 2, 1])));
-    assert_eq!(rt;
+    same(
+        &rt,
         4_003,
-        told(CallDecoder::new(alloc).take(&[0, 0, 0, 0x2d, 2]))
+        told(CallDecoder::new(alloc).take(&[0, 0, 0, 0])),
+    );
+    same(
+        &rt,
+        4_002,
+        told(CallDecoder::new(alloc).take(&[0, 0x20, 0, 0, 5])),
+    );
+    same(
+        &rt,
+        4_001,
+        told(CallDecoder::new(alloc).take(&[0, 0x20, 0, 1])),
+    );
+    same(
+        &rt,
+        4_002,
+        told(CallDecoder::new(alloc).take(&[0, 0, 0, 9, 0x81])),
+    );
+    same(
+        &rt,
+        4_003,
+        told(CallDecoder::new(alloc).take(&[0, 0, 0, 2, 1])),
+    );
+    same(
+        &rt,
+        4_003,
+        told(CallDecoder::new(alloc).take(&[0, 0, 0, 0x2d, 2])),
     );
 }
 
@@ -94,15 +121,15 @@ fn words_and_periods_out_of_range_are_refused(rt: HostRuntime) {
     let alloc = rt.alloc();
     let mut short = CALL;
     short[3] = 46;
-    assert_eq!(rt; 4_003, told(CallDecoder::new(alloc).take(&short[..50])));
+    same(&rt, 4_003, told(CallDecoder::new(alloc).take(&short[..50])));
     short[40] = 0x7f;
-    assert_eq!(rt; 4_004, told(CallDecoder::new(alloc).take(&short[..50])));
+    same(&rt, 4_004, told(CallDecoder::new(alloc).take(&short[..50])));
     let mut late = CALL;
     late[21] = 0x80;
     let mut decoder = CallDecoder::new(alloc);
-    assert_eq!(rt; 5_000, told(decoder.take(&late[..57])));
-    assert_eq!(rt; 4_012, told(decoder.take(&late[57..])));
-    assert_eq!(rt; 4_013, told(decoder.take(&BYE)));
+    same(&rt, 5_000, told(decoder.take(&late[..57])));
+    same(&rt, 4_012, told(decoder.take(&late[57..])));
+    same(&rt, 4_013, told(decoder.take(&BYE)));
 }
 
 // The call with acceptor 0 and a buffer word whose bit 3 is set.
@@ -115,10 +142,14 @@ const UNREAD_BUFFERS: [u8; 66] = [
 #[test]
 fn buffer_words_are_read_only_where_strings_are_accepted(rt: HostRuntime) {
     let alloc = rt.alloc();
-    assert_eq!(rt; 1_001, told(CallDecoder::new(alloc).take(&UNREAD_BUFFERS)));
+    same(
+        &rt,
+        1_001,
+        told(CallDecoder::new(alloc).take(&UNREAD_BUFFERS)),
+    );
     let mut many = CALL;
     many[49] = 33;
-    assert_eq!(rt; 4_004, told(CallDecoder::new(alloc).take(&many[..50])));
+    same(&rt, 4_004, told(CallDecoder::new(alloc).take(&many[..50])));
 }
 
 // A call with so many items that each name all of a payload of 65,536 bytes.
@@ -149,9 +180,9 @@ fn many_strings(alloc: Global, items: u8) -> Result<Vec<u8>, Fail> {
 fn strings_of_a_mebibyte_are_heard_and_no_more(rt: HostRuntime) -> Result<(), Fail> {
     let alloc = rt.alloc();
     let most = many_strings(alloc, 16)?;
-    assert_eq!(rt; most.len(), 65_842);
-    assert_eq!(rt; 1_000, told(CallDecoder::new(alloc).take(&most)));
+    same(&rt, most.len(), 65_842);
+    same(&rt, 1_000, told(CallDecoder::new(alloc).take(&most)));
     let more = many_strings(alloc, 17)?;
-    assert_eq!(rt; 4_008, told(CallDecoder::new(alloc).take(&more)));
+    same(&rt, 4_008, told(CallDecoder::new(alloc).take(&more)));
     Ok(())
 }

@@ -10,7 +10,7 @@ use crate::device::device_fault;
 use ipc_frame::{Encoder, Frame, FrameFault};
 use ipc_ports::{PortFault, PortWrite, write_all};
 
-/// How many bytes go out in one write at most.
+/// How many bytes are spelled at once. So many of a payload go out from where they stand.
 const PIECE: usize = 8192;
 
 // Writes the next bytes of an encoder; false where none are left.
@@ -26,11 +26,13 @@ fn write_piece<P: PortWrite>(
     ensures failed { OnErr result (P.failures port.old < P.failures port.new) }
     ensures kept { OnOk result (P.failures port.new ≡ P.failures port.old) }
 {
-    let count = encoder.next(piece);
+    let bytes = encoder.next_bytes(piece);
+    let count = bytes.len();
     if count == 0 {
         return Ok(false);
     }
-    write_all(port, &piece[..count])?;
+    write_all(port, bytes)?;
+    encoder.pass(count);
     Ok(true)
 }
 

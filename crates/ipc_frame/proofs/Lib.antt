@@ -13,3 +13,4 @@ pub mod DecodeLemmas
 pub mod PlacingLemmas
 pub mod ShortLemmas
 pub mod FaultLemmas
+pub mod LendingLemmas

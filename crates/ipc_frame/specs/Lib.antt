@@ -12,3 +12,4 @@ pub mod Window
 pub mod FirstPiece
 pub mod Replies
 pub mod Sources
+pub mod Lending

@@ -4,6 +4,7 @@ ghost use Rattle.ipc_frame.specs.Parts.{pieces_text, ipcr_size};
 ghost use Rattle.ipc_history.specs.Outcomes.{OutcomeParts};
 ghost use Rattle.ipc_frame.specs.Frames.{kind_byte, kind_of, widths, fields_of, tail_of, spelling};
 ghost use Rattle.ipc_frame.specs.Replies.{pieces_told, reply_of, ipcr_of};
+ghost use Rattle.ipc_frame.specs.Lending.{lent_piece, lent_pieces};
 ghost use Rattle.ipc_frame.specs.Window.{page, passed, passed_numbers};
 
 use crate::encoding::{put_end, put_words};
@@ -122,4 +123,35 @@ pub(crate) fn put_reply(
     window.put_u32(out, reply_size(version, outcome) as u32);
     window.put_u8(out, reply_byte(version));
     put_reply_parts(window, out, version, outcome);
+}
+
+// From a place in the text of the pieces on, the rest of the string's bytes that it is in.
+fn lend_piece(outcome: &Outcome, place: usize) -> &[u8]
+    ensures { result.now ≡ lent_piece place (pieces_told outcome.now) }
+{
+    let mut place = place;
+    for piece in Scattered::of(outcome) {
+        // the place is in its pointer or its length
+        if place < 12 {
+            return &[];
+        }
+        place -= 12;
+        if place < piece.bytes.len() {
+            return &piece.bytes[place..];
+        }
+        place -= piece.bytes.len();
+    }
+    &[]
+}
+
+/// So many bytes before the end of an outcome's pieces, the rest of the string's bytes that stand there.
+pub(crate) fn lend_pieces(outcome: &Outcome, left: usize) -> &[u8]
+    ensures { result.now ≡ lent_pieces left (pieces_told outcome.now) }
+{
+    let size = measure_of(outcome).bytes;
+    if left <= size {
+        lend_piece(outcome, size - left)
+    } else {
+        &[]
+    }
 }

@@ -1,7 +1,7 @@
 ghost use Rattle.std.specs.Prelude.{◌≡◌, ℕ, ◌<◌, ◌≤◌, List, [], ◌∷◌, ◌++◌, length, sum_by, IfOk, IsOk};
 ghost use Rattle.std.specs.Prelude.{OnOk, OnErr, slice_get, option_copied};
 ghost use Rattle.ipc_memory.specs.Memory.{ample_items};
-ghost use Rattle.ipc_items.specs.Rows.{grown, opened, place};
+ghost use Rattle.ipc_items.specs.Rows.{AreEnds, grown, opened, place, rows};
 
 use ipc_memory::Memory;
 use std::alloc::AllocError;
@@ -34,6 +34,21 @@ impl<T> Rows<T> {
             items: Vec::new(memory.global()),
             ends: Vec::new(memory.global()),
         }
+    }
+
+    // The rows that end at these places.
+    pub(crate) fn of_parts(items: Vec<T>, ends: Vec<usize>) -> Self
+        requires { AreEnds 0 ends.items (length items.items) }
+        ensures { result ≡ rows 0 ends.items items.items }
+    {
+        Rows { items, ends }
+    }
+
+    // No rows, from the same allocator.
+    pub(crate) fn none(&self) -> Self
+        ensures { result ≡ [] }
+    {
+        Rows::new(*self.items.allocator())
     }
 
     pub(crate) fn len(&self) -> usize

@@ -9,9 +9,11 @@ ghost use Rattle.ipc_items.specs.StringItem.{string_reading};
 ghost use Rattle.ipc_items.specs.Fit.{overflow_offset, accepted};
 
 use crate::buffer_list::BufferList;
+use crate::cutting::cut_rows;
 use crate::fitting::overflow;
 use crate::item_fault::ItemFault;
 use crate::iter::Iter;
+use crate::kept::Kept;
 use crate::reading::{string_rows, string_size};
 use crate::rows::Rows;
 use ipc_memory::Memory;
@@ -24,7 +26,7 @@ use std::marker::Model;
 /// There are at most [`MAX_STRINGS`], of at most [`MAX_STRING_BYTES`] together.
 #[derive(Debug, Drop)]
 pub struct StringList {
-    rows: Rows<u8>,
+    rows: Kept<u8>,
 }
 
 impl Model for StringList {
@@ -41,7 +43,7 @@ impl StringList {
         ensures { result ≡ [] }
     {
         StringList {
-            rows: Rows::new(memory),
+            rows: Kept::sole(Rows::new(memory)),
         }
     }
 
@@ -55,7 +57,7 @@ impl StringList {
         ensures ample { M.is_ample → strings ≤ ample_items → bytes ≤ ample_items → IsOk result }
     {
         Ok(StringList {
-            rows: Rows::with_capacity(memory, strings, bytes)?,
+            rows: Kept::sole(Rows::with_capacity(memory, strings, bytes)?),
         })
     }
 
@@ -73,7 +75,9 @@ impl StringList {
         for string in &strings {
             rows.push(memory, string)?;
         }
-        Ok(Some(StringList { rows }))
+        Ok(Some(StringList {
+            rows: Kept::sole(rows),
+        }))
     }
 
     /// The strings that string items spell over a payload, or the first fault. There are at most as many words as a
@@ -89,7 +93,27 @@ impl StringList {
     {
         let bytes = string_size(words, payload.len())?;
         let rows = string_rows(memory, words, payload, bytes)?;
-        Ok(StringList { rows })
+        Ok(StringList {
+            rows: Kept::shared(memory, rows),
+        })
+    }
+
+    /// As [`StringList::read`], of a payload that is given away: where its strings are the whole of it, one behind the other, they stay in
+    /// its memory.
+    pub fn cut<M: Memory>(memory: M, words: &[u64], payload: Vec<u8>) -> Result<Self, ItemFault>
+        requires { length words.now ≤ max_message_words }
+        ensures ok { IfOk result (λ list. string_reading words.now payload.items ≡ Ok list) }
+        ensures few { IfOk result (λ list. 2 * length list ≤ length words.now) }
+        ensures fault { IfErr (string_reading words.now payload.items) (λ fault. result ≡ Err fault) }
+        ensures memory { IsOk (string_reading words.now payload.items)
+            → IsOkUnless result ItemFault.NoMemory }
+        ensures ample { M.is_ample → IsOk (string_reading words.now payload.items) → IsOk result }
+    {
+        let bytes = string_size(words, payload.len())?;
+        let rows = cut_rows(memory, words, payload, bytes)?;
+        Ok(StringList {
+            rows: Kept::shared(memory, rows),
+        })
     }
 
     /// Adds a string, and says whether it is within the limits: past them, the list stays as it was.
@@ -115,7 +139,7 @@ impl StringList {
         self.rows.clear();
     }
 
-    /// A list of the same strings.
+    /// A list of the same strings. Takes no memory where they were read from a payload and the memory to share them was there.
     pub fn copy<M: Memory>(&self, memory: M) -> Result<Self, AllocError>
         ensures same { IfOk result (λ list. list ≡ self.now) }
         ensures ample { M.is_ample → IsOk result }
@@ -152,7 +176,7 @@ impl StringList {
     pub fn iter(&self) -> Iter<'_, u8>
         ensures { result ≡ self.now }
     {
-        Iter::new(&self.rows)
+        Iter::new(self.rows.rows())
     }
 
     /// The bytes of string k.

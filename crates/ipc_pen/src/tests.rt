@@ -1,8 +1,10 @@
 ghost use Rattle.std.specs.Prelude.{◌≡◌, None};
 
 use super::*;
-use ipc_frame::{Frame, encode};
+use ipc_frame::{Frame, IpcFrame, IpcParts, encode};
 use ipc_ports::PortFault;
+use ipc_words::{MsgTag, ThreadId, Timeouts};
+use std::alloc::Global;
 use std::test::Fail;
 
 // Takes so many bytes at once, and then has no room until it is asked again; it fails once so many calls came.
@@ -87,5 +89,35 @@ fn what_is_given_goes_out_whole_and_once(rt: HostRuntime) -> Result<(), Fail> {
     assert!(rt; !pen.is_ready());
     assert_eq!(rt; pen.write(Patience::Waits), Turn::Failed);
     assert_eq!(rt; pen.into_port().out.as_slice(), &[0u8][..]);
+    Ok(())
+}
+
+// A call with no words and a payload of 5,000 bytes.
+fn long_call(alloc: Global) -> Result<Frame, Fail> {
+    let parts = IpcParts {
+        to: ThreadId::NILTHREAD,
+        from: ThreadId::NILTHREAD,
+        timeouts: Timeouts::from_word(0),
+        originator: ThreadId::NILTHREAD,
+        tag: MsgTag::from_word(0),
+        acceptor: 0,
+        words: Vec::new(alloc),
+        buffer_words: Vec::new(alloc),
+        payload: vec![in alloc; 7; 5000]?,
+    };
+    Ok(Frame::Ipc(IpcFrame::new(parts)?))
+}
+
+// A long payload goes out from where it stands, and its head and its end through the buffer.
+#[test]
+fn a_long_payload_goes_out_whole(rt: HostRuntime) -> Result<(), Fail> {
+    let text = encode(rt.alloc(), long_call(rt.alloc())?)?;
+    let mut pen = pen_of(&rt, 1500, 1_000);
+    pen.give(Given::Frame(long_call(rt.alloc())?));
+    for _ in 0..100 {
+        let _ = pen.write(Patience::AtOnce);
+    }
+    assert!(rt; pen.is_ready());
+    assert_eq!(rt; pen.into_port().out.as_slice(), text.as_slice());
     Ok(())
 }

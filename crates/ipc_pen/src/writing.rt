@@ -6,11 +6,11 @@ use crate::port::{Patience, PenPort};
 use crate::turn::Turn;
 use ipc_frame::Encoder;
 
-/// How many bytes go out at once.
+/// How many bytes are spelled at once.
 const SHORT: usize = 1024;
 
-/// How many bytes of a frame with long strings go out at once.
-const LONG: usize = 65_536;
+/// How many bytes of a frame with strings are spelled at once. As many that stand in the memory of one string go out from there.
+const LONG: usize = 16_384;
 
 /// Writes the next bytes of an encoder, which passes just those that went out. None where it goes on.
 fn write_piece<P: PenPort>(
@@ -26,13 +26,15 @@ fn write_piece<P: PenPort>(
     ensures failed { result ≡ Some Turn.Failed → P.failures port.old < P.failures port.new }
     ensures kept { result ≢ Some Turn.Failed → P.failures port.new ≡ P.failures port.old }
 {
-    let count = encoder.peek(buffer);
+    let room = buffer.len();
+    let bytes = encoder.next_bytes(buffer);
+    let count = bytes.len();
     if count == 0 {
         return Some(Turn::Written);
     }
     // so it need not be looked for what follows
-    let is_last = count < buffer.len();
-    match port.send(&buffer[..count], patience) {
+    let is_last = count < room;
+    match port.send(bytes, patience) {
         Ok(0) => Some(Turn::Blocks),
         Ok(sent) => {
             encoder.pass(sent);

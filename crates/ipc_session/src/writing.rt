@@ -3,7 +3,7 @@ ghost use Rattle.std.specs.Io.KnownBytes.{Appends};
 ghost use Rattle.ipc_ports.specs.Ports.{AppendsPart};
 ghost use Rattle.ipc_session.specs.Taking.{Encodes, Writes, Wrote, broken_by, is_whole_at};
 
-use crate::buffers::{LONG, SHORT};
+use crate::buffers::{LONG_SPELLING, SHORT};
 use crate::ending::WriteEnding;
 use crate::gate::Gate;
 use crate::next::Next;
@@ -28,11 +28,13 @@ fn write_piece<P: PortWrite>(
     ensures failed { OnErr result (P.failures port.old < P.failures port.new) }
     ensures kept { OnOk result (P.failures port.new ≡ P.failures port.old) }
 {
-    let count = encoder.next(buffer);
+    let bytes = encoder.next_bytes(buffer);
+    let count = bytes.len();
     if count == 0 {
         return Ok(false);
     }
-    write_all(port, &buffer[..count])?;
+    write_all(port, bytes)?;
+    encoder.pass(count);
     Ok(true)
 }
 
@@ -62,7 +64,7 @@ fn write_long<P: PortWrite>(port: &mut P, encoder: Encoder) -> Result<(), PortFa
     ensures failed { OnErr result (P.failures port.old < P.failures port.new) }
     ensures kept { OnOk result (P.failures port.new ≡ P.failures port.old) }
 {
-    write_encoder(port, encoder, &mut [0u8; LONG])
+    write_encoder(port, encoder, &mut [0u8; LONG_SPELLING])
 }
 
 /// Writes the bytes of an encoder, in long pieces or in short ones.

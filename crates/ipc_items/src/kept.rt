@@ -1,0 +1,121 @@
+ghost use Rattle.std.specs.Prelude.{◌≡◌, ◌∷◌, ◌++◌, [], length, sum_by, slice_get, option_copied, IfOk, IsOk, OnOk, OnErr};
+
+use crate::rows::Rows;
+use ipc_memory::Memory;
+use std::alloc::AllocError;
+use std::marker::Model;
+use std::sync::Arc;
+
+/// Who has the rows.
+#[derive(Debug, Drop)]
+enum Owned<T> {
+    Sole(Rows<T>),
+    Shared(Arc<Rows<T>>),
+}
+
+/// Rows of one owner, or of several; seen as the list of them.
+#[derive(Debug, Drop)]
+pub(crate) struct Kept<T> {
+    owned: Owned<T>,
+}
+
+impl<T> Model for Kept<T> {
+    ghost use Rattle.std.specs.Prelude.{List};
+    ghost use Rattle.ipc_items.specs.Shared.{owned_rows};
+
+    ghost Value = { List (List T) };
+
+    ghost view = { λ k. owned_rows k.owned };
+}
+
+impl<T> Kept<T> {
+    pub(crate) fn sole(rows: Rows<T>) -> Self
+        ensures { result ≡ rows }
+    {
+        Kept {
+            owned: Owned::Sole(rows),
+        }
+    }
+
+    pub(crate) fn len(&self) -> usize
+        ensures { result ≡ length self.now }
+    {
+        self.rows().len()
+    }
+
+    // How many items all rows have.
+    pub(crate) fn total(&self) -> usize
+        ensures { result ≡ sum_by (λ r. length r) self.now }
+    {
+        self.rows().total()
+    }
+
+    pub(crate) fn get(&self, k: usize) -> Option<&[T]>
+        ensures { option_copied result ≡ slice_get self.now k }
+    {
+        self.rows().get(k)
+    }
+
+    // The rows, where there is memory to share them so that a copy takes none.
+    pub(crate) fn shared<M: Memory>(memory: M, rows: Rows<T>) -> Self
+        ensures { result ≡ rows }
+    {
+        match Arc::new(memory.global(), rows) {
+            Ok(rows) => Kept {
+                owned: Owned::Shared(rows),
+            },
+            Err(failed) => Kept::sole(failed.value),
+        }
+    }
+
+    pub(crate) fn rows(&self) -> &Rows<T>
+        ensures { result.now ≡ self.now }
+    {
+        match &self.owned {
+            Owned::Sole(rows) => rows,
+            Owned::Shared(rows) => rows,
+        }
+    }
+}
+
+impl<T: Copy> Kept<T> {
+    // Removes all rows; other owners keep theirs.
+    pub(crate) fn clear(&mut self)
+        ensures { self.new ≡ [] }
+    {
+        match &mut self.owned {
+            Owned::Sole(rows) => rows.clear(),
+            Owned::Shared(rows) => self.owned = Owned::Sole(rows.none()),
+        }
+    }
+
+    // The same rows once more: of shared ones without memory.
+    pub(crate) fn copy<M: Memory>(&self, memory: M) -> Result<Self, AllocError>
+        ensures same { IfOk result (λ kept. kept ≡ self.now) }
+        ensures ample { M.is_ample → IsOk result }
+    {
+        if let Owned::Shared(rows) = &self.owned {
+            if let Ok(rows) = Arc::try_clone(rows) {
+                return Ok(Kept {
+                    owned: Owned::Shared(rows),
+                });
+            }
+        }
+        Ok(Kept::sole(self.rows().copy(memory)?))
+    }
+
+    // Adds a row. Shared rows are copied first, so that other owners keep theirs.
+    pub(crate) fn push<M: Memory>(&mut self, memory: M, row: &[T]) -> Result<(), AllocError>
+        ensures ok { OnOk result (self.new ≡ self.old ++ row.now ∷ []) }
+        ensures err { OnErr result (self.new ≡ self.old) }
+        ensures ample { M.is_ample → IsOk result }
+    {
+        if let Owned::Sole(rows) = &mut self.owned {
+            return rows.push(memory, row);
+        }
+        let mut own = self.rows().copy(memory)?;
+        own.push(memory, row)?;
+        self.owned = Owned::Sole(own);
+        Ok(())
+    }
+}

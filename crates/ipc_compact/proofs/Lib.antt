@@ -27,3 +27,4 @@ pub mod PlaceLemmas
 pub mod SayingLemmas
 pub mod MakingLemmas
 pub mod Rebuilding
+pub mod BaseLaws

@@ -10,3 +10,5 @@ pub mod SlotsKept
 pub mod Counted
 pub mod Places
 pub mod Making
+pub mod BaseTold
+pub mod BaseRoom

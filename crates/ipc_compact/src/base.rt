@@ -1,10 +1,12 @@
-ghost use Rattle.std.specs.Prelude.{◌≡◌, ◌<◌, length};
+ghost use Rattle.std.specs.Prelude.{◌≡◌, ◌<◌, length, IfOk, IfErr};
 ghost use Rattle.ipc_words.specs.Limits.{table_slots};
 ghost use Rattle.ipc_history.specs.declared.entry.Entry.{Entry};
 ghost use Rattle.ipc_slots.specs.Slots.{Stands};
+ghost use Rattle.ipc_compact.specs.BaseRoom.{nothing_written};
 ghost use Rattle.ipc_compact.specs.Making.{Before, IsCompactOf};
 
 use crate::making;
+use crate::room::BaseRoom;
 use ipc_history::Entry;
 use ipc_slots::Slots;
 use ipc_words::limits::TABLE_SLOTS;
@@ -63,6 +65,22 @@ impl Base {
             calls,
             takes,
             over,
+        }
+    }
+
+    /// The room of this base, for another one; the base itself where that is not enough for every base, as it may be where it was read.
+    pub fn into_room(self) -> Result<BaseRoom, Base>
+        ensures room { IfOk result (λ room. room ≡ nothing_written) }
+        ensures back { IfErr result (λ base. base ≡ self) }
+    {
+        let moment = self.moment;
+        let calls = self.calls;
+        let takes = self.takes;
+        match BaseRoom::of(self.versions, self.dropped, self.over) {
+            Ok(room) => Ok(room),
+            Err((versions, dropped, over)) => Err(Base::new(
+                versions, dropped, moment, calls, takes, over,
+            )),
         }
     }
 

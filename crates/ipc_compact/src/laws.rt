@@ -1,5 +1,6 @@
 // The laws of compaction. Each function is a theorem: it does nothing, and its contract holds of every history.
 ghost use Rattle.ipc_compact.specs.Agree.{CompactAgrees, CompactFollows, SameInputs, SameOutput};
+ghost use Rattle.ipc_compact.specs.BaseTold.{DroppedTold, OverTold, VersionsTold};
 ghost use Rattle.ipc_compact.specs.Counted.{CallsCounted};
 ghost use Rattle.ipc_compact.specs.Held.{CallsHeld, FurtherHeld, LiveHeld};
 ghost use Rattle.ipc_compact.specs.Later.{KeptLater, NotNeededAgain};
@@ -83,4 +84,12 @@ pub fn kept_standings()
 /// Of a live thread the calls that are kept, and those that the base counts as dropped, are together all that it made.
 pub fn kept_counts()
     ensures { CallsCounted }
+{}
+
+/// The base is told by what is kept, and by what the slots of all thread numbers say: the last version of a number by its next one, how many
+/// calls were dropped by how many its live thread made, and the calls that count as over by the kept entries that enter a call.
+pub fn base_told()
+    ensures versions { VersionsTold }
+    ensures dropped { DroppedTold }
+    ensures over { OverTold }
 {}

@@ -4,6 +4,8 @@
 mod base;
 pub mod laws;
 mod making;
+mod room;
 mod saying;
 
 pub use base::Base;
+pub use room::BaseRoom;

@@ -1,7 +1,7 @@
 -- What is kept where a kernel is compacted, and how much.
 use Rattle.std.proofs.lemmas.Bool.{false≢true}
-use Rattle.std.proofs.Common.{◌≡◌, refl, sym, ap, ap₂, ◌∙◌, subst, ℕ, ◌+◌, ◌-◌, ◌^◌, ◌<◌, ◌≤◌, Bool, true, false, ◌==◌, List, [], ◌∷◌, ◌++◌, length, length-append, take, drop, if◌then◌else◌, arith}
-use Rattle.std.proofs.lemmas.List.{append-nil, append_assoc, length-drop, length-take-le}
+use Rattle.std.proofs.Common.{◌≡◌, refl, sym, ap, ap₂, ◌∙◌, subst, ℕ, ◌+◌, ◌-◌, ◌^◌, ◌<◌, ◌≤◌, Bool, true, false, ◌==◌, List, [], ◌∷◌, ◌++◌, length, length-append, take, drop, if◌then◌else◌, nat_lt, arith}
+use Rattle.std.proofs.lemmas.List.{append-nil, append_assoc, drop_all, length-drop, length-take-le}
 use Rattle.std.proofs.lemmas.List.Folds.{list_any-append}
 use Rattle.ipc_words.specs.Limits.{table_slots}
 use Rattle.ipc_history.specs.CallParts.{CallParts}
@@ -17,10 +17,10 @@ use Rattle.ipc_history.specs.declared.entry.Input.TheVariants.{At, Opened, Calle
 use Rattle.ipc_history.proofs.HoldingLemmas.{held_fields, reached_least, reached_most}
 use Rattle.ipc_laws.proofs.Growth.{open_is_called}
 use Rattle.ipc_laws.proofs.OpenCalls.{caller_lives}
-use Rattle.ipc_compact.specs.Compact.{is_among, is_kept, kept_before, kept_places}
+use Rattle.ipc_compact.specs.Compact.{is_among, is_kept, kept_before, kept_of, kept_places}
 use Rattle.ipc_compact.specs.Places.{WasPlaced}
 use Rattle.ipc_compact.proofs.CallReading as there
-use Rattle.ipc_compact.proofs.PlaceLemmas.{at_places, places_kept}
+use Rattle.ipc_compact.proofs.PlaceLemmas.{at_places, places_kept, to_the_end}
 use Rattle.ipc_compact.proofs.Reading.{named}
 use Rattle.ipc_compact.proofs.SameCompact.{among_numbers}
 use Rattle.ipc_desks.specs.Desks.{Keeps as DesksKeep}
@@ -28,8 +28,9 @@ use Rattle.ipc_desks.specs.declared.desk.Desk.{Desk}
 use Rattle.ipc_partners.specs.Kept.{KeptParts, kept_upto, passes}
 use Rattle.ipc_partners.proofs.KeptLaw.{kept_is}
 use Rattle.ipc_core.specs.Books.{AreBooks, TookOthers}
-use Rattle.ipc_core.specs.Compacting.{kept_to}
+use Rattle.ipc_core.specs.Compacting.{HoldsCompact, kept_to}
 use Rattle.ipc_core.specs.CourseParts.{CourseParts, history_of}
+use Rattle.ipc_core.specs.KernelParts as kernel
 use Rattle.ipc_core.specs.Invariants.{IsWhole}
 use Rattle.ipc_core.proofs.BookLemmas.{books_rest}
 use Rattle.ipc_core.proofs.Resting.{kernel_same}
@@ -168,3 +169,26 @@ marked_whole limit calls_limit moment old new upto is whole =
       kernel = record { stands = kernel.stands; room = kernel.room; few_entries = kernel.few_entries; few_calls = kernel.few_calls };
       books = whole.books;
     })
+
+-- a compaction up to the end ends there, and then the compact is held
+reached_end : (upto : ℕ) (history : HistoryParts) → history.held.whole_from ≤ length history.entries → length history.entries ≤ upto → reached upto history ≡ length history.entries
+reached_end upto history within far = go (nat_lt upto history.held.whole_from) refl (nat_lt upto (length history.entries)) refl
+  where
+    go : (a : Bool) → nat_lt upto history.held.whole_from ≡ a → (b : Bool) → nat_lt upto (length history.entries) ≡ b → reached upto history ≡ length history.entries
+    go true i b j = rw i (grind (arith, within, far))
+    go false i true j = absurd (past upto (length history.entries) far j)
+      where
+        past : (a b : ℕ) → b ≤ a → nat_lt a b ≡ true → ⊥
+        past a b far h = grind arith
+    go false i false j = rw (i, j) refl
+
+pub holds_compact : HoldsCompact
+holds_compact old new upto done compacts within far =
+    let place = reached_end upto (kernel.history_of old) within far in
+    let H = old.history in
+    let front : new.held.front ≡ kept_of H old.taken = ap (λ h. h.front) compacts.held ∙ (ap (kept_before H old.taken) place ∙ to_the_end H old.taken) in
+    let from : new.held.whole_from ≡ length H = ap (λ h. h.whole_from) compacts.held ∙ place in
+    ap₂ (λ f k. f ++ drop k new.history) front from
+    ∙ (ap (λ l. kept_of H old.taken ++ drop (length H) l) compacts.history
+    ∙ (ap (λ l. kept_of H old.taken ++ l) (drop_all (length H) H (omega arith))
+    ∙ (append-nil (kept_of H old.taken) ∙ ap₂ kept_of (sym compacts.history) (sym compacts.taken))))

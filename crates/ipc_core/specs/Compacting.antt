@@ -1,8 +1,8 @@
 -- What memory keeps of a history that is compacted, and what a compaction does to a kernel.
-use Rattle.std.specs.Prelude.{◌≡◌, ℕ, ◌+◌, ◌-◌, ◌^◌, List, length, min}
+use Rattle.std.specs.Prelude.{◌≡◌, ℕ, ◌+◌, ◌-◌, ◌^◌, ◌≤◌, List, length, min}
 use Rattle.ipc_history.specs.Holding.{held_of, reached}
 use Rattle.ipc_history.specs.HistoryParts.{HeldParts, HistoryParts}
-use Rattle.ipc_compact.specs.Compact.{kept_before, kept_places}
+use Rattle.ipc_compact.specs.Compact.{kept_before, kept_of, kept_places}
 use Rattle.ipc_core.specs.KernelParts.{KernelParts, history_of}
 use Rattle.ipc_core.specs.declared.answers.Compacted.{Compacted}
 
@@ -32,3 +32,10 @@ pub record Compacts (old new : KernelParts) (upto : ℕ) (done : Compacted) : Ty
   pub since : new.since ≡ length old.history
   pub moment : new.moment ≡ old.moment
   pub calls_limit : new.calls_limit ≡ old.calls_limit
+
+-- behind a compaction that went up to the end memory holds the compact: to it belongs the base of the history (ipc_compact)
+abbrev pub HoldsCompact : Type 0
+HoldsCompact =
+    (old new : KernelParts) (upto : ℕ) (done : Compacted) → Compacts old new upto done
+    → old.held.whole_from ≤ length old.history → length old.history ≤ upto
+    → held_of (history_of new) ≡ kept_of new.history new.taken

@@ -14,6 +14,7 @@ ghost use Rattle.ipc_history.specs.Legal.{Legal, Quiet, Follows, is_admissible, 
 ghost use Rattle.ipc_history.specs.NextOutput.{next_output};
 ghost use Rattle.ipc_history.specs.Settled.{Continued, Settled};
 ghost use Rattle.ipc_history.specs.Timing.{is_due_at};
+ghost use Rattle.ipc_compact.specs.Compact.{base_of, kept_of};
 ghost use Rattle.ipc_laws.specs.Counting.{open_calls, pledged, room_owed, live_threads, pledge_of};
 ghost use Rattle.ipc_desks.specs.CallsOf.{is_busy, last_call, made_by, outcome_to_take, taken_by};
 ghost use Rattle.ipc_desks.specs.Desks.{Keeps, one_if};
@@ -33,6 +34,7 @@ ghost use Rattle.ipc_core.specs.ExchangeRegisters.{exreg_answer, phases_of};
 
 use crate::answers::ExregAnswer;
 use crate::taken::Taken;
+use ipc_compact::{Base, BaseRoom};
 use ipc_desks::{Desks, Finished, Prepared};
 use ipc_history::{Call, EnteredCall, Entries, Entry, History, Input, Outcome, Output};
 use ipc_partners::{Keeping, Partners};
@@ -121,6 +123,31 @@ impl Course {
         ensures { result ≡ length (held_of (history_of self.now)) }
     {
         self.history.held_len()
+    }
+
+    /// The entries that memory holds, oldest first.
+    pub(crate) fn held(&self) -> &[Entry]
+        ensures { result.now ≡ held_of (history_of self.now) }
+    {
+        self.history.held()
+    }
+
+    /// The base of the history, where memory holds its compact. It is written into a room. Takes no memory.
+    pub(crate) fn base(&self, room: BaseRoom) -> Base
+        requires others { TookOthers self.now.entries self.now.taken }
+        requires compact { held_of (history_of self.now) ≡ kept_of self.now.entries self.now.taken }
+        ensures { result ≡ base_of self.now.entries self.now.taken }
+    {
+        ipc_partners::base_of(
+            &self.history.whole(),
+            self.taken.past(),
+            self.taken.len(),
+            self.waiting.slots(),
+            &self.desks,
+            &self.partners,
+            self.history.held(),
+            room,
+        )
     }
 
     /// The place from which on memory holds all entries.

@@ -13,6 +13,7 @@ ghost use Rattle.ipc_history.specs.Paired.{Paired};
 ghost use Rattle.ipc_history.specs.Settled.{Settled};
 ghost use Rattle.ipc_history.specs.Threads.{is_live, now};
 ghost use Rattle.ipc_history.specs.Timing.{is_due_at};
+ghost use Rattle.ipc_compact.specs.Compact.{base_of, kept_of};
 ghost use Rattle.ipc_laws.specs.Counting.{open_calls, pledged};
 ghost use Rattle.ipc_laws.specs.Laws.{one_if};
 ghost use Rattle.ipc_waits.specs.FirstDue.{IsLeastDue};
@@ -33,6 +34,7 @@ use crate::answers::{Advance, Compacted, EnterRefused, ExregAnswer, NoThread};
 use crate::course::Course;
 use crate::refusal::Refusal;
 use crate::room::call_need;
+use ipc_compact::{Base, BaseRoom};
 use ipc_history::{Call, Entries, Entry, Input, Outcome};
 use ipc_words::limits::{
     BLOCK_BYTES, LAST_MOMENT, MAX_CALLS, MAX_ENTRIES, MAX_SPACE, MAX_STRING_BYTES,
@@ -146,6 +148,23 @@ impl Kernel {
         ensures { result ≡ length (held_of (history_of self.now)) }
     {
         self.course.held_len()
+    }
+
+    /// The entries that memory holds, oldest first: those that the last compaction kept, and all since.
+    pub fn held_entries(&self) -> &[Entry]
+        ensures { result.now ≡ held_of (history_of self.now) }
+    {
+        self.course.held()
+    }
+
+    /// The base of the history, which stands beside the entries that memory holds: with them it says all that what follows can ask of the
+    /// past. That is so directly behind a compaction up to the end, and as long as no command follows that changes the history or takes an
+    /// outcome ([`crate::laws::holds_compact`]). The base is written into a room. Takes no memory.
+    pub fn base(&self, room: BaseRoom) -> Base
+        requires { held_of (history_of self.now) ≡ kept_of self.now.history self.now.taken }
+        ensures { result ≡ base_of self.now.history self.now.taken }
+    {
+        self.course.base(room)
     }
 
     /// The place, counted from 0, from which on memory holds all entries: at most the length of the history before the last command.

@@ -1,5 +1,6 @@
 // The laws of a kernel. Each function is a theorem: it does nothing, and its contract holds of every kernel.
 ghost use Rattle.ipc_core.specs.Again.{ObeysAgainOnce, StaysSoundAgain};
+ghost use Rattle.ipc_core.specs.Compacting.{HoldsCompact};
 ghost use Rattle.ipc_core.specs.Laws.{EnteredIsBusy, IdleHasNothing, RunsOnce, StaysIdle, StaysSound, TakenIsIdle, UnfinishedKeeps};
 
 /// What is true of a kernel between commands stays true over every command, whatever it answers.
@@ -35,4 +36,9 @@ pub fn busy_by_its_calls()
 /// A live thread that the finished ones do not name has to take what it had to take before.
 pub fn unfinished_keeps()
     ensures { UnfinishedKeeps }
+{}
+
+/// Behind a compaction that went up to the end memory holds the compact of the history, and no other entry.
+pub fn holds_compact()
+    ensures { HoldsCompact }
 {}

@@ -2,7 +2,7 @@
 use Rattle.std.proofs.lemmas.Bool.{false≢true, true≢false, false_from_ne_true, cases_eq}
 use Rattle.std.proofs.lemmas.Option.{none-some, same_Some}
 use Rattle.std.proofs.lemmas.List.Folds.{list_any-append}
-use Rattle.std.proofs.Common.{◌≡◌, ◌≢◌, refl, sym, ap, ap₂, ◌∙◌, subst, ℕ, zero, suc, ◌+◌, ◌<◌, ◌≤◌, Bool, true, false, not, ◌&&◌, ◌||◌, ◌==◌, eqb-true, eq-eqb, if◌then◌else◌, List, [], ◌∷◌, ◌++◌, length, Option, Some, None, option_map, option_and_then, filter, ◌⊎◌, inl, inr, arith}
+use Rattle.std.proofs.Common.{◌≡◌, ◌≢◌, refl, sym, ap, ◌∙◌, subst, ℕ, zero, suc, ◌<◌, Bool, true, false, not, ◌&&◌, ◌||◌, ◌==◌, eqb-true, eq-eqb, if◌then◌else◌, List, [], ◌∷◌, Option, Some, None, option_map, option_and_then, filter, ◌⊎◌, inl, inr, arith}
 use Rattle.std.specs.List.{list_any}
 use Rattle.std.specs.Option.{option_map_or}
 use Rattle.ipc_words.specs.Limits.{table_slots}
@@ -29,7 +29,6 @@ use Rattle.ipc_desks.proofs.Finishing.{same_tests}
 use Rattle.ipc_desks.proofs.LastCalls.{last_is, live_below}
 use Rattle.ipc_partners.specs.Partners.{joined_of, joins, partner_of, receiver_met, sender_met}
 use Rattle.ipc_partners.specs.Kept.{KeptParts, TookOthers, calls_at, calls_for, gathered, kept_call, kept_upto, partner_numbers, partner_threads, partners_at, partners_for, passes, threads_at, threads_for}
-use Rattle.ipc_partners.specs.declared.partners.Partner.{Partner}
 use Rattle.ipc_partners.proofs.MeetingLemmas.{met_once, two_named}
 use Rattle.ipc_partners.proofs.PartnerLemmas.{joined_called, joins_names, receiver_somewhere, sender_somewhere}
 
@@ -81,17 +80,17 @@ module _ (H : List Entry) (taken : List ℕ) (legal : Legal H) (over : (n : ℕ)
   found = kept_upto H taken table_slots
 
   -- the last call of a live thread, which was not taken
-  record IsLast (n : ℕ) : Type 0 where
-    thread : ℕ
-    live : live_of H (number_of thread) ≡ Some thread
-    alive : is_live H thread ≡ true
-    call : kept_call H taken thread ≡ Some n
-    caller : caller_of H n ≡ thread
-    called : is_called H n ≡ true
-    untaken : is_among n taken ≡ false
-    within : number_of thread < table_slots
+  pub record IsLast (n : ℕ) : Type 0 where
+    pub thread : ℕ
+    pub live : live_of H (number_of thread) ≡ Some thread
+    pub alive : is_live H thread ≡ true
+    pub call : kept_call H taken thread ≡ Some n
+    pub caller : caller_of H n ≡ thread
+    pub called : is_called H n ≡ true
+    pub untaken : is_among n taken ≡ false
+    pub within : number_of thread < table_slots
 
-  is_last : (k t n : ℕ) → live_of H k ≡ Some t → kept_call H taken t ≡ Some n → IsLast n
+  pub is_last : (k t n : ℕ) → live_of H k ≡ Some t → kept_call H taken t ≡ Some n → IsLast n
   unfolding kept_call
   is_last k t n live call =
       let is = live_of_is H k t live in
@@ -115,7 +114,7 @@ module _ (H : List Entry) (taken : List ℕ) (legal : Legal H) (over : (n : ℕ)
           here true among g = absurd (none-some n g)
           here false among g = let same = same_Some m n g in (last ∙ ap Some same, ap (λ x. is_among x taken) (sym same) ∙ among)
 
-  last_kept : (n : ℕ) → IsLast n → is_among n kept ≡ true
+  pub last_kept : (n : ℕ) → IsLast n → is_among n kept ≡ true
   unfolding kept_calls is_kept_call
   last_kept n last = there.among_filter n (λ n. is_live H (caller_of H n) && not (is_over H n && is_among n taken)) (numbers H) (among_numbers H n last.called) (rw (last.caller, last.alive, last.untaken) (no_more (is_over H n)))
     where
@@ -123,7 +122,7 @@ module _ (H : List Entry) (taken : List ℕ) (legal : Legal H) (over : (n : ℕ)
       no_more true = refl
       no_more false = refl
 
-  kept_last : (n : ℕ) → is_among n kept ≡ true → IsLast n
+  pub kept_last : (n : ℕ) → is_among n kept ≡ true → IsLast n
   unfolding kept_calls is_kept_call kept_call
   kept_last n h =
       let c = among_called H n (filter_source n (λ n. is_live H (caller_of H n) && not (is_over H n && is_among n taken)) (numbers H) h) in
@@ -195,7 +194,7 @@ module _ (H : List Entry) (taken : List ℕ) (legal : Legal H) (over : (n : ℕ)
           here None call g = absurd (false≢true g)
           here (Some n) call g = (n, is_last i t n live call, partners_are n k g)
 
-  met_partners : (n k : ℕ) → IsLast n → IsMet n k → is_among k found.partners ≡ true
+  pub met_partners : (n k : ℕ) → IsLast n → IsMet n k → is_among k found.partners ≡ true
   unfolding kept_upto
   met_partners n k last met = among_gathered (partners_at H taken) k (number_of last.thread) table_slots last.within (rw (last.live, last.call) (are_partners n k met))
 
@@ -224,7 +223,7 @@ module _ (H : List Entry) (taken : List ℕ) (legal : Legal H) (over : (n : ℕ)
       go true is = inl refl
       go false is = inr (there.among_filter k (λ m. not (is_among m kept) && list_any (λ e. names m e && names_one kept e) H) (numbers H) (among_numbers H k (met_called n k met)) (rw (is, beside) refl))
 
-  further_known : (k : ℕ) → is_among k further ≡ true → (n : ℕ) × IsLast n × IsMet n k
+  pub further_known : (k : ℕ) → is_among k further ≡ true → (n : ℕ) × IsLast n × IsMet n k
   unfolding further_calls is_further
   further_known k h =
       let passes = there.filter_among k (λ m. not (is_among m kept) && list_any (λ e. names m e && names_one kept e) H) (numbers H) h in

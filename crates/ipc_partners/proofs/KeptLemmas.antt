@@ -1,13 +1,10 @@
 -- What is kept for so many first numbers.
-use Rattle.std.proofs.lemmas.Bool.{false≢true, true≢false}
-use Rattle.std.proofs.lemmas.Option.{none-some, same_Some}
+use Rattle.std.proofs.lemmas.Bool.{false≢true}
 use Rattle.std.proofs.lemmas.List.{append-nil, append_assoc, length-append}
-use Rattle.std.proofs.Common.{◌≡◌, refl, sym, ap, ap₂, ◌∙◌, subst, ℕ, zero, suc, add-one, ◌+◌, ◌*◌, ◌<◌, ◌≤◌, Bool, true, false, not, ◌==◌, if◌then◌else◌, List, [], ◌∷◌, ◌++◌, length, Option, Some, None, option_map, option_and_then, arith}
+use Rattle.std.proofs.Common.{◌≡◌, refl, sym, ap, ◌∙◌, subst, ℕ, zero, suc, add-one, ◌+◌, ◌*◌, ◌≤◌, Bool, true, false, not, if◌then◌else◌, List, [], ◌∷◌, ◌++◌, length, Option, Some, None, option_and_then, arith}
 use Rattle.std.specs.Option.{option_map_or}
-use Rattle.ipc_words.specs.ThreadId.{number_of}
 use Rattle.ipc_history.specs.Calls.{last_call}
 use Rattle.ipc_history.specs.Threads.{is_live}
-use Rattle.ipc_history.specs.Legal.{Legal}
 use Rattle.ipc_history.specs.declared.entry.Entry.{Entry}
 use Rattle.ipc_slots.specs.Slots.{live_of}
 use Rattle.ipc_slots.proofs.Holders.{live_of_is}
@@ -67,7 +64,7 @@ module _ (H : List Entry) (taken : List ℕ) (count : ℕ) where
 
 -- one more number
 
-busy_call : (H : List Entry) (taken : List ℕ) (t : ℕ) → is_busy H taken t ≡ true → (n : ℕ) × (last_call H t ≡ Some n) × (kept_call H taken t ≡ Some n)
+pub busy_call : (H : List Entry) (taken : List ℕ) (t : ℕ) → is_busy H taken t ≡ true → (n : ℕ) × (last_call H t ≡ Some n) × (kept_call H taken t ≡ Some n)
 unfolding is_busy kept_call
 busy_call H taken t busy = go (last_call H t) refl busy
   where
@@ -78,7 +75,7 @@ busy_call H taken t busy = go (last_call H t) refl busy
         untaken : (b : Bool) → not b ≡ true → b ≡ false
         untaken b h = grind arith
 
-idle_call : (H : List Entry) (taken : List ℕ) (t : ℕ) → is_busy H taken t ≡ false → kept_call H taken t ≡ None
+pub idle_call : (H : List Entry) (taken : List ℕ) (t : ℕ) → is_busy H taken t ≡ false → kept_call H taken t ≡ None
 unfolding is_busy kept_call
 idle_call H taken t idle = go (last_call H t) idle
   where

@@ -3,3 +3,4 @@ pub mod MeetingLemmas
 pub mod KeptLemmas
 pub mod PassingLemmas
 pub mod KeptLaw
+pub mod BaseLemmas

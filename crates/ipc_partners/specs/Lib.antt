@@ -1,2 +1,3 @@
 pub mod Partners
 pub mod Kept
+pub mod Bases

@@ -1,0 +1,24 @@
+use Rattle.std.proofs.Common.{◌∙◌, ◌==◌, sym, ap}
+use Rattle.ipc_desks.proofs.LastCalls.{live_below}
+use Rattle.ipc_partners.specs.Partners.{joined_at}
+use Rattle.ipc_partners.proofs.BaseLemmas.{gone_unkept, idle_unkept, last_decides}
+use Rattle.ipc_partners.proofs.base.is_kept.Goals as goal
+
+pub returns-then-not-is_live : goal.returns-then-not-is_live
+returns-then-not-is_live c =
+    sym (gone_unkept c.args.entries.now c.args.taken.now c.requires.legal c.requires.desks.over c.requires.others c.args.number c.args.caller c.requires.caller
+    (sym c.is_live.ensures ∙ c.if-not-is_live.true))
+
+pub returns-then-not-is_busy : goal.returns-then-not-is_busy
+returns-then-not-is_busy c =
+    sym (idle_unkept c.args.entries.now c.args.taken.now c.requires.legal c.requires.desks.over c.requires.others c.args.number c.args.caller c.requires.caller
+    (sym c.is_busy.ensures ∙ c.if-not-is_busy.true))
+
+pub at-requires : goal.at-requires
+at-requires c = rw c.number.ensures (live_below c.args.entries.now c.requires.legal c.args.caller (sym c.is_live.ensures ∙ c.if-not-is_live.false))
+
+pub returns : goal.returns
+returns c =
+    ap (λ j. j.number == c.args.number) (c.at.ensures ∙ ap (joined_at c.args.partners.now) c.number.ensures)
+    ∙ last_decides c.args.entries.now c.args.taken.now c.requires.legal c.requires.desks.over c.requires.others c.args.number c.args.caller c.requires.caller
+    (sym c.is_live.ensures ∙ c.if-not-is_live.false) (sym c.is_busy.ensures ∙ c.if-not-is_busy.false) c.args.partners.now c.requires.knows

@@ -3,7 +3,29 @@ use ipc_history::Entry;
 use ipc_lines::read_entry;
 use ipc_words::ThreadId;
 use std::alloc::{AllocError, Global};
+use std::fmt::{Debug, Display};
+use std::process::Abort;
 use std::test::Fail;
+
+// Fails the test where the two differ. A call of it is proved much faster than the macro in its place.
+fn same<T: PartialEq + Debug + Drop>(rt: &impl Abort, left: T, right: T) {
+    assert_eq!(*rt; left, right);
+}
+
+// The same, and says where.
+fn same_at<T: PartialEq + Debug + Drop>(rt: &impl Abort, at: &impl Display, left: T, right: T) {
+    assert_eq!(*rt; left, right, "{at}");
+}
+
+// Fails the test where this is not so.
+fn holds(rt: &impl Abort, is_so: bool) {
+    assert!(*rt; is_so);
+}
+
+// The same, and says where.
+fn holds_at(rt: &impl Abort, at: &impl Display, is_so: bool) {
+    assert!(*rt; is_so, "{at}");
+}
 
 // A string that is copied in part, a receive that turns to another thread, a timeout, and a partner that is not there.
 const STRINGS: &str = "opened 2.1 1
@@ -79,13 +101,22 @@ fn each_kind_of_entry_has_its_mark(rt: HostRuntime) -> Result<(), Fail> {
     ];
     let entries = entries_of(alloc, STRINGS)?;
     let scene = scene_of(alloc, &entries, &everything(), true)?;
-    assert_eq!(&rt; scene.rows.len(), expected.len());
+    same(&rt, scene.rows.len(), expected.len());
     for (row, (place, mark, from, to)) in scene.rows.iter().zip(expected.iter()) {
-        assert_eq!(&rt; row.place, *place);
-        assert_eq!(&rt; row.mark, *mark, "at {place}");
-        assert_eq!(&rt; (row.from, row.to), (*from, *to), "at {place}");
+        same(&rt, row.place, *place);
+        same_at(&rt, &place, row.mark, *mark);
+        same_at(&rt, &place, (row.from, row.to), (*from, *to));
     }
     Ok(())
+}
+
+// The originator of a propagated call.
+fn originator(is_propagated: bool) -> Option<ThreadId> {
+    if is_propagated {
+        ThreadId::global(1, 1)
+    } else {
+        None
+    }
 }
 
 #[test]
@@ -102,18 +133,13 @@ fn phases_wait_and_originators_are_shown(rt: HostRuntime) -> Result<(), Fail> {
     let entries = entries_of(alloc, SHOWN)?;
     let scene = scene_of(alloc, &entries, &everything(), true)?;
     for (place, is_shown, sent, received) in expected {
-        let wanted = if is_shown {
-            ThreadId::global(1, 1)
-        } else {
-            None
-        };
         for row in scene.rows.iter().filter(|row| row.place == place) {
-            assert_eq!(&rt; row.shown, wanted, "at {place}");
-            assert_eq!(&rt; row.sent, sent, "at {place}");
-            assert_eq!(&rt; row.received, received, "at {place}");
+            same_at(&rt, &place, row.shown, originator(is_shown));
+            same_at(&rt, &place, row.sent, sent);
+            same_at(&rt, &place, row.received, received);
         }
     }
-    assert_eq!(&rt; scene.rows.len(), 10);
+    same(&rt, scene.rows.len(), 10);
     let turns = [
         (3, 2, Wait::Receives),
         (4, 1, Wait::Sends),
@@ -122,10 +148,10 @@ fn phases_wait_and_originators_are_shown(rt: HostRuntime) -> Result<(), Fail> {
     ];
     for (turn, expected) in scene.turns.iter().zip(turns.iter()) {
         let (row, column, wait) = *expected;
-        assert_eq!(&rt; turn.row, row);
-        assert_eq!(&rt; turn.column, column);
-        assert_eq!(&rt; turn.wait, wait);
-        assert!(&rt; !turn.is_above);
+        same(&rt, turn.row, row);
+        same(&rt, turn.column, column);
+        same(&rt, turn.wait, wait);
+        holds(&rt, !turn.is_above);
     }
     Ok(())
 }
@@ -135,24 +161,25 @@ fn only_what_was_chosen_is_shown(rt: HostRuntime) -> Result<(), Fail> {
     let alloc = rt.alloc();
     let entries = entries_of(alloc, SHOWN)?;
     let threads = read_threads(alloc, "3.1")?;
-    assert!(&rt; threads.is_some());
+    holds(&rt, threads.is_some());
     let chosen = Selection {
         first: 5,
         last: 10,
         threads,
     };
     let scene = scene_of(alloc, &entries, &chosen, false)?;
-    assert_eq!(&rt; scene.rows.len(), 2);
+    same(&rt, scene.rows.len(), 2);
     for (row, place) in scene.rows.iter().zip([7, 9]) {
-        assert_eq!(&rt; row.place, place);
+        same(&rt, row.place, place);
     }
     // what 3.1 waits for since an entry that is not shown
     let first = scene.turns.first().copied();
-    assert_eq!(&rt;
+    same(
+        &rt,
         first.map(|turn| (turn.row, turn.wait)),
-        Some((0, Wait::Sends))
+        Some((0, Wait::Sends)),
     );
-    assert!(&rt; first.is_some_and(|turn| turn.is_above));
+    holds(&rt, first.is_some_and(|turn| turn.is_above));
     Ok(())
 }
 
@@ -170,19 +197,20 @@ fn exchanges_that_come_again_are_folded(rt: HostRuntime) -> Result<(), Fail> {
     let entries = entries_of(alloc, text.as_str())?;
     let folded = scene_of(alloc, &entries, &everything(), true)?;
     let expected = [(0, 1, 1), (1, 1, 1), (2, 3, 10), (32, 1, 1)];
-    assert_eq!(&rt; folded.folds.len(), expected.len());
+    same(&rt, folded.folds.len(), expected.len());
     for (fold, (first, period, count)) in folded.folds.iter().zip(expected) {
-        assert_eq!(&rt;
+        same(
+            &rt,
             *fold,
             Fold {
                 first,
                 period,
-                count
-            }
+                count,
+            },
         );
     }
     let unfolded = scene_of(alloc, &entries, &everything(), false)?;
-    assert_eq!(&rt; unfolded.folds.len(), 33);
+    same(&rt, unfolded.folds.len(), 33);
     Ok(())
 }
 
@@ -191,12 +219,12 @@ fn a_list_of_threads_is_ids_with_commas_between_them(rt: HostRuntime) -> Result<
     let alloc = rt.alloc();
     let expected = [ThreadId::global(1, 1), ThreadId::global(20, 3)];
     let threads = read_threads(alloc, "1.1,20.3")?.unwrap_or(Vec::new(alloc));
-    assert_eq!(&rt; threads.len(), 2);
+    same(&rt, threads.len(), 2);
     for (thread, wanted) in threads.iter().zip(expected.iter()) {
-        assert_eq!(&rt; Some(*thread), *wanted);
+        same(&rt, Some(*thread), *wanted);
     }
     for list in ["", "1.1,", "1.1 2.1", "one"] {
-        assert!(&rt; read_threads(alloc, list)?.is_none(), "{list}");
+        holds_at(&rt, &list, read_threads(alloc, list)?.is_none());
     }
     Ok(())
 }

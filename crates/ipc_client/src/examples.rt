@@ -1,5 +1,6 @@
 // The server and the client of the README, over ports in memory.
 use super::*;
+use crate::tests::{holds, same};
 use ipc_frame::{Frame, IpcFrame, Side};
 use ipc_items::{StringList, Substring};
 use ipc_ports::{MemoryPort, PortRead, PortWrite};
@@ -67,16 +68,21 @@ fn a_server_replies_to_the_sender_and_waits(rt: HostRuntime) -> Result<(), Fail>
     serve(alloc, &mut client, 1)?;
     let mut sent = writer.output().unwrap_or(&[]);
     let wait = next_call(alloc, &mut sent)?;
-    assert_eq!(rt; (wait.to().to_word(), wait.from().to_word()), (0, u64::MAX));
-    let reply = next_call(alloc, &mut sent)?;
-    assert_eq!(rt;
-        (reply.to().to_word(), reply.from().to_word()),
-        (0x2_0000_0001, u64::MAX)
+    same(
+        &rt,
+        (wait.to().to_word(), wait.from().to_word()),
+        (0, u64::MAX),
     );
-    assert_eq!(rt; reply.words(), [8].as_slice());
+    let reply = next_call(alloc, &mut sent)?;
+    same(
+        &rt,
+        (reply.to().to_word(), reply.from().to_word()),
+        (0x2_0000_0001, u64::MAX),
+    );
+    same(&rt, reply.words(), [8].as_slice());
     let last = read_frame(alloc, Side::Server, &mut sent)?;
-    assert!(rt; matches!(&last, Frame::Bye));
-    assert!(rt; sent.is_empty());
+    holds(&rt, matches!(&last, Frame::Bye));
+    holds(&rt, sent.is_empty());
     Ok(())
 }
 
@@ -87,7 +93,7 @@ fn a_client_is_told_the_word_of_the_reply(rt: HostRuntime) -> Result<(), Fail> {
     let mut writer = MemoryPort::new(alloc, &[]);
     let mut client = Client::new(alloc, &mut reader, &mut writer);
     let server = ThreadId::from_word(0x2_0000_0001);
-    assert_eq!(rt; next_of(alloc, &mut client, server, 6)?, Some(7));
+    same(&rt, next_of(alloc, &mut client, server, 6)?, Some(7));
     Ok(())
 }
 
@@ -118,17 +124,18 @@ fn strings_are_received_whole(rt: HostRuntime) -> Result<(), Fail> {
     let Ok(received) = answer.message() else {
         return Err(Fail::new("no message"));
     };
-    assert_eq!(rt; (received.label(), received.words().len()), (5, 0));
+    same(&rt, (received.label(), received.words().len()), (5, 0));
     let strings = received.strings(alloc)?;
-    assert_eq!(rt; strings.len(), 2);
-    assert!(rt; is_string(&strings, 0, b"abc"));
-    assert!(rt; is_string(&strings, 1, b"de"));
+    same(&rt, strings.len(), 2);
+    holds(&rt, is_string(&strings, 0, b"abc"));
+    holds(&rt, is_string(&strings, 1, b"de"));
     let mut sent = writer.output().unwrap_or(&[]);
     let call = next_call(alloc, &mut sent)?;
-    assert_eq!(rt; call.acceptor(), 1);
-    assert_eq!(rt;
+    same(&rt, call.acceptor(), 1);
+    same(
+        &rt,
         call.buffer_words(),
-        [0xc00, 0x1000, 0x2400, 0x2000].as_slice()
+        [0xc00, 0x1000, 0x2400, 0x2000].as_slice(),
     );
     Ok(())
 }
@@ -137,17 +144,18 @@ fn strings_are_received_whole(rt: HostRuntime) -> Result<(), Fail> {
 fn a_message_is_laid_out(rt: HostRuntime) -> Result<(), Fail> {
     let alloc = rt.alloc();
     let mut strings = StringList::new(alloc);
-    assert!(rt; strings.push(alloc, b"abc")?);
-    assert!(rt; strings.push(alloc, b"hello")?);
+    holds(&rt, strings.push(alloc, b"abc")?);
+    holds(&rt, strings.push(alloc, b"hello")?);
     let message = Message::of(alloc, 5, &[7], &strings)?;
-    assert_eq!(rt; message.tag.to_word(), 0x5_0101);
-    assert_eq!(rt;
+    same(&rt, message.tag.to_word(), 0x5_0101);
+    same(
+        &rt,
         message.words.as_slice(),
-        [7, 0xc00, 0, 0x1400, 3].as_slice()
+        [7, 0xc00, 0, 0x1400, 3].as_slice(),
     );
-    assert_eq!(rt; message.payload.as_slice(), b"abchello".as_slice());
+    same(&rt, message.payload.as_slice(), b"abchello".as_slice());
     let many = Message::of(alloc, 5, &[0; 60], &strings).is_err();
     let wide = Message::of(alloc, 1 << 48, &[7], &strings).is_err();
-    assert!(rt; many && wide);
+    holds(&rt, many && wide);
     Ok(())
 }

@@ -3,7 +3,19 @@ use ipc_calls::Heard;
 use ipc_core::{Answer, Command, Refusal};
 use ipc_frame::{Frame, FrameFault, WireVersion};
 use ipc_words::{Control, ThreadId};
+use std::fmt::Debug;
+use std::process::Abort;
 use std::test::Fail;
+
+// Fails the test where the two differ. A call of it is proved much faster than the macro in its place.
+fn same<T: PartialEq + Debug + Drop>(rt: &impl Abort, left: T, right: T) {
+    assert_eq!(*rt; left, right);
+}
+
+// Fails the test where this is not so.
+fn holds(rt: &impl Abort, is_so: bool) {
+    assert!(*rt; is_so);
+}
 
 // The thread 2.1.
 const SECOND: u64 = 0x2_0000_0001;
@@ -12,7 +24,7 @@ const SECOND: u64 = 0x2_0000_0001;
 fn a_connection_greets_is_served_and_ends(rt: HostRuntime) -> Result<(), Fail> {
     let thread = ThreadId::from_word(SECOND);
     let Reaction::Ask(request) = asks(Stage::Greeting, Ok(Heard::Hello(2, WireVersion::One))) else {
-        assert_eq!(rt; "the kernel is asked", "");
+        same(&rt, "the kernel is asked", "");
         return Ok(());
     };
     let opens = matches!(
@@ -22,47 +34,50 @@ fn a_connection_greets_is_served_and_ends(rt: HostRuntime) -> Result<(), Fail> {
             space: 3
         }
     );
-    assert_eq!(rt; opens, true);
+    same(&rt, opens, true);
     let told = told_of(WireVersion::One, 0, Answer::Opened(thread));
-    assert_eq!(rt; told, Told::Opened(thread, WireVersion::One));
-    assert_eq!(rt;
+    same(&rt, told, Told::Opened(thread, WireVersion::One));
+    same(
+        &rt,
         matches!(reply(WireVersion::One, told), Some(Frame::Welcome(_))),
-        true
+        true,
     );
-    assert_eq!(rt; is_posted(told), false);
+    same(&rt, is_posted(told), false);
     let serving = next_stage(Stage::Greeting, told);
-    assert_eq!(rt; serving, Stage::Serving(thread));
+    same(&rt, serving, Stage::Serving(thread));
     let left = next_stage(serving, Told::Left);
-    assert_eq!(rt; thread_left(Stage::Serving(thread), left), Some(thread));
+    same(&rt, thread_left(Stage::Serving(thread), left), Some(thread));
     Ok(())
 }
 
 #[test]
 fn a_fault_is_told_by_its_number(rt: HostRuntime) -> Result<(), Fail> {
-    assert_eq!(rt; FrameFault::NoMemory.number(), 14);
+    same(&rt, FrameFault::NoMemory.number(), 14);
     let asked = asks(Stage::Greeting, Err(FrameFault::Unfinished));
-    assert_eq!(rt; matches!(asked, Reaction::Refuse(FRAME, 9)), true);
+    same(&rt, matches!(asked, Reaction::Refuse(FRAME, 9)), true);
     Ok(())
 }
 
 #[test]
 fn each_refusal_is_told_by_its_number(rt: HostRuntime) -> Result<(), Fail> {
     let told = told_of(WireVersion::One, 0, Answer::Refused(Refusal::HistoryFull));
-    assert_eq!(rt;
+    same(
+        &rt,
         matches!(reply(WireVersion::One, told), Some(Frame::Refused(5))),
-        true
+        true,
     );
-    assert_eq!(rt; next_stage(Stage::Greeting, told), Stage::Greeting);
+    same(&rt, next_stage(Stage::Greeting, told), Stage::Greeting);
     let busy = Told::Refused(Refusal::Busy);
-    assert_eq!(rt;
+    same(
+        &rt,
         matches!(reply(WireVersion::One, busy), Some(Frame::Fault(KERNEL, 7))),
-        true
+        true,
     );
-    assert_eq!(rt; is_posted(busy), true);
+    same(&rt, is_posted(busy), true);
     let gone = Told::Refused(Refusal::NoThread);
-    assert_eq!(rt; reply(WireVersion::Two, gone).is_none(), true);
-    assert_eq!(rt; is_posted(gone), false);
-    assert_eq!(rt; next_stage(Stage::Greeting, gone), Stage::Finished);
+    same(&rt, reply(WireVersion::Two, gone).is_none(), true);
+    same(&rt, is_posted(gone), false);
+    same(&rt, next_stage(Stage::Greeting, gone), Stage::Finished);
     Ok(())
 }
 
@@ -70,10 +85,14 @@ fn each_refusal_is_told_by_its_number(rt: HostRuntime) -> Result<(), Fail> {
 fn an_exchange_has_its_moment_in_version_2_alone(rt: HostRuntime) {
     let told = Told::Exchanged(ThreadId::from_word(SECOND), Control::from_word(4), 0, 7);
     let first = reply(WireVersion::One, told);
-    assert!(rt; matches!(first, Some(Frame::Exregr(_, _, 0, None))));
+    holds(&rt, matches!(first, Some(Frame::Exregr(_, _, 0, None))));
     let second = reply(WireVersion::Two, told);
-    assert!(rt; matches!(second, Some(Frame::Exregr(_, _, 0, Some(7)))));
-    assert_eq!(rt; next_version(WireVersion::Two, told), WireVersion::Two);
+    holds(&rt, matches!(second, Some(Frame::Exregr(_, _, 0, Some(7)))));
+    same(&rt, next_version(WireVersion::Two, told), WireVersion::Two);
     let opened = Told::Opened(ThreadId::from_word(SECOND), WireVersion::Two);
-    assert_eq!(rt; next_version(WireVersion::One, opened), WireVersion::Two);
+    same(
+        &rt,
+        next_version(WireVersion::One, opened),
+        WireVersion::Two,
+    );
 }

@@ -3,8 +3,19 @@ use ipc_history::Entry;
 use ipc_lines::read_entry;
 use ipc_words::ThreadId;
 use std::alloc::{AllocError, Global};
+use std::fmt::{Debug, Display};
 use std::process::Abort;
 use std::test::Fail;
+
+// Fails the test where the two differ. A call of it is proved much faster than the macro in its place.
+fn same<T: PartialEq + Debug + Drop>(rt: &impl Abort, left: T, right: T) {
+    assert_eq!(*rt; left, right);
+}
+
+// The same, and says where.
+fn same_at<T: PartialEq + Debug + Drop>(rt: &impl Abort, at: &impl Display, left: T, right: T) {
+    assert_eq!(*rt; left, right, "{at}");
+}
 
 // A server that receives from any gets a string of a client after 3 microseconds, and replies 5 later. A send of another
 // client takes too long, and its next one comes after 12.
@@ -84,7 +95,7 @@ fn a_pair_has_its_calls_messages_bytes_failures_and_times(rt: HostRuntime) -> Re
     let events = events_in(&rt, alloc, MEETINGS)?;
     let groups = grouped(alloc, &events)?;
     let text = tell_counts(alloc, &groups, &events)?;
-    assert_eq!(rt; text.as_str(), TOLD);
+    same(&rt, text.as_str(), TOLD);
     Ok(())
 }
 
@@ -94,7 +105,7 @@ fn the_counts_are_told_in_json(rt: HostRuntime) -> Result<(), Fail> {
     let events = events_in(&rt, alloc, MEETINGS)?;
     let groups = grouped(alloc, &events)?;
     let text = json_of(alloc, &groups, &events)?;
-    assert_eq!(rt; text.as_str(), IN_JSON);
+    same(&rt, text.as_str(), IN_JSON);
     Ok(())
 }
 
@@ -104,7 +115,7 @@ fn a_line_that_does_not_follow_is_named_by_its_place(rt: HostRuntime) -> Result<
     let entries = entries_of(alloc, "opened 1.1 1\nopened 1.1 1\nopened 2.1 1\n")?;
     match events_of(alloc, &entries) {
         Ok(events) => assert!(rt; false, "{events:?}"),
-        Err(fault) => assert_eq!(rt; fault, CountFault::Illegal(1)),
+        Err(fault) => same(&rt, fault, CountFault::Illegal(1)),
     }
     Ok(())
 }
@@ -142,17 +153,18 @@ fn half_of_the_times_and_99_of_100_are_not_past_theirs(rt: HostRuntime) -> Resul
     ];
     for (times, median, most, longest) in cases {
         let row = row_of(alloc, &messages(alloc, times)?)?;
-        assert_eq!(rt; (row.calls, row.messages, row.failures), (0, times, 0));
-        assert_eq!(rt; row.bytes, times.saturating_mul(7));
+        same(&rt, (row.calls, row.messages, row.failures), (0, times, 0));
+        same(&rt, row.bytes, times.saturating_mul(7));
         let sent = Waits {
             median,
             most,
             longest,
         };
-        assert_eq!(rt; row.sent, Some(sent), "of {times}");
-        assert_eq!(rt;
+        same_at(&rt, &times, row.sent, Some(sent));
+        same(
+            &rt,
             row.received.map(|waits| waits.longest),
-            Some(longest.saturating_mul(2))
+            Some(longest.saturating_mul(2)),
         );
     }
     Ok(())
@@ -169,6 +181,6 @@ fn no_event_has_no_times(rt: HostRuntime) -> Result<(), Fail> {
         sent: None,
         received: None,
     };
-    assert_eq!(rt; row, nothing);
+    same(&rt, row, nothing);
     Ok(())
 }

@@ -3,7 +3,24 @@ use ipc_chart::{Scene, Selection, scene_of};
 use ipc_history::Entry;
 use ipc_lines::read_entry;
 use std::alloc::{AllocError, Global};
+use std::fmt::{Debug, Display};
+use std::process::Abort;
 use std::test::Fail;
+
+// Fails the test where the two differ. A call of it is proved much faster than the macro in its place.
+fn same<T: PartialEq + Debug + Drop>(rt: &impl Abort, left: T, right: T) {
+    assert_eq!(*rt; left, right);
+}
+
+// Fails the test where this is not so.
+fn holds(rt: &impl Abort, is_so: bool) {
+    assert!(*rt; is_so);
+}
+
+// The same, and says where.
+fn holds_at(rt: &impl Abort, at: &impl Display, is_so: bool) {
+    assert!(*rt; is_so, "{at}");
+}
 
 // A message with a word, a receive that is cancelled, and three sends that fail in the same way.
 const MEETING: &str = "opened 1.1 1
@@ -71,12 +88,13 @@ fn a_meeting_is_drawn_as_text(rt: HostRuntime) -> Result<(), Fail> {
     let entries = entries_of(alloc, MEETING)?;
     let scene = scene_for(alloc, &entries, true)?;
     let text = draw_text(alloc, &scene, &entries, 0)?;
-    assert_eq!(&rt;
+    same(
+        &rt,
         text.as_str().split('\n').count(),
-        TEXT.len().saturating_add(1)
+        TEXT.len().saturating_add(1),
     );
     for (line, expected) in text.as_str().split('\n').zip(TEXT.iter()) {
-        assert_eq!(&rt; line, *expected);
+        same(&rt, line, *expected);
     }
     Ok(())
 }
@@ -88,9 +106,12 @@ fn no_line_of_text_is_wider_than_was_asked_for(rt: HostRuntime) -> Result<(), Fa
     let scene = scene_for(alloc, &entries, true)?;
     let text = draw_text(alloc, &scene, &entries, 60)?;
     for line in text.as_str().split('\n') {
-        assert!(&rt; line.chars().count() <= 60, "{line}");
+        holds_at(&rt, &line, line.chars().count() <= 60);
     }
-    assert!(&rt; text.as_str().contains("2.1 call 2: send to 1.1, lab…\n"));
+    holds(
+        &rt,
+        text.as_str().contains("2.1 call 2: send to 1.1, lab…\n"),
+    );
     Ok(())
 }
 
@@ -114,7 +135,7 @@ fn a_picture_has_lines_bars_arrows_and_words(rt: HostRuntime) -> Result<(), Fail
     let scene = scene_for(alloc, &entries, true)?;
     let picture = draw_svg(alloc, &scene, &entries)?;
     for part in parts {
-        assert!(&rt; picture.as_str().contains(part), "{part}");
+        holds_at(&rt, &part, picture.as_str().contains(part));
     }
     Ok(())
 }
@@ -124,7 +145,7 @@ fn a_page_has_a_picture_for_so_many_rows(rt: HostRuntime) -> Result<(), Fail> {
     let alloc = rt.alloc();
     let entries = entries_of(alloc, MEETING)?;
     let scene = scene_for(alloc, &entries, false)?;
-    assert_eq!(&rt; scene.rows.len(), 15);
+    same(&rt, scene.rows.len(), 15);
     let page = draw_html(alloc, &scene, &entries, 6)?;
     let page = page.as_str();
     for part in [
@@ -133,11 +154,11 @@ fn a_page_has_a_picture_for_so_many_rows(rt: HostRuntime) -> Result<(), Fail> {
         "<h2>Page 3: entries 17 to 20</h2>\n<svg ",
         "<input id=\"field\" type=\"search\"",
     ] {
-        assert!(&rt; page.contains(part), "{part}");
+        holds_at(&rt, &part, page.contains(part));
     }
-    assert!(&rt; !page.contains("<h2>Page 4"));
+    holds(&rt, !page.contains("<h2>Page 4"));
     // the legend and three pages; nothing of a network
-    assert_eq!(&rt; page.split("<svg ").count(), 5);
-    assert_eq!(&rt; page.split("http").count(), 5);
+    same(&rt, page.split("<svg ").count(), 5);
+    same(&rt, page.split("http").count(), 5);
     Ok(())
 }

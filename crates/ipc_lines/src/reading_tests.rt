@@ -1,3 +1,4 @@
+use crate::tests::{holds_at, same};
 use crate::{
     LineFault, entry_line, read_buffers, read_call, read_decimal, read_entry, read_hex, read_id,
     read_strings, read_words,
@@ -59,7 +60,7 @@ fn reads_entries(rt: HostRuntime) -> Result<(), Fail> {
     for line in &GOOD {
         let read = read_entry(rt.alloc(), line.as_bytes());
         let entry = read.ok().ok_or("read")?;
-        assert_eq!(rt; entry_line(rt.alloc(), &entry)?.as_str(), *line);
+        same(&rt, entry_line(rt.alloc(), &entry)?.as_str(), *line);
     }
     Ok(())
 }
@@ -68,28 +69,30 @@ fn reads_entries(rt: HostRuntime) -> Result<(), Fail> {
 fn refuses_other_lines(rt: HostRuntime) -> Result<(), Fail> {
     for line in &BAD {
         let read = read_entry(rt.alloc(), line.as_bytes());
-        assert!(rt; matches!(&read, Err(LineFault::Bad)), "{line}");
+        holds_at(&rt, &line, matches!(&read, Err(LineFault::Bad)));
     }
     Ok(())
 }
 
 #[test]
 fn reads_fields(rt: HostRuntime) -> Result<(), Fail> {
-    assert_eq!(rt; read_decimal(b"18446744073709551615"), Some(u64::MAX));
-    assert_eq!(rt; read_hex(b"0xffffffffffffffff"), Some(u64::MAX));
-    assert_eq!(rt; read_id(b"2.1").ok_or("id")?.to_word(), 0x2_0000_0001);
-    assert_eq!(rt;
+    same(&rt, read_decimal(b"18446744073709551615"), Some(u64::MAX));
+    same(&rt, read_hex(b"0xffffffffffffffff"), Some(u64::MAX));
+    same(&rt, read_id(b"2.1").ok_or("id")?.to_word(), 0x2_0000_0001);
+    same(
+        &rt,
         read_id(b"local").ok_or("id")?.to_word(),
-        0xffff_ffff_ffff_ffc0
+        0xffff_ffff_ffff_ffc0,
     );
     let words = read_words(rt.alloc(), b"0x1,0xff")?.ok_or("words")?;
-    assert_eq!(rt; words.as_slice(), [1, 255].as_slice());
-    assert_eq!(rt;
+    same(&rt, words.as_slice(), [1, 255].as_slice());
+    same(
+        &rt,
         read_strings(rt.alloc(), b"x,x61")?.ok_or("strings")?.size(),
-        1
+        1,
     );
     let buffers = read_buffers(rt.alloc(), b"1@0x0,2@0x10+3@0x20")?.ok_or("buffers")?;
-    assert_eq!(rt; buffers.ok_or("accepted")?.len(), 2);
+    same(&rt, buffers.ok_or("accepted")?.len(), 2);
     Ok(())
 }
 
@@ -99,7 +102,7 @@ fn reads_a_call(rt: HostRuntime) -> Result<(), Fail> {
         b"2.1", b"3.1", b"any", b"0x0", b"0x1", b"nil", b"0x7", b"-", b"-",
     ];
     let (thread, call) = read_call(rt.alloc(), &fields)?.ok_or("call")?;
-    assert_eq!(rt; thread.number(), 2);
-    assert_eq!(rt; call.words(), [7].as_slice());
+    same(&rt, thread.number(), 2);
+    same(&rt, call.words(), [7].as_slice());
     Ok(())
 }

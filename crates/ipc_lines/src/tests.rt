@@ -3,8 +3,19 @@ use ipc_history::{Call, CallFields, EnteredCall, Entry, Input, Outcome, Output};
 use ipc_items::{BufferList, StringList, Substring};
 use ipc_words::{IpcError, MaskedControl, MsgTag, Period, ThreadId};
 use std::alloc::{AllocError, Global};
+use std::fmt::{Debug, Display};
 use std::process::Abort;
 use std::test::Fail;
+
+// Fails the test where the two differ. A call of it is proved much faster than the macro in its place.
+pub(crate) fn same<T: PartialEq + Debug + Drop>(rt: &impl Abort, left: T, right: T) {
+    assert_eq!(*rt; left, right);
+}
+
+// Fails the test where this is not so, and says where.
+pub(crate) fn holds_at(rt: &impl Abort, at: &impl Display, is_so: bool) {
+    assert!(*rt; is_so, "{at}");
+}
 
 // The first thread of a number.
 fn thread(number: u64) -> ThreadId {
@@ -54,7 +65,7 @@ fn assert_line(
     text: &str,
 ) -> Result<(), AllocError> {
     let line = entry_line(alloc, entry)?;
-    assert_eq!(rt; line.as_str(), text);
+    same(rt, line.as_str(), text);
     Ok(())
 }
 
@@ -65,7 +76,7 @@ fn assert_call_line(
     text: &str,
 ) -> Result<(), Fail> {
     let call = Call::new(fields).ok_or("not in normal form")?;
-    assert_eq!(rt; call_text(alloc, thread(1), &call)?.as_str(), text);
+    same(rt, call_text(alloc, thread(1), &call)?.as_str(), text);
     Ok(())
 }
 
@@ -82,10 +93,10 @@ fn scalars(rt: HostRuntime) -> Result<(), Fail> {
         (0xa_0000_0000, "0xa00000000"),
     ] {
         let id = IdText(ThreadId::from_word(word));
-        assert_eq!(rt; format!(in rt.alloc(); "{id}")?.as_str(), text);
+        same(&rt, format!(in rt.alloc(); "{id}")?.as_str(), text);
     }
     let words = format!(in rt.alloc(); "{} {}", HexText(0), HexText(0xdead_beef))?;
-    assert_eq!(rt; words.as_str(), "0x0 0xdeadbeef");
+    same(&rt, words.as_str(), "0x0 0xdeadbeef");
     Ok(())
 }
 
@@ -195,7 +206,7 @@ fn outcomes(rt: HostRuntime) -> Result<(), Fail> {
     };
     let text =
         "1 0x100 2.1 nil 0x0 0xc00,0x1000,0x1400,0x2000 0x1000:x616263,0x2000:x6865,0x3000:x6c6c6f";
-    assert_eq!(rt; outcome_line(alloc, &received)?.as_str(), text);
+    same(&rt, outcome_line(alloc, &received)?.as_str(), text);
     let failed = Outcome {
         call: 2,
         moment: 0,
@@ -207,9 +218,10 @@ fn outcomes(rt: HostRuntime) -> Result<(), Fail> {
         strings: StringList::new(alloc),
         buffers: BufferList::new(alloc),
     };
-    assert_eq!(rt;
+    same(
+        &rt,
         outcome_line(alloc, &failed)?.as_str(),
-        "2 0x8000 nil nil 0x10000e - -"
+        "2 0x8000 nil nil 0x10000e - -",
     );
     Ok(())
 }
@@ -228,9 +240,10 @@ fn a_large_call(rt: HostRuntime) -> Result<(), Fail> {
     };
     let call = entered(alloc, sends)?;
     let line = entry_line(alloc, &Entry::Given(Input::Called(1, thread(1), call)))?;
-    assert_eq!(rt;
+    same(
+        &rt,
         line.len(),
-        "called 1 1.1 2.1 nil 0x0 0x80 nil - x -".len() + 2_097_152
+        "called 1 1.1 2.1 nil 0x0 0x80 nil - x -".len() + 2_097_152,
     );
     Ok(())
 }

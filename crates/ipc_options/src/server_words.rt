@@ -350,6 +350,7 @@ fn mode_of(text: &str) -> Option<u32>
 mod tests {
     use super::*;
     use crate::server::OWNER_ONLY;
+    use crate::shell::tests::{same, same_at};
     use std::test::Fail;
 
     fn words_of(alloc: Global, words: &[&str]) -> Result<Vec<String>, AllocError> {
@@ -364,10 +365,10 @@ mod tests {
     fn takes(rt: HostRuntime) -> Result<(), Fail> {
         let words = words_of(rt.alloc(), &["l4d", "--dir", "here", "--spaces", "64"])?;
         let options = server_options(rt.alloc(), words.as_slice())?;
-        assert_eq!(rt; options.dir, "here");
-        assert_eq!(rt; (options.spaces, options.connections), (64, 65_535));
-        assert_eq!(rt; (options.live, options.hello_within), (65_535, 10));
-        assert_eq!(rt; options.mode, OWNER_ONLY);
+        same(&rt, options.dir, "here");
+        same(&rt, (options.spaces, options.connections), (64, 65_535));
+        same(&rt, (options.live, options.hello_within), (65_535, 10));
+        same(&rt, options.mode, OWNER_ONLY);
         let flags = [
             options.keep_open,
             options.probe,
@@ -375,8 +376,8 @@ mod tests {
             options.log,
             options.trace_required,
         ];
-        assert_eq!(rt; flags, [false; 5]);
-        assert_eq!(rt; options.trace, None);
+        same(&rt, flags, [false; 5]);
+        same(&rt, options.trace, None);
         let words = words_of(
             rt.alloc(),
             &[
@@ -397,20 +398,24 @@ mod tests {
             ],
         )?;
         let options = server_options(rt.alloc(), words.as_slice())?;
-        assert_eq!(rt; (options.spaces, options.connections), (1, 2));
-        assert_eq!(rt; options.mode, 0o660);
-        assert_eq!(rt; (options.live, options.hello_within), (300, 65_535));
+        same(&rt, (options.spaces, options.connections), (1, 2));
+        same(&rt, options.mode, 0o660);
+        same(&rt, (options.live, options.hello_within), (300, 65_535));
         let flags = [
             options.probe,
             options.replace,
             options.log,
             options.trace_required,
         ];
-        assert_eq!(rt; flags, [true; 4]);
-        assert_eq!(rt; options.trace, Some("meetings"));
+        same(&rt, flags, [true; 4]);
+        same(&rt, options.trace, Some("meetings"));
         let words = words_of(rt.alloc(), &["l4d", "--dir=.", "--spaces=1", "--keep-open"])?;
         let options = server_options(rt.alloc(), words.as_slice())?;
-        assert_eq!(rt; (options.keep_open, options.connections), (true, 65_535));
+        same(
+            &rt,
+            (options.keep_open, options.connections),
+            (true, 65_535),
+        );
         Ok(())
     }
 
@@ -491,7 +496,7 @@ mod tests {
             let words = words_of(rt.alloc(), words)?;
             match server_options(rt.alloc(), words.as_slice()) {
                 Ok(_) => assert!(rt; false, "taken: {words:?}"),
-                Err(error) => assert_eq!(rt; error.kind(), kind, "at {words:?}"),
+                Err(error) => same_at(&rt, &words, error.kind(), kind),
             }
         }
         Ok(())

@@ -817,10 +817,26 @@ fn number_up_to(found: &ArgMatches<'_>, id: &str, most: u32) -> Option<u32>
 }
 
 #[cfg(test)]
-mod tests {
+pub(crate) mod tests {
     use super::*;
+    use std::fmt::Debug;
     use std::process::Abort;
     use std::test::Fail;
+
+    // Fails the test where the two differ. A call of it is proved much faster than the macro in its place.
+    pub(crate) fn same<T: PartialEq + Debug + Drop>(rt: &impl Abort, left: T, right: T) {
+        assert_eq!(*rt; left, right);
+    }
+
+    // The same, and says where.
+    pub(crate) fn same_at<T: PartialEq + Debug + Drop>(
+        rt: &impl Abort,
+        at: &impl Debug,
+        left: T,
+        right: T,
+    ) {
+        assert_eq!(*rt; left, right, "at {at:?}");
+    }
 
     fn words_of(alloc: Global, words: &[&str]) -> Result<Vec<String>, AllocError> {
         let mut strings = Vec::new(alloc);
@@ -838,7 +854,7 @@ mod tests {
         for (words, wanted) in cases {
             let strings = words_of(alloc, words)?;
             let options = shell_options(alloc, &strings)?;
-            assert_eq!(rt; options, *wanted, "at {words:?}");
+            same_at(rt, words, options, *wanted);
         }
         Ok(())
     }
@@ -852,7 +868,7 @@ mod tests {
             let strings = words_of(alloc, words)?;
             match shell_options(alloc, &strings) {
                 Ok(options) => assert!(rt; false, "{options:?} at {words:?}"),
-                Err(error) => assert_eq!(rt; error.kind(), *kind, "at {words:?}"),
+                Err(error) => same_at(rt, words, error.kind(), *kind),
             }
         }
         Ok(())
@@ -881,11 +897,8 @@ mod tests {
         for (words, entries, calls) in cases {
             let strings = words_of(rt.alloc(), words)?;
             let options = shell_options(rt.alloc(), &strings)?;
-            assert_eq!(rt;
-                options,
-                ShellOptions::Run(ScriptLimits { entries, calls }),
-                "at {words:?}"
-            );
+            let limits = ScriptLimits { entries, calls };
+            same_at(&rt, &words, options, ShellOptions::Run(limits));
         }
         Ok(())
     }
@@ -893,9 +906,17 @@ mod tests {
     #[test]
     fn serves_connections_without_an_option(rt: HostRuntime) -> Result<(), Fail> {
         let strings = words_of(rt.alloc(), &["l4sh", "wire"])?;
-        assert_eq!(rt; shell_options(rt.alloc(), &strings)?, ShellOptions::Wire);
+        same(
+            &rt,
+            shell_options(rt.alloc(), &strings)?,
+            ShellOptions::Wire,
+        );
         let strings = words_of(rt.alloc(), &["l4sh", "talk"])?;
-        assert_eq!(rt; shell_options(rt.alloc(), &strings)?, ShellOptions::Talk);
+        same(
+            &rt,
+            shell_options(rt.alloc(), &strings)?,
+            ShellOptions::Talk,
+        );
         Ok(())
     }
 
@@ -921,7 +942,7 @@ mod tests {
     fn checks_and_charts_the_file_that_is_named(rt: HostRuntime) -> Result<(), Fail> {
         let strings = words_of(rt.alloc(), &["l4sh", "check", "here/trace"])?;
         let options = shell_options(rt.alloc(), &strings)?;
-        assert_eq!(rt; options, ShellOptions::Check { file: "here/trace" });
+        same(&rt, options, ShellOptions::Check { file: "here/trace" });
         let plain = ChartOptions {
             file: "trace",
             from: 1,
@@ -982,7 +1003,7 @@ mod tests {
         for (words, chart) in cases {
             let strings = words_of(rt.alloc(), words)?;
             let options = shell_options(rt.alloc(), &strings)?;
-            assert_eq!(rt; options, ShellOptions::Chart(chart), "at {words:?}");
+            same_at(&rt, &words, options, ShellOptions::Chart(chart));
         }
         Ok(())
     }
@@ -1218,7 +1239,7 @@ mod tests {
             Err(error) => {
                 let text = error.to_string(rt.alloc())?;
                 let expected = format!(in rt.alloc(); "l4sh {VERSION}\n")?;
-                assert_eq!(rt; text.as_str(), expected.as_str());
+                same(&rt, text.as_str(), expected.as_str());
             }
         }
         Ok(())

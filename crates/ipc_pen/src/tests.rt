@@ -5,7 +5,19 @@ use ipc_frame::{Frame, IpcFrame, IpcParts, encode};
 use ipc_ports::PortFault;
 use ipc_words::{MsgTag, ThreadId, Timeouts};
 use std::alloc::Global;
+use std::fmt::Debug;
+use std::process::Abort;
 use std::test::Fail;
+
+// Fails the test where the two differ. A call of it is proved much faster than the macro in its place.
+fn same<T: PartialEq + Debug + Drop>(rt: &impl Abort, left: T, right: T) {
+    assert_eq!(*rt; left, right);
+}
+
+// Fails the test where this is not so.
+fn holds(rt: &impl Abort, is_so: bool) {
+    assert!(*rt; is_so);
+}
 
 // Takes so many bytes at once, and then has no room until it is asked again; it fails once so many calls came.
 #[derive(Drop)]
@@ -58,13 +70,13 @@ fn what_is_given_goes_out_whole_and_once(rt: HostRuntime) -> Result<(), Fail> {
     let refused = encode(rt.alloc(), Frame::Refused(7))?;
     for most in 1..8usize {
         let mut pen = pen_of(&rt, most, 1_000);
-        assert_eq!(rt; pen.place(), 3);
+        same(&rt, pen.place(), 3);
         for _ in 0..2 {
-            assert!(rt; pen.is_ready());
+            holds(&rt, pen.is_ready());
             if pen.is_ready() {
                 pen.give(Given::Frame(Frame::Refused(7)));
             }
-            assert!(rt; !pen.is_ready());
+            holds(&rt, !pen.is_ready());
             let mut turns = 0usize;
             for _ in 0..100 {
                 if pen.write(Patience::AtOnce) == Turn::Written {
@@ -72,23 +84,23 @@ fn what_is_given_goes_out_whole_and_once(rt: HostRuntime) -> Result<(), Fail> {
                 }
                 turns = turns.saturating_add(1);
             }
-            assert!(rt; turns > 0);
+            holds(&rt, turns > 0);
         }
-        assert!(rt; pen.is_ready() && !pen.has_failed());
+        holds(&rt, pen.is_ready() && !pen.has_failed());
         let port = pen.into_port();
         assert_eq!(rt; port.out.len(), 12);
-        assert_eq!(rt; &port.out[..6], refused.as_slice());
-        assert_eq!(rt; &port.out[6..], refused.as_slice());
+        same(&rt, &port.out[..6], refused.as_slice());
+        same(&rt, &port.out[6..], refused.as_slice());
     }
     let mut pen = pen_of(&rt, 1, 3);
     pen.give(Given::Frame(Frame::Refused(7)));
     for _ in 0..3 {
         let _ = pen.write(Patience::Waits);
     }
-    assert!(rt; pen.has_failed());
-    assert!(rt; !pen.is_ready());
-    assert_eq!(rt; pen.write(Patience::Waits), Turn::Failed);
-    assert_eq!(rt; pen.into_port().out.as_slice(), &[0u8][..]);
+    holds(&rt, pen.has_failed());
+    holds(&rt, !pen.is_ready());
+    same(&rt, pen.write(Patience::Waits), Turn::Failed);
+    same(&rt, pen.into_port().out.as_slice(), &[0u8][..]);
     Ok(())
 }
 
@@ -117,7 +129,7 @@ fn a_long_payload_goes_out_whole(rt: HostRuntime) -> Result<(), Fail> {
     for _ in 0..100 {
         let _ = pen.write(Patience::AtOnce);
     }
-    assert!(rt; pen.is_ready());
-    assert_eq!(rt; pen.into_port().out.as_slice(), text.as_slice());
+    holds(&rt, pen.is_ready());
+    same(&rt, pen.into_port().out.as_slice(), text.as_slice());
     Ok(())
 }

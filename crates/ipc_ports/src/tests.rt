@@ -5,11 +5,22 @@ use super::{
     WritePort, write_all,
 };
 use std::alloc::{AllocError, Global};
+use std::fmt::Debug;
 use std::io;
 use std::io::{ErrorKind, Read, Write};
 use std::marker::Brand;
 use std::process::Abort;
 use std::sync::ledger::{Blank, Ledger};
+
+// Fails the test where the two differ. A call of it is proved much faster than the macro in its place.
+fn same<T: PartialEq + Debug + Drop>(rt: &impl Abort, left: T, right: T) {
+    assert_eq!(*rt; left, right);
+}
+
+// Fails the test where this is not so.
+fn holds(rt: &impl Abort, is_so: bool) {
+    assert!(*rt; is_so);
+}
 
 // Each turn takes one byte, after so many that are interrupted; a device without room takes none.
 #[derive(Drop)]
@@ -112,7 +123,7 @@ fn only_a_thousand_interrupted_turns_in_a_row_are_a_fault(rt: HostRuntime) {
     ];
     for (turns, room, first, second) in cases {
         let answers = two_reads::<Brand>(Blank::new(1), turns, room);
-        assert_eq!(&rt; answers, (first, second));
+        same(&rt, answers, (first, second));
     }
 }
 
@@ -128,7 +139,7 @@ fn a_write_of_no_bytes_is_a_fault(rt: HostRuntime) {
     ];
     for (turns, room, written, flushed) in cases {
         let answers = write_and_flush::<Brand>(Blank::new(1), turns, room);
-        assert_eq!(&rt; answers, (written, flushed));
+        same(&rt, answers, (written, flushed));
     }
 }
 
@@ -156,8 +167,8 @@ fn assert_copied(
 ) {
     let port = MemoryPort::new(alloc, b"abc").byte_by_byte();
     let mut port = port.with_trouble(call, trouble);
-    assert_eq!(rt; copied(&mut port), end);
-    assert_eq!(rt; port.output(), Some(text.as_bytes()));
+    same(rt, copied(&mut port), end);
+    same(rt, port.output(), Some(text.as_bytes()));
 }
 
 #[test]
@@ -188,22 +199,23 @@ fn a_piece_holds_what_is_left_of_a_read(rt: HostRuntime) -> Result<(), PortFault
     let count = piece.bytes().len().min(3);
     piece.consume(count);
     piece.fill(&mut port)?;
-    assert_eq!(&rt; piece.bytes(), b"de".as_slice());
+    same(&rt, piece.bytes(), b"de".as_slice());
     let count = piece.bytes().len();
     piece.consume(count);
     piece.fill(&mut port)?;
-    assert!(&rt; piece.bytes().is_empty());
+    holds(&rt, piece.bytes().is_empty());
     Ok(())
 }
 
 #[test]
 fn a_fault_has_a_number_and_a_text(rt: HostRuntime) -> Result<(), AllocError> {
     let fault = PortFault::Interrupted;
-    assert_eq!(&rt;
+    same(
+        &rt,
         (fault.number(), PortFault::DeviceFailed.number()),
-        (11, 10)
+        (11, 10),
     );
     let text = format!(in rt.alloc(); "{fault}")?;
-    assert_eq!(&rt; text.as_str(), "1,000 interrupted turns in a row");
+    same(&rt, text.as_str(), "1,000 interrupted turns in a row");
     Ok(())
 }

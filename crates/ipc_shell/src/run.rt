@@ -10,7 +10,7 @@ mod commands;
 #[cfg(test)]
 mod row_tests;
 #[cfg(test)]
-mod tests;
+pub(crate) mod tests;
 #[cfg(test)]
 mod transcripts;
 

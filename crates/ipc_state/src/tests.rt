@@ -2,7 +2,19 @@ use super::*;
 use ipc_history::Entry;
 use ipc_lines::read_entry;
 use std::alloc::{AllocError, Global};
+use std::fmt::{Debug, Display};
+use std::process::Abort;
 use std::test::Fail;
+
+// Fails the test where the two differ. A call of it is proved much faster than the macro in its place.
+fn same<T: PartialEq + Debug + Drop>(rt: &impl Abort, left: T, right: T) {
+    assert_eq!(*rt; left, right);
+}
+
+// Fails the test where this is not so, and says where.
+fn holds_at(rt: &impl Abort, at: &impl Display, is_so: bool) {
+    assert!(*rt; is_so, "{at}");
+}
 
 // Three servers that call each other in a circle, a client behind it, one that waits for any, and a free
 // one.
@@ -58,8 +70,8 @@ deadlock: 1.1 waits for 2.1 waits for 3.1 waits for 1.1
 stuck: 4.1 waits behind the deadlock of 1.1 until 10
 ";
     match told_of(rt.alloc(), CIRCLE)? {
-        Ok(text) => assert_eq!(rt; text.as_str(), expected),
-        Err(fault) => assert!(rt; false, "illegal at {fault}"),
+        Ok(text) => same(&rt, text.as_str(), expected),
+        Err(fault) => holds_at(&rt, &fault, false),
     }
     Ok(())
 }
@@ -71,8 +83,8 @@ fn a_wait_for_a_free_thread_is_no_deadlock(rt: HostRuntime) -> Result<(), Fail> 
 2.1  space 1  free
 ";
     match told_of(rt.alloc(), TRANSFER)? {
-        Ok(text) => assert_eq!(rt; text.as_str(), expected),
-        Err(fault) => assert!(rt; false, "illegal at {fault}"),
+        Ok(text) => same(&rt, text.as_str(), expected),
+        Err(fault) => holds_at(&rt, &fault, false),
     }
     Ok(())
 }
@@ -80,8 +92,8 @@ fn a_wait_for_a_free_thread_is_no_deadlock(rt: HostRuntime) -> Result<(), Fail> 
 #[test]
 fn what_is_no_history_has_no_state(rt: HostRuntime) -> Result<(), Fail> {
     match told_of(rt.alloc(), "opened 1.1 1\nopened 1.1 1")? {
-        Ok(text) => assert!(rt; false, "{text}"),
-        Err(fault) => assert_eq!(rt; fault, 1),
+        Ok(text) => holds_at(&rt, &text, false),
+        Err(fault) => same(&rt, fault, 1),
     }
     Ok(())
 }

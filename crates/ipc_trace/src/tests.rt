@@ -5,8 +5,24 @@ use ipc_history::{Entry, Input, Output};
 use ipc_ports::{MemoryPort, Trouble};
 use ipc_words::ThreadId;
 use std::alloc::Global;
+use std::fmt::{Debug, Display};
 use std::process::Abort;
 use std::test::Fail;
+
+// Fails the test where the two differ. A call of it is proved much faster than the macro in its place.
+fn same<T: PartialEq + Debug + Drop>(rt: &impl Abort, left: T, right: T) {
+    assert_eq!(*rt; left, right);
+}
+
+// The same, and says where.
+fn same_at<T: PartialEq + Debug + Drop>(rt: &impl Abort, at: &impl Display, left: T, right: T) {
+    assert_eq!(*rt; left, right, "{at}");
+}
+
+// Fails the test where this is not so.
+fn holds(rt: &impl Abort, is_so: bool) {
+    assert!(*rt; is_so);
+}
 
 // 1.1 in space 1.
 fn opened() -> Entry {
@@ -24,9 +40,9 @@ fn assert_read_as(
 ) {
     let mut port = MemoryPort::new(alloc, text.as_bytes()).byte_by_byte();
     let read = read_trace(alloc, &mut port);
-    assert_eq!(rt; read.version, version);
-    assert_eq!(rt; read.entries.len(), entries);
-    assert_eq!(rt; read.end, end, "{text}");
+    same(rt, read.version, version);
+    same(rt, read.entries.len(), entries);
+    same_at(rt, &text, read.end, end);
 }
 
 // A text is read as so many entries of a trace of version 1, and the reading ends so.
@@ -104,19 +120,23 @@ fn another_version_is_told_apart(rt: HostRuntime) {
 fn lines_are_read_one_by_one(rt: HostRuntime) {
     let mut lines = TraceLines::new(rt.alloc());
     let first = lines.read(b"l4trace 2");
-    assert!(&rt; first.is_ok_and(|entry| entry.is_none()));
+    holds(&rt, first.is_ok_and(|entry| entry.is_none()));
     let second = lines.read(b"opened 1.1 1");
-    assert!(&rt; second.is_ok_and(|entry| entry.is_some()));
-    assert!(&rt;
+    holds(&rt, second.is_ok_and(|entry| entry.is_some()));
+    holds(
+        &rt,
         lines
             .read(b"l4trace 2")
-            .is_err_and(|fault| fault == LineFault::Bad)
+            .is_err_and(|fault| fault == LineFault::Bad),
     );
-    assert_eq!(&rt; lines.version(), TraceVersion::Two);
+    same(&rt, lines.version(), TraceVersion::Two);
     let mut lines = TraceLines::new(rt.alloc());
     let first = lines.read(b"l4trace 4");
-    assert!(&rt; first.is_err_and(|fault| fault == LineFault::UnknownVersion));
-    assert_eq!(&rt; lines.version(), TraceVersion::One);
+    holds(
+        &rt,
+        first.is_err_and(|fault| fault == LineFault::UnknownVersion),
+    );
+    same(&rt, lines.version(), TraceVersion::One);
 }
 
 // The trace of two entries.
@@ -127,9 +147,9 @@ fn assert_front(rt: &impl Abort, alloc: Global, call: u64, written: usize) {
     let mut port = MemoryPort::new(alloc, &[]).with_trouble(call, Trouble::Fails);
     let mut trace = TraceWriter::new(alloc, &mut port);
     let put = put_trace(&mut trace, &[opened(), opened()]);
-    assert_eq!(rt; put, Err(PutFault::DeviceFailed));
-    assert_eq!(rt; trace.put_header(), Err(PutFault::Stopped));
-    assert_eq!(rt; port.output(), TWO.get(..written));
+    same(rt, put, Err(PutFault::DeviceFailed));
+    same(rt, trace.put_header(), Err(PutFault::Stopped));
+    same(rt, port.output(), TWO.get(..written));
 }
 
 #[test]
@@ -144,9 +164,9 @@ fn a_whole_trace_is_put_with_its_version(rt: HostRuntime) {
     let alloc = rt.alloc();
     let mut port = MemoryPort::new(alloc, &[]);
     let mut trace = TraceWriter::new(alloc, &mut port);
-    assert_eq!(&rt; put_trace(&mut trace, &[opened(), opened()]), Ok(()));
-    assert_eq!(&rt; port.output(), Some(TWO));
-    assert!(&rt; port.is_flushed());
+    same(&rt, put_trace(&mut trace, &[opened(), opened()]), Ok(()));
+    same(&rt, port.output(), Some(TWO));
+    holds(&rt, port.is_flushed());
 }
 
 #[test]
@@ -162,8 +182,8 @@ fn a_read_that_fails_ends_the_trace(rt: HostRuntime) {
         } else {
             1 + usize::from(call == 26)
         };
-        assert_eq!(&rt; read.entries.len(), entries);
-        assert_eq!(&rt; read.end, TraceEnd::DeviceFailed);
+        same(&rt, read.entries.len(), entries);
+        same(&rt, read.end, TraceEnd::DeviceFailed);
     }
 }
 
@@ -173,10 +193,10 @@ fn a_writer_stops_at_the_first_failure(rt: HostRuntime) {
     let mut port = MemoryPort::new(alloc, &[]).byte_by_byte();
     port = port.with_trouble(10, Trouble::Fails);
     let mut trace = TraceWriter::new(alloc, &mut port);
-    assert_eq!(&rt; trace.put(&opened()), Err(PutFault::DeviceFailed));
-    assert_eq!(&rt; trace.put(&opened()), Err(PutFault::Stopped));
-    assert_eq!(&rt; trace.put_text("began 1 2"), Err(PutFault::Stopped));
-    assert_eq!(&rt; port.output(), Some(b"opened 1.1".as_slice()));
+    same(&rt, trace.put(&opened()), Err(PutFault::DeviceFailed));
+    same(&rt, trace.put(&opened()), Err(PutFault::Stopped));
+    same(&rt, trace.put_text("began 1 2"), Err(PutFault::Stopped));
+    same(&rt, port.output(), Some(b"opened 1.1".as_slice()));
 }
 
 #[test]
@@ -184,12 +204,12 @@ fn what_is_put_is_read(rt: HostRuntime) {
     let alloc = rt.alloc();
     let mut port = MemoryPort::new(alloc, &[]);
     let mut trace = TraceWriter::new(alloc, &mut port);
-    assert_eq!(&rt; trace.put(&opened()), Ok(()));
-    assert_eq!(&rt; trace.put_text("began 1 2"), Ok(()));
-    assert_eq!(&rt; trace.flush(), Ok(()));
+    same(&rt, trace.put(&opened()), Ok(()));
+    same(&rt, trace.put_text("began 1 2"), Ok(()));
+    same(&rt, trace.flush(), Ok(()));
     let text = "opened 1.1 1\nbegan 1 2\n";
-    assert_eq!(&rt; port.output(), Some(text.as_bytes()));
-    assert!(&rt; port.is_flushed());
+    same(&rt, port.output(), Some(text.as_bytes()));
+    holds(&rt, port.is_flushed());
 }
 
 #[test]
@@ -198,11 +218,11 @@ fn a_writer_stops_at_a_flush_that_fails(rt: HostRuntime) {
     let mut port = MemoryPort::new(alloc, &[]);
     port = port.with_trouble(1, Trouble::Fails);
     let mut trace = TraceWriter::new(alloc, &mut port);
-    assert_eq!(&rt; trace.put(&opened()), Ok(()));
-    assert_eq!(&rt; trace.flush(), Err(PutFault::DeviceFailed));
-    assert_eq!(&rt; trace.flush(), Err(PutFault::Stopped));
-    assert_eq!(&rt; trace.put(&opened()), Err(PutFault::Stopped));
-    assert_eq!(&rt; port.output(), Some(b"opened 1.1 1\n".as_slice()));
+    same(&rt, trace.put(&opened()), Ok(()));
+    same(&rt, trace.flush(), Err(PutFault::DeviceFailed));
+    same(&rt, trace.flush(), Err(PutFault::Stopped));
+    same(&rt, trace.put(&opened()), Err(PutFault::Stopped));
+    same(&rt, port.output(), Some(b"opened 1.1 1\n".as_slice()));
 }
 
 #[test]
@@ -210,17 +230,17 @@ fn a_line_past_the_limit_is_bad_only_with_its_newline(rt: HostRuntime) -> Result
     let alloc = rt.alloc();
     let mut text = vec![in alloc; b'a'; 2_105_500]?;
     let read = read_trace(alloc, &mut text.as_slice());
-    assert_eq!(&rt; read.end, TraceEnd::Torn);
+    same(&rt, read.end, TraceEnd::Torn);
     text.push(b'\n')?;
     let read = read_trace(alloc, &mut text.as_slice());
-    assert_eq!(&rt; read.end, TraceEnd::BadLine(1));
+    same(&rt, read.end, TraceEnd::BadLine(1));
     Ok(())
 }
 
 #[test]
 fn faults_have_their_numbers(rt: HostRuntime) {
-    assert_eq!(&rt; PutFault::NoMemory.number(), 5);
-    assert_eq!(&rt; TraceEnd::Torn.number(), Some(3));
-    assert_eq!(&rt; TraceEnd::UnknownVersion.number(), Some(6));
-    assert_eq!(&rt; TraceEnd::Whole.number(), None);
+    same(&rt, PutFault::NoMemory.number(), 5);
+    same(&rt, TraceEnd::Torn.number(), Some(3));
+    same(&rt, TraceEnd::UnknownVersion.number(), Some(6));
+    same(&rt, TraceEnd::Whole.number(), None);
 }

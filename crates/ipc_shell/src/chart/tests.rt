@@ -1,5 +1,6 @@
 use super::{chart_reason, chart_trace, has_two_forms};
 use crate::exit::{ChartFault, Exit};
+use crate::run::tests::{holds, same};
 use ipc_options::ChartOptions;
 use ipc_ports::{MemoryPort, Trouble};
 use std::alloc::Global;
@@ -39,8 +40,8 @@ fn assert_charted(
     let mut reader = MemoryPort::new(alloc, trace.as_bytes()).byte_by_byte();
     let mut writer = MemoryPort::new(alloc, &[]);
     let ended = chart_trace(alloc, options, &mut reader, &mut writer);
-    assert_eq!(rt; ended, exit);
-    assert_eq!(rt; writer.output(), Some(text.as_bytes()));
+    same(rt, ended, exit);
+    same(rt, writer.output(), Some(text.as_bytes()));
 }
 
 #[test]
@@ -89,8 +90,8 @@ fn a_picture_that_cannot_be_written_is_a_device_that_failed(rt: HostRuntime) {
     let mut reader = TRACE.as_bytes();
     let mut writer = MemoryPort::new(alloc, &[]).with_trouble(0, Trouble::Fails);
     let ended = chart_trace(alloc, &options(None), &mut reader, &mut writer);
-    assert_eq!(&rt; ended, Exit::DeviceFailed);
-    assert_eq!(&rt; writer.output(), Some(b"".as_slice()));
+    same(&rt, ended, Exit::DeviceFailed);
+    same(&rt, writer.output(), Some(b"".as_slice()));
 }
 
 #[test]
@@ -114,12 +115,12 @@ fn why_nothing_is_drawn_is_told_in_words(rt: HostRuntime) -> Result<(), Fail> {
     ];
     for (fault, words) in cases {
         let reason = chart_reason(alloc, &options(Some("9.1")), fault)?;
-        assert_eq!(rt; reason.as_str(), words);
+        same(&rt, reason.as_str(), words);
     }
     let paged = ChartOptions {
         page: 9,
         ..options(None)
     };
-    assert!(rt; has_two_forms(&paged) && !has_two_forms(&options(None)));
+    holds(&rt, has_two_forms(&paged) && !has_two_forms(&options(None)));
     Ok(())
 }

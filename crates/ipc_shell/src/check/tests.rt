@@ -1,5 +1,6 @@
 use super::check_trace;
 use crate::exit::Exit;
+use crate::run::tests::{holds, same};
 use ipc_ports::{MemoryPort, Trouble};
 use std::alloc::{AllocError, Global};
 use std::process::Abort;
@@ -13,9 +14,9 @@ const MEETING: &str =
 fn assert_checked(rt: &impl Abort, alloc: Global, trace: &[u8], exit: Exit, text: &str) {
     let mut reader = MemoryPort::new(alloc, trace).byte_by_byte();
     let mut writer = MemoryPort::new(alloc, &[]);
-    assert_eq!(rt; check_trace(alloc, &mut reader, &mut writer), exit);
-    assert_eq!(rt; writer.output(), Some(text.as_bytes()));
-    assert!(rt; writer.is_flushed());
+    same(rt, check_trace(alloc, &mut reader, &mut writer), exit);
+    same(rt, writer.output(), Some(text.as_bytes()));
+    holds(rt, writer.is_flushed());
 }
 
 #[test]
@@ -72,15 +73,16 @@ fn a_device_that_fails_ends_the_check(rt: HostRuntime) {
     let trace = MEETING.as_bytes();
     let mut reader = MemoryPort::new(alloc, trace).with_trouble(0, Trouble::Fails);
     let mut writer = MemoryPort::new(alloc, &[]);
-    assert_eq!(&rt;
+    same(
+        &rt,
         check_trace(alloc, &mut reader, &mut writer),
-        Exit::DeviceFailed
+        Exit::DeviceFailed,
     );
-    assert_eq!(&rt; writer.output(), Some(b"".as_slice()));
+    same(&rt, writer.output(), Some(b"".as_slice()));
     let mut writer = MemoryPort::new(alloc, &[]).byte_by_byte();
     writer = writer.with_trouble(2, Trouble::Fails);
     let mut reader = trace;
     let ended = check_trace(alloc, &mut reader, &mut writer);
-    assert_eq!(&rt; ended, Exit::DeviceFailed);
-    assert_eq!(&rt; writer.output(), Some(b"ye".as_slice()));
+    same(&rt, ended, Exit::DeviceFailed);
+    same(&rt, writer.output(), Some(b"ye".as_slice()));
 }

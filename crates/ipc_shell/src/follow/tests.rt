@@ -1,5 +1,6 @@
 use super::follow_trace;
 use crate::exit::Exit;
+use crate::run::tests::{same, same_at};
 use ipc_options::FollowOptions;
 use ipc_ports::{MemoryPort, Trouble};
 use std::alloc::Global;
@@ -46,8 +47,8 @@ fn assert_followed(
     let mut reader = MemoryPort::new(alloc, trace.as_bytes()).byte_by_byte();
     let mut writer = MemoryPort::new(alloc, &[]);
     let ended = follow_trace(alloc, options, &mut reader, &mut writer);
-    assert_eq!(rt; ended, exit, "{trace}");
-    assert_eq!(rt; writer.output(), Some(text.as_bytes()));
+    same_at(rt, &trace, ended, exit);
+    same(rt, writer.output(), Some(text.as_bytes()));
 }
 
 #[test]
@@ -94,5 +95,5 @@ fn a_read_that_fails_ends_it(rt: HostRuntime) {
     let mut reader = MemoryPort::new(alloc, TRACE.as_bytes()).with_trouble(1, Trouble::Fails);
     let mut writer = MemoryPort::new(alloc, &[]);
     let ended = follow_trace(alloc, &everything(), &mut reader, &mut writer);
-    assert_eq!(rt; ended, Exit::DeviceFailed);
+    same(&rt, ended, Exit::DeviceFailed);
 }

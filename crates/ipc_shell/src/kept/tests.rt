@@ -1,4 +1,5 @@
 use super::{KeptPort, Tail};
+use crate::run::tests::{holds, same_at};
 use ipc_ports::{MemoryPort, PortFault, PortRead, Trouble};
 use ipc_words::limits::MAX_LINE_BYTES;
 use std::process::Abort;
@@ -15,7 +16,7 @@ fn read_pieces<P: PortRead>(port: &mut P, pieces: u32) -> Result<(), PortFault> 
 
 // The line of this number is kept so.
 fn assert_line(rt: &impl Abort, tail: &Tail, number: u64, expected: Option<&[u8]>) {
-    assert_eq!(rt; tail.line(number), expected, "line {number}");
+    same_at(rt, &number, tail.line(number), expected);
 }
 
 #[test]
@@ -67,7 +68,7 @@ fn a_read_that_fails_changes_no_line(rt: HostRuntime) -> Result<(), Fail> {
     let input = MemoryPort::new(alloc, text).with_trouble(1, Trouble::Fails);
     let mut port = KeptPort::new(alloc, input);
     read_pieces(&mut port, 1)?;
-    assert!(rt; read_pieces(&mut port, 1).is_err());
+    holds(&rt, read_pieces(&mut port, 1).is_err());
     assert_line(&rt, port.tail(), 2, Some(b"two"));
     read_pieces(&mut port, 1)?;
     assert_line(&rt, port.tail(), 3, Some(b"three"));
@@ -90,8 +91,8 @@ fn of_a_line_that_is_too_long_little_more_than_the_limit_is_kept(
     }
     match port.tail().line(1) {
         Some(line) => {
-            assert!(rt; line.len() > MAX_LINE_BYTES);
-            assert!(rt; line.len() <= MAX_LINE_BYTES + 1 + piece.len());
+            holds(&rt, line.len() > MAX_LINE_BYTES);
+            holds(&rt, line.len() <= MAX_LINE_BYTES + 1 + piece.len());
         }
         None => assert!(rt; false, "the line is lost"),
     }

@@ -1,5 +1,6 @@
 use super::{Look, look_at_trace, print_answer};
 use crate::exit::Exit;
+use crate::run::tests::{holds, same};
 use ipc_explain::{answer_period, answer_tag, explain};
 use ipc_ports::{MemoryPort, Trouble};
 use std::alloc::{AllocError, Global};
@@ -76,7 +77,7 @@ fn assert_looked(rt: &impl Abort, alloc: Global, trace: &str, look: Look, exit: 
     let mut writer = MemoryPort::new(alloc, &[]);
     let ended = look_at_trace(alloc, look, &mut reader, &mut writer);
     assert_eq!(rt; ended, exit, "{look:?} of {trace}");
-    assert_eq!(rt; writer.output(), Some(text.as_bytes()));
+    same(rt, writer.output(), Some(text.as_bytes()));
 }
 
 #[test]
@@ -182,12 +183,12 @@ fn a_device_that_fails_ends_the_look(rt: HostRuntime) {
         let mut reader = MemoryPort::new(alloc, trace).with_trouble(0, Trouble::Fails);
         let mut writer = MemoryPort::new(alloc, &[]);
         let ended = look_at_trace(alloc, look, &mut reader, &mut writer);
-        assert_eq!(&rt; ended, Exit::DeviceFailed);
-        assert_eq!(&rt; writer.output(), Some(b"".as_slice()));
+        same(&rt, ended, Exit::DeviceFailed);
+        same(&rt, writer.output(), Some(b"".as_slice()));
         let mut reader = trace;
         let mut writer = MemoryPort::new(alloc, &[]).with_trouble(0, Trouble::Fails);
         let ended = look_at_trace(alloc, look, &mut reader, &mut writer);
-        assert_eq!(&rt; ended, Exit::DeviceFailed);
+        same(&rt, ended, Exit::DeviceFailed);
     }
 }
 
@@ -200,9 +201,9 @@ fn assert_answered(
     text: &str,
 ) {
     let mut writer = MemoryPort::new(alloc, &[]);
-    assert_eq!(rt; print_answer(answer, &mut writer), exit);
-    assert_eq!(rt; writer.output(), Some(text.as_bytes()));
-    assert!(rt; writer.is_flushed());
+    same(rt, print_answer(answer, &mut writer), exit);
+    same(rt, writer.output(), Some(text.as_bytes()));
+    holds(rt, writer.is_flushed());
 }
 
 #[test]

@@ -1,5 +1,6 @@
 use super::migrate_trace;
 use crate::exit::Exit;
+use crate::run::tests::{holds, same, same_at};
 use ipc_ports::{MemoryPort, Trouble};
 use ipc_trace::TraceWriter;
 use std::alloc::Global;
@@ -13,10 +14,10 @@ fn assert_migrated(rt: &impl Abort, alloc: Global, old: &str, exit: Exit, new: &
     let mut trace = TraceWriter::new(alloc, &mut file);
     let ended = migrate_trace(alloc, &mut reader, &mut trace, &mut writer);
     drop(trace);
-    assert_eq!(rt; ended, exit, "{old}");
-    assert_eq!(rt; file.output(), Some(new.as_bytes()));
-    assert_eq!(rt; writer.output(), Some(told.as_bytes()));
-    assert!(rt; file.is_flushed());
+    same_at(rt, &old, ended, exit);
+    same(rt, file.output(), Some(new.as_bytes()));
+    same(rt, writer.output(), Some(told.as_bytes()));
+    holds(rt, file.is_flushed());
 }
 
 #[test]
@@ -69,9 +70,10 @@ fn a_writer_that_fails_ends_the_migration(rt: HostRuntime) {
     let mut trace = TraceWriter::new(alloc, &mut file);
     let ended = migrate_trace(alloc, &mut reader, &mut trace, &mut writer);
     drop(trace);
-    assert_eq!(rt; ended, Exit::DeviceFailed);
-    assert_eq!(rt;
+    same(&rt, ended, Exit::DeviceFailed);
+    same(
+        &rt,
         file.output(),
-        Some(b"l4trace 2\nopened 1.1 1\n".as_slice())
+        Some(b"l4trace 2\nopened 1.1 1\n".as_slice()),
     );
 }

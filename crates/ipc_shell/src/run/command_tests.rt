@@ -1,4 +1,5 @@
 use super::commands::read_command;
+use crate::run::tests::holds_at;
 use std::test::Fail;
 
 // Lines that spell a command.
@@ -26,7 +27,7 @@ const BAD: [&str; 6] = [
 fn reads_commands(rt: HostRuntime) -> Result<(), Fail> {
     for line in &GOOD {
         let command = read_command(rt.alloc(), line.as_bytes())?;
-        assert!(rt; command.is_some(), "{line}");
+        holds_at(&rt, &line, command.is_some());
     }
     Ok(())
 }
@@ -35,7 +36,7 @@ fn reads_commands(rt: HostRuntime) -> Result<(), Fail> {
 fn refuses_other_lines(rt: HostRuntime) -> Result<(), Fail> {
     for line in &BAD {
         let command = read_command(rt.alloc(), line.as_bytes())?;
-        assert!(rt; command.is_none(), "{line}");
+        holds_at(&rt, &line, command.is_none());
     }
     Ok(())
 }

@@ -1,6 +1,7 @@
 use super::run_script;
 use super::transcripts::*;
 use crate::exit::Exit;
+use crate::run::tests::same;
 use ipc_core::{Limits, MAX_CALLS, MAX_ENTRIES};
 use ipc_ports::MemoryPort;
 use std::alloc::Global;
@@ -30,8 +31,8 @@ fn assert_transcript(
     };
     let mut writer = MemoryPort::new(alloc, &[]);
     let ended = run_script(alloc, limits, &mut script.as_bytes(), &mut writer);
-    assert_eq!(rt; ended, Exit::Done);
-    assert_eq!(rt; writer.output(), Some(text.as_bytes()));
+    same(rt, ended, Exit::Done);
+    same(rt, writer.output(), Some(text.as_bytes()));
     Ok(())
 }
 

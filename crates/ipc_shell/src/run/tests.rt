@@ -4,8 +4,34 @@ use ipc_core::Limits;
 use ipc_ports::{MemoryPort, PortRead, Trouble};
 use ipc_words::limits::MAX_LINE_BYTES;
 use std::alloc::Global;
+use std::fmt::{Debug, Display};
 use std::process::Abort;
 use std::test::Fail;
+
+// Fails the test where the two differ. A call of it is proved much faster than the macro in its place.
+pub(crate) fn same<T: PartialEq + Debug + Drop>(rt: &impl Abort, left: T, right: T) {
+    assert_eq!(*rt; left, right);
+}
+
+// The same, and says where.
+pub(crate) fn same_at<T: PartialEq + Debug + Drop>(
+    rt: &impl Abort,
+    at: &impl Display,
+    left: T,
+    right: T,
+) {
+    assert_eq!(*rt; left, right, "{at}");
+}
+
+// Fails the test where this is not so.
+pub(crate) fn holds(rt: &impl Abort, is_so: bool) {
+    assert!(*rt; is_so);
+}
+
+// The same, and says where.
+pub(crate) fn holds_at(rt: &impl Abort, at: &impl Display, is_so: bool) {
+    assert!(*rt; is_so, "{at}");
+}
 
 /// More than the greatest limits: they count as those.
 const LIMITS: Limits = Limits {
@@ -28,8 +54,8 @@ fn assert_ends<P: PortRead>(
     exit: Exit,
     text: &str,
 ) {
-    assert_eq!(rt; run_script(alloc, LIMITS, reader, writer), exit);
-    assert_eq!(rt; writer.output(), Some(text.as_bytes()));
+    same(rt, run_script(alloc, LIMITS, reader, writer), exit);
+    same(rt, writer.output(), Some(text.as_bytes()));
 }
 
 const TWO_OPENS: &str = "open 1 1\nopen 2 1\n";
@@ -73,8 +99,8 @@ fn the_last_line_may_lack_its_newline(rt: HostRuntime) {
 fn assert_limited(rt: &impl Abort, alloc: Global, limits: Limits, script: &str, text: &str) {
     let mut writer = MemoryPort::new(alloc, &[]);
     let ended = run_script(alloc, limits, &mut script.as_bytes(), &mut writer);
-    assert_eq!(rt; ended, Exit::Done);
-    assert_eq!(rt; writer.output(), Some(text.as_bytes()));
+    same(rt, ended, Exit::Done);
+    same(rt, writer.output(), Some(text.as_bytes()));
 }
 
 #[test]
@@ -116,7 +142,7 @@ fn interrupted_calls_change_nothing(rt: HostRuntime) {
         Exit::Done,
         TWO_ANSWERS,
     );
-    assert!(rt; writer.is_flushed());
+    holds(&rt, writer.is_flushed());
 }
 
 #[test]
@@ -125,7 +151,7 @@ fn a_line_past_the_limit_is_bad(rt: HostRuntime) -> Result<(), Fail> {
     let script = vec![in alloc; b'a'; MAX_LINE_BYTES + 1]?;
     let mut writer = MemoryPort::new(alloc, &[]);
     let exit = run_script(alloc, LIMITS, &mut script.as_slice(), &mut writer);
-    assert_eq!(rt; exit, Exit::BadLine(1));
+    same(&rt, exit, Exit::BadLine(1));
     Ok(())
 }
 
@@ -155,8 +181,8 @@ fn an_end_is_told_by_its_status_and_words(rt: HostRuntime) -> Result<(), Fail> {
             "l4sh: line 7 does not follow those before it",
         ),
     ] {
-        assert_eq!(rt; exit.status(), status);
-        assert_eq!(rt; exit.to_string(alloc)?.as_str(), words);
+        same(&rt, exit.status(), status);
+        same(&rt, exit.to_string(alloc)?.as_str(), words);
     }
     Ok(())
 }
@@ -193,11 +219,12 @@ fn assert_stops(rt: &impl Abort, alloc: Global, call: u64, trouble: Trouble, cou
     let mut writer = MemoryPort::new(alloc, &[]).byte_by_byte();
     writer = writer.with_trouble(call, trouble);
     let text = TWO_ANSWERS.as_bytes();
-    assert_eq!(rt;
+    same(
+        rt,
         run_script(alloc, LIMITS, &mut reader, &mut writer),
-        Exit::DeviceFailed
+        Exit::DeviceFailed,
     );
-    assert_eq!(rt; writer.output(), Some(&text[..count.min(text.len())]));
+    same(rt, writer.output(), Some(&text[..count.min(text.len())]));
 }
 
 #[test]

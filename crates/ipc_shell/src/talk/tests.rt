@@ -1,5 +1,6 @@
 use super::talk_with;
 use crate::exit::Exit;
+use crate::run::tests::{same, same_at};
 use ipc_core::{Limits, MAX_CALLS, MAX_ENTRIES};
 use ipc_ports::{MemoryPort, Trouble};
 use std::alloc::Global;
@@ -15,8 +16,8 @@ fn assert_said(rt: &impl Abort, alloc: Global, typed: &str, exit: Exit, said: &s
     let mut reader = MemoryPort::new(alloc, typed.as_bytes()).byte_by_byte();
     let mut writer = MemoryPort::new(alloc, &[]);
     let ended = talk_with(alloc, LIMITS, &mut reader, &mut writer);
-    assert_eq!(rt; ended, exit, "{typed}");
-    assert_eq!(rt; writer.output(), Some(said.as_bytes()));
+    same_at(rt, &typed, ended, exit);
+    same(rt, writer.output(), Some(said.as_bytes()));
 }
 
 #[test]
@@ -85,9 +86,9 @@ fn a_device_that_fails_ends_it(rt: HostRuntime) {
     let mut reader = MemoryPort::new(alloc, b"open 1 1\n").with_trouble(0, Trouble::Fails);
     let mut writer = MemoryPort::new(alloc, &[]);
     let ended = talk_with(alloc, LIMITS, &mut reader, &mut writer);
-    assert_eq!(rt; ended, Exit::DeviceFailed);
+    same(&rt, ended, Exit::DeviceFailed);
     let mut reader = MemoryPort::new(alloc, b"open 1 1\n");
     let mut writer = MemoryPort::new(alloc, &[]).with_trouble(0, Trouble::Fails);
     let ended = talk_with(alloc, LIMITS, &mut reader, &mut writer);
-    assert_eq!(rt; ended, Exit::DeviceFailed);
+    same(&rt, ended, Exit::DeviceFailed);
 }

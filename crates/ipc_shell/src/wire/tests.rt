@@ -1,5 +1,6 @@
 use super::wire_script;
 use crate::exit::Exit;
+use crate::run::tests::same;
 use ipc_core::Limits;
 use ipc_ports::MemoryPort;
 use std::alloc::{AllocError, Global};
@@ -100,8 +101,8 @@ fn scripts_of_connections_print_what_goes_out(rt: HostRuntime) -> Result<(), Fai
         let mut writer = MemoryPort::new(rt.alloc(), &[]);
         let mut reader = script.as_bytes();
         let exit = wire_script(rt.alloc(), limits, &mut reader, &mut writer);
-        assert_eq!(rt; exit, row.exit);
-        assert_eq!(rt; writer.output(), Some(text.as_bytes()));
+        same(&rt, exit, row.exit);
+        same(&rt, writer.output(), Some(text.as_bytes()));
     }
     Ok(())
 }

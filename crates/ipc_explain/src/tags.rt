@@ -3,6 +3,7 @@ ghost use Rattle.ipc_words.specs.TagFields.{FitsTag, tag_of};
 ghost use Rattle.ipc_explain.specs.Requests.{requested};
 
 use ipc_lines::{HexText, read_decimal, read_hex};
+use ipc_words::limits::MAX_MESSAGE_WORDS;
 use ipc_words::{MsgTag, TagFields};
 use std::alloc::{AllocError, Global};
 
@@ -117,8 +118,11 @@ pub fn tell_tag(text: &mut String, tag: MsgTag) -> Result<(), AllocError> {
             text.push_str(words)?;
         }
     }
-    if u32::from(words) + u32::from(typed) > 63 {
-        text.push_str("; more than 63 words together, so no call has this tag")?;
+    if usize::from(words) + usize::from(typed) > MAX_MESSAGE_WORDS {
+        write!(
+            text,
+            "; more than {MAX_MESSAGE_WORDS} words together, so no call has this tag"
+        )?;
     }
     Ok(())
 }

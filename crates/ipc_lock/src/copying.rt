@@ -9,7 +9,7 @@ use std::alloc::{AllocError, Global};
 /// The most entries of a group.
 const MOST_OF_A_GROUP: usize = 64;
 
-/// Copies of the first of these entries, as many as one group has: at most 64, and none behind a call with strings. So whoever waits
+/// Copies of the first of these entries, as many as one group has: at most [`MOST_OF_A_GROUP`], and none behind a call with strings. So whoever waits
 /// for the lock meanwhile waits for one long message at most.
 pub(crate) fn copy_group(alloc: Global, rest: &[Entry]) -> Result<Vec<Entry>, AllocError>
     ensures { IfOk result (λ group. IsGroupAt rest.now 0 group.items) }
@@ -21,7 +21,7 @@ pub(crate) fn copy_group(alloc: Global, rest: &[Entry]) -> Result<Vec<Entry>, Al
 /// How many of the entries make up a group.
 fn group_len(entries: &[Entry]) -> usize
     ensures within { result ≤ length entries.now }
-    ensures few { result ≤ 64 }
+    ensures few { result ≤ MOST_OF_A_GROUP }
     ensures some { 0 < length entries.now → 0 < result }
 {
     let (few, _) = entries.split_at(entries.len().min(MOST_OF_A_GROUP));

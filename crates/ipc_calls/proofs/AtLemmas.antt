@@ -1,10 +1,10 @@
 -- Where the numbers and words of a whole frame stand among its bytes.
-use Rattle.std.proofs.Common.{◌≡◌, ℕ, zero, suc, ◌+◌, ◌*◌, ◌-◌, ◌<◌, ◌≤◌, List, [], ◌∷◌, ◌++◌, Option, Some, None, length, take, drop, sum, slice_index, replicate, refl, sym, ap, ap₂, subst, ◌∙◌, arith, length-append, length-drop}
+use Rattle.std.proofs.Common.{◌≡◌, ℕ, zero, suc, ◌+◌, ◌*◌, ◌<◌, ◌≤◌, List, [], ◌∷◌, ◌++◌, Option, Some, None, length, take, drop, slice_index, replicate, refl, sym, ap, ap₂, subst, ◌∙◌, arith, length-append, length-drop}
 use Rattle.std.proofs.lemmas.List.{append-nil, append_assoc, take-take, drop-drop, drop_at, drop_all, drop-append-le, get_or-drop, nil_from_length, length-take-le, take-append-drop, length-replicate}
 use Rattle.ipc_frame.specs.declared.frame.Frame.{Frame}
 use Rattle.ipc_frame.specs.declared.frame.Frame.TheVariants as frame
-use Rattle.ipc_frame.specs.declared.kind.Side.TheVariants.{Server, Client}
-use Rattle.ipc_frame.specs.Numbers.{IsBytes, number_text, number_in, fields_text, fields_in, words_text, words_in, AreWords}
+use Rattle.ipc_frame.specs.declared.kind.Side.TheVariants.{Server}
+use Rattle.ipc_frame.specs.Numbers.{IsBytes, number_text, number_in, fields_text, fields_in, words_text, words_in}
 use Rattle.ipc_frame.specs.Parts.{IpcParts, words_of}
 use Rattle.ipc_frame.specs.declared.version.CallEnd.{CallEnd}
 use Rattle.ipc_frame.specs.declared.version.WireVersion.{WireVersion}

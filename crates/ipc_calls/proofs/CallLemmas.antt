@@ -1,5 +1,5 @@
 -- What is answered for an IPC frame, fault by fault.
-use Rattle.std.proofs.Common.{◌≡◌, ◌≢◌, ◌⊎◌, inl, inr, ℕ, ◌+◌, ◌*◌, ◌≤◌, drop, arith, length-drop, ◌&&◌, ◌||◌, Bool, true, false, List, [], length, nat_lt, Option, Some, None, unwrap_or, Result, Ok, Err, IsOk, IfErr, IsOkUnless, refl, sym, ap, ◌∙◌, if◌then◌else◌}
+use Rattle.std.proofs.Common.{◌≡◌, ◌≢◌, inl, inr, ℕ, ◌+◌, ◌*◌, ◌≤◌, drop, arith, length-drop, ◌&&◌, ◌||◌, Bool, true, false, List, [], length, nat_lt, Result, Ok, Err, IsOk, IfErr, refl, sym, ap, ◌∙◌}
 use Rattle.std.proofs.lemmas.Bool.{cases_Bool}
 use Rattle.ipc_items.specs.declared.buffer_list.Substring.{Substring}
 use Rattle.ipc_items.specs.declared.item_fault.ItemFault.{ItemFault}
@@ -7,9 +7,8 @@ use Rattle.ipc_items.specs.declared.item_fault.ItemFault.TheVariants as item
 use Rattle.ipc_history.specs.CallParts.{CallParts}
 use Rattle.ipc_words.specs.MsgTag.{untyped_of}
 use Rattle.ipc_frame.specs.Parts.{IpcParts, words_of}
-use Rattle.ipc_frame.specs.declared.fault.FrameFault.{FrameFault}
 use Rattle.ipc_frame.specs.declared.fault.FrameFault.TheVariants.{TimePoint, NoMemory}
-use Rattle.ipc_calls.specs.CallOf.{of_items, sends, accepts_strings, has_time_point, strings_in, buffers_in, both, lists_in, of_lists, normal_call, call_of, asks_memory}
+use Rattle.ipc_calls.specs.CallOf.{of_items, sends, has_time_point, strings_in, buffers_in, both, lists_in, of_lists, normal_call, call_of, asks_memory}
 use Rattle.ipc_calls.specs.Reads.{Reads}
 use Rattle.ipc_calls.proofs.ItemLemmas.{strings_never, few_strings}
 

@@ -8,7 +8,7 @@ use Rattle.ipc_frame.specs.Numbers.{IsBytes}
 use Rattle.ipc_frame.specs.Reading.{Short, Bad, Whole, reading}
 use Rattle.ipc_frame.proofs.NumberLemmas.{bytes_take, bytes_drop, bytes_append}
 use Rattle.ipc_frame.proofs.StreamLemmas.{kept, bad_told, whole_told}
-use Rattle.ipc_calls.specs.Holding.{Kept, AreGone, HoldsIn, Keeps, FillsUp}
+use Rattle.ipc_calls.specs.Holding.{Kept, AreGone, Keeps, FillsUp}
 
 -- the parts of an answer
 abbrev pub used_of : Result (ℕ × Bool) FrameFault → ℕ

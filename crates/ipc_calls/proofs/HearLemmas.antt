@@ -1,12 +1,11 @@
 -- What the bytes of a whole frame say.
-use Rattle.std.proofs.Common.{◌≡◌, ◌≢◌, ◌⊎◌, inl, inr, ℕ, zero, suc, ◌+◌, ◌*◌, ◌-◌, ◌<◌, ◌≤◌, ◌^◌, true, false, List, [], ◌∷◌, ◌++◌, length, take, drop, slice_index, replicate, Result, Ok, Err, is_ok, if◌then◌else◌, refl, sym, ap, ap₂, subst, ◌∙◌, arith, length-append, length-drop}
-use Rattle.std.proofs.lemmas.List.{append-nil, append_assoc, drop-drop, drop_at, take_at, drop-append-le, get_or-drop, nil_from_length, length-take-le, take-append-drop, append_cancel_left}
+use Rattle.std.proofs.Common.{◌≡◌, ◌≢◌, inl, inr, ℕ, ◌<◌, false, List, length, drop, slice_index, Result, Ok, Err, is_ok, if◌then◌else◌, refl, sym, ap, ap₂, ◌∙◌, arith}
 use Rattle.std.proofs.lemmas.Bool.{cases_Bool}
 use Rattle.ipc_frame.specs.declared.fault.FrameFault.{FrameFault}
 use Rattle.ipc_frame.specs.declared.fault.FrameFault.TheVariants.{NoMemory, TimePoint}
 use Rattle.ipc_frame.specs.declared.frame.Frame.{Frame}
 use Rattle.ipc_frame.specs.declared.frame.Frame.TheVariants as frame
-use Rattle.ipc_calls.specs.Holding.{FrameAt, IpcAt, HearsOf, head_in, version_at}
+use Rattle.ipc_calls.specs.Holding.{FrameAt, IpcAt, HearsOf, version_at}
 use Rattle.ipc_calls.specs.declared.calls.IpcHead.{IpcHead}
 use Rattle.ipc_calls.specs.declared.heard.Heard.TheVariants.{Hello, Call, Exreg, Bye}
 use Rattle.ipc_frame.specs.declared.version.WireVersion.{WireVersion}

@@ -1,10 +1,10 @@
 -- What is heard in pieces.
-use Rattle.std.proofs.Common.{◌≡◌, ◌⊎◌, inl, inr, ℕ, zero, suc, ◌+◌, ◌-◌, ◌≤◌, true, List, [], ◌∷◌, ◌++◌, Some, None, Ok, Err, refl, sym, ap, ap₂, subst, ◌∙◌, map, length, drop, take, arith, length-append}
-use Rattle.std.proofs.lemmas.List.{append-nil, append_assoc, map-append, drop-append-le}
+use Rattle.std.proofs.Common.{◌≡◌, ℕ, zero, suc, List, [], ◌∷◌, ◌++◌, refl, sym, ap, subst, ◌∙◌, map, length, drop}
+use Rattle.std.proofs.lemmas.List.{append-nil, append_assoc, map-append}
 use Rattle.std.proofs.Math.Seq.{drop-length}
-use Rattle.ipc_frame.specs.Stream.{End, Rest, Stopped, Stream, put_front, frames_within, stream_of, more_by, frames_by}
+use Rattle.ipc_frame.specs.Stream.{Rest, Stream, put_front, frames_within, stream_of, more_by}
 use Rattle.ipc_frame.specs.Frames.{spelling, kind_of, side_of, IsFrame}
-use Rattle.ipc_frame.specs.Reading.{Reading, Short, Bad, Whole, reading}
+use Rattle.ipc_frame.specs.Reading.{Whole, reading}
 use Rattle.ipc_frame.specs.declared.kind.Side.TheVariants.{Server}
 use Rattle.ipc_frame.specs.declared.frame.Frame.{Frame}
 use Rattle.ipc_frame.proofs.StreamLemmas.{more_is_stream, spelled_is_read}

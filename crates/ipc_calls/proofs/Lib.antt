@@ -9,3 +9,4 @@ pub mod AtLemmas
 pub mod TakeLemmas
 pub mod HearingLemmas
 pub mod PieceLemmas
+pub mod ReadOnLemmas

@@ -1,14 +1,14 @@
 -- A call that is made of an IPC frame is in normal form.
-use Rattle.std.proofs.Common.{◌≡◌, ◌⊎◌, ℕ, ◌+◌, ◌*◌, ◌/◌, ◌%◌, ◌^◌, ◌<◌, ◌≤◌, ◌==◌, ◌&&◌, ◌||◌, not, Bool, true, false, List, [], length, take, Option, Some, None, is_some, is_none, unwrap_or, nat_le, if◌then◌else◌, refl, ap, arith}
+use Rattle.std.proofs.Common.{◌≡◌, ℕ, ◌+◌, ◌*◌, ◌/◌, ◌%◌, ◌^◌, ◌<◌, ◌≤◌, ◌==◌, ◌&&◌, ◌||◌, not, Bool, true, false, List, [], length, take, Option, Some, None, is_some, is_none, unwrap_or, nat_le, if◌then◌else◌, refl, arith}
 use Rattle.std.proofs.lemmas.Bool.{le-leb, eq-eqb}
 use Rattle.std.proofs.lemmas.List.{length-take-le}
-use Rattle.ipc_words.specs.MsgTag.{untyped_of, typed_of, propagates, redirects, crosses, has_failed, label_of}
+use Rattle.ipc_words.specs.MsgTag.{untyped_of, typed_of, propagates, redirects, crosses, has_failed}
 use Rattle.ipc_words.specs.ThreadId.{nilthread}
 use Rattle.ipc_words.specs.Timeouts.{receive_period, send_period}
-use Rattle.ipc_items.specs.Strings.{size_of, AreStrings}
+use Rattle.ipc_items.specs.Strings.{AreStrings}
 use Rattle.ipc_items.specs.Buffers.{AreBuffers}
 use Rattle.ipc_items.specs.declared.buffer_list.Substring.{Substring}
-use Rattle.ipc_history.specs.CallParts.{CallParts, is_normal, is_tag_normal, are_buffers}
+use Rattle.ipc_history.specs.CallParts.{CallParts, is_normal, are_buffers}
 use Rattle.ipc_words.specs.TagFields.{received_tag}
 use Rattle.ipc_history.proofs.CallLemmas.{are_buffers_passes}
 use Rattle.ipc_frame.specs.Parts.{IpcParts}

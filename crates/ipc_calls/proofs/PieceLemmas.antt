@@ -1,5 +1,5 @@
 -- A piece is heard call by call.
-use Rattle.std.proofs.Common.{◌≡◌, ◌⊎◌, inl, inr, ℕ, zero, suc, ◌+◌, ◌-◌, ◌<◌, ◌≤◌, true, List, [], ◌∷◌, ◌++◌, map, Option, Some, None, Result, Ok, Err, refl, sym, ap, ap₂, subst, ◌∙◌, length, drop, arith, length-append, length-drop}
+use Rattle.std.proofs.Common.{◌≡◌, ◌⊎◌, inl, inr, ℕ, zero, suc, ◌+◌, ◌-◌, ◌<◌, ◌≤◌, List, [], ◌∷◌, ◌++◌, map, Option, Some, None, Result, Ok, Err, refl, sym, ap, subst, ◌∙◌, length, drop, arith, length-append, length-drop}
 use Rattle.std.proofs.lemmas.List.{drop-drop, drop_at}
 use Rattle.ipc_frame.specs.Stream.{Rest, Stopped, Stream, put_front, frames_within, stream_of}
 use Rattle.ipc_frame.specs.Reading.{Reading, Short, Bad, Whole, reading}
@@ -10,7 +10,7 @@ use Rattle.ipc_frame.specs.declared.fault.FrameFault.TheVariants.{NoMemory}
 use Rattle.ipc_frame.proofs.FoundLemmas.{whole_within}
 use Rattle.ipc_calls.specs.Hearing.{IsCut, heard_in, heard_of}
 use Rattle.ipc_calls.specs.Taking.{Decoding, Holds, MayLack, Takes, TakesBy, TakesUp, uses_up, hears, fails, answer_of}
-use Rattle.ipc_calls.specs.Laws.{IsHeardOf, StandsAt, to_fault, PieceIsHeard}
+use Rattle.ipc_calls.specs.Laws.{IsHeardOf, StandsAt, PieceIsHeard}
 use Rattle.ipc_calls.specs.declared.heard.Heard.{Heard}
 
 enough : (n m : ℕ) (bytes : List ℕ) (r : Reading) → reading Server bytes ≡ r → length bytes < n → length bytes < m → frames_within n Server bytes ≡ frames_within m Server bytes

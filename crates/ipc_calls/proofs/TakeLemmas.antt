@@ -1,6 +1,6 @@
 -- What a decoder makes of what it was filled with.
-use Rattle.std.proofs.Common.{◌≡◌, ◌⊎◌, inl, inr, Result, Option, Bool, not, ◌==◌, ℕ, ◌+◌, ◌-◌, ◌≤◌, true, false, List, [], ◌∷◌, ◌++◌, length, take, drop, Some, None, Ok, Err, refl, sym, ap, subst, ◌∙◌, arith, length-append}
-use Rattle.std.proofs.lemmas.List.{length-take-le, nil_from_length, append-nil}
+use Rattle.std.proofs.Common.{◌≡◌, ◌⊎◌, inl, inr, Result, Option, Bool, not, ◌==◌, ℕ, ◌+◌, ◌-◌, ◌≤◌, true, false, List, [], ◌∷◌, ◌++◌, length, take, Some, None, Ok, Err, refl, sym, ap, subst, ◌∙◌, arith, length-append}
+use Rattle.std.proofs.lemmas.List.{length-take-le, nil_from_length}
 use Rattle.std.specs.Bool.{⊤}
 use Rattle.std.proofs.lemmas.Bool.{eqb-false}
 use Rattle.ipc_frame.specs.declared.fault.FrameFault.{FrameFault}
@@ -11,7 +11,7 @@ use Rattle.ipc_frame.specs.Reading.{Reading, Short, Bad, Whole, reading}
 use Rattle.ipc_frame.proofs.FoundLemmas.{whole_within}
 use Rattle.ipc_calls.proofs.FillLemmas.{used_of, not_both}
 use Rattle.ipc_calls.specs.Holding.{Kept, AreGone, HoldsIn, Fills, FillsUp, IsWhole, HearsOf}
-use Rattle.ipc_calls.specs.Taking.{Decoding, Holds, IsUnfinished, Takes, TakesBy, Finishes, Ends, MayLack, answer_of}
+use Rattle.ipc_calls.specs.Taking.{Decoding, Holds, IsUnfinished, Takes, Finishes, MayLack, answer_of}
 use Rattle.ipc_calls.specs.Hearing.{heard_of}
 use Rattle.ipc_calls.specs.declared.heard.Heard.{Heard}
 

@@ -1,6 +1,6 @@
 -- The call that an IPC frame spells, in normal form, or its first fault: a time point of a phase
 -- that is there, then the string items, then the buffer items. Our choice (docs/FORMATS.md).
-use Rattle.std.specs.Prelude.{ℕ, ◌*◌, ◌%◌, ◌==◌, ◌&&◌, ◌||◌, Bool, false, not, nat_lt, List, []}
+use Rattle.std.specs.Prelude.{ℕ, ◌*◌, ◌%◌, ◌==◌, ◌&&◌, ◌||◌, Bool, not, nat_lt, List, []}
 use Rattle.std.specs.Prelude.{length, take, drop, Option, Some, None, is_none, unwrap_or, Result}
 use Rattle.std.specs.Prelude.{Ok, Err, if◌then◌else◌}
 use Rattle.ipc_words.specs.MsgTag.{untyped_of, propagates}

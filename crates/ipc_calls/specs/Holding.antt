@@ -14,7 +14,7 @@ use Rattle.ipc_frame.specs.declared.frame.Frame.TheVariants as frame
 use Rattle.ipc_frame.specs.declared.version.WireVersion.{WireVersion}
 use Rattle.ipc_frame.specs.declared.version.WireVersion.TheVariants.{One, Two}
 use Rattle.ipc_calls.specs.Hearing.{heard_of}
-use Rattle.ipc_calls.specs.Taking.{IsUnfinished, MayLack}
+use Rattle.ipc_calls.specs.Taking.{MayLack}
 use Rattle.ipc_calls.specs.declared.calls.IpcHead.{IpcHead}
 use Rattle.ipc_calls.specs.declared.heard.Heard.{Heard}
 

@@ -1,8 +1,7 @@
 -- What holds of what is heard.
-use Rattle.std.specs.Prelude.{◌≡◌, ◌⊎◌, ℕ, ◌-◌, true, List, [], ◌∷◌, ◌++◌, length, drop, Result, Ok, Err}
+use Rattle.std.specs.Prelude.{◌≡◌, ◌⊎◌, ℕ, true, List, [], ◌∷◌, ◌++◌, Result, Ok, Err}
 use Rattle.ipc_frame.specs.Stream.{End, Stream, stream_of, Rest, Stopped}
 use Rattle.ipc_frame.specs.Frames.{spelling, kind_of, side_of, IsFrame}
-use Rattle.ipc_frame.specs.Reading.{Reading, Short, Bad, Whole, reading}
 use Rattle.ipc_frame.specs.declared.fault.FrameFault.{FrameFault}
 use Rattle.ipc_frame.specs.declared.frame.Frame.{Frame}
 use Rattle.ipc_frame.specs.declared.kind.Side.TheVariants.{Server}

@@ -6,3 +6,4 @@ pub mod Hearing
 pub mod Taking
 pub mod Holding
 pub mod Laws
+pub mod ReadOn

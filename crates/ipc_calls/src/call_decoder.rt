@@ -1,10 +1,12 @@
 ghost use Rattle.std.specs.Prelude.{◌≡◌, ℕ, List, [], true, false, Ok, Err};
 ghost use Rattle.ipc_calls.specs.Holding.{ForGone, FillsUp};
+ghost use Rattle.ipc_calls.specs.ReadOn.{Fails, TakesOn};
 ghost use Rattle.ipc_calls.specs.Taking.{Holds, IsUnfinished, Takes, Finishes};
 
 use crate::heard::Heard;
 use crate::held::Held;
 use ipc_frame::{FrameFault, Judgement};
+use ipc_ports::{PortFault, PortRead};
 use std::alloc::Global;
 use std::marker::Model;
 
@@ -96,6 +98,23 @@ impl CallDecoder {
                 Err(fault)
             }
         }
+    }
+
+    /// Reads on from a port, straight into the memory of a long payload of which some has come. It reads less than the rest of the
+    /// frame, so no frame ends in what it reads; none only at the end of the input. None where the next bytes are to be taken as a piece:
+    /// then nothing is read.
+    ///
+    /// # Errors
+    ///
+    /// F10, F11: as the port says, and nothing was read.
+    pub fn read_on<P: PortRead>(&mut self, port: &mut P) -> Option<Result<usize, PortFault>>
+        ensures taken { TakesOn (P.remaining port.old) (P.remaining port.new) self.old self.new result }
+        ensures fails { Fails (P.remaining port.old) (P.remaining port.new) (P.failures port.old) (P.failures port.new) result }
+    {
+        if self.spent {
+            return None;
+        }
+        self.held.read_on(port)
     }
 
     /// The end of the input. Err: F9 inside a frame, F13 after an error.

@@ -4,6 +4,7 @@ ghost use Rattle.ipc_frame.specs.Numbers.{IsBytes, number_in, words_in};
 ghost use Rattle.ipc_frame.specs.Parts.{IpcParts};
 ghost use Rattle.ipc_calls.specs.CallOf.{call_of, asks_memory, has_time_point};
 ghost use Rattle.ipc_calls.specs.Reads.{Reads};
+ghost use Rattle.ipc_calls.specs.ReadOn.{Fails, KeepsOn, ReadsInto};
 ghost use Rattle.ipc_calls.specs.Holding.{Keeps, ForGone, AreGone, IsWhole, TellsOf, IpcAt};
 ghost use Rattle.ipc_calls.specs.Holding.{FrameAt, HearsOf, head_in, max_start, start_size, version_at};
 
@@ -13,7 +14,8 @@ use crate::payload::Payload;
 use byteorder::{BigEndian, ByteOrder};
 use ipc_frame::{Frame, FrameFault, Judgement, Side, WireVersion, judge};
 use ipc_history::Call;
-use ipc_words::limits::{MAX_BUFFER_WORDS, MAX_MESSAGE_WORDS};
+use ipc_ports::{PortFault, PortRead};
+use ipc_words::limits::{BLOCK_BYTES, MAX_BUFFER_WORDS, MAX_MESSAGE_WORDS};
 use ipc_words::{Control, MsgTag, ThreadId, Timeouts};
 use std::alloc::{AllocError, Global};
 use std::marker::Model;
@@ -24,6 +26,12 @@ const HEAD: usize = 50;
 
 /// The most bytes before a payload: the head, the words and the buffer words.
 const MAX_START: usize = HEAD + 8 * (MAX_MESSAGE_WORDS + MAX_BUFFER_WORDS);
+
+/// Where no more bytes than these are wanted of a payload, they are not read straight into its memory.
+const FEW: usize = 16_384;
+
+/// The most bytes that are read straight into the memory of a payload at once.
+const MANY: usize = BLOCK_BYTES as usize;
 
 /// The bytes of a frame that have come so far, a payload counted off where there was no memory for it.
 #[derive(Drop)]
@@ -107,6 +115,30 @@ fn store(payload: &mut Vec<u8>, bytes: &[u8], wanted: usize) -> Result<(), Alloc
         payload.reserve_exact(wanted)?;
     }
     payload.extend_from_slice(bytes)
+}
+
+// Reads from a port behind a payload, at most so many bytes. None where there is no memory for them.
+fn read_behind<P: PortRead>(
+    payload: &mut Vec<u8>,
+    port: &mut P,
+    most: usize,
+) -> Option<Result<usize, PortFault>>
+    requires some { 0 < most }
+    requires few { length payload.old.items + most < 2 ^ 32 }
+    ensures read { ReadsInto (P.remaining port.old) (P.remaining port.new) payload.old.items payload.new.items most result }
+    ensures within { length payload.new.items ≤ length payload.old.items + most }
+    ensures fails { Fails (P.remaining port.old) (P.remaining port.new) (P.failures port.old) (P.failures port.new) result }
+{
+    let len = payload.len();
+    let Ok(()) = payload.resize(len + most, 0) else {
+        return None;
+    };
+    let read = port.read(&mut payload[len..]);
+    match read {
+        Ok(count) => payload.truncate(len + count),
+        Err(_) => payload.truncate(len),
+    }
+    Some(read)
 }
 
 // The numbers of an IPC frame.
@@ -244,6 +276,22 @@ impl Held {
             self.lost += bytes.len();
         }
         bytes.len()
+    }
+
+    /// Reads on from a port straight into the memory of a payload of which some has come, less than what is left of it. None where
+    /// nothing is read.
+    pub(crate) fn read_on<P: PortRead>(&mut self, port: &mut P) -> Option<Result<usize, PortFault>>
+        ensures read { KeepsOn (P.remaining port.old) (P.remaining port.new) self.old self.new result }
+        ensures fails { Fails (P.remaining port.old) (P.remaining port.new) (P.failures port.old) (P.failures port.new) result }
+    {
+        let wanted = match self.judge() {
+            Judgement::Short(wanted) => wanted,
+            Judgement::Bad(_) | Judgement::Whole => return None,
+        };
+        if wanted <= FEW || self.payload.is_empty() || self.lost > 0 {
+            return None;
+        }
+        read_behind(&mut self.payload, port, (wanted - 1).min(MANY))
     }
 
     /// Whether no bytes have come.

@@ -1,5 +1,6 @@
 use crate::{CallDecoder, Heard};
 use ipc_frame::{Frame, FrameFault, IpcFrame, IpcParts, encode};
+use ipc_ports::{MemoryPort, Trouble};
 use ipc_words::{MsgTag, ThreadId, Timeouts};
 use std::alloc::Global;
 use std::fmt::Debug;
@@ -184,5 +185,26 @@ fn strings_of_a_mebibyte_are_heard_and_no_more(rt: HostRuntime) -> Result<(), Fa
     same(&rt, 1_000, told(CallDecoder::new(alloc).take(&most)));
     let more = many_strings(alloc, 17)?;
     same(&rt, 4_008, told(CallDecoder::new(alloc).take(&more)));
+    Ok(())
+}
+
+#[test]
+fn the_middle_of_a_long_payload_is_read_in_place(rt: HostRuntime) -> Result<(), Fail> {
+    let alloc = rt.alloc();
+    let call = many_strings(alloc, 1)?;
+    let front = call.get(..1_024).ok_or("a front")?;
+    let behind = call.get(1_024..).ok_or("what is behind it")?;
+    let mut port = MemoryPort::new(alloc, behind);
+    let mut decoder = CallDecoder::new(alloc);
+    // nothing of the payload has come yet
+    holds(&rt, decoder.read_on(&mut port).is_none());
+    same(&rt, 5_000, told(decoder.take(front)));
+    let mut broken = MemoryPort::new(alloc, behind).with_trouble(0, Trouble::Fails);
+    holds(&rt, matches!(decoder.read_on(&mut broken), Some(Err(_))));
+    // all but the last byte, which is taken as a piece
+    let read = decoder.read_on(&mut port);
+    holds(&rt, matches!(read, Some(Ok(64_577))));
+    holds(&rt, decoder.read_on(&mut port).is_none());
+    same(&rt, 1_000, told(decoder.take(port.input())));
     Ok(())
 }

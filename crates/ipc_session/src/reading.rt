@@ -66,9 +66,30 @@ fn read_all<P: PortRead, D: CallDesk, G: Gate>(
     Ending::Stopped
 }
 
-/// Reads once, and serves the frames that end in what was read. Also answers whether that was much,
-/// so that more may be waiting.
+/// Reads once, the middle of a long string straight into its memory, and serves the frames that end in what was read. Also answers
+/// whether that was much, so that more may be waiting.
 fn read_next<P: PortRead, D: CallDesk>(
+    port: &mut P,
+    desk: &mut D,
+    decoder: &mut CallDecoder,
+    stage: Stage,
+    is_long: bool,
+) -> (Turned, bool)
+    requires { stage ≢ Stage.Finished }
+    ensures { ReadsOn (P.remaining port.old) (P.remaining port.new)
+        (D.log desk.old) (D.log desk.new) decoder.old decoder.new
+        (P.failures port.old) (P.failures port.new) stage result.0 }
+{
+    match decoder.read_on(port) {
+        None => read_piece(port, desk, decoder, stage, is_long),
+        Some(Ok(0)) => (Turned::Over(end_input(desk, decoder, stage)), false),
+        Some(Ok(_)) => (Turned::On(stage), true),
+        Some(Err(_)) => (Turned::Over(Ending::Device), false),
+    }
+}
+
+/// Reads once into a buffer, and serves the frames that end in what was read. Also answers whether that was much.
+fn read_piece<P: PortRead, D: CallDesk>(
     port: &mut P,
     desk: &mut D,
     decoder: &mut CallDecoder,

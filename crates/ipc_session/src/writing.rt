@@ -3,7 +3,7 @@ ghost use Rattle.std.specs.Io.KnownBytes.{Appends};
 ghost use Rattle.ipc_ports.specs.Ports.{AppendsPart};
 ghost use Rattle.ipc_session.specs.Taking.{Encodes, Writes, Wrote, broken_by, is_whole_at};
 
-use crate::buffers::{LONG_SPELLING, SHORT};
+use crate::buffers::{LONG, SHORT};
 use crate::ending::WriteEnding;
 use crate::gate::Gate;
 use crate::next::Next;
@@ -64,7 +64,7 @@ fn write_long<P: PortWrite>(port: &mut P, encoder: Encoder) -> Result<(), PortFa
     ensures failed { OnErr result (P.failures port.old < P.failures port.new) }
     ensures kept { OnOk result (P.failures port.new ≡ P.failures port.old) }
 {
-    write_encoder(port, encoder, &mut [0u8; LONG_SPELLING])
+    write_encoder(port, encoder, &mut [0u8; LONG])
 }
 
 /// Writes the bytes of an encoder, in long pieces or in short ones.

@@ -1,4 +1,4 @@
-use Rattle.std.proofs.Common.{ap, ◌∙◌, sym}
+use Rattle.std.proofs.Common.{ap, ◌∙◌}
 use Rattle.std.proofs.lemmas.List.{take_rest}
 use Rattle.ipc_frame.specs.Numbers.{number_in}
 use Rattle.ipc_calls.proofs.HearLemmas.{hears_hello, hears_exreg, hears_bye, hears_call, hears_fault}

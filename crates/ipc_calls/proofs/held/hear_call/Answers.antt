@@ -5,7 +5,6 @@ use Rattle.ipc_frame.specs.Numbers.{words_in}
 use Rattle.ipc_frame.specs.declared.fault.FrameFault.TheVariants.{NoMemory}
 use Rattle.ipc_calls.specs.CallOf.{call_of, asks_memory}
 use Rattle.ipc_calls.specs.Reads.{Reads}
-use Rattle.ipc_calls.specs.Holding.{head_in}
 use Rattle.ipc_calls.proofs.CallLemmas.{same_frame}
 use Rattle.ipc_calls.proofs.held.hear_call.Goals as goal
 

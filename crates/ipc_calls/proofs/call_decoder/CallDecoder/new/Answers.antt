@@ -1,4 +1,3 @@
-use Rattle.std.proofs.Common.{◌≡◌, [], ◌++◌, refl, sym, ap}
 use Rattle.ipc_calls.proofs.TakeLemmas.{new_unfinished}
 use Rattle.ipc_calls.proofs.call_decoder.CallDecoder.new.Goals as goal
 

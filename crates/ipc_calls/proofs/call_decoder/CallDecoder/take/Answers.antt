@@ -1,4 +1,4 @@
-use Rattle.std.proofs.Common.{◌≡◌, true, false, Ok, Err, ◌∙◌, ap, refl, sym}
+use Rattle.std.proofs.Common.{true, false, Ok, ◌∙◌, ap, refl}
 use Rattle.ipc_calls.proofs.FillLemmas.{some_gone}
 use Rattle.ipc_calls.proofs.TakeLemmas.{new_unfinished, filled, is_true, is_false, fills_flag, takes_none, takes_bad, takes_heard, takes_fault, taken_behind}
 use Rattle.ipc_calls.proofs.call_decoder.CallDecoder.take.Goals as goal

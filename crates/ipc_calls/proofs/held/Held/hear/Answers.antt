@@ -1,4 +1,4 @@
-use Rattle.std.proofs.Common.{◌≡◌, ◌++◌, ◌∙◌, arith, ap, subst, sym}
+use Rattle.std.proofs.Common.{◌++◌, ◌∙◌, arith, ap, subst, sym}
 use Rattle.ipc_frame.specs.Numbers.{IsBytes}
 use Rattle.ipc_calls.proofs.AtLemmas.{held_at, held_whole, some_lost}
 use Rattle.ipc_calls.proofs.HearLemmas.{hears_lack}

@@ -1,0 +1,64 @@
+use Rattle.std.proofs.Common.{◌≡◌, ℕ, List, ◌+◌, ◌++◌, length, Option, Some, None, Result, Ok, refl, sym, subst, arith}
+use Rattle.std.proofs.KnownBytes.{Consumes-trans}
+use Rattle.std.specs.Io.KnownBytes.{Consumes}
+use Rattle.ipc_calls.specs.ReadOn.{Fails, TakesMore, TakesOn}
+use Rattle.ipc_ports.specs.declared.fault.PortFault.{PortFault}
+use Rattle.ipc_calls.specs.Taking.{Decoding, Holds}
+use Rattle.ipc_connection.specs.declared.stage.Stage.{Stage}
+use Rattle.ipc_session.proofs.ReadLemmas.{begin, leaves_piece, stop}
+use Rattle.ipc_session.proofs.TakeLemmas.{took_none}
+use Rattle.ipc_session.specs.Reading.{HasRead, Log, ServesPiece}
+use Rattle.ipc_session.specs.declared.turned.Turned.TheVariants.{On}
+use Rattle.ipc_session.proofs.reading.read_next.Goals as goal
+
+-- so many bytes were read
+took_more : (input left_input : Option (List ℕ)) (old new : Decoding) (read : Result ℕ PortFault) (count : ℕ) → read ≡ Ok count → TakesOn input left_input old new (Some read) → TakesMore input left_input old new count
+took_more input left_input old new read count is taken = subst (λ (r : Result ℕ PortFault). TakesOn input left_input old new (Some r)) is taken
+
+not_failed : (input left_input : Option (List ℕ)) (before after : ℕ) (read : Result ℕ PortFault) (count : ℕ) → read ≡ Ok count → Fails input left_input before after (Some read) → after ≡ before
+not_failed input left_input before after read count is fails = subst (λ (r : Result ℕ PortFault). Fails input left_input before after (Some r)) is fails
+
+-- what was read straight into memory brings no frame
+serves_nothing : (log : Log) (stage : Stage) (input left_input : Option (List ℕ)) (old new : Decoding) (count : ℕ) (left : List ℕ) → (more : TakesMore input left_input old new count) → Holds old left → ServesPiece log log stage (left ++ more.more) left_input new (On stage)
+serves_nothing log stage input left_input old new count left more holds =
+    let turns = length more.more + 1 in
+    let progress = begin log stage left more.more old turns holds (omega arith) in
+    stop log log stage stage (left ++ more.more) old new more.more turns left_input progress
+    (took_none progress.held more.more new count None refl (more.takes progress.held progress.holds))
+
+pub returns-in-Some-Ok-eq0 : goal.returns-in-Some-Ok-eq0
+returns-in-Some-Ok-eq0 g c = λ start first bytes left consumed holds served.
+    let more = took_more (g.P.PortRead.remaining c.args.port.now) (g.P.PortRead.remaining c.read_on.new.port) c.args.decoder.now c.read_on.new.self c.in-Some-Ok-eq0.field-0 c.in-Some-Ok-eq0.field-0-0 c.in-Some-Ok-eq0.field-0-is c.in-Some-Ok-eq0.ensures.taken in
+    let piece = serves_nothing (g.D.CallDesk.log c.args.desk.now) c.args.stage _ (g.P.PortRead.remaining c.read_on.new.port) c.args.decoder.now c.read_on.new.self _ left more holds in
+    let all = leaves_piece _ _ _ _ bytes left _ (g.P.PortRead.remaining c.read_on.new.port) c.read_on.new.self (On c.args.stage) served piece in
+    let at_end = more.at_end c.in-Some-Ok-eq0.field-0-0-test in record {
+      bytes = bytes ++ more.more;
+      consumed = Consumes-trans _ _ _ bytes _ consumed more.consumed;
+      leaves = c.end_input.ensures.calls _ (bytes ++ more.more) all.0 _ all.2 all.1 at_end;
+      device = λ is. absurd (c.end_input.ensures.only (cc));
+      kept = λ stage is. absurd (cc);
+      ended = λ is. at_end;
+      not_stopped = λ is. absurd (c.end_input.ensures.never (cc));
+    }
+
+pub returns-in-Some-Ok : goal.returns-in-Some-Ok
+returns-in-Some-Ok g c = λ start first bytes left consumed holds served.
+    let more = took_more (g.P.PortRead.remaining c.args.port.now) (g.P.PortRead.remaining c.read_on.new.port) c.args.decoder.now c.read_on.new.self c.in-Some-Ok.field-0 c.in-Some-Ok.field-0-0 c.in-Some-Ok.field-0-is c.in-Some-Ok.ensures.taken in
+    let piece = serves_nothing (g.D.CallDesk.log c.args.desk.now) c.args.stage _ (g.P.PortRead.remaining c.read_on.new.port) c.args.decoder.now c.read_on.new.self _ left more holds in record {
+      bytes = bytes ++ more.more;
+      consumed = Consumes-trans _ _ _ bytes _ consumed more.consumed;
+      leaves = leaves_piece _ _ _ _ bytes left _ (g.P.PortRead.remaining c.read_on.new.port) c.read_on.new.self (On c.args.stage) served piece;
+      device = λ is. absurd (cc);
+      kept = λ stage is. not_failed (g.P.PortRead.remaining c.args.port.now) (g.P.PortRead.remaining c.read_on.new.port) (g.P.PortRead.failures c.args.port.now) (g.P.PortRead.failures c.read_on.new.port) c.in-Some-Ok.field-0 c.in-Some-Ok.field-0-0 c.in-Some-Ok.field-0-is c.in-Some-Ok.ensures.fails;
+      ended = λ is. absurd (cc);
+      not_stopped = λ is. absurd (cc);
+    }
+
+pub returns-in-None : goal.returns-in-None
+returns-in-None g c = λ start first bytes left consumed holds served.
+    let same = c.in-None.ensures.taken in
+    let fails = c.in-None.ensures.fails in
+    let consumed_so = subst (λ (i : Option (List ℕ)). Consumes start i bytes) (sym fails.0) consumed in
+    let holds_so = subst (λ (d : Decoding). Holds d left) (sym same) holds in
+    subst (λ failures. HasRead start (g.P.PortRead.remaining c.read_piece.new.port) first (g.D.CallDesk.log c.read_piece.new.desk) c.read_piece.new.decoder failures (g.P.PortRead.failures c.read_piece.new.port) c.read_piece.result.0) fails.1
+    (c.read_piece.ensures start first bytes left consumed_so holds_so served)

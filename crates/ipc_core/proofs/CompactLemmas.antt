@@ -25,7 +25,7 @@ use Rattle.ipc_compact.proofs.Reading.{named}
 use Rattle.ipc_compact.proofs.SameCompact.{among_numbers}
 use Rattle.ipc_desks.specs.Desks.{Keeps as DesksKeep}
 use Rattle.ipc_desks.specs.declared.desk.Desk.{Desk}
-use Rattle.ipc_partners.specs.Kept.{KeptParts, kept_upto, passes}
+use Rattle.ipc_partners.specs.Kept.{KeptParts, PassesAs, kept_upto, passes}
 use Rattle.ipc_partners.proofs.KeptLaw.{kept_is}
 use Rattle.ipc_core.specs.Books.{AreBooks, TookOthers}
 use Rattle.ipc_core.specs.Compacting.{HoldsCompact, kept_to}
@@ -47,9 +47,9 @@ open_kept H taken legal n (Given (Moved k count)) opened is = absurd (false≢tr
 open_kept H taken legal n (Written output) opened is = absurd (false≢true is)
 
 -- what the last calls tell is what is kept
-pub passes_is : (H : List Entry) (taken : List ℕ) (desks : List Desk) → Legal H → DesksKeep H taken desks → TookOthers H taken → (kept : KeptParts) → kept ≡ kept_upto H taken table_slots → (e : Entry) → passes kept e ≡ is_kept H taken e
+pub passes_is : (H : List Entry) (taken : List ℕ) (desks : List Desk) → Legal H → DesksKeep H taken desks → TookOthers H taken → (kept : KeptParts) → PassesAs kept (kept_upto H taken table_slots) → (e : Entry) → passes kept e ≡ is_kept H taken e
 unfolding TookOthers
-passes_is H taken desks legal keeps others kept is e = ap (λ k. passes k e) is ∙ kept_is H taken legal keeps.over others e
+passes_is H taken desks legal keeps others kept same e = same e ∙ kept_is H taken legal keeps.over others e
 
 -- what is kept of what is held, is kept of all
 pub kept_of_all : (taken : List ℕ) (test : Entry → Bool) (upto : ℕ) (history : HistoryParts) → Legal history.entries → ((e : Entry) → test e ≡ is_kept history.entries taken e) → WasPlaced history.entries taken history.held.front history.held.places history.held.whole_from → history.held.whole_from ≤ length history.entries → compacted test upto history ≡ kept_to taken upto history

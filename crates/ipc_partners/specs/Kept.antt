@@ -1,5 +1,6 @@
 -- What a compaction keeps, told by the last calls of the live threads and those that met them.
 use Rattle.std.specs.Prelude.{◌≡◌, ℕ, ◌*◌, ◌≤◌, zero, suc, List, [], ◌∷◌, ◌++◌, Bool, ◌&&◌, ◌||◌, Option, Some, None, option_and_then, if◌then◌else◌, IsTrue, ◌⊎◌}
+use Rattle.std.specs.List.Sorted.{IsNonDecreasing}
 use Rattle.std.specs.Option.{option_map_or}
 use Rattle.ipc_words.specs.Limits.{table_slots}
 use Rattle.ipc_history.specs.Calls.{caller_of, is_called, last_call}
@@ -16,12 +17,25 @@ pub record KeptParts : Type 0 where
   pub partners : List ℕ
   pub threads : List ℕ
 
+abbrev pub nothing_kept : KeptParts
+nothing_kept = record { calls = []; partners = []; threads = [] }
+
+-- each list in order, so that a number is looked for by halves
+pub record InOrder (kept : KeptParts) : Type 0 where
+  pub calls : IsNonDecreasing kept.calls
+  pub partners : IsNonDecreasing kept.partners
+  pub threads : IsNonDecreasing kept.threads
+
 -- an entry that is no At is kept: it names one of these calls, it tells of one of their partners, or it opens or ends one of the threads
 abbrev pub passes : KeptParts → Entry → Bool
 passes kept e =
     names_one kept.calls e
     || (is_told_of e && names_one kept.partners e)
     || is_of_thread (λ t. is_among t kept.threads) e
+
+-- the same entries are kept, in whatever order and however often a number stands there
+abbrev pub PassesAs : KeptParts → KeptParts → Type 0
+PassesAs kept other = (e : Entry) → passes kept e ≡ passes other e
 
 -- the partners of a call, and the threads that it and they show or are of
 abbrev pub partner_numbers : Option Partner → List ℕ

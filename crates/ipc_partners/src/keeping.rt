@@ -1,5 +1,6 @@
-ghost use Rattle.std.specs.Prelude.{◌≡◌, ◌≤◌, ◌+◌, ◌*◌, ◌<◌, ◌++◌, ◌==◌, ◌&&◌, ◌||◌, [], ◌∷◌, length, vec_capacity, vec_len, IsOk, IsTrue};
+ghost use Rattle.std.specs.Prelude.{◌≡◌, ◌==◌, ◌||◌, IsOk};
 ghost use Rattle.std.specs.List.{list_any};
+ghost use Rattle.std.specs.List.Sorted.{IsNonDecreasing};
 ghost use Rattle.ipc_words.specs.Limits.{table_slots};
 ghost use Rattle.ipc_history.specs.Legal.{Legal};
 ghost use Rattle.ipc_history.specs.declared.entry.Entry.{Entry};
@@ -8,38 +9,42 @@ ghost use Rattle.ipc_slots.specs.Slots.{Stands};
 ghost use Rattle.ipc_desks.specs.Desks.{Keeps as DesksKeep};
 ghost use Rattle.ipc_compact.specs.Compact.{is_among};
 ghost use Rattle.ipc_partners.specs.Partners.{Knows};
-ghost use Rattle.ipc_partners.specs.Kept.{KeptParts, kept_upto, partner_numbers, partner_threads, partners_in, passes, threads_in};
+ghost use Rattle.ipc_partners.specs.Kept.{PassesAs, kept_upto, passes};
 
-use crate::partners::{Joined, Partner, Partners};
+use crate::found::Found;
+use crate::partners::Partners;
 use ipc_desks::Desks;
 use ipc_history::{Entries, Entry, Input, Keeps, Output};
 use ipc_memory::Memory;
 use ipc_past::Past;
 use ipc_slots::Slots;
 use ipc_words::ThreadId;
-use ipc_words::limits::TABLE_SLOTS;
 use std::alloc::AllocError;
 use std::marker::Model;
 
+// Whether numbers in order have this one. Looks by halves.
+fn have(numbers: &[u64], number: u64) -> bool
+    requires order { IsNonDecreasing numbers.now }
+    ensures { result ≡ list_any (λ n. number == n) numbers.now }
+{
+    numbers.binary_search(&number).is_ok()
+}
+
 /// Which entries a compaction keeps: the calls that are open or whose outcome was not taken, those that met them, and the threads
-/// that live or are shown.
+/// that live or are shown. They are held in order, so that an entry is looked up by halves.
 #[derive(Drop)]
 pub struct Keeping {
-    calls: Vec<u64>,
-    partners: Vec<u64>,
-    threads: Vec<ThreadId>,
+    found: Found,
 }
 
 impl Model for Keeping {
-    ghost use Rattle.std.specs.Prelude.{◌≤◌, ◌*◌, vec_capacity};
-    ghost use Rattle.ipc_words.specs.Limits.{table_slots};
-    ghost use Rattle.ipc_partners.specs.Kept.{KeptParts, HasRoom};
+    ghost use Rattle.ipc_partners.specs.Kept.{InOrder, KeptParts};
 
     ghost Value = { KeptParts };
 
-    ghost view = { λ k. record { calls = k.calls.items; partners = k.partners.items; threads = k.threads.items } };
+    ghost view = { λ k. k.found };
 
-    ghost invariant = { λ k. HasRoom (vec_capacity k.calls) (vec_capacity k.partners) (vec_capacity k.threads) };
+    ghost invariant = { λ k. InOrder k.found };
 }
 
 impl Keeping {
@@ -48,83 +53,8 @@ impl Keeping {
         ensures ample { M.is_ample → IsOk result }
     {
         Ok(Keeping {
-            calls: memory.with_capacity(TABLE_SLOTS)?,
-            partners: memory.with_capacity(2 * TABLE_SLOTS)?,
-            threads: memory.with_capacity(6 * TABLE_SLOTS)?,
+            found: Found::new(memory)?,
         })
-    }
-
-    /// Nothing is kept.
-    fn clear(&mut self)
-        ensures { self.new ≡ record { calls = []; partners = []; threads = [] } }
-    {
-        self.calls.clear();
-        self.partners.clear();
-        self.threads.clear();
-    }
-
-    /// Another call met one that is kept, or none did.
-    fn add_partner(&mut self, partner: Option<Partner>)
-        requires partners { length self.old.partners < 2 * table_slots }
-        requires threads { length self.old.threads + 1 < 6 * table_slots }
-        ensures calls { self.new.calls ≡ self.old.calls }
-        ensures partners { self.new.partners ≡ self.old.partners ++ partner_numbers partner }
-        ensures threads { self.new.threads ≡ self.old.threads ++ partner_threads partner }
-    {
-        if let Some(partner) = partner {
-            self.partners.push_reserved(partner.number);
-            self.threads.push_reserved(partner.caller);
-            self.threads.push_reserved(partner.shown);
-        }
-    }
-
-    /// A call is kept.
-    fn add(&mut self, joined: Joined)
-        requires calls { length self.old.calls < table_slots }
-        requires partners { length self.old.partners + 1 < 2 * table_slots }
-        requires threads { length self.old.threads + 4 < 6 * table_slots }
-        ensures calls { self.new.calls ≡ self.old.calls ++ joined.number ∷ [] }
-        ensures partners { self.new.partners ≡ self.old.partners ++ partners_in joined }
-        ensures threads { self.new.threads ≡ self.old.threads ++ threads_in joined }
-    {
-        self.calls.push_reserved(joined.number);
-        self.threads.push_reserved(joined.shown);
-        self.add_partner(joined.receiver);
-        self.add_partner(joined.sender);
-    }
-
-    /// A live thread is kept.
-    fn add_thread(&mut self, thread: ThreadId)
-        requires { length self.old.threads < 6 * table_slots }
-        ensures { self.new ≡ record self.old { threads = self.old.threads ++ thread ∷ [] } }
-    {
-        self.threads.push_reserved(thread);
-    }
-
-    /// Adds what is kept for the live thread of a number.
-    fn keep_at(
-        &mut self,
-        entries: &Entries,
-        taken: &Past<u64>,
-        slots: &Slots,
-        desks: &Desks,
-        partners: &Partners,
-        place: usize,
-    )
-        requires legal { Legal entries.now }
-        requires stands { Stands entries.now slots.now }
-        requires desks { DesksKeep entries.now taken.now desks.now }
-        requires knows { Knows entries.now partners.now }
-        requires within { place < table_slots }
-        requires kept { self.old ≡ kept_upto entries.now taken.now place }
-        ensures { self.new ≡ kept_upto entries.now taken.now (place + 1) }
-    {
-        if let Some(thread) = slots.thread_at(entries, place) {
-            self.add_thread(thread);
-            if desks.is_busy(entries, taken, thread) {
-                self.add(partners.at(place));
-            }
-        }
     }
 
     /// Finds what is kept of a history, where these outcomes were taken. Takes no memory.
@@ -140,19 +70,17 @@ impl Keeping {
         requires stands { Stands entries.now slots.now }
         requires desks { DesksKeep entries.now taken.now desks.now }
         requires knows { Knows entries.now partners.now }
-        ensures { self.new ≡ kept_upto entries.now taken.now table_slots }
+        ensures { PassesAs self.new (kept_upto entries.now taken.now table_slots) }
     {
-        self.clear();
-        for place in 0..TABLE_SLOTS {
-            self.keep_at(entries, taken, slots, desks, partners, place);
-        }
+        self.found.find(entries, taken, slots, desks, partners);
+        self.found.sort();
     }
 
     /// Whether a call is kept.
     fn keeps_call(&self, number: u64) -> bool
         ensures { result ≡ list_any (λ n. number == n) self.now.calls }
     {
-        self.calls.iter().any(|kept| number == *kept)
+        have(self.found.calls(), number)
     }
 
     /// Whether a call is kept, or met one that is.
@@ -166,7 +94,7 @@ impl Keeping {
     fn met_kept(&self, number: u64) -> bool
         ensures { result ≡ list_any (λ n. number == n) self.now.partners }
     {
-        self.partners.iter().any(|kept| number == *kept)
+        have(self.found.partners(), number)
     }
 
     /// Whether one of two calls is kept.
@@ -180,7 +108,7 @@ impl Keeping {
     fn keeps_thread(&self, thread: ThreadId) -> bool
         ensures { result ≡ is_among thread self.now.threads }
     {
-        self.threads.iter().any(|kept| *kept == thread)
+        have(self.found.threads(), thread.to_word())
     }
 
     /// Whether an input that is no At is kept.

@@ -2,6 +2,7 @@
 #![tactic(auto)]
 
 mod base;
+mod found;
 mod keeping;
 mod partners;
 

@@ -16,7 +16,7 @@ use Rattle.ipc_core.proofs.course.Course.compact.Goals as goal
 
 -- what was found passes what is kept
 same : (c : goal.After-compact) (e : Entry) → passes c.fill.new.self e ≡ is_kept c.self.inside.history.entries c.self.inside.taken e
-same c e = passes_is _ _ c.self.inside.desks c.self.invariant.course.legal c.self.invariant.course.desks_are (subst (λ v. TookOthers v.entries v.taken) (sym c.self.view_is) c.requires.others) c.fill.new.self (c.fill.ensures ∙ ap₂ (λ l t. kept_upto l t table_slots) c.whole-entries.ensures c.past.ensures) e
+same c e = passes_is _ _ c.self.inside.desks c.self.invariant.course.legal c.self.invariant.course.desks_are (subst (λ v. TookOthers v.entries v.taken) (sym c.self.view_is) c.requires.others) c.fill.new.self (λ e. c.fill.ensures e ∙ ap₂ (λ l t. passes (kept_upto l t table_slots) e) c.whole-entries.ensures c.past.ensures) e
 
 short : (c : goal.After-compact) → c.self.inside.history.held.whole_from ≤ length c.self.inside.history.entries
 short c = let front = c.self.invariant.front in let begun = c.self.invariant.course.begun in omega (arith, front, begun)
@@ -26,7 +26,7 @@ held c = c.compact.ensures.held ∙ kept_of_all c.self.inside.taken (passes c.fi
 
 pub compact-requires-clause-called : goal.compact-requires-clause-called
 compact-requires-clause-called c = λ n e opened inside is.
-    passes_is _ _ c.self.inside.desks c.self.invariant.course.legal c.self.invariant.course.desks_are (subst (λ v. TookOthers v.entries v.taken) (sym c.self.view_is) c.requires.others) c.fill.new.self (c.fill.ensures ∙ ap₂ (λ l t. kept_upto l t table_slots) c.whole-entries.ensures c.past.ensures) e
+    passes_is _ _ c.self.inside.desks c.self.invariant.course.legal c.self.invariant.course.desks_are (subst (λ v. TookOthers v.entries v.taken) (sym c.self.view_is) c.requires.others) c.fill.new.self (λ e. c.fill.ensures e ∙ ap₂ (λ l t. passes (kept_upto l t table_slots) e) c.whole-entries.ensures c.past.ensures) e
     ∙ open_kept c.self.inside.history.entries c.self.inside.taken c.self.invariant.course.legal n e opened is
 
 pub invariant_of-self : goal.invariant_of-self

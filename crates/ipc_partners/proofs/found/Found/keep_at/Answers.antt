@@ -1,7 +1,7 @@
-use Rattle.std.proofs.Common.{◌≡◌, ◌∙◌, sym, ap, subst, length, arith}
+use Rattle.std.proofs.Common.{◌∙◌, sym, ap, length, arith}
 use Rattle.std.proofs.lemmas.List.{length_push}
 use Rattle.ipc_partners.proofs.KeptLemmas.{alive, busy_more, idle_more, none_more, within}
-use Rattle.ipc_partners.proofs.keeping.Keeping.keep_at.Goals as goal
+use Rattle.ipc_partners.proofs.found.Found.keep_at.Goals as goal
 
 pub add_thread-requires : goal.add_thread-requires
 add_thread-requires c = let few = within c.args.entries.now c.args.taken.now c.args.place c.args.self.now c.requires.kept in let place = c.requires.within in omega (arith, few.2, place)

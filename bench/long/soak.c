@@ -17,7 +17,7 @@
 #include <time.h>
 #include <unistd.h>
 
-#define MOST 256
+#define MOST 1024
 #define LONGEST (1u << 20)
 #define STUCK_SECONDS 60
 #define TRIES 20000

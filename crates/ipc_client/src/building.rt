@@ -54,7 +54,7 @@ impl Message {
     ///
     /// # Errors
     ///
-    /// More than 63 words, each string taking two; else a label of more than 48 bits; else no memory.
+    /// More than `MAX_MESSAGE_WORDS` words, each string taking two; else a label of more than 48 bits; else no memory.
     pub fn of(
         alloc: Global,
         label: u64,

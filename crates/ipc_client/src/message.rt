@@ -10,7 +10,7 @@ pub struct Message {
     pub tag: MsgTag,
     /// The VirtualSender, where the tag has p.
     pub sender: ThreadId,
-    /// The message registers from MR1 on, at most 63.
+    /// The message registers from MR1 on, at most `MAX_MESSAGE_WORDS`.
     pub words: Vec<u64>,
     /// The bytes that the string items of the words name.
     pub payload: Vec<u8>,

@@ -94,7 +94,7 @@ pub fn version_asked(request: &Request, version: WireVersion) -> WireVersion
     }
 }
 
-/// The command of the kernel that a request of a connection is which came from a space, 1 to 64.
+/// The command of the kernel that a request of a connection is which came from a space, 1 to `MAX_SPACE`.
 pub fn command_of(request: Request, space: u64) -> Command
     ensures { result ≡ command_of request space }
 {

@@ -3,7 +3,7 @@ use crate::progress::{ConnectRefused, Progress};
 /// What may happen to an exchange. Connections are numbered from 1 on.
 #[derive(Drop)]
 pub enum Event {
-    /// A connection comes from a space, 1 to 64.
+    /// A connection comes from a space, 1 to `MAX_SPACE`.
     Connect(u32),
     /// A piece of bytes comes on a connection.
     Piece(usize, Vec<u8>),

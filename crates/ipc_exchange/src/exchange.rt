@@ -50,7 +50,7 @@ impl Exchange {
         })
     }
 
-    /// One more connection, from a space, 1 to 64; answers its number. A refused one uses up no number.
+    /// One more connection, from a space, 1 to `MAX_SPACE`; answers its number. A refused one uses up no number.
     pub fn connect(&mut self, space: u32) -> Result<usize, ConnectRefused>
         ensures ok { IfOk result (λ number. number ≡ length self.old.service.slots + 1) }
         ensures happened { IfOk result (λ number. Happened self.old (Connect space) self.new) }

@@ -26,7 +26,7 @@ pub struct IpcParts {
     pub tag: MsgTag,
     /// The acceptor, BR0.
     pub acceptor: u64,
-    /// The message registers from MR1 on, u + t of the tag, at most 63.
+    /// The message registers from MR1 on, u + t of the tag, at most `MAX_MESSAGE_WORDS`.
     pub words: Vec<u64>,
     /// The buffer registers from BR1 on, at most 32.
     pub buffer_words: Vec<u64>,

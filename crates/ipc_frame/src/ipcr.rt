@@ -77,7 +77,7 @@ pub struct IpcrParts {
     pub actual: ThreadId,
     /// The ErrorCode.
     pub error: IpcError,
-    /// The message registers from MR1 on, u + t of the tag, at most 63.
+    /// The message registers from MR1 on, u + t of the tag, at most `MAX_MESSAGE_WORDS`.
     pub words: Vec<u64>,
     /// The bytes of the received strings, at most [`MAX_PIECES`] pieces.
     pub pieces: Vec<Placed>,

@@ -167,8 +167,8 @@ impl<C: Ledger, T: Ledger, P: PenPort + Drop> SharedKernel<C, T, P> {
         self.inside(rt).release(end.place);
     }
 
-    /// Asks the kernel for a connection from a space, 1 to 64, at a moment, in microseconds, and tells at once what it accepted: that a
-    /// thread was opened, or what ExchangeRegisters answers. Also says how far a call is that was entered. A call and an
+    /// Asks the kernel for a connection from a space, 1 to `MAX_SPACE`, at a moment, in microseconds, and tells at once what it accepted:
+    /// that a thread was opened, or what ExchangeRegisters answers. Also says how far a call is that was entered. A call and an
     /// ExchangeRegisters are by the end's own seat.
     ///
     /// # Errors

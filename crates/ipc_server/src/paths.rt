@@ -11,7 +11,7 @@ use std::os::unix::net::{UnixListener, UnixStream};
 use std::rt::Files;
 use std::{fs, io};
 
-/// A space, 1 to 64, and the socket that listens for its clients.
+/// A space, 1 to `MAX_SPACE`, and the socket that listens for its clients.
 #[derive(Drop)]
 pub struct Listener {
     pub(crate) space: u64,

@@ -40,7 +40,7 @@ pub trait Line {
 /// for the desk.
 #[derive(Drop)]
 pub struct Ports<P: PenPort, I: PortRead, G: Gate + Line> {
-    /// The space, 1 to 64.
+    /// The space, 1 to `MAX_SPACE`.
     pub space: u64,
     /// What the client sends.
     pub reader: I,

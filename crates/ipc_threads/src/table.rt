@@ -17,7 +17,7 @@ use std::marker::Model;
 pub struct Slot {
     /// The last version of the number, 0 before its first.
     pub last: u32,
-    /// The space of the live thread of the number, 1 to 64.
+    /// The space of the live thread of the number, 1 to [`MAX_SPACE`].
     pub space: Option<u32>,
 }
 

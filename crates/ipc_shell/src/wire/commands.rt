@@ -15,7 +15,7 @@ use std::alloc::{AllocError, Global};
 /// place 0.
 #[derive(Drop)]
 pub enum WireCommand {
-    /// A connection comes from a space, 1 to 64.
+    /// A connection comes from a space, 1 to `MAX_SPACE`.
     Connect(u32),
     /// A piece of bytes, at least one, comes on the connection in a place.
     Feed(usize, Vec<u8>),

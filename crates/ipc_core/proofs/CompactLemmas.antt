@@ -140,8 +140,8 @@ pub kept_begun : (old begun : CourseParts) → begun.entries ≡ old.entries →
 kept_begun old begun entries held taken upto = λ i. kept_to (taken i) upto (record { entries = entries i; held = held i; room = old.room })
 
 -- it is whole, and counts what was let go no longer
-pub compacts_whole : (limit more calls_limit moment : ℕ) (old new : CourseParts) → IsWhole limit calls_limit moment old → new.entries ≡ old.entries → old.room ≤ new.room → new.taken ≡ old.taken → new.since ≡ length old.entries → limit ≤ more → more < 2 ^ 63 → IsWhole more calls_limit moment new
-compacts_whole limit more calls_limit moment old new whole same room taken since raised few =
+pub compacts_whole : (limit more calls_limit moment : ℕ) (old new : CourseParts) → IsWhole limit calls_limit moment old → new.entries ≡ old.entries → old.room ≤ new.room → new.taken ≡ old.taken → new.since ≡ length old.entries → limit ≤ more → more < 2 ^ 63 → more + length (held_of (history_of new)) ≤ limit + length (held_of (history_of old)) → IsWhole more calls_limit moment new
+compacts_whole limit more calls_limit moment old new whole same room taken since raised few left =
     let kernel = kernel_same limit calls_limit moment old new whole.kernel same room in
     let within = kernel.stands.within in
     record {
@@ -159,6 +159,7 @@ compacts_whole limit more calls_limit moment old new whole same room taken since
         few_calls = kernel.few_calls;
       };
       books = subst (λ H. AreBooks H new.taken new.since) (sym same) (subst (λ t. AreBooks old.entries t new.since) (sym taken) (books_rest old.entries old.taken new.since old.since since whole.books));
+      fits = (let fits = whole.fits in omega (arith, fits, left, ap length same));
     }
 
 -- it stays whole where more entries are marked
@@ -168,6 +169,7 @@ marked_whole limit calls_limit moment old new upto is whole =
     subst (IsWhole limit calls_limit moment) (sym is) (record {
       kernel = record { stands = kernel.stands; room = kernel.room; few_entries = kernel.few_entries; few_calls = kernel.few_calls };
       books = whole.books;
+      fits = whole.fits;
     })
 
 -- a compaction up to the end ends there, and then the compact is held

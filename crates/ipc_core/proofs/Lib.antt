@@ -25,3 +25,4 @@ pub mod SoundLaws
 pub mod CompactLemmas
 pub mod AgainLaws
 pub mod LeastLemmas
+pub mod AmpleLemmas

@@ -64,7 +64,7 @@ unfolding is_full
 room_most kernel need left live legal split live_is fits most = let bound = pledged_most kernel.history legal in le-ltb _ _ (omega arith)
 
 -- what is pledged and needed fits where the history is not full
-within_where : (kernel : KernelParts) (need : ℕ) → is_full kernel need ≡ false → length kernel.history + pledged kernel.history + need ≤ kernel.entries_limit
+pub within_where : (kernel : KernelParts) (need : ℕ) → is_full kernel need ≡ false → length kernel.history + pledged kernel.history + need ≤ kernel.entries_limit
 unfolding is_full
 within_where kernel need not_full = ltb-false _ _ not_full
 

@@ -8,6 +8,7 @@ use Rattle.ipc_core.specs.CourseParts.{CourseParts}
 use Rattle.ipc_core.specs.Invariants.{IsKernel, IsWhole, Stands}
 use Rattle.ipc_core.specs.KernelParts.{KernelParts}
 use Rattle.ipc_core.specs.Obeying.{rested}
+use Rattle.ipc_core.proofs.AmpleLemmas.{fits_same}
 use Rattle.ipc_core.proofs.BookLemmas.{books_rest, books_took}
 use Rattle.ipc_history.specs.Outcomes.{OutcomeParts}
 use Rattle.ipc_core.specs.Outcomes.{IsTaken, is_among}
@@ -23,10 +24,11 @@ kernel_same entries_limit calls_limit moment old new kernel same more = record {
 }
 
 -- where a command has begun and nothing more
-pub rests : (entries_limit calls_limit moment : ℕ) (old new : CourseParts) → IsWhole entries_limit calls_limit moment old → new.entries ≡ old.entries → new.room ≡ old.room → new.taken ≡ old.taken → new.since ≡ length old.entries → IsWhole entries_limit calls_limit moment new
-rests entries_limit calls_limit moment old new whole same room taken since = record {
+pub rests : (entries_limit calls_limit moment : ℕ) (old new : CourseParts) → IsWhole entries_limit calls_limit moment old → new.entries ≡ old.entries → new.room ≡ old.room → new.taken ≡ old.taken → new.since ≡ length old.entries → new.held ≡ old.held → IsWhole entries_limit calls_limit moment new
+rests entries_limit calls_limit moment old new whole same room taken since held = record {
   kernel = kernel_same entries_limit calls_limit moment old new whole.kernel same (omega (arith, room));
   books = subst (λ H. AreBooks H new.taken new.since) (sym same) (subst (λ t. AreBooks old.entries t new.since) (sym taken) (books_rest old.entries old.taken new.since old.since since whole.books));
+  fits = fits_same entries_limit old new whole.fits same held;
 }
 
 -- and what is seen of it then
@@ -38,10 +40,11 @@ pub begins_rested : (seen old : KernelParts) (new : CourseParts) → seen ≡ ol
 begins_rested seen old new same entries held taken since room = seen_begun seen old new.entries new.held new.taken new.since new.room same entries held taken since room
 
 -- after an outcome was taken, or none
-pub takes_one : (entries_limit calls_limit moment : ℕ) (old new : CourseParts) (outcome : Option OutcomeParts) → IsWhole entries_limit calls_limit moment old → new.entries ≡ old.entries → new.room ≡ old.room → new.taken ≡ taken_after outcome old.taken → new.since ≡ old.since → IfSome outcome (λ o. IsTaken old.entries o.call) → IfSome outcome (λ o. is_among o.call old.taken ≡ false) → IsWhole entries_limit calls_limit moment new
-takes_one entries_limit calls_limit moment old new outcome whole same room taken since done fresh = record {
+pub takes_one : (entries_limit calls_limit moment : ℕ) (old new : CourseParts) (outcome : Option OutcomeParts) → IsWhole entries_limit calls_limit moment old → new.entries ≡ old.entries → new.room ≡ old.room → new.taken ≡ taken_after outcome old.taken → new.since ≡ old.since → IfSome outcome (λ o. IsTaken old.entries o.call) → IfSome outcome (λ o. is_among o.call old.taken ≡ false) → new.held ≡ old.held → IsWhole entries_limit calls_limit moment new
+takes_one entries_limit calls_limit moment old new outcome whole same room taken since done fresh held = record {
   kernel = kernel_same entries_limit calls_limit moment old new whole.kernel same (omega (arith, room));
   books = subst (λ H. AreBooks H new.taken new.since) (sym same) (subst (λ s. AreBooks old.entries new.taken s) (sym since) (books_took old.entries old.taken new.taken old.since outcome whole.books taken done fresh));
+  fits = fits_same entries_limit old new whole.fits same held;
 }
 
 pub seen_took : (seen old : KernelParts) (new : CourseParts) (outcome : Option OutcomeParts) → seen ≡ old → new.entries ≡ seen.history → new.held ≡ seen.held → new.taken ≡ taken_after outcome seen.taken → new.since ≡ seen.since → new.room ≡ seen.room → record seen { history = new.entries; held = new.held; taken = new.taken; since = new.since; room = new.room } ≡ record old { taken = taken_after outcome old.taken }

@@ -1,10 +1,11 @@
 -- What a kernel keeps.
 use Rattle.std.specs.Prelude.{◌≡◌, ℕ, ◌+◌, ◌^◌, ◌≤◌, ◌<◌, List, ◌==◌, length, take, false}
 use Rattle.std.specs.List.{IsDistinct, list_any}
-use Rattle.ipc_words.specs.Limits.{table_slots, last_moment, max_calls}
+use Rattle.ipc_words.specs.Limits.{table_slots, last_moment, max_calls, max_entries}
 use Rattle.ipc_history.specs.Calls.{numbers}
 use Rattle.ipc_history.specs.Threads.{now}
 use Rattle.ipc_history.specs.Timing.{is_due_at}
+use Rattle.ipc_history.specs.Holding.{held_of}
 use Rattle.ipc_history.specs.HistoryParts.{HistoryParts}
 use Rattle.ipc_history.specs.Legal.{Legal, Quiet}
 use Rattle.ipc_history.specs.declared.entry.Entry.{Entry}
@@ -17,7 +18,7 @@ use Rattle.ipc_partners.specs.declared.partners.Joined.{Joined}
 use Rattle.ipc_waits.specs.Waiting.{IsWaiting}
 use Rattle.ipc_waits.specs.declared.waiting.Waiting.{Waiting}
 use Rattle.ipc_core.specs.Books.{AreBooks}
-use Rattle.ipc_core.specs.CourseParts.{CourseParts}
+use Rattle.ipc_core.specs.CourseParts.{CourseParts, history_of}
 use Rattle.ipc_core.specs.Outcomes.{finished_from, is_among}
 
 -- a course: a legal history, who waits in it, desks that are its, and the threads whose calls the last command finished, each once
@@ -58,7 +59,9 @@ pub record IsKernel (entries_limit calls_limit moment : ℕ) (course : CoursePar
   pub few_entries : entries_limit < 2 ^ 63
   pub few_calls : calls_limit ≤ max_calls
 
--- a whole kernel: with its books
+-- a whole kernel: with its books. Its limit of entries is raised by those that were let go, and by no more: so memory never has to hold more
+-- than the greatest limit
 pub record IsWhole (entries_limit calls_limit moment : ℕ) (course : CourseParts) : Type 0 where
   pub kernel : IsKernel entries_limit calls_limit moment course
   pub books : AreBooks course.entries course.taken course.since
+  pub fits : entries_limit + length (held_of (history_of course)) ≤ max_entries + length course.entries

@@ -1,8 +1,9 @@
 ghost use Rattle.std.specs.Prelude.{◌≡◌, ◌+◌, ◌^◌, ◌≤◌, ◌<◌, [], ◌∷◌, ◌++◌, ◌==◌, ℕ, length, take, drop, vec_len, vec_capacity};
 ghost use Rattle.std.specs.Prelude.{◌↔◌, Some, None, option_copied, IsNone, IfSome, IsTrue, IsFalse, true, false, nat_lt, sum_by};
-ghost use Rattle.std.specs.Prelude.{IfErr, IfOk, OnErr, OnOk};
+ghost use Rattle.std.specs.Prelude.{IfErr, IfOk, IsOk, OnErr, OnOk};
 ghost use Rattle.std.specs.List.{IsDistinct, list_any};
 ghost use Rattle.ipc_words.specs.Limits.{last_moment};
+ghost use Rattle.ipc_memory.specs.Memory.{ample_items};
 ghost use Rattle.ipc_history.specs.declared.entry.Entry.TheVariants.{Given, Written};
 ghost use Rattle.ipc_history.specs.declared.entry.Input.TheVariants.{At};
 ghost use Rattle.ipc_history.specs.Blocks.{block_of};
@@ -37,6 +38,7 @@ use crate::taken::Taken;
 use ipc_compact::{Base, BaseRoom};
 use ipc_desks::{Desks, Finished, Prepared};
 use ipc_history::{Call, EnteredCall, Entries, Entry, History, Input, Outcome, Output};
+use ipc_memory::Memory;
 use ipc_partners::{Keeping, Partners};
 use ipc_past::Past;
 use ipc_slots::Slots;
@@ -366,21 +368,27 @@ impl Course {
     }
 
     /// Makes room for so many more entries. Where memory is refused nothing changes.
-    fn reserve(&mut self, more: usize) -> Result<(), AllocError>
+    fn reserve<M: Memory>(&mut self, memory: M, more: usize) -> Result<(), AllocError>
         ensures entries { self.new.entries ≡ self.old.entries }
         ensures ok { OnOk result (length self.new.entries + more ≤ self.new.room) }
         ensures room { self.old.room ≤ self.new.room }
         ensures books { SameBooks self.old self.new }
         ensures err { OnErr result (self.new.room ≡ self.old.room) }
         ensures memory { OnErr result (self.old.room < length self.old.entries + more) }
+        ensures ample { M.is_ample → length (held_of (history_of self.old)) + more ≤ ample_items → IsOk result }
     {
-        self.history.reserve(more)
+        self.history.reserve(memory, more)
     }
 
     /// Makes room for so many more entries; where that is refused, for those that are pledged and a need alone. Where memory is
-    /// refused nothing changes.
+    /// refused nothing changes; where it is ample that does not come, but for more than 2^32 entries, those that are held among them.
     #[tactic(auto, unfolding(ipc_laws::specs::Counting::pledged))]
-    pub(crate) fn make_room(&mut self, more: usize, need: u64) -> Result<(), AllocError>
+    pub(crate) fn make_room<M: Memory>(
+        &mut self,
+        memory: M,
+        more: usize,
+        need: u64,
+    ) -> Result<(), AllocError>
         requires { pledged self.old.entries + need ≤ more }
         ensures entries { self.new.entries ≡ self.old.entries }
         ensures ok { OnOk result (length self.new.entries + (pledged self.new.entries + need) ≤ self.new.room) }
@@ -388,20 +396,23 @@ impl Course {
         ensures books { SameBooks self.old self.new }
         ensures err { OnErr result (self.new.room ≡ self.old.room) }
         ensures memory { OnErr result (self.old.room < length self.old.entries + pledged self.old.entries + need) }
+        ensures ample { M.is_ample → length (held_of (history_of self.old)) + (pledged self.old.entries + need) ≤ ample_items
+            → IsOk result }
     {
-        if self.reserve(more).is_ok() {
+        if self.reserve(memory, more).is_ok() {
             return Ok(());
         }
         let threads = PLEDGE_OF_THREAD * self.live();
         let calls = self.pledged_for_calls() as u64;
-        self.reserve((threads + calls + need) as usize)
+        self.reserve(memory, (threads + calls + need) as usize)
     }
 
     /// Makes what a call needs: its copies, a place for it, and room for entries, in this order. Where memory is refused the call is
-    /// handed back, and what a kernel shows stays as it is.
-    pub(crate) fn prepare(
+    /// handed back, and what a kernel shows stays as it is; where it is ample that does not come, but for more than 2^32 entries, those
+    /// that are held among them.
+    pub(crate) fn prepare<M: Memory>(
         &mut self,
-        alloc: Global,
+        memory: M,
         more: usize,
         need: u64,
         call: Call,
@@ -417,12 +428,14 @@ impl Course {
         ensures copies { IfOk result (λ made. made.1 ≡ prepared call) }
         ensures back { IfErr result (λ refused. refused ≡ call) }
         ensures err { OnErr result (self.new.room ≡ self.old.room) }
+        ensures ample { M.is_ample → length (held_of (history_of self.old)) + (pledged self.old.entries + need) ≤ ample_items
+            → IsOk result }
     {
-        let Ok(copies) = Prepared::of(alloc, &call) else {
+        let Ok(copies) = Prepared::of(memory, &call) else {
             return Err(call);
         };
-        let entered = EnteredCall::new(alloc, call)?;
-        let Ok(()) = self.make_room(more, need) else {
+        let entered = EnteredCall::new(memory, call)?;
+        let Ok(()) = self.make_room(memory, more, need) else {
             return Err(entered.into_call());
         };
         Ok((entered, copies))

@@ -1,4 +1,4 @@
-ghost use Rattle.std.specs.Prelude.{◌≡◌, ◌==◌, ◌<◌, ◌+◌, ◌*◌, ◌-◌, ◌^◌, ◌≤◌, [], ◌∷◌, ◌++◌, ℕ, length, drop, max, min, false};
+ghost use Rattle.std.specs.Prelude.{◌≡◌, ◌≢◌, ◌==◌, ◌<◌, ◌+◌, ◌*◌, ◌-◌, ◌^◌, ◌≤◌, [], ◌∷◌, ◌++◌, ℕ, length, drop, max, min, false};
 ghost use Rattle.std.specs.Prelude.{◌↔◌, Some, None, option_copied, IsNone, IsTrue, IfOk, IfErr, IfSome, OnOk, OnErr, MatchBool};
 ghost use Rattle.std.specs.List.{IsDistinct, list_any};
 ghost use Rattle.ipc_history.specs.declared.entry.Entry.TheVariants.{Given};
@@ -36,6 +36,7 @@ use crate::refusal::Refusal;
 use crate::room::call_need;
 use ipc_compact::{Base, BaseRoom};
 use ipc_history::{Call, Entries, Entry, Input, Outcome};
+use ipc_memory::Memory;
 use ipc_words::limits::{
     BLOCK_BYTES, LAST_MOMENT, MAX_CALLS, MAX_ENTRIES, MAX_SPACE, MAX_STRING_BYTES,
     MAX_THREAD_NUMBER, NEED_OF_EXCHANGE, NEED_OF_OPEN, PLEDGE_OF_BLOCK, PLEDGE_OF_OPEN_CALL,
@@ -288,18 +289,43 @@ impl Kernel {
         ensures obeys { MayObey self.old (command.Open number space) (open_answer result) self.new }
         ensures few { length self.new.history ≤ length self.old.history + max_command_entries }
     {
-        let opened = self.open_thread(number, space);
-        // its contract says that the history is legal
-        let _ = self.history();
-        opened
+        self.open_in(self.alloc, number, space)
     }
 
-    fn open_thread(&mut self, number: u64, space: u64) -> Result<ThreadId, Refusal>
+    /// Opens a thread as [`Kernel::open`] does, with memory that is lent. Where it is ample K4 does not come.
+    pub fn open_in<M: Memory>(
+        &mut self,
+        memory: M,
+        number: u64,
+        space: u64,
+    ) -> Result<ThreadId, Refusal>
         ensures ok { IfOk result (λ thread. (open_refusal self.old number space ≡ None)
             × Opens self.old self.new number space thread) }
         ensures cause { IfErr result (λ refusal. MayRefuse (open_refusal self.old number space) refusal) }
         ensures memory { result ≡ Err Refusal.NoMemory → LacksRoomFor self.old open_need }
         ensures err { OnErr result (self.new ≡ self.old) }
+        ensures obeys { MayObey self.old (command.Open number space) (open_answer result) self.new }
+        ensures few { length self.new.history ≤ length self.old.history + max_command_entries }
+        ensures ample { M.is_ample → IfErr result (λ refusal. refusal ≢ Refusal.NoMemory) }
+    {
+        let opened = self.open_thread(memory, number, space);
+        // its contract says that the history is legal
+        let _ = self.history();
+        opened
+    }
+
+    fn open_thread<M: Memory>(
+        &mut self,
+        memory: M,
+        number: u64,
+        space: u64,
+    ) -> Result<ThreadId, Refusal>
+        ensures ok { IfOk result (λ thread. (open_refusal self.old number space ≡ None)
+            × Opens self.old self.new number space thread) }
+        ensures cause { IfErr result (λ refusal. MayRefuse (open_refusal self.old number space) refusal) }
+        ensures memory { result ≡ Err Refusal.NoMemory → LacksRoomFor self.old open_need }
+        ensures err { OnErr result (self.new ≡ self.old) }
+        ensures ample { M.is_ample → IfErr result (λ refusal. refusal ≢ Refusal.NoMemory) }
     {
         let most = u64::from(MAX_THREAD_NUMBER);
         let spaces = u64::from(MAX_SPACE);
@@ -315,7 +341,7 @@ impl Kernel {
         let Some(room) = self.room_for(NEED_OF_OPEN) else {
             return Err(Refusal::HistoryFull);
         };
-        let Ok(()) = self.course.make_room(room, NEED_OF_OPEN) else {
+        let Ok(()) = self.course.make_room(memory, room, NEED_OF_OPEN) else {
             return Err(Refusal::NoMemory);
         };
         let thread = thread_id(number as u32, version);
@@ -472,18 +498,43 @@ impl Kernel {
         ensures obeys { MayObey self.old (command.Enter thread call) (enter_answer result) self.new }
         ensures few { length self.new.history ≤ length self.old.history + max_command_entries }
     {
-        let entered = self.enter_call(thread, call);
-        // its contract says that the history is legal
-        let _ = self.history();
-        entered
+        self.enter_in(self.alloc, thread, call)
     }
 
-    fn enter_call(&mut self, thread: ThreadId, call: Call) -> Result<u64, EnterRefused>
+    /// Enters a call as [`Kernel::enter`] does, with memory that is lent. Where it is ample K4 does not come.
+    pub fn enter_in<M: Memory>(
+        &mut self,
+        memory: M,
+        thread: ThreadId,
+        call: Call,
+    ) -> Result<u64, EnterRefused>
         ensures ok { IfOk result (λ number. (enter_refusal self.old thread call ≡ None)
             × Enters self.old self.new number thread call) }
         ensures cause { IfErr result (λ refused. MayRefuse (enter_refusal self.old thread call) refused.refusal) }
         ensures back { IfErr result (λ refused. refused.call ≡ call) }
         ensures err { OnErr result (self.new ≡ self.old) }
+        ensures obeys { MayObey self.old (command.Enter thread call) (enter_answer result) self.new }
+        ensures few { length self.new.history ≤ length self.old.history + max_command_entries }
+        ensures ample { M.is_ample → IfErr result (λ refused. refused.refusal ≢ Refusal.NoMemory) }
+    {
+        let entered = self.enter_call(memory, thread, call);
+        // its contract says that the history is legal
+        let _ = self.history();
+        entered
+    }
+
+    fn enter_call<M: Memory>(
+        &mut self,
+        memory: M,
+        thread: ThreadId,
+        call: Call,
+    ) -> Result<u64, EnterRefused>
+        ensures ok { IfOk result (λ number. (enter_refusal self.old thread call ≡ None)
+            × Enters self.old self.new number thread call) }
+        ensures cause { IfErr result (λ refused. MayRefuse (enter_refusal self.old thread call) refused.refusal) }
+        ensures back { IfErr result (λ refused. refused.call ≡ call) }
+        ensures err { OnErr result (self.new ≡ self.old) }
+        ensures ample { M.is_ample → IfErr result (λ refused. refused.refusal ≢ Refusal.NoMemory) }
     {
         if !self.course.is_live(thread) {
             return Err(EnterRefused {
@@ -514,7 +565,7 @@ impl Kernel {
         let number = made + 1;
         let is_normal = call.is_normal();
         prove!(is_normal);
-        match self.course.prepare(self.alloc, room, need, call) {
+        match self.course.prepare(memory, room, need, call) {
             Ok((entered, copies)) => {
                 self.course.take_input(
                     self.moment,
@@ -546,14 +597,13 @@ impl Kernel {
         ensures obeys { MayObey self.old (command.Exreg thread target control) (exreg_result result) self.new }
         ensures few { length self.new.history ≤ length self.old.history + max_command_entries }
     {
-        let exchanged = self.stop_phases(thread, target, control);
-        // its contract says that the history is legal
-        let _ = self.history();
-        exchanged
+        self.exreg_in(self.alloc, thread, target, control)
     }
 
-    fn stop_phases(
+    /// Stops phases as [`Kernel::exreg`] does, with memory that is lent. Where it is ample K4 does not come.
+    pub fn exreg_in<M: Memory>(
         &mut self,
+        memory: M,
         thread: ThreadId,
         target: ThreadId,
         control: Control,
@@ -563,6 +613,29 @@ impl Kernel {
         ensures cause { IfErr result (λ refusal. MayRefuse (exreg_refusal self.old thread) refusal) }
         ensures memory { result ≡ Err Refusal.NoMemory → LacksRoomFor self.old exreg_need }
         ensures err { OnErr result (self.new ≡ self.old) }
+        ensures obeys { MayObey self.old (command.Exreg thread target control) (exreg_result result) self.new }
+        ensures few { length self.new.history ≤ length self.old.history + max_command_entries }
+        ensures ample { M.is_ample → IfErr result (λ refusal. refusal ≢ Refusal.NoMemory) }
+    {
+        let exchanged = self.stop_phases(memory, thread, target, control);
+        // its contract says that the history is legal
+        let _ = self.history();
+        exchanged
+    }
+
+    fn stop_phases<M: Memory>(
+        &mut self,
+        memory: M,
+        thread: ThreadId,
+        target: ThreadId,
+        control: Control,
+    ) -> Result<ExregAnswer, Refusal>
+        ensures ok { IfOk result (λ answer. (exreg_refusal self.old thread ≡ None)
+            × Exchanges self.old self.new thread target control answer) }
+        ensures cause { IfErr result (λ refusal. MayRefuse (exreg_refusal self.old thread) refusal) }
+        ensures memory { result ≡ Err Refusal.NoMemory → LacksRoomFor self.old exreg_need }
+        ensures err { OnErr result (self.new ≡ self.old) }
+        ensures ample { M.is_ample → IfErr result (λ refusal. refusal ≢ Refusal.NoMemory) }
     {
         if !self.course.is_live(thread) {
             return Err(Refusal::NoThread);
@@ -573,7 +646,7 @@ impl Kernel {
         let Some(room) = self.room_for(NEED_OF_EXCHANGE) else {
             return Err(Refusal::HistoryFull);
         };
-        let Ok(()) = self.course.make_room(room, NEED_OF_EXCHANGE) else {
+        let Ok(()) = self.course.make_room(memory, room, NEED_OF_EXCHANGE) else {
             return Err(Refusal::NoMemory);
         };
         let answer = self.course.exreg_answer(thread, target);

@@ -1,4 +1,5 @@
-ghost use Rattle.std.specs.Prelude.{◌≡◌, ◌≤◌, ◌<◌, ◌+◌, ◌^◌, [], ◌∷◌, ◌++◌, ◌==◌, drop, length, option_copied, Contains, IsFalse, IsTrue, OnOk, OnErr};
+ghost use Rattle.std.specs.Prelude.{◌≡◌, ◌≤◌, ◌<◌, ◌+◌, ◌^◌, [], ◌∷◌, ◌++◌, ◌==◌, drop, length, option_copied, Contains, IsFalse, IsOk, IsTrue, OnOk, OnErr};
+ghost use Rattle.ipc_memory.specs.Memory.{ample_items};
 ghost use Rattle.ipc_history.specs.Entries.{calls};
 ghost use Rattle.ipc_history.specs.Holding.{compacted, held_entry, held_of, marked_to, reached};
 ghost use Rattle.ipc_history.specs.Phases.{is_over};
@@ -7,6 +8,7 @@ ghost use Rattle.ipc_history.specs.declared.entry.Entry.{Entry};
 use crate::entries::Entries;
 use crate::entry::Entry;
 use crate::keeping::{Keeps, keep_before, number};
+use ipc_memory::Memory;
 use ipc_past::Past;
 use std::alloc::{AllocError, Global};
 use std::marker::Model;
@@ -147,20 +149,22 @@ impl History {
         self.entries.len()
     }
 
-    /// Makes room for so many more entries. The room grows by doubling. Where memory is refused nothing changes.
-    pub fn reserve(&mut self, more: usize) -> Result<(), AllocError>
+    /// Makes room for so many more entries. The room grows by doubling. Where memory is refused nothing changes; where it is ample that does
+    /// not come, but for more than 2^32 entries, those that are held among them.
+    pub fn reserve<M: Memory>(&mut self, memory: M, more: usize) -> Result<(), AllocError>
         ensures entries { self.new.entries ≡ self.old.entries }
         ensures held { self.new.held ≡ self.old.held }
         ensures ok { OnOk result (length self.new.entries + more ≤ self.new.room) }
         ensures room { self.old.room ≤ self.new.room }
         ensures err { OnErr result (self.new.room ≡ self.old.room) }
         ensures memory { OnErr result (self.old.room < length self.old.entries + more) }
+        ensures ample { M.is_ample → length (held_of self.old) + more ≤ ample_items → IsOk result }
     {
         if more <= self.room - self.entries.len() {
             return Ok(());
         }
-        self.entries.reserve(more)?;
-        self.places.reserve(self.entries.len() - self.kept + more)?;
+        memory.reserve(&mut self.entries, more)?;
+        memory.reserve(&mut self.places, self.entries.len() - self.kept + more)?;
         self.room = self.entries.capacity().min(self.places.capacity());
         Ok(())
     }

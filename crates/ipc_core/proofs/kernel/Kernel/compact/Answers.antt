@@ -19,7 +19,9 @@ overflow_sub-dropped c =
 pub invariant_of-self : goal.invariant_of-self
 invariant_of-self c =
     let few = c.compact.ensures.less in
+    let same = ap length (begun_same c.self.inside.course c.begin.new.self c.begin.ensures.entries c.begin.ensures.held c.begin.ensures.room) in
     compacts_whole _ _ _ _ c.self.inside.course c.compact.new.self c.self.invariant (c.compact.ensures.entries ∙ c.begin.ensures.entries) (omega (arith, few, c.compact.ensures.room, c.begin.ensures.room)) (c.compact.ensures.taken ∙ c.begin.ensures.taken) (c.compact.ensures.since ∙ c.begin.ensures.since) c.raised-self-inside.ensures.least c.raised-self-inside.ensures.most
+    (omega (arith, few, same, c.raised-self-inside.ensures.value, c.held_len-before.ensures, c.held_len-left.ensures))
 
 pub returns : goal.returns
 returns c =

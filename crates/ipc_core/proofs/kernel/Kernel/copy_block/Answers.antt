@@ -1,6 +1,7 @@
 use Rattle.std.proofs.Common.{refl, sym, ap, ◌∙◌, arith}
 use Rattle.ipc_history.specs.Legal.{next_moving}
 use Rattle.ipc_history.specs.declared.entry.Input.TheVariants.{Moved}
+use Rattle.ipc_core.proofs.AmpleLemmas.{fits_grown}
 use Rattle.ipc_core.proofs.BookLemmas.{books_grown}
 use Rattle.ipc_core.proofs.Resting.{begins_rested, rests}
 use Rattle.ipc_core.proofs.ClockLemmas.{advanced, moved_admissible}
@@ -12,7 +13,7 @@ pub take_input-requires-clause-admissible : goal.take_input-requires-clause-admi
 take_input-requires-clause-admissible c = moved_admissible _ _ _ c.in-Some.ensures.some.0 c.in-Some.ensures.some.1
 
 pub invariant_of-self : goal.invariant_of-self
-invariant_of-self c = rests _ _ _ c.self.inside.course c.begin.new.self c.self.invariant c.begin.ensures.entries c.begin.ensures.room c.begin.ensures.taken c.begin.ensures.since
+invariant_of-self c = rests _ _ _ c.self.inside.course c.begin.new.self c.self.invariant c.begin.ensures.entries c.begin.ensures.room c.begin.ensures.taken c.begin.ensures.since c.begin.ensures.held
 
 pub returns-in_default-clause-idle : goal.returns-in_default-clause-idle
 returns-in_default-clause-idle c = λ is. (
@@ -28,7 +29,9 @@ invariant_of-self-2 c =
     let within = c.self.invariant.kernel.stands.within in
     let room = c.self.invariant.kernel.room in
     let same = c.take_input.ensures.room in
+    let grows = takes_grows _ _ _ _ c.take_input.ensures.settled in
     record {
       kernel = kernel_after _ _ _ c.self.inside.course _ (Moved c.in-Some.number c.in-Some.block) c.self.invariant.kernel (moved_admissible _ _ _ c.in-Some.ensures.some.0 c.in-Some.ensures.some.1) refl (omega arith) (omega arith) c.take_input.ensures.settled c.take_input.ensures.spent;
-      books = books_grown _ _ _ (takes_grows _ _ _ _ c.take_input.ensures.settled) c.self.inside.course.taken _ c.take_input.ensures.taken _ c.self.inside.course.since c.take_input.ensures.since c.self.invariant.books tt;
+      books = books_grown _ _ _ grows c.self.inside.course.taken _ c.take_input.ensures.taken _ c.self.inside.course.since c.take_input.ensures.since c.self.invariant.books tt;
+      fits = fits_grown _ c.self.inside.course c.take_input.new.self grows.more c.self.invariant.fits grows.whole c.take_input.ensures.held;
     }

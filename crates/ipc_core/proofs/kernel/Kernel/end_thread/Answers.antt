@@ -1,5 +1,6 @@
 use Rattle.std.proofs.Common.{refl, sym, ◌∙◌, arith}
 use Rattle.ipc_history.specs.declared.entry.Input.TheVariants.{Broke}
+use Rattle.ipc_core.proofs.AmpleLemmas.{fits_grown}
 use Rattle.ipc_core.proofs.BookLemmas.{books_grown}
 use Rattle.ipc_core.proofs.ClockLemmas.{broke_admissible, thread_ended}
 use Rattle.ipc_core.proofs.KernelLemmas.{kernel_after}
@@ -15,9 +16,11 @@ invariant_of-self c =
     let within = c.self.invariant.kernel.stands.within in
     let room = c.self.invariant.kernel.room in
     let same = c.take_input.ensures.room in
+    let grows = takes_grows _ _ _ _ c.take_input.ensures.settled in
     record {
       kernel = kernel_after _ _ _ c.self.inside.course _ (Broke c.args.thread) c.self.invariant.kernel (broke_admissible _ _ live) refl (omega arith) (omega arith) c.take_input.ensures.settled c.take_input.ensures.spent;
-      books = books_grown _ _ _ (takes_grows _ _ _ _ c.take_input.ensures.settled) c.self.inside.course.taken _ c.take_input.ensures.taken _ c.self.inside.course.since c.take_input.ensures.since c.self.invariant.books tt;
+      books = books_grown _ _ _ grows c.self.inside.course.taken _ c.take_input.ensures.taken _ c.self.inside.course.since c.take_input.ensures.since c.self.invariant.books tt;
+      fits = fits_grown _ c.self.inside.course c.take_input.new.self grows.more c.self.invariant.fits grows.whole c.take_input.ensures.held;
     }
 
 pub returns-clause-ok : goal.returns-clause-ok

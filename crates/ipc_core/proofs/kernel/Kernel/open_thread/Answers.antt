@@ -1,3 +1,4 @@
+use Rattle.std.proofs.lemmas.Bool.{false≢true}
 use Rattle.std.proofs.Common.{◌≡◌, ◌+◌, ◌≤◌, refl, sym, ap, ◌∙◌, subst, false, IsTrue, Some, inl, inr, arith}
 use Rattle.ipc_history.specs.Threads.{is_taken, next_version}
 use Rattle.ipc_history.specs.Legal.{is_admissible}
@@ -9,12 +10,13 @@ use Rattle.ipc_core.proofs.RefusalLemmas.{not_since, open_allowed, open_bad, ope
 use Rattle.ipc_core.proofs.ReservedLemmas.{kernel_took, reserved, takes_input}
 use Rattle.ipc_core.specs.Books.{AreBooks}
 use Rattle.ipc_core.proofs.NewCalls.{takes_grows}
+use Rattle.ipc_core.proofs.AmpleLemmas.{ample_where, fits_grown, fits_same}
 use Rattle.ipc_core.proofs.BookLemmas.{books_grown}
 use Rattle.ipc_core.proofs.kernel.Kernel.open_thread.Goals as goal
 use Rattle.ipc_core.proofs.kernel.Kernel.open_thread.Goals.{then-number-lt1-via-then-number-lt1, then-number-lt1-via-else-number-lt1+then-number-most, then-number-lt1-via-else-number-lt1+else-number-most+then-space-lt1, then-number-lt1-via-else-number-lt1+else-number-most+else-space-lt1+then-space-spaces}
 
 pub returns-then-number-lt1-clause-cause : goal.returns-then-number-lt1-clause-cause
-returns-then-number-lt1-clause-cause c = inl (open_bad c.args.self.now c.args.number c.args.space (λ range. elim c.then-number-lt1.branch [
+returns-then-number-lt1-clause-cause g c = inl (open_bad c.args.self.now c.args.number c.args.space (λ range. elim c.then-number-lt1.branch [
   | then-number-lt1-via-then-number-lt1 w ↦ omega arith
   | then-number-lt1-via-else-number-lt1+then-number-most w ↦ omega arith
   | then-number-lt1-via-else-number-lt1+else-number-most+then-space-lt1 w ↦ omega arith
@@ -22,37 +24,42 @@ returns-then-number-lt1-clause-cause c = inl (open_bad c.args.self.now c.args.nu
 ]))
 
 pub returns-then-is_taken-clause-cause : goal.returns-then-is_taken-clause-cause
-returns-then-is_taken-clause-cause c =
+returns-then-is_taken-clause-cause g c =
     let history : c.self.inside.course.entries ≡ c.args.self.now.history = ap (λ k. k.history) c.self.view_is in
     let range : InRange c.args.number c.args.space = record { least = omega arith; most = omega arith; inner = omega arith; outer = omega arith } in
     inl (open_taken c.args.self.now c.args.number c.args.space range (cc))
 
 pub returns-in_default-clause-cause : goal.returns-in_default-clause-cause
-returns-in_default-clause-cause c =
+returns-in_default-clause-cause g c =
     let history : c.self.inside.course.entries ≡ c.args.self.now.history = ap (λ k. k.history) c.self.view_is in
     let range : InRange c.args.number c.args.space = record { least = omega arith; most = omega arith; inner = omega arith; outer = omega arith } in
     inl (open_worn c.args.self.now c.args.number c.args.space range (cc) (cc))
 
 pub returns-in_default-room_for-clause-cause : goal.returns-in_default-room_for-clause-cause
-returns-in_default-room_for-clause-cause c =
+returns-in_default-room_for-clause-cause g c =
     let history : c.self.inside.course.entries ≡ c.args.self.now.history = ap (λ k. k.history) c.self.view_is in
     let range : InRange c.args.number c.args.space = record { least = omega arith; most = omega arith; inner = omega arith; outer = omega arith } in
     inl (open_full c.args.self.now c.args.number c.args.space range (cc) c.in-Some.version (cc) (c.in_default-room_for.ensures.full.0 refl))
 
 pub returns-in_default-make_room-clause-cause : goal.returns-in_default-make_room-clause-cause
-returns-in_default-make_room-clause-cause c =
+returns-in_default-make_room-clause-cause g c =
     let history : c.self.inside.course.entries ≡ c.args.self.now.history = ap (λ k. k.history) c.self.view_is in
     let range : InRange c.args.number c.args.space = record { least = omega arith; most = omega arith; inner = omega arith; outer = omega arith } in
     inr (open_allowed c.args.self.now c.args.number c.args.space range (cc) c.in-Some.version (cc) (not_since _ c.in-Some-room_for.ensures.full.1), refl)
 
 pub returns-in_default-make_room-clause-memory : goal.returns-in_default-make_room-clause-memory
-returns-in_default-make_room-clause-memory c = λ is. subst (λ k. LacksRoomFor k open_need) c.self.view_is c.in_default-make_room.ensures.memory
+returns-in_default-make_room-clause-memory g c = λ is. subst (λ k. LacksRoomFor k open_need) c.self.view_is c.in_default-make_room.ensures.memory
+
+pub returns-in_default-make_room-clause-ample : goal.returns-in_default-make_room-clause-ample
+returns-in_default-make_room-clause-ample g c ample =
+    let few = ample_where _ c.args.self.now c.self.inside.course open_need (ap (λ k. k.entries_limit) c.self.view_is) (ap (λ k. k.history) c.self.view_is) c.self.invariant.fits (not_since _ c.in-Some-room_for.ensures.full.1) in
+    absurd (false≢true (c.in_default-make_room.ensures.ample ample few))
 
 pub make_room-requires : goal.make_room-requires
-make_room-requires c = subst (λ l. pledged l + open_need ≤ c.in-Some-room_for.room) (sym (ap (λ k. k.history) c.self.view_is)) c.in-Some-room_for.ensures.value
+make_room-requires g c = subst (λ l. pledged l + open_need ≤ c.in-Some-room_for.room) (sym (ap (λ k. k.history) c.self.view_is)) c.in-Some-room_for.ensures.value
 
 pub take_input-requires-clause-admissible : goal.take_input-requires-clause-admissible
-take_input-requires-clause-admissible c =
+take_input-requires-clause-admissible g c =
     let history : c.self.inside.course.entries ≡ c.args.self.now.history = ap (λ k. k.history) c.self.view_is in
     let range : InRange c.args.number c.args.space = record { least = omega arith; most = omega arith; inner = omega arith; outer = omega arith } in
     let free : is_taken c.args.self.now.history c.args.number ≡ false = cc in
@@ -60,12 +67,12 @@ take_input-requires-clause-admissible c =
     subst (λ l. IsTrue (is_admissible l (Opened c.thread_id-thread.result c.args.space))) (sym (c.make_room.ensures.entries ∙ history)) (may_open_next c.args.self.now.history c.thread_id-thread.result c.args.number c.in-Some.version c.args.space range c.thread_id-thread.ensures.number c.thread_id-thread.ensures.version free next)
 
 pub take_input-requires-clause-room : goal.take_input-requires-clause-room
-take_input-requires-clause-room c =
+take_input-requires-clause-room g c =
     let had = reserved _ c.args.self.now c.self.inside.course c.make_room.new.self open_need c.self.view_is c.self.invariant.kernel refl c.make_room.ensures.entries c.make_room.ensures.room (not_since _ c.in-Some-room_for.ensures.full.1) c.in-Ok.ensures.ok in
     had.fits
 
 pub invariant_of-self-2 : goal.invariant_of-self-2
-invariant_of-self-2 c =
+invariant_of-self-2 g c =
     let history : c.self.inside.course.entries ≡ c.args.self.now.history = ap (λ k. k.history) c.self.view_is in
     let range : InRange c.args.number c.args.space = record { least = omega arith; most = omega arith; inner = omega arith; outer = omega arith } in
     let free : is_taken c.args.self.now.history c.args.number ≡ false = cc in
@@ -73,13 +80,16 @@ invariant_of-self-2 c =
     let admissible = subst (λ l. IsTrue (is_admissible l (Opened c.thread_id-thread.result c.args.space))) (sym (c.make_room.ensures.entries ∙ history)) (may_open_next c.args.self.now.history c.thread_id-thread.result c.args.number c.in-Some.version c.args.space range c.thread_id-thread.ensures.number c.thread_id-thread.ensures.version free next) in
     let had = reserved _ c.args.self.now c.self.inside.course c.make_room.new.self open_need c.self.view_is c.self.invariant.kernel refl c.make_room.ensures.entries c.make_room.ensures.room (not_since _ c.in-Some-room_for.ensures.full.1) c.in-Ok.ensures.ok in
     let kernel = kernel_took _ _ _ c.make_room.new.self c.take_input.new.self (Opened c.thread_id-thread.result c.args.space) had admissible refl c.take_input.ensures.settled c.take_input.ensures.room c.take_input.ensures.spent in
+    let grows = takes_grows _ _ _ _ c.take_input.ensures.settled in
+    let made = fits_same _ c.self.inside.course c.make_room.new.self c.self.invariant.fits c.make_room.ensures.entries c.make_room.ensures.books.held in
     record {
       kernel = kernel;
-      books = books_grown _ _ _ (takes_grows _ _ _ _ c.take_input.ensures.settled) c.self.inside.course.taken _ (c.take_input.ensures.taken ∙ c.make_room.ensures.books.taken) _ c.self.inside.course.since c.take_input.ensures.since (subst (λ l. AreBooks l c.self.inside.course.taken c.self.inside.course.since) (sym c.make_room.ensures.entries) c.self.invariant.books) tt;
+      books = books_grown _ _ _ grows c.self.inside.course.taken _ (c.take_input.ensures.taken ∙ c.make_room.ensures.books.taken) _ c.self.inside.course.since c.take_input.ensures.since (subst (λ l. AreBooks l c.self.inside.course.taken c.self.inside.course.since) (sym c.make_room.ensures.entries) c.self.invariant.books) tt;
+      fits = fits_grown _ c.make_room.new.self c.take_input.new.self grows.more made grows.whole c.take_input.ensures.held;
     }
 
 pub returns-clause-ok : goal.returns-clause-ok
-returns-clause-ok c =
+returns-clause-ok g c =
     let history : c.self.inside.course.entries ≡ c.args.self.now.history = ap (λ k. k.history) c.self.view_is in
     let range : InRange c.args.number c.args.space = record { least = omega arith; most = omega arith; inner = omega arith; outer = omega arith } in
     let free : is_taken c.args.self.now.history c.args.number ≡ false = cc in

@@ -11,7 +11,7 @@ take-requires-clause-few c =
     omega (arith, taken, within, limit)
 
 pub invariant_of-self : goal.invariant_of-self
-invariant_of-self c = takes_one _ _ _ c.self.inside.course c.take.new.self c.take.result c.self.invariant c.take.ensures.entries c.take.ensures.room c.take.ensures.taken c.take.ensures.since c.take.ensures.done c.take.ensures.fresh
+invariant_of-self c = takes_one _ _ _ c.self.inside.course c.take.new.self c.take.result c.self.invariant c.take.ensures.entries c.take.ensures.room c.take.ensures.taken c.take.ensures.since c.take.ensures.done c.take.ensures.fresh c.take.ensures.held
 
 pub returns-clause-taken : goal.returns-clause-taken
 returns-clause-taken c = seen_took _ _ c.take.new.self c.take.result c.self.view_is c.take.ensures.entries c.take.ensures.held c.take.ensures.taken c.take.ensures.since c.take.ensures.room

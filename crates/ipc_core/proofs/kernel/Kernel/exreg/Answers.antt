@@ -1,9 +1,0 @@
-use Rattle.ipc_core.proofs.Few.{obeys_few}
-use Rattle.ipc_core.proofs.Obeyed.{exchanged_so}
-use Rattle.ipc_core.proofs.kernel.Kernel.exreg.Goals as goal
-
-pub returns-clause-obeys : goal.returns-clause-obeys
-returns-clause-obeys c = exchanged_so _ _ c.args.thread c.args.target c.args.control c.stop_phases-exchanged.result c.stop_phases-exchanged.ensures.ok c.stop_phases-exchanged.ensures.cause c.stop_phases-exchanged.ensures.memory c.stop_phases-exchanged.ensures.err
-
-pub returns-clause-few : goal.returns-clause-few
-returns-clause-few c = obeys_few _ _ _ _ (returns-clause-obeys c) c.history.ensures.legal

@@ -45,7 +45,7 @@ use ipc_slots::Slots;
 use ipc_waits::Waiting;
 use ipc_words::limits::{PLEDGE_OF_THREAD, TABLE_SLOTS};
 use ipc_words::{Control, ThreadId};
-use std::alloc::{AllocError, Global};
+use std::alloc::AllocError;
 use std::marker::Model;
 
 /// A legal history, what it says of each thread now, what is kept for each thread, and which outcomes were taken.
@@ -84,22 +84,26 @@ impl Model for Course {
 
 impl Course {
     /// The course of the empty history.
-    pub(crate) fn new(alloc: Global) -> Result<Course, AllocError>
+    pub(crate) fn new<M: Memory>(memory: M) -> Result<Course, AllocError>
         ensures entries { IfOk result (λ course. course.entries ≡ []) }
         ensures held { IfOk result (λ course. course.held ≡ nothing_held) }
         ensures room { IfOk result (λ course. course.room ≡ 0) }
         ensures taken { IfOk result (λ course. course.taken ≡ []) }
         ensures since { IfOk result (λ course. course.since ≡ 0) }
+        ensures ample { M.is_ample → IsOk result }
     {
+        let Ok(waiting) = memory.boxed(Waiting::new(memory)?) else {
+            return Err(AllocError);
+        };
         Ok(Course {
-            history: History::new(alloc),
-            waiting: Box::new(alloc, Waiting::new(alloc)?)?,
-            desks: Desks::new(alloc)?,
-            partners: Partners::new(alloc)?,
-            keeping: Keeping::new(alloc)?,
+            history: History::new(memory.global()),
+            waiting,
+            desks: Desks::new(memory)?,
+            partners: Partners::new(memory)?,
+            keeping: Keeping::new(memory)?,
             taken: Taken::none(),
             since: 0,
-            finished: Vec::with_capacity(alloc, TABLE_SLOTS)?,
+            finished: memory.with_capacity(TABLE_SLOTS)?,
         })
     }
 

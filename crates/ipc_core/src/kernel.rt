@@ -1,5 +1,5 @@
 ghost use Rattle.std.specs.Prelude.{◌≡◌, ◌≢◌, ◌==◌, ◌<◌, ◌+◌, ◌*◌, ◌-◌, ◌^◌, ◌≤◌, [], ◌∷◌, ◌++◌, ℕ, length, drop, max, min, false};
-ghost use Rattle.std.specs.Prelude.{◌↔◌, Some, None, option_copied, IsNone, IsTrue, IfOk, IfErr, IfSome, OnOk, OnErr, MatchBool};
+ghost use Rattle.std.specs.Prelude.{◌↔◌, Some, None, option_copied, IsNone, IsTrue, IfOk, IfErr, IfSome, IsOk, OnOk, OnErr, MatchBool};
 ghost use Rattle.std.specs.List.{IsDistinct, list_any};
 ghost use Rattle.ipc_history.specs.declared.entry.Entry.TheVariants.{Given};
 ghost use Rattle.ipc_history.specs.declared.entry.Input.TheVariants.{At, Broke, Exreg};
@@ -91,7 +91,16 @@ impl Kernel {
         ensures ok { IfOk result (λ kernel. kernel ≡ empty_kernel (min limits.entries max_entries) (min limits.calls max_calls)) }
         ensures memory { IfErr result (λ refusal. refusal ≡ Refusal.NoMemory) }
     {
-        let Ok(course) = Course::new(alloc) else {
+        Kernel::new_in(alloc, limits)
+    }
+
+    /// A kernel as [`Kernel::new`] makes it, with memory that is lent. Where it is ample K4 does not come.
+    pub fn new_in<M: Memory>(memory: M, limits: Limits) -> Result<Kernel, Refusal>
+        ensures ok { IfOk result (λ kernel. kernel ≡ empty_kernel (min limits.entries max_entries) (min limits.calls max_calls)) }
+        ensures memory { IfErr result (λ refusal. refusal ≡ Refusal.NoMemory) }
+        ensures ample { M.is_ample → IsOk result }
+    {
+        let Ok(course) = Course::new(memory) else {
             return Err(Refusal::NoMemory);
         };
         Ok(Kernel {
@@ -99,8 +108,13 @@ impl Kernel {
             calls_limit: limits.calls.min(MAX_CALLS),
             moment: 0,
             course,
-            alloc,
+            alloc: memory.global(),
         })
+    }
+
+    /// The allocator that it was made with.
+    pub(crate) fn alloc(&self) -> Global {
+        self.alloc
     }
 
     /// The moment, in microseconds. The history's last At is not after it, and no phase is due at it.

@@ -1,4 +1,4 @@
-ghost use Rattle.std.specs.Prelude.{◌≡◌, ◌+◌, ◌≤◌, List, length, min, IfOk, IfErr};
+ghost use Rattle.std.specs.Prelude.{◌≡◌, ◌+◌, ◌≤◌, List, length, min, IfOk, IfErr, IsFalse, IsOk};
 ghost use Rattle.ipc_words.specs.Limits.{max_command_entries, max_entries, max_calls};
 ghost use Rattle.ipc_history.specs.Legal.{Legal, Quiet};
 ghost use Rattle.ipc_history.specs.Paired.{Paired};
@@ -13,6 +13,7 @@ use crate::command::{Answer, Command};
 use crate::kernel::{Kernel, Limits};
 use crate::refusal::Refusal;
 use ipc_history::Call;
+use ipc_memory::Memory;
 use ipc_words::{Control, ThreadId};
 use std::alloc::Global;
 
@@ -24,23 +25,35 @@ impl Kernel {
         ensures few { length self.new.history ≤ length self.old.history + max_command_entries }
         ensures held { self.new.held ≡ self.old.held }
     {
-        let answer = self.answer(command);
+        let alloc = self.alloc();
+        self.obey_in(alloc, command)
+    }
+
+    /// Obeys a command as [`Kernel::obey`] does, with memory that is lent. Where it is ample K4 does not come.
+    pub fn obey_in<M: Memory>(&mut self, memory: M, command: Command) -> Answer
+        ensures obeys { MayObey self.old command result self.new }
+        ensures few { length self.new.history ≤ length self.old.history + max_command_entries }
+        ensures held { self.new.held ≡ self.old.held }
+        ensures ample { M.is_ample → IsFalse (is_no_memory result) }
+    {
+        let answer = self.answer(memory, command);
         // its contract says that the history is legal
         let _ = self.history();
         answer
     }
 
-    fn answer(&mut self, command: Command) -> Answer
-        ensures { MayObey self.old command result self.new }
+    fn answer<M: Memory>(&mut self, memory: M, command: Command) -> Answer
+        ensures obeys { MayObey self.old command result self.new }
+        ensures ample { M.is_ample → IsFalse (is_no_memory result) }
     {
         match command {
-            Command::Open { number, space } => self.obey_open(number, space),
-            Command::Enter(thread, call) => self.obey_enter(thread, call),
+            Command::Open { number, space } => self.obey_open(memory, number, space),
+            Command::Enter(thread, call) => self.obey_enter(memory, thread, call),
             Command::Exreg {
                 thread,
                 target,
                 control,
-            } => self.obey_exreg(thread, target, control),
+            } => self.obey_exreg(memory, thread, target, control),
             Command::Broke(thread) => self.obey_broke(thread),
             Command::At(reading) => self.obey_at(reading),
             Command::Advance => self.obey_advance(),
@@ -48,19 +61,21 @@ impl Kernel {
         }
     }
 
-    fn obey_open(&mut self, number: u64, space: u64) -> Answer
-        ensures { MayObey self.old (command.Open number space) result self.new }
+    fn obey_open<M: Memory>(&mut self, memory: M, number: u64, space: u64) -> Answer
+        ensures obeys { MayObey self.old (command.Open number space) result self.new }
+        ensures ample { M.is_ample → IsFalse (is_no_memory result) }
     {
-        match self.open(number, space) {
+        match self.open_in(memory, number, space) {
             Ok(thread) => Answer::Opened(thread),
             Err(refusal) => Answer::Refused(refusal),
         }
     }
 
-    fn obey_enter(&mut self, thread: ThreadId, call: Call) -> Answer
-        ensures { MayObey self.old (command.Enter thread call) result self.new }
+    fn obey_enter<M: Memory>(&mut self, memory: M, thread: ThreadId, call: Call) -> Answer
+        ensures obeys { MayObey self.old (command.Enter thread call) result self.new }
+        ensures ample { M.is_ample → IsFalse (is_no_memory result) }
     {
-        match self.enter(thread, call) {
+        match self.enter_in(memory, thread, call) {
             Ok(number) => Answer::Entered(number),
             Err(refused) => {
                 let refusal = refused.refusal;
@@ -69,17 +84,25 @@ impl Kernel {
         }
     }
 
-    fn obey_exreg(&mut self, thread: ThreadId, target: ThreadId, control: Control) -> Answer
-        ensures { MayObey self.old (command.Exreg thread target control) result self.new }
+    fn obey_exreg<M: Memory>(
+        &mut self,
+        memory: M,
+        thread: ThreadId,
+        target: ThreadId,
+        control: Control,
+    ) -> Answer
+        ensures obeys { MayObey self.old (command.Exreg thread target control) result self.new }
+        ensures ample { M.is_ample → IsFalse (is_no_memory result) }
     {
-        match self.exreg(thread, target, control) {
+        match self.exreg_in(memory, thread, target, control) {
             Ok(answer) => Answer::Exchanged(answer),
             Err(refusal) => Answer::Refused(refusal),
         }
     }
 
     fn obey_broke(&mut self, thread: ThreadId) -> Answer
-        ensures { MayObey self.old (command.Broke thread) result self.new }
+        ensures obeys { MayObey self.old (command.Broke thread) result self.new }
+        ensures memory { IsFalse (is_no_memory result) }
     {
         match self.broke(thread) {
             Ok(()) => Answer::Done,
@@ -88,20 +111,23 @@ impl Kernel {
     }
 
     fn obey_at(&mut self, reading: u64) -> Answer
-        ensures { MayObey self.old (command.At reading) result self.new }
+        ensures obeys { MayObey self.old (command.At reading) result self.new }
+        ensures memory { IsFalse (is_no_memory result) }
     {
         self.at(reading);
         Answer::Done
     }
 
     fn obey_advance(&mut self) -> Answer
-        ensures { MayObey self.old command.Advance result self.new }
+        ensures obeys { MayObey self.old command.Advance result self.new }
+        ensures memory { IsFalse (is_no_memory result) }
     {
         Answer::Advanced(self.advance())
     }
 
     fn obey_take(&mut self, thread: ThreadId) -> Answer
-        ensures { MayObey self.old (command.Take thread) result self.new }
+        ensures obeys { MayObey self.old (command.Take thread) result self.new }
+        ensures memory { IsFalse (is_no_memory result) }
     {
         Answer::Taken(self.take(thread))
     }
@@ -115,23 +141,34 @@ impl Kernel {
         ensures obeys { MayObeyAgain upto self.old command result self.new }
         ensures few { length self.new.history ≤ length self.old.history + max_command_entries }
     {
-        let answer = self.answer_again(command, upto);
+        let alloc = self.alloc();
+        self.obey_again_in(alloc, command, upto)
+    }
+
+    /// Obeys a command as [`Kernel::obey_again`] does, with memory that is lent. Where it is ample K4 does not come.
+    pub fn obey_again_in<M: Memory>(&mut self, memory: M, command: Command, upto: usize) -> Answer
+        ensures obeys { MayObeyAgain upto self.old command result self.new }
+        ensures few { length self.new.history ≤ length self.old.history + max_command_entries }
+        ensures ample { M.is_ample → IsFalse (is_no_memory result) }
+    {
+        let answer = self.answer_again(memory, command, upto);
         // its contract says that the history is legal
         let _ = self.history();
         answer
     }
 
-    fn answer_again(&mut self, command: Command, upto: usize) -> Answer
-        ensures { MayObeyAgain upto self.old command result self.new }
+    fn answer_again<M: Memory>(&mut self, memory: M, command: Command, upto: usize) -> Answer
+        ensures obeys { MayObeyAgain upto self.old command result self.new }
+        ensures ample { M.is_ample → IsFalse (is_no_memory result) }
     {
         match command {
-            Command::Open { number, space } => self.open_again(number, space, upto),
-            Command::Enter(thread, call) => self.enter_again(thread, call, upto),
+            Command::Open { number, space } => self.open_again(memory, number, space, upto),
+            Command::Enter(thread, call) => self.enter_again(memory, thread, call, upto),
             Command::Exreg {
                 thread,
                 target,
                 control,
-            } => self.exreg_again(thread, target, control, upto),
+            } => self.exreg_again(memory, thread, target, control, upto),
             Command::Broke(thread) => self.obey_broke(thread),
             Command::At(reading) => self.obey_at(reading),
             Command::Advance => self.obey_advance(),
@@ -139,21 +176,29 @@ impl Kernel {
         }
     }
 
-    fn open_again(&mut self, number: u64, space: u64, upto: usize) -> Answer
-        ensures { MayObeyAgain upto self.old (command.Open number space) result self.new }
+    fn open_again<M: Memory>(&mut self, memory: M, number: u64, space: u64, upto: usize) -> Answer
+        ensures obeys { MayObeyAgain upto self.old (command.Open number space) result self.new }
+        ensures ample { M.is_ample → IsFalse (is_no_memory result) }
     {
-        let first = self.obey_open(number, space);
+        let first = self.obey_open(memory, number, space);
         if !first.is_history_full() {
             return first;
         }
         let _ = self.compact(upto);
-        self.obey_open(number, space)
+        self.obey_open(memory, number, space)
     }
 
-    fn enter_again(&mut self, thread: ThreadId, call: Call, upto: usize) -> Answer
-        ensures { MayObeyAgain upto self.old (command.Enter thread call) result self.new }
+    fn enter_again<M: Memory>(
+        &mut self,
+        memory: M,
+        thread: ThreadId,
+        call: Call,
+        upto: usize,
+    ) -> Answer
+        ensures obeys { MayObeyAgain upto self.old (command.Enter thread call) result self.new }
+        ensures ample { M.is_ample → IsFalse (is_no_memory result) }
     {
-        match self.enter(thread, call) {
+        match self.enter_in(memory, thread, call) {
             Ok(number) => Answer::Entered(number),
             Err(refused) => {
                 let refusal = refused.refusal;
@@ -162,26 +207,28 @@ impl Kernel {
                     return first;
                 }
                 let _ = self.compact(upto);
-                self.obey_enter(thread, refused.call)
+                self.obey_enter(memory, thread, refused.call)
             }
         }
     }
 
-    fn exreg_again(
+    fn exreg_again<M: Memory>(
         &mut self,
+        memory: M,
         thread: ThreadId,
         target: ThreadId,
         control: Control,
         upto: usize,
     ) -> Answer
-        ensures { MayObeyAgain upto self.old (command.Exreg thread target control) result self.new }
+        ensures obeys { MayObeyAgain upto self.old (command.Exreg thread target control) result self.new }
+        ensures ample { M.is_ample → IsFalse (is_no_memory result) }
     {
-        let first = self.obey_exreg(thread, target, control);
+        let first = self.obey_exreg(memory, thread, target, control);
         if !first.is_history_full() {
             return first;
         }
         let _ = self.compact(upto);
-        self.obey_exreg(thread, target, control)
+        self.obey_exreg(memory, thread, target, control)
     }
 }
 
@@ -222,14 +269,33 @@ impl Kernel {
             → H ≡ ran.0.history) }
         ensures memory { IfErr result (λ refusal. refusal ≡ Refusal.NoMemory) }
     {
-        let mut kernel = Kernel::new(alloc, limits)?;
-        let mut answers = Vec::new(alloc);
+        Kernel::run_in(alloc, limits, commands)
+    }
+
+    /// Runs commands as [`Kernel::run`] does, with memory that is lent. Where it is ample K4 does not come.
+    pub fn run_in<M: Memory>(
+        memory: M,
+        limits: Limits,
+        commands: Vec<Command>,
+    ) -> Result<(Kernel, Vec<Answer>), Refusal>
+        ensures runs { IfOk result (λ ran. Runs (empty_kernel (min limits.entries max_entries) (min limits.calls max_calls))
+            commands.items ran.1.items ran.0) }
+        ensures legal { IfOk result (λ ran. Legal ran.0.history) }
+        ensures quiet { IfOk result (λ ran. Quiet ran.0.history) }
+        ensures paired { IfOk result (λ ran. Paired ran.0.history) }
+        ensures only { IfOk result (λ ran. (H : List Entry) → Legal H → Quiet H → inputs H ≡ inputs ran.0.history
+            → H ≡ ran.0.history) }
+        ensures memory { IfErr result (λ refusal. refusal ≡ Refusal.NoMemory) }
+        ensures ample { M.is_ample → IsOk result }
+    {
+        let mut kernel = Kernel::new_in(memory, limits)?;
+        let mut answers = Vec::new(memory.global());
         for command in commands {
-            let answer = kernel.obey(command);
+            let answer = kernel.obey_in(memory, command);
             if answer.is_no_memory() {
                 return Err(Refusal::NoMemory);
             }
-            let Ok(()) = answers.push(answer) else {
+            let Ok(()) = ipc_memory::push(memory, &mut answers, answer) else {
                 return Err(Refusal::NoMemory);
             };
         }

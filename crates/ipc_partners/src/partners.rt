@@ -1,4 +1,4 @@
-ghost use Rattle.std.specs.Prelude.{◌≡◌, ◌≢◌, ◌<◌, ◌++◌, ◌∷◌, [], Some, None, IfOk, IsTrue, IsFalse, length, slice_set, ◌&&◌, ◌==◌, if◌then◌else◌};
+ghost use Rattle.std.specs.Prelude.{◌≡◌, ◌≢◌, ◌<◌, ◌++◌, ◌∷◌, [], Some, None, IfOk, IsOk, IsTrue, IsFalse, length, slice_set, ◌&&◌, ◌==◌, if◌then◌else◌};
 ghost use Rattle.ipc_words.specs.Limits.{table_slots};
 ghost use Rattle.ipc_words.specs.MsgTag.{propagates};
 ghost use Rattle.ipc_words.specs.ThreadId.{number_of};
@@ -13,10 +13,11 @@ ghost use Rattle.ipc_slots.specs.Standings.{may_be_shown};
 ghost use Rattle.ipc_partners.specs.Partners.{Joins, Knows, joined_at, meets_receiver, meets_sender, partner_of};
 
 use ipc_history::{Call, Entries, Entry, Input, Output};
+use ipc_memory::Memory;
 use ipc_slots::Slots;
 use ipc_words::ThreadId;
 use ipc_words::limits::TABLE_SLOTS;
-use std::alloc::{AllocError, Global};
+use std::alloc::AllocError;
 use std::marker::Model;
 
 /// A call that another one met.
@@ -79,12 +80,15 @@ impl Partners {
     /// # Errors
     ///
     /// Where a growth of memory is refused.
-    pub fn new(alloc: Global) -> Result<Partners, AllocError>
-        ensures { IfOk result (Knows []) }
+    pub fn new<M: Memory>(memory: M) -> Result<Partners, AllocError>
+        ensures empty { IfOk result (Knows []) }
+        ensures ample { M.is_ample → IsOk result }
     {
-        Ok(Partners {
-            calls: vec![in alloc; Joined::NONE; TABLE_SLOTS]?,
-        })
+        let mut calls = memory.with_capacity(TABLE_SLOTS)?;
+        for _ in 0..TABLE_SLOTS {
+            calls.push_reserved(Joined::NONE);
+        }
+        Ok(Partners { calls })
     }
 
     /// The last call of the live thread of the number of a place.

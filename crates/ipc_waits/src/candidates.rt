@@ -1,11 +1,12 @@
-ghost use Rattle.std.specs.Prelude.{◌≡◌, ℕ, ◌<◌, ◌||◌, [], All, IfNone, IfOk, IfSome, false, length, map, slice_index_or};
+ghost use Rattle.std.specs.Prelude.{◌≡◌, ℕ, ◌<◌, ◌||◌, [], All, IfNone, IfOk, IfSome, IsOk, false, length, map, slice_index_or};
 ghost use Rattle.ipc_waits.specs.Finding.{is_among};
 ghost use Rattle.ipc_words.specs.Limits.{table_slots};
 ghost use Rattle.ipc_waits.specs.Candidates.{FollowsPlace, with_place};
 
 use crate::queue::Wait;
+use ipc_memory::Memory;
 use ipc_words::limits::TABLE_SLOTS;
-use std::alloc::{AllocError, Global};
+use std::alloc::AllocError;
 use std::marker::Model;
 
 /// The places under whose calls the next output is found, each once.
@@ -28,11 +29,12 @@ impl Model for Candidates {
 
 impl Candidates {
     /// No place, with room for all.
-    pub(crate) fn new(alloc: Global) -> Result<Candidates, AllocError>
-        ensures { IfOk result (λ candidates. candidates ≡ []) }
+    pub(crate) fn new<M: Memory>(memory: M) -> Result<Candidates, AllocError>
+        ensures empty { IfOk result (λ candidates. candidates ≡ []) }
+        ensures ample { M.is_ample → IsOk result }
     {
         Ok(Candidates {
-            places: Vec::with_capacity(alloc, TABLE_SLOTS)?,
+            places: memory.with_capacity(TABLE_SLOTS)?,
         })
     }
 

@@ -1,5 +1,5 @@
 ghost use Rattle.std.specs.Prelude.{◌≡◌, ℕ, ◌<◌, ◌≤◌, ◌&&◌, ◌||◌, ◌==◌, not, [], true, false, nat_le};
-ghost use Rattle.std.specs.Prelude.{All, IfOk, IfSome, IfNone, length, take, drop, slice_index_or, filter, option_copied};
+ghost use Rattle.std.specs.Prelude.{All, IfOk, IfSome, IfNone, IsOk, length, take, drop, slice_index_or, filter, option_copied};
 ghost use Rattle.std.specs.List.{list_any};
 ghost use Rattle.std.specs.List.Sorted.{IsPartitionPoint};
 ghost use Rattle.ipc_words.specs.Limits.{table_slots};
@@ -9,9 +9,10 @@ ghost use Rattle.ipc_waits.specs.Places.{IsAt, HasHere};
 ghost use Rattle.ipc_waits.specs.declared.queue.Wait.{Wait};
 
 use crate::keys::{Key, wait_of};
+use ipc_memory::Memory;
 use ipc_slots::Standing;
 use ipc_words::limits::TABLE_SLOTS;
-use std::alloc::{AllocError, Global};
+use std::alloc::AllocError;
 use std::marker::Model;
 
 /// A call that waits under a key: its number, and the place of its caller's slot.
@@ -116,11 +117,12 @@ impl Model for Queue {
 
 impl Queue {
     /// Nothing waits; with room for a wait of each place.
-    pub(crate) fn new(alloc: Global) -> Result<Queue, AllocError>
-        ensures { IfOk result (λ queue. queue ≡ []) }
+    pub(crate) fn new<M: Memory>(memory: M) -> Result<Queue, AllocError>
+        ensures empty { IfOk result (λ queue. queue ≡ []) }
+        ensures ample { M.is_ample → IsOk result }
     {
         Ok(Queue {
-            waits: Vec::with_capacity(alloc, TABLE_SLOTS)?,
+            waits: memory.with_capacity(TABLE_SLOTS)?,
         })
     }
 

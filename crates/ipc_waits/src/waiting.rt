@@ -1,4 +1,4 @@
-ghost use Rattle.std.specs.Prelude.{◌≡◌, ℕ, ◌+◌, ◌<◌, ◌++◌, ◌∷◌, [], IfOk, IfSome};
+ghost use Rattle.std.specs.Prelude.{◌≡◌, ℕ, ◌+◌, ◌<◌, ◌++◌, ◌∷◌, [], IfOk, IfSome, IsOk};
 ghost use Rattle.std.specs.List.{list_any};
 ghost use Rattle.ipc_words.specs.Limits.{last_moment};
 ghost use Rattle.ipc_history.specs.Calls.{numbers};
@@ -12,9 +12,10 @@ ghost use Rattle.ipc_waits.specs.Waiting.{IsTouched, IsWaiting};
 use crate::candidates::Candidates;
 use crate::waits::Waits;
 use ipc_history::{Entries, Entry};
+use ipc_memory::Memory;
 use ipc_slots::{Change, Slots};
 use ipc_words::limits::LAST_MOMENT;
-use std::alloc::{AllocError, Global};
+use std::alloc::AllocError;
 
 /// A moment that the clock reaches: the one that is given, where it is not after the last one.
 fn reached(moment: Option<u64>) -> Option<u64>
@@ -42,13 +43,14 @@ impl Waiting {
     /// # Errors
     ///
     /// Where a growth of memory is refused.
-    pub fn new(alloc: Global) -> Result<Waiting, AllocError>
-        ensures { IfOk result (IsWaiting []) }
+    pub fn new<M: Memory>(memory: M) -> Result<Waiting, AllocError>
+        ensures empty { IfOk result (IsWaiting []) }
+        ensures ample { M.is_ample → IsOk result }
     {
         Ok(Waiting {
             slots: Slots::new(),
-            waits: Waits::new(alloc)?,
-            candidates: Candidates::new(alloc)?,
+            waits: Waits::new(memory)?,
+            candidates: Candidates::new(memory)?,
         })
     }
 

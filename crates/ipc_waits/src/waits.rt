@@ -1,4 +1,4 @@
-ghost use Rattle.std.specs.Prelude.{◌≡◌, ◌<◌, All, IfOk, [], option_copied};
+ghost use Rattle.std.specs.Prelude.{◌≡◌, ◌<◌, All, IfOk, IsOk, [], option_copied};
 ghost use Rattle.ipc_words.specs.Limits.{table_slots};
 ghost use Rattle.ipc_waits.specs.Keys.{HaveAt, SameElsewhere};
 ghost use Rattle.ipc_waits.specs.Touching.{waits_touched};
@@ -6,8 +6,9 @@ ghost use Rattle.ipc_waits.specs.Touching.{waits_touched};
 use crate::keys::{Due, Partner, Receiver};
 use crate::queue::{Queue, Wait};
 use ipc_history::{Entry, Input};
+use ipc_memory::Memory;
 use ipc_slots::Standing;
-use std::alloc::{AllocError, Global};
+use std::alloc::AllocError;
 
 /// The waits of the open calls: by the receiver that they send to, by the thread whose end fails them, and by the moment from which
 /// they are due.
@@ -24,15 +25,16 @@ impl Waits {
     /// # Errors
     ///
     /// Where a growth of memory is refused.
-    pub fn new(alloc: Global) -> Result<Waits, AllocError>
+    pub fn new<M: Memory>(memory: M) -> Result<Waits, AllocError>
         ensures senders { IfOk result (λ waits. waits.senders ≡ []) }
         ensures watchers { IfOk result (λ waits. waits.watchers ≡ []) }
         ensures deadlines { IfOk result (λ waits. waits.deadlines ≡ []) }
+        ensures ample { M.is_ample → IsOk result }
     {
         Ok(Waits {
-            senders: Queue::new(alloc)?,
-            watchers: Queue::new(alloc)?,
-            deadlines: Queue::new(alloc)?,
+            senders: Queue::new(memory)?,
+            watchers: Queue::new(memory)?,
+            deadlines: Queue::new(memory)?,
         })
     }
 

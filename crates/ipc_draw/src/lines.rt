@@ -1,8 +1,10 @@
-ghost use Rattle.std.specs.Prelude.{◌≡◌, [], ◌∷◌, ◌++◌, flat_map, IfOk, OnOk};
-ghost use Rattle.ipc_draw.specs.Lines.{rows_in, rows_of, rows_so_far};
+ghost use Rattle.std.specs.Prelude.{◌≡◌, ◌<◌, ◌≤◌, [], ◌∷◌, ◌++◌, All, flat_map, length, IfOk, OnOk, OnErr};
+ghost use Rattle.ipc_draw.specs.Lines.{rows_in, rows_of, with_rows};
 
 use ipc_chart::Fold;
 use std::alloc::{AllocError, Global};
+use std::marker::Model;
+use std::mem;
 
 /// After so many rows the threads are named again.
 const ROWS_BETWEEN_NAMES: usize = 40;
@@ -21,98 +23,119 @@ pub(crate) enum Line {
 /// The lines of a page.
 pub(crate) type Page = Vec<Line>;
 
-/// Pages that are being made.
+/// Pages that are being made, seen as the rows that they show so far, and how many a page may have.
 #[derive(Drop)]
 struct Pages {
     alloc: Global,
     pages: Vec<Page>,
     page: Page,
-    // the most rows of a page; 0: as many as there are
     most: usize,
     // how many rows the page has, and how many since the threads were named
     rows: usize,
     since: usize,
 }
 
-/// The lines of a chart by pages of so many rows; 0: all on one page. Each page begins with the names of the threads. The rows of
+impl Model for Pages {
+    ghost use Rattle.std.specs.Prelude.{◌++◌, ◌<◌, ◌≤◌, All, flat_map, length};
+    ghost use Rattle.ipc_draw.specs.Lines.{ShownRows, rows_in};
+
+    ghost Value = { ShownRows };
+
+    ghost view = { λ p. record {
+      rows = flat_map (λ page. rows_in page.items) p.pages.items ++ rows_in p.page.items;
+      most = p.most;
+    } };
+
+    ghost invariant = { λ p. (0 < p.most)
+        × (length (rows_in p.page.items) ≤ p.rows)
+        × (p.rows ≤ p.most)
+        × All (λ page. length (rows_in page.items) ≤ p.most) p.pages.items };
+}
+
+/// The lines of a chart by pages of so many rows at most; 0: all on one page. Each page begins with the names of the threads. The rows of
 /// each fold come once, in their order.
 pub(crate) fn pages_of(alloc: Global, folds: &[Fold], most: usize) -> Result<Vec<Page>, AllocError>
     ensures rows { IfOk result (λ pages.
         flat_map (λ page. rows_in page.items) pages.items ≡ flat_map rows_of folds.now) }
+    ensures few { IfOk result (λ pages.
+        0 < most → All (λ page. length (rows_in page.items) ≤ most) pages.items) }
 {
-    let mut pages = Pages {
-        alloc,
-        pages: Vec::new(alloc),
-        page: Vec::new(alloc),
-        most,
-        rows: 0,
-        since: 0,
-    };
+    let mut pages = Pages::new(alloc, if most > 0 { most } else { usize::MAX });
     for (index, fold) in folds.iter().enumerate() {
         pages.add_fold(index, fold)?;
     }
-    pages.end_page()?;
-    Ok(pages.pages)
+    pages.finish()
+}
+
+/// Puts a line on a page.
+#[tactic(auto, using(crate::proofs::LineLemmas::line_put))]
+fn put_line(page: &mut Page, line: Line) -> Result<(), AllocError>
+    ensures rows { OnOk result (rows_in page.new.items ≡ rows_in page.old.items ++ rows_in (line ∷ [])) }
+    ensures same { OnErr result (page.new.items ≡ page.old.items) }
+{
+    page.push(line)?;
+    Ok(())
 }
 
 impl Pages {
+    /// No row, and pages of so many at most.
+    fn new(alloc: Global, most: usize) -> Pages
+        requires { 0 < most }
+        ensures { result ≡ record { rows = []; most = most } }
+    {
+        Pages {
+            alloc,
+            pages: Vec::new(alloc),
+            page: Vec::new(alloc),
+            most,
+            rows: 0,
+            since: 0,
+        }
+    }
+
     /// The rows of a fold, and how often they come.
     fn add_fold(&mut self, index: usize, fold: &Fold) -> Result<(), AllocError>
-        ensures { OnOk result (rows_so_far self.new ≡ rows_so_far self.old ++ rows_of fold.now) }
+        ensures { OnOk result (self.new ≡ with_rows (rows_of fold.now) self.old) }
     {
         for row in fold.first..fold.first.saturating_add(fold.period) {
             self.add_row(row, fold.count)?;
         }
         if fold.count > 1 {
-            self.add_line(Line::Copies { fold: index })?;
+            put_line(&mut self.page, Line::Copies { fold: index })?;
         }
         Ok(())
     }
 
     /// A row, on the next page where this one is full.
     fn add_row(&mut self, row: usize, copies: usize) -> Result<(), AllocError>
-        ensures { OnOk result (rows_so_far self.new ≡ rows_so_far self.old ++ row ∷ []) }
+        ensures { OnOk result (self.new ≡ with_rows (row ∷ []) self.old) }
     {
-        self.make_ready()?;
-        self.add_line(Line::Row { row, copies })?;
-        self.rows = self.rows.saturating_add(1);
+        if self.rows >= self.most {
+            let page = mem::replace(&mut self.page, Vec::new(self.alloc));
+            self.pages.push(page)?;
+            self.rows = 0;
+        }
+        if self.rows == 0 || self.since >= ROWS_BETWEEN_NAMES {
+            put_line(&mut self.page, Line::Names)?;
+            self.since = 0;
+        }
+        put_line(&mut self.page, Line::Row { row, copies })?;
+        self.rows += 1;
         self.since = self.since.saturating_add(1);
         Ok(())
     }
 
-    /// Before a row: ends the page where it is full, and names the threads where it is time.
-    fn make_ready(&mut self) -> Result<(), AllocError>
-        ensures { OnOk result (rows_so_far self.new ≡ rows_so_far self.old) }
+    /// The pages, with the one that is not full.
+    fn finish(self) -> Result<Vec<Page>, AllocError>
+        ensures rows { IfOk result (λ pages. flat_map (λ page. rows_in page.items) pages.items ≡ self.rows) }
+        ensures few { IfOk result (λ pages. All (λ page. length (rows_in page.items) ≤ self.most) pages.items) }
     {
-        if self.most > 0 && self.rows >= self.most {
-            self.end_page()?;
-        }
-        if self.rows == 0 || self.since >= ROWS_BETWEEN_NAMES {
-            self.add_line(Line::Names)?;
-            self.since = 0;
-        }
-        Ok(())
-    }
-
-    /// A line of this page.
-    #[tactic(auto, using(crate::proofs::LineLemmas::line_added))]
-    fn add_line(&mut self, line: Line) -> Result<(), AllocError>
-        ensures { OnOk result (rows_so_far self.new ≡ rows_so_far self.old ++ rows_in (line ∷ [])) }
-    {
-        self.page.push(line)?;
-        Ok(())
-    }
-
-    /// Begins a new page.
-    #[tactic(auto, using(crate::proofs::LineLemmas::page_added))]
-    fn end_page(&mut self) -> Result<(), AllocError>
-        ensures rows { OnOk result (rows_so_far self.new ≡ rows_so_far self.old) }
-        ensures empty { OnOk result (self.new.page.items ≡ []) }
-    {
-        let page = std::mem::replace(&mut self.page, Vec::new(self.alloc));
-        self.pages.push(page)?;
-        self.rows = 0;
-        self.since = 0;
-        Ok(())
+        let Pages {
+            mut pages,
+            page,
+            ..
+        } = self;
+        pages.push(page)?;
+        Ok(pages)
     }
 }

@@ -1,8 +1,6 @@
 -- What a step does to the kernel, and how it is answered. A step is a command of the kernel, and a seat where a thread calls.
-use Rattle.std.specs.Prelude.{◌≡◌, ℕ, ◌+◌, ◌==◌, ◌&&◌, List, Option, Some, None, Bool, true, false, MatchBool, ⊤, ◌⊎◌}
+use Rattle.std.specs.Prelude.{◌≡◌, ℕ, ◌+◌, ◌==◌, ◌&&◌, List, Option, Some, None, Bool, true, false, MatchBool, ⊤}
 use Rattle.ipc_words.specs.ThreadId.{number_of}
-use Rattle.ipc_core.specs.Compacting.{Compacts}
-use Rattle.ipc_core.specs.declared.answers.Compacted.{Compacted}
 use Rattle.ipc_core.specs.Effects.{Ticks}
 use Rattle.ipc_core.specs.KernelParts.{KernelParts}
 use Rattle.ipc_core.specs.Obeying.{MayObey}
@@ -23,6 +21,8 @@ use Rattle.ipc_history.specs.CallParts.{CallParts}
 use Rattle.ipc_history.specs.declared.entry.Entry.{Entry}
 use Rattle.ipc_lock.specs.declared.seated.seats.CallSeat.{CallSeat}
 use Rattle.ipc_lock.specs.declared.seated.seats.TakeSeat.{TakeSeat}
+use Rattle.ipc_lock.specs.declared.upkeep.Upkeep.{Upkeep}
+use Rattle.ipc_lock.specs.Upkeeping.{LetsGo, noted}
 
 -- the seat is as it was
 pub record SameSeat {C : Type 0} (seat after : CallSeat C) : Type 0 where
@@ -82,25 +82,18 @@ pub record Acts {C : Type 0} (old new : KernelParts) (now : ℕ) (seat : Option 
   pub ticks : Ticks old between now
   pub does : StepDoes between seat command answer new
 
--- before a step memory may let go of entries that are marked, which changes no answer
-pub record LetGo (old new : KernelParts) : Type 0 where
-  pub done : Compacted
-  pub compacts : Compacts old new old.held.mark done
-
-abbrev pub MayLetGo : KernelParts → KernelParts → Type 0
-MayLetGo old new = (new ≡ old) ⊎ LetGo old new
-
-pub record ActsOn {C : Type 0} (old new : KernelParts) (now : ℕ) (seat : Option (CallSeat C)) (command : Command)
-    (answer : Answer) : Type 0 where
+-- a step, before which memory lets go of entries where that is due
+pub record ActsOn {C : Type 0} (upkeep after : Upkeep) (old new : KernelParts) (now : ℕ) (seat : Option (CallSeat C))
+    (command : Command) (answer : Answer) : Type 0 where
   pub before : KernelParts
-  pub lets_go : MayLetGo old before
+  pub lets_go : LetsGo (noted command upkeep) after old before
   pub acts : Acts before new now seat command answer
 
 -- a step of a connection's reader, told as its answer is, at the moment after it
-pub record AsksOn {C : Type 0} (old new : KernelParts) (now : ℕ) (seat : Option (CallSeat C)) (version : WireVersion)
-    (command : Command) (said : Told) : Type 0 where
+pub record AsksOn {C : Type 0} (upkeep after : Upkeep) (old new : KernelParts) (now : ℕ) (seat : Option (CallSeat C))
+    (version : WireVersion) (command : Command) (said : Told) : Type 0 where
   pub answer : Answer
-  pub acts : ActsOn old new now seat command answer
+  pub acts : ActsOn upkeep after old new now seat command answer
   pub told_is : said ≡ told_of version new.moment answer
 
 -- an answer to a step: of its kind and of its thread. The seat rises by an accepted call and stays else; an open makes one

@@ -1,5 +1,5 @@
 -- What a box gives its pen next, what becomes of its seat, and what a reader's end is told.
-use Rattle.std.specs.Prelude.{◌≡◌, ◌==◌, ◌+◌, ◌++◌, ◌∷◌, ◌||◌, [], ℕ, List, Option, Some, None, Bool, MatchBool, true, false, is_some, not, ⊤}
+use Rattle.std.specs.Prelude.{◌≡◌, ◌==◌, ◌+◌, ◌++◌, ◌∷◌, ◌||◌, [], ℕ, Option, Some, None, Bool, MatchBool, true, false, is_some, not, ⊤}
 use Rattle.ipc_core.specs.KernelParts.{KernelParts}
 use Rattle.ipc_core.specs.Effects.{Gives}
 use Rattle.ipc_frame.specs.Frames.{spelling}

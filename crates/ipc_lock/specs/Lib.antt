@@ -4,3 +4,4 @@ pub mod Seats
 pub mod Acting
 pub mod Boxes
 pub mod Alarms
+pub mod Upkeeping

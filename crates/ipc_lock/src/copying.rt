@@ -1,41 +1,30 @@
 //! Copies of entries, so that their lines are made outside the lock.
-ghost use Rattle.std.specs.Prelude.{◌≡◌, ◌≤◌, ◌<◌, IfOk, length};
-ghost use Rattle.ipc_lock.specs.Groups.{IsGroupAt};
+ghost use Rattle.std.specs.Prelude.{◌≡◌, IfOk, take};
+ghost use Rattle.ipc_lock.specs.Groups.{IsGroupAt, most_of_a_group};
 
 use ipc_history::{Call, CallFields, EnteredCall, Entry, Input};
 use ipc_items::BufferList;
 use std::alloc::{AllocError, Global};
 
-/// The most entries of a group.
-const MOST_OF_A_GROUP: usize = 64;
+/// The most entries of a group: so many are copied under the lock at once.
+const MOST_OF_A_GROUP: usize = 256;
 
-/// Copies of the first of these entries, as many as one group has: at most [`MOST_OF_A_GROUP`], and none behind a call with strings. So whoever waits
-/// for the lock meanwhile waits for one long message at most.
+/// Copies of the first of these entries, as many as one group has: all of them, and at most [`MOST_OF_A_GROUP`]. A string that came in a frame is
+/// not copied, but gets one owner more.
 pub(crate) fn copy_group(alloc: Global, rest: &[Entry]) -> Result<Vec<Entry>, AllocError>
     ensures { IfOk result (λ group. IsGroupAt rest.now 0 group.items) }
 {
-    let (group, _) = rest.split_at(group_len(rest));
-    copy_entries(alloc, group)
+    copy_entries(alloc, group_of(rest))
 }
 
-/// How many of the entries make up a group.
-fn group_len(entries: &[Entry]) -> usize
-    ensures within { result ≤ length entries.now }
-    ensures few { result ≤ MOST_OF_A_GROUP }
-    ensures some { 0 < length entries.now → 0 < result }
+/// The first of these entries, as many as one group has.
+fn group_of(rest: &[Entry]) -> &[Entry]
+    ensures { result.now ≡ take most_of_a_group rest.now }
 {
-    let (few, _) = entries.split_at(entries.len().min(MOST_OF_A_GROUP));
-    match few.iter().position(has_strings) {
-        Some(place) => place + 1,
-        None => few.len(),
-    }
-}
-
-/// Whether the entry is a call with strings, which may have a megabyte.
-fn has_strings(entry: &Entry) -> bool {
-    match entry {
-        Entry::Given(Input::Called(_, _, call)) => !call.call().strings().is_empty(),
-        _ => false,
+    if rest.len() > MOST_OF_A_GROUP {
+        &rest[..MOST_OF_A_GROUP]
+    } else {
+        rest
     }
 }
 

@@ -1,12 +1,13 @@
 //! What stands under the lock: the kernel with its books, and the boxes of the connections.
 ghost use Rattle.ipc_connection.specs.Asking.{command_of, version_asked};
-ghost use Rattle.std.specs.Prelude.{◌≡◌, ◌+◌, ◌*◌, ◌≤◌, IfSome, IfNone, length};
+ghost use Rattle.std.specs.Prelude.{◌≡◌, ◌+◌, ◌*◌, ◌≤◌, IfOk, IfSome, IfNone, length};
 ghost use Rattle.ipc_core.specs.Effects.{Gives};
 ghost use Rattle.ipc_core.specs.Outcomes.{made_by};
 ghost use Rattle.ipc_history.specs.Holding.{marked_to};
 ghost use Rattle.ipc_history.specs.Paired.{Paired};
 ghost use Rattle.ipc_history.specs.Threads.{is_live};
-ghost use Rattle.ipc_lock.specs.Acting.{ActsOn, AnswersStep, Asked, AsksOn, GivesSeat, HandsBack, MayLetGo};
+ghost use Rattle.ipc_lock.specs.Acting.{ActsOn, AnswersStep, Asked, AsksOn, GivesSeat, HandsBack};
+ghost use Rattle.ipc_lock.specs.Upkeeping.{LetsGo, first_upkeep};
 ghost use Rattle.ipc_lock.specs.Alarms.{Rests};
 ghost use Rattle.ipc_lock.specs.Boxes.{OnlyTakes};
 ghost use Rattle.ipc_lock.specs.Seats.{TakesNothing};
@@ -68,7 +69,10 @@ pub(crate) struct Inside<C: Ledger, T: Ledger, P: PenPort + Drop> {
 
 impl<C: Ledger, T: Ledger, P: PenPort + Drop> Inside<C, T, P> {
     /// Without boxes.
-    pub(crate) fn new(alloc: Global, locked: Locked<C, T>, limit: u64) -> Result<Self, AllocError> {
+    pub(crate) fn new(alloc: Global, locked: Locked<C, T>, limit: u64) -> Result<Self, AllocError>
+        ensures locked { IfOk result (λ inside. inside.locked ≡ locked) }
+        ensures upkeep { IfOk result (λ inside. inside.upkeep ≡ first_upkeep limit) }
+    {
         Ok(Inside {
             locked,
             boxes: Vec::new(alloc),
@@ -95,7 +99,8 @@ impl<C: Ledger, T: Ledger, P: PenPort + Drop> Inside<C, T, P> {
         seat: Option<CallSeat<C>>,
         command: Command,
     ) -> Answered<C, T>
-        ensures acts { ActsOn self.old.locked.kernel self.new.locked.kernel now seat command result.answer }
+        ensures acts { ActsOn self.old.upkeep self.new.upkeep self.old.locked.kernel self.new.locked.kernel now seat command
+            result.answer }
         ensures answers { AnswersStep seat command result.answer result.calls }
         ensures takes { GivesSeat result.answer result.takes }
         ensures back { HandsBack command result.answer result.back }
@@ -127,7 +132,7 @@ impl<C: Ledger, T: Ledger, P: PenPort + Drop> Inside<C, T, P> {
         request: Request,
         space: u64,
     ) -> (Told, Option<CallSeat<C>>)
-        ensures asks { AsksOn self.old.locked.kernel self.new.locked.kernel now seat
+        ensures asks { AsksOn self.old.upkeep self.new.upkeep self.old.locked.kernel self.new.locked.kernel now seat
             (version_asked request WireVersion.One) (command_of request space) result.0 }
         ensures asked { Asked result.0 request seat result.1 }
     {
@@ -144,6 +149,7 @@ impl<C: Ledger, T: Ledger, P: PenPort + Drop> Inside<C, T, P> {
     /// answers.
     fn tell(&mut self, place: usize, told: Told, takes: Option<TakeSeat<T>>)
         ensures locked { self.new.locked ≡ self.old.locked }
+        ensures upkeep { self.new.upkeep ≡ self.old.upkeep }
     {
         match told {
             Told::Opened(_, version) => {
@@ -156,9 +162,9 @@ impl<C: Ledger, T: Ledger, P: PenPort + Drop> Inside<C, T, P> {
         }
     }
 
-    /// Lets go of entries where it is time.
+    /// Lets go of entries exactly where that is due.
     fn let_go(&mut self)
-        ensures lets_go { MayLetGo self.old.locked.kernel self.new.locked.kernel }
+        ensures lets_go { LetsGo self.old.upkeep self.new.upkeep self.old.locked.kernel self.new.locked.kernel }
     {
         let marked = self.locked.marked();
         if self.upkeep.is_due(self.locked.held(), marked) {
@@ -299,6 +305,7 @@ impl<C: Ledger, T: Ledger, P: PenPort + Drop> Inside<C, T, P> {
     /// The seat's thread is told in this box from here on, first of all its WELCOME.
     fn welcome(&mut self, place: usize, seat: TakeSeat<T>, version: WireVersion)
         ensures locked { self.new.locked ≡ self.old.locked }
+        ensures upkeep { self.new.upkeep ≡ self.old.upkeep }
     {
         if let Some(owner) = self.owners.get_mut(seat.thread().number() as usize) {
             *owner = Some(place);
@@ -311,6 +318,7 @@ impl<C: Ledger, T: Ledger, P: PenPort + Drop> Inside<C, T, P> {
     /// Leaves what is told. A full or shut box, or one that is not there, drops it.
     pub(crate) fn post(&mut self, place: usize, told: Told)
         ensures locked { self.new.locked ≡ self.old.locked }
+        ensures upkeep { self.new.upkeep ≡ self.old.upkeep }
     {
         if let Some(post_box) = self.boxes.get_mut(place) {
             let _ = post_box.post(told);

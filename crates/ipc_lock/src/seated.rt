@@ -674,8 +674,8 @@ impl<C: Ledger, T: Ledger> Locked<C, T> {
         }
     }
 
-    /// Copies of the entries from this place of the history on, counted from 0, as many as one group has: at most 64, and none
-    /// behind a call with strings. No entry where the history has none there.
+    /// Copies of the entries from this place of the history on, counted from 0, as many as one group has: all of them, and
+    /// at most 256. No entry where the history has none there.
     ///
     /// # Errors
     ///

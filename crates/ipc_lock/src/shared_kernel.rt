@@ -414,8 +414,7 @@ impl<C: Ledger, T: Ledger, P: PenPort + Drop> SharedKernel<C, T, P> {
     }
 
     /// Waits for the entry of this place of the history, counted from 0, and answers copies of it and of those that
-    /// follow it: at most 64, and none behind a call with strings. No entry once the kernel was closed and has none
-    /// there.
+    /// follow it, at most 256. No entry once the kernel was closed and has none there.
     ///
     /// # Errors
     ///
@@ -437,6 +436,13 @@ impl<C: Ledger, T: Ledger, P: PenPort + Drop> SharedKernel<C, T, P> {
     /// strings. Until then all are held.
     pub fn mark<R: Wait>(&self, rt: &R, upto: usize) {
         self.inside(rt).mark(upto);
+    }
+
+    /// As [`SharedKernel::mark`], and answers how many entries stand at that place and behind it. So a trace takes the lock once for both.
+    pub fn mark_traced<R: Wait>(&self, rt: &R, upto: usize) -> usize {
+        let mut inside = self.inside(rt);
+        inside.mark(upto);
+        inside.entries().saturating_sub(upto)
     }
 
     /// How many entries memory holds, to say when it is near its limit.

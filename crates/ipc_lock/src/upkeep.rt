@@ -1,11 +1,15 @@
 //! When memory lets go of entries of the history.
+ghost use Rattle.std.specs.Prelude.{◌≡◌};
+ghost use Rattle.ipc_lock.specs.Upkeeping.{first_upkeep, is_due, noted, restarted};
+
 use ipc_core::Command;
+use ipc_words::limits::MAX_STRING_BYTES;
 
 /// So many entries are held before any is let go.
 const FEW_ENTRIES: usize = 4_096;
 
 /// So many bytes of strings come before any entry is let go, where the entries are few.
-const FEW_BYTES: usize = 8 * 1_048_576;
+const FEW_BYTES: usize = 8 * MAX_STRING_BYTES;
 
 /// What the greatest number of threads may have pledged, and a step may need, with room to spare.
 const NEAR_THE_LIMIT: usize = 16_384;
@@ -26,7 +30,9 @@ pub(crate) struct Upkeep {
 
 impl Upkeep {
     /// Nothing may be let go yet.
-    pub(crate) fn new(limit: u64) -> Upkeep {
+    pub(crate) fn new(limit: u64) -> Upkeep
+        ensures { result ≡ first_upkeep limit }
+    {
         Upkeep {
             reached: 0,
             next: FEW_ENTRIES,
@@ -36,20 +42,26 @@ impl Upkeep {
     }
 
     /// Counts the strings of a command.
-    pub(crate) fn note(&mut self, command: &Command) {
+    pub(crate) fn note(&mut self, command: &Command)
+        ensures { self.new ≡ noted command.now self.old }
+    {
         if let Command::Enter(_, call) = command {
             self.bytes = self.bytes.saturating_add(call.strings().size() as usize);
         }
     }
 
     /// Whether entries are to be let go now, where so many are held, and the history is marked up to a place.
-    pub(crate) fn is_due(&self, held: usize, marked: usize) -> bool {
+    pub(crate) fn is_due(&self, held: usize, marked: usize) -> bool
+        ensures { result ≡ is_due self.now held marked }
+    {
         let more = marked.saturating_sub(self.reached);
         held >= self.next || self.bytes >= FEW_BYTES || held >= self.near && more >= FEW_ENTRIES
     }
 
     /// Begins anew, where so many entries were left, and those before a place had their chance to go.
-    pub(crate) fn restart(&mut self, left: usize, reached: usize) {
+    pub(crate) fn restart(&mut self, left: usize, reached: usize)
+        ensures { self.new ≡ restarted left reached self.old }
+    {
         self.reached = reached;
         self.next = left.saturating_mul(2).max(FEW_ENTRIES);
         self.bytes = 0;

@@ -1,4 +1,4 @@
-use Rattle.std.proofs.Common.{rules, arith, ap, sym, ◌∙◌, ◌+◌}
+use Rattle.std.proofs.Common.{rules, arith, sym}
 use Rattle.ipc_lock.proofs.Counts.{taken_few}
 use Rattle.ipc_lock.proofs.Numbered.{is_next}
 use Rattle.ipc_lock.proofs.seated.Locked.take_seated.Goals as goal

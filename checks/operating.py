@@ -5,7 +5,7 @@ checks/operating.py PROGRAM         runs PROGRAM (l4d) in folders of its own
 
 Each case says what it typed and what came. The last line is `operating: N passed, M failed`; the exit status is 1 where one failed.
 """
-import os, resource, shutil, signal, socket, stat, struct, subprocess, sys, tempfile, time, traceback
+import os, re, resource, shutil, signal, socket, stat, struct, subprocess, sys, tempfile, threading, time, traceback
 
 from frames import ANY, frame, hello, ipc
 
@@ -14,6 +14,8 @@ PROGRAM = sys.argv[1]
 DESCRIPTORS, STRANGERS, SILENT = 64, 10_000, 1
 # One connection more than a path takes without --keep-open.
 MOST_CONNECTIONS = 65_536
+# With more entries than these before it a trace is far behind. A call to nobody makes two; so many processes make them.
+FAR_BEHIND, CALLERS = 524_288, 2
 # How many tasks a server may have that gets no further worker.
 TASKS = 12
 MODES = (("888", "--mode: octal, 0 to 777, got 888"), ("rw", "--mode: octal, 0 to 777, got rw"), ("1777", "--mode: octal, 0 to 777, got 1777"))
@@ -369,6 +371,52 @@ def traces():
         return "mode 0600; at the start, on a full device, and at a later write that fails, status 1"
 
 
+def call_nobody(path, number, count):
+    """A process of its own that calls a thread which is not there, so often."""
+    child = os.fork()
+    if child:
+        return child
+    status = 1
+    try:
+        caller, call = Client(path, number, seconds=120), ipc(77 << 32 | 1, 0, [])
+        status = 0 if all(caller.ask(call)[0] == 0x82 for _ in range(count)) else 2
+    finally:
+        os._exit(status)
+
+
+def lines_of(pipe, read):
+    """Adds what comes out of a pipe to a list until its end."""
+    while piece := os.read(pipe, 1 << 20):
+        read.append(piece)
+
+
+def slow_trace():
+    """A trace that nobody reads holds up no client; how far it is behind is told once; and when it is read it is whole."""
+    with tempfile.TemporaryDirectory() as folder:
+        fifo = f"{folder}/trace"
+        os.mkfifo(fifo)
+        pipe = os.open(fifo, os.O_RDONLY | os.O_NONBLOCK)
+        with Server("--trace", fifo, "--connections", str(CALLERS + 2)) as server:
+            begin = time.time()
+            callers = [call_nobody(server.path, 10 + it, FAR_BEHIND // 2 // CALLERS + 1_000) for it in range(CALLERS)]
+            assert [os.waitpid(it, 0)[1] for it in callers] == [0] * CALLERS
+            spent, calls = time.time() - begin, CALLERS * (FAR_BEHIND // 2 // CALLERS + 1_000)
+            pair_works((Client(server.path, 1), Client(server.path, 2)))
+            os.set_blocking(pipe, True)
+            read = []
+            reader = threading.Thread(target=lines_of, args=(pipe, read))
+            reader.start()
+            status, out, err = server.end(60)
+            reader.join()
+            os.close(pipe)
+            told = re.fullmatch(r"l4d: trace (\d+) entries behind\n", err)
+            assert (status, out) == (0, "closed\n") and told and int(told[1]) > FAR_BEHIND, (status, out, err)
+            trace = b"".join(read)
+            assert trace.startswith(b"l4trace 2\n") and trace.endswith(b"\n")
+            assert trace.count(b"\ncalled ") == calls + 2 and trace.count(b"\nfailed ") == calls, trace.count(b"\n")
+        return f"{calls} calls in {spent:.0f} s, {told[1]} entries behind, and then a trace of {trace.count(bytes([10]))} lines"
+
+
 def signals():
     """With SIGTERM and SIGINT blocked at the start, as the unit does, a signal ends the service and not the process."""
     for number in (signal.SIGTERM, signal.SIGINT):
@@ -440,7 +488,7 @@ def kept_open():
     return f"{MOST_CONNECTIONS} connections in {spent:.0f} s, and a pair and a new client work on"
 
 
-CASES = [words, paths, denied, guarded, probe, traces, log, signals, few_connections, kept_open, no_descriptor, few_tasks, strangers]
+CASES = [words, paths, denied, guarded, probe, traces, slow_trace, log, signals, few_connections, kept_open, no_descriptor, few_tasks, strangers]
 
 
 def main():

@@ -8,6 +8,7 @@ The stored cases of checks/scripts are taken but for `run` and `wire`, which hav
 page. Then come the options of each program: help, version, and words that are refused. With one growth refused a run may
 - do the same, where the program can do without;
 - do the same, but tell the first line alone of what it tells on standard error: there was no memory for the reason;
+- refuse one command of `talk` with `! K4`: what it printed before is as otherwise;
 - end with `no memory` on standard error and status 1, and what it printed is then a front of what it prints otherwise.
 Anything else is told, and the status is then 1. With --every N it refuses each N-th growth, of each case others. It needs a C compiler (cc). The last line
 is `N runs, M failed`."""
@@ -51,6 +52,9 @@ class Case:
         status, printed, told = there
         if (status, printed) == usual[:2] and told and usual[2].startswith(told) and told.count(b"\n") == 1 and told.endswith(b"\n"):
             return "without its reason", None
+        before, refused_line, _ = printed.partition(b"! K4 ")
+        if self.words[:1] == ["talk"] and (status, told) == (usual[0], usual[2]) and refused_line:
+            return "refused", None if usual[1].startswith(before) and printed.count(refused_line) == 1 else "it is not as otherwise"
         name = os.path.basename(self.program).encode()
         if status == 1 and told == name + b": no memory\n":
             return "ended", None if usual[1].startswith(printed) else "what is printed is no front of the usual"

@@ -3,6 +3,7 @@ ghost use Rattle.std.specs.Prelude.{◌≡◌, ◌<◌};
 
 use crate::host::Host;
 use crate::server::Server;
+use ipc_core::MAX_ENTRIES;
 use ipc_host::SocketPort;
 use ipc_ports::{Failures, PortWrite, WritePort};
 use ipc_trace::{PutFault, TraceWriter};
@@ -22,6 +23,9 @@ const BUFFER: usize = 65_536;
 
 /// How long the worker sleeps where no entry is left, in milliseconds. So entries that come one by one are written together.
 const PAUSE: u64 = 1;
+
+/// Where more entries than these wait for the trace, that is told: half of those that memory may hold.
+const FAR_BEHIND: usize = MAX_ENTRIES as usize / 2;
 
 /// Why a trace stopped, told as `l4d: trace TR1`.
 #[derive(Clone, Copy)]
@@ -56,6 +60,21 @@ impl From<PutFault> for TraceFault {
 pub struct Trace<P: PortWrite> {
     writer: TraceWriter<P>,
     count: usize,
+    // whether it was told that it is far behind, since no entry was left
+    is_told: bool,
+}
+
+/// That a trace is far behind, as it is told.
+#[derive(Clone, Copy)]
+struct Behind {
+    entries: usize,
+}
+
+impl fmt::Display for Behind {
+    fn fmt<W: fmt::Write>(&self, f: &mut fmt::Formatter<W>) -> fmt::Result {
+        let Behind { entries } = self;
+        write!(f, "l4d: trace {entries} entries behind")
+    }
 }
 
 /// The permissions of a trace that is made: its owner alone.
@@ -106,6 +125,7 @@ impl<P: PortWrite> Trace<P> {
         Trace {
             writer: TraceWriter::new(alloc, port),
             count: 0,
+            is_told: false,
         }
     }
 
@@ -115,13 +135,14 @@ impl<P: PortWrite> Trace<P> {
         self.writer.flush()
     }
 
-    /// Puts the entries of the history, as they come, until the kernel was closed and all are put, and notes how many stand. Where no
-    /// entry is left, all lines are handed on before it waits for the next one.
+    /// Puts the entries of the history, as they come, until the kernel was closed and all are put, and notes how many stand. Memory may
+    /// let go of a group of entries once it was put. Where no entry is left, all lines are handed on before it waits for the next one.
+    /// Where more than half as many wait as memory may hold, that is told on standard error, once until none was left.
     ///
     /// # Errors
     ///
     /// TR1, TR5: the trace has stopped there.
-    pub fn follow<C: Ledger, T: Ledger, R: Wait + Clock>(
+    pub fn follow<C: Ledger, T: Ledger, R: Wait + Clock + Eprint>(
         self,
         server: &Server<'_, C, T, SocketPort, R>,
         host: &Host,
@@ -133,7 +154,7 @@ impl<P: PortWrite> Trace<P> {
         for _ in server.rt.forever() {
             match trace.put_group(server) {
                 Ok(0) => return Ok(()),
-                Ok(_) => server.shared.mark(server.rt, trace.count),
+                Ok(_) => {}
                 Err(fault) => return Err(TraceFault::from(fault)),
             }
             if let Some(traced) = &host.traced {
@@ -144,7 +165,7 @@ impl<P: PortWrite> Trace<P> {
     }
 
     // Puts the entries that come next, and answers how many they are; none where the kernel was closed.
-    fn put_group<C: Ledger, T: Ledger, R: Wait + Clock>(
+    fn put_group<C: Ledger, T: Ledger, R: Wait + Clock + Eprint>(
         &mut self,
         server: &Server<'_, C, T, SocketPort, R>,
     ) -> Result<usize, PutFault> {
@@ -155,10 +176,24 @@ impl<P: PortWrite> Trace<P> {
             self.writer.put(entry)?;
         }
         self.count = self.count.saturating_add(group.len());
-        if self.count >= server.shared.entries(server.rt) {
+        let left = server.shared.mark_traced(server.rt, self.count);
+        self.tell_when_far_behind(server.rt, left);
+        if left == 0 {
             self.writer.flush()?;
             thread::sleep(server.rt, Duration::from_millis(PAUSE));
         }
         Ok(group.len())
+    }
+
+    // Says on standard error that so many entries wait, where they are many and it was not said since none was left.
+    fn tell_when_far_behind<R: Eprint>(&mut self, rt: &R, left: usize) {
+        if left > FAR_BEHIND && !self.is_told {
+            // where standard error fails the line is lost
+            let _ = rt.eprintln(&Behind { entries: left });
+            self.is_told = true;
+        }
+        if left == 0 {
+            self.is_told = false;
+        }
     }
 }

@@ -1,10 +1,12 @@
 use super::*;
-use crate::tests::{first, kernel, period};
-use ipc_history::{Call, CallFields, Entry, Output};
+use crate::tests::{
+    at, broke, call_of, enter, exreg, first, holds, open, period, roomy, same, take,
+};
+use ipc_history::{CallFields, Entry, Output};
 use ipc_items::{BufferList, StringList, Substring};
-use ipc_words::{Control, IpcError, MsgTag, Period, ThreadId};
+use ipc_words::{IpcError, MsgTag, Period, ThreadId};
 use std::alloc::Global;
-use std::test::Fail;
+use std::process::Abort;
 
 // What is done to a kernel whose threads stand in one space. Threads are named by their numbers; 0 is nilthread, ANY anythread.
 #[derive(Clone, Copy)]
@@ -46,122 +48,120 @@ fn thread(number: u32) -> ThreadId {
 }
 
 // How long a phase with a partner may wait.
-fn wait(partner: u32, micros: u16) -> Result<Period, Fail> {
+fn wait(rt: &impl Abort, partner: u32, micros: u16) -> Period {
     if partner == 0 {
-        Ok(Period::NEVER)
+        Period::NEVER
     } else {
-        period(micros)
+        period(rt, micros)
     }
 }
 
 // A call with neither words nor strings.
-fn plain(alloc: Global, to: u32, from: u32, micros: u16) -> Result<CallFields, Fail> {
-    Ok(CallFields {
+fn plain(rt: &impl Abort, alloc: Global, to: u32, from: u32, micros: u16) -> CallFields {
+    CallFields {
         to: thread(to),
         from: thread(from),
-        send_period: wait(to, micros)?,
-        receive_period: wait(from, micros)?,
+        send_period: wait(rt, to, micros),
+        receive_period: wait(rt, from, micros),
         tag: MsgTag::EMPTY,
         originator: ThreadId::NILTHREAD,
         words: Vec::new(alloc),
         strings: StringList::new(alloc),
         buffers: None,
-    })
+    }
 }
 
-fn with_word(mut fields: CallFields) -> Result<CallFields, Fail> {
-    if fields.to != ThreadId::NILTHREAD {
-        fields.words.push(5)?;
+// A call that sends a word, where it sends.
+fn with_word(rt: &impl Abort, alloc: Global, to: u32, from: u32, micros: u16) -> CallFields {
+    let mut fields = plain(rt, alloc, to, from, micros);
+    if to != 0 {
+        fields.words.push(5).expect(rt, "memory");
         fields.tag = MsgTag::from_word(0x1);
     }
-    Ok(fields)
+    fields
 }
 
-fn with_string(alloc: Global, mut fields: CallFields) -> Result<CallFields, Fail> {
-    let _ = fields.strings.push(alloc, b"abc")?;
+fn showing(rt: &impl Abort, alloc: Global, to: u32, originator: u32) -> CallFields {
+    let mut fields = with_word(rt, alloc, to, 0, 0);
+    fields.tag = MsgTag::from_word(0x1001);
+    fields.originator = thread(originator);
+    fields
+}
+
+fn with_string(rt: &impl Abort, alloc: Global, to: u32) -> CallFields {
+    let mut fields = plain(rt, alloc, to, 0, 0);
+    let _ = fields.strings.push(alloc, b"abc").expect(rt, "memory");
     fields.tag = MsgTag::from_word(0x80);
-    Ok(fields)
+    fields
 }
 
-fn with_buffer(alloc: Global, mut fields: CallFields) -> Result<CallFields, Fail> {
+fn with_buffer(rt: &impl Abort, alloc: Global) -> CallFields {
+    let mut fields = plain(rt, alloc, 0, ANY, 0);
     let mut buffers = BufferList::new(alloc);
-    let _ = buffers.push_buffer(
-        alloc,
-        &[Substring {
-            length: 3,
-            pointer: 0x1000,
-        }],
-    )?;
+    let part = Substring {
+        length: 3,
+        pointer: 0x1000,
+    };
+    let _ = buffers.push_buffer(alloc, &[part]).expect(rt, "memory");
     fields.buffers = Some(buffers);
-    Ok(fields)
+    fields
 }
 
-// The caller and the call of a step that enters one.
-fn call_of(alloc: Global, step: Step) -> Result<Option<(u32, CallFields)>, Fail> {
-    Ok(match step {
-        Step::Asks(caller, to, from) => Some((caller, with_word(plain(alloc, to, from, 0)?)?)),
+fn enter_call(rt: &impl Abort, kernel: &mut Kernel, caller: u32, fields: CallFields) {
+    // the outcome of its last call makes no thread busy
+    let _ = take(kernel, thread(caller));
+    same(rt, enter(kernel, thread(caller), call_of(rt, fields)), None);
+}
+
+fn take_step(rt: &impl Abort, alloc: Global, kernel: &mut Kernel, step: Step) {
+    match step {
+        Step::Asks(caller, to, from) => {
+            enter_call(rt, kernel, caller, with_word(rt, alloc, to, from, 0));
+        }
         Step::Timed(caller, to, from, micros) => {
-            Some((caller, with_word(plain(alloc, to, from, micros)?)?))
+            enter_call(rt, kernel, caller, with_word(rt, alloc, to, from, micros));
         }
         Step::Shows(caller, to, originator) => {
-            let mut fields = with_word(plain(alloc, to, 0, 0)?)?;
-            fields.tag = MsgTag::from_word(0x1001);
-            fields.originator = thread(originator);
-            Some((caller, fields))
+            enter_call(rt, kernel, caller, showing(rt, alloc, to, originator));
         }
-        Step::Sends(caller, to) => Some((caller, with_string(alloc, plain(alloc, to, 0, 0)?)?)),
-        Step::Takes(caller) => Some((caller, with_buffer(alloc, plain(alloc, 0, ANY, 0)?)?)),
-        Step::Stops(_, _) | Step::Breaks(_) | Step::Reads(_) => None,
-    })
-}
-
-fn enter(kernel: &mut Kernel, caller: u32, fields: CallFields) -> Result<(), Fail> {
-    let call = Call::new(fields).ok_or("in normal form")?;
-    // the outcome of its last call makes no thread busy
-    let _ = kernel.take(thread(caller));
-    let _ = kernel.enter(thread(caller), call).ok().ok_or("a call")?;
-    Ok(())
-}
-
-fn take_step(alloc: Global, kernel: &mut Kernel, step: Step) -> Result<(), Fail> {
-    if let Some((caller, fields)) = call_of(alloc, step)? {
-        return enter(kernel, caller, fields);
-    }
-    match step {
+        Step::Sends(caller, to) => {
+            enter_call(rt, kernel, caller, with_string(rt, alloc, to));
+        }
+        Step::Takes(caller) => enter_call(rt, kernel, caller, with_buffer(rt, alloc)),
         Step::Stops(caller, target) => {
-            let both = Control::from_word(6);
-            let _ = kernel
-                .exreg(thread(caller), thread(target), both)
-                .ok()
-                .ok_or("a stop")?;
+            // S and R
+            holds(rt, exreg(kernel, thread(caller), thread(target), 6).is_ok());
         }
-        Step::Breaks(number) => kernel.broke(thread(number)).ok().ok_or("a break")?,
-        Step::Reads(moment) => kernel.at(moment),
-        _ => {}
+        Step::Breaks(number) => holds(rt, broke(kernel, thread(number)).is_ok()),
+        Step::Reads(moment) => at(kernel, moment),
     }
-    Ok(())
 }
 
-pub(crate) fn outputs(alloc: Global, kernel: &Kernel) -> Result<Vec<Output>, Fail> {
+pub(crate) fn outputs(rt: &impl Abort, alloc: Global, kernel: &Kernel) -> Vec<Output> {
     let mut outputs = Vec::new(alloc);
     for entry in kernel.entries_from(kernel.whole_from()) {
         if let Entry::Written(output) = entry {
-            outputs.push(*output)?;
+            outputs.push(*output).expect(rt, "memory");
         }
     }
-    Ok(outputs)
+    outputs
 }
 
 // The outputs that steps bring to a kernel with the threads 1 to 6.
-fn run(alloc: Global, steps: &[Step]) -> Result<Vec<Output>, Fail> {
-    let mut kernel = kernel(alloc, MAX_ENTRIES, MAX_CALLS)?;
+fn run(rt: &impl Abort, alloc: Global, steps: &[Step]) -> Vec<Output> {
+    let mut kernel = roomy(rt, alloc);
     for number in 1..=6_u64 {
-        let _ = kernel.open(number, 1).ok().ok_or("a thread")?;
+        holds(rt, open(&mut kernel, number, 1).is_ok());
     }
     for step in steps {
-        take_step(alloc, &mut kernel, *step)?;
+        take_step(rt, alloc, &mut kernel, *step);
     }
-    outputs(alloc, &kernel)
+    outputs(rt, alloc, &kernel)
+}
+
+fn assert_row(rt: &impl Abort, alloc: Global, row: Row<'_>) {
+    let outputs = run(rt, alloc, row.steps);
+    assert_eq!(*rt; outputs.as_slice(), row.outputs, "{}", row.name);
 }
 
 pub(crate) fn failed(number: u64, code: u64) -> Output {
@@ -169,7 +169,7 @@ pub(crate) fn failed(number: u64, code: u64) -> Output {
 }
 
 #[test]
-fn outputs_come_one_of_the_other(rt: HostRuntime) -> Result<(), Fail> {
+fn outputs_come_one_of_the_other(rt: HostRuntime) {
     let rows = [
         Row {
             name: "each that was received lets the next one in",
@@ -227,14 +227,12 @@ fn outputs_come_one_of_the_other(rt: HostRuntime) -> Result<(), Fail> {
         },
     ];
     for row in rows {
-        let outputs = run(rt.alloc(), row.steps)?;
-        assert_eq!(rt; outputs.as_slice(), row.outputs, "{}", row.name);
+        assert_row(&rt, rt.alloc(), row);
     }
-    Ok(())
 }
 
 #[test]
-fn calls_fail_together_the_least_first(rt: HostRuntime) -> Result<(), Fail> {
+fn calls_fail_together_the_least_first(rt: HostRuntime) {
     let rows = [
         Row {
             name: "senders and watchers of a thread that ends",
@@ -296,8 +294,6 @@ fn calls_fail_together_the_least_first(rt: HostRuntime) -> Result<(), Fail> {
         },
     ];
     for row in rows {
-        let outputs = run(rt.alloc(), row.steps)?;
-        assert_eq!(rt; outputs.as_slice(), row.outputs, "{}", row.name);
+        assert_row(&rt, rt.alloc(), row);
     }
-    Ok(())
 }

@@ -7,7 +7,7 @@ use ipc_frame::{Frame, WireVersion, encode};
 use ipc_history::{Call, CallFields};
 use ipc_items::{BufferList, StringList, Substring};
 use ipc_lines::{entry_line, outcome_line};
-use ipc_pen::{Patience, PenPort, Turn};
+use ipc_pen::{Patience, Pen, PenPort, Turn};
 use ipc_ports::PortFault;
 use ipc_words::limits::{MAX_CALLS, MAX_ENTRIES};
 use ipc_words::{Control, MsgTag, Period, ThreadId};
@@ -17,11 +17,13 @@ use std::marker::Brand;
 use std::process::Abort;
 use std::sync::Wait;
 use std::sync::ledger::{Blank, Ledger};
-use std::test::Fail;
 use std::thread;
 use std::thread::Threads;
 
-// Fails the test where the two differ. A call of it is proved much faster than the macro in its place.
+// A test is a row of calls, most of them of the small functions here. They say nothing of what they give, so their callers carry no
+// facts, and they fail the test themselves, so no exit opens in their callers.
+
+// Fails the test where the two differ.
 fn same<T: PartialEq + Debug + Drop>(rt: &impl Abort, left: T, right: T) {
     assert_eq!(*rt; left, right);
 }
@@ -41,168 +43,240 @@ fn first(number: u32) -> ThreadId {
     ThreadId::from_word(u64::from(number) * 0x1_0000_0000 + 1)
 }
 
-fn period(word: u16) -> Result<Period, Fail> {
-    Ok(Period::from_word(word).ok_or("a period")?)
+fn period(rt: &impl Abort, word: u16) -> Period {
+    Period::from_word(word).expect(rt, "a period")
 }
 
-// A receive phase alone, with a period, and a buffer string of so many bytes where there are any.
-fn receives(alloc: Global, from: ThreadId, receive_period: u16, length: u64) -> Result<Call, Fail> {
-    let mut buffers = None;
-    if length > 0 {
-        let mut list = BufferList::new(alloc);
-        list.push_buffer(
-            alloc,
-            &[Substring {
-                length,
-                pointer: 0x10,
-            }],
-        )?;
-        buffers = Some(list);
-    }
-    let call = Call::new(CallFields {
-        to: ThreadId::NILTHREAD,
+// A call between these two, with nothing in it.
+fn plain(
+    rt: &impl Abort,
+    alloc: Global,
+    to: ThreadId,
+    from: ThreadId,
+    send_period: u16,
+    receive_period: u16,
+) -> CallFields {
+    CallFields {
+        to,
         from,
-        send_period: period(0)?,
-        receive_period: period(receive_period)?,
+        send_period: period(rt, send_period),
+        receive_period: period(rt, receive_period),
         tag: MsgTag::EMPTY,
         originator: ThreadId::NILTHREAD,
         words: Vec::new(alloc),
         strings: StringList::new(alloc),
-        buffers,
-    });
-    Ok(call.ok_or("a receive")?)
+        buffers: None,
+    }
+}
+
+fn call_of(rt: &impl Abort, fields: CallFields) -> Call {
+    Call::new(fields).expect(rt, "a call in normal form")
+}
+
+// A buffer string of so many bytes.
+fn buffer(rt: &impl Abort, alloc: Global, length: u64) -> BufferList {
+    let mut list = BufferList::new(alloc);
+    let part = Substring {
+        length,
+        pointer: 0x10,
+    };
+    holds(rt, list.push_buffer(alloc, &[part]).is_ok());
+    list
+}
+
+// A receive phase alone, with a period.
+fn receives(rt: &impl Abort, alloc: Global, from: ThreadId, receive_period: u16) -> Call {
+    let fields = plain(rt, alloc, ThreadId::NILTHREAD, from, 0, receive_period);
+    call_of(rt, fields)
+}
+
+// A receive phase alone, with a buffer string of so many bytes.
+fn receives_string(rt: &impl Abort, alloc: Global, length: u64) -> Call {
+    let mut fields = plain(rt, alloc, ThreadId::NILTHREAD, ThreadId::ANYTHREAD, 0, 0);
+    fields.buffers = Some(buffer(rt, alloc, length));
+    call_of(rt, fields)
 }
 
 // A send phase alone, of one word.
-fn sends(alloc: Global, to: ThreadId, send_period: u16, word: u64) -> Result<Call, Fail> {
-    let mut words = Vec::new(alloc);
-    words.push(word)?;
-    let call = Call::new(CallFields {
-        to,
-        from: ThreadId::NILTHREAD,
-        send_period: period(send_period)?,
-        receive_period: period(0)?,
-        tag: MsgTag::from_word(1),
-        originator: ThreadId::NILTHREAD,
-        words,
-        strings: StringList::new(alloc),
-        buffers: None,
-    });
-    Ok(call.ok_or("a send")?)
+fn sends(rt: &impl Abort, alloc: Global, to: ThreadId, send_period: u16, word: u64) -> Call {
+    let mut fields = plain(rt, alloc, to, ThreadId::NILTHREAD, send_period, 0);
+    fields.tag = MsgTag::from_word(1);
+    fields.words.push(word).expect(rt, "memory");
+    call_of(rt, fields)
+}
+
+// One string of so many bytes.
+fn string(rt: &impl Abort, alloc: Global, length: usize) -> StringList {
+    let mut strings = StringList::new(alloc);
+    let bytes = vec![in alloc; 0xa5u8; length].expect(rt, "memory");
+    holds(rt, strings.push(alloc, &bytes).is_ok());
+    strings
 }
 
 // A send phase alone, of one string of so many bytes.
-fn sends_string(alloc: Global, to: ThreadId, length: usize) -> Result<Call, Fail> {
-    let mut strings = StringList::new(alloc);
-    let string = vec![in alloc; 0xa5u8; length]?;
-    strings.push(alloc, &string)?;
-    let call = Call::new(CallFields {
-        to,
-        from: ThreadId::NILTHREAD,
-        send_period: period(0)?,
-        receive_period: period(0)?,
-        tag: MsgTag::from_word(0x80),
-        originator: ThreadId::NILTHREAD,
-        words: Vec::new(alloc),
-        strings,
-        buffers: None,
-    });
-    Ok(call.ok_or("a send of a string")?)
+fn sends_string(rt: &impl Abort, alloc: Global, to: ThreadId, length: usize) -> Call {
+    let mut fields = plain(rt, alloc, to, ThreadId::NILTHREAD, 0, 0);
+    fields.tag = MsgTag::from_word(0x80);
+    fields.strings = string(rt, alloc, length);
+    call_of(rt, fields)
 }
 
-// One of a test's threads, with its seats.
+// A kernel under its lock, with so much room.
+fn shared<C: Ledger, T: Ledger, R: Abort>(
+    rt: &R,
+    alloc: Global,
+    limits: Limits,
+    calls: Blank,
+    takes: Blank,
+) -> SharedKernel<C, T, SlowPort>
+    requires calls { (calls.name ≡ C.name) × (calls.parts ≡ C.parts) × (calls.parts ≡ 2 ^ 63) }
+    requires takes { (takes.name ≡ T.name) × (takes.parts ≡ T.parts) × (takes.parts ≡ 2 ^ 63) }
+{
+    SharedKernel::new(alloc, limits, calls, takes).expect(rt, "a kernel")
+}
+
+// A step at a moment, by a seat or by none.
+fn submit<C: Ledger, T: Ledger, R: Wait>(
+    rt: &R,
+    kernel: &SharedKernel<C, T, SlowPort>,
+    now: u64,
+    seat: Option<CallSeat<C>>,
+    command: Command,
+) -> Answered<C, T> {
+    kernel.submit(rt, now, seat, command)
+}
+
+// What is waited for, where it comes.
+fn outcome<C: Ledger, T: Ledger, R: Wait>(
+    rt: &R,
+    kernel: &SharedKernel<C, T, SlowPort>,
+    takes: &mut TakeSeat<T>,
+) -> Option<Taken<T>> {
+    kernel.wait_outcome(rt, takes)
+}
+
+fn opened(answer: &Answer) -> Option<ThreadId> {
+    match answer {
+        Answer::Opened(thread) => Some(*thread),
+        _ => None,
+    }
+}
+
+fn entered(answer: &Answer) -> Option<u64> {
+    match answer {
+        Answer::Entered(number) => Some(*number),
+        _ => None,
+    }
+}
+
+fn refused(answer: &Answer) -> Option<Refusal> {
+    match answer {
+        Answer::Refused(refusal) => Some(*refusal),
+        _ => None,
+    }
+}
+
+// Another answer in a word.
+fn word_of(answer: &Answer) -> &'static str {
+    match answer {
+        Answer::Advanced(Advance::Moved) => "moved",
+        Answer::Advanced(Advance::Idle) => "idle",
+        Answer::Exchanged(_) => "exchanged",
+        Answer::Done => "done",
+        Answer::Refused(Refusal::NoThread) => "not there",
+        _ => "another answer",
+    }
+}
+
+// A step by no seat, and its answer in a word.
+fn said<C: Ledger, T: Ledger, R: Wait>(
+    kernel: &SharedKernel<C, T, SlowPort>,
+    rt: &R,
+    now: u64,
+    command: Command,
+) -> &'static str {
+    let answered = submit(rt, kernel, now, None, command);
+    word_of(answered.answer())
+}
+
+// The line of an outcome that was taken.
+fn line_of<T: Ledger>(rt: &impl Abort, alloc: Global, taken: Taken<T>) -> String {
+    outcome_line(alloc, &taken.into_outcome()).expect(rt, "memory")
+}
+
+// One of a test's threads, with its seats. Each of its steps lays its seat back.
 #[derive(Drop)]
 struct Party<C: Ledger, T: Ledger> {
     thread: ThreadId,
-    calls: CallSeat<C>,
+    calls: Option<CallSeat<C>>,
     takes: TakeSeat<T>,
 }
 
 impl<C: Ledger, T: Ledger> Party<C, T> {
     // Opens the thread of a number.
-    fn open<R: Wait>(
+    fn open<R: Wait + Abort>(rt: &R, kernel: &SharedKernel<C, T, SlowPort>, number: u64) -> Self {
+        let answered = submit(rt, kernel, 0, None, Command::Open { number, space: 1 });
+        let (answer, calls, takes) = answered.into_parts();
+        holds(rt, calls.is_some());
+        Party {
+            thread: opened(&answer).expect(rt, "an open"),
+            calls,
+            takes: takes.expect(rt, "the seat of its outcomes"),
+        }
+    }
+
+    // How many calls it made, by its seat.
+    fn made<R: Abort>(&self, rt: &R) -> u64 {
+        self.calls
+            .as_ref()
+            .expect(rt, "the seat of its calls")
+            .made()
+    }
+
+    // Enters a call at a moment.
+    fn submit_call<R: Wait>(
+        &mut self,
         rt: &R,
         kernel: &SharedKernel<C, T, SlowPort>,
-        number: u64,
-    ) -> Result<Self, Fail> {
-        let open = Command::Open { number, space: 1 };
-        let (answer, calls, takes) = kernel.submit(rt, 0, None, open).into_parts();
-        let Answer::Opened(thread) = answer else {
-            return Err(Fail::from("an open"));
-        };
-        let Some(calls) = calls else {
-            return Err(Fail::from("the seat of its calls"));
-        };
-        let Some(takes) = takes else {
-            return Err(Fail::from("the seat of its outcomes"));
-        };
-        Ok(Party {
-            thread,
-            calls,
-            takes,
-        })
+        now: u64,
+        call: Call,
+    ) -> Answered<C, T> {
+        let seat = self.calls.take();
+        submit(rt, kernel, now, seat, Command::Enter(self.thread, call))
     }
 
     // Enters a call at a moment, which has this number.
     fn enter<R: Wait + Abort>(
-        self,
+        &mut self,
         rt: &R,
         kernel: &SharedKernel<C, T, SlowPort>,
         now: u64,
         call: Call,
         number: u64,
-    ) -> Result<Self, Fail> {
-        let Party {
-            thread,
-            calls,
-            takes,
-        } = self;
-        let enter = Command::Enter(thread, call);
-        let (answer, calls, opened) = kernel.submit(rt, now, Some(calls), enter).into_parts();
-        let Answer::Entered(entered) = answer else {
-            return Err(Fail::from("an entered call"));
-        };
-        let Some(calls) = calls else {
-            return Err(Fail::from("the seat of an entered call"));
-        };
-        same(rt, entered, number);
-        same(rt, opened.is_none(), true);
-        Ok(Party {
-            thread,
-            calls,
-            takes,
-        })
+    ) {
+        let answered = self.submit_call(rt, kernel, now, call);
+        let (answer, calls, takes) = answered.into_parts();
+        self.calls = calls;
+        same(rt, entered(&answer), Some(number));
+        holds(rt, self.calls.is_some());
+        holds(rt, takes.is_none());
     }
 
     // Enters a call that is refused so, and hands the call back; the seat is as it was.
     fn is_refused<R: Wait + Abort>(
-        self,
+        &mut self,
         rt: &R,
         kernel: &SharedKernel<C, T, SlowPort>,
         call: Call,
         refusal: Refusal,
-    ) -> Result<Self, Fail> {
-        let Party {
-            thread,
-            calls,
-            takes,
-        } = self;
-        let made = calls.made();
-        let enter = Command::Enter(thread, call);
-        let answered = kernel.submit(rt, 0, Some(calls), enter);
-        let is_refused = matches!(answered.answer(), Answer::Refused(why) if *why == refusal);
-        same(rt, is_refused, true);
+    ) {
+        let made = self.made(rt);
+        let answered = self.submit_call(rt, kernel, 0, call);
+        same(rt, refused(answered.answer()), Some(refusal));
         let (calls, back) = answered.into_call();
-        let Some(calls) = calls else {
-            return Err(Fail::from("the seat of a refused call"));
-        };
-        same(rt, back.is_some(), true);
-        same(rt, calls.made(), made);
-        Ok(Party {
-            thread,
-            calls,
-            takes,
-        })
+        self.calls = calls;
+        holds(rt, back.is_some());
+        same(rt, self.made(rt), made);
     }
 
     // Waits for the outcome of its last call, which is told so.
@@ -212,16 +286,47 @@ impl<C: Ledger, T: Ledger> Party<C, T> {
         alloc: Global,
         kernel: &SharedKernel<C, T, SlowPort>,
         text: &str,
-    ) -> Result<(), Fail> {
-        let taken = kernel
-            .wait_outcome(rt, &mut self.takes)
-            .ok_or("an outcome")?;
+    ) {
+        let taken = outcome(rt, kernel, &mut self.takes).expect(rt, "an outcome");
         same(rt, taken.thread(), self.thread);
         same(rt, taken.amount(), self.takes.taken());
-        let line = outcome_line(alloc, &taken.into_outcome())?;
+        let line = line_of(rt, alloc, taken);
         same(rt, line.as_str(), text);
-        Ok(())
     }
+
+    // Nothing comes any more.
+    fn is_told_nothing<R: Wait + Abort>(&mut self, rt: &R, kernel: &SharedKernel<C, T, SlowPort>) {
+        holds(rt, outcome(rt, kernel, &mut self.takes).is_none());
+    }
+
+    // Makes a call and waits until it is over; the first word of its outcome, which is its own.
+    fn make_call<R: Wait + Abort>(
+        &mut self,
+        rt: &R,
+        kernel: &SharedKernel<C, T, SlowPort>,
+        call: Call,
+    ) -> Option<u64> {
+        let answered = self.submit_call(rt, kernel, 0, call);
+        let (answer, calls, _) = answered.into_parts();
+        self.calls = calls;
+        let number = entered(&answer).expect(rt, "an entered call");
+        let taken = outcome(rt, kernel, &mut self.takes).expect(rt, "an outcome");
+        same(rt, taken.thread(), self.thread);
+        same(rt, taken.amount(), self.made(rt));
+        let outcome = taken.into_outcome();
+        same(rt, outcome.call, number);
+        outcome.words.first().copied()
+    }
+}
+
+// The line of a place of the history.
+fn line_at<C: Ledger, T: Ledger, R: Wait + Abort>(
+    rt: &R,
+    kernel: &SharedKernel<C, T, SlowPort>,
+    index: usize,
+) -> String {
+    let line = kernel.wait_line(rt, index).expect(rt, "a line or none");
+    line.expect(rt, "a line")
 }
 
 // The history from its first entry on is these lines, and no more.
@@ -229,69 +334,97 @@ fn assert_lines<C: Ledger, T: Ledger, R: Wait + Abort>(
     rt: &R,
     kernel: &SharedKernel<C, T, SlowPort>,
     lines: &[&str],
-) -> Result<(), Fail> {
+) {
     same(rt, kernel.entries(rt), lines.len());
     let mut index = 0usize;
     for line in lines {
-        let told = kernel.wait_line(rt, index)?.ok_or("a line")?;
+        let told = line_at(rt, kernel, index);
         same(rt, told.as_str(), *line);
         index = index.saturating_add(1);
     }
-    same(rt, kernel.wait_entries(rt, 0)?.len(), lines.len());
+    let group = kernel.wait_entries(rt, 0).expect(rt, "the entries");
+    same(rt, group.len(), lines.len());
     kernel.close(rt);
-    holds(rt, kernel.wait_line(rt, index)?.is_none());
-    holds(rt, kernel.wait_entries(rt, index)?.is_empty());
-    Ok(())
+    let line = kernel.wait_line(rt, index).expect(rt, "a line or none");
+    holds(rt, line.is_none());
+    let group = kernel.wait_entries(rt, index).expect(rt, "no entries");
+    holds(rt, group.is_empty());
 }
 
 #[test]
-fn a_meeting_by_the_seated_calls(rt: HostRuntime) -> Result<(), Fail> {
-    seated_meeting::<Brand, Brand, _>(&rt, rt.alloc(), Blank::new(1 << 63), Blank::new(1 << 63))
+fn a_meeting_by_the_seated_calls(rt: HostRuntime) {
+    seated_meeting::<Brand, Brand, _>(&rt, rt.alloc(), Blank::new(1 << 63), Blank::new(1 << 63));
 }
 
-fn seated_meeting<C: Ledger, T: Ledger, R: Abort>(
-    rt: &R,
-    alloc: Global,
-    calls: Blank,
-    takes: Blank,
-) -> Result<(), Fail>
+fn seated_meeting<C: Ledger, T: Ledger, R: Abort>(rt: &R, alloc: Global, calls: Blank, takes: Blank)
     requires calls { (calls.name ≡ C.name) × (calls.parts ≡ C.parts) × (calls.parts ≡ 2 ^ 63) }
     requires takes { (takes.name ≡ T.name) × (takes.parts ≡ T.parts) × (takes.parts ≡ 2 ^ 63) }
 {
-    let mut locked = Locked::<C, T>::new(alloc, ROOM, calls, takes)
-        .ok()
-        .ok_or("a kernel")?;
-    let (one, mut calls_of_one, mut takes_of_one) = locked.open_seated(1, 1).ok().ok_or("an open")?;
-    let (_, mut calls_of_two, _) = locked.open_seated(2, 1).ok().ok_or("an open")?;
-    let receive = receives(alloc, ThreadId::ANYTHREAD, 0, 0)?;
-    let entered = locked.enter_seated(&mut calls_of_one, receive).ok();
-    same(rt, entered, Some(1));
-    let send = sends(alloc, one, 0, 7)?;
-    let entered = locked.enter_seated(&mut calls_of_two, send).ok();
-    same(rt, entered, Some(2));
-    let taken = locked.take_seated(&mut takes_of_one).ok_or("an outcome")?;
+    let mut locked = Locked::<C, T>::new(alloc, ROOM, calls, takes).expect(rt, "a kernel");
+    meet_in_seats(rt, alloc, &mut locked);
+    let ended = entry_at(rt, alloc, &locked, 5);
+    same(rt, ended.as_str(), "ended 2 1");
+    let none = locked.entry(alloc, 6).expect(rt, "no entry");
+    holds(rt, none.is_none());
+}
+
+fn meet_in_seats<C: Ledger, T: Ledger, R: Abort>(rt: &R, alloc: Global, locked: &mut Locked<C, T>) {
+    let (one, mut calls_of_one, mut takes_of_one) = open_seats(rt, locked, 1);
+    let (_, mut calls_of_two, _) = open_seats(rt, locked, 2);
+    let receive = receives(rt, alloc, ThreadId::ANYTHREAD, 0);
+    enter_by(rt, locked, &mut calls_of_one, receive, 1);
+    let send = sends(rt, alloc, one, 0, 7);
+    enter_by(rt, locked, &mut calls_of_two, send, 2);
+    let taken = take_by(locked, &mut takes_of_one).expect(rt, "an outcome");
     same(rt, taken.thread(), one);
-    let line = outcome_line(alloc, &taken.into_outcome())?;
+    let line = line_of(rt, alloc, taken);
     same(rt, line.as_str(), "1 0x1 2.1 nil 0x0 0x7 -");
-    holds(rt, locked.take_seated(&mut takes_of_one).is_none());
-    same(
-        rt,
-        (
-            calls_of_one.made(),
-            calls_of_two.made(),
-            takes_of_one.taken(),
-        ),
-        (1, 1, 1),
-    );
-    let ended = locked.entry(alloc, 5)?.ok_or("an entry")?;
-    same(rt, entry_line(alloc, &ended)?.as_str(), "ended 2 1");
-    holds(rt, locked.entry(alloc, 6)?.is_none());
-    Ok(())
+    holds(rt, take_by(locked, &mut takes_of_one).is_none());
+    same(rt, calls_of_one.made(), 1);
+    same(rt, calls_of_two.made(), 1);
+    same(rt, takes_of_one.taken(), 1);
+}
+
+fn open_seats<C: Ledger, T: Ledger, R: Abort>(
+    rt: &R,
+    locked: &mut Locked<C, T>,
+    number: u64,
+) -> (ThreadId, CallSeat<C>, TakeSeat<T>) {
+    locked.open_seated(number, 1).expect(rt, "an open")
+}
+
+// Enters a call by a seat, which has this number.
+fn enter_by<C: Ledger, T: Ledger, R: Abort>(
+    rt: &R,
+    locked: &mut Locked<C, T>,
+    seat: &mut CallSeat<C>,
+    call: Call,
+    number: u64,
+) {
+    same(rt, locked.enter_seated(seat, call).ok(), Some(number));
+}
+
+fn take_by<C: Ledger, T: Ledger>(
+    locked: &mut Locked<C, T>,
+    seat: &mut TakeSeat<T>,
+) -> Option<Taken<T>> {
+    locked.take_seated(seat)
+}
+
+// The line of the entry of a place.
+fn entry_at<C: Ledger, T: Ledger, R: Abort>(
+    rt: &R,
+    alloc: Global,
+    locked: &Locked<C, T>,
+    index: usize,
+) -> String {
+    let entry = locked.entry(alloc, index).expect(rt, "an entry or none");
+    entry_line(alloc, &entry.expect(rt, "an entry")).expect(rt, "memory")
 }
 
 #[test]
-fn a_meeting_by_submit(rt: HostRuntime) -> Result<(), Fail> {
-    submitted_meeting::<Brand, Brand, _>(&rt, rt.alloc(), Blank::new(1 << 63), Blank::new(1 << 63))
+fn a_meeting_by_submit(rt: HostRuntime) {
+    submitted_meeting::<Brand, Brand, _>(&rt, rt.alloc(), Blank::new(1 << 63), Blank::new(1 << 63));
 }
 
 fn submitted_meeting<C: Ledger, T: Ledger, R: Wait + Abort>(
@@ -299,32 +432,15 @@ fn submitted_meeting<C: Ledger, T: Ledger, R: Wait + Abort>(
     alloc: Global,
     calls: Blank,
     takes: Blank,
-) -> Result<(), Fail>
+)
     requires calls { (calls.name ≡ C.name) × (calls.parts ≡ C.parts) × (calls.parts ≡ 2 ^ 63) }
     requires takes { (takes.name ≡ T.name) × (takes.parts ≡ T.parts) × (takes.parts ≡ 2 ^ 63) }
 {
-    let kernel = &SharedKernel::<C, T, SlowPort>::new(alloc, ROOM, calls, takes)
-        .ok()
-        .ok_or("a kernel")?;
-    let one = Party::open(rt, kernel, 1)?;
-    let two = Party::open(rt, kernel, 2)?;
-    let mut one = one.enter(
-        rt,
-        kernel,
-        0,
-        receives(alloc, ThreadId::ANYTHREAD, 0, 0)?,
-        1,
-    )?;
-    let mut two = two.enter(rt, kernel, 0, sends(alloc, first(1), 0, 7)?, 2)?;
-    one.is_told(rt, alloc, kernel, "1 0x1 2.1 nil 0x0 0x7 -")?;
-    two.is_told(rt, alloc, kernel, "2 0x0 nil nil 0x0 - -")?;
-    same(rt, (one.calls.made(), two.calls.made()), (1, 1));
-    // nothing is to take twice, and who waits for a thread that has ended is told so
-    kernel.submit(rt, 0, None, Command::Broke(first(1)));
-    holds(rt, kernel.wait_outcome(rt, &mut one.takes).is_none());
+    let kernel = shared::<C, T, R>(rt, alloc, ROOM, calls, takes);
+    meet(rt, alloc, &kernel);
     assert_lines(
         rt,
-        kernel,
+        &kernel,
         &[
             "opened 1.1 1",
             "opened 2.1 1",
@@ -334,12 +450,32 @@ fn submitted_meeting<C: Ledger, T: Ledger, R: Wait + Abort>(
             "ended 2 1",
             "broke 1.1",
         ],
-    )
+    );
+}
+
+fn meet<C: Ledger, T: Ledger, R: Wait + Abort>(
+    rt: &R,
+    alloc: Global,
+    kernel: &SharedKernel<C, T, SlowPort>,
+) {
+    let mut one = Party::open(rt, kernel, 1);
+    let mut two = Party::open(rt, kernel, 2);
+    let receive = receives(rt, alloc, ThreadId::ANYTHREAD, 0);
+    one.enter(rt, kernel, 0, receive, 1);
+    let send = sends(rt, alloc, first(1), 0, 7);
+    two.enter(rt, kernel, 0, send, 2);
+    one.is_told(rt, alloc, kernel, "1 0x1 2.1 nil 0x0 0x7 -");
+    two.is_told(rt, alloc, kernel, "2 0x0 nil nil 0x0 - -");
+    same(rt, one.made(rt), 1);
+    same(rt, two.made(rt), 1);
+    // nothing is to take twice, and who waits for a thread that has ended is told so
+    let _ = submit(rt, kernel, 0, None, Command::Broke(first(1)));
+    one.is_told_nothing(rt, kernel);
 }
 
 #[test]
-fn the_clock_fails_a_receive_and_then_a_send(rt: HostRuntime) -> Result<(), Fail> {
-    timeouts::<Brand, Brand, _>(&rt, rt.alloc(), Blank::new(1 << 63), Blank::new(1 << 63))
+fn the_clock_fails_a_receive_and_then_a_send(rt: HostRuntime) {
+    timeouts::<Brand, Brand, _>(&rt, rt.alloc(), Blank::new(1 << 63), Blank::new(1 << 63));
 }
 
 fn timeouts<C: Ledger, T: Ledger, R: Wait + Abort>(
@@ -347,34 +483,34 @@ fn timeouts<C: Ledger, T: Ledger, R: Wait + Abort>(
     alloc: Global,
     calls: Blank,
     takes: Blank,
-) -> Result<(), Fail>
+)
     requires calls { (calls.name ≡ C.name) × (calls.parts ≡ C.parts) × (calls.parts ≡ 2 ^ 63) }
     requires takes { (takes.name ≡ T.name) × (takes.parts ≡ T.parts) × (takes.parts ≡ 2 ^ 63) }
 {
-    let kernel = &SharedKernel::<C, T, SlowPort>::new(alloc, ROOM, calls, takes)
-        .ok()
-        .ok_or("a kernel")?;
-    let one = Party::open(rt, kernel, 1)?;
-    let two = Party::open(rt, kernel, 2)?;
-    let mut one = one.enter(
-        rt,
-        kernel,
-        100,
-        receives(alloc, ThreadId::ANYTHREAD, 5, 0)?,
-        1,
-    )?;
-    for now in [104, 105] {
-        let answered = kernel.submit(rt, now, None, Command::At(now));
-        holds(rt, matches!(answered.answer(), Answer::Done));
-    }
-    let mut two = two.enter(rt, kernel, 105, sends(alloc, first(1), 0x400, 7)?, 2)?;
-    one.is_told(rt, alloc, kernel, "1 0x8000 nil nil 0x3 - -")?;
-    two.is_told(rt, alloc, kernel, "2 0x8000 nil nil 0x2 - -")
+    let kernel = shared::<C, T, R>(rt, alloc, ROOM, calls, takes);
+    time_out(rt, alloc, &kernel);
+}
+
+fn time_out<C: Ledger, T: Ledger, R: Wait + Abort>(
+    rt: &R,
+    alloc: Global,
+    kernel: &SharedKernel<C, T, SlowPort>,
+) {
+    let mut one = Party::open(rt, kernel, 1);
+    let mut two = Party::open(rt, kernel, 2);
+    let receive = receives(rt, alloc, ThreadId::ANYTHREAD, 5);
+    one.enter(rt, kernel, 100, receive, 1);
+    same(rt, said(kernel, rt, 104, Command::At(104)), "done");
+    same(rt, said(kernel, rt, 105, Command::At(105)), "done");
+    let send = sends(rt, alloc, first(1), 0x400, 7);
+    two.enter(rt, kernel, 105, send, 2);
+    one.is_told(rt, alloc, kernel, "1 0x8000 nil nil 0x3 - -");
+    two.is_told(rt, alloc, kernel, "2 0x8000 nil nil 0x2 - -");
 }
 
 #[test]
-fn a_transfer_is_stopped_and_its_partner_breaks(rt: HostRuntime) -> Result<(), Fail> {
-    stopped_transfers::<Brand, Brand, _>(&rt, rt.alloc(), Blank::new(1 << 63), Blank::new(1 << 63))
+fn a_transfer_is_stopped_and_its_partner_breaks(rt: HostRuntime) {
+    stopped_transfers::<Brand, Brand, _>(&rt, rt.alloc(), Blank::new(1 << 63), Blank::new(1 << 63));
 }
 
 fn stopped_transfers<C: Ledger, T: Ledger, R: Wait + Abort>(
@@ -382,44 +518,56 @@ fn stopped_transfers<C: Ledger, T: Ledger, R: Wait + Abort>(
     alloc: Global,
     calls: Blank,
     takes: Blank,
-) -> Result<(), Fail>
+)
     requires calls { (calls.name ≡ C.name) × (calls.parts ≡ C.parts) × (calls.parts ≡ 2 ^ 63) }
     requires takes { (takes.name ≡ T.name) × (takes.parts ≡ T.parts) × (takes.parts ≡ 2 ^ 63) }
 {
-    let kernel = &SharedKernel::<C, T, SlowPort>::new(alloc, ROOM, calls, takes)
-        .ok()
-        .ok_or("a kernel")?;
-    let one = Party::open(rt, kernel, 1)?;
-    let two = Party::open(rt, kernel, 2)?;
-    let Party {
-        thread: third,
-        calls: stopper,
-        ..
-    } = Party::open(rt, kernel, 3)?;
-    let (mut one, mut two) = begin_transfer(rt, alloc, kernel, one, two, 1)?;
-    holds(rt, kernel.wait_work(rt));
-    let stop = Command::Exreg {
-        thread: third,
-        target: first(2),
-        control: Control::from_word(4),
-    };
-    let (answer, stopper, _) = kernel.submit(rt, 0, Some(stopper), stop).into_parts();
-    holds(rt, matches!(answer, Answer::Exchanged(_)));
-    holds(rt, stopper.is_some());
-    two.is_told(rt, alloc, kernel, "2 0x8000 nil nil 0x10000e - -")?;
-    one.is_told(rt, alloc, kernel, "1 0x8000 nil nil 0x10000f - -")?;
-    let (one, mut two) = begin_transfer(rt, alloc, kernel, one, two, 3)?;
-    same(rt, said(kernel, rt, Command::Broke(one.thread)), "done");
-    two.is_told(rt, alloc, kernel, "4 0x8000 nil nil 0x10000e - -")?;
-    same(rt, said(kernel, rt, Command::Advance), "idle");
+    let kernel = &shared::<C, T, R>(rt, alloc, ROOM, calls, takes);
+    stop_and_break(rt, alloc, kernel);
+    same(rt, said(kernel, rt, 0, Command::Advance), "idle");
     // a group has all entries, also behind a call with a string
-    let group = kernel.wait_entries(rt, 0)?;
+    let group = kernel.wait_entries(rt, 0).expect(rt, "the entries");
     same(rt, group.len(), kernel.entries(rt));
     kernel.end_work(rt);
     holds(rt, !kernel.wait_work(rt));
     kernel.close(rt);
     holds(rt, !kernel.wait_work(rt));
-    Ok(())
+}
+
+fn stop_and_break<C: Ledger, T: Ledger, R: Wait + Abort>(
+    rt: &R,
+    alloc: Global,
+    kernel: &SharedKernel<C, T, SlowPort>,
+) {
+    let mut one = Party::open(rt, kernel, 1);
+    let mut two = Party::open(rt, kernel, 2);
+    let three = Party::open(rt, kernel, 3);
+    begin_transfer(rt, alloc, kernel, &mut one, &mut two, 1);
+    holds(rt, kernel.wait_work(rt));
+    stop_by(rt, kernel, three, first(2));
+    two.is_told(rt, alloc, kernel, "2 0x8000 nil nil 0x10000e - -");
+    one.is_told(rt, alloc, kernel, "1 0x8000 nil nil 0x10000f - -");
+    begin_transfer(rt, alloc, kernel, &mut one, &mut two, 3);
+    same(rt, said(kernel, rt, 0, Command::Broke(one.thread)), "done");
+    two.is_told(rt, alloc, kernel, "4 0x8000 nil nil 0x10000e - -");
+}
+
+// A thread stops another one's send, and has its seat then.
+fn stop_by<C: Ledger, T: Ledger, R: Wait + Abort>(
+    rt: &R,
+    kernel: &SharedKernel<C, T, SlowPort>,
+    stopper: Party<C, T>,
+    target: ThreadId,
+) {
+    let Party { thread, calls, .. } = stopper;
+    let stop = Command::Exreg {
+        thread,
+        target,
+        control: Control::from_word(4),
+    };
+    let (answer, calls, _) = submit(rt, kernel, 0, calls, stop).into_parts();
+    same(rt, word_of(&answer), "exchanged");
+    holds(rt, calls.is_some());
 }
 
 // The first thread receives a string of the second one, by calls from this number on, of which a block is copied.
@@ -427,36 +575,20 @@ fn begin_transfer<C: Ledger, T: Ledger, R: Wait + Abort>(
     rt: &R,
     alloc: Global,
     kernel: &SharedKernel<C, T, SlowPort>,
-    one: Party<C, T>,
-    two: Party<C, T>,
+    one: &mut Party<C, T>,
+    two: &mut Party<C, T>,
     number: u64,
-) -> Result<(Party<C, T>, Party<C, T>), Fail> {
-    let receive = receives(alloc, ThreadId::ANYTHREAD, 0, 131_073)?;
-    let one = one.enter(rt, kernel, 0, receive, number)?;
-    let send = sends_string(alloc, first(1), 131_073)?;
-    let two = two.enter(rt, kernel, 0, send, number.saturating_add(1))?;
-    same(rt, said(kernel, rt, Command::Advance), "moved");
-    Ok((one, two))
-}
-
-// A step by no seat, and its answer in a word.
-fn said<C: Ledger, T: Ledger, R: Wait>(
-    kernel: &SharedKernel<C, T, SlowPort>,
-    rt: &R,
-    command: Command,
-) -> &'static str {
-    match kernel.submit(rt, 0, None, command).answer() {
-        Answer::Advanced(Advance::Moved) => "moved",
-        Answer::Advanced(Advance::Idle) => "idle",
-        Answer::Done => "done",
-        Answer::Refused(Refusal::NoThread) => "not there",
-        _ => "another answer",
-    }
+) {
+    let receive = receives_string(rt, alloc, 131_073);
+    one.enter(rt, kernel, 0, receive, number);
+    let send = sends_string(rt, alloc, first(1), 131_073);
+    two.enter(rt, kernel, 0, send, number.saturating_add(1));
+    same(rt, said(kernel, rt, 0, Command::Advance), "moved");
 }
 
 #[test]
-fn a_seat_is_stale_once_its_number_was_opened_again(rt: HostRuntime) -> Result<(), Fail> {
-    stale_seats::<Brand, Brand, _>(&rt, rt.alloc(), Blank::new(1 << 63), Blank::new(1 << 63))
+fn a_seat_is_stale_once_its_number_was_opened_again(rt: HostRuntime) {
+    stale_seats::<Brand, Brand, _>(&rt, rt.alloc(), Blank::new(1 << 63), Blank::new(1 << 63));
 }
 
 fn stale_seats<C: Ledger, T: Ledger, R: Wait + Abort>(
@@ -464,7 +596,7 @@ fn stale_seats<C: Ledger, T: Ledger, R: Wait + Abort>(
     alloc: Global,
     calls: Blank,
     takes: Blank,
-) -> Result<(), Fail>
+)
     requires calls { (calls.name ≡ C.name) × (calls.parts ≡ C.parts) × (calls.parts ≡ 2 ^ 63) }
     requires takes { (takes.name ≡ T.name) × (takes.parts ≡ T.parts) × (takes.parts ≡ 2 ^ 63) }
 {
@@ -472,30 +604,46 @@ fn stale_seats<C: Ledger, T: Ledger, R: Wait + Abort>(
         entries: MAX_ENTRIES,
         calls: 1,
     };
-    let kernel = &SharedKernel::<C, T, SlowPort>::new(alloc, limits, calls, takes)
-        .ok()
-        .ok_or("a kernel")?;
-    let one = Party::open(rt, kernel, 1)?;
-    same(rt, said(kernel, rt, Command::Broke(one.thread)), "done");
-    let again = Party::open(rt, kernel, 1)?;
+    let kernel = &shared::<C, T, R>(rt, alloc, limits, calls, takes);
+    let mut one = Party::open(rt, kernel, 1);
+    same(rt, said(kernel, rt, 0, Command::Broke(one.thread)), "done");
+    let mut again = Party::open(rt, kernel, 1);
     holds(rt, again.thread != one.thread);
-    let receive = receives(alloc, ThreadId::ANYTHREAD, 0, 0)?;
-    let mut one = one.is_refused(rt, kernel, receive, Refusal::NoThread)?;
-    holds(rt, kernel.wait_outcome(rt, &mut one.takes).is_none());
-    same(
-        rt,
-        said(kernel, rt, Command::Broke(one.thread)),
-        "not there",
-    );
-    let again = again.enter(rt, kernel, 0, sends(alloc, first(9), 0, 1)?, 1)?;
+    by_a_stale_seat(rt, alloc, kernel, &mut one);
+    by_the_last_call(rt, alloc, kernel, &mut again);
+}
+
+// Nothing goes by a seat whose thread has ended.
+fn by_a_stale_seat<C: Ledger, T: Ledger, R: Wait + Abort>(
+    rt: &R,
+    alloc: Global,
+    kernel: &SharedKernel<C, T, SlowPort>,
+    one: &mut Party<C, T>,
+) {
+    let receive = receives(rt, alloc, ThreadId::ANYTHREAD, 0);
+    one.is_refused(rt, kernel, receive, Refusal::NoThread);
+    one.is_told_nothing(rt, kernel);
+    let broke = said(kernel, rt, 0, Command::Broke(one.thread));
+    same(rt, broke, "not there");
+}
+
+// The one call that there may be.
+fn by_the_last_call<C: Ledger, T: Ledger, R: Wait + Abort>(
+    rt: &R,
+    alloc: Global,
+    kernel: &SharedKernel<C, T, SlowPort>,
+    again: &mut Party<C, T>,
+) {
+    let send = sends(rt, alloc, first(9), 0, 1);
+    again.enter(rt, kernel, 0, send, 1);
     // busy before the calls are spent, and the seat counts neither
-    let receive = receives(alloc, ThreadId::ANYTHREAD, 0, 0)?;
-    let mut again = again.is_refused(rt, kernel, receive, Refusal::Busy)?;
-    again.is_told(rt, alloc, kernel, "1 0x8000 nil nil 0x4 - -")?;
-    let receive = receives(alloc, ThreadId::ANYTHREAD, 0, 0)?;
-    let again = again.is_refused(rt, kernel, receive, Refusal::CallsSpent)?;
-    same(rt, (again.calls.made(), again.takes.taken()), (1, 1));
-    Ok(())
+    let receive = receives(rt, alloc, ThreadId::ANYTHREAD, 0);
+    again.is_refused(rt, kernel, receive, Refusal::Busy);
+    again.is_told(rt, alloc, kernel, "1 0x8000 nil nil 0x4 - -");
+    let receive = receives(rt, alloc, ThreadId::ANYTHREAD, 0);
+    again.is_refused(rt, kernel, receive, Refusal::CallsSpent);
+    same(rt, again.made(rt), 1);
+    same(rt, again.takes.taken(), 1);
 }
 
 // A port that takes nothing unless it may wait, and then one byte.
@@ -531,48 +679,81 @@ fn slow(alloc: Global, is_open: bool) -> SlowPort {
 }
 
 #[test]
-fn a_pen_writes_outcomes_before_answers_and_ends_when_its_box_is_shut(
-    rt: HostRuntime,
-) -> Result<(), Fail> {
-    boxes::<Brand, Brand, _>(&rt, rt.alloc(), Blank::new(1 << 63), Blank::new(1 << 63))
+fn a_pen_writes_outcomes_before_answers_and_ends_when_its_box_is_shut(rt: HostRuntime) {
+    boxes::<Brand, Brand, _>(&rt, rt.alloc(), Blank::new(1 << 63), Blank::new(1 << 63));
 }
 
 // A client that reads nothing: its pen waits, and its writer goes on. Then one that reads: its reader writes all by itself.
-fn boxes<C: Ledger, T: Ledger, R: Wait + Abort>(
-    rt: &R,
-    alloc: Global,
-    calls: Blank,
-    takes: Blank,
-) -> Result<(), Fail>
+fn boxes<C: Ledger, T: Ledger, R: Wait + Abort>(rt: &R, alloc: Global, calls: Blank, takes: Blank)
     requires calls { (calls.name ≡ C.name) × (calls.parts ≡ C.parts) × (calls.parts ≡ 2 ^ 63) }
     requires takes { (takes.name ≡ T.name) × (takes.parts ≡ T.parts) × (takes.parts ≡ 2 ^ 63) }
 {
-    let kernel = &SharedKernel::<C, T, SlowPort>::new(alloc, ROOM, calls, takes)
-        .ok()
-        .ok_or("a kernel")?;
-    let (mut posts, takes) = kernel.connect(rt, slow(alloc, false)).ok().ok_or("a box")?;
+    let kernel = shared::<C, T, R>(rt, alloc, ROOM, calls, takes);
+    let takes = fill_box(rt, alloc, &kernel);
+    let told = told_slowly(rt, &kernel, &takes);
+    assert_told(rt, alloc, &told);
+    shut_box(rt, alloc, &kernel);
+    shut_box(rt, alloc, &kernel);
+}
+
+// A connection, whose port has room or not.
+fn connect<C: Ledger, T: Ledger, R: Wait + Abort>(
+    rt: &R,
+    alloc: Global,
+    kernel: &SharedKernel<C, T, SlowPort>,
+    is_open: bool,
+) -> (PostEnd<C>, TakeEnd) {
+    kernel.connect(rt, slow(alloc, is_open)).expect(rt, "a box")
+}
+
+fn ask<C: Ledger, T: Ledger, R: Wait>(
+    rt: &R,
+    kernel: &SharedKernel<C, T, SlowPort>,
+    posts: &mut PostEnd<C>,
+    request: Request,
+) -> (Told, Entered) {
+    kernel.ask(rt, 0, posts, request, 1)
+}
+
+// An open, an outcome and a refusal come into the box of a client that reads nothing.
+fn fill_box<C: Ledger, T: Ledger, R: Wait + Abort>(
+    rt: &R,
+    alloc: Global,
+    kernel: &SharedKernel<C, T, SlowPort>,
+) -> TakeEnd {
+    let (mut posts, takes) = connect(rt, alloc, kernel, false);
     let one = first(1);
-    let opened = kernel.ask(rt, 0, &mut posts, Request::Open(1, WireVersion::One), 1);
-    same(
-        rt,
-        opened,
-        (Told::Opened(one, WireVersion::One), Entered::Over),
-    );
-    let send = sends(alloc, first(3), 0, 1)?;
-    let strange = kernel.ask(rt, 0, &mut posts, Request::Enter(first(2), send), 1);
-    same(rt, strange.0, Told::Refused(Refusal::NoThread));
-    let send = sends(alloc, first(3), 0, 1)?;
-    let entered = kernel.ask(rt, 0, &mut posts, Request::Enter(one, send), 1);
-    same(rt, entered.0, Told::Entered);
+    let told = ask(rt, kernel, &mut posts, Request::Open(1, WireVersion::One));
+    let opened = (Told::Opened(one, WireVersion::One), Entered::Over);
+    same(rt, told, opened);
+    let send = sends(rt, alloc, first(3), 0, 1);
+    let (strange, _) = ask(rt, kernel, &mut posts, Request::Enter(first(2), send));
+    same(rt, strange, Told::Refused(Refusal::NoThread));
+    let send = sends(rt, alloc, first(3), 0, 1);
+    let (entered, _) = ask(rt, kernel, &mut posts, Request::Enter(one, send));
+    same(rt, entered, Told::Entered);
     kernel.post(rt, &posts, Told::Refused(Refusal::CallsSpent));
-    let told = told_slowly(rt, kernel, &takes)?;
-    let welcome = encode(alloc, Frame::Welcome(one))?;
-    let refused = encode(alloc, Frame::Refused(8))?;
+    takes
+}
+
+fn assert_told(rt: &impl Abort, alloc: Global, told: &[u8]) {
+    let welcome = encode(alloc, Frame::Welcome(first(1))).expect(rt, "a frame");
+    let refused = encode(alloc, Frame::Refused(8)).expect(rt, "a frame");
     same(rt, told.len(), 57);
     same(rt, told.get(..13), Some(welcome.as_slice()));
     same(rt, told.get(17).copied(), Some(0x82));
     same(rt, told.get(51..), Some(refused.as_slice()));
-    shut_boxes(rt, alloc, kernel)
+}
+
+// The pen of a box, which a writer wrote with as long as its device takes.
+fn written_pen<C: Ledger, T: Ledger, R: Wait + Abort>(
+    rt: &R,
+    kernel: &SharedKernel<C, T, SlowPort>,
+    takes: &TakeEnd,
+) -> Pen<SlowPort> {
+    let mut pen = kernel.wait_pen(rt, takes).expect(rt, "a pen");
+    same(rt, pen.write(Patience::Waits), Turn::Written);
+    pen
 }
 
 // The bytes of three frames that a writer writes, each when it is given.
@@ -580,41 +761,34 @@ fn told_slowly<C: Ledger, T: Ledger, R: Wait + Abort>(
     rt: &R,
     kernel: &SharedKernel<C, T, SlowPort>,
     takes: &TakeEnd,
-) -> Result<Vec<u8>, Fail> {
-    for _ in 0..2 {
-        let mut pen = kernel.wait_pen(rt, takes).ok_or("a pen")?;
-        same(rt, pen.write(Patience::Waits), Turn::Written);
-        kernel.give_back(rt, pen);
-    }
-    let mut pen = kernel.wait_pen(rt, takes).ok_or("a pen")?;
-    same(rt, pen.write(Patience::Waits), Turn::Written);
+) -> Vec<u8> {
+    kernel.give_back(rt, written_pen(rt, kernel, takes));
+    kernel.give_back(rt, written_pen(rt, kernel, takes));
+    let pen = written_pen(rt, kernel, takes);
     holds(rt, pen.is_ready());
-    Ok(pen.into_port().written)
+    pen.into_port().written
 }
 
 // A box that is shut takes nothing more, and its pen goes; one that was given back comes again.
-fn shut_boxes<C: Ledger, T: Ledger, R: Wait + Abort>(
+fn shut_box<C: Ledger, T: Ledger, R: Wait + Abort>(
     rt: &R,
     alloc: Global,
     kernel: &SharedKernel<C, T, SlowPort>,
-) -> Result<(), Fail> {
-    for _ in 0..2 {
-        let (mut posts, takes) = kernel.connect(rt, slow(alloc, true)).ok().ok_or("a box")?;
-        let (opened, _) = kernel.ask(rt, 0, &mut posts, Request::Open(2, WireVersion::One), 1);
-        holds(rt, matches!(opened, Told::Opened(_, _)));
-        kernel.hang_up(rt, 0, &posts);
-        let (shut, _) = kernel.ask(rt, 0, &mut posts, Request::Open(4, WireVersion::One), 1);
-        same(rt, shut, Told::Refused(Refusal::NoThread));
-        holds(rt, kernel.wait_pen(rt, &takes).is_none());
-        kernel.leave(rt, 0, &takes);
-        kernel.release(rt, posts);
-    }
-    Ok(())
+) {
+    let (mut posts, takes) = connect(rt, alloc, kernel, true);
+    let (opened, _) = ask(rt, kernel, &mut posts, Request::Open(2, WireVersion::One));
+    holds(rt, matches!(opened, Told::Opened(_, _)));
+    kernel.hang_up(rt, 0, &posts);
+    let (shut, _) = ask(rt, kernel, &mut posts, Request::Open(4, WireVersion::One));
+    same(rt, shut, Told::Refused(Refusal::NoThread));
+    holds(rt, kernel.wait_pen(rt, &takes).is_none());
+    kernel.leave(rt, 0, &takes);
+    kernel.release(rt, posts);
 }
 
 #[test]
-fn two_threads_of_the_machine_meet_ten_thousand_times(rt: HostRuntime) -> Result<(), Fail> {
-    meetings::<Brand, Brand, _>(&rt, rt.alloc(), Blank::new(1 << 63), Blank::new(1 << 63))
+fn two_threads_of_the_machine_meet_ten_thousand_times(rt: HostRuntime) {
+    meetings::<Brand, Brand, _>(&rt, rt.alloc(), Blank::new(1 << 63), Blank::new(1 << 63));
 }
 
 fn meetings<C: Ledger + Send + Sync, T: Ledger + Send + Sync, R: Threads + Wait + Abort + Sync>(
@@ -622,35 +796,22 @@ fn meetings<C: Ledger + Send + Sync, T: Ledger + Send + Sync, R: Threads + Wait 
     alloc: Global,
     calls: Blank,
     takes: Blank,
-) -> Result<(), Fail>
+)
     requires calls { (calls.name ≡ C.name) × (calls.parts ≡ C.parts) × (calls.parts ≡ 2 ^ 63) }
     requires takes { (takes.name ≡ T.name) × (takes.parts ≡ T.parts) × (takes.parts ≡ 2 ^ 63) }
 {
-    let kernel = &SharedKernel::<C, T, SlowPort>::new(alloc, ROOM, calls, takes)
-        .ok()
-        .ok_or("a kernel")?;
-    let one = Party::open(rt, kernel, 1)?;
-    let two = Party::open(rt, kernel, 2)?;
+    let kernel = &shared::<C, T, R>(rt, alloc, ROOM, calls, takes);
+    let one = Party::open(rt, kernel, 1);
+    let two = Party::open(rt, kernel, 2);
     kernel.mark(rt, usize::MAX);
-    let mut receive_calls = Vec::new(alloc);
-    let mut send_calls = Vec::new(alloc);
-    for word in 0..MEETINGS {
-        receive_calls.push(receives(alloc, first(2), 0, 0)?)?;
-        send_calls.push(sends(alloc, first(1), 0, word)?)?;
-    }
+    let receive_calls = receive_calls(rt, alloc, first(2));
+    let send_calls = send_calls(rt, alloc, first(1));
     let (received, sent) = thread::join(
         rt,
         move || make_calls(rt, alloc, kernel, one, receive_calls),
         move || make_calls(rt, alloc, kernel, two, send_calls),
     );
-    let received = received.ok_or("what was received")?;
-    same(rt, received.len(), 10_000);
-    let mut next = 0u64;
-    for word in &received {
-        same(rt, *word, Some(next));
-        next = next.saturating_add(1);
-    }
-    let sent = sent.ok_or("what was sent")?;
+    counts_up(rt, &received);
     same(rt, sent.len(), 10_000);
     holds(rt, sent.iter().all(|word| word.is_none()));
     // two opens, and for each message two calls, began and ended
@@ -658,42 +819,53 @@ fn meetings<C: Ledger + Send + Sync, T: Ledger + Send + Sync, R: Threads + Wait 
     // of which the kernel has let go of most
     holds(rt, kernel.held(rt) <= 5_000);
     same(rt, kernel.wait_entries(rt, 0).err(), Some(NotGiven::LetGo));
-    Ok(())
 }
 
 const MEETINGS: u64 = 10_000;
 
-// Makes calls in turn, each once the one before is over; the first words of their outcomes. None
-// where a call is not entered, where its outcome is not its own, or for want of memory.
-fn make_calls<C: Ledger, T: Ledger, R: Wait>(
+fn receive_calls(rt: &impl Abort, alloc: Global, from: ThreadId) -> Vec<Call> {
+    let mut calls = Vec::new(alloc);
+    for _ in 0..MEETINGS {
+        calls
+            .push(receives(rt, alloc, from, 0))
+            .expect(rt, "memory");
+    }
+    calls
+}
+
+// Calls that send the words from 0 on.
+fn send_calls(rt: &impl Abort, alloc: Global, to: ThreadId) -> Vec<Call> {
+    let mut calls = Vec::new(alloc);
+    for word in 0..MEETINGS {
+        calls
+            .push(sends(rt, alloc, to, 0, word))
+            .expect(rt, "memory");
+    }
+    calls
+}
+
+// Makes calls in turn, each once the one before is over; the first words of their outcomes.
+fn make_calls<C: Ledger, T: Ledger, R: Wait + Abort>(
     rt: &R,
     alloc: Global,
     kernel: &SharedKernel<C, T, SlowPort>,
-    party: Party<C, T>,
+    mut party: Party<C, T>,
     calls: Vec<Call>,
-) -> Option<Vec<Option<u64>>> {
-    let Party {
-        thread,
-        calls: mut seat,
-        mut takes,
-    } = party;
+) -> Vec<Option<u64>> {
     let mut words = Vec::new(alloc);
     for call in calls {
-        let enter = Command::Enter(thread, call);
-        let (answer, back, _) = kernel.submit(rt, 0, Some(seat), enter).into_parts();
-        let Answer::Entered(number) = answer else {
-            return None;
-        };
-        seat = back?;
-        let taken = kernel.wait_outcome(rt, &mut takes)?;
-        if taken.thread() != thread || taken.amount() != seat.made() {
-            return None;
-        }
-        let outcome = taken.into_outcome();
-        if outcome.call != number {
-            return None;
-        }
-        words.push(outcome.words.first().copied()).ok()?;
+        let word = party.make_call(rt, kernel, call);
+        words.push(word).expect(rt, "memory");
     }
-    Some(words)
+    words
+}
+
+// The words of all messages, in their order.
+fn counts_up(rt: &impl Abort, received: &[Option<u64>]) {
+    same(rt, received.len(), 10_000);
+    let mut next = 0u64;
+    for word in received {
+        same(rt, *word, Some(next));
+        next = next.saturating_add(1);
+    }
 }

@@ -3,7 +3,10 @@ use crate::{
     LineFault, entry_line, read_buffers, read_call, read_decimal, read_entry, read_hex, read_id,
     read_strings, read_words,
 };
-use std::test::Fail;
+use ipc_history::Call;
+use ipc_words::ThreadId;
+use std::alloc::Global;
+use std::process::Abort;
 
 const GOOD: [&str; 15] = [
     "at 0",
@@ -55,54 +58,87 @@ const BAD: [&str; 29] = [
     "called 7 2.1 3.1 any 0x0 0x1 nil 0x7 -",
 ];
 
+// The line is read as an entry, whose line it is.
+fn assert_good(rt: &impl Abort, alloc: Global, line: &str) {
+    let entry = read_entry(alloc, line.as_bytes())
+        .ok()
+        .expect(rt, "an entry");
+    let again = entry_line(alloc, &entry).expect(rt, "memory");
+    same(rt, again.as_str(), line);
+}
+
 #[test]
-fn reads_entries(rt: HostRuntime) -> Result<(), Fail> {
+fn reads_entries(rt: HostRuntime) {
     for line in &GOOD {
-        let read = read_entry(rt.alloc(), line.as_bytes());
-        let entry = read.ok().ok_or("read")?;
-        same(&rt, entry_line(rt.alloc(), &entry)?.as_str(), *line);
+        assert_good(&rt, rt.alloc(), line);
     }
-    Ok(())
+}
+
+fn is_bad(alloc: Global, line: &str) -> bool {
+    matches!(read_entry(alloc, line.as_bytes()), Err(LineFault::Bad))
 }
 
 #[test]
-fn refuses_other_lines(rt: HostRuntime) -> Result<(), Fail> {
+fn refuses_other_lines(rt: HostRuntime) {
     for line in &BAD {
-        let read = read_entry(rt.alloc(), line.as_bytes());
-        holds_at(&rt, &line, matches!(&read, Err(LineFault::Bad)));
+        holds_at(&rt, &line, is_bad(rt.alloc(), line));
     }
-    Ok(())
+}
+
+fn decimal(bytes: &[u8]) -> Option<u64> {
+    read_decimal(bytes)
+}
+
+fn hex(bytes: &[u8]) -> Option<u64> {
+    read_hex(bytes)
+}
+
+fn id_word(rt: &impl Abort, bytes: &[u8]) -> u64 {
+    read_id(bytes).expect(rt, "an id").to_word()
+}
+
+fn words(rt: &impl Abort, alloc: Global, bytes: &[u8]) -> Vec<u64> {
+    let read = read_words(alloc, bytes).expect(rt, "memory");
+    read.expect(rt, "words")
+}
+
+// How many bytes the strings have.
+fn strings_size(rt: &impl Abort, alloc: Global, bytes: &[u8]) -> u64 {
+    let read = read_strings(alloc, bytes).expect(rt, "memory");
+    read.expect(rt, "strings").size()
+}
+
+// How many buffers are accepted.
+fn buffers(rt: &impl Abort, alloc: Global, bytes: &[u8]) -> usize {
+    let read = read_buffers(alloc, bytes).expect(rt, "memory");
+    let accepted = read.expect(rt, "buffers");
+    accepted.expect(rt, "accepted").len()
 }
 
 #[test]
-fn reads_fields(rt: HostRuntime) -> Result<(), Fail> {
-    same(&rt, read_decimal(b"18446744073709551615"), Some(u64::MAX));
-    same(&rt, read_hex(b"0xffffffffffffffff"), Some(u64::MAX));
-    same(&rt, read_id(b"2.1").ok_or("id")?.to_word(), 0x2_0000_0001);
-    same(
-        &rt,
-        read_id(b"local").ok_or("id")?.to_word(),
-        0xffff_ffff_ffff_ffc0,
-    );
-    let words = read_words(rt.alloc(), b"0x1,0xff")?.ok_or("words")?;
+fn reads_fields(rt: HostRuntime) {
+    let alloc = rt.alloc();
+    same(&rt, decimal(b"18446744073709551615"), Some(u64::MAX));
+    same(&rt, hex(b"0xffffffffffffffff"), Some(u64::MAX));
+    same(&rt, id_word(&rt, b"2.1"), 0x2_0000_0001);
+    same(&rt, id_word(&rt, b"local"), 0xffff_ffff_ffff_ffc0);
+    let words = words(&rt, alloc, b"0x1,0xff");
     same(&rt, words.as_slice(), [1, 255].as_slice());
-    same(
-        &rt,
-        read_strings(rt.alloc(), b"x,x61")?.ok_or("strings")?.size(),
-        1,
-    );
-    let buffers = read_buffers(rt.alloc(), b"1@0x0,2@0x10+3@0x20")?.ok_or("buffers")?;
-    same(&rt, buffers.ok_or("accepted")?.len(), 2);
-    Ok(())
+    same(&rt, strings_size(&rt, alloc, b"x,x61"), 1);
+    same(&rt, buffers(&rt, alloc, b"1@0x0,2@0x10+3@0x20"), 2);
+}
+
+fn call(rt: &impl Abort, alloc: Global, fields: &[&[u8]]) -> (ThreadId, Call) {
+    let read = read_call(alloc, fields).expect(rt, "memory");
+    read.expect(rt, "a call")
 }
 
 #[test]
-fn reads_a_call(rt: HostRuntime) -> Result<(), Fail> {
+fn reads_a_call(rt: HostRuntime) {
     let fields: [&[u8]; 9] = [
         b"2.1", b"3.1", b"any", b"0x0", b"0x1", b"nil", b"0x7", b"-", b"-",
     ];
-    let (thread, call) = read_call(rt.alloc(), &fields)?.ok_or("call")?;
+    let (thread, call) = call(&rt, rt.alloc(), &fields);
     same(&rt, thread.number(), 2);
     same(&rt, call.words(), [7].as_slice());
-    Ok(())
 }

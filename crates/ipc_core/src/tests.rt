@@ -183,137 +183,320 @@ fn open_two(kernel: &mut Kernel) {
     let _ = open(kernel, 2, 1);
 }
 
+// A step of a test, with its answer. Threads are named by their numbers.
+#[derive(Clone, Copy)]
+enum Step {
+    // Opens the thread of a number in a space: the word of its id, or why not.
+    Opens(u64, u64, Result<u64, Refusal>),
+    Breaks(u32),
+    // A receive from any with a period; why it is refused, if so.
+    Receives(u32, u16, Option<Refusal>),
+    // The first thread sends the second one a word, with a period.
+    Sends(u32, u32, u64, u16),
+    Reads(u64),
+    // An ExchangeRegisters of the first thread about the second, with R: the word of the result, R or 0, and the code.
+    Cancels(u32, u32, (u64, u64, u64)),
+    // No transfer goes on.
+    Idles,
+    // Takes an outcome: when its call was over, its error, and its first word.
+    Takes(u32, u64, u64, Option<u64>),
+    // A compaction up to a place: how many entries it let go, and how many are held.
+    Compacts(usize, usize, usize),
+    // One whose answer does not matter.
+    LetsGo,
+    Marks(usize),
+    // A compaction up to the mark.
+    CompactsMarked(usize, usize),
+    Sees(Fact),
+}
+
+// What is seen of a kernel.
+#[derive(Clone, Copy)]
+enum Fact {
+    Total(usize),
+    OpenCalls(usize),
+    Moment(u64),
+    LeastDue(Option<u64>),
+    // The one thread whose call became over.
+    Finished(u32),
+    // From where on memory holds all entries, and how many these are.
+    Whole(usize, usize),
+    Marked(usize),
+    // Whether the entry of a place is held.
+    EntryAt(usize, bool),
+    // The entry of this place opens this thread.
+    OpensAt(usize, u32),
+}
+
+fn assert_open(
+    rt: &impl Abort,
+    kernel: &mut Kernel,
+    number: u64,
+    space: u64,
+    answer: Result<u64, Refusal>,
+) {
+    let said = match open(kernel, number, space) {
+        Ok(thread) => Ok(thread.to_word()),
+        Err(refusal) => Err(refusal),
+    };
+    same(rt, said, answer);
+}
+
+fn assert_cancel(
+    rt: &impl Abort,
+    kernel: &mut Kernel,
+    thread: u32,
+    target: u32,
+    answer: (u64, u64, u64),
+) {
+    let said = exreg(kernel, first(thread), first(target), 2).expect(rt, "an answer");
+    let words = (said.result.to_word(), said.control.to_word(), said.code);
+    same(rt, words, answer);
+}
+
+fn assert_take(
+    rt: &impl Abort,
+    kernel: &mut Kernel,
+    thread: u32,
+    moment: u64,
+    error: u64,
+    word: Option<u64>,
+) {
+    let outcome = take(kernel, first(thread)).expect(rt, "an outcome");
+    same(rt, outcome.moment, moment);
+    same(rt, outcome.error, IpcError::from_word(error));
+    same(rt, outcome.words.first().copied(), word);
+}
+
+fn assert_compact(rt: &impl Abort, done: Compacted, dropped: usize, left: usize) {
+    same(rt, done, Compacted { dropped, left });
+}
+
+fn assert_opens(rt: &impl Abort, kernel: &Kernel, place: usize, number: u32) {
+    let entry = kernel.entry(place).expect(rt, "an entry");
+    holds(rt, entry.opens(first(number)));
+}
+
+fn take_step(rt: &impl Abort, alloc: Global, kernel: &mut Kernel, step: Step) {
+    match step {
+        Step::Opens(number, space, answer) => assert_open(rt, kernel, number, space, answer),
+        Step::Breaks(number) => holds(rt, broke(kernel, first(number)).is_ok()),
+        Step::Receives(thread, period, answer) => {
+            same(rt, receive(rt, alloc, kernel, thread, period), answer);
+        }
+        Step::Sends(thread, to, word, period) => {
+            same(rt, send(rt, alloc, kernel, thread, to, word, period), None);
+        }
+        Step::Reads(moment) => at(kernel, moment),
+        Step::Cancels(thread, target, answer) => assert_cancel(rt, kernel, thread, target, answer),
+        Step::Idles => same(rt, advance(kernel), Advance::Idle),
+        Step::Takes(thread, moment, error, word) => {
+            assert_take(rt, kernel, thread, moment, error, word);
+        }
+        Step::Compacts(upto, dropped, left) => {
+            assert_compact(rt, compact(kernel, upto), dropped, left);
+        }
+        Step::LetsGo => {
+            let _ = compact(kernel, usize::MAX);
+        }
+        Step::Marks(upto) => kernel.mark(upto),
+        Step::CompactsMarked(dropped, left) => {
+            assert_compact(rt, compact_marked(kernel), dropped, left);
+        }
+        Step::Sees(fact) => assert_fact(rt, kernel, fact),
+    }
+}
+
+fn assert_fact(rt: &impl Abort, kernel: &Kernel, fact: Fact) {
+    match fact {
+        Fact::Total(count) => same(rt, total(kernel), count),
+        Fact::OpenCalls(count) => same(rt, open_calls(kernel), count),
+        Fact::Moment(moment) => same(rt, now(kernel), moment),
+        Fact::LeastDue(moment) => same(rt, least_due(kernel), moment),
+        Fact::Finished(thread) => same(rt, kernel.finished(), [first(thread)].as_slice()),
+        Fact::Whole(place, count) => same(rt, whole(kernel), (place, count)),
+        Fact::Marked(place) => same(rt, kernel.marked(), place),
+        Fact::EntryAt(place, is_held) => same(rt, kernel.entry(place).is_some(), is_held),
+        Fact::OpensAt(place, thread) => assert_opens(rt, kernel, place, thread),
+    }
+}
+
+// Takes steps with a new kernel of these limits.
+fn play(rt: &impl Abort, alloc: Global, entries: u64, calls: u64, steps: &[Step]) {
+    let mut kernel = kernel(rt, alloc, entries, calls);
+    for step in steps {
+        take_step(rt, alloc, &mut kernel, *step);
+    }
+}
+
+// The same with the greatest limits.
+fn play_roomy(rt: &impl Abort, alloc: Global, steps: &[Step]) {
+    play(rt, alloc, MAX_ENTRIES, MAX_CALLS, steps);
+}
+
+// From where on memory holds all entries, and how many these are.
+fn whole(kernel: &Kernel) -> (usize, usize) {
+    let place = kernel.whole_from();
+    (place, kernel.entries_from(place).len())
+}
+
+// The word of 1.1.
+const FIRST: u64 = 0x1_0000_0001;
+
+const OPENS: Step = Step::Opens(1, 1, Ok(FIRST));
+
+const OPENS_SECOND: Step = Step::Opens(2, 1, Ok(0x2_0000_0001));
+
+// The first thread waits for a message.
+const WAITS: Step = Step::Receives(1, 0, None);
+
+// The second one sends it.
+const SENDS: Step = Step::Sends(2, 1, 7, 0);
+
+const BOUNDS: &[Step] = &[
+    Step::Opens(0, 1, Err(Refusal::BadNumber)),
+    Step::Opens(1024, 1, Err(Refusal::BadNumber)),
+    Step::Opens(1, 0, Err(Refusal::BadNumber)),
+    Step::Opens(1, 65, Err(Refusal::BadNumber)),
+    Step::Opens(1023, 64, Ok(0x3ff_0000_0001)),
+];
+
 #[test]
 fn numbers_and_spaces_have_bounds(rt: HostRuntime) {
-    let mut kernel = roomy(&rt, rt.alloc());
-    same(&rt, open(&mut kernel, 0, 1), Err(Refusal::BadNumber));
-    same(&rt, open(&mut kernel, 1024, 1), Err(Refusal::BadNumber));
-    same(&rt, open(&mut kernel, 1, 0), Err(Refusal::BadNumber));
-    same(&rt, open(&mut kernel, 1, 65), Err(Refusal::BadNumber));
-    same(&rt, open(&mut kernel, 1023, 64), Ok(first(1023)));
+    play_roomy(&rt, rt.alloc(), BOUNDS);
 }
+
+const TAKEN: &[Step] = &[
+    OPENS,
+    Step::Opens(1, 2, Err(Refusal::NumberTaken)),
+    Step::Breaks(1),
+    Step::Opens(1, 2, Ok(0x1_0000_0002)),
+];
 
 #[test]
 fn a_live_number_is_taken(rt: HostRuntime) {
-    let mut kernel = roomy(&rt, rt.alloc());
-    same(&rt, open(&mut kernel, 1, 1), Ok(first(1)));
-    same(&rt, open(&mut kernel, 1, 2), Err(Refusal::NumberTaken));
-    same(&rt, broke(&mut kernel, first(1)), Ok(()));
-    let again = ThreadId::from_word(0x1_0000_0002);
-    same(&rt, open(&mut kernel, 1, 2), Ok(again));
+    play_roomy(&rt, rt.alloc(), TAKEN);
 }
+
+const OF_NOTHING: &[Step] = &[
+    Step::Opens(1, 1, Err(Refusal::HistoryFull)),
+    Step::Sees(Fact::Total(0)),
+];
 
 #[test]
 fn limits_of_nothing_refuse_all(rt: HostRuntime) {
-    let mut kernel = kernel(&rt, rt.alloc(), 0, 0);
-    same(&rt, open(&mut kernel, 1, 1), Err(Refusal::HistoryFull));
-    same(&rt, total(&kernel), 0);
+    play(&rt, rt.alloc(), 0, 0, OF_NOTHING);
 }
+
+const ABOVE: &[Step] = &[OPENS, WAITS];
 
 #[test]
 fn limits_above_the_greatest_are_the_greatest(rt: HostRuntime) {
-    let mut kernel = kernel(&rt, rt.alloc(), u64::MAX, u64::MAX);
-    same(&rt, open(&mut kernel, 1, 1), Ok(first(1)));
-    same(&rt, receive(&rt, rt.alloc(), &mut kernel, 1, 0), None);
+    play(&rt, rt.alloc(), u64::MAX, u64::MAX, ABOVE);
 }
+
+const NO_THREAD: &[Step] = &[Step::Receives(9, 0, Some(Refusal::NoThread))];
 
 #[test]
 fn no_thread_comes_before_the_limits(rt: HostRuntime) {
-    let mut kernel = kernel(&rt, rt.alloc(), 0, 0);
-    let refusal = receive(&rt, rt.alloc(), &mut kernel, 9, 0);
-    same(&rt, refusal, Some(Refusal::NoThread));
+    play(&rt, rt.alloc(), 0, 0, NO_THREAD);
 }
+
+const BUSY: &[Step] = &[OPENS, WAITS, Step::Receives(1, 0, Some(Refusal::Busy))];
 
 #[test]
 fn busy_comes_before_the_limits(rt: HostRuntime) {
-    let mut kernel = kernel(&rt, rt.alloc(), 10, 1);
-    same(&rt, open(&mut kernel, 1, 1), Ok(first(1)));
-    same(&rt, receive(&rt, rt.alloc(), &mut kernel, 1, 0), None);
-    let again = receive(&rt, rt.alloc(), &mut kernel, 1, 0);
-    same(&rt, again, Some(Refusal::Busy));
+    play(&rt, rt.alloc(), 10, 1, BUSY);
 }
+
+const SPENT: &[Step] = &[OPENS, Step::Receives(1, 0, Some(Refusal::CallsSpent))];
 
 #[test]
 fn calls_spent_come_before_a_full_history(rt: HostRuntime) {
-    let mut kernel = kernel(&rt, rt.alloc(), 4, 0);
-    same(&rt, open(&mut kernel, 1, 1), Ok(first(1)));
-    let refusal = receive(&rt, rt.alloc(), &mut kernel, 1, 0);
-    same(&rt, refusal, Some(Refusal::CallsSpent));
+    play(&rt, rt.alloc(), 4, 0, SPENT);
 }
+
+const FULL: &[Step] = &[
+    OPENS,
+    Step::Receives(1, 0, Some(Refusal::HistoryFull)),
+    Step::Sees(Fact::Total(1)),
+];
 
 #[test]
 fn a_full_history_takes_no_call(rt: HostRuntime) {
-    let mut kernel = kernel(&rt, rt.alloc(), 9, 1);
-    same(&rt, open(&mut kernel, 1, 1), Ok(first(1)));
-    let refusal = receive(&rt, rt.alloc(), &mut kernel, 1, 0);
-    same(&rt, refusal, Some(Refusal::HistoryFull));
-    same(&rt, total(&kernel), 1);
+    play(&rt, rt.alloc(), 9, 1, FULL);
 }
+
+const MESSAGE: &[Step] = &[
+    OPENS,
+    OPENS_SECOND,
+    WAITS,
+    SENDS,
+    // two opens, two calls, began and ended
+    Step::Sees(Fact::Total(6)),
+    Step::Sees(Fact::OpenCalls(0)),
+];
 
 #[test]
 fn a_message_is_received(rt: HostRuntime) {
-    let mut kernel = roomy(&rt, rt.alloc());
-    open_two(&mut kernel);
-    same(&rt, receive(&rt, rt.alloc(), &mut kernel, 1, 0), None);
-    same(&rt, send(&rt, rt.alloc(), &mut kernel, 2, 1, 7, 0), None);
-    // two opens, two calls, began and ended
-    same(&rt, total(&kernel), 6);
-    same(&rt, open_calls(&kernel), 0);
+    play_roomy(&rt, rt.alloc(), MESSAGE);
 }
+
+const DEADLINE: &[Step] = &[
+    OPENS,
+    // five microseconds
+    Step::Receives(1, 5, None),
+    Step::Reads(4),
+    Step::Sees(Fact::Total(2)),
+    Step::Reads(5),
+    Step::Sees(Fact::Total(4)),
+    Step::Sees(Fact::Moment(5)),
+];
 
 #[test]
 fn a_deadline_fails_a_receive(rt: HostRuntime) {
-    let mut kernel = roomy(&rt, rt.alloc());
-    let _ = open(&mut kernel, 1, 1);
-    // five microseconds
-    same(&rt, receive(&rt, rt.alloc(), &mut kernel, 1, 5), None);
-    at(&mut kernel, 4);
-    same(&rt, total(&kernel), 2);
-    at(&mut kernel, 5);
-    same(&rt, total(&kernel), 4);
-    same(&rt, now(&kernel), 5);
+    play_roomy(&rt, rt.alloc(), DEADLINE);
 }
+
+const CLOCK: &[Step] = &[
+    Step::Reads(9),
+    Step::Reads(3),
+    Step::Sees(Fact::Moment(9)),
+    Step::Reads(u64::MAX),
+    Step::Sees(Fact::Moment(LAST_MOMENT)),
+    Step::Idles,
+];
 
 #[test]
 fn the_clock_never_goes_back(rt: HostRuntime) {
-    let mut kernel = roomy(&rt, rt.alloc());
-    at(&mut kernel, 9);
-    at(&mut kernel, 3);
-    same(&rt, now(&kernel), 9);
-    at(&mut kernel, u64::MAX);
-    same(&rt, now(&kernel), LAST_MOMENT);
-    same(&rt, advance(&mut kernel), Advance::Idle);
+    play_roomy(&rt, rt.alloc(), CLOCK);
 }
+
+const OTHER_SPACE: &[Step] = &[
+    OPENS,
+    Step::Opens(2, 2, Ok(0x2_0000_0001)),
+    WAITS,
+    // nilthread
+    Step::Cancels(2, 1, (0, 0, 2)),
+    Step::Sees(Fact::OpenCalls(1)),
+];
 
 #[test]
 fn a_cancel_reaches_its_own_space_alone(rt: HostRuntime) {
-    let mut kernel = roomy(&rt, rt.alloc());
-    let _ = open(&mut kernel, 1, 1);
-    let _ = open(&mut kernel, 2, 2);
-    same(&rt, receive(&rt, rt.alloc(), &mut kernel, 1, 0), None);
-    let answer = exreg(&mut kernel, first(2), first(1), 2);
-    let nobody = ExregAnswer {
-        result: ThreadId::NILTHREAD,
-        control: Control::from_word(0),
-        code: 2,
-    };
-    same(&rt, answer, Ok(nobody));
-    same(&rt, open_calls(&kernel), 1);
+    play_roomy(&rt, rt.alloc(), OTHER_SPACE);
 }
+
+const CANCEL: &[Step] = &[
+    OPENS,
+    OPENS_SECOND,
+    WAITS,
+    Step::Cancels(2, 1, (FIRST, 2, 0)),
+    Step::Sees(Fact::OpenCalls(0)),
+];
 
 #[test]
 fn a_cancel_stops_a_receive(rt: HostRuntime) {
-    let mut kernel = roomy(&rt, rt.alloc());
-    open_two(&mut kernel);
-    same(&rt, receive(&rt, rt.alloc(), &mut kernel, 1, 0), None);
-    let answer = exreg(&mut kernel, first(2), first(1), 2);
-    let stopped = ExregAnswer {
-        result: first(1),
-        control: Control::from_word(2),
-        code: 0,
-    };
-    same(&rt, answer, Ok(stopped));
-    same(&rt, open_calls(&kernel), 0);
+    play_roomy(&rt, rt.alloc(), CANCEL);
 }
 
 #[test]
@@ -405,23 +588,26 @@ fn all_failed(rt: &impl Abort, outputs: &[Output]) {
     }
 }
 
+const OUTCOMES: &[Step] = &[
+    OPENS,
+    OPENS_SECOND,
+    Step::Reads(3),
+    Step::Sends(2, 1, 7, 5),
+    Step::Reads(8),
+    Step::Reads(20),
+    // what comes later, and a compaction, leave it as it is
+    Step::Opens(3, 1, Ok(0x3_0000_0001)),
+    Step::LetsGo,
+    Step::Takes(2, 8, 0x2, None),
+    WAITS,
+    Step::Sends(2, 1, 9, 0),
+    Step::Takes(1, 20, 0, Some(9)),
+    Step::Takes(2, 20, 0, None),
+];
+
 #[test]
 fn an_outcome_tells_when_its_call_was_over(rt: HostRuntime) {
-    let mut kernel = roomy(&rt, rt.alloc());
-    open_two(&mut kernel);
-    at(&mut kernel, 3);
-    same(&rt, send(&rt, rt.alloc(), &mut kernel, 2, 1, 7, 5), None);
-    at(&mut kernel, 8);
-    at(&mut kernel, 20);
-    // what comes later, and a compaction, leave it as it is
-    same(&rt, open(&mut kernel, 3, 1), Ok(first(3)));
-    let _ = compact(&mut kernel, usize::MAX);
-    let late = take(&mut kernel, first(2)).expect(&rt, "a timeout");
-    same(&rt, late.error, IpcError::from_word(0x2));
-    same(&rt, late.moment, 8);
-    let (received, sent) = message(&rt, rt.alloc(), &mut kernel, 9);
-    same(&rt, received.moment, 20);
-    same(&rt, sent.moment, 20);
+    play_roomy(&rt, rt.alloc(), OUTCOMES);
 }
 
 // One message of a word from thread 2 to thread 1, and the outcomes of both.
@@ -454,64 +640,51 @@ fn message_and_compact(rt: &impl Abort, alloc: Global, kernel: &mut Kernel, word
     same(rt, done.left, 2);
 }
 
+const OPEN_CALL: &[Step] = &[
+    OPENS,
+    OPENS_SECOND,
+    WAITS,
+    Step::Compacts(usize::MAX, 0, 3),
+    SENDS,
+    Step::Takes(1, 0, 0, Some(7)),
+    Step::Takes(2, 0, 0, None),
+    // both outcomes were taken: of the entries before the fifth the opens are held
+    Step::Compacts(4, 2, 4),
+    Step::Sees(Fact::Whole(4, 2)),
+];
+
 #[test]
 fn an_open_call_is_held(rt: HostRuntime) {
-    let mut kernel = roomy(&rt, rt.alloc());
-    open_two(&mut kernel);
-    same(&rt, receive(&rt, rt.alloc(), &mut kernel, 1, 0), None);
-    let done = compact(&mut kernel, usize::MAX);
-    let kept = Compacted {
-        dropped: 0,
-        left: 3,
-    };
-    same(&rt, done, kept);
-    same(&rt, send(&rt, rt.alloc(), &mut kernel, 2, 1, 7, 0), None);
-    let received = take(&mut kernel, first(1)).expect(&rt, "what was received");
-    same(&rt, received.words.first(), Some(&7));
-    holds(&rt, take(&mut kernel, first(2)).is_some());
-    // both outcomes were taken: of the entries before the fifth the opens are held
-    let done = compact(&mut kernel, 4);
-    let gone = Compacted {
-        dropped: 2,
-        left: 4,
-    };
-    same(&rt, done, gone);
-    same(&rt, kernel.whole_from(), 4);
-    same(&rt, whole(&kernel), 2);
+    play_roomy(&rt, rt.alloc(), OPEN_CALL);
 }
 
-// How many entries memory holds of those from which on it holds all.
-fn whole(kernel: &Kernel) -> usize {
-    kernel.entries_from(kernel.whole_from()).len()
-}
+const PLACES: &[Step] = &[
+    OPENS,
+    OPENS_SECOND,
+    WAITS,
+    SENDS,
+    Step::Takes(1, 0, 0, Some(7)),
+    Step::Takes(2, 0, 0, None),
+    // two opens, two calls, began and ended: none is marked, so none goes
+    Step::CompactsMarked(0, 6),
+    Step::Marks(4),
+    // a mark never goes back
+    Step::Marks(2),
+    Step::Sees(Fact::Marked(4)),
+    Step::CompactsMarked(2, 4),
+    Step::Sees(Fact::EntryAt(0, true)),
+    Step::Sees(Fact::EntryAt(1, true)),
+    Step::Sees(Fact::EntryAt(2, false)),
+    Step::Sees(Fact::EntryAt(3, false)),
+    Step::Sees(Fact::EntryAt(4, true)),
+    Step::Sees(Fact::EntryAt(5, true)),
+    Step::Sees(Fact::EntryAt(6, false)),
+    Step::Sees(Fact::OpensAt(1, 2)),
+];
 
 #[test]
 fn an_entry_is_found_by_its_place(rt: HostRuntime) {
-    let mut kernel = roomy(&rt, rt.alloc());
-    open_two(&mut kernel);
-    let _ = message(&rt, rt.alloc(), &mut kernel, 7);
-    // two opens, two calls, began and ended: none is marked, so none goes
-    same(&rt, compact_marked(&mut kernel).dropped, 0);
-    kernel.mark(4);
-    // a mark never goes back
-    kernel.mark(2);
-    same(&rt, kernel.marked(), 4);
-    let done = compact_marked(&mut kernel);
-    same(&rt, done.dropped, 2);
-    same(&rt, done.left, 4);
-    for (place, is_held) in [
-        (0_usize, true),
-        (1, true),
-        (2, false),
-        (3, false),
-        (4, true),
-        (5, true),
-        (6, false),
-    ] {
-        same(&rt, kernel.entry(place).is_some(), is_held);
-    }
-    let second = kernel.entry(1).expect(&rt, "the second open");
-    holds(&rt, second.opens(first(2)));
+    play_roomy(&rt, rt.alloc(), PLACES);
 }
 
 // An ExchangeRegisters of thread 1 about itself, which stops nothing.
@@ -539,69 +712,96 @@ fn word_of(answer: Answer) -> &'static str {
     }
 }
 
+// An ExchangeRegisters of thread 1 about itself, by so many commands, each of which is obeyed so.
+fn look_on(rt: &impl Abort, kernel: &mut Kernel, times: u64) {
+    for _ in 0..times {
+        same(rt, word_of(obey(kernel, look())), "exchanged");
+    }
+}
+
+// The same, where memory may let go of all entries, and never holds more than these.
+fn look_again(rt: &impl Abort, kernel: &mut Kernel, times: u64, most: usize) {
+    for _ in 0..times {
+        let answer = obey_again(kernel, look(), usize::MAX);
+        same(rt, word_of(answer), "exchanged");
+        holds(rt, held(kernel) <= most);
+    }
+}
+
+// A command is obeyed once more so, and then so many entries are held.
+fn assert_again(
+    rt: &impl Abort,
+    kernel: &mut Kernel,
+    command: Command,
+    upto: usize,
+    answer: &str,
+    left: usize,
+) {
+    let said = obey_again(kernel, command, upto);
+    same(rt, word_of(said), answer);
+    same(rt, held(kernel), left);
+}
+
 #[test]
 fn a_command_that_finds_no_room_is_obeyed_once_more(rt: HostRuntime) {
     let mut kernel = kernel(&rt, rt.alloc(), 16, MAX_CALLS);
-    let _ = open(&mut kernel, 1, 1);
-    // an entry each, so that 12 fit, with two pledged and two that each needs
-    for _ in 0..12_u64 {
-        let answer = obey(&mut kernel, look());
-        same(&rt, word_of(answer), "exchanged");
-    }
-    // none goes where none may be let go of
-    let full = obey_again(&mut kernel, look(), 0);
-    same(&rt, word_of(full), "full");
-    same(&rt, held(&kernel), 13);
-    // and none for another refusal
-    let bad = obey_again(&mut kernel, open_of(0), usize::MAX);
-    same(&rt, word_of(bad), "a bad number");
-    same(&rt, held(&kernel), 13);
-    for _ in 0..100_u64 {
-        let answer = obey_again(&mut kernel, look(), usize::MAX);
-        same(&rt, word_of(answer), "exchanged");
-        holds(&rt, held(&kernel) <= 13);
-    }
-    let opened = obey_again(&mut kernel, open_of(2), usize::MAX);
-    same(&rt, word_of(opened), "opened");
+    find_no_room(&rt, &mut kernel);
     same(&rt, total(&kernel), 114);
+}
+
+fn find_no_room(rt: &impl Abort, kernel: &mut Kernel) {
+    let _ = open(kernel, 1, 1);
+    // an entry each, so that 12 fit, with two pledged and two that each needs
+    look_on(rt, kernel, 12);
+    // none goes where none may be let go of
+    assert_again(rt, kernel, look(), 0, "full", 13);
+    // and none for another refusal
+    assert_again(rt, kernel, open_of(0), usize::MAX, "a bad number", 13);
+    look_again(rt, kernel, 100, 13);
+    let opened = obey_again(kernel, open_of(2), usize::MAX);
+    same(rt, word_of(opened), "opened");
 }
 
 #[test]
 fn where_no_entry_may_go_a_command_stays_refused(rt: HostRuntime) {
     let mut kernel = kernel(&rt, rt.alloc(), 10, MAX_CALLS);
-    let _ = open(&mut kernel, 1, 1);
-    let receive = receives(&rt, rt.alloc(), 0);
-    let entered = obey_again(&mut kernel, Command::Enter(first(1), receive), usize::MAX);
-    same(&rt, word_of(entered), "entered 1");
-    same(&rt, held(&kernel), 2);
-    // the call stays, and is pledged five entries, its thread two
-    let full = obey_again(&mut kernel, open_of(2), usize::MAX);
-    same(&rt, word_of(full), "full");
-    // and so does the open of its thread
-    same(&rt, held(&kernel), 2);
+    find_none_to_let_go(&rt, rt.alloc(), &mut kernel);
     same(&rt, total(&kernel), 2);
 }
 
+fn find_none_to_let_go(rt: &impl Abort, alloc: Global, kernel: &mut Kernel) {
+    let _ = open(kernel, 1, 1);
+    let receive = Command::Enter(first(1), receives(rt, alloc, 0));
+    assert_again(rt, kernel, receive, usize::MAX, "entered 1", 2);
+    // the call stays, and is pledged five entries, its thread two; and so does the open of its thread
+    assert_again(rt, kernel, open_of(2), usize::MAX, "full", 2);
+}
+
+const LEAST: &[Step] = &[
+    OPENS,
+    OPENS_SECOND,
+    Step::Opens(3, 1, Ok(0x3_0000_0001)),
+    Step::Opens(4, 1, Ok(0x4_0000_0001)),
+    Step::Sees(Fact::LeastDue(None)),
+    Step::Reads(100),
+    // for ever, 7 microseconds, 5 microseconds
+    Step::Receives(1, 0, None),
+    Step::Receives(2, 7, None),
+    Step::Receives(3, 5, None),
+    Step::Sees(Fact::LeastDue(Some(105))),
+    // four opens, the clock's moment, three calls
+    Step::Sees(Fact::Total(8)),
+    Step::Reads(104),
+    Step::Sees(Fact::Total(8)),
+    Step::Reads(105),
+    Step::Sees(Fact::Finished(3)),
+    Step::Sees(Fact::LeastDue(Some(107))),
+    // the message comes, and only the call for ever waits
+    Step::Sends(4, 2, 7, 0),
+    Step::Sees(Fact::LeastDue(None)),
+];
+
 #[test]
 fn the_least_deadline_is_told(rt: HostRuntime) {
-    let mut kernel = roomy(&rt, rt.alloc());
-    for number in 1..=4_u64 {
-        let _ = open(&mut kernel, number, 1);
-    }
-    same(&rt, least_due(&kernel), None);
-    at(&mut kernel, 100);
-    // for ever, 7 microseconds, 5 microseconds
-    same(&rt, receive(&rt, rt.alloc(), &mut kernel, 1, 0), None);
-    same(&rt, receive(&rt, rt.alloc(), &mut kernel, 2, 7), None);
-    same(&rt, receive(&rt, rt.alloc(), &mut kernel, 3, 5), None);
-    same(&rt, least_due(&kernel), Some(105));
-    let before = total(&kernel);
-    at(&mut kernel, 104);
-    same(&rt, total(&kernel), before);
-    at(&mut kernel, 105);
-    same(&rt, kernel.finished(), [first(3)].as_slice());
-    same(&rt, least_due(&kernel), Some(107));
-    // the message comes, and only the call for ever waits
-    same(&rt, send(&rt, rt.alloc(), &mut kernel, 4, 2, 7, 0), None);
-    same(&rt, least_due(&kernel), None);
+    play_roomy(&rt, rt.alloc(), LEAST);
 }

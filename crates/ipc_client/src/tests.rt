@@ -1,13 +1,15 @@
 use super::*;
-use ipc_frame::{CallEnd, Frame, FrameFault, Side, WireVersion};
-use ipc_ports::{MemoryPort, Trouble};
+use ipc_frame::{CallEnd, Frame, FrameFault, IpcFrame, IpcrFrame, Side, WireVersion};
+use ipc_ports::{MemoryPort, PortRead, PortWrite, Trouble};
 use ipc_words::{Control, MsgTag, Period, ThreadId};
 use std::alloc::Global;
 use std::fmt::Debug;
 use std::process::Abort;
-use std::test::Fail;
 
-// Fails the test where the two differ. A call of it is proved much faster than the macro in its place.
+// A test is a row of calls of the small functions here. They say nothing of what they give, so the tests carry no facts of the client,
+// and they fail the test themselves, so no exit opens in the tests.
+
+// Fails the test where the two differ.
 pub(crate) fn same<T: PartialEq + Debug + Drop>(rt: &impl Abort, left: T, right: T) {
     assert_eq!(*rt; left, right);
 }
@@ -82,55 +84,46 @@ fn hello_and_bye(
     (greeting, client.bye())
 }
 
+// Over this input HELLO 2 is answered so, and then BYE, which is written where it is answered.
+fn assert_hello(
+    rt: &impl Abort,
+    alloc: Global,
+    input: &[u8],
+    greeting: Result<Greeting, ClientError>,
+    bye: Result<(), ClientError>,
+) {
+    let mut reader = MemoryPort::new(alloc, input);
+    let mut writer = MemoryPort::new(alloc, &[]);
+    let answers = hello_and_bye(alloc, &mut reader, &mut writer);
+    same(rt, answers, (greeting, bye));
+    match bye {
+        Ok(()) => assert_text(rt, writer.output(), &[&HELLO, &BYE]),
+        Err(_) => assert_text(rt, writer.output(), &[&HELLO]),
+    }
+}
+
+// Over this input HELLO 2 meets an error, and the client is closed.
+fn assert_closed(rt: &impl Abort, alloc: Global, input: &[u8], error: ClientError) {
+    assert_hello(rt, alloc, input, Err(error), Err(ClientError::Closed));
+}
+
 #[test]
 fn hello_is_answered_once(rt: HostRuntime) {
     let alloc = rt.alloc();
-    let cases = [
-        (
-            WELCOME.as_slice(),
-            Ok(Greeting::Welcome(ThreadId::from_word(SECOND))),
-            Ok(()),
-        ),
-        (REFUSED.as_slice(), Ok(Greeting::Refused(2)), Ok(())),
-        (
-            FAULT.as_slice(),
-            Err(ClientError::Fault {
-                class: 0x46,
-                number: 1,
-            }),
-            Err(ClientError::Closed),
-        ),
-        (
-            EXREGR.as_slice(),
-            Err(ClientError::Unexpected),
-            Err(ClientError::Closed),
-        ),
-        (
-            HELLO.as_slice(),
-            Err(ClientError::Frame(FrameFault::UnknownKind)),
-            Err(ClientError::Closed),
-        ),
-        (
-            TORN.as_slice(),
-            Err(ClientError::Frame(FrameFault::Unfinished)),
-            Err(ClientError::Closed),
-        ),
-        (
-            &[],
-            Err(ClientError::Frame(FrameFault::Unfinished)),
-            Err(ClientError::Closed),
-        ),
-    ];
-    for (input, greeting, bye) in cases {
-        let mut reader = MemoryPort::new(alloc, input);
-        let mut writer = MemoryPort::new(alloc, &[]);
-        let answers = hello_and_bye(alloc, &mut reader, &mut writer);
-        same(&rt, answers, (greeting, bye));
-        match bye {
-            Ok(()) => assert_text(&rt, writer.output(), &[&HELLO, &BYE]),
-            Err(_) => assert_text(&rt, writer.output(), &[&HELLO]),
-        }
-    }
+    let welcome = Greeting::Welcome(ThreadId::from_word(SECOND));
+    assert_hello(&rt, alloc, &WELCOME, Ok(welcome), Ok(()));
+    assert_hello(&rt, alloc, &REFUSED, Ok(Greeting::Refused(2)), Ok(()));
+    let fault = ClientError::Fault {
+        class: 0x46,
+        number: 1,
+    };
+    assert_closed(&rt, alloc, &FAULT, fault);
+    assert_closed(&rt, alloc, &EXREGR, ClientError::Unexpected);
+    let unknown = ClientError::Frame(FrameFault::UnknownKind);
+    assert_closed(&rt, alloc, &HELLO, unknown);
+    let unfinished = ClientError::Frame(FrameFault::Unfinished);
+    assert_closed(&rt, alloc, &TORN, unfinished);
+    assert_closed(&rt, alloc, &[], unfinished);
 }
 
 // The bytes are these texts, one after the other.
@@ -144,21 +137,27 @@ fn assert_text(rt: &impl Abort, bytes: Option<&[u8]>, texts: &[&[u8]]) {
     holds(rt, rest.is_empty());
 }
 
-// What HELLO 2 and BYE answer byte by byte, where the reader's or the writer's call of this number meets trouble.
-fn with_trouble(
+// What HELLO 2 and BYE answer byte by byte, where the reader's call of this number meets trouble.
+fn with_read_trouble(
     alloc: Global,
-    read: Option<u64>,
-    write: Option<u64>,
+    call: u64,
+    trouble: Trouble,
+) -> (Result<Greeting, ClientError>, Result<(), ClientError>) {
+    let reader = MemoryPort::new(alloc, &WELCOME).byte_by_byte();
+    let mut reader = reader.with_trouble(call, trouble);
+    let mut writer = MemoryPort::new(alloc, &[]).byte_by_byte();
+    hello_and_bye(alloc, &mut reader, &mut writer)
+}
+
+// The same of the writer's call.
+fn with_write_trouble(
+    alloc: Global,
+    call: u64,
     trouble: Trouble,
 ) -> (Result<Greeting, ClientError>, Result<(), ClientError>) {
     let mut reader = MemoryPort::new(alloc, &WELCOME).byte_by_byte();
-    let mut writer = MemoryPort::new(alloc, &[]).byte_by_byte();
-    if let Some(call) = read {
-        reader = reader.with_trouble(call, trouble);
-    }
-    if let Some(call) = write {
-        writer = writer.with_trouble(call, trouble);
-    }
+    let writer = MemoryPort::new(alloc, &[]).byte_by_byte();
+    let mut writer = writer.with_trouble(call, trouble);
     hello_and_bye(alloc, &mut reader, &mut writer)
 }
 
@@ -177,7 +176,27 @@ fn answers_at(
     }
 }
 
+// The fault, where the call is one of the first so many.
+fn among_first(call: u64, many: u64, fault: Option<FrameFault>) -> Option<FrameFault> {
+    if call < many { fault } else { None }
+}
+
 // The 13 bytes of WELCOME are 13 reads; HELLO is 7 writes and a flush, BYE 5 writes and a flush.
+fn assert_trouble(
+    rt: &impl Abort,
+    alloc: Global,
+    call: u64,
+    trouble: Trouble,
+    fault: Option<FrameFault>,
+) {
+    let answers = with_read_trouble(alloc, call, trouble);
+    same(rt, answers, answers_at(among_first(call, 13, fault), None));
+    let answers = with_write_trouble(alloc, call, trouble);
+    let hello = among_first(call, 8, fault);
+    let bye = among_first(call, 14, fault);
+    same(rt, answers, answers_at(hello, bye));
+}
+
 #[test]
 fn a_device_that_fails_closes_the_client(rt: HostRuntime) {
     let cases = [
@@ -187,112 +206,133 @@ fn a_device_that_fails_closes_the_client(rt: HostRuntime) {
     ];
     for (trouble, fault) in cases {
         for call in 0..16 {
-            let hello = if call < 13 { fault } else { None };
-            let answers = with_trouble(rt.alloc(), Some(call), None, trouble);
-            same(&rt, answers, answers_at(hello, None));
-            let hello = if call < 8 { fault } else { None };
-            let bye = if call < 14 { fault } else { None };
-            let answers = with_trouble(rt.alloc(), None, Some(call), trouble);
-            same(&rt, answers, answers_at(hello, bye));
+            assert_trouble(&rt, rt.alloc(), call, trouble, fault);
         }
     }
 }
 
 // The word 7 as a message.
-fn seven(alloc: Global) -> Result<Message, Fail> {
+fn seven(rt: &impl Abort, alloc: Global) -> Message {
     let mut message = Message::empty(alloc);
     message.tag = MsgTag::from_word(1);
-    message.words.push(7)?;
-    Ok(message)
+    message.words.push(7).expect(rt, "memory");
+    message
+}
+
+fn outcome_of(answer: Answer) -> Option<IpcrFrame> {
+    match answer {
+        Answer::Outcome(outcome) => Some(outcome),
+        Answer::Refused(_) => None,
+    }
+}
+
+// What a send of the word 7 is answered, before BYE.
+fn send_seven(
+    rt: &impl Abort,
+    alloc: Global,
+    reader: &mut MemoryPort<'_>,
+    writer: &mut MemoryPort<'_>,
+) -> Answer {
+    let mut client = Client::new(alloc, reader, writer);
+    let first = ThreadId::from_word(FIRST);
+    let answer = client.send(first, seven(rt, alloc), Timeout::never());
+    same(rt, client.bye(), Ok(()));
+    answer.expect(rt, "an answer")
 }
 
 #[test]
-fn a_call_that_fails_is_answered(rt: HostRuntime) -> Result<(), Fail> {
+fn a_call_that_fails_is_answered(rt: HostRuntime) {
     let alloc = rt.alloc();
     let mut reader = MemoryPort::new(alloc, &FAILED);
     let mut writer = MemoryPort::new(alloc, &[]);
-    let mut client = Client::new(alloc, &mut reader, &mut writer);
-    let first = ThreadId::from_word(FIRST);
-    match client.send(first, seven(alloc)?, Timeout::never())? {
-        Answer::Outcome(outcome) => {
-            holds(&rt, outcome.tag().has_failed());
-            same(&rt, outcome.error().to_word(), 4);
-        }
-        Answer::Refused(_) => return Err(Fail::new("refused")),
-    }
-    client.bye()?;
+    let answer = send_seven(&rt, alloc, &mut reader, &mut writer);
+    let outcome = outcome_of(answer).expect(&rt, "an outcome");
+    holds(&rt, outcome.tag().has_failed());
+    same(&rt, outcome.error().to_word(), 4);
     assert_text(&rt, writer.output(), &[&IPC, &BYE]);
-    Ok(())
+}
+
+// Makes one of four calls; send 5 microseconds, receive 3.
+fn make_call<R: PortRead, W: PortWrite>(
+    rt: &impl Abort,
+    alloc: Global,
+    client: &mut Client<R, W>,
+    which: u32,
+) -> Result<Answer, ClientError> {
+    let first = ThreadId::from_word(FIRST);
+    let (send, receive) = (Timeout::of(period(rt, 5)), Timeout::of(period(rt, 3)));
+    let none = Buffers::none(alloc);
+    match which {
+        0 => client.send(first, seven(rt, alloc), send),
+        1 => client.receive(ThreadId::ANYTHREAD, receive, none),
+        2 => client.call(first, seven(rt, alloc), send, receive, none),
+        _ => client.reply_wait(first, seven(rt, alloc), receive, none),
+    }
+}
+
+// The frame of one of four calls.
+fn call_frame(rt: &impl Abort, alloc: Global, which: u32) -> IpcFrame {
+    let mut reader = MemoryPort::new(alloc, &FAILED);
+    let mut writer = MemoryPort::new(alloc, &[]);
+    let mut client = Client::new(alloc, &mut reader, &mut writer);
+    let answer = make_call(rt, alloc, &mut client, which).expect(rt, "an answer");
+    holds(rt, outcome_of(answer).is_some());
+    let mut sent = writer.output().unwrap_or(&[]);
+    next_call(rt, alloc, &mut sent)
+}
+
+// The next frame that was written, a call.
+pub(crate) fn next_call(rt: &impl Abort, alloc: Global, sent: &mut &[u8]) -> IpcFrame {
+    let frame = read_frame(alloc, Side::Server, sent).expect(rt, "a frame");
+    ipc_of(frame).expect(rt, "a call")
+}
+
+fn ipc_of(frame: Frame) -> Option<IpcFrame> {
+    match frame {
+        Frame::Ipc(ipc) => Some(ipc),
+        _ => None,
+    }
+}
+
+fn assert_phases(rt: &impl Abort, alloc: Global, which: u32, to: u64, from: u64, timeouts: u32) {
+    let ipc = call_frame(rt, alloc, which);
+    same(rt, ipc.to().to_word(), to);
+    same(rt, ipc.from().to_word(), from);
+    same(rt, ipc.timeouts().to_word(), timeouts);
 }
 
 // A phase's timeouts: the receive period in the low half, the send period in the high half.
 #[test]
-fn each_call_asks_for_its_phases(rt: HostRuntime) -> Result<(), Fail> {
-    let alloc = rt.alloc();
-    let first = ThreadId::from_word(FIRST);
+fn each_call_asks_for_its_phases(rt: HostRuntime) {
     let any = u64::MAX;
-    // send 5 microseconds, receive 3
-    let (send, receive) = (Timeout::of(period(5)?), Timeout::of(period(3)?));
-    let cases = [
-        (0, FIRST, 0, 0x5_0000),
-        (1, 0, any, 0x3),
-        (2, FIRST, FIRST, 0x5_0003),
-        (3, FIRST, any, 0x400_0003),
-    ];
-    for (which, to, from, timeouts) in cases {
-        let mut reader = MemoryPort::new(alloc, &FAILED);
-        let mut writer = MemoryPort::new(alloc, &[]);
-        let mut client = Client::new(alloc, &mut reader, &mut writer);
-        let none = Buffers::none(alloc);
-        let answer = match which {
-            0 => client.send(first, seven(alloc)?, send)?,
-            1 => client.receive(ThreadId::ANYTHREAD, receive, none)?,
-            2 => client.call(first, seven(alloc)?, send, receive, none)?,
-            _ => client.reply_wait(first, seven(alloc)?, receive, none)?,
-        };
-        holds(&rt, matches!(&answer, Answer::Outcome(_)));
-        let mut sent = writer.output().unwrap_or(&[]);
-        let Frame::Ipc(ipc) = read_frame(alloc, Side::Server, &mut sent)? else {
-            return Err(Fail::new("no call"));
-        };
-        same(
-            &rt,
-            (
-                ipc.to().to_word(),
-                ipc.from().to_word(),
-                ipc.timeouts().to_word(),
-            ),
-            (to, from, timeouts),
-        );
-    }
-    Ok(())
+    assert_phases(&rt, rt.alloc(), 0, FIRST, 0, 0x5_0000);
+    assert_phases(&rt, rt.alloc(), 1, 0, any, 0x3);
+    assert_phases(&rt, rt.alloc(), 2, FIRST, FIRST, 0x5_0003);
+    assert_phases(&rt, rt.alloc(), 3, FIRST, any, 0x400_0003);
 }
 
-fn period(word: u16) -> Result<Period, Fail> {
-    match Period::from_word(word) {
-        Some(period) => Ok(period),
-        None => Err(Fail::new("a time point")),
-    }
+fn period(rt: &impl Abort, word: u16) -> Period {
+    Period::from_word(word).expect(rt, "a period")
+}
+
+// Exchanges the registers of 2.1.
+fn exchange(
+    alloc: Global,
+    reader: &mut MemoryPort<'_>,
+    writer: &mut MemoryPort<'_>,
+) -> Result<Registers, ClientError> {
+    let mut client = Client::new(alloc, reader, writer);
+    client.exchange_registers(ThreadId::from_word(SECOND), Control::from_word(4))
 }
 
 #[test]
-fn registers_are_exchanged(rt: HostRuntime) -> Result<(), Fail> {
+fn registers_are_exchanged(rt: HostRuntime) {
     let alloc = rt.alloc();
-    let second = ThreadId::from_word(SECOND);
     let mut reader = MemoryPort::new(alloc, &EXREGR);
     let mut writer = MemoryPort::new(alloc, &[]);
-    let mut client = Client::new(alloc, &mut reader, &mut writer);
-    let control = Control::from_word(4);
-    let registers = client.exchange_registers(second, control)?;
-    let exchanged = Registers::Exchanged {
-        result: second,
-        control,
-        code: 0,
-        moment: None,
-    };
-    same(&rt, registers, exchanged);
+    let registers = exchange(alloc, &mut reader, &mut writer);
+    same(&rt, registers, Ok(exchanged_at(None)));
     assert_text(&rt, writer.output(), &[&EXREG]);
-    Ok(())
 }
 
 #[test]
@@ -311,24 +351,31 @@ fn a_period_is_the_least_that_is_long_enough(rt: HostRuntime) {
     }
 }
 
-// A client that is welcomed in a version, after a HELLO that was refused in the other one, and then
-// exchanges the registers of 2.1.
-fn welcomed_and_exchanged(
+// The texts, one after the other.
+fn joined(rt: &impl Abort, alloc: Global, texts: &[&[u8]]) -> Vec<u8> {
+    let mut input = Vec::new(alloc);
+    for text in texts {
+        input.extend_from_slice(text).expect(rt, "memory");
+    }
+    input
+}
+
+// What a client is answered that is welcomed in a version, after a HELLO that was refused in the other one, and then exchanges the
+// registers of 2.1.
+fn welcome_and_exchange(
+    rt: &impl Abort,
     alloc: Global,
     version: WireVersion,
     refused: WireVersion,
     answer: &[u8],
-) -> Result<Result<Registers, ClientError>, Fail> {
-    let mut input = Vec::new(alloc);
-    input.extend_from_slice(&REFUSED)?;
-    input.extend_from_slice(&WELCOME)?;
-    input.extend_from_slice(answer)?;
+) -> Result<Registers, ClientError> {
+    let input = joined(rt, alloc, &[&REFUSED, &WELCOME, answer]);
     let mut reader = MemoryPort::new(alloc, &input);
     let mut writer = MemoryPort::new(alloc, &[]);
     let mut client = Client::new(alloc, &mut reader, &mut writer);
-    let _ = client.hello_version(2, refused)?;
-    let _ = client.hello_version(2, version)?;
-    Ok(client.exchange_registers(ThreadId::from_word(SECOND), Control::from_word(4)))
+    holds(rt, client.hello_version(2, refused).is_ok());
+    holds(rt, client.hello_version(2, version).is_ok());
+    client.exchange_registers(ThreadId::from_word(SECOND), Control::from_word(4))
 }
 
 // What an ExchangeRegisters of 2.1 answers, with its moment.
@@ -342,34 +389,34 @@ fn exchanged_at(moment: Option<u64>) -> Registers {
 }
 
 #[test]
-fn an_answer_is_of_the_version_that_was_welcomed(rt: HostRuntime) -> Result<(), Fail> {
+fn an_answer_is_of_the_version_that_was_welcomed(rt: HostRuntime) {
     let alloc = rt.alloc();
     let (one, two) = (WireVersion::One, WireVersion::Two);
-    let second = welcomed_and_exchanged(alloc, two, one, &EXREGR_TWO)?;
+    let second = welcome_and_exchange(&rt, alloc, two, one, &EXREGR_TWO);
     same(&rt, second, Ok(exchanged_at(Some(7))));
-    let older = welcomed_and_exchanged(alloc, two, one, &EXREGR)?;
+    let older = welcome_and_exchange(&rt, alloc, two, one, &EXREGR);
     same(&rt, older, Err(ClientError::Unexpected));
-    let first = welcomed_and_exchanged(alloc, one, two, &EXREGR)?;
+    let first = welcome_and_exchange(&rt, alloc, one, two, &EXREGR);
     same(&rt, first, Ok(exchanged_at(None)));
-    let newer = welcomed_and_exchanged(alloc, one, two, &EXREGR_TWO)?;
+    let newer = welcome_and_exchange(&rt, alloc, one, two, &EXREGR_TWO);
     same(&rt, newer, Err(ClientError::Unexpected));
-    Ok(())
+}
+
+// What a client of version 2 receives.
+fn receive_in_two(rt: &impl Abort, alloc: Global, input: &[u8]) -> Answer {
+    let mut reader = MemoryPort::new(alloc, input);
+    let mut writer = MemoryPort::new(alloc, &[]);
+    let mut client = Client::new(alloc, &mut reader, &mut writer);
+    holds(rt, client.hello_version(2, WireVersion::Two).is_ok());
+    let none = Buffers::none(alloc);
+    let answer = client.receive(ThreadId::ANYTHREAD, Timeout::never(), none);
+    answer.expect(rt, "an answer")
 }
 
 #[test]
-fn an_outcome_of_version_2_has_its_call_and_its_moment(rt: HostRuntime) -> Result<(), Fail> {
-    let alloc = rt.alloc();
-    let mut input = Vec::new(alloc);
-    input.extend_from_slice(&WELCOME)?;
-    input.extend_from_slice(&IPCR_TWO)?;
-    let mut reader = MemoryPort::new(alloc, &input);
-    let mut writer = MemoryPort::new(alloc, &[]);
-    let mut client = Client::new(alloc, &mut reader, &mut writer);
-    let _ = client.hello_version(2, WireVersion::Two)?;
-    let answer = client.receive(ThreadId::ANYTHREAD, Timeout::never(), Buffers::none(alloc))?;
-    let Answer::Outcome(outcome) = answer else {
-        return Err(Fail::new("no outcome"));
-    };
+fn an_outcome_of_version_2_has_its_call_and_its_moment(rt: HostRuntime) {
+    let input = joined(&rt, rt.alloc(), &[&WELCOME, &IPCR_TWO]);
+    let answer = receive_in_two(&rt, rt.alloc(), &input);
+    let outcome = outcome_of(answer).expect(&rt, "an outcome");
     same(&rt, outcome.end(), Some(CallEnd { call: 3, moment: 9 }));
-    Ok(())
 }

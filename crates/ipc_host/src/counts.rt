@@ -1,5 +1,5 @@
 //! What a server has told its clients since its start, beside the outcomes of calls.
-use crate::told::Told;
+use crate::notice::Notice;
 use std::fmt;
 
 /// How many numbers a refusal may have: K0 is none, and a number past K8 counts as K0.
@@ -24,11 +24,11 @@ impl Counts {
     }
 
     /// Counts one more.
-    pub fn add(&mut self, told: Told) {
-        match told {
-            Told::Exchanged => self.exchanges = self.exchanges.saturating_add(1),
-            Told::Fault(_, _) => self.faults = self.faults.saturating_add(1),
-            Told::Refused(number) => self.refuse(usize::from(number)),
+    pub fn add(&mut self, notice: Notice) {
+        match notice {
+            Notice::Exchanged => self.exchanges = self.exchanges.saturating_add(1),
+            Notice::Fault(_, _) => self.faults = self.faults.saturating_add(1),
+            Notice::Refused(number) => self.refuse(usize::from(number)),
         }
     }
 

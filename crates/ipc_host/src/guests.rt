@@ -3,7 +3,7 @@ ghost use Rattle.std.specs.Prelude.{◌≤◌, ◌+◌, ◌↔◌, IsTrue};
 
 use crate::clock::ServerClock;
 use crate::counts::Counts;
-use crate::told::Told;
+use crate::notice::Notice;
 use std::alloc::Global;
 use std::net::Shutdown;
 use std::os::unix::net::UnixStream;
@@ -224,10 +224,10 @@ impl Guests {
     }
 
     /// Counts what was told to a client.
-    pub fn count<R: Wait>(&self, rt: &R, told: Told) {
+    pub fn count<R: Wait>(&self, rt: &R, notice: Notice) {
         let mut table = self.table.lock(rt);
         let table = &mut *table;
-        table.counts.add(told);
+        table.counts.add(notice);
     }
 
     /// How many connections are there, how many of them are threads, and what was told so far.

@@ -6,21 +6,21 @@ mod counts;
 mod eager;
 mod guests;
 mod limit;
+mod notice;
 mod obstacle;
 mod signals;
 mod socket;
 mod status;
 #[cfg(test)]
 mod tests;
-mod told;
 
 pub use clock::ServerClock;
 pub use counts::Counts;
 pub use eager::EagerStream;
 pub use guests::{Guests, is_overdue};
 pub use limit::{SPARE, descriptors, room};
+pub use notice::{Notice, class_letter};
 pub use obstacle::{Obstacle, obstacle_at};
 pub use signals::{have_come, may_be_blocked};
 pub use socket::SocketPort;
 pub use status::{ProcessStatus, field, resident};
-pub use told::{Told, class_letter};

@@ -1,10 +1,10 @@
 ghost use Rattle.std.specs.Prelude.{None};
 
 use crate::server::Server;
-use crate::serving::Line;
+use crate::serving::Link;
 use ipc_connection::{Request, Told, reply};
 use ipc_frame::{Frame, WireVersion};
-use ipc_host::class_letter;
+use ipc_host::{Notice, class_letter};
 use ipc_lock::{Entered, PostEnd};
 use ipc_pen::PenPort;
 use ipc_session::CallDesk;
@@ -15,12 +15,12 @@ use std::sync::ledger::Ledger;
 
 /// The desk of a connection's reader: the shared kernel, by the connection's own end. It tells no calls.
 #[derive(Drop)]
-pub struct Caller<'a, C: Ledger, T: Ledger, P: PenPort + Drop, R: Wait + Clock, G: Line> {
+pub struct Caller<'a, C: Ledger, T: Ledger, P: PenPort + Drop, R: Wait + Clock, G: Link> {
     server: &'a Server<'a, C, T, P, R>,
     end: PostEnd<C>,
     space: u64,
     thread: Option<ThreadId>,
-    line: G,
+    link: G,
 }
 
 impl<'a, C, T, P, R, G> Caller<'a, C, T, P, R, G>
@@ -29,16 +29,16 @@ where
     T: Ledger,
     P: PenPort + Drop,
     R: Wait + Clock,
-    G: Line + Drop,
+    G: Link + Drop,
 {
     /// A desk that opens its thread in a space.
-    pub fn new(server: &'a Server<'a, C, T, P, R>, end: PostEnd<C>, space: u64, line: G) -> Self {
+    pub fn new(server: &'a Server<'a, C, T, P, R>, end: PostEnd<C>, space: u64, link: G) -> Self {
         Caller {
             server,
             end,
             space,
             thread: None,
-            line,
+            link,
         }
     }
 
@@ -49,25 +49,25 @@ where
     }
 }
 
-/// Notes on a line what became of a request, and keeps the thread that was opened.
-fn note<G: Line>(line: &G, thread: &mut Option<ThreadId>, told: Told, entered: Entered) {
+/// Notes on a link what became of a request, and keeps the thread that was opened.
+fn note<G: Link>(link: &G, thread: &mut Option<ThreadId>, told: Told, entered: Entered) {
     match told {
         Told::Opened(opened, _version) => {
             *thread = Some(opened);
-            line.welcomes(opened);
+            link.welcomes(opened);
         }
-        Told::Exchanged(_, _, _, _) => line.tells(ipc_host::Told::Exchanged, *thread),
-        Told::Entered if entered == Entered::Over => line.sees_outcome(),
+        Told::Exchanged(_, _, _, _) => link.tells(Notice::Exchanged, *thread),
+        Told::Entered if entered == Entered::Over => link.sees_outcome(),
         _ => {}
     }
 }
 
-/// Says on a line what a client is told by REFUSED or FAULT, which are the same in each version.
-fn say<G: Line>(line: &G, told: Told, thread: Option<ThreadId>) {
+/// Says on a link what a client is told by REFUSED or FAULT, which are the same in each version.
+fn say<G: Link>(link: &G, told: Told, thread: Option<ThreadId>) {
     match reply(WireVersion::One, told) {
-        Some(Frame::Refused(number)) => line.tells(ipc_host::Told::Refused(number), thread),
+        Some(Frame::Refused(number)) => link.tells(Notice::Refused(number), thread),
         Some(Frame::Fault(class, number)) => {
-            line.tells(ipc_host::Told::Fault(class_letter(class), number), thread)
+            link.tells(Notice::Fault(class_letter(class), number), thread)
         }
         _ => {}
     }
@@ -79,7 +79,7 @@ where
     T: Ledger,
     P: PenPort + Drop,
     R: Wait + Clock,
-    G: Line,
+    G: Link,
 {
     ghost log = { λ _. None };
 
@@ -89,13 +89,13 @@ where
         let now = self.server.now();
         let (told, entered) = shared.ask(rt, now, &mut self.end, request, self.space);
         let answer = told;
-        note(&self.line, &mut self.thread, told, entered);
+        note(&self.link, &mut self.thread, told, entered);
         answer
     }
 
     fn post(&mut self, told: Told) {
         let posted = told;
-        say(&self.line, told, self.thread);
+        say(&self.link, told, self.thread);
         self.server.shared.post(self.server.rt, &self.end, posted);
     }
 

@@ -3,7 +3,7 @@ ghost use Rattle.ipc_pen.specs.Pens.{BeginsEmpty};
 
 use crate::caller::Caller;
 use crate::server::Server;
-use ipc_host::Told;
+use ipc_host::Notice;
 use ipc_lock::{PostEnd, TakeEnd};
 use ipc_pen::{Patience, PenPort};
 use ipc_ports::PortRead;
@@ -18,8 +18,8 @@ use std::thread::Threads;
 /// How much stack a worker has, in bytes.
 const STACK: usize = 262_144;
 
-/// The line that a connection's ports stand on: a worker that ends shuts it down, and it sees what becomes of the connection.
-pub trait Line {
+/// The link that a connection's ports stand on: a worker that ends shuts it down, and it sees what becomes of the connection.
+pub trait Link {
     /// Nothing more is read.
     fn stop_reading(&self);
 
@@ -33,13 +33,13 @@ pub trait Line {
     fn sees_outcome(&self);
 
     /// It is told this, as the thread that it is, if any.
-    fn tells(&self, told: Told, thread: Option<ThreadId>);
+    fn tells(&self, notice: Notice, thread: Option<ThreadId>);
 }
 
-/// The ports of a connection to a space, and the line that they stand on: as the gate of the loop that reads, for the worker that writes, and
+/// The ports of a connection to a space, and the link that they stand on: as the gate of the loop that reads, for the worker that writes, and
 /// for the desk.
 #[derive(Drop)]
-pub struct Ports<P: PenPort, I: PortRead, G: Gate + Line> {
+pub struct Ports<P: PenPort, I: PortRead, G: Gate + Link> {
     /// The space, 1 to `MAX_SPACE`.
     pub space: u64,
     /// What the client sends.
@@ -48,9 +48,9 @@ pub struct Ports<P: PenPort, I: PortRead, G: Gate + Line> {
     pub writer: P,
     /// The gate of the loop that reads.
     pub reads: G,
-    /// The line, for the worker that writes.
+    /// The link, for the worker that writes.
     pub writes: G,
-    /// The line, for the desk.
+    /// The link, for the desk.
     pub desk: G,
 }
 
@@ -60,7 +60,7 @@ pub(crate) fn worker() -> thread::Builder {
 }
 
 /// Serves one connection to its end: reads in this thread, and in one that it starts writes what no other thread could. Where that
-/// cannot be started, or there is no memory for a box, the line is shut down.
+/// cannot be started, or there is no memory for a box, the link is shut down.
 pub fn serve_connection<C, T, P, R, I, G>(server: &Server<'_, C, T, P, R>, ports: Ports<P, I, G>)
 where
     C: Ledger + Send,
@@ -68,7 +68,7 @@ where
     P: PenPort + Drop + Send,
     R: Threads + Wait + Clock + Sync,
     I: PortRead + Drop,
-    G: Gate + Line + Drop + Send,
+    G: Gate + Link + Drop + Send,
     requires { BeginsEmpty (P.written ports.writer) }
 {
     let Ports {
@@ -112,7 +112,7 @@ where
     P: PenPort + Drop + Send,
     R: Threads + Wait + Clock + Sync,
     I: PortRead + Drop + Send,
-    G: Gate + Line + Drop + Send,
+    G: Gate + Link + Drop + Send,
     requires first { BeginsEmpty (P.written first.writer) }
     requires second { BeginsEmpty (P.written second.writer) }
 {
@@ -140,7 +140,7 @@ where
     P: PenPort + Drop,
     R: Wait + Clock,
     I: PortRead + Drop,
-    G: Gate + Line + Drop,
+    G: Gate + Link + Drop,
 {
     let mut reader = reader;
     let mut reads = reads;
@@ -150,14 +150,14 @@ where
     desk.into_end()
 }
 
-/// Writes what no other thread could write at once, and then shuts the line down.
-fn write_to_the_end<C, T, P, R, G>(server: &Server<'_, C, T, P, R>, takes: TakeEnd, line: G)
+/// Writes what no other thread could write at once, and then shuts the link down.
+fn write_to_the_end<C, T, P, R, G>(server: &Server<'_, C, T, P, R>, takes: TakeEnd, link: G)
 where
     C: Ledger,
     T: Ledger,
     P: PenPort + Drop,
     R: Wait + Clock,
-    G: Line + Drop,
+    G: Link + Drop,
 {
     for _ in server.rt.forever() {
         let Some(pen) = server.shared.wait_pen(server.rt, &takes) else {
@@ -168,5 +168,5 @@ where
         server.shared.give_back(server.rt, pen);
     }
     server.shared.leave(server.rt, server.now(), &takes);
-    line.shut_down();
+    link.shut_down();
 }

@@ -1,9 +1,9 @@
-//! The socket of a connection, as the line of its ports.
+//! The socket of a connection, as the link of its ports.
 ghost use Rattle.std.specs.Prelude.{◌≡◌, ◌<◌};
 
 use crate::host::Host;
-use crate::serving::Line;
-use ipc_host::Told;
+use crate::serving::Link;
+use ipc_host::Notice;
 use ipc_session::Gate;
 use ipc_words::ThreadId;
 use std::net::Shutdown;
@@ -22,7 +22,7 @@ pub struct Guest<'a, R: Wait + Eprint> {
     pub(crate) soon: &'a AtomicBool,
 }
 
-/// A socket as the line of its ports, and as the gate of a loop over it. It says stop after 2^64 - 1 turns, which no run has.
+/// A socket as the link of its ports, and as the gate of a loop over it. It says stop after 2^64 - 1 turns, which no run has.
 #[derive(Drop)]
 pub struct SocketGate<'a, R: Wait + Eprint> {
     stream: &'a UnixStream,
@@ -58,7 +58,7 @@ impl<R: Wait + Eprint> Gate for SocketGate<'_, R> {
     }
 }
 
-impl<R: Wait + Eprint> Line for SocketGate<'_, R> {
+impl<R: Wait + Eprint> Link for SocketGate<'_, R> {
     fn stop_reading(&self) {
         let _ = self.stream.shutdown(Shutdown::Read);
     }
@@ -80,21 +80,21 @@ impl<R: Wait + Eprint> Line for SocketGate<'_, R> {
         }
     }
 
-    fn tells(&self, told: Told, thread: Option<ThreadId>) {
+    fn tells(&self, notice: Notice, thread: Option<ThreadId>) {
         if !self.guest.host.is_logged {
             return;
         }
-        self.guest.host.guests.count(self.guest.rt, told);
+        self.guest.host.guests.count(self.guest.rt, notice);
         let rt = self.guest.rt;
         let space = self.guest.space;
         // where standard error fails the line is lost
-        let _ = match (told, thread) {
-            (Told::Fault(_, _), Some(thread)) => {
+        let _ = match (notice, thread) {
+            (Notice::Fault(_, _), Some(thread)) => {
                 let (number, version) = (thread.number(), thread.version());
-                eprintln!(rt; "l4d: {told} to {number}.{version} of space {space}")
+                eprintln!(rt; "l4d: {notice} to {number}.{version} of space {space}")
             }
-            (Told::Fault(_, _) | Told::Refused(_), None) => {
-                eprintln!(rt; "l4d: {told} to a connection of space {space}")
+            (Notice::Fault(_, _) | Notice::Refused(_), None) => {
+                eprintln!(rt; "l4d: {notice} to a connection of space {space}")
             }
             _ => Ok(()),
         };

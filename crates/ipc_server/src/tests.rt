@@ -1,9 +1,9 @@
 ghost use Rattle.std.specs.Prelude.{◌≡◌, ◌<◌, ◌^◌, None};
 
 use crate::server::Server;
-use crate::serving::{Line, Ports, serve_ports};
+use crate::serving::{Link, Ports, serve_ports};
 use ipc_core::{Limits, MAX_CALLS, MAX_ENTRIES};
-use ipc_host::{ServerClock, Told};
+use ipc_host::{Notice, ServerClock};
 use ipc_lock::SharedKernel;
 use ipc_pen::{Patience, PenPort};
 use ipc_ports::{PortFault, PortRead};
@@ -200,7 +200,7 @@ impl PenPort for TellingPort<'_> {
     }
 }
 
-// A gate whose line has nothing to shut down: both ports end by their cues.
+// A gate whose link has nothing to shut down: both ports end by their cues.
 #[derive(Drop)]
 struct CountedGate {
     turns: u64,
@@ -222,7 +222,7 @@ impl Gate for CountedGate {
     }
 }
 
-impl Line for CountedGate {
+impl Link for CountedGate {
     fn stop_reading(&self) {}
 
     fn shut_down(&self) {}
@@ -231,7 +231,7 @@ impl Line for CountedGate {
 
     fn sees_outcome(&self) {}
 
-    fn tells(&self, _told: Told, _thread: Option<ThreadId>) {}
+    fn tells(&self, _notice: Notice, _thread: Option<ThreadId>) {}
 }
 
 fn gate() -> CountedGate {

@@ -3,7 +3,7 @@ use std::fmt;
 
 /// What a client was told.
 #[derive(Clone, Copy, PartialEq, Eq, Debug)]
-pub enum Told {
+pub enum Notice {
     /// EXREGR: an ExchangeRegisters was done.
     Exchanged,
     /// REFUSED, with the number of its K.
@@ -12,12 +12,12 @@ pub enum Told {
     Fault(char, u8),
 }
 
-impl fmt::Display for Told {
+impl fmt::Display for Notice {
     fn fmt<W: fmt::Write>(&self, f: &mut fmt::Formatter<W>) -> fmt::Result {
         match self {
-            Told::Exchanged => write!(f, "exchanged"),
-            Told::Refused(number) => write!(f, "refused K{number}"),
-            Told::Fault(class, number) => write!(f, "fault {class}{number}"),
+            Notice::Exchanged => write!(f, "exchanged"),
+            Notice::Refused(number) => write!(f, "refused K{number}"),
+            Notice::Fault(class, number) => write!(f, "fault {class}{number}"),
         }
     }
 }

@@ -2,4 +2,4 @@ pub mod Chain
 pub mod Faults
 pub mod Asking
 pub mod Replying
-pub mod Desk
+pub mod KernelCalls

@@ -1,5 +1,5 @@
 ghost use Rattle.std.specs.Prelude.{◌≡◌, is_some};
-ghost use Rattle.ipc_connection.specs.Desk.{posted};
+ghost use Rattle.ipc_connection.specs.KernelCalls.{posted};
 ghost use Rattle.ipc_connection.specs.Replying.{ends_by, frame_of, moment_in, next_stage, next_version, reply, thread_left, told_of};
 
 use crate::fault::KERNEL;
@@ -8,7 +8,7 @@ use ipc_core::{Answer, Refusal};
 use ipc_frame::{Frame, WireVersion};
 use ipc_words::{Control, ThreadId};
 
-/// What becomes of a request: what the kernel, or a desk in front of it, answered, or how the
+/// What becomes of a request: what the kernel, or a port in front of it, answered, or how the
 /// connection ends.
 #[derive(Clone, Copy, PartialEq, Eq, Debug)]
 pub enum Told {
@@ -92,7 +92,7 @@ fn refused(refusal: Refusal) -> Option<Frame>
     }
 }
 
-/// Whether a desk leaves this to be posted: it posts itself what it accepted, so a refusal that is told to
+/// Whether a kernel port leaves this to be posted: it posts itself what it accepted, so a refusal that is told to
 /// somebody, or a fault.
 #[tactic(auto, unfolding(crate::specs::Replying::reply))]
 pub fn is_posted(told: Told) -> bool

@@ -1,4 +1,4 @@
--- What the lock tells of a request is an answer to it, as a session asks of a desk.
+-- What the lock tells of a request is an answer to it, as a session asks of a kernel port.
 use Rattle.std.specs.Prelude.{Option}
 use Rattle.ipc_connection.specs.declared.asking.Request.{Request}
 use Rattle.ipc_connection.specs.declared.asking.Request.TheVariants.{Open, Enter, Exreg}

@@ -162,14 +162,14 @@ fn tick<C: Ledger, T: Ledger, R: Wait + Clock>(
     over: &AtomicBool,
 ) {
     let mut alarm = Alarm::new(server);
-    let mut desk = Worker::new(server);
-    tick_loop(&mut alarm, &mut desk, &mut OverGate::new(over));
+    let mut work_port = Worker::new(server);
+    tick_loop(&mut alarm, &mut work_port, &mut OverGate::new(over));
 }
 
 /// Copies blocks while transfers go on that nobody else copies, and else waits for one.
 fn move_blocks<C: Ledger, T: Ledger, R: Wait + Clock>(server: &Server<'_, C, T, SocketPort, R>) {
-    let mut desk = Worker::new(server);
-    let _ = move_loop(&mut desk, &mut Open::new(u64::MAX));
+    let mut work_port = Worker::new(server);
+    let _ = move_loop(&mut work_port, &mut Open::new(u64::MAX));
 }
 
 /// One worker for each path, until all have ended. False where one could not be started; the others are then stopped.
@@ -313,7 +313,7 @@ where
         writer,
         reads: SocketGate::new(stream, guest),
         writes: SocketGate::new(stream, guest),
-        desk: SocketGate::new(stream, guest),
+        kernel_port: SocketGate::new(stream, guest),
     };
     serve_connection(server, ports);
 }

@@ -7,13 +7,13 @@ use ipc_frame::{Frame, WireVersion};
 use ipc_host::{Notice, class_letter};
 use ipc_lock::{Entered, PostEnd};
 use ipc_pen::PenPort;
-use ipc_session::CallDesk;
+use ipc_session::KernelPort;
 use ipc_words::ThreadId;
 use std::rt::Clock;
 use std::sync::Wait;
 use std::sync::ledger::Ledger;
 
-/// The desk of a connection's reader: the shared kernel, by the connection's own end. It tells no calls.
+/// The kernel port of a connection's reader: the shared kernel, by the connection's own end. It tells no calls.
 #[derive(Drop)]
 pub struct Caller<'a, C: Ledger, T: Ledger, P: PenPort + Drop, R: Wait + Clock, G: Link> {
     server: &'a Server<'a, C, T, P, R>,
@@ -31,7 +31,7 @@ where
     R: Wait + Clock,
     G: Link + Drop,
 {
-    /// A desk that opens its thread in a space.
+    /// A port that opens its thread in a space.
     pub fn new(server: &'a Server<'a, C, T, P, R>, end: PostEnd<C>, space: u64, link: G) -> Self {
         Caller {
             server,
@@ -73,7 +73,7 @@ fn say<G: Link>(link: &G, told: Told, thread: Option<ThreadId>) {
     }
 }
 
-impl<C, T, P, R, G> CallDesk for Caller<'_, C, T, P, R, G>
+impl<C, T, P, R, G> KernelPort for Caller<'_, C, T, P, R, G>
 where
     C: Ledger,
     T: Ledger,

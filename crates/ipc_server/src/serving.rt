@@ -37,7 +37,7 @@ pub trait Link {
 }
 
 /// The ports of a connection to a space, and the link that they stand on: as the gate of the loop that reads, for the worker that writes, and
-/// for the desk.
+/// for the kernel port.
 #[derive(Drop)]
 pub struct Ports<P: PenPort, I: PortRead, G: Gate + Link> {
     /// The space, 1 to `MAX_SPACE`.
@@ -50,8 +50,8 @@ pub struct Ports<P: PenPort, I: PortRead, G: Gate + Link> {
     pub reads: G,
     /// The link, for the worker that writes.
     pub writes: G,
-    /// The link, for the desk.
-    pub desk: G,
+    /// The link, for the kernel port.
+    pub kernel_port: G,
 }
 
 /// What starts a worker.
@@ -77,7 +77,7 @@ where
         writer,
         reads,
         writes,
-        desk,
+        kernel_port,
     } = ports;
     let Ok((posts, takes)) = server.shared.connect(server.rt, writer) else {
         reads.shut_down();
@@ -91,7 +91,7 @@ where
         }
         read_to_the_end(
             server,
-            Caller::new(server, posts, space, desk),
+            Caller::new(server, posts, space, kernel_port),
             reader,
             reads,
         )
@@ -130,7 +130,7 @@ where
 /// Reads what the client sends, and then stops reading.
 fn read_to_the_end<C, T, P, R, I, G>(
     server: &Server<'_, C, T, P, R>,
-    desk: Caller<'_, C, T, P, R, G>,
+    kernel_port: Caller<'_, C, T, P, R, G>,
     reader: I,
     reads: G,
 ) -> PostEnd<C>
@@ -144,10 +144,10 @@ where
 {
     let mut reader = reader;
     let mut reads = reads;
-    let mut desk = desk;
-    let _ = read_loop(server.alloc, &mut reader, &mut desk, &mut reads);
+    let mut kernel_port = kernel_port;
+    let _ = read_loop(server.alloc, &mut reader, &mut kernel_port, &mut reads);
     reads.stop_reading();
-    desk.into_end()
+    kernel_port.into_end()
 }
 
 /// Writes what no other thread could write at once, and then shuts the link down.

@@ -307,7 +307,7 @@ fn serve_both<C: Ledger + Send, T: Ledger + Send, R: Threads + Wait + Clock + Sy
         },
         reads: gate(),
         writes: gate(),
-        desk: gate(),
+        kernel_port: gate(),
     };
     let sender = Ports {
         space: 1,
@@ -324,7 +324,7 @@ fn serve_both<C: Ledger + Send, T: Ledger + Send, R: Threads + Wait + Clock + Sy
         },
         reads: gate(),
         writes: gate(),
-        desk: gate(),
+        kernel_port: gate(),
     };
     serve_ports(&server, receiver, sender);
     Ok(())

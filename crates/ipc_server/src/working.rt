@@ -2,13 +2,13 @@
 use crate::server::Server;
 use ipc_core::{Advance, Answer, Command};
 use ipc_pen::PenPort;
-use ipc_session::{Beat, Gate, WorkDesk};
+use ipc_session::{Beat, Gate, WorkPort};
 use std::rt::Clock;
 use std::sync::Wait;
 use std::sync::atomic::{AtomicBool, Ordering};
 use std::sync::ledger::Ledger;
 
-/// The desk of the ticker and of the mover.
+/// The work port of the ticker and of the mover.
 #[derive(Drop)]
 pub struct Worker<'a, C: Ledger, T: Ledger, P: PenPort + Drop, R: Wait + Clock> {
     server: &'a Server<'a, C, T, P, R>,
@@ -16,7 +16,7 @@ pub struct Worker<'a, C: Ledger, T: Ledger, P: PenPort + Drop, R: Wait + Clock> 
 }
 
 impl<'a, C: Ledger, T: Ledger, P: PenPort + Drop, R: Wait + Clock> Worker<'a, C, T, P, R> {
-    /// A desk that works on a server's kernel.
+    /// A port that works on a server's kernel.
     pub fn new(server: &'a Server<'a, C, T, P, R>) -> Self {
         Worker {
             server,
@@ -25,8 +25,8 @@ impl<'a, C: Ledger, T: Ledger, P: PenPort + Drop, R: Wait + Clock> Worker<'a, C,
     }
 }
 
-impl<C: Ledger, T: Ledger, P: PenPort + Drop, R: Wait + Clock> WorkDesk for Worker<'_, C, T, P, R> {
-    ghost gone = { λ desk. desk.is_gone };
+impl<C: Ledger, T: Ledger, P: PenPort + Drop, R: Wait + Clock> WorkPort for Worker<'_, C, T, P, R> {
+    ghost gone = { λ port. port.is_gone };
 
     fn tick(&mut self) {
         self.server.tick();

@@ -17,7 +17,7 @@ use Rattle.ipc_calls.specs.Taking.{Decoding, Finishes, Holds}
 use Rattle.ipc_calls.specs.declared.heard.Heard.{Heard}
 use Rattle.ipc_connection.proofs.ChainLemmas.{chain_both, chain_none, chain_push}
 use Rattle.ipc_connection.specs.Chain.{Chain}
-use Rattle.ipc_connection.specs.Desk.{DeskCall, Breaks, TellsMore}
+use Rattle.ipc_connection.specs.KernelCalls.{KernelCall, Breaks, TellsMore}
 use Rattle.ipc_connection.specs.declared.stage.Stage.{Stage}
 use Rattle.ipc_connection.specs.declared.stage.Stage.TheVariants.{Greeting, Finished}
 use Rattle.ipc_session.proofs.CauseLemmas.{cause_of, fault_ends, still_on}
@@ -31,20 +31,20 @@ use Rattle.ipc_session.specs.declared.turned.Turned.{Turned}
 use Rattle.ipc_session.specs.declared.turned.Turned.TheVariants.{On, Over}
 
 -- calls, and then more of them
-tells_then : (a b c : Log) (xs ys : List DeskCall) → TellsMore a b (xs ++ []) → TellsMore b c ys → TellsMore a c (xs ++ ys)
-tells_then a b c xs ys h k = tells_both a b c xs ys (subst (λ (l : List DeskCall). TellsMore a b l) (append-nil xs) h) k
+tells_then : (a b c : Log) (xs ys : List KernelCall) → TellsMore a b (xs ++ []) → TellsMore b c ys → TellsMore a c (xs ++ ys)
+tells_then a b c xs ys h k = tells_both a b c xs ys (subst (λ (l : List KernelCall). TellsMore a b l) (append-nil xs) h) k
 
-tells_end : (a b c : Log) (xs ys : List DeskCall) → TellsMore a b (xs ++ []) → TellsMore b c ys → TellsMore a c ((xs ++ ys) ++ [])
-tells_end a b c xs ys h k = subst (λ (l : List DeskCall). TellsMore a c l) (sym (append-nil (xs ++ ys))) (tells_then a b c xs ys h k)
+tells_end : (a b c : Log) (xs ys : List KernelCall) → TellsMore a b (xs ++ []) → TellsMore b c ys → TellsMore a c ((xs ++ ys) ++ [])
+tells_end a b c xs ys h k = subst (λ (l : List KernelCall). TellsMore a c l) (sym (append-nil (xs ++ ys))) (tells_then a b c xs ys h k)
 
 -- a connection that goes on has not finished
-pub all_on : (heard : List (Result Heard FrameFault)) (before after : Stage) (calls : List DeskCall) → before ≢ Finished → ServesAll (On before) heard calls (On after) → after ≢ Finished
+pub all_on : (heard : List (Result Heard FrameFault)) (before after : Stage) (calls : List KernelCall) → before ≢ Finished → ServesAll (On before) heard calls (On after) → after ≢ Finished
 unfolding Chain
 all_on [] before after calls is_on s e = let same = s.1 in is_on (cc)
 all_on (x ∷ xs) before after calls is_on (first, rest, On next, both, here, later) e = all_on xs next after rest (still_on before x first next is_on here) later e
 all_on (x ∷ xs) before after calls is_on (first, rest, Over ending, both, here, later) e = stays xs rest later
   where
-    stays : (xs : List (Result Heard FrameFault)) (rest : List DeskCall) → Chain Steps (Over ending) xs rest (On after) → ⊥
+    stays : (xs : List (Result Heard FrameFault)) (rest : List KernelCall) → Chain Steps (Over ending) xs rest (On after) → ⊥
     stays [] rest s = let no = s.1 in cc
     stays (x ∷ xs) rest s = s.4
 
@@ -70,7 +70,7 @@ served_then a b c first between after bytes left piece left_now one two =
     let back = (stream_of Server (left ++ piece)).frames in
     record {
       calls = one.calls ++ two.calls;
-      tells = tells_end a b c one.calls two.calls one.tells (subst (λ (l : List DeskCall). TellsMore b c l) (append-nil two.calls) two.tells);
+      tells = tells_end a b c one.calls two.calls one.tells (subst (λ (l : List KernelCall). TellsMore b c l) (append-nil two.calls) two.tells);
       serves = rw (whole, map-append heard_of front back) (chain_both Steps (map heard_of front) (map heard_of back) (On first) (On between) (On after) one.calls two.calls one.serves two.serves);
       rest = ap (λ (s : Stream). s.end) whole ∙ two.rest;
     }
@@ -92,23 +92,23 @@ heard_then whole stream frames input heard is h = record {
 }
 
 -- calls and what was heard in front of what caused an ending
-cause_then : (ending : Ending) (front heard : List (Result Heard FrameFault)) (before calls : List DeskCall) → IsCause ending heard calls → IsCause ending (front ++ heard) (before ++ calls)
-cause_then ending.Protocol front heard before calls (inl (early, request, is)) = inl (before ++ early, request, ap (λ (l : List DeskCall). before ++ l) is ∙ sym (append_assoc before early _))
-cause_then ending.Protocol front heard before calls (inr (inl (first, early, fault, said, is))) = inr (inl (front ++ first, before ++ early, fault, ap (λ (l : List (Result Heard FrameFault)). front ++ l) said ∙ sym (append_assoc front first _), ap (λ (l : List DeskCall). before ++ l) is ∙ sym (append_assoc before early _)))
-cause_then ending.Protocol front heard before calls (inr (inr (first, early, other, said, is))) = inr (inr (front ++ first, before ++ early, other, ap (λ (l : List (Result Heard FrameFault)). front ++ l) said ∙ sym (append_assoc front first _), ap (λ (l : List DeskCall). before ++ l) is ∙ sym (append_assoc before early _)))
-cause_then ending.Gone front heard before calls (early, request, is) = (before ++ early, request, ap (λ (l : List DeskCall). before ++ l) is ∙ sym (append_assoc before early _))
+cause_then : (ending : Ending) (front heard : List (Result Heard FrameFault)) (before calls : List KernelCall) → IsCause ending heard calls → IsCause ending (front ++ heard) (before ++ calls)
+cause_then ending.Protocol front heard before calls (inl (early, request, is)) = inl (before ++ early, request, ap (λ (l : List KernelCall). before ++ l) is ∙ sym (append_assoc before early _))
+cause_then ending.Protocol front heard before calls (inr (inl (first, early, fault, said, is))) = inr (inl (front ++ first, before ++ early, fault, ap (λ (l : List (Result Heard FrameFault)). front ++ l) said ∙ sym (append_assoc front first _), ap (λ (l : List KernelCall). before ++ l) is ∙ sym (append_assoc before early _)))
+cause_then ending.Protocol front heard before calls (inr (inr (first, early, other, said, is))) = inr (inr (front ++ first, before ++ early, other, ap (λ (l : List (Result Heard FrameFault)). front ++ l) said ∙ sym (append_assoc front first _), ap (λ (l : List KernelCall). before ++ l) is ∙ sym (append_assoc before early _)))
+cause_then ending.Gone front heard before calls (early, request, is) = (before ++ early, request, ap (λ (l : List KernelCall). before ++ l) is ∙ sym (append_assoc before early _))
 cause_then ending.Bye front heard before calls (early, is) = (front ++ early, ap (λ (l : List (Result Heard FrameFault)). front ++ l) is ∙ sym (append_assoc front early _))
 cause_then ending.Device front heard before calls c = absurd c
 cause_then ending.Stopped front heard before calls c = absurd c
 cause_then ending.EndOfInput front heard before calls c = absurd c
 
 -- an ending behind frames that were served
-ended_behind : (a b c : Log) (first between : Stage) (whole_bytes bytes : List ℕ) (input : Option (List ℕ)) (e : Ending) (frames : List Frame) (calls : List DeskCall) → stream_of Server whole_bytes ≡ put_front frames (stream_of Server bytes) → TellsMore a b (calls ++ []) → ServesAll (On first) (map heard_of frames) calls (On between) → HasEnded b c between bytes input e [] → HasEnded a c first whole_bytes input e []
+ended_behind : (a b c : Log) (first between : Stage) (whole_bytes bytes : List ℕ) (input : Option (List ℕ)) (e : Ending) (frames : List Frame) (calls : List KernelCall) → stream_of Server whole_bytes ≡ put_front frames (stream_of Server bytes) → TellsMore a b (calls ++ []) → ServesAll (On first) (map heard_of frames) calls (On between) → HasEnded b c between bytes input e [] → HasEnded a c first whole_bytes input e []
 ended_behind a b c first between whole_bytes bytes input e frames calls is tells serves two = record {
   heard = map heard_of frames ++ two.heard;
   up_to = heard_then (stream_of Server whole_bytes) (stream_of Server bytes) frames input two.heard is two.up_to;
   calls = calls ++ two.calls;
-  tells = tells_end a b c calls two.calls tells (subst (λ (l : List DeskCall). TellsMore b c l) (append-nil two.calls) two.tells);
+  tells = tells_end a b c calls two.calls tells (subst (λ (l : List KernelCall). TellsMore b c l) (append-nil two.calls) two.tells);
   serves = chain_both Steps (map heard_of frames) two.heard (On first) (On between) (Over e) calls two.calls serves two.serves;
   cause = cause_then e (map heard_of frames) two.heard calls two.calls two.cause;
 }
@@ -118,7 +118,7 @@ ended_then a b c first between bytes left piece input e one two =
     ended_behind a b c first between (bytes ++ piece) (left ++ piece) input e (stream_of Server bytes).frames one.calls (joined bytes left piece one.rest) one.tells one.serves two
 
 -- what was heard behind frames that were served ended the connection
-ended_by : (a b c : Log) (first between : Stage) (bytes : List ℕ) (input : Option (List ℕ)) (e : Ending) (frames : List Frame) (behind : Stream) (last : Result Heard FrameFault) (before calls : List DeskCall) → first ≢ Finished → stream_of Server bytes ≡ put_front frames behind → IsNext behind.frames behind.end input last → TellsMore a b (before ++ []) → ServesAll (On first) (map heard_of frames) before (On between) → TellsMore b c calls → Serves between last calls (Over e) → HasEnded a c first bytes input e []
+ended_by : (a b c : Log) (first between : Stage) (bytes : List ℕ) (input : Option (List ℕ)) (e : Ending) (frames : List Frame) (behind : Stream) (last : Result Heard FrameFault) (before calls : List KernelCall) → first ≢ Finished → stream_of Server bytes ≡ put_front frames behind → IsNext behind.frames behind.end input last → TellsMore a b (before ++ []) → ServesAll (On first) (map heard_of frames) before (On between) → TellsMore b c calls → Serves between last calls (Over e) → HasEnded a c first bytes input e []
 ended_by a b c first between bytes input e frames behind last before calls is_on is is_next tells serves more serves_more = record {
   heard = map heard_of frames ++ last ∷ [];
   up_to = record { front = frames; behind = behind; stream_is = is; last = last; is_next = is_next; heard_is = refl };
@@ -129,7 +129,7 @@ ended_by a b c first between bytes input e frames behind last before calls is_on
 }
 
 abbrev pub ServedNext : Log → Log → Stage → Result Heard FrameFault → Turned → Type 0
-ServedNext old new stage heard turned = (calls : List DeskCall) × TellsMore old new calls × Serves stage heard calls turned
+ServedNext old new stage heard turned = (calls : List KernelCall) × TellsMore old new calls × Serves stage heard calls turned
 
 -- the input ended inside a frame
 pub ended_inside : (a b c : Log) (stage : Stage) (bytes : List ℕ) (byte : ℕ) (left : List ℕ) (input : Option (List ℕ)) (e : Ending) → HasServed a b Greeting bytes (byte ∷ left) stage [] → IsAtEnd input → ServedNext b c stage (Err Unfinished) (Over e) → HasEnded a c Greeting bytes input e []
@@ -160,7 +160,7 @@ finished_bad a b c stage bytes (byte ∷ left) old new fault input e h one at_en
 pub record InPiece (old new : Log) (before : Stage) (whole : Stream) (after : Stage) (behind : Stream) : Type 0 where
   pub frames : List Frame
   pub stream_is : whole ≡ put_front frames behind
-  pub calls : List DeskCall
+  pub calls : List KernelCall
   pub tells : TellsMore old new (calls ++ [])
   pub serves : ServesAll (On before) (map heard_of frames) calls (On after)
 
@@ -252,7 +252,7 @@ failed a b c before stage bytes decoder after rest turns fault input (Over e) is
 ended_breaks : (e : Ending) (a b c : Log) (bytes : List ℕ) (input : Option (List ℕ)) → HasEnded a b Greeting bytes input e [] → TellsMore b c (Breaks ∷ []) → HasEnded a c Greeting bytes input e (Breaks ∷ [])
 ended_breaks e a b c bytes input h more = record { heard = h.heard; up_to = h.up_to; calls = h.calls; tells = tells_then a b c h.calls (Breaks ∷ []) h.tells more; serves = h.serves; cause = h.cause }
 
--- and then the desk is told
+-- and then the kernel port is told
 pub breaks : (ending : Ending) (a b c : Log) (bytes : List ℕ) (input : Option (List ℕ)) → EndsSo ending a b bytes input [] → TellsMore b c (Breaks ∷ []) → EndsSo ending a c bytes input (Breaks ∷ [])
 breaks ending.Device a b c bytes input (left, stage, s) more = (left, stage, record { calls = s.calls; tells = tells_then a b c s.calls (Breaks ∷ []) s.tells more; serves = s.serves; rest = s.rest })
 breaks ending.Stopped a b c bytes input (left, stage, s) more = (left, stage, record { calls = s.calls; tells = tells_then a b c s.calls (Breaks ∷ []) s.tells more; serves = s.serves; rest = s.rest })

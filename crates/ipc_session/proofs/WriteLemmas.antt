@@ -99,7 +99,7 @@ wrote_whole a b p q frames tells appends = record {
   whole = λ w. refl;
 }
 
--- or in part, and the desk was told
+-- or in part, and the answer port was told
 pub wrote_part : (a b c : Option (List TakeCall)) (p q : Option (List ℕ)) (frames : List Frame) → TellsTaken a b (map Gave frames) → TellsTaken b c (Breaks ∷ []) → AppendsPart p q (text_of frames) → Wrote a c p q (Breaks ∷ []) false
 wrote_part a b c p q frames tells breaks part = record {
   frames = frames;

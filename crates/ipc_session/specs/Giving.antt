@@ -1,4 +1,4 @@
--- What a desk of answers in memory gave, as the calls of a desk.
+-- What an answer port in memory gave, as calls.
 use Rattle.std.specs.Prelude.{List, [], ◌∷◌, Option, Some, None, Bool, if◌then◌else◌}
 use Rattle.std.specs.List.{flat_map}
 use Rattle.ipc_frame.specs.declared.frame.Frame.{Frame}

@@ -12,7 +12,7 @@ use Rattle.ipc_calls.specs.Holding.{HearsOf}
 use Rattle.ipc_calls.specs.Taking.{Decoding, Holds}
 use Rattle.ipc_calls.specs.declared.heard.Heard.{Heard}
 use Rattle.ipc_calls.specs.declared.heard.Heard.TheVariants as said
-use Rattle.ipc_connection.specs.Desk.{Asks, DeskCall, Posts, TellsMore}
+use Rattle.ipc_connection.specs.KernelCalls.{Asks, KernelCall, Posts, TellsMore}
 use Rattle.ipc_connection.specs.Faults.{fault_number, of_frame, of_kernel, of_session, out_of_place}
 use Rattle.ipc_connection.specs.declared.asking.Request.{Request}
 use Rattle.ipc_connection.specs.declared.replying.Told.TheVariants.{Refused}
@@ -26,13 +26,13 @@ use Rattle.ipc_session.specs.declared.ending.Ending.TheVariants.{Protocol, Devic
 use Rattle.ipc_session.specs.declared.turned.Turned.{Turned}
 use Rattle.ipc_session.specs.declared.turned.Turned.TheVariants.{On, Over}
 
--- the calls of a desk, where it tells them
+-- the calls of a kernel port, where it tells them
 abbrev pub Log : Type 0
-Log = Option (List DeskCall)
+Log = Option (List KernelCall)
 
 -- all whole frames of these bytes were served, in order, each once; these bytes are left behind them
-pub record HasServed (old new : Log) (before : Stage) (bytes left : List ℕ) (after : Stage) (last : List DeskCall) : Type 0 where
-  pub calls : List DeskCall
+pub record HasServed (old new : Log) (before : Stage) (bytes left : List ℕ) (after : Stage) (last : List KernelCall) : Type 0 where
+  pub calls : List KernelCall
   pub tells : TellsMore old new (calls ++ last)
   pub serves : ServesAll (On before) (map heard_of (stream_of Server bytes).frames) calls (On after)
   pub rest : (stream_of Server bytes).end ≡ Rest left
@@ -54,37 +54,37 @@ pub record HeardUpTo (stream : Stream) (input : Option (List ℕ)) (heard : List
   pub is_next : IsNext behind.frames behind.end input last
   pub heard_is : heard ≡ map heard_of front ++ last ∷ []
 
--- the desk answered K7, and that was told
-abbrev pub IsBusy : List DeskCall → Type 0
+-- the kernel port answered K7, and that was told
+abbrev pub IsBusy : List KernelCall → Type 0
 IsBusy calls =
-    (front : List DeskCall) × (request : Request)
+    (front : List KernelCall) × (request : Request)
     × (calls ≡ front ++ Asks request (Refused Busy) ∷ Posts (frame.Fault of_kernel (refusal_number Busy)) ∷ [])
 
 -- a fault was heard, and told by its number
-abbrev pub IsFault : List (Result Heard FrameFault) → List DeskCall → Type 0
+abbrev pub IsFault : List (Result Heard FrameFault) → List KernelCall → Type 0
 IsFault heard calls =
-    (before : List (Result Heard FrameFault)) × (front : List DeskCall) × (fault : FrameFault)
+    (before : List (Result Heard FrameFault)) × (front : List KernelCall) × (fault : FrameFault)
     × (heard ≡ before ++ Err fault ∷ []) × (calls ≡ front ++ Posts (frame.Fault of_frame (fault_number fault)) ∷ [])
 
 -- a frame was out of place, and S1 was told
-abbrev pub IsOutOfPlace : List (Result Heard FrameFault) → List DeskCall → Type 0
+abbrev pub IsOutOfPlace : List (Result Heard FrameFault) → List KernelCall → Type 0
 IsOutOfPlace heard calls =
-    (before : List (Result Heard FrameFault)) × (front : List DeskCall) × (other : Heard)
+    (before : List (Result Heard FrameFault)) × (front : List KernelCall) × (other : Heard)
     × (heard ≡ before ++ Ok other ∷ []) × (calls ≡ front ++ Posts (frame.Fault of_session out_of_place) ∷ [])
 
 -- why a connection ended so, by what was heard or asked last: a FAULT, K6, or BYE
-abbrev pub IsCause : Ending → List (Result Heard FrameFault) → List DeskCall → Type 0
+abbrev pub IsCause : Ending → List (Result Heard FrameFault) → List KernelCall → Type 0
 IsCause Protocol heard calls = IsBusy calls ⊎ (IsFault heard calls ⊎ IsOutOfPlace heard calls)
-IsCause Gone heard calls = (front : List DeskCall) × (request : Request) × (calls ≡ front ++ Asks request (Refused NoThread) ∷ [])
+IsCause Gone heard calls = (front : List KernelCall) × (request : Request) × (calls ≡ front ++ Asks request (Refused NoThread) ∷ [])
 IsCause Bye heard calls = (front : List (Result Heard FrameFault)) × (heard ≡ front ++ Ok said.Bye ∷ [])
 IsCause _ heard calls = ⊥
 
 -- what these bytes say was served, in order, each once, up to what ended the connection
 pub record HasEnded (old new : Log) (before : Stage) (bytes : List ℕ) (input : Option (List ℕ)) (ending : Ending)
-    (last : List DeskCall) : Type 0 where
+    (last : List KernelCall) : Type 0 where
   pub heard : List (Result Heard FrameFault)
   pub up_to : HeardUpTo (stream_of Server bytes) input heard
-  pub calls : List DeskCall
+  pub calls : List KernelCall
   pub tells : TellsMore old new (calls ++ last)
   pub serves : ServesAll (On before) heard calls (Over ending)
   pub cause : IsCause ending heard calls
@@ -97,7 +97,7 @@ ServesPiece old new before bytes input decoder (Over ending) = HasEnded old new 
 
 -- a reader that read these bytes ends so: behind all whole frames, at the end of the input with nothing left; or by what it heard
 -- or was told last
-abbrev pub EndsSo : Ending → Log → Log → List ℕ → Option (List ℕ) → List DeskCall → Type 0
+abbrev pub EndsSo : Ending → Log → Log → List ℕ → Option (List ℕ) → List KernelCall → Type 0
 EndsSo Device old new bytes input last = (left : List ℕ) × (stage : Stage) × HasServed old new Greeting bytes left stage last
 EndsSo Halted old new bytes input last = (left : List ℕ) × (stage : Stage) × HasServed old new Greeting bytes left stage last
 EndsSo EndOfInput old new bytes input last = (stage : Stage) × HasServed old new Greeting bytes [] stage last

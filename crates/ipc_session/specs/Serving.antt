@@ -4,7 +4,7 @@ use Rattle.ipc_frame.specs.declared.fault.FrameFault.{FrameFault}
 use Rattle.ipc_calls.specs.declared.heard.Heard.{Heard}
 use Rattle.ipc_connection.specs.Asking.{asks}
 use Rattle.ipc_connection.specs.Chain.{Chain}
-use Rattle.ipc_connection.specs.Desk.{Asks, DeskCall, left_to_post}
+use Rattle.ipc_connection.specs.KernelCalls.{Asks, KernelCall, left_to_post}
 use Rattle.ipc_connection.specs.Replying.{next_stage}
 use Rattle.ipc_connection.specs.declared.asking.Request.{Request}
 use Rattle.ipc_connection.specs.declared.asking.Request.TheVariants.{Open, Enter, Exreg}
@@ -34,7 +34,7 @@ turned_at told stage = On stage
 abbrev pub ends_with : Told → Stage → Turned
 ends_with told stage = turned_at told (next_stage stage told)
 
--- what a desk answers: the thread that it opened, that it entered the call, what ExchangeRegisters answers, or a refusal
+-- what a kernel port answers: the thread that it opened, that it entered the call, what ExchangeRegisters answers, or a refusal
 abbrev pub IsAnswer : Request → Told → Type 0
 IsAnswer (Open number version) (Opened thread named) = named ≡ version
 IsAnswer (Enter thread call) Entered = ⊤
@@ -42,12 +42,12 @@ IsAnswer (Exreg thread target control) (Exchanged result stopped code moment) = 
 IsAnswer request (Refused refusal) = ⊤
 IsAnswer request told = ⊥
 
--- the desk is asked, and what it left is posted
-abbrev pub AsksSo : Stage → Request → List DeskCall → Turned → Type 0
+-- the kernel port is asked, and what it left is posted
+abbrev pub AsksSo : Stage → Request → List KernelCall → Turned → Type 0
 AsksSo stage request calls turned =
     (told : Told) × IsAnswer request told × (calls ≡ Asks request told ∷ left_to_post told) × (turned ≡ ends_with told stage)
 
-abbrev pub ServesBy : Stage → Reaction → List DeskCall → Turned → Type 0
+abbrev pub ServesBy : Stage → Reaction → List KernelCall → Turned → Type 0
 ServesBy stage Nothing calls turned = (calls ≡ []) × (turned ≡ On stage)
 ServesBy stage (Ask request) calls turned = AsksSo stage request calls turned
 ServesBy stage Leave calls turned = (calls ≡ []) × (turned ≡ Over Bye)
@@ -55,14 +55,14 @@ ServesBy stage (Refuse class number) calls turned =
     (calls ≡ left_to_post (Faulted class number)) × (turned ≡ ends_with (Faulted class number) stage)
 
 -- what is heard at a stage is served with these calls
-unfoldable pub Serves : Stage → Result Heard FrameFault → List DeskCall → Turned → Type 0
+unfoldable pub Serves : Stage → Result Heard FrameFault → List KernelCall → Turned → Type 0
 Serves stage heard calls turned = ServesBy stage (asks stage heard) calls turned
 
 -- a connection that has ended serves nothing more
-abbrev pub Steps : Turned → Result Heard FrameFault → List DeskCall → Turned → Type 0
+abbrev pub Steps : Turned → Result Heard FrameFault → List KernelCall → Turned → Type 0
 Steps (On stage) heard calls next = Serves stage heard calls next
 Steps (Over ending) heard calls next = ⊥
 
 -- what was heard is served, one after the other, with these calls
-abbrev pub ServesAll : Turned → List (Result Heard FrameFault) → List DeskCall → Turned → Type 0
+abbrev pub ServesAll : Turned → List (Result Heard FrameFault) → List KernelCall → Turned → Type 0
 ServesAll before heard calls after = Chain Steps before heard calls after

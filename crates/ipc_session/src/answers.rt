@@ -1,11 +1,11 @@
-//! A desk of answers in memory, for tests.
+//! An answer port in memory, for tests.
 ghost use Rattle.std.specs.Prelude.{◌≡◌, [], Some, None, IfSome, IfNone};
 ghost use Rattle.std.specs.List.{flat_map};
 ghost use Rattle.ipc_session.specs.Giving.{take_of, takes_of};
 ghost use Rattle.ipc_session.specs.Taking.{TellsTaken};
 
 use crate::next::Next;
-use crate::taking::TakeDesk;
+use crate::taking::AnswerPort;
 use ipc_connection::{Told, reply};
 use ipc_frame::WireVersion;
 use std::alloc::Global;
@@ -22,7 +22,7 @@ pub struct MemoryAnswers<'a> {
 }
 
 impl<'a> MemoryAnswers<'a> {
-    /// A desk that gives these to a client of a version.
+    /// A port that gives these to a client of a version.
     pub fn new(alloc: Global, version: WireVersion, answers: &'a [Told]) -> MemoryAnswers<'a>
         ensures answers { result.answers.now ≡ answers.now }
         ensures version { result.version ≡ version }
@@ -58,10 +58,10 @@ impl<'a> MemoryAnswers<'a> {
     }
 }
 
-impl TakeDesk for MemoryAnswers<'_> {
-    ghost log = { λ desk. takes_of desk.version desk.is_complete desk.takes.items };
+impl AnswerPort for MemoryAnswers<'_> {
+    ghost log = { λ port. takes_of port.version port.is_complete port.takes.items };
 
-    ghost gone = { λ desk. desk.is_gone };
+    ghost gone = { λ port. port.is_gone };
 
     fn next(&mut self) -> Next {
         let Some((told, rest)) = self.answers.split_first() else {

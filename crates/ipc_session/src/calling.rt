@@ -1,16 +1,16 @@
 ghost use Rattle.std.specs.Prelude.{◌≡◌, List, [], ◌∷◌, Option};
-ghost use Rattle.ipc_connection.specs.Desk.{DeskCall, TellsMore, Asks, Breaks, left_to_post};
+ghost use Rattle.ipc_connection.specs.KernelCalls.{KernelCall, TellsMore, Asks, Breaks, left_to_post};
 ghost use Rattle.ipc_session.specs.Serving.{IsAnswer};
 
 use ipc_connection::{Request, Told};
 
 /// What a reader asks of the kernel, and what it leaves for the writer.
-pub trait CallDesk {
+pub trait KernelPort {
     ghost use Rattle.std.specs.Prelude.{List, Option};
-    ghost use Rattle.ipc_connection.specs.Desk.{DeskCall};
+    ghost use Rattle.ipc_connection.specs.KernelCalls.{KernelCall};
 
-    // The calls so far, with their answers, where the desk tells them.
-    ghost log: { Self → Option (List DeskCall) };
+    // The calls so far, with their answers, where the port tells them.
+    ghost log: { Self → Option (List KernelCall) };
 
     /// Asks the kernel, and posts what it accepted: the id of a thread that was opened, or what ExchangeRegisters answers. An answer is of
     /// its request's kind, or a refusal.

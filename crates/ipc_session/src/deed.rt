@@ -1,7 +1,7 @@
 use ipc_connection::{Request, Told};
 use ipc_frame::Frame;
 
-/// One call of a desk.
+/// One call of a kernel port.
 #[derive(Drop)]
 pub enum Deed {
     /// It was asked for this, and answered so.

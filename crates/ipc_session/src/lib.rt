@@ -1,4 +1,4 @@
-//! The loops of a session: they carry frames to the kernel and outcomes back, over any port, desk and gate.
+//! The loops of a session: they carry frames to the kernel and outcomes back, over any ports and gate.
 #![tactic(auto)]
 
 mod answers;
@@ -20,15 +20,15 @@ mod working;
 mod writing;
 
 pub use answers::MemoryAnswers;
-pub use calling::CallDesk;
+pub use calling::KernelPort;
 pub use deed::Deed;
 pub use ending::{Ending, WriteEnding};
 pub use gate::{Gate, Open};
 pub use laws::answers_determine;
-pub use memory::MemoryDesk;
+pub use memory::MemoryKernelPort;
 pub use next::Next;
 pub use reading::read_loop;
-pub use taking::TakeDesk;
+pub use taking::AnswerPort;
 pub use turned::Turned;
-pub use working::{Beat, MoveEnding, WorkDesk, move_loop, tick_loop};
+pub use working::{Beat, MoveEnding, WorkPort, move_loop, tick_loop};
 pub use writing::write_loop;

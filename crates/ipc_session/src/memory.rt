@@ -1,10 +1,10 @@
-//! A desk in memory, for tests.
+//! A kernel port in memory, for tests.
 ghost use Rattle.std.specs.Prelude.{◌≡◌, [], ◌∷◌, Some, None, IfSome, IfNone, map};
-ghost use Rattle.ipc_connection.specs.Desk.{TellsMore};
+ghost use Rattle.ipc_connection.specs.KernelCalls.{TellsMore};
 ghost use Rattle.ipc_session.specs.Keeping.{call_of, calls_of};
 ghost use Rattle.ipc_session.specs.Serving.{IsAnswer};
 
-use crate::calling::CallDesk;
+use crate::calling::KernelPort;
 use crate::deed::Deed;
 use ipc_connection::{Request, Told, is_posted, reply};
 use ipc_core::Refusal;
@@ -14,7 +14,7 @@ use std::alloc::Global;
 
 /// Keeps what it is asked, with its answers. It opens one thread, enters each call, stops no phase, and may refuse one request.
 #[derive(Drop)]
-pub struct MemoryDesk {
+pub struct MemoryKernelPort {
     thread: ThreadId,
     deeds: Vec<Deed>,
     is_complete: bool,
@@ -23,12 +23,12 @@ pub struct MemoryDesk {
     refusal: Option<Refusal>,
 }
 
-impl MemoryDesk {
-    /// A desk that opens this thread, and refuses nothing.
-    pub fn new(alloc: Global, thread: ThreadId) -> MemoryDesk
+impl MemoryKernelPort {
+    /// A port that opens this thread, and refuses nothing.
+    pub fn new(alloc: Global, thread: ThreadId) -> MemoryKernelPort
         ensures { calls_of result.is_complete result.deeds.items ≡ Some [] }
     {
-        MemoryDesk {
+        MemoryKernelPort {
             thread,
             deeds: Vec::new(alloc),
             is_complete: true,
@@ -37,15 +37,15 @@ impl MemoryDesk {
         }
     }
 
-    /// The same desk, which refuses the request of this place, counted from 0.
-    pub fn with_refusal(self, request: u64, refusal: Refusal) -> MemoryDesk
+    /// The same port, which refuses the request of this place, counted from 0.
+    pub fn with_refusal(self, request: u64, refusal: Refusal) -> MemoryKernelPort
         ensures deeds { result.deeds ≡ self.deeds }
         ensures complete { result.is_complete ≡ self.is_complete }
     {
-        let mut desk = self;
-        desk.requests_before = request;
-        desk.refusal = Some(refusal);
-        desk
+        let mut port = self;
+        port.requests_before = request;
+        port.refusal = Some(refusal);
+        port
     }
 
     /// What it was asked, in order, or None where a growth was refused.
@@ -90,8 +90,8 @@ fn accepted(request: &Request, thread: ThreadId) -> Told
     }
 }
 
-impl CallDesk for MemoryDesk {
-    ghost log = { λ desk. calls_of desk.is_complete desk.deeds.items };
+impl KernelPort for MemoryKernelPort {
+    ghost log = { λ port. calls_of port.is_complete port.deeds.items };
 
     fn ask(&mut self, request: Request) -> Told {
         let thread = self.thread;

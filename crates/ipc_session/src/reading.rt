@@ -1,12 +1,12 @@
 ghost use Rattle.std.specs.Prelude.{◌≡◌, ◌≢◌, ◌<◌, ℕ, List, [], ◌∷◌, ◌++◌, Option, length, true};
 ghost use Rattle.std.specs.Io.KnownBytes.{Consumes, IsAtEnd};
 ghost use Rattle.ipc_calls.specs.Taking.{Holds};
-ghost use Rattle.ipc_connection.specs.Desk.{Breaks};
+ghost use Rattle.ipc_connection.specs.KernelCalls.{Breaks};
 ghost use Rattle.ipc_session.specs.Reading.{EndsSo, HasServed, Log, ReadsOn, ServesPiece};
 ghost use Rattle.ipc_connection.specs.declared.stage.Stage.TheVariants as at_stage;
 
 use crate::buffers::{LONG, SHORT};
-use crate::calling::CallDesk;
+use crate::calling::KernelPort;
 use crate::ending::Ending;
 use crate::gate::Gate;
 use crate::serving::serve;
@@ -16,38 +16,38 @@ use ipc_connection::Stage;
 use ipc_ports::PortRead;
 use std::alloc::Global;
 
-/// Reads frames and serves each by the rules of a connection, one after the other, and then tells the desk once that the
-/// thread ends. While the desk makes it wait nothing is read.
+/// Reads frames and serves each by the rules of a connection, one after the other, and then tells the kernel port once that the
+/// thread ends. While the kernel port makes it wait nothing is read.
 ///
-/// S1, S5 and BYE come by what the bytes read say or what the desk answered, and nothing behind that is served. S2 comes only
+/// S1, S5 and BYE come by what the bytes read say or what the kernel port answered, and nothing behind that is served. S2 comes only
 /// where the device failed in this run, S3 only where the gate said stop, and EndOfInput only where the input was read to its
 /// end, between two frames. At these three ends all whole frames of the bytes read were served.
-pub fn read_loop<P: PortRead, D: CallDesk, G: Gate>(
+pub fn read_loop<P: PortRead, K: KernelPort, G: Gate>(
     alloc: Global,
     port: &mut P,
-    desk: &mut D,
+    kernel_port: &mut K,
     gate: &mut G,
 ) -> Ending
     ensures calls { (bytes : List ℕ) × Consumes (P.remaining port.old) (P.remaining port.new) bytes
-        × EndsSo result (D.log desk.old) (D.log desk.new) bytes (P.remaining port.new) (Breaks ∷ []) }
+        × EndsSo result (K.log kernel_port.old) (K.log kernel_port.new) bytes (P.remaining port.new) (Breaks ∷ []) }
     ensures device { result ≡ Ending.Device → P.failures port.old < P.failures port.new }
     ensures stopped { result ≡ Ending.Stopped → G.stopped gate.new ≡ true }
     ensures ended { result ≡ Ending.EndOfInput → IsAtEnd (P.remaining port.new) }
 {
-    let ending = read_all(alloc, port, desk, gate);
-    desk.broke();
+    let ending = read_all(alloc, port, kernel_port, gate);
+    kernel_port.broke();
     ending
 }
 
 /// Reads and serves up to an ending.
-fn read_all<P: PortRead, D: CallDesk, G: Gate>(
+fn read_all<P: PortRead, K: KernelPort, G: Gate>(
     alloc: Global,
     port: &mut P,
-    desk: &mut D,
+    kernel_port: &mut K,
     gate: &mut G,
 ) -> Ending
     ensures calls { (bytes : List ℕ) × Consumes (P.remaining port.old) (P.remaining port.new) bytes
-        × EndsSo result (D.log desk.old) (D.log desk.new) bytes (P.remaining port.new) [] }
+        × EndsSo result (K.log kernel_port.old) (K.log kernel_port.new) bytes (P.remaining port.new) [] }
     ensures device { result ≡ Ending.Device → P.failures port.old < P.failures port.new }
     ensures stopped { result ≡ Ending.Stopped → G.stopped gate.new ≡ true }
     ensures ended { result ≡ Ending.EndOfInput → IsAtEnd (P.remaining port.new) }
@@ -56,7 +56,7 @@ fn read_all<P: PortRead, D: CallDesk, G: Gate>(
     let mut stage = Stage::Greeting;
     let mut is_long = false;
     'turns: while gate.turn() {
-        let (turned, was_much) = read_next(port, desk, &mut decoder, stage, is_long);
+        let (turned, was_much) = read_next(port, kernel_port, &mut decoder, stage, is_long);
         match turned {
             Turned::On(next) => stage = next,
             Turned::Over(ending) => return ending,
@@ -68,68 +68,68 @@ fn read_all<P: PortRead, D: CallDesk, G: Gate>(
 
 /// Reads once, the middle of a long string straight into its memory, and serves the frames that end in what was read. Also answers
 /// whether that was much, so that more may be waiting.
-fn read_next<P: PortRead, D: CallDesk>(
+fn read_next<P: PortRead, K: KernelPort>(
     port: &mut P,
-    desk: &mut D,
+    kernel_port: &mut K,
     decoder: &mut CallDecoder,
     stage: Stage,
     is_long: bool,
 ) -> (Turned, bool)
     requires { stage ≢ Stage.Finished }
     ensures { ReadsOn (P.remaining port.old) (P.remaining port.new)
-        (D.log desk.old) (D.log desk.new) decoder.old decoder.new
+        (K.log kernel_port.old) (K.log kernel_port.new) decoder.old decoder.new
         (P.failures port.old) (P.failures port.new) stage result.0 }
 {
     match decoder.read_on(port) {
-        None => read_piece(port, desk, decoder, stage, is_long),
-        Some(Ok(0)) => (Turned::Over(end_input(desk, decoder, stage)), false),
+        None => read_piece(port, kernel_port, decoder, stage, is_long),
+        Some(Ok(0)) => (Turned::Over(end_input(kernel_port, decoder, stage)), false),
         Some(Ok(_)) => (Turned::On(stage), true),
         Some(Err(_)) => (Turned::Over(Ending::Device), false),
     }
 }
 
 /// Reads once into a buffer, and serves the frames that end in what was read. Also answers whether that was much.
-fn read_piece<P: PortRead, D: CallDesk>(
+fn read_piece<P: PortRead, K: KernelPort>(
     port: &mut P,
-    desk: &mut D,
+    kernel_port: &mut K,
     decoder: &mut CallDecoder,
     stage: Stage,
     is_long: bool,
 ) -> (Turned, bool)
     requires { stage ≢ Stage.Finished }
     ensures { ReadsOn (P.remaining port.old) (P.remaining port.new)
-        (D.log desk.old) (D.log desk.new) decoder.old decoder.new
+        (K.log kernel_port.old) (K.log kernel_port.new) decoder.old decoder.new
         (P.failures port.old) (P.failures port.new) stage result.0 }
 {
     if is_long {
-        read_long(port, desk, decoder, stage)
+        read_long(port, kernel_port, decoder, stage)
     } else {
-        read_turn(port, desk, decoder, stage, &mut [0u8; SHORT])
+        read_turn(port, kernel_port, decoder, stage, &mut [0u8; SHORT])
     }
 }
 
 /// Reads once through a long buffer. It stands on the stack of this function alone, which is never
 /// inlined. So a connection that says little never touches it.
 #[inline(never)]
-fn read_long<P: PortRead, D: CallDesk>(
+fn read_long<P: PortRead, K: KernelPort>(
     port: &mut P,
-    desk: &mut D,
+    kernel_port: &mut K,
     decoder: &mut CallDecoder,
     stage: Stage,
 ) -> (Turned, bool)
     requires { stage ≢ Stage.Finished }
     ensures { ReadsOn (P.remaining port.old) (P.remaining port.new)
-        (D.log desk.old) (D.log desk.new) decoder.old decoder.new
+        (K.log kernel_port.old) (K.log kernel_port.new) decoder.old decoder.new
         (P.failures port.old) (P.failures port.new) stage result.0 }
 {
-    read_turn(port, desk, decoder, stage, &mut [0u8; LONG])
+    read_turn(port, kernel_port, decoder, stage, &mut [0u8; LONG])
 }
 
 /// Reads once into a buffer, and serves the frames that end in what was read. Also answers whether
 /// that was much.
-fn read_turn<P: PortRead, D: CallDesk>(
+fn read_turn<P: PortRead, K: KernelPort>(
     port: &mut P,
-    desk: &mut D,
+    kernel_port: &mut K,
     decoder: &mut CallDecoder,
     stage: Stage,
     buffer: &mut [u8],
@@ -137,7 +137,7 @@ fn read_turn<P: PortRead, D: CallDesk>(
     requires goes_on { stage ≢ Stage.Finished }
     requires some { 0 < length buffer.old }
     ensures { ReadsOn (P.remaining port.old) (P.remaining port.new)
-        (D.log desk.old) (D.log desk.new) decoder.old decoder.new
+        (K.log kernel_port.old) (K.log kernel_port.new) decoder.old decoder.new
         (P.failures port.old) (P.failures port.new) stage result.0 }
 {
     let count = match port.read(buffer) {
@@ -145,25 +145,25 @@ fn read_turn<P: PortRead, D: CallDesk>(
         Err(_) => return (Turned::Over(Ending::Device), false),
     };
     if count == 0 {
-        let ending = end_input(desk, decoder, stage);
+        let ending = end_input(kernel_port, decoder, stage);
         return (Turned::Over(ending), false);
     }
-    let turned = serve_piece(desk, decoder, stage, &buffer[..count]);
+    let turned = serve_piece(kernel_port, decoder, stage, &buffer[..count]);
     (turned, count >= SHORT)
 }
 
 /// The input is at its end: inside a frame that is a fault.
-fn end_input<D: CallDesk>(desk: &mut D, decoder: &mut CallDecoder, stage: Stage) -> Ending
+fn end_input<K: KernelPort>(kernel_port: &mut K, decoder: &mut CallDecoder, stage: Stage) -> Ending
     requires { stage ≢ Stage.Finished }
     ensures calls { (log : Log) (bytes left : List ℕ) (input : Option (List ℕ))
-        → Holds decoder.old left → HasServed log (D.log desk.old) at_stage.Greeting bytes left stage [] → IsAtEnd input
-        → EndsSo result log (D.log desk.new) bytes input [] }
+        → Holds decoder.old left → HasServed log (K.log kernel_port.old) at_stage.Greeting bytes left stage [] → IsAtEnd input
+        → EndsSo result log (K.log kernel_port.new) bytes input [] }
     ensures only { result ≡ Ending.Device → ⊥ }
     ensures never { result ≡ Ending.Stopped → ⊥ }
 {
     match decoder.finish() {
         Ok(()) => Ending::EndOfInput,
-        Err(fault) => match serve(desk, stage, Err(fault)) {
+        Err(fault) => match serve(kernel_port, stage, Err(fault)) {
             Turned::On(_) => Ending::Protocol,
             Turned::Over(ending) => ending,
         },
@@ -171,15 +171,15 @@ fn end_input<D: CallDesk>(desk: &mut D, decoder: &mut CallDecoder, stage: Stage)
 }
 
 /// Serves the frames that end in a piece, up to the end of the connection.
-fn serve_piece<D: CallDesk>(
-    desk: &mut D,
+fn serve_piece<K: KernelPort>(
+    kernel_port: &mut K,
     decoder: &mut CallDecoder,
     stage: Stage,
     piece: &[u8],
 ) -> Turned
     requires { stage ≢ Stage.Finished }
     ensures { (left : List ℕ) (input : Option (List ℕ)) → Holds decoder.old left
-        → ServesPiece (D.log desk.old) (D.log desk.new) stage (left ++ piece.now) input decoder.new result }
+        → ServesPiece (K.log kernel_port.old) (K.log kernel_port.new) stage (left ++ piece.now) input decoder.new result }
 {
     let mut stage = stage;
     let mut rest = piece;
@@ -188,11 +188,11 @@ fn serve_piece<D: CallDesk>(
     'frames: while turns > 0 {
         turns -= 1;
         let (used, heard) = match decoder.take(rest) {
-            Err(fault) => return serve(desk, stage, Err(fault)),
+            Err(fault) => return serve(kernel_port, stage, Err(fault)),
             Ok((_, None)) => return Turned::On(stage),
             Ok((used, Some(heard))) => (used, heard),
         };
-        match serve(desk, stage, Ok(heard)) {
+        match serve(kernel_port, stage, Ok(heard)) {
             Turned::On(next) => stage = next,
             Turned::Over(ending) => return Turned::Over(ending),
         }

@@ -1,9 +1,9 @@
 ghost use Rattle.std.specs.Prelude.{◌≡◌, List};
-ghost use Rattle.ipc_connection.specs.Desk.{DeskCall, TellsMore, left_to_post};
+ghost use Rattle.ipc_connection.specs.KernelCalls.{KernelCall, TellsMore, left_to_post};
 ghost use Rattle.ipc_connection.specs.declared.asking.Reaction.TheVariants as reaction;
 ghost use Rattle.ipc_session.specs.Serving.{Serves, ServesBy, ending_by, ends_with};
 
-use crate::calling::CallDesk;
+use crate::calling::KernelPort;
 use crate::ending::Ending;
 use crate::turned::Turned;
 use ipc_calls::Heard;
@@ -12,56 +12,58 @@ use ipc_core::Refusal;
 use ipc_frame::FrameFault;
 
 /// Serves what is heard at a stage.
-pub(crate) fn serve<D: CallDesk>(
-    desk: &mut D,
+pub(crate) fn serve<K: KernelPort>(
+    kernel_port: &mut K,
     stage: Stage,
     heard: Result<Heard, FrameFault>,
 ) -> Turned
-    ensures { (calls : List DeskCall) × TellsMore (D.log desk.old) (D.log desk.new) calls × Serves stage heard calls result }
+    ensures { (calls : List KernelCall) × TellsMore (K.log kernel_port.old) (K.log kernel_port.new) calls
+        × Serves stage heard calls result }
 {
     let here = stage;
     let reaction = asks(here, heard);
-    react(desk, stage, reaction)
+    react(kernel_port, stage, reaction)
 }
 
 #[tactic(auto, unfolding(ipc_connection::specs::Replying::next_stage))]
-fn react<D: CallDesk>(desk: &mut D, stage: Stage, reaction: Reaction) -> Turned
-    ensures { (calls : List DeskCall) × TellsMore (D.log desk.old) (D.log desk.new) calls × ServesBy stage reaction calls result }
+fn react<K: KernelPort>(kernel_port: &mut K, stage: Stage, reaction: Reaction) -> Turned
+    ensures { (calls : List KernelCall) × TellsMore (K.log kernel_port.old) (K.log kernel_port.new) calls
+        × ServesBy stage reaction calls result }
 {
     match reaction {
         Reaction::Nothing => Turned::On(stage),
-        Reaction::Ask(request) => ask(desk, stage, request),
-        Reaction::Leave => tell(desk, stage, Told::Left),
-        Reaction::Refuse(class, number) => tell(desk, stage, Told::Faulted(class, number)),
+        Reaction::Ask(request) => ask(kernel_port, stage, request),
+        Reaction::Leave => tell(kernel_port, stage, Told::Left),
+        Reaction::Refuse(class, number) => tell(kernel_port, stage, Told::Faulted(class, number)),
     }
 }
 
-/// Asks the desk, posts what it left, and answers what comes next.
-fn ask<D: CallDesk>(desk: &mut D, stage: Stage, request: Request) -> Turned
-    ensures { (calls : List DeskCall) × TellsMore (D.log desk.old) (D.log desk.new) calls
+/// Asks the kernel port, posts what it left, and answers what comes next.
+fn ask<K: KernelPort>(kernel_port: &mut K, stage: Stage, request: Request) -> Turned
+    ensures { (calls : List KernelCall) × TellsMore (K.log kernel_port.old) (K.log kernel_port.new) calls
         × ServesBy stage (reaction.Ask request) calls result }
 {
-    let told = desk.ask(request);
-    tell(desk, stage, told)
+    let told = kernel_port.ask(request);
+    tell(kernel_port, stage, told)
 }
 
-/// Posts what the desk left, and answers what comes next.
-fn tell<D: CallDesk>(desk: &mut D, stage: Stage, told: Told) -> Turned
-    ensures posts { TellsMore (D.log desk.old) (D.log desk.new) (left_to_post told) }
+/// Posts what the kernel port left, and answers what comes next.
+fn tell<K: KernelPort>(kernel_port: &mut K, stage: Stage, told: Told) -> Turned
+    ensures posts { TellsMore (K.log kernel_port.old) (K.log kernel_port.new) (left_to_post told) }
     ensures turned { result ≡ ends_with told stage }
 {
     let answered = told;
-    post_left(desk, answered);
+    post_left(kernel_port, answered);
     turned_by(stage, told)
 }
 
-/// Posts what the desk left to be posted.
-fn post_left<D: CallDesk>(desk: &mut D, told: Told)
-    ensures { TellsMore (D.log desk.old) (D.log desk.new) (left_to_post told) }
+/// Posts what the kernel port left to be posted.
+fn post_left<K: KernelPort>(kernel_port: &mut K, told: Told)
+    ensures { TellsMore (K.log kernel_port.old) (K.log kernel_port.new) (left_to_post told) }
 {
     let answered = told;
     if is_posted(answered) {
-        desk.post(told);
+        kernel_port.post(told);
     }
 }
 

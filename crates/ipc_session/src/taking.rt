@@ -5,11 +5,11 @@ ghost use Rattle.ipc_session.specs.declared.next.Next.TheVariants as next;
 use crate::next::Next;
 
 /// What a writer is given to write.
-pub trait TakeDesk {
+pub trait AnswerPort {
     ghost use Rattle.std.specs.Prelude.{List, Option};
     ghost use Rattle.ipc_session.specs.Taking.{TakeCall};
 
-    // What it gave so far, and whether it was told of a break, where the desk tells.
+    // What it gave so far, and whether it was told of a break, where the port tells.
     ghost log: { Self → Option (List TakeCall) };
 
     // Whether it said that nothing more comes.

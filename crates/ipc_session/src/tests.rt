@@ -25,7 +25,7 @@ const TALK: [u8; 91] = [
     0, 7, 0, 0, 0, 17, 3, 0, 0, 0, 1, 0, 0, 0, 1, 0, 0, 0, 0, 0, 0, 0, 0, 0, 0, 0, 1, 4,
 ];
 
-// What a desk is asked by its frames.
+// What a kernel port is asked by its frames.
 const DEEDS: [Brief; 3] = [
     Brief::Opened(2),
     Brief::Called(1),
@@ -35,7 +35,7 @@ const DEEDS: [Brief; 3] = [
 // From the first of these bytes up to the second, so many of its frames are whole.
 const STRETCHES: [(usize, usize, usize); 4] = [(0, 7, 0), (7, 65, 1), (65, 86, 2), (86, 91, 3)];
 
-// What a desk gives.
+// What an answer port gives.
 const GIVEN: [Told; 2] = [
     Told::Refused(Refusal::NumberTaken),
     Told::Refused(Refusal::BadNumber),
@@ -47,7 +47,7 @@ const ANSWERS: [u8; 12] = [0, 0, 0, 2, 0x84, 2, 0, 0, 0, 2, 0x84, 1];
 // More turns than any run here takes.
 const ENOUGH: u64 = 1000;
 
-// What a desk was asked or told, as far as it matters here.
+// What a kernel port was asked or told, as far as it matters here.
 #[derive(Clone, Copy, PartialEq, Eq, Debug)]
 enum Brief {
     Opened(u16),
@@ -116,7 +116,7 @@ impl PortRead for CutPort<'_> {
     }
 }
 
-// A reader over this port ends so, after these deeds of a desk that refuses so, and then one break.
+// A reader over this port ends so, after these deeds of a kernel port that refuses so, and then one break.
 fn assert_read<P: PortRead>(
     rt: &impl Abort,
     alloc: Global,
@@ -126,14 +126,14 @@ fn assert_read<P: PortRead>(
     end: Ending,
     deeds: &[Brief],
 ) {
-    let desk = MemoryDesk::new(alloc, ThreadId::from_word(SECOND));
-    let mut desk = match refusal {
-        Some((request, refusal)) => desk.with_refusal(request, refusal),
-        None => desk,
+    let kernel_port = MemoryKernelPort::new(alloc, ThreadId::from_word(SECOND));
+    let mut kernel_port = match refusal {
+        Some((request, refusal)) => kernel_port.with_refusal(request, refusal),
+        None => kernel_port,
     };
-    let ending = read_loop(alloc, port, &mut desk, &mut Open::new(turns));
+    let ending = read_loop(alloc, port, &mut kernel_port, &mut Open::new(turns));
     same(rt, ending, end);
-    let kept = desk.deeds().expect(rt, "there is memory for all deeds");
+    let kept = kernel_port.deeds().expect(rt, "there is memory for all deeds");
     let (last, front) = kept.split_last().expect(rt, "it breaks");
     same(rt, brief_of(last), Brief::Broke);
     same(rt, front.len(), deeds.len());
@@ -169,11 +169,11 @@ fn assert_written(
     let mut port = MemoryPort::new(alloc, &[])
         .byte_by_byte()
         .with_trouble(call as u64, trouble);
-    let mut desk = MemoryAnswers::new(alloc, WireVersion::One, &GIVEN);
-    let ending = write_loop(&mut port, &mut desk, &mut Open::new(turns));
+    let mut answer_port = MemoryAnswers::new(alloc, WireVersion::One, &GIVEN);
+    let ending = write_loop(&mut port, &mut answer_port, &mut Open::new(turns));
     same(rt, ending, end);
     same(rt, port.output(), Some(text));
-    let takes = desk
+    let takes = answer_port
         .takes()
         .expect(rt, "there is memory for all that it gave");
     let mut breaks = 0u8;
@@ -271,7 +271,7 @@ fn each_cut_in_two_is_served_alike(rt: HostRuntime) {
     }
 }
 
-// HELLO, then so many times the EXREG of TALK, then BYE; and what a desk is asked by it.
+// HELLO, then so many times the EXREG of TALK, then BYE; and what a kernel port is asked by it.
 fn long_talk(rt: &impl Abort, alloc: Global, times: usize) -> (Vec<u8>, Vec<Brief>) {
     let [opened, _, exchanged] = DEEDS;
     let mut talk = Vec::new(alloc);
@@ -375,7 +375,7 @@ struct FakeWork {
     parts: u32,
 }
 
-impl WorkDesk for FakeWork {
+impl WorkPort for FakeWork {
     ghost gone = { λ _. true };
 
     fn tick(&mut self) {
@@ -404,19 +404,19 @@ impl Beat for NoPause {
 
 #[test]
 fn work_is_done_until_the_gate_says_stop(rt: HostRuntime) {
-    let mut desk = FakeWork { ticks: 0, parts: 3 };
-    tick_loop(&mut NoPause, &mut desk, &mut Open::new(2));
-    same(&rt, desk.ticks, 2);
+    let mut work_port = FakeWork { ticks: 0, parts: 3 };
+    tick_loop(&mut NoPause, &mut work_port, &mut Open::new(2));
+    same(&rt, work_port.ticks, 2);
     same(
         &rt,
-        move_loop(&mut desk, &mut Open::new(2)),
+        move_loop(&mut work_port, &mut Open::new(2)),
         MoveEnding::Stopped,
     );
-    same(&rt, desk.parts, 1);
+    same(&rt, work_port.parts, 1);
     same(
         &rt,
-        move_loop(&mut desk, &mut Open::new(2)),
+        move_loop(&mut work_port, &mut Open::new(2)),
         MoveEnding::Gone,
     );
-    same(&rt, desk.parts, 0);
+    same(&rt, work_port.parts, 0);
 }

@@ -3,7 +3,7 @@ ghost use Rattle.std.specs.Prelude.{◌≡◌, Bool, true, false};
 use crate::gate::Gate;
 
 /// The work that no connection asks for.
-pub trait WorkDesk {
+pub trait WorkPort {
     ghost use Rattle.std.specs.Prelude.{Bool};
 
     // Whether it said that nothing more comes.
@@ -35,23 +35,23 @@ pub enum MoveEnding {
     Gone,
 }
 
-/// Ticks the desk at each turn of the clock, until the gate says stop.
-pub fn tick_loop<C: Beat, D: WorkDesk, G: Gate>(clock: &mut C, desk: &mut D, gate: &mut G)
+/// Ticks the work port at each turn of the clock, until the gate says stop.
+pub fn tick_loop<C: Beat, W: WorkPort, G: Gate>(clock: &mut C, work_port: &mut W, gate: &mut G)
     ensures stopped { G.stopped gate.new ≡ true }
 {
     'turns: while gate.turn() {
         clock.wait();
-        desk.tick();
+        work_port.tick();
     }
 }
 
 /// Moves begun transfers while there are any, and then waits for the next.
-pub fn move_loop<D: WorkDesk, G: Gate>(desk: &mut D, gate: &mut G) -> MoveEnding
+pub fn move_loop<W: WorkPort, G: Gate>(work_port: &mut W, gate: &mut G) -> MoveEnding
     ensures stopped { result ≡ MoveEnding.Stopped → G.stopped gate.new ≡ true }
-    ensures gone { result ≡ MoveEnding.Gone → D.gone desk.new ≡ true }
+    ensures gone { result ≡ MoveEnding.Gone → W.gone work_port.new ≡ true }
 {
     'turns: while gate.turn() {
-        if !desk.advance() && !desk.wait() {
+        if !work_port.advance() && !work_port.wait() {
             return MoveEnding::Gone;
         }
     }

@@ -7,7 +7,7 @@ use crate::buffers::{LONG, SHORT};
 use crate::ending::WriteEnding;
 use crate::gate::Gate;
 use crate::next::Next;
-use crate::taking::TakeDesk;
+use crate::taking::AnswerPort;
 use ipc_frame::Encoder;
 use ipc_ports::{PortFault, PortWrite, write_all};
 
@@ -100,16 +100,16 @@ fn encoder_of(next: Next) -> Option<Encoder>
     }
 }
 
-/// Writes what the desk gives next, and answers how the loop ends, if it does.
-fn write_next<P: PortWrite, D: TakeDesk>(port: &mut P, desk: &mut D) -> Option<WriteEnding>
-    ensures text { Wrote (D.log desk.old) (D.log desk.new) (P.written port.old) (P.written port.new)
+/// Writes what the answer port gives next, and answers how the loop ends, if it does.
+fn write_next<P: PortWrite, A: AnswerPort>(port: &mut P, answer_port: &mut A) -> Option<WriteEnding>
+    ensures text { Wrote (A.log answer_port.old) (A.log answer_port.new) (P.written port.old) (P.written port.new)
         (broken_by result) (is_whole_at result) }
     ensures device { result ≡ Some WriteEnding.Device → P.failures port.old < P.failures port.new }
     ensures kept { result ≢ Some WriteEnding.Device → P.failures port.new ≡ P.failures port.old }
-    ensures gone { result ≡ Some WriteEnding.Gone → D.gone desk.new ≡ true }
+    ensures gone { result ≡ Some WriteEnding.Gone → A.gone answer_port.new ≡ true }
     ensures goes_on { result ≢ Some WriteEnding.Stopped }
 {
-    let next = desk.next();
+    let next = answer_port.next();
     let is_long = is_long(&next);
     let Some(encoder) = encoder_of(next) else {
         return Some(WriteEnding::Gone);
@@ -117,27 +117,27 @@ fn write_next<P: PortWrite, D: TakeDesk>(port: &mut P, desk: &mut D) -> Option<W
     match write_frame(port, encoder, is_long) {
         Ok(()) => None,
         Err(_) => {
-            desk.broke();
+            answer_port.broke();
             Some(WriteEnding::Device)
         }
     }
 }
 
-/// Writes what the desk gives: the encodings, in order, each once. After a fault of the device a prefix of that text stands,
-/// and the desk is told once that the thread ends.
-pub fn write_loop<P: PortWrite, D: TakeDesk, G: Gate>(
+/// Writes what the answer port gives: the encodings, in order, each once. After a fault of the device a prefix of that text stands,
+/// and the answer port is told once that the thread ends.
+pub fn write_loop<P: PortWrite, A: AnswerPort, G: Gate>(
     port: &mut P,
-    desk: &mut D,
+    answer_port: &mut A,
     gate: &mut G,
 ) -> WriteEnding
-    ensures text { Wrote (D.log desk.old) (D.log desk.new) (P.written port.old) (P.written port.new)
+    ensures text { Wrote (A.log answer_port.old) (A.log answer_port.new) (P.written port.old) (P.written port.new)
         (broken_by (Some result)) (is_whole_at (Some result)) }
     ensures device { result ≡ WriteEnding.Device → P.failures port.old < P.failures port.new }
     ensures stopped { result ≡ WriteEnding.Stopped → G.stopped gate.new ≡ true }
-    ensures gone { result ≡ WriteEnding.Gone → D.gone desk.new ≡ true }
+    ensures gone { result ≡ WriteEnding.Gone → A.gone answer_port.new ≡ true }
 {
     'turns: while gate.turn() {
-        if let Some(ending) = write_next(port, desk) {
+        if let Some(ending) = write_next(port, answer_port) {
             return ending;
         }
     }

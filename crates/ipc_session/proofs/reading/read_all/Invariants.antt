@@ -12,7 +12,7 @@ invariant-turns g l = record {
   left : List ℕ;
   consumed : Consumes (g.P.PortRead.remaining l.fn.port) (g.P.PortRead.remaining l.port) bytes;
   holds : Holds l.decoder left;
-  served : HasServed (g.D.CallDesk.log l.fn.desk) (g.D.CallDesk.log l.desk) Greeting bytes left l.stage [];
+  served : HasServed (g.K.KernelPort.log l.fn.kernel_port) (g.K.KernelPort.log l.kernel_port) Greeting bytes left l.stage [];
   kept : g.P.PortRead.failures l.port ≡ g.P.PortRead.failures l.fn.port;
 }
 

@@ -29,7 +29,7 @@ serves_nothing log stage input left_input old new count left more holds =
 pub returns-in-Some-Ok-eq0 : goal.returns-in-Some-Ok-eq0
 returns-in-Some-Ok-eq0 g c = λ start first bytes left consumed holds served.
     let more = took_more (g.P.PortRead.remaining c.args.port.now) (g.P.PortRead.remaining c.read_on.new.port) c.args.decoder.now c.read_on.new.self c.in-Some-Ok-eq0.field-0 c.in-Some-Ok-eq0.field-0-0 c.in-Some-Ok-eq0.field-0-is c.in-Some-Ok-eq0.ensures.taken in
-    let piece = serves_nothing (g.D.CallDesk.log c.args.desk.now) c.args.stage _ (g.P.PortRead.remaining c.read_on.new.port) c.args.decoder.now c.read_on.new.self _ left more holds in
+    let piece = serves_nothing (g.K.KernelPort.log c.args.kernel_port.now) c.args.stage _ (g.P.PortRead.remaining c.read_on.new.port) c.args.decoder.now c.read_on.new.self _ left more holds in
     let all = leaves_piece _ _ _ _ bytes left _ (g.P.PortRead.remaining c.read_on.new.port) c.read_on.new.self (On c.args.stage) served piece in
     let at_end = more.at_end c.in-Some-Ok-eq0.field-0-0-test in record {
       bytes = bytes ++ more.more;
@@ -44,7 +44,7 @@ returns-in-Some-Ok-eq0 g c = λ start first bytes left consumed holds served.
 pub returns-in-Some-Ok : goal.returns-in-Some-Ok
 returns-in-Some-Ok g c = λ start first bytes left consumed holds served.
     let more = took_more (g.P.PortRead.remaining c.args.port.now) (g.P.PortRead.remaining c.read_on.new.port) c.args.decoder.now c.read_on.new.self c.in-Some-Ok.field-0 c.in-Some-Ok.field-0-0 c.in-Some-Ok.field-0-is c.in-Some-Ok.ensures.taken in
-    let piece = serves_nothing (g.D.CallDesk.log c.args.desk.now) c.args.stage _ (g.P.PortRead.remaining c.read_on.new.port) c.args.decoder.now c.read_on.new.self _ left more holds in record {
+    let piece = serves_nothing (g.K.KernelPort.log c.args.kernel_port.now) c.args.stage _ (g.P.PortRead.remaining c.read_on.new.port) c.args.decoder.now c.read_on.new.self _ left more holds in record {
       bytes = bytes ++ more.more;
       consumed = Consumes-trans _ _ _ bytes _ consumed more.consumed;
       leaves = leaves_piece _ _ _ _ bytes left _ (g.P.PortRead.remaining c.read_on.new.port) c.read_on.new.self (On c.args.stage) served piece;
@@ -60,5 +60,5 @@ returns-in-None g c = λ start first bytes left consumed holds served.
     let fails = c.in-None.ensures.fails in
     let consumed_so = subst (λ (i : Option (List ℕ)). Consumes start i bytes) (sym fails.0) consumed in
     let holds_so = subst (λ (d : Decoding). Holds d left) (sym same) holds in
-    subst (λ failures. HasRead start (g.P.PortRead.remaining c.read_piece.new.port) first (g.D.CallDesk.log c.read_piece.new.desk) c.read_piece.new.decoder failures (g.P.PortRead.failures c.read_piece.new.port) c.read_piece.result.0) fails.1
+    subst (λ failures. HasRead start (g.P.PortRead.remaining c.read_piece.new.port) first (g.K.KernelPort.log c.read_piece.new.kernel_port) c.read_piece.new.decoder failures (g.P.PortRead.failures c.read_piece.new.port) c.read_piece.result.0) fails.1
     (c.read_piece.ensures start first bytes left consumed_so holds_so served)

@@ -1,8 +1,8 @@
 use Rattle.std.proofs.Common.{sym, subst, ◌∙◌}
 use Rattle.ipc_frame.specs.declared.version.WireVersion.TheVariants.{One}
-use Rattle.ipc_connection.specs.Desk.{TellsMore}
+use Rattle.ipc_connection.specs.KernelCalls.{TellsMore}
 use Rattle.ipc_session.proofs.TellLemmas.{leaves_one, leaves_some}
-use Rattle.ipc_session.proofs.memory.MemoryDeskCallDesk.post.Goals as goal
+use Rattle.ipc_session.proofs.memory.MemoryKernelPortKernelPort.post.Goals as goal
 
 pub returns-in-Some : goal.returns-in-Some
 returns-in-Some c = record {

@@ -1,4 +1,4 @@
--- The calls of a desk that a connection makes.
+-- The calls of a kernel port that a connection makes.
 use Rattle.std.specs.Prelude.{◌≡◌, List, [], ◌∷◌, ◌++◌, Option, Some, None, Result, ⊤}
 use Rattle.ipc_frame.specs.declared.fault.FrameFault.{FrameFault}
 use Rattle.ipc_frame.specs.declared.frame.Frame.{Frame}
@@ -15,20 +15,20 @@ use Rattle.ipc_calls.specs.declared.heard.Heard.{Heard}
 use Rattle.ipc_connection.specs.declared.replying.Told.{Told}
 use Rattle.ipc_connection.specs.declared.replying.Told.TheVariants.{Opened, Entered, Exchanged, Refused, Faulted, Left}
 
--- a call of a desk: a request with its answer, a frame that is posted, or the end of the thread
-pub data DeskCall : Type 0 where
-  Asks : Request → Told → DeskCall
-  Posts : Frame → DeskCall
-  Breaks : DeskCall
+-- a call of a kernel port: a request with its answer, a frame that is posted, or the end of the thread
+pub data KernelCall : Type 0 where
+  Asks : Request → Told → KernelCall
+  Posts : Frame → KernelCall
+  Breaks : KernelCall
 
--- a desk that tells its calls at the end told them before, and had these more, and no others
-abbrev pub TellsMore : Option (List DeskCall) → Option (List DeskCall) → List DeskCall → Type 0
+-- a kernel port that tells its calls at the end told them before, and had these more, and no others
+abbrev pub TellsMore : Option (List KernelCall) → Option (List KernelCall) → List KernelCall → Type 0
 TellsMore old None calls = ⊤
 TellsMore None (Some ys) calls = ⊥
 TellsMore (Some xs) (Some ys) calls = ys ≡ xs ++ calls
 
--- what a desk leaves to be posted: it posts itself what it accepted, so a refusal or a fault
-abbrev pub post_of : Option Frame → List DeskCall
+-- what a kernel port leaves to be posted: it posts itself what it accepted, so a refusal or a fault
+abbrev pub post_of : Option Frame → List KernelCall
 post_of None = []
 post_of (Some frame) = Posts frame ∷ []
 
@@ -40,29 +40,29 @@ posted (Refused refusal) = frame_of refusal
 posted (Faulted class number) = Some (frame.Fault class number)
 posted Left = None
 
-abbrev pub left_to_post : Told → List DeskCall
+abbrev pub left_to_post : Told → List KernelCall
 left_to_post told = post_of (posted told)
 
--- the desk is asked, and what it left is posted
-abbrev pub AsksDesk : Stage → Request → List DeskCall → Stage → Type 0
-AsksDesk stage request calls next =
+-- the kernel port is asked, and what it left is posted
+abbrev pub AsksKernel : Stage → Request → List KernelCall → Stage → Type 0
+AsksKernel stage request calls next =
     (told : Told) × (calls ≡ Asks request told ∷ left_to_post told)
     × (next ≡ next_stage stage told)
 
 -- a connection ends so
-abbrev pub EndsBy : Told → List DeskCall → Stage → Type 0
+abbrev pub EndsBy : Told → List KernelCall → Stage → Type 0
 EndsBy told calls next = (calls ≡ left_to_post told) × (next ≡ Finished)
 
-abbrev pub TurnsBy : Stage → Reaction → List DeskCall → Stage → Type 0
+abbrev pub TurnsBy : Stage → Reaction → List KernelCall → Stage → Type 0
 TurnsBy stage Nothing calls next = (calls ≡ []) × (next ≡ stage)
-TurnsBy stage (Ask request) calls next = AsksDesk stage request calls next
+TurnsBy stage (Ask request) calls next = AsksKernel stage request calls next
 TurnsBy stage Leave calls next = EndsBy Left calls next
 TurnsBy stage (Refuse class number) calls next = EndsBy (Faulted class number) calls next
 
 -- what is heard at a stage is served with these calls
-unfoldable pub Turns : Stage → Result Heard FrameFault → List DeskCall → Stage → Type 0
+unfoldable pub Turns : Stage → Result Heard FrameFault → List KernelCall → Stage → Type 0
 Turns stage heard calls next = TurnsBy stage (asks stage heard) calls next
 
 -- one after the other
-abbrev pub Talks : Stage → List (Result Heard FrameFault) → List DeskCall → Stage → Type 0
+abbrev pub Talks : Stage → List (Result Heard FrameFault) → List KernelCall → Stage → Type 0
 Talks stage heard calls next = Chain Turns stage heard calls next

@@ -16,7 +16,7 @@ use Rattle.ipc_core.specs.Outcomes.{outcome_to_take}
 use Rattle.ipc_connection.specs.declared.stage.Stage.{Stage}
 use Rattle.ipc_connection.specs.declared.stage.Stage.TheVariants.{Greeting, Serving, Finished}
 use Rattle.ipc_words.specs.Limits.{table_slots}
-use Rattle.ipc_exchange.specs.Service.{Line, ServiceParts, delivered, delivered_to, line_at, outcome_at, place_of, told_outcome, without_outcome}
+use Rattle.ipc_exchange.specs.Service.{ConnectionParts, ServiceParts, connection_at, delivered, delivered_to, outcome_at, place_of, told_outcome, without_outcome}
 use Rattle.ipc_connection.specs.Replying.{told_of}
 use Rattle.ipc_exchange.specs.Serving.{Asked, Does, Leaves, Memory, ObeysIn, Serves, ServesAll, ServesBy, Tells}
 use Rattle.ipc_exchange.specs.Events.{Commands, Event, ExchangeParts, Happens, HappenAll}
@@ -31,7 +31,7 @@ module _
     (takes : (kernel : KernelParts) (thread : ℕ) → R kernel [] (without_outcome kernel (outcome_to_take kernel thread)))
   where
     told_along : (place : ℕ) (service : ServiceParts) → R service.kernel [] (told_outcome place service).kernel
-    told_along place service = go (line_at service.lines place).stage
+    told_along place service = go (connection_at service.connections place).stage
       where
         go : (stage : Stage) → R service.kernel [] (without_outcome service.kernel (outcome_at service.kernel stage))
         go Greeting = none service.kernel
@@ -41,11 +41,11 @@ module _
     delivered_to_along : (numbers : ℕ) (service : ServiceParts) → R service.kernel [] (delivered_to numbers service).kernel
     unfolding delivered_to
     delivered_to_along zero service = none service.kernel
-    delivered_to_along (suc number) service = both _ _ _ [] [] (delivered_to_along number service) (told_along (place_of number (delivered_to number service).lines) (delivered_to number service))
+    delivered_to_along (suc number) service = both _ _ _ [] [] (delivered_to_along number service) (told_along (place_of number (delivered_to number service).connections) (delivered_to number service))
 
-    delivered_along : (lines : List Line) (kernel : KernelParts) → R kernel [] (delivered kernel lines).kernel
+    delivered_along : (connections : List ConnectionParts) (kernel : KernelParts) → R kernel [] (delivered kernel connections).kernel
     unfolding delivered
-    delivered_along lines kernel = delivered_to_along table_slots (record { kernel = kernel; lines = lines })
+    delivered_along connections kernel = delivered_to_along table_slots (record { kernel = kernel; connections = connections })
 
     stays : (H K : KernelParts) (asked : List Asked) → asked ≡ [] → K ≡ H → R H asked K
     stays H K asked nothing same = subst (λ a. R H a K) (sym nothing) (subst (λ k. R H [] k) (sym same) (none H))
@@ -66,7 +66,7 @@ module _
     does_along old new place version command asked does =
         subst (λ a. R old.kernel a new.kernel) (sym does.asked_is)
         (both _ _ _ (record { command = command; answer = does.answer } ∷ []) does.rest (one old.kernel does.between command does.answer does.obeys)
-        (tells_along (record { kernel = does.between; lines = old.lines }) new place (told_of version does.between.moment does.answer) does.rest does.tells))
+        (tells_along (record { kernel = does.between; connections = old.connections }) new place (told_of version does.between.moment does.answer) does.rest does.tells))
 
     by_along : (reaction : Reaction) (old new : ServiceParts) (place : ℕ) (asked : List Asked) → ServesBy memory old place reaction asked new → R old.kernel asked new.kernel
     by_along Nothing old new place asked serves = stays _ _ asked serves.0 (ap (λ (s : ServiceParts). s.kernel) serves.1)
@@ -76,7 +76,7 @@ module _
 
     pub serves_along : (old new : ServiceParts) (place : ℕ) (heard : Result Heard FrameFault) (asked : List Asked) → Serves memory old place heard asked new → R old.kernel asked new.kernel
     unfolding Serves
-    serves_along old new place heard asked serves = by_along (asks (line_at old.lines place).stage heard) old new place asked serves
+    serves_along old new place heard asked serves = by_along (asks (connection_at old.connections place).stage heard) old new place asked serves
 
     all_along : (heard : List (Result Heard FrameFault)) (old new : ServiceParts) (place : ℕ) (asked : List Asked) → ServesAll memory old place heard asked new → R old.kernel asked new.kernel
     unfolding Chain
@@ -91,7 +91,7 @@ module _
         subst (λ k. R old.service.kernel asked k) (sym (ap (λ (s : ExchangeParts). s.service.kernel) commands.new_is ∙ ap (λ (s : ServiceParts). s.kernel) is))
         (then_nothing old.service.kernel between _ asked
         (subst (λ a. R old.service.kernel a between) (sym commands.asked_is) (one old.service.kernel between command commands.answer obeys))
-        (delivered_along old.service.lines between))
+        (delivered_along old.service.connections between))
 
     pub event_along : (event : Event) (old new : ExchangeParts) (asked : List Asked) → Happens memory old event asked new → R old.service.kernel asked new.service.kernel
     event_along (Connect space) old new asked happens = stays _ _ asked happens.0 (ap (λ (s : ExchangeParts). s.service.kernel) happens.1)

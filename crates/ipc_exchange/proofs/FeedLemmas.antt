@@ -15,17 +15,17 @@ use Rattle.ipc_calls.proofs.PieceLemmas.{FailsFirst, cut_cons, cut_first, take_f
 use Rattle.ipc_connection.specs.Chain.{Chain}
 use Rattle.ipc_connection.specs.declared.stage.Stage.{Stage}
 use Rattle.ipc_connection.specs.declared.stage.Stage.TheVariants.{Greeting, Serving, Finished}
-use Rattle.ipc_exchange.specs.Service.{ServiceParts, line_at}
+use Rattle.ipc_exchange.specs.Service.{ServiceParts, connection_at}
 use Rattle.ipc_exchange.specs.Serving.{Asked, Hears, MayLack, MayWant, Serves}
-use Rattle.ipc_exchange.specs.Slots.{ServiceSlots, WantsRoom, service_of, stage_at}
-use Rattle.ipc_exchange.specs.Exchange.{ClosesLine}
-use Rattle.ipc_exchange.specs.Feeding.{FeedsFirst, FeedsLine, HearsOne, HoldsFor, IsHeard, has_finished}
+use Rattle.ipc_exchange.specs.Rooms.{RoomyService, WantsRoom, service_of, stage_at}
+use Rattle.ipc_exchange.specs.Exchange.{ClosesConnection}
+use Rattle.ipc_exchange.specs.Feeding.{FeedsConnection, FeedsFirst, HearsOne, HoldsFor, IsHeard, has_finished}
 use Rattle.ipc_exchange.proofs.ServingLemmas.{all_idle_again, fault_finishes}
-use Rattle.ipc_exchange.proofs.TellingLemmas.{line_there}
+use Rattle.ipc_exchange.proofs.TellingLemmas.{connection_there}
 
--- the stage of a line
-pub service_stage : (s : ServiceSlots) (place : ℕ) → (line_at (service_of s).lines place).stage ≡ stage_at s.slots place
-service_stage s place = ap (λ l. l.stage) (line_there s.slots place)
+-- the stage of a connection
+pub service_stage : (s : RoomyService) (place : ℕ) → (connection_at (service_of s).connections place).stage ≡ stage_at s.connections place
+service_stage s place = ap (λ l. l.stage) (connection_there s.connections place)
 
 pub finished_is : (stage : Stage) → has_finished stage ≡ true → stage ≡ Finished
 finished_is Finished e = refl
@@ -53,7 +53,7 @@ cut_wants stream heard cut = record { front = cut.front; frame = cut.frame; behi
 -- what was heard last ended the connection: the rest of the piece is not served
 ends_so : (old new : ServiceParts) (place : ℕ) (bytes piece : List ℕ) (decoder : Decoding) (heard : Result Heard FrameFault) (asked : List Asked)
     → ((rest : List (Result Heard FrameFault)) × (heard_in (stream_of Server (bytes ++ piece)) ≡ heard ∷ rest)) ⊎ IsCut MayWant (stream_of Server (bytes ++ piece)) (heard ∷ [])
-    → Serves MayLack old place heard asked new → (line_at new.lines place).stage ≡ Finished → FeedsLine old place bytes piece new decoder
+    → Serves MayLack old place heard asked new → (connection_at new.connections place).stage ≡ Finished → FeedsConnection old place bytes piece new decoder
 unfolding Chain
 ends_so old new place bytes piece decoder heard asked (inl (rest, said)) serves ended = record {
   heard = heard ∷ rest;
@@ -71,7 +71,7 @@ ends_so old new place bytes piece decoder heard asked (inr cut) serves ended = r
 }
 
 -- no frame ends in the piece
-pub rests : (old : ServiceParts) (place : ℕ) (bytes piece : List ℕ) (used : ℕ) (decoder : Decoding) → Takes bytes piece decoder (Ok (used, None)) → FeedsLine old place bytes piece old decoder
+pub rests : (old : ServiceParts) (place : ℕ) (bytes piece : List ℕ) (used : ℕ) (decoder : Decoding) → Takes bytes piece decoder (Ok (used, None)) → FeedsConnection old place bytes piece old decoder
 unfolding Chain
 rests old place bytes piece used decoder takes =
     let back = take_rests decoder bytes piece used takes in
@@ -85,10 +85,10 @@ rests old place bytes piece used decoder takes =
     }
 
 -- a fault
-pub fails : (old new : ServiceParts) (place : ℕ) (bytes piece : List ℕ) (fault : FrameFault) (decoder : Decoding) → Takes bytes piece decoder (Err fault) → HearsOne old place (Err fault) new → FeedsLine old place bytes piece new decoder
+pub fails : (old new : ServiceParts) (place : ℕ) (bytes piece : List ℕ) (fault : FrameFault) (decoder : Decoding) → Takes bytes piece decoder (Err fault) → HearsOne old place (Err fault) new → FeedsConnection old place bytes piece new decoder
 fails old new place bytes piece fault decoder takes hears = go hears.is (take_fails decoder bytes piece fault takes)
   where
-    go : IsHeard (Err fault) hears.heard → FailsFirst (bytes ++ piece) fault → FeedsLine old place bytes piece new decoder
+    go : IsHeard (Err fault) hears.heard → FailsFirst (bytes ++ piece) fault → FeedsConnection old place bytes piece new decoder
     go (inr lacks) said = absurd lacks.1
     go (inl is) (inl said) =
         let serves = subst (λ h. Serves MayLack old place h hears.asked new) is hears.serves in
@@ -100,10 +100,10 @@ fails old new place bytes piece fault decoder takes hears = go hears.is (take_fa
         ends_so old new place bytes piece decoder (Err fault) hears.asked (inr wants) serves (fault_finishes MayLack place old new fault hears.asked serves)
 
 -- a frame, behind which the connection has ended
-pub ends : (old new : ServiceParts) (place : ℕ) (bytes piece : List ℕ) (used : ℕ) (heard : Heard) (decoder : Decoding) → Takes bytes piece decoder (Ok (used, Some heard)) → HearsOne old place (Ok heard) new → (line_at new.lines place).stage ≡ Finished → FeedsLine old place bytes piece new decoder
+pub ends : (old new : ServiceParts) (place : ℕ) (bytes piece : List ℕ) (used : ℕ) (heard : Heard) (decoder : Decoding) → Takes bytes piece decoder (Ok (used, Some heard)) → HearsOne old place (Ok heard) new → (connection_at new.connections place).stage ≡ Finished → FeedsConnection old place bytes piece new decoder
 ends old new place bytes piece used heard decoder takes hears ended = go hears.is
   where
-    go : IsHeard (Ok heard) hears.heard → FeedsLine old place bytes piece new decoder
+    go : IsHeard (Ok heard) hears.heard → FeedsConnection old place bytes piece new decoder
     go (inl is) =
         let first = take_hears decoder bytes piece used heard takes in
         let serves = subst (λ h. Serves MayLack old place h hears.asked new) is hears.serves in
@@ -116,7 +116,7 @@ ends old new place bytes piece used heard decoder takes hears ended = go hears.i
         ends_so old new place bytes piece decoder (Err NoMemory) hears.asked (inr cut) serves ended
 
 -- a frame, behind which it goes on
-pub goes_on : (old new : ServiceParts) (place : ℕ) (bytes piece : List ℕ) (used : ℕ) (heard : Heard) (decoder : Decoding) → Takes bytes piece decoder (Ok (used, Some heard)) → HearsOne old place (Ok heard) new → has_finished (line_at new.lines place).stage ≡ false → FeedsFirst old place bytes piece used new
+pub goes_on : (old new : ServiceParts) (place : ℕ) (bytes piece : List ℕ) (used : ℕ) (heard : Heard) (decoder : Decoding) → Takes bytes piece decoder (Ok (used, Some heard)) → HearsOne old place (Ok heard) new → has_finished (connection_at new.connections place).stage ≡ false → FeedsFirst old place bytes piece used new
 goes_on old new place bytes piece used heard decoder takes hears lives = go hears.is
   where
     go : IsHeard (Ok heard) hears.heard → FeedsFirst old place bytes piece used new
@@ -135,14 +135,14 @@ goes_on old new place bytes piece used heard decoder takes hears lives = go hear
         absurd cc
 
 -- the first frame, and then the rest
-pub feeds_both : (old between new : ServiceParts) (place : ℕ) (bytes piece : List ℕ) (used : ℕ) (decoder : Decoding) → FeedsFirst old place bytes piece used between → FeedsLine between place [] (drop used piece) new decoder → FeedsLine old place bytes piece new decoder
+pub feeds_both : (old between new : ServiceParts) (place : ℕ) (bytes piece : List ℕ) (used : ℕ) (decoder : Decoding) → FeedsFirst old place bytes piece used between → FeedsConnection between place [] (drop used piece) new decoder → FeedsConnection old place bytes piece new decoder
 unfolding Chain
 feeds_both old between new place bytes piece used decoder first later = record {
   heard = Ok first.heard ∷ later.heard;
   hears = go later.hears;
   asked = first.asked ++ later.asked;
   serves = (first.asked, later.asked, between, refl, first.serves, later.serves);
-  holds = subst (λ (s : Stream). HoldsFor (line_at new.lines place).stage decoder (left_in s.end)) (sym first.stream) later.holds;
+  holds = subst (λ (s : Stream). HoldsFor (connection_at new.connections place).stage decoder (left_in s.end)) (sym first.stream) later.holds;
 }
   where
     go : Hears MayLack (stream_of Server (drop used piece)) later.heard → Hears MayLack (stream_of Server (bytes ++ piece)) (Ok first.heard ∷ later.heard)
@@ -159,14 +159,14 @@ pub held_size : (decoder : Decoding) (bytes : List ℕ) → Holds decoder bytes 
 held_size decoder bytes holds = ap length holds.bytes_are ∙ (length-append decoder.kept holds.gone ∙ ap (λ n. length decoder.kept + n) holds.counted)
 
 -- the end of the input
-pub ends_well : (old new : ServiceParts) (place : ℕ) (bytes : List ℕ) (decoder after : Decoding) (result : Result ⊤ FrameFault) → Finishes bytes decoder after result → result ≡ Ok tt → Holds decoder bytes → ((asked : List Asked) × Serves MayLack old place (Ok Bye) asked new) → ClosesLine old place bytes new after
-ends_well old new place [] decoder after result finishes ok holds served = record { asked = served.0; serves = served.1; holds = holds_all (line_at new.lines place).stage after [] (subst (λ d. Holds d []) (sym finishes.1) holds) }
+pub ends_well : (old new : ServiceParts) (place : ℕ) (bytes : List ℕ) (decoder after : Decoding) (result : Result ⊤ FrameFault) → Finishes bytes decoder after result → result ≡ Ok tt → Holds decoder bytes → ((asked : List Asked) × Serves MayLack old place (Ok Bye) asked new) → ClosesConnection old place bytes new after
+ends_well old new place [] decoder after result finishes ok holds served = record { asked = served.0; serves = served.1; holds = holds_all (connection_at new.connections place).stage after [] (subst (λ d. Holds d []) (sym finishes.1) holds) }
 ends_well old new place (byte ∷ bytes) decoder after result finishes ok holds served = let no = sym finishes.0 ∙ ok in absurd (cc)
 
-pub ends_inside : (old new : ServiceParts) (place : ℕ) (bytes : List ℕ) (decoder after : Decoding) (result : Result ⊤ FrameFault) (fault : FrameFault) → Finishes bytes decoder after result → result ≡ Err fault → ((asked : List Asked) × Serves MayLack old place (Err fault) asked new) → ClosesLine old place bytes new after
+pub ends_inside : (old new : ServiceParts) (place : ℕ) (bytes : List ℕ) (decoder after : Decoding) (result : Result ⊤ FrameFault) (fault : FrameFault) → Finishes bytes decoder after result → result ≡ Err fault → ((asked : List Asked) × Serves MayLack old place (Err fault) asked new) → ClosesConnection old place bytes new after
 ends_inside old new place [] decoder after result fault finishes err served = let no = sym finishes.0 ∙ err in absurd (cc)
 ends_inside old new place (byte ∷ bytes) decoder after result fault finishes err served =
     let same = sym finishes.0 ∙ err in
     let is : Unfinished ≡ fault = cc in
     let serves = subst (λ f. Serves MayLack old place (Err f) served.0 new) (sym is) served.1 in
-    record { asked = served.0; serves = serves; holds = holds_ended (line_at new.lines place).stage after [] (fault_finishes MayLack place old new Unfinished served.0 serves) }
+    record { asked = served.0; serves = serves; holds = holds_ended (connection_at new.connections place).stage after [] (fault_finishes MayLack place old new Unfinished served.0 serves) }

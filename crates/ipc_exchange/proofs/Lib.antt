@@ -1,5 +1,5 @@
 pub mod DueLemmas
-pub mod LinesLemmas
+pub mod ConnectionsLemmas
 pub mod Opening
 pub mod LiveLemmas
 pub mod OutputLemmas

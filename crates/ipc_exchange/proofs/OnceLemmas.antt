@@ -19,7 +19,7 @@ use Rattle.ipc_connection.specs.Chain.{Chain}
 use Rattle.ipc_connection.specs.declared.asking.Reaction.{Reaction}
 use Rattle.ipc_connection.specs.declared.asking.Reaction.TheVariants.{Ask, Leave, Refuse, Nothing}
 use Rattle.ipc_connection.specs.declared.replying.Told.{Told}
-use Rattle.ipc_exchange.specs.Service.{Line, ServiceParts, at_rest, delivered, line_at, told_line}
+use Rattle.ipc_exchange.specs.Service.{ConnectionParts, ServiceParts, at_rest, connection_at, delivered, told_connection}
 use Rattle.ipc_connection.specs.Replying.{told_of}
 use Rattle.ipc_exchange.specs.Serving.{Ample, Asked, Does, Leaves, ObeysIn, Serves, ServesAll, ServesBy, Tells}
 use Rattle.ipc_exchange.specs.Events.{Commands, Event, ExchangeParts, Happens, HappenAll, connected, held_at, holding, kept}
@@ -32,7 +32,7 @@ use Rattle.ipc_exchange.proofs.RestedLemmas.{roomless}
 
 -- a service without the room of its history
 abbrev bare : ServiceParts → ServiceParts
-bare service = record { kernel = without_room service.kernel; lines = service.lines }
+bare service = record { kernel = without_room service.kernel; connections = service.connections }
 
 -- two kernels are the same but for the room
 abbrev Alike : KernelParts → KernelParts → Type 0
@@ -42,8 +42,8 @@ Alike k l = without_room k ≡ without_room l
 abbrev Same : List Asked → List Asked → ServiceParts → ServiceParts → Type 0
 Same xs ys one other = (xs ≡ ys) × (bare one ≡ bare other)
 
-abbrev with_lines : KernelParts → List Line → ServiceParts
-with_lines kernel lines = record { kernel = kernel; lines = lines }
+abbrev with_connections : KernelParts → List ConnectionParts → ServiceParts
+with_connections kernel connections = record { kernel = kernel; connections = connections }
 
 -- one command of kernels that are alike
 record Obeyed (one other : KernelParts) (a b : Answer) : Type 0 where
@@ -68,41 +68,41 @@ leaves_once old old' one other (Some thread) xs ys alike legal (a, is, obeys) (b
     record { asked = is ∙ (ap (λ (x : Answer). record { command = Broke thread; answer = x } ∷ []) once.answers ∙ sym was); alike = once.alike }
 
 -- outcomes that go out depend on no room
-delivered_once : (k l : KernelParts) (lines : List Line) → Alike k l → bare (delivered k lines) ≡ bare (delivered l lines)
-delivered_once k l lines alike =
-    let one = delivered_seen without_room (λ (ls : List Line). ls) (λ (ls : List Line). Unit {0}) roomless k lines tt in
-    let other = delivered_seen without_room (λ (ls : List Line). ls) (λ (ls : List Line). Unit {0}) roomless l lines tt in
-    sym one.is ∙ (ap (λ (x : KernelParts). delivered x lines) alike ∙ other.is)
+delivered_once : (k l : KernelParts) (connections : List ConnectionParts) → Alike k l → bare (delivered k connections) ≡ bare (delivered l connections)
+delivered_once k l connections alike =
+    let one = delivered_seen without_room (λ (ls : List ConnectionParts). ls) (λ (ls : List ConnectionParts). Unit {0}) roomless k connections tt in
+    let other = delivered_seen without_room (λ (ls : List ConnectionParts). ls) (λ (ls : List ConnectionParts). Unit {0}) roomless l connections tt in
+    sym one.is ∙ (ap (λ (x : KernelParts). delivered x connections) alike ∙ other.is)
 
-tells_once : (k l : KernelParts) (lines : List Line) (one other : ServiceParts) (place : ℕ) (told : Told) (xs ys : List Asked) → Alike k l → Legal k.history → Tells Ample (with_lines k lines) place told xs one → Tells Ample (with_lines l lines) place told ys other → Same xs ys one other
-tells_once k l lines one other place told xs ys alike legal t u =
+tells_once : (k l : KernelParts) (connections : List ConnectionParts) (one other : ServiceParts) (place : ℕ) (told : Told) (xs ys : List Asked) → Alike k l → Legal k.history → Tells Ample (with_connections k connections) place told xs one → Tells Ample (with_connections l connections) place told ys other → Same xs ys one other
+tells_once k l connections one other place told xs ys alike legal t u =
     let once = leaves_once k l t.kernel u.kernel _ xs ys alike legal t.leaves u.leaves in
-    (once.asked, ap bare t.new_is ∙ (delivered_once t.kernel u.kernel (slice_set lines place (told_line told (line_at lines place))) once.alike ∙ sym (ap bare u.new_is)))
+    (once.asked, ap bare t.new_is ∙ (delivered_once t.kernel u.kernel (slice_set connections place (told_connection told (connection_at connections place))) once.alike ∙ sym (ap bare u.new_is)))
 
-does_once : (k l : KernelParts) (lines : List Line) (one other : ServiceParts) (place : ℕ) (version : WireVersion) (command : Command) (xs ys : List Asked) → Alike k l → Legal k.history → Does Ample (with_lines k lines) place version command xs one → Does Ample (with_lines l lines) place version command ys other → Same xs ys one other
-does_once k l lines one other place version command xs ys alike legal d e =
+does_once : (k l : KernelParts) (connections : List ConnectionParts) (one other : ServiceParts) (place : ℕ) (version : WireVersion) (command : Command) (xs ys : List Asked) → Alike k l → Legal k.history → Does Ample (with_connections k connections) place version command xs one → Does Ample (with_connections l connections) place version command ys other → Same xs ys one other
+does_once k l connections one other place version command xs ys alike legal d e =
     let once = obeys_in_once k l d.between e.between command d.answer e.answer alike legal d.obeys e.obeys in
     let told = ap₂ (told_of version) (ap (λ (x : KernelParts). x.moment) once.alike) once.answers in
-    let tells : Tells Ample (with_lines e.between lines) place (told_of version d.between.moment d.answer) e.rest other = subst (λ (t : Told). Tells Ample (with_lines e.between lines) place t e.rest other) (sym told) e.tells in
+    let tells : Tells Ample (with_connections e.between connections) place (told_of version d.between.moment d.answer) e.rest other = subst (λ (t : Told). Tells Ample (with_connections e.between connections) place t e.rest other) (sym told) e.tells in
     let after = obeys_in_legal Ample k d.between command d.answer d.obeys legal in
-    let rest = tells_once d.between e.between lines one other place (told_of version d.between.moment d.answer) d.rest e.rest once.alike after d.tells tells in
+    let rest = tells_once d.between e.between connections one other place (told_of version d.between.moment d.answer) d.rest e.rest once.alike after d.tells tells in
     (d.asked_is ∙ (ap₂ (λ (a : Answer) (l : List Asked). record { command = command; answer = a } ∷ l) once.answers rest.0 ∙ sym e.asked_is), rest.1)
 
-by_once : (reaction : Reaction) (k l : KernelParts) (lines : List Line) (one other : ServiceParts) (place : ℕ) (xs ys : List Asked) → Alike k l → Legal k.history → ServesBy Ample (with_lines k lines) place reaction xs one → ServesBy Ample (with_lines l lines) place reaction ys other → Same xs ys one other
-by_once Nothing k l lines one other place xs ys alike legal s t =
-    (s.0 ∙ sym t.0, ap bare s.1 ∙ (ap (λ (x : KernelParts). with_lines x lines) alike ∙ sym (ap bare t.1)))
-by_once (Ask request) k l lines one other place xs ys alike legal s t = does_once k l lines one other place _ _ xs ys alike legal s t
-by_once Leave k l lines one other place xs ys alike legal s t = tells_once k l lines one other place _ xs ys alike legal s t
-by_once (Refuse class number) k l lines one other place xs ys alike legal s t = tells_once k l lines one other place _ xs ys alike legal s t
+by_once : (reaction : Reaction) (k l : KernelParts) (connections : List ConnectionParts) (one other : ServiceParts) (place : ℕ) (xs ys : List Asked) → Alike k l → Legal k.history → ServesBy Ample (with_connections k connections) place reaction xs one → ServesBy Ample (with_connections l connections) place reaction ys other → Same xs ys one other
+by_once Nothing k l connections one other place xs ys alike legal s t =
+    (s.0 ∙ sym t.0, ap bare s.1 ∙ (ap (λ (x : KernelParts). with_connections x connections) alike ∙ sym (ap bare t.1)))
+by_once (Ask request) k l connections one other place xs ys alike legal s t = does_once k l connections one other place _ _ xs ys alike legal s t
+by_once Leave k l connections one other place xs ys alike legal s t = tells_once k l connections one other place _ xs ys alike legal s t
+by_once (Refuse class number) k l connections one other place xs ys alike legal s t = tells_once k l connections one other place _ xs ys alike legal s t
 
--- the lines of the one with the kernel of the other
-as_one : (P : ServiceParts → Type 0) (one other : ServiceParts) → bare one ≡ bare other → P other → P (with_lines other.kernel one.lines)
-as_one P one other same p = subst (λ (lines : List Line). P (with_lines other.kernel lines)) (sym (ap (λ (s : ServiceParts). s.lines) same)) p
+-- the connections of the one with the kernel of the other
+as_one : (P : ServiceParts → Type 0) (one other : ServiceParts) → bare one ≡ bare other → P other → P (with_connections other.kernel one.connections)
+as_one P one other same p = subst (λ (connections : List ConnectionParts). P (with_connections other.kernel connections)) (sym (ap (λ (s : ServiceParts). s.connections) same)) p
 
 serves_once : (old old' one other : ServiceParts) (place : ℕ) (said : Result Heard FrameFault) (xs ys : List Asked) → bare old ≡ bare old' → Legal old.kernel.history → Serves Ample old place said xs one → Serves Ample old' place said ys other → Same xs ys one other
 unfolding Serves
 serves_once old old' one other place said xs ys same legal s t =
-    by_once (asks (line_at old.lines place).stage said) old.kernel old'.kernel old.lines one other place xs ys (ap (λ (x : ServiceParts). x.kernel) same) legal s
+    by_once (asks (connection_at old.connections place).stage said) old.kernel old'.kernel old.connections one other place xs ys (ap (λ (x : ServiceParts). x.kernel) same) legal s
     (as_one (λ x. Serves Ample x place said ys other) old old' same t)
 
 serves_legal : (old new : ServiceParts) (place : ℕ) (said : Result Heard FrameFault) (asked : List Asked) → Serves Ample old place said asked new → Legal old.kernel.history → Legal new.kernel.history
@@ -131,15 +131,15 @@ held_same old old' same = ap (λ (x : ExchangeParts). x.held) same
 -- what is held in the end
 holding_same : (old old' : ExchangeParts) (one other : ServiceParts) (place : ℕ) (bytes : List ℕ) → old.held ≡ old'.held → bare one ≡ bare other → without_history_room (holding old one place bytes) ≡ without_history_room (holding old' other place bytes)
 holding_same old old' one other place bytes held same =
-    ap₂ (λ (s : ServiceParts) (h : List (List ℕ)). record { service = s; held = slice_set h place (kept (line_at s.lines place).stage bytes) }) same held
+    ap₂ (λ (s : ServiceParts) (h : List (List ℕ)). record { service = s; held = slice_set h place (kept (connection_at s.connections place).stage bytes) }) same held
 
 command_once : (command : Command) (old old' one other : ExchangeParts) (xs ys : List Asked) → without_history_room old ≡ without_history_room old' → Legal old.service.kernel.history → Commands Ample old command xs one → Commands Ample old' command ys other → SameExchange xs ys one other
 command_once command old old' one other xs ys same legal c d =
     let (between, obeys, is) = c.answers in
     let (between', obeys', is') = d.answers in
     let once = obeys_in_once old.service.kernel old'.service.kernel between between' command c.answer d.answer (ap (λ (x : ServiceParts). x.kernel) (service_same old old' same)) legal obeys obeys' in
-    let lines : old.service.lines ≡ old'.service.lines = ap (λ (x : ServiceParts). x.lines) (service_same old old' same) in
-    let services : bare c.service ≡ bare d.service = ap bare is ∙ (delivered_once between between' old.service.lines once.alike ∙ (ap (λ (l : List Line). bare (delivered between' l)) lines ∙ sym (ap bare is'))) in (
+    let connections : old.service.connections ≡ old'.service.connections = ap (λ (x : ServiceParts). x.connections) (service_same old old' same) in
+    let services : bare c.service ≡ bare d.service = ap bare is ∙ (delivered_once between between' old.service.connections once.alike ∙ (ap (λ (l : List ConnectionParts). bare (delivered between' l)) connections ∙ sym (ap bare is'))) in (
       c.asked_is ∙ (ap (λ (a : Answer). record { command = command; answer = a } ∷ []) once.answers ∙ sym d.asked_is),
       ap without_history_room c.new_is ∙ (ap₂ (λ (s : ServiceParts) (h : List (List ℕ)). record { service = s; held = h }) services (held_same old old' same) ∙ sym (ap without_history_room d.new_is)),
     )

@@ -9,7 +9,7 @@ use Rattle.ipc_calls.specs.Hearing.{heard_behind, heard_in, heard_of, left_in}
 use Rattle.ipc_connection.specs.declared.stage.Stage.{Stage}
 use Rattle.ipc_connection.specs.declared.stage.Stage.TheVariants.{Greeting, Serving, Finished}
 use Rattle.ipc_calls.specs.declared.heard.Heard.{Heard}
-use Rattle.ipc_exchange.specs.Service.{ServiceParts, line_at}
+use Rattle.ipc_exchange.specs.Service.{ServiceParts, connection_at}
 use Rattle.ipc_exchange.specs.Serving.{Ample, Asked, Serves, ServesAll}
 use Rattle.ipc_connection.proofs.ChainLemmas.{chain_both, chain_split}
 use Rattle.ipc_exchange.specs.Events.{ExchangeParts, Feeds, held_at, holding, kept}
@@ -48,28 +48,28 @@ module _ (place : ℕ) (b : List ℕ) where
 
   -- a fault of the stream ended the connection
   abbrev Sound : ServiceParts → End → Type 0
-  Sound service end = (fault : FrameFault) → end ≡ Stopped fault → (line_at service.lines place).stage ≡ Finished
+  Sound service end = (fault : FrameFault) → end ≡ Stopped fault → (connection_at service.connections place).stage ≡ Finished
 
   record Alike (old new : ServiceParts) (end : End) (asked : List Asked) : Type 0 where
-    pub to : ServesAll Ample old place (more_heard end) asked new → ServesAll Ample old place (heard_in (second (line_at old.lines place).stage end)) asked new
-    pub back : ServesAll Ample old place (heard_in (second (line_at old.lines place).stage end)) asked new → ServesAll Ample old place (more_heard end) asked new
-    pub held : ServesAll Ample old place (heard_in (second (line_at old.lines place).stage end)) asked new → kept (line_at new.lines place).stage (left_in (more_end end)) ≡ kept (line_at new.lines place).stage (left_in (second (line_at old.lines place).stage end).end)
+    pub to : ServesAll Ample old place (more_heard end) asked new → ServesAll Ample old place (heard_in (second (connection_at old.connections place).stage end)) asked new
+    pub back : ServesAll Ample old place (heard_in (second (connection_at old.connections place).stage end)) asked new → ServesAll Ample old place (more_heard end) asked new
+    pub held : ServesAll Ample old place (heard_in (second (connection_at old.connections place).stage end)) asked new → kept (connection_at new.connections place).stage (left_in (more_end end)) ≡ kept (connection_at new.connections place).stage (left_in (second (connection_at old.connections place).stage end).end)
 
-  instead : (xs ys : List (Result Heard FrameFault)) (old new : ServiceParts) (asked : List Asked) → (line_at old.lines place).stage ≡ Finished → ServesAll Ample old place xs asked new → ServesAll Ample old place ys asked new
+  instead : (xs ys : List (Result Heard FrameFault)) (old new : ServiceParts) (asked : List Asked) → (connection_at old.connections place).stage ≡ Finished → ServesAll Ample old place xs asked new → ServesAll Ample old place ys asked new
   instead xs ys old new asked e serves =
       let idle = all_idle Ample place xs old new asked e serves in
       subst (λ l. ServesAll Ample old place ys l new) (sym idle.0) (subst (λ s. ServesAll Ample old place ys [] s) (sym idle.1) (all_idle_again Ample place ys old e))
 
   alike : (old new : ServiceParts) (end : End) (asked : List Asked) → Sound old end → Alike old new end asked
-  alike old new end asked sound = go (line_at old.lines place).stage refl end refl
+  alike old new end asked sound = go (connection_at old.connections place).stage refl end refl
     where
-      go : (stage : Stage) → (line_at old.lines place).stage ≡ stage → (at : End) → end ≡ at → Alike old new end asked
+      go : (stage : Stage) → (connection_at old.connections place).stage ≡ stage → (at : End) → end ≡ at → Alike old new end asked
       go Finished e at f = record {
         to = instead _ _ old new asked e;
         back = instead _ _ old new asked e;
         held = λ serves.
             let idle = all_idle Ample place _ old new asked e serves in
-            let ended : (line_at new.lines place).stage ≡ Finished = ap (λ (s : ServiceParts). (line_at s.lines place).stage) idle.1 ∙ e in
+            let ended : (connection_at new.connections place).stage ≡ Finished = ap (λ (s : ServiceParts). (connection_at s.connections place).stage) idle.1 ∙ e in
             rw ended refl;
       }
       go Greeting e (Rest rest) f = record { to = λ s. rw (e, f) (rw f at s); back = λ s. rw f (rw (e, f) at s); held = λ s. rw (e, f) refl }
@@ -93,7 +93,7 @@ record Two (old : ExchangeParts) (place : ℕ) (a b : List ℕ) (asked : List As
   pub middle : ServiceParts
   pub asked_is : asked ≡ first ++ rest
   pub serves : ServesAll Ample old.service place (heard_in (stream_of Server (held_at old place ++ a))) first middle
-  pub serves_more : ServesAll Ample middle place (heard_in (second place b (line_at middle.lines place).stage (stream_of Server (held_at old place ++ a)).end)) rest last
+  pub serves_more : ServesAll Ample middle place (heard_in (second place b (connection_at middle.connections place).stage (stream_of Server (held_at old place ++ a)).end)) rest last
 
 module _ (old : ExchangeParts) (place : ℕ) (a b : List ℕ) where
   together : stream_of Server (held_at old place ++ (a ++ b)) ≡ more Server (stream_of Server (held_at old place ++ a)) b
@@ -125,14 +125,14 @@ module _ (old : ExchangeParts) (place : ℕ) (a b : List ℕ) where
         serves_more = later;
       }
 
-  held_alike : (asked : List Asked) (last : ServiceParts) (two : Two old place a b asked last) → kept (line_at last.lines place).stage (left_in (stream_of Server (held_at old place ++ (a ++ b))).end) ≡ kept (line_at last.lines place).stage (left_in (second place b (line_at two.middle.lines place).stage (stream_of Server (held_at old place ++ a)).end).end)
+  held_alike : (asked : List Asked) (last : ServiceParts) (two : Two old place a b asked last) → kept (connection_at last.connections place).stage (left_in (stream_of Server (held_at old place ++ (a ++ b))).end) ≡ kept (connection_at last.connections place).stage (left_in (second place b (connection_at two.middle.connections place).stage (stream_of Server (held_at old place ++ a)).end).end)
   held_alike asked last two =
       let same = alike place b two.middle last (stream_of Server (held_at old place ++ a)).end two.rest (sound_after place (held_at old place ++ a) old.service two.middle two.first two.serves) in
       rw all_left (same.held two.serves_more)
 
   -- the bytes held after the first piece, and what the second one says then
-  held_between : (middle : ServiceParts) (bytes : List ℕ) → place < length old.held → held_at (holding old middle place bytes) place ≡ kept (line_at middle.lines place).stage bytes
-  held_between middle bytes within = get_or-set_same old.held place (kept (line_at middle.lines place).stage bytes) [] within
+  held_between : (middle : ServiceParts) (bytes : List ℕ) → place < length old.held → held_at (holding old middle place bytes) place ≡ kept (connection_at middle.connections place).stage bytes
+  held_between middle bytes within = get_or-set_same old.held place (kept (connection_at middle.connections place).stage bytes) [] within
 
   -- the state after both
   same_state : (asked : List Asked) (last : ServiceParts) (two : Two old place a b asked last) → place < length old.held → holding (holding old two.middle place (left_in (stream_of Server (held_at old place ++ a)).end)) last place (left_in (stream_of Server (held_at (holding old two.middle place (left_in (stream_of Server (held_at old place ++ a)).end)) place ++ b)).end) ≡ holding old last place (left_in (stream_of Server (held_at old place ++ (a ++ b))).end)
@@ -147,7 +147,7 @@ module _ (old : ExchangeParts) (place : ℕ) (a b : List ℕ) where
       let bytes = left_in (stream_of Server (held_at old place ++ a)).end in
       let more : Feeds Ample (holding old middle place bytes) place b t.rest new = subst (λ s. Feeds Ample s place b t.rest new) t.feeds.new_is t.feeds_more in
       let here = held_between middle bytes within in
-      let heard_more : more.heard ≡ heard_in (second place b (line_at middle.lines place).stage (stream_of Server (held_at old place ++ a)).end) = more.hears ∙ ap (λ held. heard_in (stream_of Server (held ++ b))) here in
+      let heard_more : more.heard ≡ heard_in (second place b (connection_at middle.connections place).stage (stream_of Server (held_at old place ++ a)).end) = more.hears ∙ ap (λ held. heard_in (stream_of Server (held ++ b))) here in
       let two : Two old place a b asked more.service = record {
         first = t.first;
         rest = t.rest;

@@ -19,7 +19,7 @@ use Rattle.ipc_core.specs.declared.command.Command.TheVariants.{Open, Enter, Exr
 use Rattle.ipc_core.specs.declared.refusal.Refusal.{Refusal}
 use Rattle.ipc_connection.specs.declared.stage.Stage.{Stage}
 use Rattle.ipc_connection.specs.declared.stage.Stage.TheVariants.{Greeting, Serving, Finished}
-use Rattle.ipc_exchange.specs.Service.{Line, at_rest, outcome_at}
+use Rattle.ipc_exchange.specs.Service.{ConnectionParts, at_rest, outcome_at}
 use Rattle.ipc_exchange.specs.Serving.{MayLack, ObeysIn}
 use Rattle.ipc_exchange.proofs.MovedLemmas.{PassesTold}
 
@@ -134,17 +134,17 @@ bare_outcome kernel Greeting = refl
 bare_outcome kernel Finished = refl
 
 -- what is told is alike
-pub roomless : PassesTold without_room (λ (lines : List Line). lines) (λ (lines : List Line). Unit {0})
+pub roomless : PassesTold without_room (λ (connections : List ConnectionParts). connections) (λ (connections : List ConnectionParts). Unit {0})
 roomless = record {
   outcome = bare_outcome;
   taken = λ kernel outcome. refl;
-  stage = λ lines place. refl;
-  space = λ lines place. refl;
-  version = λ lines place. refl;
+  stage = λ connections place. refl;
+  space = λ connections place. refl;
+  version = λ connections place. refl;
   moment = λ kernel. refl;
-  more = λ lines place next speaks text fits. refl;
-  fits_more = λ lines place next speaks text fits. tt;
-  new = λ lines space fits. refl;
-  fits_new = λ lines space fits. tt;
-  place = λ number lines. refl;
+  more = λ connections place next speaks text fits. refl;
+  fits_more = λ connections place next speaks text fits. tt;
+  new = λ connections space fits. refl;
+  fits_new = λ connections space fits. tt;
+  place = λ number connections. refl;
 }

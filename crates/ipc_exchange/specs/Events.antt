@@ -11,7 +11,7 @@ use Rattle.ipc_calls.specs.Hearing.{heard_at_end, left_in}
 use Rattle.ipc_connection.specs.declared.stage.Stage.{Stage}
 use Rattle.ipc_connection.specs.declared.stage.Stage.TheVariants.{Greeting, Serving, Finished}
 use Rattle.ipc_calls.specs.declared.heard.Heard.{Heard}
-use Rattle.ipc_exchange.specs.Service.{ServiceParts, line_at, with_line}
+use Rattle.ipc_exchange.specs.Service.{ServiceParts, connection_at, with_connection}
 use Rattle.ipc_exchange.specs.Serving.{Answers, Asked, Hears, Memory, Serves, ServesAll, first_kernel}
 
 -- the service, and for each connection the bytes that came since its last whole frame
@@ -39,7 +39,7 @@ kept (Serving thread) bytes = bytes
 abbrev pub holding : ExchangeParts → ServiceParts → ℕ → List ℕ → ExchangeParts
 holding old service place bytes = record {
   service = service;
-  held = slice_set old.held place (kept (line_at service.lines place).stage bytes);
+  held = slice_set old.held place (kept (connection_at service.connections place).stage bytes);
 }
 
 -- a piece: what the bytes held and the piece say is served, one after the other, and what is left is held
@@ -68,12 +68,12 @@ pub record Commands (memory : Memory) (old : ExchangeParts) (command : Command)
 
 -- one more connection
 abbrev pub connected : ℕ → ExchangeParts → ExchangeParts
-connected space old = record { service = with_line space old.service; held = old.held ++ [] ∷ [] }
+connected space old = record { service = with_connection space old.service; held = old.held ++ [] ∷ [] }
 
 -- an exchange without connections, whose kernel has these limits
 abbrev pub empty_exchange : ℕ → ℕ → ExchangeParts
 empty_exchange entries_limit calls_limit = record {
-  service = record { kernel = first_kernel entries_limit calls_limit; lines = [] };
+  service = record { kernel = first_kernel entries_limit calls_limit; connections = [] };
   held = [];
 }
 

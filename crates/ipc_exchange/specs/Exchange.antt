@@ -3,9 +3,9 @@ use Rattle.std.specs.Prelude.{◌≡◌, ℕ, List, [], length, slice_index_or, 
 use Rattle.ipc_calls.specs.Taking.{Decoding, Holds}
 use Rattle.ipc_connection.specs.declared.stage.Stage.{Stage}
 use Rattle.ipc_connection.specs.declared.stage.Stage.TheVariants.{Greeting, Serving, Finished}
-use Rattle.ipc_exchange.specs.Service.{ServiceParts, line_at}
+use Rattle.ipc_exchange.specs.Service.{ServiceParts, connection_at}
 use Rattle.ipc_exchange.specs.Serving.{Asked, MayLack, Serves}
-use Rattle.ipc_exchange.specs.Slots.{Ready, ServiceSlots, service_of, stage_at}
+use Rattle.ipc_exchange.specs.Rooms.{Ready, RoomyService, service_of, stage_at}
 use Rattle.ipc_exchange.specs.Events.{Event, ExchangeParts, Happens, held_at}
 use Rattle.ipc_exchange.specs.Feeding.{HoldsFor, has_finished}
 use Rattle.ipc_exchange.specs.declared.progress.Progress.{Progress}
@@ -13,8 +13,8 @@ use Rattle.ipc_exchange.specs.declared.progress.Progress.TheVariants as progress
 use Rattle.ipc_calls.specs.Hearing.{heard_at_end}
 
 -- the service, and a decoder for each connection
-pub record ExchangeSlots : Type 0 where
-  pub service : ServiceSlots
+pub record RoomyExchange : Type 0 where
+  pub service : RoomyService
   pub decoders : List Decoding
 
 abbrev pub no_decoder : Decoding
@@ -31,29 +31,29 @@ ShowsHeld (Serving thread) decoder bytes = Holds decoder bytes
 
 -- an exchange stands for these parts. Where there was no memory for a payload, its bytes are counted
 -- and not kept, so that there may be more than one
-pub record Shows (exchange : ExchangeSlots) (parts : ExchangeParts) : Type 0 where
+pub record Shows (exchange : RoomyExchange) (parts : ExchangeParts) : Type 0 where
   pub service : parts.service ≡ service_of exchange.service
   pub long : length parts.held ≡ length exchange.decoders
-  pub held : (place : ℕ) → ShowsHeld (stage_at exchange.service.slots place)
+  pub held : (place : ℕ) → ShowsHeld (stage_at exchange.service.connections place)
       (decoder_at exchange.decoders place) (held_at parts place)
 
 -- what is true of every exchange
-pub record IsExchange (exchange : ExchangeSlots) : Type 0 where
+pub record IsExchange (exchange : RoomyExchange) : Type 0 where
   pub ready : Ready exchange.service
-  pub long : length exchange.decoders ≡ length exchange.service.slots
+  pub long : length exchange.decoders ≡ length exchange.service.connections
   pub parts : ExchangeParts
   pub shows : Shows exchange parts
 
 -- an event happened: whatever parts the exchange stood for, it stands now for what they are after it
-abbrev pub Happened : ExchangeSlots → Event → ExchangeSlots → Type 0
+abbrev pub Happened : RoomyExchange → Event → RoomyExchange → Type 0
 Happened old event new = (parts : ExchangeParts) → Shows old parts
     → (asked : List Asked) × (after : ExchangeParts) × Happens MayLack parts event asked after × Shows new after
 
--- the end of the input of one line
-pub record ClosesLine (old : ServiceParts) (place : ℕ) (bytes : List ℕ) (new : ServiceParts) (decoder : Decoding) : Type 0 where
+-- the end of the input of one connection
+pub record ClosesConnection (old : ServiceParts) (place : ℕ) (bytes : List ℕ) (new : ServiceParts) (decoder : Decoding) : Type 0 where
   pub asked : List Asked
   pub serves : Serves MayLack old place (heard_at_end bytes) asked new
-  pub holds : HoldsFor (line_at new.lines place).stage decoder []
+  pub holds : HoldsFor (connection_at new.connections place).stage decoder []
 
 abbrev pub progress_of : Stage → Progress
 progress_of stage = (if has_finished stage then progress.Finished else progress.Running)

@@ -1,4 +1,4 @@
--- Serving a piece of bytes on one line, frame by frame.
+-- Serving a piece of bytes on one connection, frame by frame.
 use Rattle.std.specs.Prelude.{◌≡◌, ℕ, List, [], ◌∷◌, ◌++◌, Result, Ok, Err, ◌⊎◌, ⊤, Bool, true, false, drop}
 use Rattle.ipc_frame.specs.Stream.{put_front, stream_of}
 use Rattle.ipc_frame.specs.declared.fault.FrameFault.{FrameFault}
@@ -10,9 +10,9 @@ use Rattle.ipc_calls.specs.Taking.{Decoding, Holds}
 use Rattle.ipc_calls.specs.declared.heard.Heard.{Heard}
 use Rattle.ipc_connection.specs.declared.stage.Stage.{Stage}
 use Rattle.ipc_connection.specs.declared.stage.Stage.TheVariants.{Greeting, Serving, Finished}
-use Rattle.ipc_exchange.specs.Service.{ServiceParts, line_at}
+use Rattle.ipc_exchange.specs.Service.{ServiceParts, connection_at}
 use Rattle.ipc_exchange.specs.Serving.{Asked, Hears, MayLack, Serves, ServesAll}
-use Rattle.ipc_exchange.specs.Slots.{WantsRoom}
+use Rattle.ipc_exchange.specs.Rooms.{WantsRoom}
 
 abbrev pub has_finished : Stage → Bool
 has_finished Greeting = false
@@ -37,13 +37,13 @@ HoldsFor Greeting decoder bytes = Holds decoder bytes
 HoldsFor (Serving thread) decoder bytes = Holds decoder bytes
 
 -- what the bytes held and a piece say is served, one after the other, and the decoder holds what is left
-pub record FeedsLine (old : ServiceParts) (place : ℕ) (bytes piece : List ℕ)
+pub record FeedsConnection (old : ServiceParts) (place : ℕ) (bytes piece : List ℕ)
     (new : ServiceParts) (decoder : Decoding) : Type 0 where
   pub heard : List (Result Heard FrameFault)
   pub hears : Hears MayLack (stream_of Server (bytes ++ piece)) heard
   pub asked : List Asked
   pub serves : ServesAll MayLack old place heard asked new
-  pub holds : HoldsFor (line_at new.lines place).stage decoder (left_in (stream_of Server (bytes ++ piece)).end)
+  pub holds : HoldsFor (connection_at new.connections place).stage decoder (left_in (stream_of Server (bytes ++ piece)).end)
 
 -- the first frame of it is served, so many bytes of the piece are used, and the connection goes on
 pub record FeedsFirst (old : ServiceParts) (place : ℕ) (bytes piece : List ℕ) (used : ℕ) (new : ServiceParts) : Type 0 where

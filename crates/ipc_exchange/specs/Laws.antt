@@ -10,7 +10,7 @@ use Rattle.ipc_core.specs.declared.command.Answer.{Answer}
 use Rattle.ipc_core.specs.declared.command.Answer.TheVariants.{Entered}
 use Rattle.ipc_core.specs.declared.command.Command.{Command}
 use Rattle.ipc_core.specs.declared.command.Command.TheVariants.{Enter}
-use Rattle.ipc_exchange.specs.Service.{line_at}
+use Rattle.ipc_exchange.specs.Service.{connection_at}
 use Rattle.ipc_exchange.specs.Serving.{Ample, Asked, Memory}
 use Rattle.ipc_exchange.specs.Events.{Event, ExchangeParts, Feeds, HappenAll}
 
@@ -60,7 +60,7 @@ CallsAreAccepted = (memory : Memory) (old new : ExchangeParts) (events : List Ev
 -- all that is seen of an exchange but the room of its history
 abbrev pub without_history_room : ExchangeParts → ExchangeParts
 without_history_room old = record {
-  service = record { kernel = without_room old.service.kernel; lines = old.service.lines };
+  service = record { kernel = without_room old.service.kernel; connections = old.service.connections };
   held = old.held;
 }
 
@@ -82,4 +82,4 @@ pub record Begins (front whole : List ℕ) : Type 0 where
 abbrev pub OutGrows : Type 0
 OutGrows = (memory : Memory) (old new : ExchangeParts) (events : List Event) (asked : List Asked)
     → HappenAll memory old events asked new
-    → (place : ℕ) → Begins (line_at old.service.lines place).out (line_at new.service.lines place).out
+    → (place : ℕ) → Begins (connection_at old.service.connections place).out (connection_at new.service.connections place).out

@@ -1,6 +1,6 @@
 -- Places in falling order.
 use Rattle.std.specs.Prelude.{◌≡◌, ◌≢◌, ℕ, ◌<◌, List, [], ◌∷◌, length, ◌⊎◌, ⊤}
-use Rattle.ipc_exchange.specs.Slots.{LineSlots, slot_at}
+use Rattle.ipc_exchange.specs.Rooms.{RoomyConnection, roomy_at}
 
 -- how many places there are, and those that are listed
 pub record PendingParts : Type 0 where
@@ -17,11 +17,11 @@ abbrev pub IsAmong : ℕ → List ℕ → Type 0
 IsAmong place [] = ⊥
 IsAmong place (other ∷ places) = (other ≡ place) ⊎ IsAmong place places
 
--- each line that has bytes to put out is listed
-abbrev pub AllListed : List LineSlots → List ℕ → Type 0
-AllListed slots places = (place : ℕ) → (slot_at slots place).line.out ≢ [] → IsAmong place places
+-- each connection that has bytes to put out is listed
+abbrev pub AllListed : List RoomyConnection → List ℕ → Type 0
+AllListed connections places = (place : ℕ) → (roomy_at connections place).connection.out ≢ [] → IsAmong place places
 
--- there is a place for each line, and each line that has bytes to put out is listed
-pub record IsListed (slots : List LineSlots) (pending : PendingParts) : Type 0 where
-  pub count : pending.count ≡ length slots
-  pub listed : AllListed slots pending.places
+-- there is a place for each connection, and each connection that has bytes to put out is listed
+pub record IsListed (connections : List RoomyConnection) (pending : PendingParts) : Type 0 where
+  pub count : pending.count ≡ length connections
+  pub listed : AllListed connections pending.places

@@ -2,12 +2,12 @@
 use Rattle.std.specs.Prelude.{◌≡◌, ℕ, zero, suc, ◌+◌, List, [], ◌∷◌, ◌++◌, map, filter_map, length, nat_le, take, if◌then◌else◌, ⊤}
 use Rattle.std.specs.List.{flat_map}
 use Rattle.ipc_connection.specs.Chain.{Chain}
-use Rattle.ipc_exchange.specs.Service.{line_at}
+use Rattle.ipc_exchange.specs.Service.{connection_at}
 use Rattle.ipc_exchange.specs.Serving.{Asked, MayLack}
 use Rattle.ipc_exchange.specs.Events.{ExchangeParts, HappenAll}
 use Rattle.ipc_exchange.specs.Events as events
 use Rattle.ipc_exchange.specs.Apart.{IsApart, bytes_at, put_out}
-use Rattle.ipc_exchange.specs.Exchange.{ExchangeSlots, Shows, progress_of}
+use Rattle.ipc_exchange.specs.Exchange.{RoomyExchange, Shows, progress_of}
 use Rattle.ipc_words.specs.Limits.{max_connections}
 use Rattle.ipc_exchange.specs.Laws.{accepted, calls_in}
 use Rattle.ipc_exchange.specs.declared.event.Event.{Event}
@@ -52,18 +52,18 @@ Goes old event reply asked new = HappenAll MayLack old (happening event reply) a
 -- the answer: a new connection's number, or why it was refused; whether the connection of a piece goes on;
 -- the bytes that went out, as many as there were and had room
 abbrev pub RepliesTo : ExchangeParts → Event → Reply → ExchangeParts → Type 0
-RepliesTo old (Connect space) (Connected number) new = number ≡ length old.service.lines + 1
+RepliesTo old (Connect space) (Connected number) new = number ≡ length old.service.connections + 1
 RepliesTo old (Connect space) (Refused why) new =
-    why ≡ (if nat_le max_connections (length old.service.lines) then TooMany else NoMemory)
+    why ≡ (if nat_le max_connections (length old.service.connections) then TooMany else NoMemory)
 RepliesTo old (Piece zero bytes) (Fed done) new = done ≡ progress.Finished
 RepliesTo old (Piece (suc place) bytes) (Fed done) new =
-    done ≡ progress_of (line_at new.service.lines place).stage
+    done ≡ progress_of (connection_at new.service.connections place).stage
 RepliesTo old (Finish connection) Done new = ⊤
 RepliesTo old (Reading reading) Done new = ⊤
 RepliesTo old Copy Done new = ⊤
 RepliesTo old (Output zero room) (Put bytes) new = bytes.items ≡ []
 RepliesTo old (Output (suc place) room) (Put bytes) new =
-    bytes.items ≡ take (length room.items) (line_at old.service.lines place).out
+    bytes.items ≡ take (length room.items) (connection_at old.service.connections place).out
 RepliesTo old _ _ new = ⊥
 
 -- an event happens, and is answered, with the commands that the kernel was given for it
@@ -72,7 +72,7 @@ Turns old turn asked new =
     Goes old turn.event turn.reply asked new × RepliesTo old turn.event turn.reply new
 
 -- so of an exchange, whatever parts it stood for
-abbrev pub Replied : ExchangeSlots → Event → Reply → ExchangeSlots → Type 0
+abbrev pub Replied : RoomyExchange → Event → Reply → RoomyExchange → Type 0
 Replied old event reply new = (parts : ExchangeParts) → Shows old parts
     → (asked : List Asked) × (after : ExchangeParts)
     × Turns parts (record { event = event; reply = reply }) asked after × Shows new after
@@ -90,7 +90,7 @@ went_out turns place = flat_map (λ (turn : Turn). puts turn.event turn.reply pl
 -- a connection, followed by what waits, is its bytes by the rules (`apart`). What was asked of the kernel,
 -- and answered, gave the calls of the history
 pub record Ran (first : ExchangeParts) (events : List Event) (replies : List Reply)
-    (exchange : ExchangeSlots) : Type 0 where
+    (exchange : RoomyExchange) : Type 0 where
   pub turns : List Turn
   pub events_are : map (λ (turn : Turn). turn.event) turns ≡ events
   pub replies_are : map (λ (turn : Turn). turn.reply) turns ≡ replies

@@ -22,8 +22,8 @@ use Rattle.ipc_calls.specs.Taking as taking
 use Rattle.ipc_calls.specs.declared.heard.Heard.{Heard}
 use Rattle.ipc_connection.specs.declared.replying.Told.{Told}
 use Rattle.ipc_connection.specs.declared.replying.Told.TheVariants.{Faulted, Left}
-use Rattle.ipc_exchange.specs.Service.{ServiceParts, at_rest, delivered, line_at, told_line}
-use Rattle.ipc_exchange.specs.Slots.{WantsRoom}
+use Rattle.ipc_exchange.specs.Service.{ServiceParts, at_rest, connection_at, delivered, told_connection}
+use Rattle.ipc_exchange.specs.Rooms.{WantsRoom}
 
 -- whether there is memory for all that is wanted
 pub data Memory : Type 0 where
@@ -62,16 +62,16 @@ Leaves memory old (Some thread) asked new = (answer : Answer)
     × (asked ≡ record { command = command.Broke thread; answer = answer } ∷ [])
     × ObeysIn memory old (command.Broke thread) answer new
 
--- something is told to the line in a place: its frame goes out; where the connection ends so, its
+-- something is told to the connection in a place: its frame goes out; where the connection ends so, its
 -- thread ends; then each thread is told its outcome
 pub record Tells (memory : Memory) (old : ServiceParts) (place : ℕ) (told : Told)
     (asked : List Asked) (new : ServiceParts) : Type 0 where
   pub kernel : KernelParts
-  pub leaves : Leaves memory old.kernel (thread_left (line_at old.lines place).stage
-      (next_stage (line_at old.lines place).stage told)) asked kernel
-  pub new_is : new ≡ delivered kernel (slice_set old.lines place (told_line told (line_at old.lines place)))
+  pub leaves : Leaves memory old.kernel (thread_left (connection_at old.connections place).stage
+      (next_stage (connection_at old.connections place).stage told)) asked kernel
+  pub new_is : new ≡ delivered kernel (slice_set old.connections place (told_connection told (connection_at old.connections place)))
 
--- the kernel obeys a command for the line in a place that named a version, and its answer is told, at the moment after it
+-- the kernel obeys a command for the connection in a place that named a version, and its answer is told, at the moment after it
 pub record Does (memory : Memory) (old : ServiceParts) (place : ℕ) (version : WireVersion) (command : Command)
     (asked : List Asked) (new : ServiceParts) : Type 0 where
   pub answer : Answer
@@ -79,28 +79,28 @@ pub record Does (memory : Memory) (old : ServiceParts) (place : ℕ) (version : 
   pub obeys : ObeysIn memory old.kernel command answer between
   pub rest : List Asked
   pub asked_is : asked ≡ record { command = command; answer = answer } ∷ rest
-  pub tells : Tells memory (record { kernel = between; lines = old.lines }) place
+  pub tells : Tells memory (record { kernel = between; connections = old.connections }) place
       (told_of version between.moment answer) rest new
 
 -- a command of nobody's is obeyed, and each thread is told its outcome
 abbrev pub Answers : Memory → ServiceParts → Command → Answer → ServiceParts → Type 0
 Answers memory old command answer new =
-    (between : KernelParts) × ObeysIn memory old.kernel command answer between × (new ≡ delivered between old.lines)
+    (between : KernelParts) × ObeysIn memory old.kernel command answer between × (new ≡ delivered between old.connections)
 
 abbrev pub DoesAlone : Memory → ServiceParts → Command → ServiceParts → Type 0
 DoesAlone memory old command new = (answer : Answer) × Answers memory old command answer new
 
--- what is done for the line in a place
+-- what is done for the connection in a place
 abbrev pub ServesBy : Memory → ServiceParts → ℕ → Reaction → List Asked → ServiceParts → Type 0
 ServesBy memory old place Nothing asked new = (asked ≡ []) × (new ≡ old)
 ServesBy memory old place (Ask request) asked new =
-    Does memory old place (version_asked request One) (command_of request (line_at old.lines place).space) asked new
+    Does memory old place (version_asked request One) (command_of request (connection_at old.connections place).space) asked new
 ServesBy memory old place Leave asked new = Tells memory old place Left asked new
 ServesBy memory old place (Refuse class number) asked new = Tells memory old place (Faulted class number) asked new
 
--- what was heard there is served as the stage of the line asks
+-- what was heard there is served as the stage of the connection asks
 unfoldable pub Serves : Memory → ServiceParts → ℕ → Result Heard FrameFault → List Asked → ServiceParts → Type 0
-Serves memory old place heard asked new = ServesBy memory old place (asks (line_at old.lines place).stage heard) asked new
+Serves memory old place heard asked new = ServesBy memory old place (asks (connection_at old.connections place).stage heard) asked new
 
 -- one after the other
 abbrev pub ServesAll : Memory → ServiceParts → ℕ → List (Result Heard FrameFault) → List Asked → ServiceParts → Type 0

@@ -3,12 +3,12 @@ ghost use Rattle.std.specs.Prelude.{IfOk, IfErr, IfSome, IsNone, OnErr};
 ghost use Rattle.ipc_words.specs.Limits.{max_calls, max_connections, max_entries};
 ghost use Rattle.ipc_history.specs.Legal.{Legal, Quiet};
 ghost use Rattle.ipc_history.specs.Paired.{Paired};
-ghost use Rattle.ipc_exchange.specs.Service.{line_at, without_bytes};
-ghost use Rattle.ipc_exchange.specs.Slots.{service_of, stage_at};
+ghost use Rattle.ipc_exchange.specs.Service.{connection_at, without_bytes};
+ghost use Rattle.ipc_exchange.specs.Rooms.{service_of, stage_at};
 ghost use Rattle.ipc_exchange.specs.Events.{Connect, Copy, ExchangeParts, Finish, Piece, Reading, empty_exchange};
 ghost use Rattle.ipc_exchange.specs.Exchange.{Happened, Shows, progress_of};
 
-use crate::feeding::{close_line, feed_line};
+use crate::feeding::{close_connection, feed_connection};
 use crate::progress::{ConnectRefused, Progress};
 use crate::service::Service;
 use ipc_calls::CallDecoder;
@@ -27,9 +27,9 @@ pub struct Exchange {
 }
 
 impl Model for Exchange {
-    ghost use Rattle.ipc_exchange.specs.Exchange.{ExchangeSlots, IsExchange};
+    ghost use Rattle.ipc_exchange.specs.Exchange.{IsExchange, RoomyExchange};
 
-    ghost Value = { ExchangeSlots };
+    ghost Value = { RoomyExchange };
 
     ghost view = { λ e. record { service = e.service; decoders = e.decoders.items } };
 
@@ -52,10 +52,10 @@ impl Exchange {
 
     /// One more connection, from a space, 1 to `MAX_SPACE`; answers its number. A refused one uses up no number.
     pub fn connect(&mut self, space: u32) -> Result<usize, ConnectRefused>
-        ensures ok { IfOk result (λ number. number ≡ length self.old.service.slots + 1) }
+        ensures ok { IfOk result (λ number. number ≡ length self.old.service.connections + 1) }
         ensures happened { IfOk result (λ number. Happened self.old (Connect space) self.new) }
         ensures cause { IfErr result (λ refused. refused
-            ≡ (if nat_le max_connections (length self.old.service.slots) then ConnectRefused.TooMany
+            ≡ (if nat_le max_connections (length self.old.service.connections) then ConnectRefused.TooMany
             else ConnectRefused.NoMemory)) }
         ensures few { IfOk result (λ number. number ≤ max_connections) }
         ensures err { OnErr result (self.new ≡ self.old) }
@@ -78,7 +78,7 @@ impl Exchange {
     pub fn feed(&mut self, connection: usize, piece: &[u8]) -> Progress
         ensures happened { (place : ℕ) → connection ≡ place + 1 → Happened self.old (Piece place piece.now) self.new }
         ensures progress { (place : ℕ) → connection ≡ place + 1
-            → result ≡ progress_of (stage_at self.new.service.slots place) }
+            → result ≡ progress_of (stage_at self.new.service.connections place) }
         ensures zero { connection ≡ 0 → self.new ≡ self.old }
         ensures none { connection ≡ 0 → result ≡ Progress.Finished }
     {
@@ -89,7 +89,7 @@ impl Exchange {
         if self.service.has_finished(place) {
             return Progress::Finished;
         }
-        feed_line(&mut self.service, place, &mut self.decoders[place], piece);
+        feed_connection(&mut self.service, place, &mut self.decoders[place], piece);
         self.progress_at(place)
     }
 
@@ -105,7 +105,7 @@ impl Exchange {
         if self.service.has_finished(place) {
             return;
         }
-        close_line(&mut self.service, place, &mut self.decoders[place]);
+        close_connection(&mut self.service, place, &mut self.decoders[place]);
     }
 
     /// The clock is read, in microseconds.
@@ -127,10 +127,10 @@ impl Exchange {
     pub fn output(&mut self, connection: usize, out: &mut [u8]) -> usize
         ensures count { (place : ℕ) → connection ≡ place + 1
             → result ≡ min (length out.old)
-            (length (line_at (service_of self.old.service).lines place).out) }
+            (length (connection_at (service_of self.old.service).connections place).out) }
         ensures bytes { (place : ℕ) → connection ≡ place + 1
             → take result out.new
-            ≡ take result (line_at (service_of self.old.service).lines place).out }
+            ≡ take result (connection_at (service_of self.old.service).connections place).out }
         ensures behind { drop result out.new ≡ drop result out.old }
         ensures left { (place : ℕ) (parts : ExchangeParts) → connection ≡ place + 1
             → Shows self.old parts
@@ -148,11 +148,11 @@ impl Exchange {
     /// looks at no connection that has none.
     pub fn next_output(&self, behind: usize) -> Option<usize>
         ensures some { IfSome result (λ connection. (behind < connection)
-            × (connection ≤ length self.now.service.slots)) }
+            × (connection ≤ length self.now.service.connections)) }
         ensures first { IfSome result (λ connection. (place : ℕ) → behind ≤ place → place + 1 < connection
-            → (line_at (service_of self.now.service).lines place).out ≡ []) }
+            → (connection_at (service_of self.now.service).connections place).out ≡ []) }
         ensures none { IsNone result → (place : ℕ) → behind ≤ place
-            → (line_at (service_of self.now.service).lines place).out ≡ [] }
+            → (connection_at (service_of self.now.service).connections place).out ≡ [] }
     {
         let place = self.service.next_output(behind)?;
         Some(place + 1)
@@ -170,7 +170,7 @@ impl Exchange {
 
     /// How many connections there were.
     pub fn connections(&self) -> usize
-        ensures { result ≡ length self.now.service.slots }
+        ensures { result ≡ length self.now.service.connections }
     {
         self.service.len()
     }
@@ -178,7 +178,7 @@ impl Exchange {
     /// Whether a connection goes on. One that was never given does not.
     pub fn progress(&self, connection: usize) -> Progress
         ensures progress { (place : ℕ) → connection ≡ place + 1
-            → result ≡ progress_of (stage_at self.now.service.slots place) }
+            → result ≡ progress_of (stage_at self.now.service.connections place) }
         ensures zero { connection ≡ 0 → result ≡ Progress.Finished }
     {
         if connection == 0 || connection > self.service.len() {
@@ -188,8 +188,8 @@ impl Exchange {
     }
 
     fn progress_at(&self, place: usize) -> Progress
-        requires { place < length self.now.service.slots }
-        ensures { result ≡ progress_of (stage_at self.now.service.slots place) }
+        requires { place < length self.now.service.connections }
+        ensures { result ≡ progress_of (stage_at self.now.service.connections place) }
     {
         if self.service.has_finished(place) {
             Progress::Finished

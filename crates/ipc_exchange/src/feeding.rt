@@ -1,9 +1,9 @@
 ghost use Rattle.std.specs.Prelude.{◌≡◌, ◌<◌, ◌≤◌, ◌+◌, ℕ, List, [], length, false, true, Ok, Err, IfSome, IsNone};
 ghost use Rattle.ipc_calls.specs.Taking.{Holds};
 ghost use Rattle.ipc_calls.specs.declared.heard.Heard.TheVariants.{Bye};
-ghost use Rattle.ipc_exchange.specs.Exchange.{ClosesLine};
-ghost use Rattle.ipc_exchange.specs.Feeding.{FeedsFirst, FeedsLine, HearsOne, IsHeard};
-ghost use Rattle.ipc_exchange.specs.Slots.{CanServe, Ready, StaysReady, WantsRoom, service_of};
+ghost use Rattle.ipc_exchange.specs.Exchange.{ClosesConnection};
+ghost use Rattle.ipc_exchange.specs.Feeding.{FeedsConnection, FeedsFirst, HearsOne, IsHeard};
+ghost use Rattle.ipc_exchange.specs.Rooms.{CanServe, Ready, StaysReady, WantsRoom, service_of};
 
 use crate::service::Service;
 use ipc_calls::{CallDecoder, Heard};
@@ -18,7 +18,7 @@ fn is_bye(heard: &Heard) -> bool
 
 /// What a frame says, once there is room for what serving it may want; BYE wants none. F14: there is no memory.
 fn admit(service: &mut Service, place: usize, heard: Heard) -> Result<Heard, FrameFault>
-    requires within { place < length service.old.slots }
+    requires within { place < length service.old.connections }
     requires ready { Ready service.old }
     ensures same { service_of service.new ≡ service_of service.old }
     ensures can { CanServe service.new place result }
@@ -36,7 +36,7 @@ fn admit(service: &mut Service, place: usize, heard: Heard) -> Result<Heard, Fra
 
 /// Serves what a frame says, or the fault that stands in its place. Where there is no memory that is F14.
 fn hear(service: &mut Service, place: usize, said: Result<Heard, FrameFault>)
-    requires within { place < length service.old.slots }
+    requires within { place < length service.old.connections }
     requires ready { Ready service.old }
     ensures hears { HearsOne (service_of service.old) place said (service_of service.new) }
     ensures ready { StaysReady service.old service.new }
@@ -56,11 +56,11 @@ fn feed_first(
     decoder: &mut CallDecoder,
     piece: &[u8],
 ) -> Option<usize>
-    requires within { place < length service.old.slots }
+    requires within { place < length service.old.connections }
     requires ready { Ready service.old }
     requires holds { (bytes : List ℕ) × Holds decoder.old bytes }
     ensures all { IsNone result → (bytes : List ℕ) → Holds decoder.old bytes
-        → FeedsLine (service_of service.old) place bytes piece.now (service_of service.new) decoder.new }
+        → FeedsConnection (service_of service.old) place bytes piece.now (service_of service.new) decoder.new }
     ensures first { IfSome result (λ used. (bytes : List ℕ) → Holds decoder.old bytes
         → FeedsFirst (service_of service.old) place bytes piece.now used (service_of service.new)) }
     ensures rest { IfSome result (λ used. Holds decoder.new []) }
@@ -86,17 +86,17 @@ fn feed_first(
 }
 
 /// Serves the frames that end in a piece, one after the other, up to the end of the connection.
-pub(crate) fn feed_line(
+pub(crate) fn feed_connection(
     service: &mut Service,
     place: usize,
     decoder: &mut CallDecoder,
     piece: &[u8],
 )
-    requires within { place < length service.old.slots }
+    requires within { place < length service.old.connections }
     requires ready { Ready service.old }
     requires holds { (bytes : List ℕ) × Holds decoder.old bytes }
     ensures fed { (bytes : List ℕ) → Holds decoder.old bytes
-        → FeedsLine (service_of service.old) place bytes piece.now (service_of service.new) decoder.new }
+        → FeedsConnection (service_of service.old) place bytes piece.now (service_of service.new) decoder.new }
     ensures ready { StaysReady service.old service.new }
 {
     let mut rest = piece;
@@ -105,13 +105,13 @@ pub(crate) fn feed_line(
     }
 }
 
-/// Serves the end of the input of the line in a place.
-pub(crate) fn close_line(service: &mut Service, place: usize, decoder: &mut CallDecoder)
-    requires within { place < length service.old.slots }
+/// Serves the end of the input of the connection in a place.
+pub(crate) fn close_connection(service: &mut Service, place: usize, decoder: &mut CallDecoder)
+    requires within { place < length service.old.connections }
     requires ready { Ready service.old }
     requires holds { (bytes : List ℕ) × Holds decoder.old bytes }
     ensures closed { (bytes : List ℕ) → Holds decoder.old bytes
-        → ClosesLine (service_of service.old) place bytes (service_of service.new) decoder.new }
+        → ClosesConnection (service_of service.old) place bytes (service_of service.new) decoder.new }
     ensures ready { StaysReady service.old service.new }
 {
     match decoder.finish() {

@@ -1,14 +1,14 @@
 //! Many connections over pieces of bytes, and one kernel.
 #![tactic(auto)]
 
-mod desk;
+mod connection;
+mod connections;
 mod due;
 mod event;
 mod exchange;
 mod feeding;
 mod laws;
-mod line;
-mod lines;
+mod marked_kernel;
 mod pending;
 mod progress;
 mod running;

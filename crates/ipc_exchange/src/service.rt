@@ -12,16 +12,16 @@ ghost use Rattle.ipc_core.specs.declared.command.Answer.TheVariants as answer;
 ghost use Rattle.ipc_core.specs.declared.command.Command.TheVariants as command;
 ghost use Rattle.ipc_connection.specs.Replying.{next_stage, thread_left, told_of};
 ghost use Rattle.ipc_exchange.specs.Feeding.{has_finished};
-ghost use Rattle.ipc_exchange.specs.Service.{at_rest, delivered, line_at, place_of};
-ghost use Rattle.ipc_exchange.specs.Service.{told_line, told_outcome, with_line, without_bytes};
+ghost use Rattle.ipc_exchange.specs.Service.{at_rest, connection_at, delivered, place_of};
+ghost use Rattle.ipc_exchange.specs.Service.{told_connection, told_outcome, with_connection, without_bytes};
 ghost use Rattle.ipc_exchange.specs.Serving.{Asked, Does, DoesAlone, Leaves, MayLack, Serves, ServesBy, Tells};
 ghost use Rattle.ipc_exchange.specs.Serving.{first_kernel};
-ghost use Rattle.ipc_exchange.specs.Slots.{CanDo, CanReact, CanServe, CanTell, NoneServes, Ready};
-ghost use Rattle.ipc_exchange.specs.Slots.{StaysReady, lines_of, service_of, slot_at, stage_at};
-ghost use Rattle.ipc_exchange.specs.Slots.{table_told};
+ghost use Rattle.ipc_exchange.specs.Rooms.{CanDo, CanReact, CanServe, CanTell, NoneServes, Ready};
+ghost use Rattle.ipc_exchange.specs.Rooms.{StaysReady, connections_of, roomy_at, service_of, stage_at};
+ghost use Rattle.ipc_exchange.specs.Rooms.{table_told};
 
-use crate::desk::Desk;
-use crate::lines::Lines;
+use crate::connections::Connections;
+use crate::marked_kernel::MarkedKernel;
 use ipc_calls::Heard;
 use ipc_connection::{
     Reaction, Request, Stage, Told, asks, command_of, next_stage, thread_left, told_of,
@@ -35,21 +35,21 @@ use ipc_words::limits::TABLE_SLOTS;
 use std::alloc::{AllocError, Global};
 use std::marker::Model;
 
-/// A kernel, and the lines of the connections.
+/// A kernel, and the connections.
 #[derive(Drop)]
 pub(crate) struct Service {
-    kernel: Desk,
-    lines: Lines,
+    kernel: MarkedKernel,
+    connections: Connections,
     // for each thread number the connection that had it last, 0 where none had it
     table: Vec<usize>,
 }
 
 impl Model for Service {
-    ghost use Rattle.ipc_exchange.specs.Slots.{ServiceSlots};
+    ghost use Rattle.ipc_exchange.specs.Rooms.{RoomyService};
 
-    ghost Value = { ServiceSlots };
+    ghost Value = { RoomyService };
 
-    ghost view = { λ s. record { kernel = s.kernel; slots = s.lines; table = s.table.items } };
+    ghost view = { λ s. record { kernel = s.kernel; connections = s.connections; table = s.table.items } };
 }
 
 impl Service {
@@ -57,18 +57,18 @@ impl Service {
     pub(crate) fn new(alloc: Global, limits: Limits) -> Result<Service, AllocError>
         ensures service { IfOk result (λ service. service_of service ≡ record {
           kernel = first_kernel (min limits.entries max_entries) (min limits.calls max_calls);
-          lines = [];
+          connections = [];
         }) }
         ensures ready { IfOk result (λ service. Ready service) }
-        ensures none { IfOk result (λ service. service.slots ≡ []) }
+        ensures none { IfOk result (λ service. service.connections ≡ []) }
     {
         let table = vec![in alloc; 0; TABLE_SLOTS]?;
-        let kernel = Desk::new(alloc, limits)?;
+        let kernel = MarkedKernel::new(alloc, limits)?;
         // its contract says that the kernel is sound
         let _ = kernel.history();
         Ok(Service {
             kernel,
-            lines: Lines::new(alloc),
+            connections: Connections::new(alloc),
             table,
         })
     }
@@ -85,23 +85,23 @@ impl Service {
 
     /// How many connections there were.
     pub(crate) fn len(&self) -> usize
-        ensures { result ≡ length self.now.slots }
+        ensures { result ≡ length self.now.connections }
     {
-        self.lines.len()
+        self.connections.len()
     }
 
     /// How far the connection in a place is.
     pub(crate) fn stage(&self, place: usize) -> Stage
-        requires { place < length self.now.slots }
-        ensures { result ≡ stage_at self.now.slots place }
+        requires { place < length self.now.connections }
+        ensures { result ≡ stage_at self.now.connections place }
     {
-        self.lines.stage(place)
+        self.connections.stage(place)
     }
 
     /// Whether the connection in a place has ended.
     pub(crate) fn has_finished(&self, place: usize) -> bool
-        requires { place < length self.now.slots }
-        ensures { result ≡ has_finished (stage_at self.now.slots place) }
+        requires { place < length self.now.connections }
+        ensures { result ≡ has_finished (stage_at self.now.connections place) }
     {
         match self.stage(place) {
             Stage::Finished => true,
@@ -113,51 +113,51 @@ impl Service {
     /// One more connection, from a space.
     pub(crate) fn connect(&mut self, alloc: Global, space: u32) -> Result<(), AllocError>
         requires { Ready self.old }
-        ensures ok { OnOk result (service_of self.new ≡ with_line space (service_of self.old)) }
-        ensures count { OnOk result (length self.new.slots ≡ length self.old.slots + 1) }
+        ensures ok { OnOk result (service_of self.new ≡ with_connection space (service_of self.old)) }
+        ensures count { OnOk result (length self.new.connections ≡ length self.old.connections + 1) }
         ensures ready { Ready self.new }
         ensures err { OnErr result (self.new ≡ self.old) }
     {
-        self.lines.push(alloc, space)?;
+        self.connections.push(alloc, space)?;
         Ok(())
     }
 
     /// Makes room for what serving a frame of the connection in a place may want.
     pub(crate) fn reserve(&mut self, place: usize) -> Result<(), AllocError>
-        requires within { place < length self.old.slots }
+        requires within { place < length self.old.connections }
         requires ready { Ready self.old }
         ensures same { service_of self.new ≡ service_of self.old }
         ensures ready { StaysReady self.old self.new }
-        ensures ok { OnOk result (3 ≤ (slot_at self.new.slots place).free) }
+        ensures ok { OnOk result (3 ≤ (roomy_at self.new.connections place).free) }
     {
-        self.lines.reserve(place)
+        self.connections.reserve(place)
     }
 
     /// Puts the next bytes of the connection in a place into the slice, as many as there are and as
     /// have room, and says how many.
     pub(crate) fn output(&mut self, place: usize, out: &mut [u8]) -> usize
-        requires within { place < length self.old.slots }
+        requires within { place < length self.old.connections }
         requires ready { Ready self.old }
         ensures count { result
-            ≡ min (length out.old) (length (line_at (service_of self.old).lines place).out) }
+            ≡ min (length out.old) (length (connection_at (service_of self.old).connections place).out) }
         ensures bytes { take result out.new
-            ≡ take result (line_at (service_of self.old).lines place).out }
+            ≡ take result (connection_at (service_of self.old).connections place).out }
         ensures behind { drop result out.new ≡ drop result out.old }
         ensures left { service_of self.new ≡ without_bytes place result (service_of self.old) }
         ensures ready { StaysReady self.old self.new }
     {
-        self.lines.output(place, out)
+        self.connections.output(place, out)
     }
 
     /// The first place, from one on, whose connection may have bytes to put out.
     pub(crate) fn next_output(&self, from: usize) -> Option<usize>
-        ensures some { IfSome result (λ place. (from ≤ place) × (place < length self.now.slots)) }
+        ensures some { IfSome result (λ place. (from ≤ place) × (place < length self.now.connections)) }
         ensures first { IfSome result (λ place. (other : ℕ) → from ≤ other → other < place
-            → (line_at (service_of self.now).lines other).out ≡ []) }
+            → (connection_at (service_of self.now).connections other).out ≡ []) }
         ensures none { IsNone result → (other : ℕ) → from ≤ other
-            → (line_at (service_of self.now).lines other).out ≡ [] }
+            → (connection_at (service_of self.now).connections other).out ≡ [] }
     {
-        self.lines.next_output(from)
+        self.connections.next_output(from)
     }
 
     /// The clock is read, in microseconds, and outcomes go out.
@@ -173,7 +173,7 @@ impl Service {
     fn read_clock(&mut self, now: u64)
         requires { Ready self.old }
         ensures kernel { MayObey self.old.kernel (command.At now) answer.Done self.new.kernel }
-        ensures slots { self.new.slots ≡ self.old.slots }
+        ensures connections { self.new.connections ≡ self.old.connections }
         ensures ready { Ready self.new }
     {
         self.kernel.at(now);
@@ -194,7 +194,7 @@ impl Service {
     fn copy_block(&mut self) -> Advance
         requires { Ready self.old }
         ensures kernel { MayObey self.old.kernel command.Advance (answer.Advanced result) self.new.kernel }
-        ensures slots { self.new.slots ≡ self.old.slots }
+        ensures connections { self.new.connections ≡ self.old.connections }
         ensures ready { Ready self.new }
     {
         let advance = self.kernel.advance();
@@ -203,13 +203,13 @@ impl Service {
         advance
     }
 
-    /// Serves what was heard on the line in a place.
+    /// Serves what was heard on the connection in a place.
     pub(crate) fn serve(&mut self, place: usize, heard: Result<Heard, FrameFault>)
         requires { CanServe self.old place heard }
         ensures served { (asked : List Asked) × Serves MayLack (service_of self.old) place heard asked (service_of self.new) }
         ensures ready { StaysReady self.old self.new }
     {
-        let stage = self.lines.stage(place);
+        let stage = self.connections.stage(place);
         let reaction = asks(stage, heard);
         self.react(place, reaction);
     }
@@ -227,7 +227,7 @@ impl Service {
         }
     }
 
-    /// The kernel is asked for the line in a place.
+    /// The kernel is asked for the connection in a place.
     #[tactic(auto, using(crate::proofs::TellingLemmas::do_asked))]
     fn ask(&mut self, place: usize, request: Request)
         requires { CanReact self.old place (Reaction.Ask request) }
@@ -235,12 +235,12 @@ impl Service {
             (service_of self.new) }
         ensures ready { StaysReady self.old self.new }
     {
-        let space = u64::from(self.lines.space(place));
+        let space = u64::from(self.connections.space(place));
         let version = version_asked(&request, WireVersion::One);
         self.command(place, version, command_of(request, space));
     }
 
-    /// The kernel obeys a command of a line that named a version, and its answer is told.
+    /// The kernel obeys a command of a connection that named a version, and its answer is told.
     fn command(&mut self, place: usize, version: WireVersion, command: Command)
         requires { CanDo self.old place command }
         ensures done { (asked : List Asked) × Does MayLack (service_of self.old) place version command asked (service_of self.new) }
@@ -254,7 +254,7 @@ impl Service {
         ensures kernel { (answer : Answer)
             × MayObeyAgain self.old.kernel.held.mark self.old.kernel command answer self.new.kernel
             × (result ≡ told_of version self.new.kernel.moment answer) }
-        ensures slots { self.new.slots ≡ self.old.slots }
+        ensures connections { self.new.connections ≡ self.old.connections }
         ensures table { self.new.table ≡ self.old.table }
         ensures sound { IsSound self.new.kernel }
     {
@@ -264,54 +264,54 @@ impl Service {
         told_of(version, self.kernel.now(), answer)
     }
 
-    /// Something is told to the line in a place. Where the connection ends so, its thread ends.
+    /// Something is told to the connection in a place. Where the connection ends so, its thread ends.
     fn tell(&mut self, place: usize, told: Told)
         requires { CanTell self.old place told }
         ensures told { (asked : List Asked) × Tells MayLack (service_of self.old) place told asked (service_of self.new) }
         ensures ready { StaysReady self.old self.new }
     {
-        let left = self.tell_line(place, told);
+        let left = self.tell_connection(place, told);
         self.leave(left);
         self.deliver();
     }
 
-    /// Tells a line, and answers the thread that ends so.
-    fn tell_line(&mut self, place: usize, told: Told) -> Option<ThreadId>
+    /// Tells a connection, and answers the thread that ends so.
+    fn tell_connection(&mut self, place: usize, told: Told) -> Option<ThreadId>
         requires { CanTell self.old place told }
         ensures kernel { self.new.kernel ≡ self.old.kernel }
-        ensures lines { lines_of self.new.slots ≡ slice_set (lines_of self.old.slots) place
-            (told_line told (line_at (lines_of self.old.slots) place)) }
-        ensures left { result ≡ thread_left (line_at (lines_of self.old.slots) place).stage
-            (next_stage (line_at (lines_of self.old.slots) place).stage told) }
+        ensures connections { connections_of self.new.connections ≡ slice_set (connections_of self.old.connections) place
+            (told_connection told (connection_at (connections_of self.old.connections) place)) }
+        ensures left { result ≡ thread_left (connection_at (connections_of self.old.connections) place).stage
+            (next_stage (connection_at (connections_of self.old.connections) place).stage told) }
         ensures ready { StaysReady self.old self.new }
-        ensures alone { IfSome result (λ thread. NoneServes self.new.slots thread) }
+        ensures alone { IfSome result (λ thread. NoneServes self.new.connections thread) }
     {
         let opened = told;
         let said = told;
         self.place_thread(place, opened);
-        let before = self.lines.stage(place);
-        self.lines.tell(place, said);
+        let before = self.connections.stage(place);
+        self.connections.tell(place, said);
         let here = before;
         let after = next_stage(here, told);
         thread_left(before, after)
     }
 
-    /// The table names the line of a thread that was opened.
+    /// The table names the connection of a thread that was opened.
     fn place_thread(&mut self, place: usize, told: Told)
         requires { CanTell self.old place told }
         ensures { self.new ≡ record self.old { table = table_told told place self.old.table } }
     {
         if let Told::Opened(thread, _) = told {
-            self.table[thread.number() as usize] = self.lines.number(place);
+            self.table[thread.number() as usize] = self.connections.number(place);
         }
     }
 
     /// A thread ends, if there is one.
     fn leave(&mut self, left: Option<ThreadId>)
         requires ready { Ready self.old }
-        requires alone { IfSome left (λ thread. NoneServes self.old.slots thread) }
+        requires alone { IfSome left (λ thread. NoneServes self.old.connections thread) }
         ensures kernel { (asked : List Asked) × Leaves MayLack (at_rest self.old.kernel) left asked (at_rest self.new.kernel) }
-        ensures slots { self.new.slots ≡ self.old.slots }
+        ensures connections { self.new.connections ≡ self.old.connections }
         ensures ready { Ready self.new }
     {
         if let Some(thread) = left {
@@ -321,9 +321,9 @@ impl Service {
 
     fn break_thread(&mut self, thread: ThreadId) -> Result<(), NoThread>
         requires ready { Ready self.old }
-        requires alone { NoneServes self.old.slots thread }
+        requires alone { NoneServes self.old.connections thread }
         ensures kernel { MayObey self.old.kernel (command.Broke thread) (broke_answer result) self.new.kernel }
-        ensures slots { self.new.slots ≡ self.old.slots }
+        ensures connections { self.new.connections ≡ self.old.connections }
         ensures ready { Ready self.new }
     {
         let done = self.kernel.broke(thread);
@@ -332,10 +332,10 @@ impl Service {
         done
     }
 
-    /// Each thread's line is told the outcome that the thread may take.
+    /// Each thread's connection is told the outcome that the thread may take.
     fn deliver(&mut self)
         requires { Ready self.old }
-        ensures told { service_of self.new ≡ delivered (at_rest self.old.kernel) (lines_of self.old.slots) }
+        ensures told { service_of self.new ≡ delivered (at_rest self.old.kernel) (connections_of self.old.connections) }
         ensures ready { StaysReady self.old self.new }
     {
         for number in 0..TABLE_SLOTS {
@@ -346,25 +346,26 @@ impl Service {
     fn deliver_number(&mut self, number: usize)
         requires ready { Ready self.old }
         requires within { number < table_slots }
-        ensures told { service_of self.new ≡ told_outcome (place_of number (lines_of self.old.slots)) (service_of self.old) }
+        ensures told { service_of self.new
+            ≡ told_outcome (place_of number (connections_of self.old.connections)) (service_of self.old) }
         ensures ready { StaysReady self.old self.new }
     {
         if !self.kernel.is_due(number) {
             return;
         }
         let place = self.place_of(number);
-        if place < self.lines.len() {
+        if place < self.connections.len() {
             self.deliver_at(place);
         }
     }
 
-    /// The place of the line whose thread has a number; past the end where there is none.
+    /// The place of the connection whose thread has a number; past the end where there is none.
     fn place_of(&self, number: usize) -> usize
         requires ready { Ready self.now }
         requires within { number < table_slots }
-        ensures { result ≡ place_of number (lines_of self.now.slots) }
+        ensures { result ≡ place_of number (connections_of self.now.connections) }
     {
-        let none = self.lines.len();
+        let none = self.connections.len();
         let connection = self.table[number];
         if connection == 0 {
             return none;
@@ -373,7 +374,7 @@ impl Service {
         if place >= none {
             return none;
         }
-        if self.lines.serves(place, number) {
+        if self.connections.serves(place, number) {
             place
         } else {
             none
@@ -381,17 +382,17 @@ impl Service {
     }
 
     fn deliver_at(&mut self, place: usize)
-        requires within { place < length self.old.slots }
+        requires within { place < length self.old.connections }
         requires ready { Ready self.old }
         ensures told { service_of self.new ≡ told_outcome place (service_of self.old) }
         ensures ready { StaysReady self.old self.new }
     {
-        if let Stage::Serving(thread) = self.lines.stage(place) {
+        if let Stage::Serving(thread) = self.connections.stage(place) {
             let taken = self.kernel.take(thread);
             // its contract says that the kernel is sound
             let _ = self.kernel.history();
             if let Some(outcome) = taken {
-                self.lines.push_outcome(place, outcome);
+                self.connections.push_outcome(place, outcome);
             }
         }
     }

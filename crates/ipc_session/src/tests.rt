@@ -133,7 +133,9 @@ fn assert_read<P: PortRead>(
     };
     let ending = read_loop(alloc, port, &mut kernel_port, &mut Open::new(turns));
     same(rt, ending, end);
-    let kept = kernel_port.deeds().expect(rt, "there is memory for all deeds");
+    let kept = kernel_port
+        .deeds()
+        .expect(rt, "there is memory for all deeds");
     let (last, front) = kept.split_last().expect(rt, "it breaks");
     same(rt, brief_of(last), Brief::Broke);
     same(rt, front.len(), deeds.len());

@@ -8,11 +8,11 @@ use Rattle.std.proofs.lemmas.List.{length-map, get_or-set_same, set-get_or, leng
 use Rattle.std.proofs.Math.Seq.{take-add, take-length, drop-nil}
 use Rattle.std.proofs.Math.ListN.{drop_of_length-le}
 use Rattle.ipc_words.specs.Limits.{max_space, max_connections}
-use Rattle.ipc_exchange.specs.Service.{Line, line_at, nobody, without_bytes}
-use Rattle.ipc_exchange.specs.Slots.{LineSlots, service_of, stage_at}
+use Rattle.ipc_exchange.specs.Service.{ConnectionParts, connection_at, nobody, without_bytes}
+use Rattle.ipc_exchange.specs.Rooms.{RoomyConnection, service_of, stage_at}
 use Rattle.ipc_exchange.specs.Feeding.{has_finished}
 use Rattle.ipc_exchange.specs.Events.{Event, Connect, Piece, Finish, Reading, Copy, ExchangeParts}
-use Rattle.ipc_exchange.specs.Exchange.{ExchangeSlots, Happened, Shows}
+use Rattle.ipc_exchange.specs.Exchange.{RoomyExchange, Happened, Shows}
 use Rattle.ipc_exchange.specs.declared.progress.ConnectRefused.{ConnectRefused}
 use Rattle.ipc_exchange.specs.declared.progress.ConnectRefused.TheVariants.{TooMany, NoMemory}
 use Rattle.ipc_exchange.proofs.EndingLemmas.{others_stay}
@@ -26,7 +26,7 @@ use Rattle.ipc_shell.specs.declared.lines.NextLine.TheVariants as next
 use Rattle.ipc_shell.proofs.ScriptLemmas.{ObeyedSoFar, none_obeyed, many_obeyed, one_empty_line, one_command_line, stops_without_memory, stops_with_device, stops_done, stops_too_long, stops_at_line}
 use Rattle.ipc_shell.specs.WireCommands.{IsSpelled, SpellsPiece}
 use Rattle.ipc_shell.specs.Wiring.{IsGiven, Obeys, ObeysIn, ends_here, ends_at, has_ended, PutsSome, PutsAll, WritesOutput, WritesOutputs}
-use Rattle.ipc_shell.specs.Wiring.{connect_text, ended_text, ended_texts, said_text, output_text, outputs_text, emptied, all_emptied, with_lines, WiresLine, IsNoWire, EndsWireLine, WiresScript}
+use Rattle.ipc_shell.specs.Wiring.{connect_text, ended_text, ended_texts, said_text, output_text, outputs_text, emptied, all_emptied, with_connections, WiresLine, IsNoWire, EndsWireLine, WiresScript}
 use Rattle.ipc_shell.specs.declared.exit.Exit.{Exit}
 use Rattle.ipc_shell.specs.declared.exit.Exit.TheVariants as exit
 use Rattle.ipc_shell.specs.declared.wire.Obeyed.{Obeyed}
@@ -85,26 +85,26 @@ spelled_plain (Finish place) line feed connect end at (fits, e) = absurd (end _ 
 spelled_plain (Reading moment) line feed connect end at (fits, e) = absurd (at _ e)
 spelled_plain Copy line feed connect end at e = (refl, e)
 
--- the parts that an exchange stands for have its lines
-pub shows_stage : (exchange : ExchangeSlots) (parts : ExchangeParts) (place : ℕ) → Shows exchange parts
-    → (line_at parts.service.lines place).stage ≡ stage_at exchange.service.slots place
+-- the parts that an exchange stands for have its connections
+pub shows_stage : (exchange : RoomyExchange) (parts : ExchangeParts) (place : ℕ) → Shows exchange parts
+    → (connection_at parts.service.connections place).stage ≡ stage_at exchange.service.connections place
 shows_stage exchange parts place shows =
-    ap (λ s. (line_at s.lines place).stage) shows.service ∙ service_stage exchange.service place
+    ap (λ s. (connection_at s.connections place).stage) shows.service ∙ service_stage exchange.service place
 
-pub shows_long : (exchange : ExchangeSlots) (parts : ExchangeParts) → Shows exchange parts
-    → length parts.service.lines ≡ length exchange.service.slots
+pub shows_long : (exchange : RoomyExchange) (parts : ExchangeParts) → Shows exchange parts
+    → length parts.service.connections ≡ length exchange.service.connections
 shows_long exchange parts shows =
-    ap (λ s. length s.lines) shows.service ∙ length-map exchange.service.slots (λ (s : LineSlots). s.line)
+    ap (λ s. length s.connections) shows.service ∙ length-map exchange.service.connections (λ (s : RoomyConnection). s.connection)
 
 -- a connection is accepted, or refused
-pub accepted_in : (old new : ExchangeSlots) (space number : ℕ) → number ≡ length old.service.slots + 1 → number ≤ max_connections
+pub accepted_in : (old new : RoomyExchange) (space number : ℕ) → number ≡ length old.service.connections + 1 → number ≤ max_connections
     → Happened old (Connect space) new → ObeysIn old (Connect space) (Connected number) new
 accepted_in old new space number is few happened = λ parts shows.
     let (asked, after, happens, now) = happened parts shows in
     (tt, (after, (omega (arith, is, shows_long old parts shows), few, (asked, happens)), now))
 
-pub refused_in : (old new : ExchangeSlots) (space : ℕ) (refused : ConnectRefused)
-    → refused ≡ (if nat_le max_connections (length old.service.slots) then TooMany else NoMemory)
+pub refused_in : (old new : RoomyExchange) (space : ℕ) (refused : ConnectRefused)
+    → refused ≡ (if nat_le max_connections (length old.service.connections) then TooMany else NoMemory)
     → new ≡ old → ObeysIn old (Connect space) (Refused refused) new
 refused_in old new space TooMany cause same = λ parts shows.
     (tt, (parts, (grind (arith, shows_long old parts shows), refl), subst (λ e. Shows e parts) (sym same) shows))
@@ -112,47 +112,47 @@ refused_in old new space NoMemory cause same = λ parts shows.
     (tt, (parts, (grind (arith, shows_long old parts shows), refl), subst (λ e. Shows e parts) (sym same) shows))
 
 -- a piece of bytes on a connection that was given, and its end
-ends_shown : (old new : ExchangeSlots) (parts after : ExchangeParts) (place connection : ℕ) (said : Obeyed) → Shows old parts → Shows new after
+ends_shown : (old new : RoomyExchange) (parts after : ExchangeParts) (place connection : ℕ) (said : Obeyed) → Shows old parts → Shows new after
     → connection ≡ place + 1
-    → said ≡ ends_here (has_finished (stage_at old.service.slots place)) (has_finished (stage_at new.service.slots place)) connection
+    → said ≡ ends_here (has_finished (stage_at old.service.connections place)) (has_finished (stage_at new.service.connections place)) connection
     → said ≡ ends_at parts after place
 ends_shown old new parts after place connection said shows now is e =
-    e ∙ ap (ends_here (has_finished (stage_at old.service.slots place)) (has_finished (stage_at new.service.slots place))) is
-    ∙ ap (λ s. ends_here (has_finished s) (has_finished (stage_at new.service.slots place)) (place + 1)) (sym (shows_stage old parts place shows))
+    e ∙ ap (ends_here (has_finished (stage_at old.service.connections place)) (has_finished (stage_at new.service.connections place))) is
+    ∙ ap (λ s. ends_here (has_finished s) (has_finished (stage_at new.service.connections place)) (place + 1)) (sym (shows_stage old parts place shows))
     ∙ ap (λ s. ends_here (has_ended parts place) (has_finished s) (place + 1)) (sym (shows_stage new after place now))
 
-pub fed_in : (old new : ExchangeSlots) (place connection : ℕ) (bytes : List ℕ) (said : Obeyed) → connection ≡ place + 1 → place < length old.service.slots
+pub fed_in : (old new : RoomyExchange) (place connection : ℕ) (bytes : List ℕ) (said : Obeyed) → connection ≡ place + 1 → place < length old.service.connections
     → Happened old (Piece place bytes) new
-    → said ≡ ends_here (has_finished (stage_at old.service.slots place)) (has_finished (stage_at new.service.slots place)) connection
+    → said ≡ ends_here (has_finished (stage_at old.service.connections place)) (has_finished (stage_at new.service.connections place)) connection
     → ObeysIn old (Piece place bytes) said new
 fed_in old new place connection bytes said is within happened e = λ parts shows.
     let (asked, after, happens, now) = happened parts shows in
     (omega (arith, shows_long old parts shows, within), (after, ((asked, happens), ends_shown old new parts after place connection said shows now is e), now))
 
-pub finished_in : (old new : ExchangeSlots) (place connection : ℕ) (said : Obeyed) → connection ≡ place + 1 → place < length old.service.slots
+pub finished_in : (old new : RoomyExchange) (place connection : ℕ) (said : Obeyed) → connection ≡ place + 1 → place < length old.service.connections
     → Happened old (Finish place) new
-    → said ≡ ends_here (has_finished (stage_at old.service.slots place)) (has_finished (stage_at new.service.slots place)) connection
+    → said ≡ ends_here (has_finished (stage_at old.service.connections place)) (has_finished (stage_at new.service.connections place)) connection
     → ObeysIn old (Finish place) said new
 finished_in old new place connection said is within happened e = λ parts shows.
     let (asked, after, happens, now) = happened parts shows in
     (omega (arith, shows_long old parts shows, within), (after, ((asked, happens), ends_shown old new parts after place connection said shows now is e), now))
 
-pub never_at : (old : ExchangeSlots) (parts : ExchangeParts) (place : ℕ) → length old.service.slots ≤ place → Shows old parts → place < length parts.service.lines → ⊥
+pub never_at : (old : RoomyExchange) (parts : ExchangeParts) (place : ℕ) → length old.service.connections ≤ place → Shows old parts → place < length parts.service.connections → ⊥
 never_at old parts place past shows within = omega (arith, shows_long old parts shows, past, within)
 
 -- a reading of the clock, and a copy
-pub read_in : (old new : ExchangeSlots) (moment : ℕ) → Happened old (Reading moment) new → ObeysIn old (Reading moment) Done new
+pub read_in : (old new : RoomyExchange) (moment : ℕ) → Happened old (Reading moment) new → ObeysIn old (Reading moment) Done new
 read_in old new moment happened = λ parts shows.
     let (asked, after, happens, now) = happened parts shows in
     (tt, (after, ((asked, happens), refl), now))
 
-pub copied_in : (old new : ExchangeSlots) → Happened old Copy new → ObeysIn old Copy Done new
+pub copied_in : (old new : RoomyExchange) → Happened old Copy new → ObeysIn old Copy Done new
 copied_in old new happened = λ parts shows.
     let (asked, after, happens, now) = happened parts shows in
     (tt, (after, ((asked, happens), refl), now))
 
--- a line that is set twice
-set_twice : (lines : List Line) (place : ℕ) (one two : Line) → slice_set (slice_set lines place one) place two ≡ slice_set lines place two
+-- a connection that is set twice
+set_twice : (connections : List ConnectionParts) (place : ℕ) (one two : ConnectionParts) → slice_set (slice_set connections place one) place two ≡ slice_set connections place two
 set_twice [] place one two = refl
 set_twice (l ∷ ls) zero one two = refl
 set_twice (l ∷ ls) (suc place) one two = ap (λ rest. l ∷ rest) (set_twice ls place one two)
@@ -165,156 +165,156 @@ drop_twice (suc m) n (b ∷ bs) =
     drop_twice m n bs ∙ ap (λ k. drop k (b ∷ bs)) same
 
 -- so many bytes of a connection went out: these
-pub record TakenOut (parts : ExchangeParts) (place : ℕ) (bytes : List ℕ) (exchange : ExchangeSlots) : Type 0 where
+pub record TakenOut (parts : ExchangeParts) (place : ℕ) (bytes : List ℕ) (exchange : RoomyExchange) : Type 0 where
   pub count : ℕ
-  pub bytes_are : bytes ≡ take count (line_at parts.service.lines place).out
+  pub bytes_are : bytes ≡ take count (connection_at parts.service.connections place).out
   pub shows : Shows exchange (record parts { service = without_bytes place count parts.service })
 
-pub taken_none : (exchange : ExchangeSlots) (parts : ExchangeParts) (place : ℕ) → Shows exchange parts → TakenOut parts place [] exchange
+pub taken_none : (exchange : RoomyExchange) (parts : ExchangeParts) (place : ℕ) → Shows exchange parts → TakenOut parts place [] exchange
 taken_none exchange parts place shows = record {
   count = 0;
   bytes_are = refl;
-  shows = subst (λ lines. Shows exchange (with_lines parts lines)) (sym (set-get_or parts.service.lines place nobody)) shows;
+  shows = subst (λ connections. Shows exchange (with_connections parts connections)) (sym (set-get_or parts.service.connections place nobody)) shows;
 }
 
 -- the bytes that wait where so many went out
-out_left : (parts : ExchangeParts) (place count : ℕ) → place < length parts.service.lines
-    → (line_at (without_bytes place count parts.service).lines place).out ≡ drop count (line_at parts.service.lines place).out
+out_left : (parts : ExchangeParts) (place count : ℕ) → place < length parts.service.connections
+    → (connection_at (without_bytes place count parts.service).connections place).out ≡ drop count (connection_at parts.service.connections place).out
 out_left parts place count within =
-    ap (λ (l : Line). l.out) (get_or-set_same parts.service.lines place (record (line_at parts.service.lines place) { out = drop count (line_at parts.service.lines place).out }) nobody within)
+    ap (λ (l : ConnectionParts). l.out) (get_or-set_same parts.service.connections place (record (connection_at parts.service.connections place) { out = drop count (connection_at parts.service.connections place).out }) nobody within)
 
-line_left : (parts : ExchangeParts) (place count : ℕ) → place < length parts.service.lines
-    → line_at (without_bytes place count parts.service).lines place ≡ record (line_at parts.service.lines place) { out = drop count (line_at parts.service.lines place).out }
-line_left parts place count within =
-    get_or-set_same parts.service.lines place (record (line_at parts.service.lines place) { out = drop count (line_at parts.service.lines place).out }) nobody within
+connection_left : (parts : ExchangeParts) (place count : ℕ) → place < length parts.service.connections
+    → connection_at (without_bytes place count parts.service).connections place ≡ record (connection_at parts.service.connections place) { out = drop count (connection_at parts.service.connections place).out }
+connection_left parts place count within =
+    get_or-set_same parts.service.connections place (record (connection_at parts.service.connections place) { out = drop count (connection_at parts.service.connections place).out }) nobody within
 
--- the lines where so many more went out
-without_more : (parts : ExchangeParts) (place m n : ℕ) → place < length parts.service.lines
-    → (without_bytes place n (without_bytes place m parts.service)).lines ≡ (without_bytes place (m + n) parts.service).lines
+-- the connections where so many more went out
+without_more : (parts : ExchangeParts) (place m n : ℕ) → place < length parts.service.connections
+    → (without_bytes place n (without_bytes place m parts.service)).connections ≡ (without_bytes place (m + n) parts.service).connections
 without_more parts place m n within =
-    let here = line_at parts.service.lines place in
-    set_twice parts.service.lines place (record here { out = drop m here.out }) (record (line_at (without_bytes place m parts.service).lines place) { out = drop n (line_at (without_bytes place m parts.service).lines place).out })
-    ∙ ap (λ (l : Line). slice_set parts.service.lines place (record l { out = drop n l.out })) (line_left parts place m within)
-    ∙ ap (λ bytes. slice_set parts.service.lines place (record here { out = bytes })) (drop_twice m n here.out)
+    let here = connection_at parts.service.connections place in
+    set_twice parts.service.connections place (record here { out = drop m here.out }) (record (connection_at (without_bytes place m parts.service).connections place) { out = drop n (connection_at (without_bytes place m parts.service).connections place).out })
+    ∙ ap (λ (l : ConnectionParts). slice_set parts.service.connections place (record l { out = drop n l.out })) (connection_left parts place m within)
+    ∙ ap (λ bytes. slice_set parts.service.connections place (record here { out = bytes })) (drop_twice m n here.out)
 
-pub taken_more : (parts : ExchangeParts) (place room count : ℕ) (bytes piece : List ℕ) (before after : ExchangeSlots) → place < length parts.service.lines
+pub taken_more : (parts : ExchangeParts) (place room count : ℕ) (bytes piece : List ℕ) (before after : RoomyExchange) → place < length parts.service.connections
     → (taken : TakenOut parts place bytes before)
     → PutsSome (record parts { service = without_bytes place taken.count parts.service }) place room count piece after
     → TakenOut parts place (bytes ++ take count piece) after
 taken_more parts place room count bytes piece before after within taken puts = record {
   count = taken.count + count;
   bytes_are = ap (λ bs. bs ++ take count piece) taken.bytes_are
-      ∙ ap (λ bs. take taken.count (line_at parts.service.lines place).out ++ bs) (puts.begins ∙ ap (take count) (out_left parts place taken.count within))
-      ∙ sym (take-add taken.count count (line_at parts.service.lines place).out);
-  shows = subst (λ lines. Shows after (with_lines parts lines)) (without_more parts place taken.count count within) puts.shows;
+      ∙ ap (λ bs. take taken.count (connection_at parts.service.connections place).out ++ bs) (puts.begins ∙ ap (take count) (out_left parts place taken.count within))
+      ∙ sym (take-add taken.count count (connection_at parts.service.connections place).out);
+  shows = subst (λ connections. Shows after (with_connections parts connections)) (without_more parts place taken.count count within) puts.shows;
 }
 
-pub taken_all : (parts : ExchangeParts) (place room count : ℕ) (bytes piece : List ℕ) (before after : ExchangeSlots) → place < length parts.service.lines → 0 < room → count ≡ 0
+pub taken_all : (parts : ExchangeParts) (place room count : ℕ) (bytes piece : List ℕ) (before after : RoomyExchange) → place < length parts.service.connections → 0 < room → count ≡ 0
     → (taken : TakenOut parts place bytes before)
     → PutsSome (record parts { service = without_bytes place taken.count parts.service }) place room count piece after
     → PutsAll parts place bytes after
 taken_all parts place room count bytes piece before after within some none taken puts =
-    let here = line_at parts.service.lines place in
+    let here = connection_at parts.service.connections place in
     let long : length here.out ≤ taken.count = omega (arith, puts.count_is, ap length (out_left parts place taken.count within), length-drop taken.count here.out, some, none) in
     let gone : drop (taken.count + count) here.out ≡ [] = drop_of_length-le here.out {i = taken.count + count} (omega (arith, long)) in (
       taken.bytes_are ∙ take_all taken.count here.out long,
-      subst (λ lines. Shows after (with_lines parts lines))
-          (without_more parts place taken.count count within ∙ ap (λ bytes. slice_set parts.service.lines place (record here { out = bytes })) gone) puts.shows,
+      subst (λ connections. Shows after (with_connections parts connections))
+          (without_more parts place taken.count count within ∙ ap (λ bytes. slice_set parts.service.connections place (record here { out = bytes })) gone) puts.shows,
     )
 
--- the lines where all bytes of the first so many connections went out
-abbrev pub partly : ℕ → List Line → List Line
-partly n lines = map emptied (take n lines) ++ drop n lines
+-- the connections where all bytes of the first so many went out
+abbrev pub partly : ℕ → List ConnectionParts → List ConnectionParts
+partly n connections = map emptied (take n connections) ++ drop n connections
 
-partly_at : (n : ℕ) (lines : List Line) → n < length lines → line_at (partly n lines) n ≡ line_at lines n
+partly_at : (n : ℕ) (connections : List ConnectionParts) → n < length connections → connection_at (partly n connections) n ≡ connection_at connections n
 partly_at n [] within = absurd (omega arith)
 partly_at zero (l ∷ ls) within = refl
 partly_at (suc n) (l ∷ ls) within = partly_at n ls (omega arith)
 
-partly_long : (n : ℕ) (lines : List Line) → length (partly n lines) ≡ length lines
-partly_long zero lines = refl
+partly_long : (n : ℕ) (connections : List ConnectionParts) → length (partly n connections) ≡ length connections
+partly_long zero connections = refl
 partly_long (suc n) [] = refl
 partly_long (suc n) (l ∷ ls) = ap suc (partly_long n ls)
 
-partly_set : (n : ℕ) (lines : List Line) → n < length lines → slice_set (partly n lines) n (emptied (line_at lines n)) ≡ partly (suc n) lines
+partly_set : (n : ℕ) (connections : List ConnectionParts) → n < length connections → slice_set (partly n connections) n (emptied (connection_at connections n)) ≡ partly (suc n) connections
 partly_set n [] within = absurd (omega arith)
 partly_set zero (l ∷ ls) within = refl
 partly_set (suc n) (l ∷ ls) within = ap (λ rest. emptied l ∷ rest) (partly_set n ls (omega arith))
 
-partly_all : (lines : List Line) → partly (length lines) lines ≡ map emptied lines
+partly_all : (connections : List ConnectionParts) → partly (length connections) connections ≡ map emptied connections
 partly_all [] = refl
 partly_all (l ∷ ls) = ap (λ rest. emptied l ∷ rest) (partly_all ls)
 
-text_more : (n number : ℕ) (lines : List Line) → n < length lines
-    → outputs_text number (take (suc n) lines) ≡ outputs_text number (take n lines) ++ output_text (number + n) (line_at lines n).out
+text_more : (n number : ℕ) (connections : List ConnectionParts) → n < length connections
+    → outputs_text number (take (suc n) connections) ≡ outputs_text number (take n connections) ++ output_text (number + n) (connection_at connections n).out
 text_more n number [] within = absurd (omega arith)
 text_more zero number (l ∷ ls) within =
     let same : number ≡ number + 0 = omega arith in
     append-nil (output_text number l.out) ∙ ap (λ k. output_text k l.out) same
 text_more (suc n) number (l ∷ ls) within =
     let same : (number + 1) + n ≡ number + suc n = omega arith in
-    ap (λ t. output_text number l.out ++ t) (text_more n (number + 1) ls (omega arith) ∙ ap (λ k. outputs_text (number + 1) (take n ls) ++ output_text k (line_at ls n).out) same)
-    ∙ sym (append_assoc (output_text number l.out) (outputs_text (number + 1) (take n ls)) (output_text (number + suc n) (line_at ls n).out))
+    ap (λ t. output_text number l.out ++ t) (text_more n (number + 1) ls (omega arith) ∙ ap (λ k. outputs_text (number + 1) (take n ls) ++ output_text k (connection_at ls n).out) same)
+    ∙ sym (append_assoc (output_text number l.out) (outputs_text (number + 1) (take n ls)) (output_text (number + suc n) (connection_at ls n).out))
 
 -- the first so many connections were written
-pub record WrittenTo (parts : ExchangeParts) (n : ℕ) (before now : List ℕ) (exchange : ExchangeSlots) : Type 0 where
-  pub text_is : now ≡ before ++ outputs_text 1 (take n parts.service.lines)
-  pub shows : Shows exchange (with_lines parts (partly n parts.service.lines))
+pub record WrittenTo (parts : ExchangeParts) (n : ℕ) (before now : List ℕ) (exchange : RoomyExchange) : Type 0 where
+  pub text_is : now ≡ before ++ outputs_text 1 (take n parts.service.connections)
+  pub shows : Shows exchange (with_connections parts (partly n parts.service.connections))
 
-pub none_written : (exchange : ExchangeSlots) (parts : ExchangeParts) (before : List ℕ) → Shows exchange parts → WrittenTo parts 0 before before exchange
+pub none_written : (exchange : RoomyExchange) (parts : ExchangeParts) (before : List ℕ) → Shows exchange parts → WrittenTo parts 0 before before exchange
 none_written exchange parts before shows = record { text_is = sym (append-nil before); shows = shows }
 
-pub one_written : (parts : ExchangeParts) (n : ℕ) (before now after : List ℕ) (old new : ExchangeSlots) → n < length parts.service.lines
+pub one_written : (parts : ExchangeParts) (n : ℕ) (before now after : List ℕ) (old new : RoomyExchange) → n < length parts.service.connections
     → WrittenTo parts n before now old
-    → WritesOutput (with_lines parts (partly n parts.service.lines)) n now after new
+    → WritesOutput (with_connections parts (partly n parts.service.connections)) n now after new
     → WrittenTo parts (n + 1) before after new
 one_written parts n before now after old new within written writes =
-    let lines = parts.service.lines in
-    let here : line_at (partly n lines) n ≡ line_at lines n = partly_at n lines within in
+    let connections = parts.service.connections in
+    let here : connection_at (partly n connections) n ≡ connection_at connections n = partly_at n connections within in
     let next : suc n ≡ n + 1 = omega arith in
     let number : 1 + n ≡ n + 1 = omega arith in
     subst (λ k. WrittenTo parts k before after new) next (record {
-      text_is = writes.0 ∙ ap (λ (l : Line). now ++ output_text (n + 1) l.out) here
-          ∙ ap (λ t. t ++ output_text (n + 1) (line_at lines n).out) written.text_is
-          ∙ append_assoc before (outputs_text 1 (take n lines)) (output_text (n + 1) (line_at lines n).out)
-          ∙ ap (λ t. before ++ t) (ap (λ k. outputs_text 1 (take n lines) ++ output_text k (line_at lines n).out) (sym number) ∙ sym (text_more n 1 lines within));
-      shows = subst (λ ls. Shows new (with_lines parts ls))
-          (ap (λ (l : Line). slice_set (partly n lines) n (emptied l)) here ∙ partly_set n lines within) writes.1;
+      text_is = writes.0 ∙ ap (λ (l : ConnectionParts). now ++ output_text (n + 1) l.out) here
+          ∙ ap (λ t. t ++ output_text (n + 1) (connection_at connections n).out) written.text_is
+          ∙ append_assoc before (outputs_text 1 (take n connections)) (output_text (n + 1) (connection_at connections n).out)
+          ∙ ap (λ t. before ++ t) (ap (λ k. outputs_text 1 (take n connections) ++ output_text k (connection_at connections n).out) (sym number) ∙ sym (text_more n 1 connections within));
+      shows = subst (λ ls. Shows new (with_connections parts ls))
+          (ap (λ (l : ConnectionParts). slice_set (partly n connections) n (emptied l)) here ∙ partly_set n connections within) writes.1;
     })
 
-pub all_written : (parts : ExchangeParts) (n : ℕ) (before now : List ℕ) (exchange : ExchangeSlots) → n ≡ length parts.service.lines
+pub all_written : (parts : ExchangeParts) (n : ℕ) (before now : List ℕ) (exchange : RoomyExchange) → n ≡ length parts.service.connections
     → WrittenTo parts n before now exchange → WritesOutputs parts before now exchange
 all_written parts n before now exchange all written =
-    let lines = parts.service.lines in (
-      written.text_is ∙ ap (λ k. before ++ outputs_text 1 (take k lines)) all ∙ ap (λ ls. before ++ outputs_text 1 ls) (take-length lines),
-      subst (λ ls. Shows exchange (with_lines parts ls)) (ap (λ k. partly k lines) all ∙ partly_all lines) written.shows,
+    let connections = parts.service.connections in (
+      written.text_is ∙ ap (λ k. before ++ outputs_text 1 (take k connections)) all ∙ ap (λ ls. before ++ outputs_text 1 ls) (take-length connections),
+      subst (λ ls. Shows exchange (with_connections parts ls)) (ap (λ k. partly k connections) all ∙ partly_all connections) written.shows,
     )
 
-pub partly_within : (parts : ExchangeParts) (n : ℕ) → n < length parts.service.lines → n < length (partly n parts.service.lines)
-partly_within parts n within = omega (arith, partly_long n parts.service.lines, within)
+pub partly_within : (parts : ExchangeParts) (n : ℕ) → n < length parts.service.connections → n < length (partly n parts.service.connections)
+partly_within parts n within = omega (arith, partly_long n parts.service.connections, within)
 
 -- a connection that has nothing to put out is passed over
-still : (line : Line) → line.out ≡ [] → emptied line ≡ line
-still line none = ap (λ bytes. record line { out = bytes }) (sym none)
+still : (connection : ConnectionParts) → connection.out ≡ [] → emptied connection ≡ connection
+still connection none = ap (λ bytes. record connection { out = bytes }) (sym none)
 
 nothing_text : (number : ℕ) (bytes : List ℕ) → bytes ≡ [] → output_text number bytes ≡ []
 nothing_text number bytes none = ap (output_text number) none
 
-abbrev HasNothing : ExchangeSlots → ℕ → Type 0
-HasNothing exchange place = (line_at (service_of exchange.service).lines place).out ≡ []
+abbrev HasNothing : RoomyExchange → ℕ → Type 0
+HasNothing exchange place = (connection_at (service_of exchange.service).connections place).out ≡ []
 
-one_passed : (parts : ExchangeParts) (n : ℕ) (before now : List ℕ) (exchange : ExchangeSlots) → n < length parts.service.lines → HasNothing exchange n
+one_passed : (parts : ExchangeParts) (n : ℕ) (before now : List ℕ) (exchange : RoomyExchange) → n < length parts.service.connections → HasNothing exchange n
     → WrittenTo parts n before now exchange → WrittenTo parts (n + 1) before now exchange
 one_passed parts n before now exchange within none written =
-    let lines = partly n parts.service.lines in
-    let here : (line_at lines n).out ≡ [] = ap (λ s. (line_at s.lines n).out) written.shows.service ∙ none in
-    let same : slice_set lines n (emptied (line_at lines n)) ≡ lines = ap (slice_set lines n) (still (line_at lines n) here) ∙ set-get_or lines n nobody in
+    let connections = partly n parts.service.connections in
+    let here : (connection_at connections n).out ≡ [] = ap (λ s. (connection_at s.connections n).out) written.shows.service ∙ none in
+    let same : slice_set connections n (emptied (connection_at connections n)) ≡ connections = ap (slice_set connections n) (still (connection_at connections n) here) ∙ set-get_or connections n nobody in
     one_written parts n before now now exchange exchange within written (
-      sym (append-nil now) ∙ ap (λ t. now ++ t) (sym (nothing_text (n + 1) (line_at lines n).out here)),
-      subst (λ ls. Shows exchange (with_lines parts ls)) (sym same) written.shows,
+      sym (append-nil now) ∙ ap (λ t. now ++ t) (sym (nothing_text (n + 1) (connection_at connections n).out here)),
+      subst (λ ls. Shows exchange (with_connections parts ls)) (sym same) written.shows,
     )
 
-passed : (parts : ExchangeParts) (n k : ℕ) (before now : List ℕ) (exchange : ExchangeSlots) → n + k ≤ length parts.service.lines
+passed : (parts : ExchangeParts) (n k : ℕ) (before now : List ℕ) (exchange : RoomyExchange) → n + k ≤ length parts.service.connections
     → ((place : ℕ) → n ≤ place → place < n + k → HasNothing exchange place)
     → WrittenTo parts n before now exchange → WrittenTo parts (n + k) before now exchange
 passed parts n zero before now exchange within none written =
@@ -325,7 +325,7 @@ passed parts n (suc k) before now exchange within none written =
     subst (λ m. WrittenTo parts m before now exchange) same
     (passed parts (n + 1) k before now exchange (omega (arith, within)) (λ place least less. none place (omega (arith, least)) (omega (arith, less))) more)
 
-passed_to : (parts : ExchangeParts) (n m : ℕ) (before now : List ℕ) (exchange : ExchangeSlots) → n ≤ m → m ≤ length parts.service.lines
+passed_to : (parts : ExchangeParts) (n m : ℕ) (before now : List ℕ) (exchange : RoomyExchange) → n ≤ m → m ≤ length parts.service.connections
     → ((place : ℕ) → n ≤ place → place < m → HasNothing exchange place)
     → WrittenTo parts n before now exchange → WrittenTo parts m before now exchange
 passed_to parts n m before now exchange least within none written =
@@ -334,33 +334,33 @@ passed_to parts n m before now exchange least within none written =
     (passed parts n (m - n) before now exchange (omega (arith, least, within)) (λ place low high. none place low (omega (arith, high, least))) written)
 
 -- the next connection that may have something is written
-pub next_written : (parts : ExchangeParts) (behind connection : ℕ) (before now after : List ℕ) (old new : ExchangeSlots) → behind < connection → connection ≤ length old.service.slots
+pub next_written : (parts : ExchangeParts) (behind connection : ℕ) (before now after : List ℕ) (old new : RoomyExchange) → behind < connection → connection ≤ length old.service.connections
     → ((place : ℕ) → behind ≤ place → place + 1 < connection → HasNothing old place)
     → WrittenTo parts behind before now old
-    → ((place : ℕ) (ps : ExchangeParts) → connection ≡ place + 1 → place < length ps.service.lines → Shows old ps → WritesOutput ps place now after new)
-    → (connection ≤ length parts.service.lines) × WrittenTo parts connection before after new
+    → ((place : ℕ) (ps : ExchangeParts) → connection ≡ place + 1 → place < length ps.service.connections → Shows old ps → WritesOutput ps place now after new)
+    → (connection ≤ length parts.service.connections) × WrittenTo parts connection before after new
 next_written parts behind connection before now after old new more few none written writes =
     let place = connection - 1 in
     let number : connection ≡ place + 1 = omega (arith, more) in
-    let long = shows_long old (with_lines parts (partly behind parts.service.lines)) written.shows in
-    let given : connection ≤ length parts.service.lines = omega (arith, long, partly_long behind parts.service.lines, few) in
-    let within : place < length parts.service.lines = omega (arith, given, more) in
+    let long = shows_long old (with_connections parts (partly behind parts.service.connections)) written.shows in
+    let given : connection ≤ length parts.service.connections = omega (arith, long, partly_long behind parts.service.connections, few) in
+    let within : place < length parts.service.connections = omega (arith, given, more) in
     let here = passed_to parts behind place before now old (omega (arith, more)) (omega (arith, within)) (λ q low high. none q low (omega (arith, high, more))) written in (
       given,
       subst (λ k. WrittenTo parts k before after new) (sym number)
-          (one_written parts place before now after old new within here (writes place (with_lines parts (partly place parts.service.lines)) number (partly_within parts place within) here.shows)),
+          (one_written parts place before now after old new within here (writes place (with_connections parts (partly place parts.service.connections)) number (partly_within parts place within) here.shows)),
     )
 
 -- there is none
-pub rest_written : (parts : ExchangeParts) (behind : ℕ) (before now : List ℕ) (exchange : ExchangeSlots) → behind ≤ length parts.service.lines
+pub rest_written : (parts : ExchangeParts) (behind : ℕ) (before now : List ℕ) (exchange : RoomyExchange) → behind ≤ length parts.service.connections
     → ((place : ℕ) → behind ≤ place → HasNothing exchange place)
     → WrittenTo parts behind before now exchange → WritesOutputs parts before now exchange
 rest_written parts behind before now exchange within none written =
-    all_written parts (length parts.service.lines) before now exchange refl
-    (passed_to parts behind (length parts.service.lines) before now exchange within (omega arith) (λ place low high. none place low) written)
+    all_written parts (length parts.service.connections) before now exchange refl
+    (passed_to parts behind (length parts.service.connections) before now exchange within (omega arith) (λ place low high. none place low) written)
 
 -- where each connection is at the stage at which it was, none ended
-next_at : (lines : List Line) (q : ℕ) → line_at (drop 1 lines) q ≡ line_at lines (suc q)
+next_at : (connections : List ConnectionParts) (q : ℕ) → connection_at (drop 1 connections) q ≡ connection_at connections (suc q)
 next_at [] q = refl
 next_at (l ∷ ls) q = refl
 
@@ -368,53 +368,53 @@ not_here : (ended : Bool) (number : ℕ) → ended_text (ends_here ended ended n
 not_here true number = refl
 not_here false number = refl
 
-first_stays : (number : ℕ) (old : Line) (news : List Line) → (line_at news 0).stage ≡ old.stage
-    → ended_text (ends_here (has_finished old.stage) (has_finished (line_at news 0).stage) number) ≡ []
+first_stays : (number : ℕ) (old : ConnectionParts) (news : List ConnectionParts) → (connection_at news 0).stage ≡ old.stage
+    → ended_text (ends_here (has_finished old.stage) (has_finished (connection_at news 0).stage) number) ≡ []
 first_stays number old news same =
     ap (λ s. ended_text (ends_here (has_finished old.stage) (has_finished s) number)) same ∙ not_here (has_finished old.stage) number
 
-none_ended : (number : ℕ) (olds news : List Line) → ((q : ℕ) → q < length olds → (line_at news q).stage ≡ (line_at olds q).stage)
+none_ended : (number : ℕ) (olds news : List ConnectionParts) → ((q : ℕ) → q < length olds → (connection_at news q).stage ≡ (connection_at olds q).stage)
     → ended_texts number olds news ≡ []
 none_ended number [] news same = refl
 none_ended number (l ∷ ls) news same =
     ap (λ t. t ++ ended_texts (number + 1) ls (drop 1 news)) (first_stays number l news (same 0 (omega arith)))
-    ∙ none_ended (number + 1) ls (drop 1 news) (λ q within. ap (λ (n : Line). n.stage) (next_at news q) ∙ same (suc q) (omega (arith, within)))
+    ∙ none_ended (number + 1) ls (drop 1 news) (λ q within. ap (λ (n : ConnectionParts). n.stage) (next_at news q) ∙ same (suc q) (omega (arith, within)))
 
 -- where each other one is, no other ended
-one_ended : (place number : ℕ) (olds news : List Line) → place < length olds
-    → ((q : ℕ) → q ≢ place → q < length olds → (line_at news q).stage ≡ (line_at olds q).stage)
-    → ended_texts number olds news ≡ ended_text (ends_here (has_finished (line_at olds place).stage) (has_finished (line_at news place).stage) (number + place))
+one_ended : (place number : ℕ) (olds news : List ConnectionParts) → place < length olds
+    → ((q : ℕ) → q ≢ place → q < length olds → (connection_at news q).stage ≡ (connection_at olds q).stage)
+    → ended_texts number olds news ≡ ended_text (ends_here (has_finished (connection_at olds place).stage) (has_finished (connection_at news place).stage) (number + place))
 one_ended place number [] news within same = absurd (omega arith)
 one_ended zero number (l ∷ ls) news within same =
     let here : number ≡ number + 0 = omega arith in
-    ap (λ t. ended_text (ends_here (has_finished l.stage) (has_finished (line_at news 0).stage) number) ++ t)
-    (none_ended (number + 1) ls (drop 1 news) (λ q w. ap (λ (n : Line). n.stage) (next_at news q) ∙ same (suc q) (λ e. omega (arith, e)) (omega (arith, w))))
-    ∙ append-nil (ended_text (ends_here (has_finished l.stage) (has_finished (line_at news 0).stage) number))
-    ∙ ap (λ k. ended_text (ends_here (has_finished l.stage) (has_finished (line_at news 0).stage) k)) here
+    ap (λ t. ended_text (ends_here (has_finished l.stage) (has_finished (connection_at news 0).stage) number) ++ t)
+    (none_ended (number + 1) ls (drop 1 news) (λ q w. ap (λ (n : ConnectionParts). n.stage) (next_at news q) ∙ same (suc q) (λ e. omega (arith, e)) (omega (arith, w))))
+    ∙ append-nil (ended_text (ends_here (has_finished l.stage) (has_finished (connection_at news 0).stage) number))
+    ∙ ap (λ k. ended_text (ends_here (has_finished l.stage) (has_finished (connection_at news 0).stage) k)) here
 one_ended (suc place) number (l ∷ ls) news within same =
     let here : (number + 1) + place ≡ number + suc place = omega arith in
     ap (λ t. t ++ ended_texts (number + 1) ls (drop 1 news)) (first_stays number l news (same 0 (λ e. omega (arith, e)) (omega arith)))
-    ∙ one_ended place (number + 1) ls (drop 1 news) (omega arith) (λ q other w. ap (λ (n : Line). n.stage) (next_at news q) ∙ same (suc q) (λ e. other (omega (arith, e))) (omega (arith, w)))
-    ∙ ap (λ (n : Line). ended_text (ends_here (has_finished (line_at ls place).stage) (has_finished n.stage) ((number + 1) + place))) (next_at news place)
-    ∙ ap (λ k. ended_text (ends_here (has_finished (line_at ls place).stage) (has_finished (line_at news (suc place)).stage) k)) here
+    ∙ one_ended place (number + 1) ls (drop 1 news) (omega arith) (λ q other w. ap (λ (n : ConnectionParts). n.stage) (next_at news q) ∙ same (suc q) (λ e. other (omega (arith, e))) (omega (arith, w)))
+    ∙ ap (λ (n : ConnectionParts). ended_text (ends_here (has_finished (connection_at ls place).stage) (has_finished n.stage) ((number + 1) + place))) (next_at news place)
+    ∙ ap (λ k. ended_text (ends_here (has_finished (connection_at ls place).stage) (has_finished (connection_at news (suc place)).stage) k)) here
 
 -- the connection that is told is all that ended
-place_ended : (place : ℕ) (old new : ExchangeParts) (event : Event) (said : Obeyed) → place < length old.service.lines
-    → ((q : ℕ) → q ≢ place → q < length old.service.lines → (line_at new.service.lines q).stage ≡ (line_at old.service.lines q).stage)
-    → said ≡ ends_at old new place → ended_text said ≡ ended_texts 1 old.service.lines new.service.lines
+place_ended : (place : ℕ) (old new : ExchangeParts) (event : Event) (said : Obeyed) → place < length old.service.connections
+    → ((q : ℕ) → q ≢ place → q < length old.service.connections → (connection_at new.service.connections q).stage ≡ (connection_at old.service.connections q).stage)
+    → said ≡ ends_at old new place → ended_text said ≡ ended_texts 1 old.service.connections new.service.connections
 place_ended place old new event said within same e =
     let number : place + 1 ≡ 1 + place = omega arith in
     ap ended_text e ∙ ap (λ k. ended_text (ends_here (has_ended old place) (has_ended new place) k)) number
-    ∙ sym (one_ended place 1 old.service.lines new.service.lines within same)
+    ∙ sym (one_ended place 1 old.service.connections new.service.connections within same)
 
 said_ended : (old new : ExchangeParts) (event : Event) (said : Obeyed) → Obeys old event said new → IsGiven old event
-    → ended_text said ≡ ended_texts 1 old.service.lines new.service.lines
+    → ended_text said ≡ ended_texts 1 old.service.connections new.service.connections
 said_ended old new (Connect space) (Connected number) (is, few, occurs) given =
-    sym (none_ended 1 old.service.lines new.service.lines (λ q w. others_stay MayLack (Connect space) old new occurs.0 q occurs.1 tt w))
+    sym (none_ended 1 old.service.connections new.service.connections (λ q w. others_stay MayLack (Connect space) old new occurs.0 q occurs.1 tt w))
 said_ended old new (Connect space) (Refused TooMany) (full, same) given =
-    sym (none_ended 1 old.service.lines new.service.lines (λ q w. ap (λ (e : ExchangeParts). (line_at e.service.lines q).stage) same))
+    sym (none_ended 1 old.service.connections new.service.connections (λ q w. ap (λ (e : ExchangeParts). (connection_at e.service.connections q).stage) same))
 said_ended old new (Connect space) (Refused NoMemory) (full, same) given =
-    sym (none_ended 1 old.service.lines new.service.lines (λ q w. ap (λ (e : ExchangeParts). (line_at e.service.lines q).stage) same))
+    sym (none_ended 1 old.service.connections new.service.connections (λ q w. ap (λ (e : ExchangeParts). (connection_at e.service.connections q).stage) same))
 said_ended old new (Connect space) Done obeys given = absurd obeys
 said_ended old new (Connect space) (Ended number) obeys given = absurd obeys
 said_ended old new (Piece place bytes) said (occurs, e) given =
@@ -422,12 +422,12 @@ said_ended old new (Piece place bytes) said (occurs, e) given =
 said_ended old new (Finish place) said (occurs, e) given =
     place_ended place old new (Finish place) said given (λ q other w. others_stay MayLack (Finish place) old new occurs.0 q occurs.1 other w) e
 said_ended old new (Reading moment) said (occurs, e) given =
-    ap ended_text e ∙ sym (none_ended 1 old.service.lines new.service.lines (λ q w. others_stay MayLack (Reading moment) old new occurs.0 q occurs.1 tt w))
+    ap ended_text e ∙ sym (none_ended 1 old.service.connections new.service.connections (λ q w. others_stay MayLack (Reading moment) old new occurs.0 q occurs.1 tt w))
 said_ended old new Copy said (occurs, e) given =
-    ap ended_text e ∙ sym (none_ended 1 old.service.lines new.service.lines (λ q w. others_stay MayLack Copy old new occurs.0 q occurs.1 tt w))
+    ap ended_text e ∙ sym (none_ended 1 old.service.connections new.service.connections (λ q w. others_stay MayLack Copy old new occurs.0 q occurs.1 tt w))
 
 -- a command was obeyed, and what is printed for it is this text
-wired : (old between new : ExchangeSlots) (event : Event) (said : Obeyed) (line text : List ℕ) (parts : ExchangeParts) → Shows old parts
+wired : (old between new : RoomyExchange) (event : Event) (said : Obeyed) (line text : List ℕ) (parts : ExchangeParts) → Shows old parts
     → IsSpelled event line → ObeysIn old event said between
     → ((after : ExchangeParts) → Shows between after → (text ≡ said_text said after) × Shows new (all_emptied after))
     → (last : ExchangeParts) × WiresLine parts line text last × Shows new last
@@ -442,7 +442,7 @@ wired old between new event said line text parts shows spells obeyed answered =
         said = said;
         between = after;
         obeys = obeys;
-        text_is = text_is ∙ ap (λ t. connect_text said ++ outputs_text 1 after.service.lines ++ t) (said_ended parts after event said obeys given);
+        text_is = text_is ∙ ap (λ t. connect_text said ++ outputs_text 1 after.service.connections ++ t) (said_ended parts after event said obeys given);
         new_is = refl;
       },
       shown,
@@ -451,7 +451,7 @@ wired old between new event said line text parts shows spells obeyed answered =
 not_none : {X : Type 0} {Q : Type 0} (x : X) → IsNone (Some x) → Q
 not_none x none = absurd (cc (none))
 
-module _ (old between new : ExchangeSlots) (event : Event) (said : Obeyed) (line text : List ℕ) (number : ℕ) (before after : Option (List ℕ))
+module _ (old between new : RoomyExchange) (event : Event) (said : Obeyed) (line text : List ℕ) (number : ℕ) (before after : Option (List ℕ))
     (spells : IsSpelled event line) (obeyed : ObeysIn old event said between)
     (answered : (parts : ExchangeParts) → Shows between parts → (text ≡ said_text said parts) × Shows new (all_emptied parts)) where
   pub line_goes_on : Appends before after text → EndsWireLine old new before after line number None
@@ -465,18 +465,18 @@ module _ (old between new : ExchangeSlots) (event : Event) (said : Obeyed) (line
       (last, (front, (back, subst (λ t. WiresLine parts line t last) is wires, appended)), not_none exit.DeviceFailed)
 
 -- the lines that were obeyed so far, by an exchange
-pub record WiredSoFar (start : ExchangeParts) (bytes rest before now : Option (List ℕ)) (exchange : ExchangeSlots) (number : ℕ) : Type 0 where
+pub record WiredSoFar (start : ExchangeParts) (bytes rest before now : Option (List ℕ)) (exchange : RoomyExchange) (number : ℕ) : Type 0 where
   pub parts : ExchangeParts
   pub shows : Shows exchange parts
   pub so_far : ObeyedSoFar WiresLine start bytes rest before now parts number
 
-pub none_wired : (start : ExchangeParts) (bytes before : Option (List ℕ)) (held : List ℕ) (exchange : ExchangeSlots) → held ≡ [] → Shows exchange start
+pub none_wired : (start : ExchangeParts) (bytes before : Option (List ℕ)) (held : List ℕ) (exchange : RoomyExchange) → held ≡ [] → Shows exchange start
     → WiredSoFar start bytes (prepend_known held bytes) before before exchange 1
 none_wired start bytes before held exchange none shows =
     record { parts = start; shows = shows; so_far = none_obeyed ExchangeParts WiresLine IsNoWire start bytes before held none }
 
 module _ (start : ExchangeParts) (line : List ℕ) (number : ℕ) (before now bytes rest left : Option (List ℕ)) where
-  pub empty_wired : (exchange : ExchangeSlots) → length line ≡ 0 → WiredSoFar start bytes rest before now exchange number → ReadsLine rest left line next.Line
+  pub empty_wired : (exchange : RoomyExchange) → length line ≡ 0 → WiredSoFar start bytes rest before now exchange number → ReadsLine rest left line next.Line
       → WiredSoFar start bytes left before now exchange (number + 1)
   empty_wired exchange empty wired read = record {
     parts = wired.parts;
@@ -484,7 +484,7 @@ module _ (start : ExchangeParts) (line : List ℕ) (number : ℕ) (before now by
     so_far = one_empty_line ExchangeParts WiresLine IsNoWire start wired.parts line number before now bytes rest left empty wired.so_far read;
   }
 
-  pub line_wired : (old new : ExchangeSlots) (after : Option (List ℕ)) → 0 < length line → WiredSoFar start bytes rest before now old number → ReadsLine rest left line next.Line
+  pub line_wired : (old new : RoomyExchange) (after : Option (List ℕ)) → 0 < length line → WiredSoFar start bytes rest before now old number → ReadsLine rest left line next.Line
       → EndsWireLine old new now after line number None → WiredSoFar start bytes left before after new (number + 1)
   line_wired old new after some wired read ends =
       let (last, line_ends, shown) = ends wired.parts wired.shows in
@@ -494,19 +494,19 @@ module _ (start : ExchangeParts) (line : List ℕ) (number : ℕ) (before now by
         so_far = one_command_line ExchangeParts WiresLine IsNoWire start wired.parts last line number before now after bytes rest left some wired.so_far read line_ends;
       }
 
-  pub wired_at_line : (old new : ExchangeSlots) (after : Option (List ℕ)) (exit : Exit) → 0 < length line → WiredSoFar start bytes rest before now old number → ReadsLine rest left line next.Line
+  pub wired_at_line : (old new : RoomyExchange) (after : Option (List ℕ)) (exit : Exit) → 0 < length line → WiredSoFar start bytes rest before now old number → ReadsLine rest left line next.Line
       → EndsWireLine old new now after line number (Some exit) → WiresScript start bytes before after exit
   wired_at_line old new after exit some wired read ends =
       let (last, line_ends, shown) = ends wired.parts wired.shows in
       stops_at_line ExchangeParts WiresLine IsNoWire start wired.parts last line number before now after bytes rest left exit some wired.so_far read line_ends
 
-  pub wired_too_long : (exchange : ExchangeSlots) → WiredSoFar start bytes rest before now exchange number → ReadsLine rest left line next.TooLong → WiresScript start bytes before now (exit.BadLine number)
+  pub wired_too_long : (exchange : RoomyExchange) → WiredSoFar start bytes rest before now exchange number → ReadsLine rest left line next.TooLong → WiresScript start bytes before now (exit.BadLine number)
   wired_too_long exchange wired read = stops_too_long ExchangeParts WiresLine IsNoWire start wired.parts line number before now bytes rest left wired.so_far read
 
-  pub wired_done : (exchange : ExchangeSlots) → WiredSoFar start bytes rest before now exchange number → ReadsLine rest left line next.End → WiresScript start bytes before now exit.Done
+  pub wired_done : (exchange : RoomyExchange) → WiredSoFar start bytes rest before now exchange number → ReadsLine rest left line next.End → WiresScript start bytes before now exit.Done
   wired_done exchange wired read = stops_done ExchangeParts WiresLine IsNoWire start wired.parts line number before now bytes rest left wired.so_far read
 
-module _ (start : ExchangeParts) (number : ℕ) (before now bytes rest : Option (List ℕ)) (exchange : ExchangeSlots) (wired : WiredSoFar start bytes rest before now exchange number) where
+module _ (start : ExchangeParts) (number : ℕ) (before now bytes rest : Option (List ℕ)) (exchange : RoomyExchange) (wired : WiredSoFar start bytes rest before now exchange number) where
   pub wired_without_memory : WiresScript start bytes before now exit.NoMemory
   wired_without_memory = stops_without_memory ExchangeParts WiresLine IsNoWire start wired.parts number before now now bytes rest wired.so_far (Appends-nil now)
 

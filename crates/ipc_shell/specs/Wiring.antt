@@ -5,12 +5,12 @@ use Rattle.std.specs.Fmt.{decimal}
 use Rattle.hex.specs.Hex.{encode_lower}
 use Rattle.ipc_words.specs.Limits.{max_entries, max_calls, max_connections}
 use Rattle.ipc_core.specs.declared.kernel.Limits.{Limits}
-use Rattle.ipc_exchange.specs.Service.{Line, line_at, without_bytes}
+use Rattle.ipc_exchange.specs.Service.{ConnectionParts, connection_at, without_bytes}
 use Rattle.ipc_exchange.specs.Serving.{Asked, MayLack}
 use Rattle.ipc_exchange.specs.Feeding.{has_finished}
 use Rattle.ipc_exchange.specs.Events.{Event, Connect, Piece, Finish, Reading, Copy, ExchangeParts}
 use Rattle.ipc_exchange.specs.Events.{Happens, empty_exchange}
-use Rattle.ipc_exchange.specs.Exchange.{ExchangeSlots, Shows}
+use Rattle.ipc_exchange.specs.Exchange.{RoomyExchange, Shows}
 use Rattle.ipc_exchange.specs.declared.progress.ConnectRefused.TheVariants.{TooMany, NoMemory}
 use Rattle.ipc_exchange.specs.declared.progress.Progress.{Progress}
 use Rattle.ipc_exchange.specs.declared.progress.Progress.TheVariants as progress
@@ -29,8 +29,8 @@ first_exchange limits =
 -- the connection of an event was given
 abbrev pub IsGiven : ExchangeParts → Event → Type 0
 IsGiven old (Connect space) = ⊤
-IsGiven old (Piece place bytes) = place < length old.service.lines
-IsGiven old (Finish place) = place < length old.service.lines
+IsGiven old (Piece place bytes) = place < length old.service.connections
+IsGiven old (Finish place) = place < length old.service.connections
 IsGiven old (Reading moment) = ⊤
 IsGiven old Copy = ⊤
 
@@ -40,18 +40,18 @@ Occurs old event new = (asked : List Asked) × Happens MayLack old event asked n
 
 -- a connection is given the next number, or is refused, and then all is as it was
 abbrev pub Connects : ExchangeParts → ℕ → Obeyed → ExchangeParts → Type 0
-Connects old space (Connected number) new = (number ≡ length old.service.lines + 1)
+Connects old space (Connected number) new = (number ≡ length old.service.connections + 1)
     × (number ≤ max_connections) × Occurs old (Connect space) new
 Connects old space (Refused TooMany) new =
-    (max_connections ≤ length old.service.lines) × (new ≡ old)
+    (max_connections ≤ length old.service.connections) × (new ≡ old)
 Connects old space (Refused NoMemory) new =
-    (length old.service.lines < max_connections) × (new ≡ old)
+    (length old.service.connections < max_connections) × (new ≡ old)
 Connects old space Done new = ⊥
 Connects old space (Ended number) new = ⊥
 
 -- whether the connection in a place has ended
 abbrev pub has_ended : ExchangeParts → ℕ → Bool
-has_ended exchange place = has_finished (line_at exchange.service.lines place).stage
+has_ended exchange place = has_finished (connection_at exchange.service.connections place).stage
 
 -- how a connection goes on that has ended, or has not
 abbrev pub progress_if : Bool → Progress
@@ -75,12 +75,12 @@ Obeys old (Reading moment) said new = Occurs old (Reading moment) new × (said �
 Obeys old Copy said new = Occurs old Copy new × (said ≡ Done)
 
 -- what a command makes of an exchange, whatever parts it stands for; the connection was given
-abbrev pub ObeysIn : ExchangeSlots → Event → Obeyed → ExchangeSlots → Type 0
+abbrev pub ObeysIn : RoomyExchange → Event → Obeyed → RoomyExchange → Type 0
 ObeysIn old event said new = (parts : ExchangeParts) → Shows old parts → IsGiven parts event
     × ((after : ExchangeParts) × Obeys parts event said after × Shows new after)
 
 -- the connection of an event was never given
-abbrev pub WasNeverGiven : ExchangeSlots → Event → Type 0
+abbrev pub WasNeverGiven : RoomyExchange → Event → Type 0
 WasNeverGiven old event = (parts : ExchangeParts) → Shows old parts → IsGiven parts event → ⊥
 
 -- the line that answers `connect`
@@ -98,9 +98,10 @@ output_text number (byte ∷ bytes) =
     ended (codes "out " ++ decimal number ++ codes " " ++ encode_lower (byte ∷ bytes))
 
 -- those of connections in order, of which the first has this number
-abbrev pub outputs_text : ℕ → List Line → List ℕ
+abbrev pub outputs_text : ℕ → List ConnectionParts → List ℕ
 outputs_text number [] = []
-outputs_text number (line ∷ lines) = output_text number line.out ++ outputs_text (number + 1) lines
+outputs_text number (connection ∷ connections) =
+    output_text number connection.out ++ outputs_text (number + 1) connections
 
 -- the line of a connection that ended
 abbrev pub ended_text : Obeyed → List ℕ
@@ -111,61 +112,61 @@ ended_text Done = []
 
 -- the lines of the connections that went on before and have ended now, in order, of which the first
 -- has this number
-abbrev pub ended_texts : ℕ → List Line → List Line → List ℕ
+abbrev pub ended_texts : ℕ → List ConnectionParts → List ConnectionParts → List ℕ
 ended_texts number [] news = []
 ended_texts number (old ∷ olds) news =
-    ended_text (ends_here (has_finished old.stage) (has_finished (line_at news 0).stage) number)
+    ended_text (ends_here (has_finished old.stage) (has_finished (connection_at news 0).stage) number)
     ++ ended_texts (number + 1) olds (drop 1 news)
 
 -- what is printed for a command, by which the one exchange became the other
 abbrev pub wire_text : Obeyed → ExchangeParts → ExchangeParts → List ℕ
-wire_text said old new = connect_text said ++ outputs_text 1 new.service.lines
-    ++ ended_texts 1 old.service.lines new.service.lines
+wire_text said old new = connect_text said ++ outputs_text 1 new.service.connections
+    ++ ended_texts 1 old.service.connections new.service.connections
 
 -- the same where no connection ended but the one that is told
 abbrev pub said_text : Obeyed → ExchangeParts → List ℕ
 said_text said new =
-    connect_text said ++ outputs_text 1 new.service.lines ++ ended_text said
+    connect_text said ++ outputs_text 1 new.service.connections ++ ended_text said
 
 -- all bytes of a connection went out
-abbrev pub emptied : Line → Line
-emptied line = record { space = line.space; stage = line.stage; version = line.version; out = [] }
+abbrev pub emptied : ConnectionParts → ConnectionParts
+emptied connection = record { space = connection.space; stage = connection.stage; version = connection.version; out = [] }
 
-abbrev pub with_lines : ExchangeParts → List Line → ExchangeParts
-with_lines old lines = record {
-  service = record { kernel = old.service.kernel; lines = lines };
+abbrev pub with_connections : ExchangeParts → List ConnectionParts → ExchangeParts
+with_connections old connections = record {
+  service = record { kernel = old.service.kernel; connections = connections };
   held = old.held;
 }
 
 abbrev pub emptied_at : ExchangeParts → ℕ → ExchangeParts
-emptied_at old place = with_lines old
-    (slice_set old.service.lines place (emptied (line_at old.service.lines place)))
+emptied_at old place = with_connections old
+    (slice_set old.service.connections place (emptied (connection_at old.service.connections place)))
 
 abbrev pub all_emptied : ExchangeParts → ExchangeParts
-all_emptied old = with_lines old (map emptied old.service.lines)
+all_emptied old = with_connections old (map emptied old.service.connections)
 
 -- up to so many bytes of the connection in a place go out: a piece begins with them
 pub record PutsSome (parts : ExchangeParts) (place room count : ℕ)
-    (piece : List ℕ) (new : ExchangeSlots) : Type 0 where
-  pub count_is : count ≡ min room (length (line_at parts.service.lines place).out)
-  pub begins : take count piece ≡ take count (line_at parts.service.lines place).out
+    (piece : List ℕ) (new : RoomyExchange) : Type 0 where
+  pub count_is : count ≡ min room (length (connection_at parts.service.connections place).out)
+  pub begins : take count piece ≡ take count (connection_at parts.service.connections place).out
   pub shows : Shows new (record parts { service = without_bytes place count parts.service })
 
 -- all bytes of the connection in a place go out
-abbrev pub PutsAll : ExchangeParts → ℕ → List ℕ → ExchangeSlots → Type 0
+abbrev pub PutsAll : ExchangeParts → ℕ → List ℕ → RoomyExchange → Type 0
 PutsAll parts place bytes new =
-    (bytes ≡ (line_at parts.service.lines place).out) × Shows new (emptied_at parts place)
+    (bytes ≡ (connection_at parts.service.connections place).out) × Shows new (emptied_at parts place)
 
 -- and are written as a line
-abbrev pub WritesOutput : ExchangeParts → ℕ → List ℕ → List ℕ → ExchangeSlots → Type 0
+abbrev pub WritesOutput : ExchangeParts → ℕ → List ℕ → List ℕ → RoomyExchange → Type 0
 WritesOutput parts place before after new =
-    (after ≡ before ++ output_text (place + 1) (line_at parts.service.lines place).out)
+    (after ≡ before ++ output_text (place + 1) (connection_at parts.service.connections place).out)
     × Shows new (emptied_at parts place)
 
 -- all bytes of each connection go out, and are written as a line each
-abbrev pub WritesOutputs : ExchangeParts → List ℕ → List ℕ → ExchangeSlots → Type 0
+abbrev pub WritesOutputs : ExchangeParts → List ℕ → List ℕ → RoomyExchange → Type 0
 WritesOutputs parts before after new =
-    (after ≡ before ++ outputs_text 1 parts.service.lines) × Shows new (all_emptied parts)
+    (after ≡ before ++ outputs_text 1 parts.service.connections) × Shows new (all_emptied parts)
 
 -- a line that spells a command whose connection was given: what is printed for it; then all bytes
 -- went out
@@ -190,7 +191,7 @@ WiresScript start bytes before after exit =
     RunsLines WiresLine IsNoWire start bytes before after exit
 
 -- how a line ends, whatever parts the exchange stands for
-abbrev pub EndsWireLine : ExchangeSlots → ExchangeSlots → Option (List ℕ) → Option (List ℕ)
+abbrev pub EndsWireLine : RoomyExchange → RoomyExchange → Option (List ℕ) → Option (List ℕ)
     → List ℕ → ℕ → Option Exit → Type 0
 EndsWireLine old new before after line number exit = (parts : ExchangeParts) → Shows old parts
     → (last : ExchangeParts)

@@ -182,8 +182,8 @@ fn end(exchange: &mut Exchange, place: usize) -> Option<Obeyed>
 
 /// The number of the connection in a place, if it was given.
 fn connection_in(exchange: &Exchange, place: usize) -> Option<usize>
-    ensures { MatchOption result (length exchange.now.service.slots ≤ place) (λ connection.
-        (connection ≡ place + 1) × (place < length exchange.now.service.slots)) }
+    ensures { MatchOption result (length exchange.now.service.connections ≤ place) (λ connection.
+        (connection ≡ place + 1) × (place < length exchange.now.service.connections)) }
 {
     if place < exchange.connections() {
         Some(place + 1)
@@ -280,7 +280,7 @@ fn write_output(
     requires room { 0 < length piece.old }
     requires number { 0 < connection }
     ensures { OnOk result ((place : ℕ) (parts : ExchangeParts) → connection ≡ place + 1
-        → place < length parts.service.lines → Shows exchange.old parts
+        → place < length parts.service.connections → Shows exchange.old parts
         → WritesOutput parts place (string_bytes text.old) (string_bytes text.new) exchange.new) }
 {
     let bytes = take_output(alloc, exchange, connection, piece)?;
@@ -301,7 +301,7 @@ fn take_output(
     requires room { 0 < length piece.old }
     requires number { 0 < connection }
     ensures { IfOk result (λ bytes. (place : ℕ) (parts : ExchangeParts) → connection ≡ place + 1
-        → place < length parts.service.lines → Shows exchange.old parts
+        → place < length parts.service.connections → Shows exchange.old parts
         → PutsAll parts place bytes.items exchange.new) }
 {
     let mut bytes = Vec::new(alloc);

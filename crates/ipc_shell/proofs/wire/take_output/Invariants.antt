@@ -7,5 +7,5 @@ use Rattle.ipc_shell.proofs.wire.take_output.Given as goal
 
 abbrev pub invariant-loop-turn : goal.invariant-loop-turn
 invariant-loop-turn l = (place : ℕ) (parts : ExchangeParts) → l.fn.connection ≡ place + 1
-    → place < length parts.service.lines → Shows l.fn.exchange parts
+    → place < length parts.service.connections → Shows l.fn.exchange parts
     → TakenOut parts place l.bytes.items l.exchange

@@ -8,5 +8,5 @@ use Rattle.ipc_shell.proofs.wire.write_outputs.Given as goal
 
 abbrev pub invariant-loop-turn : goal.invariant-loop-turn
 invariant-loop-turn l = (parts : ExchangeParts) → Shows l.fn.exchange parts
-    → (l._turn ≤ l.behind) × (l.behind ≤ length parts.service.lines)
+    → (l._turn ≤ l.behind) × (l.behind ≤ length parts.service.connections)
     × WrittenTo parts l.behind (string_bytes l.fn.text) (string_bytes l.text) l.exchange

@@ -10,10 +10,10 @@ returns-then-connection-eq0-clause-happened c = rw (← c.self.view_is) (λ plac
 ]))
 
 pub returns-then-has_finished-clause-happened : goal.returns-then-has_finished-clause-happened
-returns-then-has_finished-clause-happened c = rw (← c.self.view_is) (λ place at. not_closed (record { service = c.self.inside.service; decoders = c.self.inside.decoders.items }) place (ended_there c.self.inside.service.slots c.args.connection place at (sym c.has_finished.ensures ∙ c.if-has_finished.true)))
+returns-then-has_finished-clause-happened c = rw (← c.self.view_is) (λ place at. not_closed (record { service = c.self.inside.service; decoders = c.self.inside.decoders.items }) place (ended_there c.self.inside.service.connections c.args.connection place at (sym c.has_finished.ensures ∙ c.if-has_finished.true)))
 
 pub invariant_of-self : goal.invariant_of-self
-invariant_of-self c = end_keeps (record { service = c.self.inside.service; decoders = c.self.inside.decoders.items }) c.args.connection c.close_line.new.service c.close_line.new.decoder c.index_mut.result.now c.self.invariant c.if-connection-eq0.false (omega (arith, c.if-connection-len.false, c.len.ensures)) (sym c.has_finished.ensures ∙ c.if-has_finished.false) c.index_mut.ensures.value c.close_line.ensures.closed c.close_line.ensures.ready
+invariant_of-self c = end_keeps (record { service = c.self.inside.service; decoders = c.self.inside.decoders.items }) c.args.connection c.close_connection.new.service c.close_connection.new.decoder c.index_mut.result.now c.self.invariant c.if-connection-eq0.false (omega (arith, c.if-connection-len.false, c.len.ensures)) (sym c.has_finished.ensures ∙ c.if-has_finished.false) c.index_mut.ensures.value c.close_connection.ensures.closed c.close_connection.ensures.ready
 
 pub returns-clause-happened : goal.returns-clause-happened
-returns-clause-happened c = λ place at. end_happens (record { service = c.self.inside.service; decoders = c.self.inside.decoders.items }) c.args.connection c.close_line.new.service c.close_line.new.decoder c.index_mut.result.now c.self.invariant c.if-connection-eq0.false (omega (arith, c.if-connection-len.false, c.len.ensures)) (sym c.has_finished.ensures ∙ c.if-has_finished.false) c.index_mut.ensures.value c.close_line.ensures.closed c.args.self.now place c.self.view_is at
+returns-clause-happened c = λ place at. end_happens (record { service = c.self.inside.service; decoders = c.self.inside.decoders.items }) c.args.connection c.close_connection.new.service c.close_connection.new.decoder c.index_mut.result.now c.self.invariant c.if-connection-eq0.false (omega (arith, c.if-connection-len.false, c.len.ensures)) (sym c.has_finished.ensures ∙ c.if-has_finished.false) c.index_mut.ensures.value c.close_connection.ensures.closed c.args.self.now place c.self.view_is at

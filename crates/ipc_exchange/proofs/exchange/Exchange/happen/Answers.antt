@@ -1,7 +1,7 @@
 use Rattle.std.proofs.Common.{List, ℕ, ap, length, min, take, ◌∙◌, arith}
 use Rattle.std.proofs.lemmas.List.{with_items_is}
-use Rattle.ipc_exchange.specs.Service.{line_at}
-use Rattle.ipc_exchange.specs.Slots.{service_of}
+use Rattle.ipc_exchange.specs.Service.{connection_at}
+use Rattle.ipc_exchange.specs.Rooms.{service_of}
 use Rattle.ipc_exchange.proofs.RunningLemmas.{connected_replied, copy_replied, finish_replied, output_replied, piece_replied, reading_replied, refused_replied}
 use Rattle.ipc_exchange.proofs.exchange.Exchange.happen.Goals as goal
 
@@ -29,5 +29,5 @@ returns-in-Output c =
     let whole = with_items_is c.in-Output.bytes c.output-count.new.out (omega (arith, c.output-count.auto.out, same, c.in-Output.bytes.ok)) in
     output_replied c.args.self.now c.output-count.new.self c.args.event _ c.output-count.result c.in-Output.bytes c.truncate.new.self c.output-count.new.out c.in-Output.is
     (c.truncate.ensures.items ∙ ap (take c.output-count.result) whole)
-    (λ place at. c.output-count.ensures.count place at ∙ ap (λ (l : List ℕ). min (length l) (length (line_at (service_of c.args.self.now.service).lines place).out)) c.deref_mut.ensures.value)
+    (λ place at. c.output-count.ensures.count place at ∙ ap (λ (l : List ℕ). min (length l) (length (connection_at (service_of c.args.self.now.service).connections place).out)) c.deref_mut.ensures.value)
     c.output-count.ensures.bytes c.output-count.ensures.left c.output-count.ensures.zero c.output-count.ensures.none

@@ -1,6 +1,6 @@
 use Rattle.std.proofs.Common.{◌≡◌}
 use Rattle.ipc_exchange.specs.Service.{delivered_to}
-use Rattle.ipc_exchange.specs.Slots.{StaysReady, service_of}
+use Rattle.ipc_exchange.specs.Rooms.{StaysReady, service_of}
 use Rattle.ipc_exchange.proofs.service.Service.deliver.Given as goal
 
 abbrev pub invariant-loop-number : goal.invariant-loop-number

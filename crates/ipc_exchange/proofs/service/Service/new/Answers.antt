@@ -1,5 +1,5 @@
 use Rattle.std.proofs.Common.{length, arith, refl}
-use Rattle.ipc_exchange.specs.Slots.{no_slots}
+use Rattle.ipc_exchange.specs.Rooms.{roomless}
 use Rattle.ipc_exchange.proofs.ReadyLemmas.{ended}
 use Rattle.ipc_exchange.proofs.service.Service.new.Goals as goal
 
@@ -8,5 +8,5 @@ returns-clause-ready c = rw c.new-2.ensures (record {
   sound = c.history.ensures.sound;
   placed = λ place thread e. absurd cc;
   table = omega (arith, c.in_ok-table.ensures.len, c.in_ok-table.table.ok);
-  room = λ place. ended c.in_ok-kernel.kernel no_slots refl;
+  room = λ place. ended c.in_ok-kernel.kernel roomless refl;
 })

@@ -1,5 +1,0 @@
-use Rattle.ipc_exchange.proofs.LinesLemmas.{told_listed}
-use Rattle.ipc_exchange.proofs.lines.Lines.push_outcome.Goals as goal
-
-pub invariant_of-self : goal.invariant_of-self
-invariant_of-self c = told_listed c.self.inside.lines.items c.args.place c.push_outcome.new.self (rw (← c.self.view_is) at c.requires.within) c.self.inside.pending c.insert.new.self c.self.invariant c.insert.ensures.count c.insert.ensures.here c.insert.ensures.kept

@@ -14,7 +14,8 @@ use std::marker::Model;
 pub(crate) fn fill(held: &mut Held, piece: &[u8]) -> Result<(usize, bool), FrameFault>
     requires { ForGone held.old (λ bytes. IsUnfinished bytes) }
     ensures fills { ForGone held.old (λ bytes. FillsUp bytes piece.now held.new result) }
-    ensures rest { (used : ℕ) → result ≡ Ok (used, false) → ForGone held.new (λ bytes. IsUnfinished bytes) }
+    ensures rest { (used : ℕ) → result ≡ Ok (used, false)
+        → ForGone held.new (λ bytes. IsUnfinished bytes) }
 {
     let mut used = 0;
     loop {
@@ -73,7 +74,8 @@ impl CallDecoder {
     pub fn take(&mut self, piece: &[u8]) -> Result<(usize, Option<Heard>), FrameFault>
         ensures taken { (bytes : List ℕ) → Holds self.old bytes
             → IsUnfinished bytes × Takes bytes piece.now self.new result }
-        ensures spent { self.old.spent ≡ true → (result ≡ Err FrameFault.Spent) × (self.new ≡ self.old) }
+        ensures spent { self.old.spent ≡ true → (result ≡ Err FrameFault.Spent)
+            × (self.new ≡ self.old) }
     {
         if self.spent {
             return Err(FrameFault::Spent);
@@ -108,8 +110,10 @@ impl CallDecoder {
     ///
     /// F10, F11: as the port says, and nothing was read.
     pub fn read_on<P: PortRead>(&mut self, port: &mut P) -> Option<Result<usize, PortFault>>
-        ensures taken { TakesOn (P.remaining port.old) (P.remaining port.new) self.old self.new result }
-        ensures fails { Fails (P.remaining port.old) (P.remaining port.new) (P.failures port.old) (P.failures port.new) result }
+        ensures taken { TakesOn (P.remaining port.old) (P.remaining port.new)
+            self.old self.new result }
+        ensures fails { Fails (P.remaining port.old) (P.remaining port.new) (P.failures port.old)
+            (P.failures port.new) result }
     {
         if self.spent {
             return None;
@@ -119,8 +123,10 @@ impl CallDecoder {
 
     /// The end of the input. Err: F9 inside a frame, F13 after an error.
     pub fn finish(&mut self) -> Result<(), FrameFault>
-        ensures held { (bytes : List ℕ) → Holds self.old bytes → Finishes bytes self.old self.new result }
-        ensures spent { self.old.spent ≡ true → (result ≡ Err FrameFault.Spent) × (self.new ≡ self.old) }
+        ensures held { (bytes : List ℕ) → Holds self.old bytes
+            → Finishes bytes self.old self.new result }
+        ensures spent { self.old.spent ≡ true → (result ≡ Err FrameFault.Spent)
+            × (self.new ≡ self.old) }
     {
         if self.spent {
             return Err(FrameFault::Spent);

@@ -88,7 +88,8 @@ impl IpcHead {
         ensures none { IsNone result ↔ IsTrue (has_time_point (head_of self.now)) }
         ensures some { IfSome result (λ periods.
             (periods.0 ≡ period_if (sends (head_of self.now)) (send_period self.now.timeouts))
-            × (periods.1 ≡ period_if (receives (head_of self.now)) (receive_period self.now.timeouts))) }
+            × (periods.1 ≡ period_if (receives (head_of self.now))
+            (receive_period self.now.timeouts))) }
     {
         let send = if self.sends() {
             self.timeouts.send()?
@@ -113,11 +114,15 @@ impl IpcHead {
     ) -> Result<StringList, ItemFault>
         requires few { length words.now ≤ max_message_words }
         requires untyped { untyped_of self.now.tag ≤ length words.now }
-        ensures ok { IfOk result (λ list. strings_in (parts_of self.now words.now [] (payload_of payload.entry)) ≡ Ok list) }
-        ensures fault { IfErr (strings_in (parts_of self.now words.now [] (payload_of payload.entry))) (λ fault. result ≡ Err fault) }
-        ensures memory { IsOk (strings_in (parts_of self.now words.now [] (payload_of payload.entry)))
+        ensures ok { IfOk result (λ list. strings_in
+            (parts_of self.now words.now [] (payload_of payload.entry)) ≡ Ok list) }
+        ensures fault { IfErr (strings_in (parts_of self.now words.now []
+            (payload_of payload.entry))) (λ fault. result ≡ Err fault) }
+        ensures memory { IsOk (strings_in (parts_of self.now words.now []
+            (payload_of payload.entry)))
             → IsOkUnless result ItemFault.NoMemory }
-        ensures lean { sends (head_of self.now) && nat_lt 0 (length words.now) ≡ false → IsOk result }
+        ensures lean { sends (head_of self.now) && nat_lt 0 (length words.now)
+            ≡ false → IsOk result }
     {
         if !self.sends() {
             return Ok(StringList::new(alloc));
@@ -136,11 +141,13 @@ impl IpcHead {
         ensures ok { IfOk result (λ list.
             buffers_in (parts_of self.now [] buffer_words.now []) ≡ Ok (unwrap_or list [])) }
         ensures accepted { IfOk result (λ list. is_some list ≡ accepts_strings (head_of self.now)) }
-        ensures fault { IfErr (buffers_in (parts_of self.now [] buffer_words.now [])) (λ fault. result ≡ Err fault) }
+        ensures fault { IfErr (buffers_in (parts_of self.now [] buffer_words.now []))
+            (λ fault. result ≡ Err fault) }
         ensures memory { IsOk (buffers_in (parts_of self.now [] buffer_words.now []))
             → IsOkUnless result ItemFault.NoMemory }
         ensures lean { IsOk (buffers_in (parts_of self.now [] buffer_words.now []))
-            → accepts_strings (head_of self.now) && nat_lt 0 (length buffer_words.now) ≡ false → IsOk result }
+            → accepts_strings (head_of self.now) && nat_lt 0 (length buffer_words.now)
+            ≡ false → IsOk result }
     {
         if !self.accepts_strings() {
             return Ok(None);
@@ -162,8 +169,10 @@ impl IpcHead {
         requires few { length words.now ≤ max_message_words }
         requires untyped { untyped_of self.now.tag ≤ length words.now }
         requires few_buffer_words { length buffer_words.now ≤ max_buffer_words }
-        ensures accepted { IfOk result (λ lists. is_some lists.1 ≡ accepts_strings (head_of self.now)) }
-        ensures reads { Reads ItemFault.NoMemory (lists_in (parts_of self.now words.now buffer_words.now (payload_of payload.entry)))
+        ensures accepted { IfOk result (λ lists. is_some lists.1
+            ≡ accepts_strings (head_of self.now)) }
+        ensures reads { Reads ItemFault.NoMemory
+            (lists_in (parts_of self.now words.now buffer_words.now (payload_of payload.entry)))
             (asks_memory (parts_of self.now words.now buffer_words.now [])) (both_lists result) }
     {
         let buffers = self.buffers(alloc, buffer_words);
@@ -249,15 +258,18 @@ impl IpcHead {
         strings: StringList,
         buffers: Option<BufferList>,
     ) -> Result<Call, AllocError>
-        requires send { periods.0 ≡ period_if (sends (head_of self.now)) (send_period self.now.timeouts) }
-        requires receive { periods.1 ≡ period_if (receives (head_of self.now)) (receive_period self.now.timeouts) }
+        requires send { periods.0 ≡ period_if (sends (head_of self.now))
+            (send_period self.now.timeouts) }
+        requires receive { periods.1 ≡ period_if (receives (head_of self.now))
+            (receive_period self.now.timeouts) }
         requires untyped { untyped_of self.now.tag ≤ length words.now }
         requires few { untyped_of self.now.tag + 2 * length strings ≤ max_message_words }
         requires unsent { sends (head_of self.now) ≡ false → strings ≡ [] }
         requires accepted { is_some buffers ≡ accepts_strings (head_of self.now) }
         ensures ok { IfOk result (λ call.
             call ≡ normal_call (parts_of self.now words.now [] []) strings (unwrap_or buffers [])) }
-        ensures lean { sends (head_of self.now) && nat_lt 0 (length words.now) ≡ false → IsOk result }
+        ensures lean { sends (head_of self.now) && nat_lt 0 (length words.now)
+            ≡ false → IsOk result }
     {
         are_buffers(&buffers);
         let words = copy_words(alloc, self.untyped_words(words))?;
@@ -287,7 +299,8 @@ impl IpcHead {
         requires words { length words.now ≡ words_of self.now.tag }
         requires few_words { words_of self.now.tag ≤ max_message_words }
         requires few_buffer_words { length buffer_words.now ≤ max_buffer_words }
-        ensures { Reads FrameFault.NoMemory (call_of (parts_of self.now words.now buffer_words.now (payload_of payload.entry)))
+        ensures { Reads FrameFault.NoMemory (call_of
+            (parts_of self.now words.now buffer_words.now (payload_of payload.entry)))
             (asks_memory (parts_of self.now words.now buffer_words.now [])) result }
     {
         let Some(periods) = self.periods() else {

@@ -125,9 +125,11 @@ fn read_behind<P: PortRead>(
 ) -> Option<Result<usize, PortFault>>
     requires some { 0 < most }
     requires few { length payload.old.items + most < 2 ^ 32 }
-    ensures read { ReadsInto (P.remaining port.old) (P.remaining port.new) payload.old.items payload.new.items most result }
+    ensures read { ReadsInto (P.remaining port.old) (P.remaining port.new) payload.old.items
+        payload.new.items most result }
     ensures within { length payload.new.items ≤ length payload.old.items + most }
-    ensures fails { Fails (P.remaining port.old) (P.remaining port.new) (P.failures port.old) (P.failures port.new) result }
+    ensures fails { Fails (P.remaining port.old) (P.remaining port.new) (P.failures port.old)
+        (P.failures port.new) result }
 {
     let len = payload.len();
     let Ok(()) = payload.resize(len + most, 0) else {
@@ -281,8 +283,10 @@ impl Held {
     /// Reads on from a port straight into the memory of a payload of which some has come, less than what is left of it. None where
     /// nothing is read.
     pub(crate) fn read_on<P: PortRead>(&mut self, port: &mut P) -> Option<Result<usize, PortFault>>
-        ensures read { KeepsOn (P.remaining port.old) (P.remaining port.new) self.old self.new result }
-        ensures fails { Fails (P.remaining port.old) (P.remaining port.new) (P.failures port.old) (P.failures port.new) result }
+        ensures read { KeepsOn (P.remaining port.old) (P.remaining port.new)
+            self.old self.new result }
+        ensures fails { Fails (P.remaining port.old) (P.remaining port.new) (P.failures port.old)
+            (P.failures port.new) result }
     {
         let wanted = match self.judge() {
             Judgement::Short(wanted) => wanted,
@@ -303,7 +307,8 @@ impl Held {
 
     /// What the frame says, which is whole. It takes the payload with it.
     pub(crate) fn hear(&mut self, alloc: Global) -> Result<Heard, FrameFault>
-        requires { (gone : List ℕ) × (f : Frame) × AreGone self.old gone × IsWhole (self.old.bytes ++ gone) f }
+        requires { (gone : List ℕ) × (f : Frame) × AreGone self.old gone
+            × IsWhole (self.old.bytes ++ gone) f }
         ensures { (gone : List ℕ) (f : Frame) → AreGone self.old gone
             → IsWhole (self.old.bytes ++ gone) f → HearsOf f result }
     {

@@ -20,9 +20,12 @@ impl Payload<'_> {
     /// The strings that string items spell over it, or the first fault.
     pub(crate) fn strings(self, alloc: Global, words: &[u64]) -> Result<StringList, ItemFault>
         requires { length words.now ≤ max_message_words }
-        ensures ok { IfOk result (λ list. string_reading words.now (payload_of self.entry) ≡ Ok list) }
-        ensures fault { IfErr (string_reading words.now (payload_of self.entry)) (λ fault. result ≡ Err fault) }
-        ensures memory { IsOk (string_reading words.now (payload_of self.entry)) → IsOkUnless result ItemFault.NoMemory }
+        ensures ok { IfOk result (λ list. string_reading words.now
+            (payload_of self.entry) ≡ Ok list) }
+        ensures fault { IfErr (string_reading words.now (payload_of self.entry))
+            (λ fault. result ≡ Err fault) }
+        ensures memory { IsOk (string_reading words.now (payload_of self.entry))
+            → IsOkUnless result ItemFault.NoMemory }
     {
         match self {
             Payload::Lent(bytes) => StringList::read(alloc, words, bytes),

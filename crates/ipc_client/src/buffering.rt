@@ -41,7 +41,8 @@ impl Buffers {
     pub fn of(alloc: Global, parts: &[Substring]) -> Result<Buffers, BufferFault>
         ensures ok { IfOk result (λ buffers. buffers ≡ buffers_of parts.now) }
         ensures fault { IfSome (buffer_fault parts.now) (λ fault. result ≡ Err fault) }
-        ensures memory { IsNone (buffer_fault parts.now) → IfErr result (λ fault. fault ≡ BufferFault.NoMemory) }
+        ensures memory { IsNone (buffer_fault parts.now)
+            → IfErr result (λ fault. fault ≡ BufferFault.NoMemory) }
     {
         if parts.len() > MAX_BUFFER_WORDS / 2 {
             return Err(BufferFault::TooManyWords);

@@ -35,7 +35,8 @@ fn lay_out(
     strings: &StringList,
 ) -> Result<(Vec<u64>, Vec<u8>), AllocError>
     requires { length words.now ≤ max_message_words }
-    ensures registers { IfOk result (λ laid. laid.0.items ≡ words.now ++ simple_words 0 strings.now) }
+    ensures registers { IfOk result (λ laid. laid.0.items ≡ words.now
+        ++ simple_words 0 strings.now) }
     ensures payload { IfOk result (λ laid. laid.1.items ≡ concat strings.now) }
 {
     let mut registers = Vec::with_capacity(alloc, words.len() + 2 * strings.len())?;
@@ -62,7 +63,8 @@ impl Message {
         strings: &StringList,
     ) -> Result<Message, MessageFault>
         ensures ok { IfOk result (λ message. message ≡ message_of label words.now strings.now) }
-        ensures fault { IfSome (message_fault label words.now strings.now) (λ fault. result ≡ Err fault) }
+        ensures fault { IfSome (message_fault label words.now strings.now)
+            (λ fault. result ≡ Err fault) }
         ensures memory { IsNone (message_fault label words.now strings.now)
             → IfErr result (λ fault. fault ≡ MessageFault.NoMemory) }
     {

@@ -93,7 +93,8 @@ impl<R: PortRead, W: PortWrite> Client<R, W> {
     // The same, of a client that may be closed; closes it at a fault.
     fn ask(&mut self, frame: Frame) -> Result<Frame, ClientError>
         ensures ok { IfOk result (λ answered. Answers self.old self.new frame answered) }
-        ensures err { IfErr result (λ error. (is_answer : AnyFrame → Bool) → Fails is_answer self.old self.new frame error) }
+        ensures err { IfErr result (λ error. (is_answer : AnyFrame → Bool)
+            → Fails is_answer self.old self.new frame error) }
         ensures version { self.new.version ≡ self.old.version }
     {
         if self.is_closed {
@@ -137,11 +138,15 @@ impl<R: PortRead, W: PortWrite> Client<R, W> {
     ///
     /// As [`ClientError`] says. The client is then closed.
     pub fn hello(&mut self, number: u16) -> Result<Greeting, ClientError>
-        ensures ok { IfOk result (λ greeting. Answers self.old self.new (Frame.Hello number One) (greeting_frame greeting)) }
-        ensures version { IfOk result (λ greeting. self.new.version ≡ version_after self.old.version One greeting) }
-        ensures err { IfErr result (λ error. Fails greets self.old self.new (Frame.Hello number One) error) }
+        ensures ok { IfOk result (λ greeting. Answers self.old self.new (Frame.Hello number One)
+            (greeting_frame greeting)) }
+        ensures version { IfOk result (λ greeting. self.new.version
+            ≡ version_after self.old.version One greeting) }
+        ensures err { IfErr result (λ error. Fails greets self.old self.new
+            (Frame.Hello number One) error) }
         ensures still { OnErr result (self.new.version ≡ self.old.version) }
-        ensures closed { self.old.is_closed ≡ true → (result ≡ Err ClientError.Closed) × (self.new ≡ self.old) }
+        ensures closed { self.old.is_closed ≡ true → (result ≡ Err ClientError.Closed)
+            × (self.new ≡ self.old) }
     {
         self.hello_version(number, WireVersion::One)
     }
@@ -157,11 +162,15 @@ impl<R: PortRead, W: PortWrite> Client<R, W> {
         number: u16,
         version: WireVersion,
     ) -> Result<Greeting, ClientError>
-        ensures ok { IfOk result (λ greeting. Answers self.old self.new (Frame.Hello number version) (greeting_frame greeting)) }
-        ensures version { IfOk result (λ greeting. self.new.version ≡ version_after self.old.version version greeting) }
-        ensures err { IfErr result (λ error. Fails greets self.old self.new (Frame.Hello number version) error) }
+        ensures ok { IfOk result (λ greeting. Answers self.old self.new (Frame.Hello number version)
+            (greeting_frame greeting)) }
+        ensures version { IfOk result (λ greeting. self.new.version
+            ≡ version_after self.old.version version greeting) }
+        ensures err { IfErr result (λ error. Fails greets self.old self.new
+            (Frame.Hello number version) error) }
         ensures still { OnErr result (self.new.version ≡ self.old.version) }
-        ensures closed { self.old.is_closed ≡ true → (result ≡ Err ClientError.Closed) × (self.new ≡ self.old) }
+        ensures closed { self.old.is_closed ≡ true → (result ≡ Err ClientError.Closed)
+            × (self.new ≡ self.old) }
     {
         let answered = match self.ask(Frame::Hello(number, version)) {
             Ok(answered) => answered,
@@ -183,11 +192,15 @@ impl<R: PortRead, W: PortWrite> Client<R, W> {
     ///
     /// As [`ClientError`] says. The client is then closed.
     pub fn ipc(&mut self, frame: IpcFrame) -> Result<Answer, ClientError>
-        ensures ok { IfOk result (λ answer. Answers self.old self.new (Frame.Ipc frame) (answer_frame answer)) }
-        ensures told { IfOk result (λ answer. answers_call self.old.version (answer_frame answer) ≡ true) }
+        ensures ok { IfOk result (λ answer. Answers self.old self.new (Frame.Ipc frame)
+            (answer_frame answer)) }
+        ensures told { IfOk result (λ answer. answers_call self.old.version
+            (answer_frame answer) ≡ true) }
         ensures version { self.new.version ≡ self.old.version }
-        ensures err { IfErr result (λ error. Fails (answers_call self.old.version) self.old self.new (Frame.Ipc frame) error) }
-        ensures closed { self.old.is_closed ≡ true → (result ≡ Err ClientError.Closed) × (self.new ≡ self.old) }
+        ensures err { IfErr result (λ error. Fails (answers_call self.old.version) self.old self.new
+            (Frame.Ipc frame) error) }
+        ensures closed { self.old.is_closed ≡ true → (result ≡ Err ClientError.Closed)
+            × (self.new ≡ self.old) }
     {
         let answered = match self.ask(Frame::Ipc(frame)) {
             Ok(answered) => answered,
@@ -216,11 +229,15 @@ impl<R: PortRead, W: PortWrite> Client<R, W> {
         dest: ThreadId,
         control: Control,
     ) -> Result<Registers, ClientError>
-        ensures ok { IfOk result (λ answer. Answers self.old self.new (Frame.Exreg dest control) (registers_frame answer)) }
-        ensures told { IfOk result (λ answer. answers_exchange self.old.version (registers_frame answer) ≡ true) }
+        ensures ok { IfOk result (λ answer. Answers self.old self.new (Frame.Exreg dest control)
+            (registers_frame answer)) }
+        ensures told { IfOk result (λ answer. answers_exchange self.old.version
+            (registers_frame answer) ≡ true) }
         ensures version { self.new.version ≡ self.old.version }
-        ensures err { IfErr result (λ error. Fails (answers_exchange self.old.version) self.old self.new (Frame.Exreg dest control) error) }
-        ensures closed { self.old.is_closed ≡ true → (result ≡ Err ClientError.Closed) × (self.new ≡ self.old) }
+        ensures err { IfErr result (λ error. Fails (answers_exchange self.old.version) self.old
+            self.new (Frame.Exreg dest control) error) }
+        ensures closed { self.old.is_closed ≡ true → (result ≡ Err ClientError.Closed)
+            × (self.new ≡ self.old) }
     {
         let answered = match self.ask(Frame::Exreg(dest, control)) {
             Ok(answered) => answered,
@@ -255,11 +272,15 @@ impl<R: PortRead, W: PortWrite> Client<R, W> {
     ) -> Result<Answer, ClientError>
         ensures ok { IfOk result (λ answer. Answers self.old self.new
             (Frame.Ipc (ipc_of to from timeouts message buffers)) (answer_frame answer)) }
-        ensures told { IfOk result (λ answer. answers_call self.old.version (answer_frame answer) ≡ true) }
+        ensures told { IfOk result (λ answer. answers_call self.old.version
+            (answer_frame answer) ≡ true) }
         ensures version { self.new.version ≡ self.old.version }
-        ensures err { IfErr result (λ error. FailsCall self.old self.new (ipc_of to from timeouts message buffers) error) }
-        ensures limits { IsWithheld self.old self.new (ipc_of to from timeouts message buffers) result }
-        ensures closed { self.old.is_closed ≡ true → (result ≡ Err ClientError.Closed) × (self.new ≡ self.old) }
+        ensures err { IfErr result (λ error. FailsCall self.old self.new
+            (ipc_of to from timeouts message buffers) error) }
+        ensures limits { IsWithheld self.old self.new
+            (ipc_of to from timeouts message buffers) result }
+        ensures closed { self.old.is_closed ≡ true → (result ≡ Err ClientError.Closed)
+            × (self.new ≡ self.old) }
     {
         if self.is_closed {
             return Err(ClientError::Closed);
@@ -296,13 +317,17 @@ impl<R: PortRead, W: PortWrite> Client<R, W> {
         send: Timeout,
     ) -> Result<Answer, ClientError>
         ensures ok { IfOk result (λ answer. Answers self.old self.new
-            (Frame.Ipc (ipc_of to 0 (timeouts_of 0 send) message no_buffers)) (answer_frame answer)) }
-        ensures told { IfOk result (λ answer. answers_call self.old.version (answer_frame answer) ≡ true) }
+            (Frame.Ipc (ipc_of to 0 (timeouts_of 0 send) message no_buffers))
+            (answer_frame answer)) }
+        ensures told { IfOk result (λ answer. answers_call self.old.version
+            (answer_frame answer) ≡ true) }
         ensures version { self.new.version ≡ self.old.version }
         ensures err { IfErr result (λ error. FailsCall self.old self.new
             (ipc_of to 0 (timeouts_of 0 send) message no_buffers) error) }
-        ensures limits { IsWithheld self.old self.new (ipc_of to 0 (timeouts_of 0 send) message no_buffers) result }
-        ensures closed { self.old.is_closed ≡ true → (result ≡ Err ClientError.Closed) × (self.new ≡ self.old) }
+        ensures limits { IsWithheld self.old self.new
+            (ipc_of to 0 (timeouts_of 0 send) message no_buffers) result }
+        ensures closed { self.old.is_closed ≡ true → (result ≡ Err ClientError.Closed)
+            × (self.new ≡ self.old) }
     {
         let timeouts = Timeouts::of(Period::NEVER, send.period());
         let buffers = Buffers::none(self.alloc);
@@ -321,13 +346,17 @@ impl<R: PortRead, W: PortWrite> Client<R, W> {
         buffers: Buffers,
     ) -> Result<Answer, ClientError>
         ensures ok { IfOk result (λ answer. Answers self.old self.new
-            (Frame.Ipc (ipc_of 0 from (timeouts_of receive 0) no_message buffers)) (answer_frame answer)) }
-        ensures told { IfOk result (λ answer. answers_call self.old.version (answer_frame answer) ≡ true) }
+            (Frame.Ipc (ipc_of 0 from (timeouts_of receive 0) no_message buffers))
+            (answer_frame answer)) }
+        ensures told { IfOk result (λ answer. answers_call self.old.version
+            (answer_frame answer) ≡ true) }
         ensures version { self.new.version ≡ self.old.version }
         ensures err { IfErr result (λ error. FailsCall self.old self.new
             (ipc_of 0 from (timeouts_of receive 0) no_message buffers) error) }
-        ensures limits { IsWithheld self.old self.new (ipc_of 0 from (timeouts_of receive 0) no_message buffers) result }
-        ensures closed { self.old.is_closed ≡ true → (result ≡ Err ClientError.Closed) × (self.new ≡ self.old) }
+        ensures limits { IsWithheld self.old self.new
+            (ipc_of 0 from (timeouts_of receive 0) no_message buffers) result }
+        ensures closed { self.old.is_closed ≡ true → (result ≡ Err ClientError.Closed)
+            × (self.new ≡ self.old) }
     {
         let timeouts = Timeouts::of(receive.period(), Period::NEVER);
         let message = Message::empty(self.alloc);
@@ -348,13 +377,17 @@ impl<R: PortRead, W: PortWrite> Client<R, W> {
         buffers: Buffers,
     ) -> Result<Answer, ClientError>
         ensures ok { IfOk result (λ answer. Answers self.old self.new
-            (Frame.Ipc (ipc_of to to (timeouts_of receive send) message buffers)) (answer_frame answer)) }
-        ensures told { IfOk result (λ answer. answers_call self.old.version (answer_frame answer) ≡ true) }
+            (Frame.Ipc (ipc_of to to (timeouts_of receive send) message buffers))
+            (answer_frame answer)) }
+        ensures told { IfOk result (λ answer. answers_call self.old.version
+            (answer_frame answer) ≡ true) }
         ensures version { self.new.version ≡ self.old.version }
         ensures err { IfErr result (λ error. FailsCall self.old self.new
             (ipc_of to to (timeouts_of receive send) message buffers) error) }
-        ensures limits { IsWithheld self.old self.new (ipc_of to to (timeouts_of receive send) message buffers) result }
-        ensures closed { self.old.is_closed ≡ true → (result ≡ Err ClientError.Closed) × (self.new ≡ self.old) }
+        ensures limits { IsWithheld self.old self.new
+            (ipc_of to to (timeouts_of receive send) message buffers) result }
+        ensures closed { self.old.is_closed ≡ true → (result ≡ Err ClientError.Closed)
+            × (self.new ≡ self.old) }
     {
         let timeouts = Timeouts::of(receive.period(), send.period());
         self.ipc_of(to, to, timeouts, message, buffers)
@@ -373,13 +406,17 @@ impl<R: PortRead, W: PortWrite> Client<R, W> {
         buffers: Buffers,
     ) -> Result<Answer, ClientError>
         ensures ok { IfOk result (λ answer. Answers self.old self.new
-            (Frame.Ipc (ipc_of to anythread (timeouts_of receive no_time) message buffers)) (answer_frame answer)) }
-        ensures told { IfOk result (λ answer. answers_call self.old.version (answer_frame answer) ≡ true) }
+            (Frame.Ipc (ipc_of to anythread (timeouts_of receive no_time) message buffers))
+            (answer_frame answer)) }
+        ensures told { IfOk result (λ answer. answers_call self.old.version
+            (answer_frame answer) ≡ true) }
         ensures version { self.new.version ≡ self.old.version }
         ensures err { IfErr result (λ error. FailsCall self.old self.new
             (ipc_of to anythread (timeouts_of receive no_time) message buffers) error) }
-        ensures limits { IsWithheld self.old self.new (ipc_of to anythread (timeouts_of receive no_time) message buffers) result }
-        ensures closed { self.old.is_closed ≡ true → (result ≡ Err ClientError.Closed) × (self.new ≡ self.old) }
+        ensures limits { IsWithheld self.old self.new
+            (ipc_of to anythread (timeouts_of receive no_time) message buffers) result }
+        ensures closed { self.old.is_closed ≡ true → (result ≡ Err ClientError.Closed)
+            × (self.new ≡ self.old) }
     {
         let timeouts = Timeouts::of(receive.period(), Period::ZERO);
         self.ipc_of(to, ThreadId::ANYTHREAD, timeouts, message, buffers)
@@ -393,7 +430,8 @@ impl<R: PortRead, W: PortWrite> Client<R, W> {
     pub fn bye(&mut self) -> Result<(), ClientError>
         ensures ok { OnOk result (SaysBye self.old self.new) }
         ensures err { IfErr result (λ error. FailsBye self.old self.new error) }
-        ensures closed { self.old.is_closed ≡ true → (result ≡ Err ClientError.Closed) × (self.new ≡ self.old) }
+        ensures closed { self.old.is_closed ≡ true → (result ≡ Err ClientError.Closed)
+            × (self.new ≡ self.old) }
     {
         if self.is_closed {
             return Err(ClientError::Closed);

@@ -24,9 +24,12 @@ fn read_part<P: PortRead>(
     held: &mut Vec<u8>,
 ) -> Result<(), FrameFault>
     requires some { 0 < wanted }
-    ensures ok { OnOk result (TakesPart (P.remaining port.old) (P.remaining port.new) held.old.items held.new.items wanted) }
-    ensures err { IfErr result (λ fault. TakesNoPart (P.remaining port.old) (P.remaining port.new) fault) }
-    ensures failed { IfErr result (λ fault. IsDeviceFault fault → P.failures port.old < P.failures port.new) }
+    ensures ok { OnOk result (TakesPart (P.remaining port.old) (P.remaining port.new) held.old.items
+        held.new.items wanted) }
+    ensures err { IfErr result (λ fault. TakesNoPart (P.remaining port.old)
+        (P.remaining port.new) fault) }
+    ensures failed { IfErr result (λ fault. IsDeviceFault fault
+        → P.failures port.old < P.failures port.new) }
     ensures kept { OnOk result (P.failures port.new ≡ P.failures port.old) }
     ensures fewer { OnOk result (P.reads_left port.new < P.reads_left port.old) }
 {
@@ -50,9 +53,12 @@ fn read_part<P: PortRead>(
 /// F1 to F4: the fault that the bytes show, at the byte that shows it. F9: the input ends inside the frame, or before it. F10, F11:
 /// the count of failures rose in this call. F14: there is no memory.
 pub fn read_frame<P: PortRead>(alloc: Global, side: Side, port: &mut P) -> Result<Frame, FrameFault>
-    ensures ok { IfOk result (λ frame. TakesFrame side (P.remaining port.old) (P.remaining port.new) frame) }
-    ensures err { IfErr result (λ fault. TakesNoFrame side (P.remaining port.old) (P.remaining port.new) fault) }
-    ensures failed { IfErr result (λ fault. IsDeviceFault fault → P.failures port.old < P.failures port.new) }
+    ensures ok { IfOk result (λ frame. TakesFrame side (P.remaining port.old)
+        (P.remaining port.new) frame) }
+    ensures err { IfErr result (λ fault. TakesNoFrame side (P.remaining port.old)
+        (P.remaining port.new) fault) }
+    ensures failed { IfErr result (λ fault. IsDeviceFault fault
+        → P.failures port.old < P.failures port.new) }
     ensures kept { OnOk result (P.failures port.new ≡ P.failures port.old) }
 {
     let Ok(mut held) = Vec::with_capacity(alloc, LEAN_FRAME) else {

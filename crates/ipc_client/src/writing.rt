@@ -19,10 +19,12 @@ fn write_piece<P: PortWrite>(
     encoder: &mut Encoder,
     piece: &mut [u8; PIECE],
 ) -> Result<bool, PortFault>
-    ensures wrote { OnOk result (Writes (P.written port.old) (P.written port.new) encoder.old encoder.new) }
+    ensures wrote { OnOk result (Writes (P.written port.old) (P.written port.new)
+        encoder.old encoder.new) }
     ensures more { IfOk result (λ more. more ≡ true → length encoder.new < length encoder.old) }
     ensures done { IfOk result (λ more. more ≡ false → encoder.old ≡ []) }
-    ensures part { OnErr result (AppendsPart (P.written port.old) (P.written port.new) encoder.old) }
+    ensures part { OnErr result (AppendsPart (P.written port.old)
+        (P.written port.new) encoder.old) }
     ensures failed { OnErr result (P.failures port.old < P.failures port.new) }
     ensures kept { OnOk result (P.failures port.new ≡ P.failures port.old) }
 {
@@ -55,9 +57,11 @@ fn write_encoder<P: PortWrite>(port: &mut P, encoder: Encoder) -> Result<(), Por
 ///
 /// F10, F11: the count of failures rose in this call; a front of the frame stands written, or all of it.
 pub fn write_frame<P: PortWrite>(port: &mut P, frame: Frame) -> Result<(), FrameFault>
-    ensures whole { OnOk result (Appends (P.written port.old) (P.written port.new) (spelling frame)) }
+    ensures whole { OnOk result (Appends (P.written port.old) (P.written port.new)
+        (spelling frame)) }
     ensures flushed { OnOk result (P.flushed port.new ≡ true) }
-    ensures front { OnErr result (AppendsFront (P.written port.old) (P.written port.new) (spelling frame)) }
+    ensures front { OnErr result (AppendsFront (P.written port.old) (P.written port.new)
+        (spelling frame)) }
     ensures device { IfErr result (λ fault. IsDeviceFault fault) }
     ensures failed { OnErr result (P.failures port.old < P.failures port.new) }
     ensures kept { OnOk result (P.failures port.new ≡ P.failures port.old) }

@@ -61,7 +61,8 @@ impl BaseRoom {
     pub fn add_number(&mut self, next_version: Option<u32>, dropped: u64)
         requires versions { length self.old.versions < table_slots }
         requires dropped { length self.old.dropped < table_slots }
-        ensures versions { self.new.versions ≡ self.old.versions ++ version_before next_version ∷ [] }
+        ensures versions { self.new.versions ≡ self.old.versions
+            ++ version_before next_version ∷ [] }
         ensures dropped { self.new.dropped ≡ self.old.dropped ++ dropped ∷ [] }
         ensures over { self.new.over ≡ self.old.over }
     {

@@ -112,7 +112,8 @@ impl Course {
         ensures entries { result ≡ self.now.entries }
         ensures legal { Legal self.now.entries }
         ensures counted { (thread : ℕ) → taken_by self.now.entries self.now.taken thread
-            + one_if (is_busy self.now.entries self.now.taken thread) ≡ made_by self.now.entries thread }
+            + one_if (is_busy self.now.entries self.now.taken thread)
+            ≡ made_by self.now.entries thread }
     {
         self.history.whole()
     }
@@ -379,7 +380,8 @@ impl Course {
         ensures books { SameBooks self.old self.new }
         ensures err { OnErr result (self.new.room ≡ self.old.room) }
         ensures memory { OnErr result (self.old.room < length self.old.entries + more) }
-        ensures ample { M.is_ample → length (held_of (history_of self.old)) + more ≤ ample_items → IsOk result }
+        ensures ample { M.is_ample → length (held_of (history_of self.old))
+            + more ≤ ample_items → IsOk result }
     {
         self.history.reserve(memory, more)
     }
@@ -395,12 +397,15 @@ impl Course {
     ) -> Result<(), AllocError>
         requires { pledged self.old.entries + need ≤ more }
         ensures entries { self.new.entries ≡ self.old.entries }
-        ensures ok { OnOk result (length self.new.entries + (pledged self.new.entries + need) ≤ self.new.room) }
+        ensures ok { OnOk result (length self.new.entries
+            + (pledged self.new.entries + need) ≤ self.new.room) }
         ensures room { self.old.room ≤ self.new.room }
         ensures books { SameBooks self.old self.new }
         ensures err { OnErr result (self.new.room ≡ self.old.room) }
-        ensures memory { OnErr result (self.old.room < length self.old.entries + pledged self.old.entries + need) }
-        ensures ample { M.is_ample → length (held_of (history_of self.old)) + (pledged self.old.entries + need) ≤ ample_items
+        ensures memory { OnErr result (self.old.room < length self.old.entries
+            + pledged self.old.entries + need) }
+        ensures ample { M.is_ample → length (held_of (history_of self.old))
+            + (pledged self.old.entries + need) ≤ ample_items
             → IsOk result }
     {
         if self.reserve(memory, more).is_ok() {
@@ -427,12 +432,14 @@ impl Course {
         ensures taken { self.new.taken ≡ self.old.taken }
         ensures since { self.new.since ≡ self.old.since }
         ensures held { self.new.held ≡ self.old.held }
-        ensures fits { OnOk result (length self.new.entries + (pledged self.new.entries + need) ≤ self.new.room) }
+        ensures fits { OnOk result (length self.new.entries
+            + (pledged self.new.entries + need) ≤ self.new.room) }
         ensures call { IfOk result (λ made. made.0 ≡ call) }
         ensures copies { IfOk result (λ made. made.1 ≡ prepared call) }
         ensures back { IfErr result (λ refused. refused ≡ call) }
         ensures err { OnErr result (self.new.room ≡ self.old.room) }
-        ensures ample { M.is_ample → length (held_of (history_of self.old)) + (pledged self.old.entries + need) ≤ ample_items
+        ensures ample { M.is_ample → length (held_of (history_of self.old))
+            + (pledged self.old.entries + need) ≤ ample_items
             → IsOk result }
     {
         let Ok(copies) = Prepared::of(memory, &call) else {
@@ -464,7 +471,8 @@ impl Course {
         requires others { TookOthers self.old.entries self.old.taken }
         ensures entries { self.new.entries ≡ self.old.entries }
         ensures held { self.new.held ≡ kept_to self.old.taken upto (history_of self.old) }
-        ensures less { length (held_of (history_of self.new)) ≤ length (held_of (history_of self.old)) }
+        ensures less { length (held_of (history_of self.new)) ≤ length
+            (held_of (history_of self.old)) }
         ensures room { self.new.room + length (held_of (history_of self.new))
             ≡ self.old.room + length (held_of (history_of self.old)) }
         ensures taken { self.new.taken ≡ self.old.taken }
@@ -486,7 +494,8 @@ impl Course {
         requires live { IsTrue (is_live self.old.entries thread) }
         requires few { length self.old.taken + 1 < 2 ^ 64 }
         ensures given { result ≡ outcome_to_take self.old.entries self.old.taken thread }
-        ensures call { IfSome result (λ outcome. last_call self.old.entries thread ≡ Some outcome.call) }
+        ensures call { IfSome result (λ outcome. last_call self.old.entries thread
+            ≡ Some outcome.call) }
         ensures done { IfSome result (λ outcome. IsTaken self.old.entries outcome.call) }
         ensures fresh { IfSome result (λ outcome. is_among outcome.call self.old.taken ≡ false) }
         ensures taken { self.new.taken ≡ taken_after result self.old.taken }
@@ -546,9 +555,11 @@ impl Course {
 
     /// Appends the At of a moment that is later than the history's.
     fn clock(&mut self, moment: u64)
-        requires follows { IsTrue (nat_lt (now self.old.entries) moment) → Follows self.old.entries (Given (At moment)) }
+        requires follows { IsTrue (nat_lt (now self.old.entries) moment)
+            → Follows self.old.entries (Given (At moment)) }
         requires room { length self.old.entries < self.old.room }
-        ensures entries { self.new.entries ≡ self.old.entries ++ at_if_later self.old.entries moment }
+        ensures entries { self.new.entries ≡ self.old.entries
+            ++ at_if_later self.old.entries moment }
         ensures room { self.new.room ≡ self.old.room }
         ensures books { SameBooks self.old self.new }
     {
@@ -562,10 +573,12 @@ impl Course {
         requires legal { Legal self.old.entries }
         requires quiet { Quiet self.old.entries }
         requires in_range { moment < last_moment + 1 }
-        requires undue { list_any (is_due_at self.old.entries moment) (numbers self.old.entries) ≡ false }
+        requires undue { list_any (is_due_at self.old.entries moment)
+            (numbers self.old.entries) ≡ false }
         requires admissible { IsTrue (is_admissible self.old.entries input) }
         requires no_clock { is_clock input ≡ false }
-        requires room { length self.old.entries + room_owed self.old.entries + command_need input ≤ self.old.room }
+        requires room { length self.old.entries + room_owed self.old.entries
+            + command_need input ≤ self.old.room }
         requires idle { ComesIdle self.old.entries self.old.taken (Given input) }
         requires copies { HasCopies (Given input) copies }
         requires begun { self.old.since ≡ length self.old.entries }
@@ -584,10 +597,12 @@ impl Course {
         requires legal { Legal self.old.entries }
         requires quiet { Quiet self.old.entries }
         requires in_range { moment < last_moment + 1 }
-        requires undue { list_any (is_due_at self.old.entries moment) (numbers self.old.entries) ≡ false }
+        requires undue { list_any (is_due_at self.old.entries moment)
+            (numbers self.old.entries) ≡ false }
         requires admissible { IsTrue (is_admissible self.old.entries input) }
         requires no_clock { is_clock input ≡ false }
-        requires room { length self.old.entries + room_owed self.old.entries + command_need input ≤ self.old.room }
+        requires room { length self.old.entries + room_owed self.old.entries
+            + command_need input ≤ self.old.room }
         requires idle { ComesIdle self.old.entries self.old.taken (Given input) }
         requires copies { HasCopies (Given input) copies }
         ensures legal { Legal self.new.entries }
@@ -610,7 +625,8 @@ impl Course {
         requires quiet { Quiet self.old.entries }
         requires later { now self.old.entries < moment }
         requires in_range { moment < last_moment + 1 }
-        requires due { list_any (is_due_at self.old.entries moment) (numbers self.old.entries) ≡ true }
+        requires due { list_any (is_due_at self.old.entries moment)
+            (numbers self.old.entries) ≡ true }
         requires room { length self.old.entries + room_owed self.old.entries ≤ self.old.room }
         ensures books { SameBooks self.old self.new }
         ensures entries { Continued (self.old.entries ++ Given (At moment) ∷ []) self.new.entries }
@@ -656,7 +672,8 @@ fn note(
 
 /// Adds a thread to those that are named, where it is not yet there.
 fn add(names: &mut Vec<ThreadId>, thread: Option<ThreadId>)
-    requires { IfSome thread (λ t. IsFalse (is_among t names.old.items) → vec_len names.old < vec_capacity names.old) }
+    requires { IfSome thread (λ t. IsFalse (is_among t names.old.items)
+        → vec_len names.old < vec_capacity names.old) }
     ensures items { names.new.items ≡ with_name names.old.items thread }
     ensures capacity { vec_capacity names.new ≡ vec_capacity names.old }
 {

@@ -88,7 +88,8 @@ impl Model for Kernel {
 impl Kernel {
     /// A kernel with an empty history at the moment 0. The only refusal is K4.
     pub fn new(alloc: Global, limits: Limits) -> Result<Kernel, Refusal>
-        ensures ok { IfOk result (λ kernel. kernel ≡ empty_kernel (min limits.entries max_entries) (min limits.calls max_calls)) }
+        ensures ok { IfOk result (λ kernel. kernel
+            ≡ empty_kernel (min limits.entries max_entries) (min limits.calls max_calls)) }
         ensures memory { IfErr result (λ refusal. refusal ≡ Refusal.NoMemory) }
     {
         Kernel::new_in(alloc, limits)
@@ -96,7 +97,8 @@ impl Kernel {
 
     /// A kernel as [`Kernel::new`] makes it, with memory that is lent. Where it is ample K4 does not come.
     pub fn new_in<M: Memory>(memory: M, limits: Limits) -> Result<Kernel, Refusal>
-        ensures ok { IfOk result (λ kernel. kernel ≡ empty_kernel (min limits.entries max_entries) (min limits.calls max_calls)) }
+        ensures ok { IfOk result (λ kernel. kernel
+            ≡ empty_kernel (min limits.entries max_entries) (min limits.calls max_calls)) }
         ensures memory { IfErr result (λ refusal. refusal ≡ Refusal.NoMemory) }
         ensures ample { M.is_ample → IsOk result }
     {
@@ -121,7 +123,8 @@ impl Kernel {
     pub fn now(&self) -> u64
         ensures moment { result ≡ self.now.moment }
         ensures past { now self.now.history ≤ self.now.moment }
-        ensures undue { list_any (is_due_at self.now.history self.now.moment) (numbers self.now.history) ≡ false }
+        ensures undue { list_any (is_due_at self.now.history self.now.moment)
+            (numbers self.now.history) ≡ false }
     {
         let _ = &self.course;
         self.moment
@@ -145,7 +148,8 @@ impl Kernel {
         ensures within { length self.now.history ≤ self.now.entries_limit }
         ensures few { length self.now.history < 2 ^ 63 }
         ensures sound { IsSound self.now }
-        ensures counted { (thread : ℕ) → taken_by self.now thread + one_if (has_untaken self.now thread)
+        ensures counted { (thread : ℕ) → taken_by self.now thread
+            + one_if (has_untaken self.now thread)
             ≡ made_by self.now.history thread }
     {
         self.course.whole()
@@ -297,7 +301,8 @@ impl Kernel {
     pub fn open(&mut self, number: u64, space: u64) -> Result<ThreadId, Refusal>
         ensures ok { IfOk result (λ thread. (open_refusal self.old number space ≡ None)
             × Opens self.old self.new number space thread) }
-        ensures cause { IfErr result (λ refusal. MayRefuse (open_refusal self.old number space) refusal) }
+        ensures cause { IfErr result (λ refusal. MayRefuse
+            (open_refusal self.old number space) refusal) }
         ensures memory { result ≡ Err Refusal.NoMemory → LacksRoomFor self.old open_need }
         ensures err { OnErr result (self.new ≡ self.old) }
         ensures obeys { MayObey self.old (command.Open number space) (open_answer result) self.new }
@@ -315,7 +320,8 @@ impl Kernel {
     ) -> Result<ThreadId, Refusal>
         ensures ok { IfOk result (λ thread. (open_refusal self.old number space ≡ None)
             × Opens self.old self.new number space thread) }
-        ensures cause { IfErr result (λ refusal. MayRefuse (open_refusal self.old number space) refusal) }
+        ensures cause { IfErr result (λ refusal. MayRefuse
+            (open_refusal self.old number space) refusal) }
         ensures memory { result ≡ Err Refusal.NoMemory → LacksRoomFor self.old open_need }
         ensures err { OnErr result (self.new ≡ self.old) }
         ensures obeys { MayObey self.old (command.Open number space) (open_answer result) self.new }
@@ -336,7 +342,8 @@ impl Kernel {
     ) -> Result<ThreadId, Refusal>
         ensures ok { IfOk result (λ thread. (open_refusal self.old number space ≡ None)
             × Opens self.old self.new number space thread) }
-        ensures cause { IfErr result (λ refusal. MayRefuse (open_refusal self.old number space) refusal) }
+        ensures cause { IfErr result (λ refusal. MayRefuse
+            (open_refusal self.old number space) refusal) }
         ensures memory { result ≡ Err Refusal.NoMemory → LacksRoomFor self.old open_need }
         ensures err { OnErr result (self.new ≡ self.old) }
         ensures ample { M.is_ample → IfErr result (λ refusal. refusal ≢ Refusal.NoMemory) }
@@ -366,7 +373,8 @@ impl Kernel {
 
     /// Ends a live thread. Takes no memory. The only refusal is K6.
     pub fn broke(&mut self, thread: ThreadId) -> Result<(), NoThread>
-        ensures ok { OnOk result (IsTrue (is_live self.old.history thread) × Breaks self.old self.new thread) }
+        ensures ok { OnOk result (IsTrue (is_live self.old.history thread)
+            × Breaks self.old self.new thread) }
         ensures gone { OnErr result (is_live self.old.history thread ≡ false) }
         ensures err { OnErr result (self.new ≡ self.old) }
         ensures obeys { MayObey self.old (command.Broke thread) (broke_answer result) self.new }
@@ -379,7 +387,8 @@ impl Kernel {
     }
 
     fn end_thread(&mut self, thread: ThreadId) -> Result<(), NoThread>
-        ensures ok { OnOk result (IsTrue (is_live self.old.history thread) × Breaks self.old self.new thread) }
+        ensures ok { OnOk result (IsTrue (is_live self.old.history thread)
+            × Breaks self.old self.new thread) }
         ensures gone { OnErr result (is_live self.old.history thread ≡ false) }
         ensures err { OnErr result (self.new ≡ self.old) }
     {
@@ -404,8 +413,10 @@ impl Kernel {
 
     fn set_clock(&mut self, now: u64)
         ensures moment { self.new.moment ≡ at_moment self.old now }
-        ensures history { MatchBool (list_any (is_due_at self.old.history (at_moment self.old now)) (numbers self.old.history))
-            (Settled (self.old.history ++ Given (At (at_moment self.old now)) ∷ []) self.new.history)
+        ensures history { MatchBool (list_any (is_due_at self.old.history (at_moment self.old now))
+            (numbers self.old.history))
+            (Settled (self.old.history ++ Given (At (at_moment self.old now)) ∷ [])
+            self.new.history)
             (self.new.history ≡ self.old.history) }
         ensures taken { self.new.taken ≡ self.old.taken }
         ensures since { self.new.since ≡ length self.old.history }
@@ -506,10 +517,12 @@ impl Kernel {
     pub fn enter(&mut self, thread: ThreadId, call: Call) -> Result<u64, EnterRefused>
         ensures ok { IfOk result (λ number. (enter_refusal self.old thread call ≡ None)
             × Enters self.old self.new number thread call) }
-        ensures cause { IfErr result (λ refused. MayRefuse (enter_refusal self.old thread call) refused.refusal) }
+        ensures cause { IfErr result (λ refused. MayRefuse
+            (enter_refusal self.old thread call) refused.refusal) }
         ensures back { IfErr result (λ refused. refused.call ≡ call) }
         ensures err { OnErr result (self.new ≡ self.old) }
-        ensures obeys { MayObey self.old (command.Enter thread call) (enter_answer result) self.new }
+        ensures obeys { MayObey self.old (command.Enter thread call)
+            (enter_answer result) self.new }
         ensures few { length self.new.history ≤ length self.old.history + max_command_entries }
     {
         self.enter_in(self.alloc, thread, call)
@@ -524,10 +537,12 @@ impl Kernel {
     ) -> Result<u64, EnterRefused>
         ensures ok { IfOk result (λ number. (enter_refusal self.old thread call ≡ None)
             × Enters self.old self.new number thread call) }
-        ensures cause { IfErr result (λ refused. MayRefuse (enter_refusal self.old thread call) refused.refusal) }
+        ensures cause { IfErr result (λ refused. MayRefuse
+            (enter_refusal self.old thread call) refused.refusal) }
         ensures back { IfErr result (λ refused. refused.call ≡ call) }
         ensures err { OnErr result (self.new ≡ self.old) }
-        ensures obeys { MayObey self.old (command.Enter thread call) (enter_answer result) self.new }
+        ensures obeys { MayObey self.old (command.Enter thread call)
+            (enter_answer result) self.new }
         ensures few { length self.new.history ≤ length self.old.history + max_command_entries }
         ensures ample { M.is_ample → IfErr result (λ refused. refused.refusal ≢ Refusal.NoMemory) }
     {
@@ -545,7 +560,8 @@ impl Kernel {
     ) -> Result<u64, EnterRefused>
         ensures ok { IfOk result (λ number. (enter_refusal self.old thread call ≡ None)
             × Enters self.old self.new number thread call) }
-        ensures cause { IfErr result (λ refused. MayRefuse (enter_refusal self.old thread call) refused.refusal) }
+        ensures cause { IfErr result (λ refused. MayRefuse
+            (enter_refusal self.old thread call) refused.refusal) }
         ensures back { IfErr result (λ refused. refused.call ≡ call) }
         ensures err { OnErr result (self.new ≡ self.old) }
         ensures ample { M.is_ample → IfErr result (λ refused. refused.refusal ≢ Refusal.NoMemory) }
@@ -605,10 +621,12 @@ impl Kernel {
     ) -> Result<ExregAnswer, Refusal>
         ensures ok { IfOk result (λ answer. (exreg_refusal self.old thread ≡ None)
             × Exchanges self.old self.new thread target control answer) }
-        ensures cause { IfErr result (λ refusal. MayRefuse (exreg_refusal self.old thread) refusal) }
+        ensures cause { IfErr result (λ refusal. MayRefuse
+            (exreg_refusal self.old thread) refusal) }
         ensures memory { result ≡ Err Refusal.NoMemory → LacksRoomFor self.old exreg_need }
         ensures err { OnErr result (self.new ≡ self.old) }
-        ensures obeys { MayObey self.old (command.Exreg thread target control) (exreg_result result) self.new }
+        ensures obeys { MayObey self.old (command.Exreg thread target control)
+            (exreg_result result) self.new }
         ensures few { length self.new.history ≤ length self.old.history + max_command_entries }
     {
         self.exreg_in(self.alloc, thread, target, control)
@@ -624,10 +642,12 @@ impl Kernel {
     ) -> Result<ExregAnswer, Refusal>
         ensures ok { IfOk result (λ answer. (exreg_refusal self.old thread ≡ None)
             × Exchanges self.old self.new thread target control answer) }
-        ensures cause { IfErr result (λ refusal. MayRefuse (exreg_refusal self.old thread) refusal) }
+        ensures cause { IfErr result (λ refusal. MayRefuse
+            (exreg_refusal self.old thread) refusal) }
         ensures memory { result ≡ Err Refusal.NoMemory → LacksRoomFor self.old exreg_need }
         ensures err { OnErr result (self.new ≡ self.old) }
-        ensures obeys { MayObey self.old (command.Exreg thread target control) (exreg_result result) self.new }
+        ensures obeys { MayObey self.old (command.Exreg thread target control)
+            (exreg_result result) self.new }
         ensures few { length self.new.history ≤ length self.old.history + max_command_entries }
         ensures ample { M.is_ample → IfErr result (λ refusal. refusal ≢ Refusal.NoMemory) }
     {
@@ -646,7 +666,8 @@ impl Kernel {
     ) -> Result<ExregAnswer, Refusal>
         ensures ok { IfOk result (λ answer. (exreg_refusal self.old thread ≡ None)
             × Exchanges self.old self.new thread target control answer) }
-        ensures cause { IfErr result (λ refusal. MayRefuse (exreg_refusal self.old thread) refusal) }
+        ensures cause { IfErr result (λ refusal. MayRefuse
+            (exreg_refusal self.old thread) refusal) }
         ensures memory { result ≡ Err Refusal.NoMemory → LacksRoomFor self.old exreg_need }
         ensures err { OnErr result (self.new ≡ self.old) }
         ensures ample { M.is_ample → IfErr result (λ refusal. refusal ≢ Refusal.NoMemory) }
@@ -675,7 +696,8 @@ impl Kernel {
     /// Copies a block of the least call in transfer: 65,536 bytes, or the rest. Takes no memory.
     pub fn advance(&mut self) -> Advance
         ensures moved { result ≡ Advance.Moved → Advances self.old self.new }
-        ensures idle { result ≡ Advance.Idle → (next_moving self.old.history ≡ None) × (self.new ≡ rested self.old) }
+        ensures idle { result ≡ Advance.Idle → (next_moving self.old.history ≡ None)
+            × (self.new ≡ rested self.old) }
         ensures obeys { MayObey self.old command.Advance (Advanced result) self.new }
         ensures few { length self.new.history ≤ length self.old.history + max_command_entries }
     {
@@ -687,7 +709,8 @@ impl Kernel {
 
     fn copy_block(&mut self) -> Advance
         ensures moved { result ≡ Advance.Moved → Advances self.old self.new }
-        ensures idle { result ≡ Advance.Idle → (next_moving self.old.history ≡ None) × (self.new ≡ rested self.old) }
+        ensures idle { result ≡ Advance.Idle → (next_moving self.old.history ≡ None)
+            × (self.new ≡ rested self.old) }
     {
         let Some((number, block)) = self.course.next_block() else {
             self.course.begin();
@@ -701,7 +724,8 @@ impl Kernel {
     /// The outcome of a live thread's last call, once, where the call is over. Takes no memory.
     pub fn take(&mut self, thread: ThreadId) -> Option<Outcome>
         ensures outcome { result ≡ outcome_to_take self.old thread }
-        ensures taken { self.new ≡ record self.old { taken = taken_after result self.old.taken; since = length self.old.history } }
+        ensures taken { self.new ≡ record self.old
+            { taken = taken_after result self.old.taken; since = length self.old.history } }
         ensures obeys { MayObey self.old (command.Take thread) (Taken result) self.new }
     {
         let outcome = self.take_outcome(thread);

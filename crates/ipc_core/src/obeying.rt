@@ -220,7 +220,8 @@ impl Kernel {
         control: Control,
         upto: usize,
     ) -> Answer
-        ensures obeys { MayObeyAgain upto self.old (command.Exreg thread target control) result self.new }
+        ensures obeys { MayObeyAgain upto self.old
+            (command.Exreg thread target control) result self.new }
         ensures ample { M.is_ample → IsFalse (is_no_memory result) }
     {
         let first = self.obey_exreg(memory, thread, target, control);
@@ -260,12 +261,14 @@ impl Kernel {
         limits: Limits,
         commands: Vec<Command>,
     ) -> Result<(Kernel, Vec<Answer>), Refusal>
-        ensures runs { IfOk result (λ ran. Runs (empty_kernel (min limits.entries max_entries) (min limits.calls max_calls))
+        ensures runs { IfOk result (λ ran. Runs
+            (empty_kernel (min limits.entries max_entries) (min limits.calls max_calls))
             commands.items ran.1.items ran.0) }
         ensures legal { IfOk result (λ ran. Legal ran.0.history) }
         ensures quiet { IfOk result (λ ran. Quiet ran.0.history) }
         ensures paired { IfOk result (λ ran. Paired ran.0.history) }
-        ensures only { IfOk result (λ ran. (H : List Entry) → Legal H → Quiet H → inputs H ≡ inputs ran.0.history
+        ensures only { IfOk result (λ ran. (H : List Entry) → Legal H → Quiet H → inputs H
+            ≡ inputs ran.0.history
             → H ≡ ran.0.history) }
         ensures memory { IfErr result (λ refusal. refusal ≡ Refusal.NoMemory) }
     {
@@ -278,12 +281,14 @@ impl Kernel {
         limits: Limits,
         commands: Vec<Command>,
     ) -> Result<(Kernel, Vec<Answer>), Refusal>
-        ensures runs { IfOk result (λ ran. Runs (empty_kernel (min limits.entries max_entries) (min limits.calls max_calls))
+        ensures runs { IfOk result (λ ran. Runs
+            (empty_kernel (min limits.entries max_entries) (min limits.calls max_calls))
             commands.items ran.1.items ran.0) }
         ensures legal { IfOk result (λ ran. Legal ran.0.history) }
         ensures quiet { IfOk result (λ ran. Quiet ran.0.history) }
         ensures paired { IfOk result (λ ran. Paired ran.0.history) }
-        ensures only { IfOk result (λ ran. (H : List Entry) → Legal H → Quiet H → inputs H ≡ inputs ran.0.history
+        ensures only { IfOk result (λ ran. (H : List Entry) → Legal H → Quiet H → inputs H
+            ≡ inputs ran.0.history
             → H ≡ ran.0.history) }
         ensures memory { IfErr result (λ refusal. refusal ≡ Refusal.NoMemory) }
         ensures ample { M.is_ample → IsOk result }

@@ -226,8 +226,10 @@ impl Desks {
         requires follows { Follows entries.now (Written (Failed number error)) }
         requires stands { Stands entries.now slots.now }
         requires keeps { Keeps entries.now taken.now self.old }
-        ensures keeps { Keeps (entries.now ++ Written (Failed number error) ∷ []) taken.now self.new }
-        ensures finished { (t : ℕ) → is_named result t ≡ finishes entries.now (Written (Failed number error)) t }
+        ensures keeps { Keeps (entries.now ++ Written (Failed number error) ∷ [])
+            taken.now self.new }
+        ensures finished { (t : ℕ) → is_named result t
+            ≡ finishes entries.now (Written (Failed number error)) t }
     {
         let _ = taken;
         let place = slots.place_of(entries, number);
@@ -257,8 +259,10 @@ impl Desks {
         requires sends { IsFalse (is_over entries.now sending) }
         requires receives { IsFalse (is_over entries.now receiving) }
         requires small { error < 2 ^ 32 }
-        ensures desks { Failing (number_of (caller_of entries.now sending)) (number_of (caller_of entries.now receiving))
-            (timed (now entries.now) (failure sending error)) (timed (now entries.now) (failure receiving (error + 1)))
+        ensures desks { Failing (number_of (caller_of entries.now sending))
+            (number_of (caller_of entries.now receiving))
+            (timed (now entries.now) (failure sending error))
+            (timed (now entries.now) (failure receiving (error + 1)))
             self.old self.new }
         ensures finished { result ≡ record {
           first = Some (caller_of entries.now sending);
@@ -297,8 +301,10 @@ impl Desks {
         requires follows { Follows entries.now (Written (Overflowed sending receiving offset)) }
         requires stands { Stands entries.now slots.now }
         requires keeps { Keeps entries.now taken.now self.old }
-        ensures keeps { Keeps (entries.now ++ Written (Overflowed sending receiving offset) ∷ []) taken.now self.new }
-        ensures finished { (t : ℕ) → is_named result t ≡ finishes entries.now (Written (Overflowed sending receiving offset)) t }
+        ensures keeps { Keeps (entries.now ++ Written (Overflowed sending receiving offset) ∷ [])
+            taken.now self.new }
+        ensures finished { (t : ℕ) → is_named result t
+            ≡ finishes entries.now (Written (Overflowed sending receiving offset)) t }
     {
         let error = overflow_error(offset);
         self.fail_both(entries, taken, slots, sending, receiving, error)
@@ -318,8 +324,10 @@ impl Desks {
         requires follows { Follows entries.now (Written (Aborted sending receiving count)) }
         requires stands { Stands entries.now slots.now }
         requires keeps { Keeps entries.now taken.now self.old }
-        ensures keeps { Keeps (entries.now ++ Written (Aborted sending receiving count) ∷ []) taken.now self.new }
-        ensures finished { (t : ℕ) → is_named result t ≡ finishes entries.now (Written (Aborted sending receiving count)) t }
+        ensures keeps { Keeps (entries.now ++ Written (Aborted sending receiving count) ∷ [])
+            taken.now self.new }
+        ensures finished { (t : ℕ) → is_named result t
+            ≡ finishes entries.now (Written (Aborted sending receiving count)) t }
     {
         let error = abort_error(count);
         self.fail_both(entries, taken, slots, sending, receiving, error)
@@ -376,8 +384,10 @@ impl Desks {
         requires follows { Follows entries.now (Written (Ended sending receiving)) }
         requires stands { Stands entries.now slots.now }
         requires keeps { Keeps entries.now taken.now self.old }
-        ensures keeps { Keeps (entries.now ++ Written (Ended sending receiving) ∷ []) taken.now self.new }
-        ensures finished { (t : ℕ) → is_named result t ≡ finishes entries.now (Written (Ended sending receiving)) t }
+        ensures keeps { Keeps (entries.now ++ Written (Ended sending receiving) ∷ [])
+            taken.now self.new }
+        ensures finished { (t : ℕ) → is_named result t
+            ≡ finishes entries.now (Written (Ended sending receiving)) t }
     {
         let from = slots.place_of(entries, sending);
         let to = slots.place_of(entries, receiving);
@@ -413,7 +423,8 @@ impl Desks {
         requires stands { Stands entries.now slots.now }
         requires keeps { Keeps entries.now taken.now self.old }
         ensures keeps { Keeps (entries.now ++ Written output.now ∷ []) taken.now self.new }
-        ensures finished { (t : ℕ) → is_named result t ≡ finishes entries.now (Written output.now) t }
+        ensures finished { (t : ℕ) → is_named result t
+            ≡ finishes entries.now (Written output.now) t }
     {
         match *output {
             Output::Began(_, _) | Output::Turned(_, _) => Finished::NONE,
@@ -501,8 +512,10 @@ impl Desks {
         requires keeps { Keeps entries.now taken.now self.old }
         requires idle { IsFalse (is_busy entries.now taken.now caller) }
         requires copies { copies ≡ prepared call.now }
-        ensures keeps { Keeps (entries.now ++ Given (Called number caller call.now) ∷ []) taken.now self.new }
-        ensures finished { (t : ℕ) → is_named result t ≡ finishes entries.now (Given (Called number caller call.now)) t }
+        ensures keeps { Keeps (entries.now ++ Given (Called number caller call.now) ∷ [])
+            taken.now self.new }
+        ensures finished { (t : ℕ) → is_named result t
+            ≡ finishes entries.now (Given (Called number caller call.now)) t }
     {
         let _ = taken;
         let place = self.place_of_thread(entries, caller);

@@ -70,7 +70,8 @@ pub(crate) fn pages_of(alloc: Global, folds: &[Fold], most: usize) -> Result<Vec
 /// Puts a line on a page.
 #[tactic(auto, using(crate::proofs::LineLemmas::line_put))]
 fn put_line(page: &mut Page, line: Line) -> Result<(), AllocError>
-    ensures rows { OnOk result (rows_in page.new.items ≡ rows_in page.old.items ++ rows_in (line ∷ [])) }
+    ensures rows { OnOk result (rows_in page.new.items ≡ rows_in page.old.items
+        ++ rows_in (line ∷ [])) }
     ensures same { OnErr result (page.new.items ≡ page.old.items) }
 {
     page.push(line)?;
@@ -127,8 +128,10 @@ impl Pages {
 
     /// The pages, with the one that is not full.
     fn finish(self) -> Result<Vec<Page>, AllocError>
-        ensures rows { IfOk result (λ pages. flat_map (λ page. rows_in page.items) pages.items ≡ self.rows) }
-        ensures few { IfOk result (λ pages. All (λ page. length (rows_in page.items) ≤ self.most) pages.items) }
+        ensures rows { IfOk result (λ pages. flat_map (λ page. rows_in page.items)
+            pages.items ≡ self.rows) }
+        ensures few { IfOk result (λ pages. All
+            (λ page. length (rows_in page.items) ≤ self.most) pages.items) }
     {
         let Pages {
             mut pages,

@@ -94,7 +94,8 @@ impl Connection {
     /// One more answer. There is room for it.
     pub(crate) fn push(&mut self, answer: Encoder)
         requires { 0 < self.old.free }
-        ensures connection { self.new.connection ≡ record self.old.connection { out = self.old.connection.out ++ answer } }
+        ensures connection { self.new.connection
+            ≡ record self.old.connection { out = self.old.connection.out ++ answer } }
         ensures free { self.old.free ≡ self.new.free + 1 }
     {
         // it cannot fail
@@ -104,8 +105,10 @@ impl Connection {
     /// Is told an outcome. There is room for it.
     pub(crate) fn push_outcome(&mut self, outcome: Outcome)
         requires { 0 < self.old.free }
-        ensures connection { self.new.connection ≡ record self.old.connection
-            { out = self.old.connection.out ++ spelling (ipcr_of self.old.connection.version outcome) } }
+        ensures connection { self.new.connection ≡ record self.old.connection {
+          out = self.old.connection.out ++ spelling
+              (ipcr_of self.old.connection.version outcome);
+        } }
         ensures free { self.old.free ≡ self.new.free + 1 }
     {
         self.push(Encoder::reply(self.version, outcome));

@@ -89,7 +89,12 @@ impl Connections {
     /// One more connection, from a space, with room for a fault.
     pub(crate) fn push(&mut self, alloc: Global, space: u32) -> Result<(), AllocError>
         ensures ok { OnOk result ((roomy : RoomyConnection) × (self.new ≡ self.old ++ roomy ∷ [])
-            × (roomy.connection ≡ record { space = space; stage = Greeting; version = One; out = [] }) × (1 ≤ roomy.free)) }
+            × (roomy.connection ≡ record {
+              space = space;
+              stage = Greeting;
+              version = One;
+              out = [];
+            }) × (1 ≤ roomy.free)) }
         ensures err { OnErr result (self.new ≡ self.old) }
     {
         let connection = Connection::new(alloc, space)?;
@@ -115,8 +120,10 @@ impl Connections {
         requires within { place < length self.old }
         requires room { 0 < (roomy_at self.old place).free }
         ensures { (roomy : RoomyConnection) × (self.new ≡ slice_set self.old place roomy)
-            × (roomy.connection ≡ record (roomy_at self.old place).connection
-            { out = (roomy_at self.old place).connection.out ++ spelling (ipcr_of (roomy_at self.old place).connection.version outcome) })
+            × (roomy.connection ≡ record (roomy_at self.old place).connection {
+              out = (roomy_at self.old place).connection.out
+                  ++ spelling (ipcr_of (roomy_at self.old place).connection.version outcome);
+            })
             × ((roomy_at self.old place).free ≡ roomy.free + 1) }
     {
         self.connections[place].push_outcome(outcome);
@@ -139,7 +146,8 @@ impl Connections {
     /// room, and says how many. Takes no memory.
     pub(crate) fn output(&mut self, place: usize, out: &mut [u8]) -> usize
         requires { place < length self.old }
-        ensures count { result ≡ min (length out.old) (length (roomy_at self.old place).connection.out) }
+        ensures count { result ≡ min (length out.old)
+            (length (roomy_at self.old place).connection.out) }
         ensures bytes { take result out.new ≡ take result (roomy_at self.old place).connection.out }
         ensures behind { drop result out.new ≡ drop result out.old }
         ensures left { (roomy : RoomyConnection) × (self.new ≡ slice_set self.old place roomy)

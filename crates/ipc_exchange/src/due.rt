@@ -10,8 +10,10 @@ use ipc_words::ThreadId;
 /// Marks the number of a thread.
 pub(crate) fn mark(due: &mut Vec<bool>, thread: ThreadId)
     ensures long { length due.new.items ≡ length due.old.items }
-    ensures marked { number_of thread < length due.old.items → is_marked due.new.items (number_of thread) ≡ true }
-    ensures kept { (number : ℕ) → is_marked due.old.items number ≡ true → is_marked due.new.items number ≡ true }
+    ensures marked { number_of thread < length due.old.items
+        → is_marked due.new.items (number_of thread) ≡ true }
+    ensures kept { (number : ℕ) → is_marked due.old.items number ≡ true
+        → is_marked due.new.items number ≡ true }
 {
     let number = thread.number() as usize;
     if number < due.len() {
@@ -24,7 +26,8 @@ pub(crate) fn mark_one(due: &mut Vec<bool>, one: Option<ThreadId>)
     ensures long { length due.new.items ≡ length due.old.items }
     ensures marked { (thread : ℕ) → one ≡ Some thread → number_of thread < length due.old.items
         → is_marked due.new.items (number_of thread) ≡ true }
-    ensures kept { (number : ℕ) → is_marked due.old.items number ≡ true → is_marked due.new.items number ≡ true }
+    ensures kept { (number : ℕ) → is_marked due.old.items number ≡ true
+        → is_marked due.new.items number ≡ true }
 {
     if let Some(thread) = one {
         mark(due, thread);
@@ -34,9 +37,11 @@ pub(crate) fn mark_one(due: &mut Vec<bool>, one: Option<ThreadId>)
 /// Marks the numbers of threads.
 pub(crate) fn mark_all(due: &mut Vec<bool>, threads: &[ThreadId])
     ensures long { length due.new.items ≡ length due.old.items }
-    ensures marked { (thread : ℕ) → is_among thread threads.now ≡ true → number_of thread < length due.old.items
+    ensures marked { (thread : ℕ) → is_among thread threads.now ≡ true
+        → number_of thread < length due.old.items
         → is_marked due.new.items (number_of thread) ≡ true }
-    ensures kept { (number : ℕ) → is_marked due.old.items number ≡ true → is_marked due.new.items number ≡ true }
+    ensures kept { (number : ℕ) → is_marked due.old.items number ≡ true
+        → is_marked due.new.items number ≡ true }
 {
     for thread in threads {
         mark(due, *thread);

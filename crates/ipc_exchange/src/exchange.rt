@@ -55,7 +55,8 @@ impl Exchange {
         ensures ok { IfOk result (λ number. number ≡ length self.old.service.connections + 1) }
         ensures happened { IfOk result (λ number. Happened self.old (Connect space) self.new) }
         ensures cause { IfErr result (λ refused. refused
-            ≡ (if nat_le max_connections (length self.old.service.connections) then ConnectRefused.TooMany
+            ≡ (if nat_le max_connections (length self.old.service.connections)
+            then ConnectRefused.TooMany
             else ConnectRefused.NoMemory)) }
         ensures few { IfOk result (λ number. number ≤ max_connections) }
         ensures err { OnErr result (self.new ≡ self.old) }
@@ -76,7 +77,8 @@ impl Exchange {
 
     /// A piece of bytes comes on a connection. A connection that was never given, or has ended, takes no input.
     pub fn feed(&mut self, connection: usize, piece: &[u8]) -> Progress
-        ensures happened { (place : ℕ) → connection ≡ place + 1 → Happened self.old (Piece place piece.now) self.new }
+        ensures happened { (place : ℕ) → connection ≡ place + 1
+            → Happened self.old (Piece place piece.now) self.new }
         ensures progress { (place : ℕ) → connection ≡ place + 1
             → result ≡ progress_of (stage_at self.new.service.connections place) }
         ensures zero { connection ≡ 0 → self.new ≡ self.old }
@@ -95,7 +97,8 @@ impl Exchange {
 
     /// The input of a connection ends. A connection that was never given, or has ended, takes no input.
     pub fn end(&mut self, connection: usize)
-        ensures happened { (place : ℕ) → connection ≡ place + 1 → Happened self.old (Finish place) self.new }
+        ensures happened { (place : ℕ) → connection ≡ place + 1
+            → Happened self.old (Finish place) self.new }
         ensures zero { connection ≡ 0 → self.new ≡ self.old }
     {
         if connection == 0 || connection > self.service.len() {
@@ -149,7 +152,8 @@ impl Exchange {
     pub fn next_output(&self, behind: usize) -> Option<usize>
         ensures some { IfSome result (λ connection. (behind < connection)
             × (connection ≤ length self.now.service.connections)) }
-        ensures first { IfSome result (λ connection. (place : ℕ) → behind ≤ place → place + 1 < connection
+        ensures first { IfSome result (λ connection. (place : ℕ) → behind ≤ place
+            → place + 1 < connection
             → (connection_at (service_of self.now.service).connections place).out ≡ []) }
         ensures none { IsNone result → (place : ℕ) → behind ≤ place
             → (connection_at (service_of self.now.service).connections place).out ≡ [] }

@@ -60,7 +60,8 @@ fn feed_first(
     requires ready { Ready service.old }
     requires holds { (bytes : List ℕ) × Holds decoder.old bytes }
     ensures all { IsNone result → (bytes : List ℕ) → Holds decoder.old bytes
-        → FeedsConnection (service_of service.old) place bytes piece.now (service_of service.new) decoder.new }
+        → FeedsConnection (service_of service.old) place bytes piece.now
+        (service_of service.new) decoder.new }
     ensures first { IfSome result (λ used. (bytes : List ℕ) → Holds decoder.old bytes
         → FeedsFirst (service_of service.old) place bytes piece.now used (service_of service.new)) }
     ensures rest { IfSome result (λ used. Holds decoder.new []) }
@@ -96,7 +97,8 @@ pub(crate) fn feed_connection(
     requires ready { Ready service.old }
     requires holds { (bytes : List ℕ) × Holds decoder.old bytes }
     ensures fed { (bytes : List ℕ) → Holds decoder.old bytes
-        → FeedsConnection (service_of service.old) place bytes piece.now (service_of service.new) decoder.new }
+        → FeedsConnection (service_of service.old) place bytes piece.now
+        (service_of service.new) decoder.new }
     ensures ready { StaysReady service.old service.new }
 {
     let mut rest = piece;
@@ -111,7 +113,8 @@ pub(crate) fn close_connection(service: &mut Service, place: usize, decoder: &mu
     requires ready { Ready service.old }
     requires holds { (bytes : List ℕ) × Holds decoder.old bytes }
     ensures closed { (bytes : List ℕ) → Holds decoder.old bytes
-        → ClosesConnection (service_of service.old) place bytes (service_of service.new) decoder.new }
+        → ClosesConnection (service_of service.old) place bytes
+        (service_of service.new) decoder.new }
     ensures ready { StaysReady service.old service.new }
 {
     match decoder.finish() {

@@ -45,7 +45,8 @@ impl Model for MarkedKernel {
 impl MarkedKernel {
     /// A kernel with these limits, of which every entry counts as marked. Err: there is no memory.
     pub(crate) fn new(alloc: Global, limits: Limits) -> Result<MarkedKernel, AllocError>
-        ensures { IfOk result (λ kernel. kernel ≡ first_kernel (min limits.entries max_entries) (min limits.calls max_calls)) }
+        ensures { IfOk result (λ kernel. kernel
+            ≡ first_kernel (min limits.entries max_entries) (min limits.calls max_calls)) }
     {
         let due = vec![in alloc; false; TABLE_SLOTS]?;
         let Ok(mut kernel) = Kernel::new(alloc, limits) else {
@@ -132,7 +133,8 @@ impl MarkedKernel {
     /// The outcome of a live thread's last call, once, where the call is over. Takes no memory.
     pub(crate) fn take(&mut self, thread: ThreadId) -> Option<Outcome>
         ensures outcome { result ≡ outcome_to_take self.old thread }
-        ensures taken { self.new ≡ record self.old { taken = taken_after result self.old.taken; since = length self.old.history } }
+        ensures taken { self.new ≡ record self.old
+            { taken = taken_after result self.old.taken; since = length self.old.history } }
         ensures obeys { MayObey self.old (command.Take thread) (Taken result) self.new }
     {
         let taken = self.kernel.take(thread);

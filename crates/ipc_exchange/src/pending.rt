@@ -90,7 +90,8 @@ impl Pending {
     /// The first listed place that is not before this one.
     pub(crate) fn next(&self, from: usize) -> Option<usize>
         ensures some { IfSome result (λ place. (from ≤ place) × (place < self.now.count)) }
-        ensures first { IfSome result (λ place. (other : ℕ) → from ≤ other → IsAmong other self.now.places
+        ensures first { IfSome result (λ place. (other : ℕ) → from ≤ other
+            → IsAmong other self.now.places
             → place ≤ other) }
         ensures none { IsNone result → (other : ℕ) → IsAmong other self.now.places → other < from }
     {

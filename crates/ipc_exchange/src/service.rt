@@ -113,8 +113,10 @@ impl Service {
     /// One more connection, from a space.
     pub(crate) fn connect(&mut self, alloc: Global, space: u32) -> Result<(), AllocError>
         requires { Ready self.old }
-        ensures ok { OnOk result (service_of self.new ≡ with_connection space (service_of self.old)) }
-        ensures count { OnOk result (length self.new.connections ≡ length self.old.connections + 1) }
+        ensures ok { OnOk result (service_of self.new
+            ≡ with_connection space (service_of self.old)) }
+        ensures count { OnOk result (length self.new.connections
+            ≡ length self.old.connections + 1) }
         ensures ready { Ready self.new }
         ensures err { OnErr result (self.new ≡ self.old) }
     {
@@ -139,7 +141,8 @@ impl Service {
         requires within { place < length self.old.connections }
         requires ready { Ready self.old }
         ensures count { result
-            ≡ min (length out.old) (length (connection_at (service_of self.old).connections place).out) }
+            ≡ min (length out.old) (length (connection_at
+            (service_of self.old).connections place).out) }
         ensures bytes { take result out.new
             ≡ take result (connection_at (service_of self.old).connections place).out }
         ensures behind { drop result out.new ≡ drop result out.old }
@@ -151,7 +154,8 @@ impl Service {
 
     /// The first place, from one on, whose connection may have bytes to put out.
     pub(crate) fn next_output(&self, from: usize) -> Option<usize>
-        ensures some { IfSome result (λ place. (from ≤ place) × (place < length self.now.connections)) }
+        ensures some { IfSome result (λ place. (from ≤ place)
+            × (place < length self.now.connections)) }
         ensures first { IfSome result (λ place. (other : ℕ) → from ≤ other → other < place
             → (connection_at (service_of self.now).connections other).out ≡ []) }
         ensures none { IsNone result → (other : ℕ) → from ≤ other
@@ -163,7 +167,8 @@ impl Service {
     /// The clock is read, in microseconds, and outcomes go out.
     pub(crate) fn at(&mut self, now: u64)
         requires { Ready self.old }
-        ensures done { DoesAlone MayLack (service_of self.old) (command.At now) (service_of self.new) }
+        ensures done { DoesAlone MayLack (service_of self.old) (command.At now)
+            (service_of self.new) }
         ensures ready { StaysReady self.old self.new }
     {
         self.read_clock(now);
@@ -184,7 +189,8 @@ impl Service {
     /// A block of the least call in transfer is copied, and outcomes go out.
     pub(crate) fn advance(&mut self)
         requires { Ready self.old }
-        ensures done { DoesAlone MayLack (service_of self.old) command.Advance (service_of self.new) }
+        ensures done { DoesAlone MayLack (service_of self.old) command.Advance
+            (service_of self.new) }
         ensures ready { StaysReady self.old self.new }
     {
         let _ = self.copy_block();
@@ -193,7 +199,8 @@ impl Service {
 
     fn copy_block(&mut self) -> Advance
         requires { Ready self.old }
-        ensures kernel { MayObey self.old.kernel command.Advance (answer.Advanced result) self.new.kernel }
+        ensures kernel { MayObey self.old.kernel command.Advance
+            (answer.Advanced result) self.new.kernel }
         ensures connections { self.new.connections ≡ self.old.connections }
         ensures ready { Ready self.new }
     {
@@ -206,7 +213,8 @@ impl Service {
     /// Serves what was heard on the connection in a place.
     pub(crate) fn serve(&mut self, place: usize, heard: Result<Heard, FrameFault>)
         requires { CanServe self.old place heard }
-        ensures served { (asked : List Asked) × Serves MayLack (service_of self.old) place heard asked (service_of self.new) }
+        ensures served { (asked : List Asked)
+            × Serves MayLack (service_of self.old) place heard asked (service_of self.new) }
         ensures ready { StaysReady self.old self.new }
     {
         let stage = self.connections.stage(place);
@@ -216,7 +224,8 @@ impl Service {
 
     fn react(&mut self, place: usize, reaction: Reaction)
         requires { CanReact self.old place reaction }
-        ensures served { (asked : List Asked) × ServesBy MayLack (service_of self.old) place reaction asked (service_of self.new) }
+        ensures served { (asked : List Asked)
+            × ServesBy MayLack (service_of self.old) place reaction asked (service_of self.new) }
         ensures ready { StaysReady self.old self.new }
     {
         match reaction {
@@ -231,7 +240,8 @@ impl Service {
     #[tactic(auto, using(crate::proofs::TellingLemmas::do_asked))]
     fn ask(&mut self, place: usize, request: Request)
         requires { CanReact self.old place (Reaction.Ask request) }
-        ensures served { (asked : List Asked) × ServesBy MayLack (service_of self.old) place (Reaction.Ask request) asked
+        ensures served { (asked : List Asked)
+            × ServesBy MayLack (service_of self.old) place (Reaction.Ask request) asked
             (service_of self.new) }
         ensures ready { StaysReady self.old self.new }
     {
@@ -243,7 +253,8 @@ impl Service {
     /// The kernel obeys a command of a connection that named a version, and its answer is told.
     fn command(&mut self, place: usize, version: WireVersion, command: Command)
         requires { CanDo self.old place command }
-        ensures done { (asked : List Asked) × Does MayLack (service_of self.old) place version command asked (service_of self.new) }
+        ensures done { (asked : List Asked) × Does MayLack (service_of self.old) place version
+            command asked (service_of self.new) }
         ensures ready { StaysReady self.old self.new }
     {
         let told = self.obey(version, command);
@@ -267,7 +278,8 @@ impl Service {
     /// Something is told to the connection in a place. Where the connection ends so, its thread ends.
     fn tell(&mut self, place: usize, told: Told)
         requires { CanTell self.old place told }
-        ensures told { (asked : List Asked) × Tells MayLack (service_of self.old) place told asked (service_of self.new) }
+        ensures told { (asked : List Asked) × Tells MayLack (service_of self.old) place told asked
+            (service_of self.new) }
         ensures ready { StaysReady self.old self.new }
     {
         let left = self.tell_connection(place, told);
@@ -279,9 +291,11 @@ impl Service {
     fn tell_connection(&mut self, place: usize, told: Told) -> Option<ThreadId>
         requires { CanTell self.old place told }
         ensures kernel { self.new.kernel ≡ self.old.kernel }
-        ensures connections { connections_of self.new.connections ≡ slice_set (connections_of self.old.connections) place
+        ensures connections { connections_of self.new.connections
+            ≡ slice_set (connections_of self.old.connections) place
             (told_connection told (connection_at (connections_of self.old.connections) place)) }
-        ensures left { result ≡ thread_left (connection_at (connections_of self.old.connections) place).stage
+        ensures left { result ≡ thread_left (connection_at
+            (connections_of self.old.connections) place).stage
             (next_stage (connection_at (connections_of self.old.connections) place).stage told) }
         ensures ready { StaysReady self.old self.new }
         ensures alone { IfSome result (λ thread. NoneServes self.new.connections thread) }
@@ -310,7 +324,8 @@ impl Service {
     fn leave(&mut self, left: Option<ThreadId>)
         requires ready { Ready self.old }
         requires alone { IfSome left (λ thread. NoneServes self.old.connections thread) }
-        ensures kernel { (asked : List Asked) × Leaves MayLack (at_rest self.old.kernel) left asked (at_rest self.new.kernel) }
+        ensures kernel { (asked : List Asked)
+            × Leaves MayLack (at_rest self.old.kernel) left asked (at_rest self.new.kernel) }
         ensures connections { self.new.connections ≡ self.old.connections }
         ensures ready { Ready self.new }
     {
@@ -322,7 +337,8 @@ impl Service {
     fn break_thread(&mut self, thread: ThreadId) -> Result<(), NoThread>
         requires ready { Ready self.old }
         requires alone { NoneServes self.old.connections thread }
-        ensures kernel { MayObey self.old.kernel (command.Broke thread) (broke_answer result) self.new.kernel }
+        ensures kernel { MayObey self.old.kernel (command.Broke thread)
+            (broke_answer result) self.new.kernel }
         ensures connections { self.new.connections ≡ self.old.connections }
         ensures ready { Ready self.new }
     {
@@ -335,7 +351,8 @@ impl Service {
     /// Each thread's connection is told the outcome that the thread may take.
     fn deliver(&mut self)
         requires { Ready self.old }
-        ensures told { service_of self.new ≡ delivered (at_rest self.old.kernel) (connections_of self.old.connections) }
+        ensures told { service_of self.new ≡ delivered (at_rest self.old.kernel)
+            (connections_of self.old.connections) }
         ensures ready { StaysReady self.old self.new }
     {
         for number in 0..TABLE_SLOTS {
@@ -347,7 +364,8 @@ impl Service {
         requires ready { Ready self.old }
         requires within { number < table_slots }
         ensures told { service_of self.new
-            ≡ told_outcome (place_of number (connections_of self.old.connections)) (service_of self.old) }
+            ≡ told_outcome (place_of number (connections_of self.old.connections))
+            (service_of self.old) }
         ensures ready { StaysReady self.old self.new }
     {
         if !self.kernel.is_due(number) {

@@ -47,7 +47,8 @@ impl Decoder {
     /// F1 to F4 and F15: the fault that the stream shows; F14: no memory. After an error it answers F13 for good.
     pub fn feed(&mut self, piece: &[u8], frames: &mut Vec<Frame>) -> Result<(), FrameFault>
         ensures fed { self.old.is_spent ≡ false →
-            Feeds (more self.old.side (stream_at frames.old.items self.old.bytes) piece.now) frames.new.items self.new result }
+            Feeds (more self.old.side (stream_at frames.old.items self.old.bytes) piece.now)
+            frames.new.items self.new result }
         ensures side { self.new.side ≡ self.old.side }
         ensures spent { self.old.is_spent ≡ true → result ≡ Err FrameFault.Spent }
         ensures still { self.old.is_spent ≡ true → self.new ≡ self.old }
@@ -63,7 +64,8 @@ impl Decoder {
 
     // The same, of a decoder that has not answered a fault.
     fn take(&mut self, piece: &[u8], frames: &mut Vec<Frame>) -> Result<(), FrameFault>
-        ensures taken { Feeds (more self.old.side (stream_at frames.old.items self.old.bytes) piece.now) frames.new.items
+        ensures taken { Feeds (more self.old.side (stream_at frames.old.items self.old.bytes)
+            piece.now) frames.new.items
             (record self.new { is_spent = is_err result }) result }
         ensures side { self.new.side ≡ self.old.side }
     {
@@ -82,10 +84,13 @@ impl Decoder {
 
     /// The stream has ended: F9 where it ends inside a frame. After an error it answers F13 for good.
     pub fn finish(&mut self) -> Result<(), FrameFault>
-        ensures whole { self.old.is_spent ≡ false → self.old.bytes ≡ [] → (result ≡ Ok tt) × (self.new ≡ self.old) }
+        ensures whole { self.old.is_spent ≡ false → self.old.bytes ≡ [] → (result ≡ Ok tt)
+            × (self.new ≡ self.old) }
         ensures inside { self.old.is_spent ≡ false → self.old.bytes ≢ [] →
-            (result ≡ Err FrameFault.Unfinished) × (self.new ≡ record self.old { is_spent = true }) }
-        ensures spent { self.old.is_spent ≡ true → (result ≡ Err FrameFault.Spent) × (self.new ≡ self.old) }
+            (result ≡ Err FrameFault.Unfinished)
+            × (self.new ≡ record self.old { is_spent = true }) }
+        ensures spent { self.old.is_spent ≡ true → (result ≡ Err FrameFault.Spent)
+            × (self.new ≡ self.old) }
     {
         if self.is_spent {
             return Err(FrameFault::Spent);

@@ -46,8 +46,10 @@ fn read_registers(
 fn read_ipc(alloc: Global, head: &[u8], tail: &[u8]) -> Result<IpcFrame, AllocError>
     requires head { 45 ≤ length head.now }
     requires is { IsIpc (ipc_parts (fields_in (widths FrameKind.Ipc) head.now) tail.now) }
-    requires size { ipc_size (ipc_parts (fields_in (widths FrameKind.Ipc) head.now) tail.now) ≡ 46 + length tail.now }
-    ensures { IfOk result (λ ipc. ipc ≡ ipc_parts (fields_in (widths FrameKind.Ipc) head.now) tail.now) }
+    requires size { ipc_size (ipc_parts (fields_in (widths FrameKind.Ipc) head.now) tail.now) ≡ 46
+        + length tail.now }
+    ensures { IfOk result (λ ipc. ipc ≡ ipc_parts
+        (fields_in (widths FrameKind.Ipc) head.now) tail.now) }
 {
     let (to, head) = split_u64(head);
     let (from, head) = split_u64(head);
@@ -79,8 +81,10 @@ fn read_ipcr(
     tail: &[u8],
 ) -> Result<IpcrFrame, AllocError>
     requires head { 32 ≤ length head.now }
-    requires made { (f : Frame) × MakesIpcr end (fields_in (widths FrameKind.Ipcr) head.now) tail.now f }
-    ensures { IfOk result (λ ipcr. ipcr_in end (fields_in (widths FrameKind.Ipcr) head.now) tail.now ≡ Some (Frame.Ipcr ipcr)) }
+    requires made { (f : Frame) × MakesIpcr end
+        (fields_in (widths FrameKind.Ipcr) head.now) tail.now f }
+    ensures { IfOk result (λ ipcr. ipcr_in end (fields_in (widths FrameKind.Ipcr) head.now) tail.now
+        ≡ Some (Frame.Ipcr ipcr)) }
 {
     let (tag, head) = split_u64(head);
     let (sender, head) = split_u64(head);
@@ -103,8 +107,10 @@ fn read_ipcr(
 // An outcome of version 2.
 fn read_ended(alloc: Global, head: &[u8], tail: &[u8]) -> Result<IpcrFrame, AllocError>
     requires head { 48 ≤ length head.now }
-    requires made { (f : Frame) × MakesFrame FrameKind.IpcrTwo (fields_in (widths FrameKind.IpcrTwo) head.now) tail.now f }
-    ensures { IfOk result (λ ipcr. frame_of FrameKind.IpcrTwo (fields_in (widths FrameKind.IpcrTwo) head.now) tail.now
+    requires made { (f : Frame) × MakesFrame FrameKind.IpcrTwo
+        (fields_in (widths FrameKind.IpcrTwo) head.now) tail.now f }
+    ensures { IfOk result (λ ipcr. frame_of FrameKind.IpcrTwo
+        (fields_in (widths FrameKind.IpcrTwo) head.now) tail.now
         ≡ Some (Frame.Ipcr ipcr)) }
 {
     let (call, head) = split_u64(head);
@@ -116,8 +122,10 @@ fn read_ended(alloc: Global, head: &[u8], tail: &[u8]) -> Result<IpcrFrame, Allo
 fn read_numbers(kind: FrameKind, head: &[u8]) -> Frame
     requires head { sum (widths kind) ≤ length head.now }
     requires fixed { is_longer kind ≡ false }
-    requires known { (tail : List ℕ) → is_some (frame_of kind (fields_in (widths kind) head.now) tail) ≡ true }
-    ensures { (tail : List ℕ) → frame_of kind (fields_in (widths kind) head.now) tail ≡ Some result }
+    requires known { (tail : List ℕ) → is_some
+        (frame_of kind (fields_in (widths kind) head.now) tail) ≡ true }
+    ensures { (tail : List ℕ) → frame_of kind (fields_in (widths kind) head.now)
+        tail ≡ Some result }
 {
     match kind {
         FrameKind::Hello => Frame::Hello(read_u16(head), WireVersion::One),
@@ -164,7 +172,8 @@ fn read_numbers(kind: FrameKind, head: &[u8]) -> Frame
 fn read_frame(alloc: Global, kind: FrameKind, head: &[u8], tail: &[u8]) -> Result<Frame, AllocError>
     requires head { sum (widths kind) ≤ length head.now }
     requires made { (f : Frame) × MakesFrame kind (fields_in (widths kind) head.now) tail.now f }
-    ensures frame { IfOk result (λ frame. frame_of kind (fields_in (widths kind) head.now) tail.now ≡ Some frame) }
+    ensures frame { IfOk result (λ frame. frame_of kind (fields_in (widths kind) head.now)
+        tail.now ≡ Some frame) }
     ensures memory { is_longer kind ≡ false → IsOk result }
 {
     match kind {
@@ -224,7 +233,8 @@ fn take_frame(
     bytes: &[u8],
     frames: &mut Vec<Frame>,
 ) -> Result<Option<usize>, FrameFault>
-    ensures { TakesFrame side bytes.now (put_front frames.old.items (stream_of side bytes.now)) frames.new.items result }
+    ensures { TakesFrame side bytes.now (put_front frames.old.items (stream_of side bytes.now))
+        frames.new.items result }
 {
     match judge(side, bytes, 0) {
         Judgement::Short(_) => Ok(None),
@@ -246,7 +256,8 @@ pub(crate) fn take_frames(
     bytes: &[u8],
     frames: &mut Vec<Frame>,
 ) -> Result<usize, FrameFault>
-    ensures { Unreads (put_front frames.old.items (stream_of side bytes.now)) frames.new.items bytes.now result }
+    ensures { Unreads (put_front frames.old.items (stream_of side bytes.now))
+        frames.new.items bytes.now result }
 {
     let mut used = 0;
     loop {

@@ -54,8 +54,10 @@ pub(crate) fn read_u64(bytes: &[u8]) -> u64
 fn words_fault(size: usize, words: usize, buffer_words: usize) -> Option<FrameFault>
     requires few { words ≤ 2 * max_message_words }
     requires fewer { buffer_words ≤ u8.MAX }
-    ensures { result ≡ (if nat_lt max_message_words words || nat_lt max_buffer_words buffer_words then Some FrameFault.TooManyWords
-        else if nat_lt size (46 + 8 * words + 8 * buffer_words) then Some FrameFault.WrongSize else None) }
+    ensures { result ≡ (if nat_lt max_message_words words
+        || nat_lt max_buffer_words buffer_words then Some FrameFault.TooManyWords
+        else if nat_lt size (46 + 8 * words + 8 * buffer_words) then Some
+        FrameFault.WrongSize else None) }
 {
     if words > MAX_MESSAGE_WORDS || buffer_words > MAX_BUFFER_WORDS {
         Some(FrameFault::TooManyWords)
@@ -147,7 +149,8 @@ fn judge_pieces(size: usize, kind: FrameKind, rest: &[u8]) -> Judgement
 
 // What the version shows that a HELLO names.
 fn judge_version(number: u16) -> Judgement
-    ensures { result ≡ (if number == 2 then Judgement.Whole else Judgement.Bad FrameFault.UnknownVersion) }
+    ensures { result ≡ (if number == 2 then Judgement.Whole else Judgement.Bad
+        FrameFault.UnknownVersion) }
 {
     if number == 2 {
         Judgement::Whole

@@ -86,7 +86,8 @@ fn put_reply_tail(window: &mut Window, out: &mut [u8], outcome: &Outcome)
 fn put_reply_parts(window: &mut Window, out: &mut [u8], version: WireVersion, outcome: &Outcome)
     requires { window.old.filled ≤ length out.old }
     ensures shown { page window.new out.new ≡ passed (tail_of (ipcr_of version outcome.now))
-        (passed_numbers (widths (kind_of (ipcr_of version outcome.now))) (fields_of (ipcr_of version outcome.now))
+        (passed_numbers (widths (kind_of (ipcr_of version outcome.now)))
+        (fields_of (ipcr_of version outcome.now))
         (page window.old out.old)) }
     ensures within { window.new.filled ≤ length out.new }
 {

@@ -195,12 +195,14 @@ impl History {
 
     /// Lets go of the entries before a place that are not to be kept. Takes no memory.
     pub fn compact<K: Keeps>(&mut self, upto: usize, keeps: &K)
-        requires called { (n : _) (e : Entry) → IsFalse (is_over self.old.entries n) → Contains self.old.entries e
+        requires called { (n : _) (e : Entry) → IsFalse (is_over self.old.entries n)
+            → Contains self.old.entries e
             → IsTrue (calls n e) → IsTrue (K.test keeps.now e) }
         requires few { length self.old.entries < 2 ^ 63 }
         ensures entries { self.new.entries ≡ self.old.entries }
         ensures held { self.new.held ≡ compacted (K.test keeps.now) upto self.old }
-        ensures room { self.new.room + length (held_of self.new) ≡ self.old.room + length (held_of self.old) }
+        ensures room { self.new.room + length (held_of self.new) ≡ self.old.room
+            + length (held_of self.old) }
     {
         let reached = self.reached(upto);
         let behind = reached - self.gone;

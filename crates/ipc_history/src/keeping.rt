@@ -77,10 +77,12 @@ fn gather<K: Keeps>(
     requires wanted { wanted ≡ keeps_at (K.test keeps.now) (drop behind entries.old.items) }
     ensures within { result ≤ behind }
     ensures kept { drop result entries.new.items
-        ≡ kept_ahead (K.test keeps.now) (take behind entries.old.items) (drop behind entries.old.items)
+        ≡ kept_ahead (K.test keeps.now) (take behind entries.old.items)
+        (drop behind entries.old.items)
         ++ drop behind entries.old.items }
     ensures places { drop result places.new.items
-        ≡ places_ahead (K.test keeps.now) (take behind entries.old.items) places.old.items (drop behind entries.old.items) }
+        ≡ places_ahead (K.test keeps.now) (take behind entries.old.items) places.old.items
+        (drop behind entries.old.items) }
     ensures len { vec_len entries.new ≡ vec_len entries.old }
     ensures capacity { vec_capacity entries.new ≡ vec_capacity entries.old }
     ensures places_len { vec_len places.new ≡ vec_len places.old }
@@ -121,10 +123,12 @@ pub(crate) fn keep_before<K: Keeps>(
     requires beside { vec_len places.old ≡ behind }
     ensures few { result ≤ behind }
     ensures kept { take result entries.new.items
-        ≡ kept_ahead (K.test keeps.now) (take behind entries.old.items) (drop behind entries.old.items) }
+        ≡ kept_ahead (K.test keeps.now) (take behind entries.old.items)
+        (drop behind entries.old.items) }
     ensures rest { drop result entries.new.items ≡ drop behind entries.old.items }
     ensures places { places.new.items
-        ≡ places_ahead (K.test keeps.now) (take behind entries.old.items) places.old.items (drop behind entries.old.items) }
+        ≡ places_ahead (K.test keeps.now) (take behind entries.old.items) places.old.items
+        (drop behind entries.old.items) }
     ensures len { vec_len entries.new + behind ≡ vec_len entries.old + result }
     ensures capacity { vec_capacity entries.new ≡ vec_capacity entries.old }
     ensures places_capacity { vec_capacity places.new ≡ vec_capacity places.old }

@@ -82,7 +82,8 @@ impl BufferList {
         substrings: usize,
     ) -> Result<Self, AllocError>
         ensures none { IfOk result (λ list. list ≡ []) }
-        ensures ample { M.is_ample → buffers ≤ ample_items → substrings ≤ ample_items → IsOk result }
+        ensures ample { M.is_ample → buffers ≤ ample_items
+            → substrings ≤ ample_items → IsOk result }
     {
         Ok(BufferList {
             rows: Rows::with_capacity(memory, buffers, substrings)?,

@@ -64,7 +64,8 @@ impl Cuts {
     // Appends so many bytes of the payload from a place on to the last list, if they are the next ones.
     fn extend_last(&mut self, start: usize, count: usize) -> bool
         requires { 0 < length self.old.rows }
-        ensures rows { result ≡ true → self.new.rows ≡ grown self.old.rows (slice_range self.old.payload start (start + count)) }
+        ensures rows { result ≡ true → self.new.rows
+            ≡ grown self.old.rows (slice_range self.old.payload start (start + count)) }
         ensures payload { self.new.payload ≡ self.old.payload }
     {
         if start != self.len || count > self.payload.len() - self.len {
@@ -79,7 +80,8 @@ impl Cuts {
     // Appends the bytes that an item names to the last list, if they are the next ones.
     fn append(&mut self, item: &Item<'_>) -> bool
         requires some { 0 < length self.old.rows }
-        ensures rows { result ≡ true → self.new.rows ≡ grown self.old.rows (bytes_of self.old.payload item.now) }
+        ensures rows { result ≡ true → self.new.rows
+            ≡ grown self.old.rows (bytes_of self.old.payload item.now) }
         ensures payload { self.new.payload ≡ self.old.payload }
     {
         let count = item.length() as usize;
@@ -135,8 +137,10 @@ pub(crate) fn cut_rows<M: Memory>(
     bytes: usize,
 ) -> Result<Rows<u8>, AllocError>
     requires { string_fault (length payload.items) 0 (items_of words.now) ≡ None }
-    ensures rows { IfOk result (λ rows. rows ≡ strings_by (bytes_of payload.items) (items_of words.now)) }
-    ensures ample { M.is_ample → length words.now ≤ ample_items → bytes ≤ ample_items → IsOk result }
+    ensures rows { IfOk result (λ rows. rows ≡ strings_by (bytes_of payload.items)
+        (items_of words.now)) }
+    ensures ample { M.is_ample → length words.now ≤ ample_items
+        → bytes ≤ ample_items → IsOk result }
 {
     let is_all = bytes == payload.len();
     let mut cuts = Cuts::new(memory, payload, words.len() / 2)?;

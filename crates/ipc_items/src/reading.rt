@@ -59,7 +59,8 @@ fn append_bytes<M: Memory>(
     payload: &[u8],
 ) -> Result<(), AllocError>
     requires some { 0 < length rows.old }
-    requires inside { list_any (is_outside (length payload.now) (length_of item.now.descriptor)) item.now.pointers ≡ false }
+    requires inside { list_any (is_outside (length payload.now) (length_of item.now.descriptor))
+        item.now.pointers ≡ false }
     ensures ok { OnOk result (rows.new ≡ grown rows.old (bytes_of payload.now item.now)) }
     ensures ample { M.is_ample → IsOk result }
 {
@@ -100,8 +101,10 @@ pub(crate) fn string_rows<M: Memory>(
     bytes: usize,
 ) -> Result<Rows<u8>, AllocError>
     requires { string_fault (length payload.now) 0 (items_of words.now) ≡ None }
-    ensures rows { IfOk result (λ rows. rows ≡ strings_by (bytes_of payload.now) (items_of words.now)) }
-    ensures ample { M.is_ample → length words.now ≤ ample_items → bytes ≤ ample_items → IsOk result }
+    ensures rows { IfOk result (λ rows. rows ≡ strings_by (bytes_of payload.now)
+        (items_of words.now)) }
+    ensures ample { M.is_ample → length words.now ≤ ample_items
+        → bytes ≤ ample_items → IsOk result }
 {
     let mut rows = Rows::with_capacity(memory, words.len() / 2, bytes)?;
     let mut goes_on = false;

@@ -104,7 +104,8 @@ impl StringList {
         requires { length words.now ≤ max_message_words }
         ensures ok { IfOk result (λ list. string_reading words.now payload.items ≡ Ok list) }
         ensures few { IfOk result (λ list. 2 * length list ≤ length words.now) }
-        ensures fault { IfErr (string_reading words.now payload.items) (λ fault. result ≡ Err fault) }
+        ensures fault { IfErr (string_reading words.now payload.items)
+            (λ fault. result ≡ Err fault) }
         ensures memory { IsOk (string_reading words.now payload.items)
             → IsOkUnless result ItemFault.NoMemory }
         ensures ample { M.is_ample → IsOk (string_reading words.now payload.items) → IsOk result }

@@ -99,7 +99,8 @@ impl<C: Ledger, T: Ledger, P: PenPort + Drop> Inside<C, T, P> {
         seat: Option<CallSeat<C>>,
         command: Command,
     ) -> Answered<C, T>
-        ensures acts { ActsOn self.old.upkeep self.new.upkeep self.old.locked.kernel self.new.locked.kernel now seat command
+        ensures acts { ActsOn self.old.upkeep self.new.upkeep self.old.locked.kernel
+            self.new.locked.kernel now seat command
             result.answer }
         ensures answers { AnswersStep seat command result.answer result.calls }
         ensures takes { GivesSeat result.answer result.takes }
@@ -132,7 +133,8 @@ impl<C: Ledger, T: Ledger, P: PenPort + Drop> Inside<C, T, P> {
         request: Request,
         space: u64,
     ) -> (Told, Option<CallSeat<C>>)
-        ensures asks { AsksOn self.old.upkeep self.new.upkeep self.old.locked.kernel self.new.locked.kernel now seat
+        ensures asks { AsksOn self.old.upkeep self.new.upkeep self.old.locked.kernel
+            self.new.locked.kernel now seat
             (version_asked request WireVersion.One) (command_of request space) result.0 }
         ensures asked { Asked result.0 request seat result.1 }
     {
@@ -164,7 +166,8 @@ impl<C: Ledger, T: Ledger, P: PenPort + Drop> Inside<C, T, P> {
 
     /// Lets go of entries exactly where that is due.
     fn let_go(&mut self)
-        ensures lets_go { LetsGo self.old.upkeep self.new.upkeep self.old.locked.kernel self.new.locked.kernel }
+        ensures lets_go { LetsGo self.old.upkeep self.new.upkeep self.old.locked.kernel
+            self.new.locked.kernel }
     {
         let marked = self.locked.marked();
         if self.upkeep.is_due(self.locked.held(), marked) {
@@ -286,9 +289,11 @@ impl<C: Ledger, T: Ledger, P: PenPort + Drop> Inside<C, T, P> {
             seat.old.thread (Some taken.outcome)) }
         ensures nothing { IfNone result (TakesNothing self.old.locked.kernel self.new.locked.kernel
             seat.old.thread seat.old.taken) }
-        ensures numbered { IfSome result (λ taken. made_by self.old.locked.kernel.history seat.old.thread ≡ taken.amount) }
+        ensures numbered { IfSome result (λ taken. made_by self.old.locked.kernel.history
+            seat.old.thread ≡ taken.amount) }
         ensures thread { seat.new.thread ≡ seat.old.thread }
-        ensures named { IfSome result (λ taken. (taken.thread ≡ seat.old.thread) × (taken.amount ≡ seat.new.taken)) }
+        ensures named { IfSome result (λ taken. (taken.thread ≡ seat.old.thread)
+            × (taken.amount ≡ seat.new.taken)) }
         ensures taken { IfSome result (λ _. seat.new.taken ≡ seat.old.taken + 1) }
         ensures none { IfNone result (seat.new.taken ≡ seat.old.taken) }
     {

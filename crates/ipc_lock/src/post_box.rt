@@ -143,7 +143,8 @@ impl<T: Ledger, P: PenPort + Drop> PostBox<T, P> {
 
     /// The thread whose outcomes are told here.
     pub(crate) fn thread(&self) -> Option<ThreadId>
-        ensures some { IfSome result (λ thread. IfSome self.now.seat (λ seat. seat.thread ≡ thread)) }
+        ensures some { IfSome result (λ thread. IfSome self.now.seat
+            (λ seat. seat.thread ≡ thread)) }
         ensures none { IfNone result (self.now.seat ≡ None) }
     {
         match &self.seat {
@@ -192,7 +193,8 @@ impl<T: Ledger, P: PenPort + Drop> PostBox<T, P> {
     /// Takes the pen out with what the client is told next. None where the pen is out or not at its end, or nothing is there.
     pub(crate) fn load<C: Ledger>(&mut self, locked: &mut Locked<C, T>) -> Option<Pen<P>>
         ensures loads { IfSome result (λ pen.
-            Loads locked.old.kernel locked.new.kernel self.old.seat self.old.version self.old.posted self.old.pen pen) }
+            Loads locked.old.kernel locked.new.kernel self.old.seat self.old.version self.old.posted
+            self.old.pen pen) }
         ensures version { self.new.version ≡ self.old.version }
         ensures stays { IfNone result (self.new.pen ≡ self.old.pen) }
         ensures nothing { IfNone result (TellsNothing locked.old.kernel locked.new.kernel
@@ -216,7 +218,8 @@ impl<T: Ledger, P: PenPort + Drop> PostBox<T, P> {
         pen: Pen<P>,
     ) -> Option<Pen<P>>
         ensures looks { IfNone result (pen.place ≡ self.old.place → TellsNothing
-            locked.old.kernel locked.new.kernel self.old.seat (Some pen) self.old.posted self.new.posted) }
+            locked.old.kernel locked.new.kernel self.old.seat (Some pen)
+            self.old.posted self.new.posted) }
         ensures only { OnlyTakes locked.old.kernel locked.new.kernel }
         ensures shut { self.new.shut ≡ self.old.shut }
     {

@@ -128,16 +128,22 @@ impl<C: Ledger, T: Ledger> Locked<C, T> {
     ) -> Result<(ThreadId, CallSeat<C>, TakeSeat<T>), Refusal>
         ensures ok { IfOk result (λ opened. (open_refusal self.old.kernel number space ≡ None)
             × Opens self.old.kernel self.new.kernel number space opened.0) }
-        ensures call_seat { IfOk result (λ opened. (opened.1.thread ≡ opened.0) × (opened.1.made ≡ 0)) }
-        ensures take_seat { IfOk result (λ opened. (opened.2.thread ≡ opened.0) × (opened.2.taken ≡ 0)) }
-        ensures cause { IfErr result (λ refusal. MayRefuse (open_refusal self.old.kernel number space) refusal) }
+        ensures call_seat { IfOk result (λ opened. (opened.1.thread ≡ opened.0)
+            × (opened.1.made ≡ 0)) }
+        ensures take_seat { IfOk result (λ opened. (opened.2.thread ≡ opened.0)
+            × (opened.2.taken ≡ 0)) }
+        ensures cause { IfErr result (λ refusal. MayRefuse
+            (open_refusal self.old.kernel number space) refusal) }
         ensures memory { result ≡ Err Refusal.NoMemory → LacksRoomFor self.old.kernel open_need }
         ensures err { OnErr result (self.new.kernel ≡ self.old.kernel) }
-        ensures opens { IfOk result (λ opened. MayObey self.old.kernel (command.Open number space) (answer.Opened opened.0)
+        ensures opens { IfOk result (λ opened. MayObey self.old.kernel (command.Open number space)
+            (answer.Opened opened.0)
             self.new.kernel) }
-        ensures refuses { IfErr result (λ refusal. MayObey self.old.kernel (command.Open number space)
+        ensures refuses { IfErr result (λ refusal. MayObey self.old.kernel
+            (command.Open number space)
             (answer.Refused refusal) self.new.kernel) }
-        ensures few { length self.new.kernel.history ≤ length self.old.kernel.history + max_command_entries }
+        ensures few { length self.new.kernel.history ≤ length self.old.kernel.history
+            + max_command_entries }
     {
         let Locked {
             kernel,
@@ -169,9 +175,11 @@ impl<C: Ledger, T: Ledger> Locked<C, T> {
     /// Enters a call of the seat's thread. K6 also where the seat's amount is not the kernel's count for its thread.
     /// A call that is refused is handed back, and the seat is unchanged.
     pub fn enter_seated(&mut self, seat: &mut CallSeat<C>, call: Call) -> Result<u64, EnterRefused>
-        ensures ok { IfOk result (λ number. (enter_refusal self.old.kernel seat.old.thread call ≡ None)
+        ensures ok { IfOk result (λ number. (enter_refusal self.old.kernel
+            seat.old.thread call ≡ None)
             × Enters self.old.kernel self.new.kernel number seat.old.thread call) }
-        ensures counted { OnOk result (seat.old.made ≡ made_by self.old.kernel.history seat.old.thread) }
+        ensures counted { OnOk result (seat.old.made
+            ≡ made_by self.old.kernel.history seat.old.thread) }
         ensures made { OnOk result (seat.new.made ≡ seat.old.made + 1) }
         ensures book { OnOk result (self.new.calls.total ≡ self.old.calls.total + 1) }
         ensures thread { seat.new.thread ≡ seat.old.thread }
@@ -183,8 +191,10 @@ impl<C: Ledger, T: Ledger> Locked<C, T> {
         ensures err_seat { OnErr result (seat.new.made ≡ seat.old.made) }
         ensures err_book { OnErr result (self.new.calls.total ≡ self.old.calls.total) }
         ensures obeys { SeatObeys seat.old.made (made_by self.old.kernel.history seat.old.thread)
-            self.old.kernel (command.Enter seat.old.thread call) (enter_answer result) self.new.kernel }
-        ensures few { length self.new.kernel.history ≤ length self.old.kernel.history + max_command_entries }
+            self.old.kernel (command.Enter seat.old.thread call)
+            (enter_answer result) self.new.kernel }
+        ensures few { length self.new.kernel.history ≤ length self.old.kernel.history
+            + max_command_entries }
     {
         let Locked { kernel, calls, .. } = self;
         let CallSeat {
@@ -217,15 +227,18 @@ impl<C: Ledger, T: Ledger> Locked<C, T> {
     ) -> Result<ExregAnswer, Refusal>
         ensures ok { IfOk result (λ answer. (exreg_refusal self.old.kernel seat.now.thread ≡ None)
             × Exchanges self.old.kernel self.new.kernel seat.now.thread target control answer) }
-        ensures counted { OnOk result (seat.now.made ≡ made_by self.old.kernel.history seat.now.thread) }
+        ensures counted { OnOk result (seat.now.made
+            ≡ made_by self.old.kernel.history seat.now.thread) }
         ensures cause { IfErr result (λ refusal. SeatRefuses seat.now.made
             (made_by self.old.kernel.history seat.now.thread)
             (exreg_refusal self.old.kernel seat.now.thread) refusal) }
         ensures memory { result ≡ Err Refusal.NoMemory → LacksRoomFor self.old.kernel exreg_need }
         ensures err { OnErr result (self.new.kernel ≡ self.old.kernel) }
         ensures obeys { SeatObeys seat.now.made (made_by self.old.kernel.history seat.now.thread)
-            self.old.kernel (command.Exreg seat.now.thread target control) (exreg_result result) self.new.kernel }
-        ensures few { length self.new.kernel.history ≤ length self.old.kernel.history + max_command_entries }
+            self.old.kernel (command.Exreg seat.now.thread target control)
+            (exreg_result result) self.new.kernel }
+        ensures few { length self.new.kernel.history ≤ length self.old.kernel.history
+            + max_command_entries }
     {
         let Locked { kernel, .. } = self;
         if kernel.made(seat.thread) != seat.made {
@@ -241,14 +254,19 @@ impl<C: Ledger, T: Ledger> Locked<C, T> {
     /// The outcome of the seat's thread's last call, once, where the call is over. None also where the seat's amount is not
     /// the kernel's count for its thread. Takes no memory.
     pub fn take_seated(&mut self, seat: &mut TakeSeat<T>) -> Option<Taken<T>>
-        ensures some { IfSome result (λ taken. Gives self.old.kernel self.new.kernel seat.old.thread (Some taken.outcome)) }
-        ensures named { IfSome result (λ taken. (taken.thread ≡ seat.old.thread) × (taken.amount ≡ seat.new.taken)) }
-        ensures counted { IfSome result (λ _. seat.old.taken ≡ taken_by self.old.kernel seat.old.thread) }
-        ensures numbered { IfSome result (λ taken. made_by self.old.kernel.history seat.old.thread ≡ taken.amount) }
+        ensures some { IfSome result (λ taken. Gives self.old.kernel self.new.kernel seat.old.thread
+            (Some taken.outcome)) }
+        ensures named { IfSome result (λ taken. (taken.thread ≡ seat.old.thread)
+            × (taken.amount ≡ seat.new.taken)) }
+        ensures counted { IfSome result (λ _. seat.old.taken
+            ≡ taken_by self.old.kernel seat.old.thread) }
+        ensures numbered { IfSome result (λ taken. made_by self.old.kernel.history
+            seat.old.thread ≡ taken.amount) }
         ensures taken { IfSome result (λ _. seat.new.taken ≡ seat.old.taken + 1) }
         ensures book { IfSome result (λ _. self.new.takes.total ≡ self.old.takes.total + 1) }
         ensures thread { seat.new.thread ≡ seat.old.thread }
-        ensures none { IfNone result (TakesNothing self.old.kernel self.new.kernel seat.old.thread seat.old.taken) }
+        ensures none { IfNone result (TakesNothing self.old.kernel self.new.kernel
+            seat.old.thread seat.old.taken) }
         ensures none_seat { IfNone result (seat.new.taken ≡ seat.old.taken) }
         ensures none_book { IfNone result (self.new.takes.total ≡ self.old.takes.total) }
     {
@@ -281,17 +299,20 @@ impl<C: Ledger, T: Ledger> Locked<C, T> {
         ensures ok { OnOk result (Breaks self.old.kernel self.new.kernel seat.now.thread) }
         ensures gone { OnErr result (is_live self.old.kernel.history seat.now.thread ≡ false) }
         ensures err { OnErr result (self.new.kernel ≡ self.old.kernel) }
-        ensures few { length self.new.kernel.history ≤ length self.old.kernel.history + max_command_entries }
+        ensures few { length self.new.kernel.history ≤ length self.old.kernel.history
+            + max_command_entries }
     {
         self.break_thread(seat.thread)
     }
 
     fn break_thread(&mut self, thread: ThreadId) -> Result<(), NoThread>
-        ensures obeys { MayObey self.old.kernel (command.Broke thread) (broke_answer result) self.new.kernel }
+        ensures obeys { MayObey self.old.kernel (command.Broke thread)
+            (broke_answer result) self.new.kernel }
         ensures ok { OnOk result (Breaks self.old.kernel self.new.kernel thread) }
         ensures gone { OnErr result (is_live self.old.kernel.history thread ≡ false) }
         ensures err { OnErr result (self.new.kernel ≡ self.old.kernel) }
-        ensures few { length self.new.kernel.history ≤ length self.old.kernel.history + max_command_entries }
+        ensures few { length self.new.kernel.history ≤ length self.old.kernel.history
+            + max_command_entries }
     {
         let Locked { kernel, .. } = self;
         let ended = kernel.broke(thread);
@@ -303,7 +324,8 @@ impl<C: Ledger, T: Ledger> Locked<C, T> {
     fn tick(&mut self, now: u64)
         ensures ticks { Ticks self.old.kernel self.new.kernel now }
         ensures obeys { MayObey self.old.kernel (command.At now) answer.Done self.new.kernel }
-        ensures few { length self.new.kernel.history ≤ length self.old.kernel.history + max_command_entries }
+        ensures few { length self.new.kernel.history ≤ length self.old.kernel.history
+            + max_command_entries }
     {
         let Locked { kernel, .. } = self;
         kernel.at(now);
@@ -311,8 +333,10 @@ impl<C: Ledger, T: Ledger> Locked<C, T> {
     }
 
     fn advance(&mut self) -> Advance
-        ensures obeys { MayObey self.old.kernel command.Advance (answer.Advanced result) self.new.kernel }
-        ensures few { length self.new.kernel.history ≤ length self.old.kernel.history + max_command_entries }
+        ensures obeys { MayObey self.old.kernel command.Advance
+            (answer.Advanced result) self.new.kernel }
+        ensures few { length self.new.kernel.history ≤ length self.old.kernel.history
+            + max_command_entries }
     {
         let Locked { kernel, .. } = self;
         let advance = kernel.advance();
@@ -420,7 +444,8 @@ impl<C: Ledger, T: Ledger> Locked<C, T> {
         ensures answers { AnswersStep seat command result.answer result.calls }
         ensures takes { GivesSeat result.answer result.takes }
         ensures back { HandsBack command result.answer result.back }
-        ensures few { length self.new.kernel.history ≤ length self.old.kernel.history + 2 * max_command_entries }
+        ensures few { length self.new.kernel.history ≤ length self.old.kernel.history
+            + 2 * max_command_entries }
         ensures paired { Paired self.new.kernel.history }
     {
         self.tick(now);
@@ -437,7 +462,8 @@ impl<C: Ledger, T: Ledger> Locked<C, T> {
         ensures answers { AnswersStep seat command result.answer result.calls }
         ensures takes { GivesSeat result.answer result.takes }
         ensures back { HandsBack command result.answer result.back }
-        ensures few { length self.new.kernel.history ≤ length self.old.kernel.history + max_command_entries }
+        ensures few { length self.new.kernel.history ≤ length self.old.kernel.history
+            + max_command_entries }
     {
         match command {
             Command::Open { number, space } => self.obey_open(seat, number, space),
@@ -456,10 +482,12 @@ impl<C: Ledger, T: Ledger> Locked<C, T> {
 
     #[tactic(auto, unfolding(crate::specs::Acting::StepDoes, crate::specs::Acting::AnswersStep), using(crate::proofs::Steps::still))]
     fn obey_open(&mut self, seat: Option<CallSeat<C>>, number: u64, space: u64) -> Answered<C, T>
-        ensures does { StepDoes self.old.kernel seat (command.Open number space) result.answer self.new.kernel }
+        ensures does { StepDoes self.old.kernel seat (command.Open number space)
+            result.answer self.new.kernel }
         ensures answers { AnswersStep seat (command.Open number space) result.answer result.calls }
         ensures takes { GivesSeat result.answer result.takes }
-        ensures few { length self.new.kernel.history ≤ length self.old.kernel.history + max_command_entries }
+        ensures few { length self.new.kernel.history ≤ length self.old.kernel.history
+            + max_command_entries }
     {
         match self.open_seated(number, space) {
             Ok((thread, calls, takes)) => Answered {
@@ -479,11 +507,13 @@ impl<C: Ledger, T: Ledger> Locked<C, T> {
         thread: ThreadId,
         call: Call,
     ) -> Answered<C, T>
-        ensures does { StepDoes self.old.kernel seat (command.Enter thread call) result.answer self.new.kernel }
+        ensures does { StepDoes self.old.kernel seat (command.Enter thread call)
+            result.answer self.new.kernel }
         ensures answers { AnswersStep seat (command.Enter thread call) result.answer result.calls }
         ensures takes { GivesSeat result.answer result.takes }
         ensures back { HandsBack (command.Enter thread call) result.answer result.back }
-        ensures few { length self.new.kernel.history ≤ length self.old.kernel.history + max_command_entries }
+        ensures few { length self.new.kernel.history ≤ length self.old.kernel.history
+            + max_command_entries }
     {
         let Some(seat) = seat else {
             return Answered::refused(Refusal::NoThread, None, call);
@@ -506,10 +536,13 @@ impl<C: Ledger, T: Ledger> Locked<C, T> {
         target: ThreadId,
         control: Control,
     ) -> Answered<C, T>
-        ensures does { StepDoes self.old.kernel seat (command.Exreg thread target control) result.answer self.new.kernel }
-        ensures answers { AnswersStep seat (command.Exreg thread target control) result.answer result.calls }
+        ensures does { StepDoes self.old.kernel seat (command.Exreg thread target control)
+            result.answer self.new.kernel }
+        ensures answers { AnswersStep seat (command.Exreg thread target control)
+            result.answer result.calls }
         ensures takes { GivesSeat result.answer result.takes }
-        ensures few { length self.new.kernel.history ≤ length self.old.kernel.history + max_command_entries }
+        ensures few { length self.new.kernel.history ≤ length self.old.kernel.history
+            + max_command_entries }
     {
         let Some(seat) = seat else {
             return Answered::new(Answer::Refused(Refusal::NoThread), None);
@@ -525,10 +558,12 @@ impl<C: Ledger, T: Ledger> Locked<C, T> {
 
     #[tactic(auto, unfolding(crate::specs::Acting::StepDoes, crate::specs::Acting::AnswersStep), using(crate::proofs::Steps::still))]
     fn obey_broke(&mut self, seat: Option<CallSeat<C>>, thread: ThreadId) -> Answered<C, T>
-        ensures does { StepDoes self.old.kernel seat (command.Broke thread) result.answer self.new.kernel }
+        ensures does { StepDoes self.old.kernel seat (command.Broke thread)
+            result.answer self.new.kernel }
         ensures answers { AnswersStep seat (command.Broke thread) result.answer result.calls }
         ensures takes { GivesSeat result.answer result.takes }
-        ensures few { length self.new.kernel.history ≤ length self.old.kernel.history + max_command_entries }
+        ensures few { length self.new.kernel.history ≤ length self.old.kernel.history
+            + max_command_entries }
     {
         match self.break_thread(thread) {
             Ok(()) => Answered::new(Answer::Done, seat),
@@ -538,10 +573,12 @@ impl<C: Ledger, T: Ledger> Locked<C, T> {
 
     #[tactic(auto, unfolding(crate::specs::Acting::StepDoes, crate::specs::Acting::AnswersStep), using(crate::proofs::Steps::still))]
     fn obey_at(&mut self, seat: Option<CallSeat<C>>, reading: u64) -> Answered<C, T>
-        ensures does { StepDoes self.old.kernel seat (command.At reading) result.answer self.new.kernel }
+        ensures does { StepDoes self.old.kernel seat (command.At reading)
+            result.answer self.new.kernel }
         ensures answers { AnswersStep seat (command.At reading) result.answer result.calls }
         ensures takes { GivesSeat result.answer result.takes }
-        ensures few { length self.new.kernel.history ≤ length self.old.kernel.history + max_command_entries }
+        ensures few { length self.new.kernel.history ≤ length self.old.kernel.history
+            + max_command_entries }
     {
         self.tick(reading);
         Answered::new(Answer::Done, seat)
@@ -552,7 +589,8 @@ impl<C: Ledger, T: Ledger> Locked<C, T> {
         ensures does { StepDoes self.old.kernel seat command.Advance result.answer self.new.kernel }
         ensures answers { AnswersStep seat command.Advance result.answer result.calls }
         ensures takes { GivesSeat result.answer result.takes }
-        ensures few { length self.new.kernel.history ≤ length self.old.kernel.history + max_command_entries }
+        ensures few { length self.new.kernel.history ≤ length self.old.kernel.history
+            + max_command_entries }
     {
         Answered::new(Answer::Advanced(self.advance()), seat)
     }
@@ -635,7 +673,8 @@ impl<C: Ledger, T: Ledger> Locked<C, T> {
     /// Marks the entries before a place of the history, counted from 0: a compaction may let go of them. The mark does not go back, and
     /// nothing else changes. Takes no memory.
     pub fn mark(&mut self, upto: usize)
-        ensures { self.new.kernel ≡ record self.old.kernel { held = marked_to upto self.old.kernel.held } }
+        ensures { self.new.kernel ≡ record self.old.kernel
+            { held = marked_to upto self.old.kernel.held } }
     {
         let Locked { kernel, .. } = self;
         kernel.mark(upto);

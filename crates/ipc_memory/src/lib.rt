@@ -37,7 +37,8 @@ pub trait Memory: Copy {
 
     /// Appends items.
     fn extend<X: Copy>(self, items: &mut Vec<X>, slice: &[X]) -> Result<(), AllocError>
-        ensures items { items.new.items ≡ (if is_ok result then items.old.items ++ slice.now else items.old.items) }
+        ensures items { items.new.items ≡ (if is_ok result then items.old.items
+            ++ slice.now else items.old.items) }
         ensures capacity { vec_capacity items.old ≤ vec_capacity items.new }
         ensures ample { is_ample → IsOk result };
 
@@ -85,7 +86,8 @@ pub fn from_slice<M: Memory, X: Copy>(memory: M, slice: &[X]) -> Result<Vec<X>, 
 
 /// Appends an item, or gives it back.
 pub fn push<M: Memory, X>(memory: M, items: &mut Vec<X>, item: X) -> Result<(), X>
-    ensures items { items.new.items ≡ (if is_ok result then items.old.items ++ item ∷ [] else items.old.items) }
+    ensures items { items.new.items ≡ (if is_ok result then items.old.items
+        ++ item ∷ [] else items.old.items) }
     ensures err { IfErr result (λ back. back ≡ item) }
     ensures ample { M.is_ample → IsOk result }
 {

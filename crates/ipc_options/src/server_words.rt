@@ -329,8 +329,10 @@ fn number(matches: &ArgMatches<'_>, id: &str) -> Option<u16>
 }
 
 fn flag(matches: &ArgMatches<'_>, id: &str) -> bool
-    ensures set { one_of id.now (rows_of (found_of matches.now)) ≡ Some (codes "true") → result ≡ true }
-    ensures left { one_of id.now (rows_of (found_of matches.now)) ≡ Some (codes "false") → result ≡ false }
+    ensures set { one_of id.now (rows_of (found_of matches.now))
+        ≡ Some (codes "true") → result ≡ true }
+    ensures left { one_of id.now (rows_of (found_of matches.now))
+        ≡ Some (codes "false") → result ≡ false }
 {
     matches.get_flag(id)
 }

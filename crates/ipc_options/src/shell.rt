@@ -133,7 +133,8 @@ pub fn shell_options<'a>(alloc: Global, words: &'a [String]) -> Result<ShellOpti
         fault_of shell_app (map string_bytes words.entry.now) ≡ []) }
     ensures taken { IfErr result (λ error. IsTaken (map string_bytes words.entry.now)
         → kind_of error ≡ ErrorKind.OutOfMemory) }
-    ensures version { AsksVersion (map string_bytes words.entry.now) → IsErrAnd result TellsVersion }
+    ensures version { AsksVersion (map string_bytes words.entry.now)
+        → IsErrAnd result TellsVersion }
 {
     let mut command = shell_command(alloc)?;
     let matches = command.try_get_matches_from_mut(words)?;
@@ -706,7 +707,8 @@ fn state_options<'a>(state: &ArgMatches<'a>) -> Option<ShellOptions<'a>>
 #[tactic(auto, unfolding(crate::specs::Shell::HasMatchesIn))]
 fn script_options<'a>(script: &ArgMatches<'a>) -> Option<ShellOptions<'a>>
     ensures limits { IfSome result IsWithinLimits }
-    ensures matches { IfSome result (HasMatchesIn (codes "script") (rows_of (found_of script.now))) }
+    ensures matches { IfSome result (HasMatchesIn (codes "script")
+        (rows_of (found_of script.now))) }
     ensures found { ReadsAsCheck (rows_of (found_of script.now)) → IsSome result }
 {
     let file = text(script, "file")?;
@@ -727,7 +729,8 @@ fn count_options<'a>(count: &ArgMatches<'a>) -> Option<ShellOptions<'a>>
 #[tactic(auto, unfolding(crate::specs::Shell::HasMatchesIn))]
 fn follow_options<'a>(follow: &ArgMatches<'a>) -> Option<ShellOptions<'a>>
     ensures limits { IfSome result IsWithinLimits }
-    ensures matches { IfSome result (HasMatchesIn (codes "follow") (rows_of (found_of follow.now))) }
+    ensures matches { IfSome result (HasMatchesIn (codes "follow")
+        (rows_of (found_of follow.now))) }
     ensures found { ReadsAsCheck (rows_of (found_of follow.now)) → IsSome result }
 {
     let file = text(follow, "file")?;
@@ -760,7 +763,8 @@ fn talk_options<'a>(talk: &ArgMatches<'a>) -> Option<ShellOptions<'a>>
 #[tactic(auto, unfolding(crate::specs::Shell::HasMatchesIn))]
 fn migrate_options<'a>(migrate: &ArgMatches<'a>) -> Option<ShellOptions<'a>>
     ensures limits { IfSome result IsWithinLimits }
-    ensures matches { IfSome result (HasMatchesIn (codes "migrate") (rows_of (found_of migrate.now))) }
+    ensures matches { IfSome result (HasMatchesIn (codes "migrate")
+        (rows_of (found_of migrate.now))) }
     ensures found { ReadsAsMigrate (rows_of (found_of migrate.now)) → IsSome result }
 {
     let old = text(migrate, "old")?;
@@ -773,7 +777,8 @@ fn migrate_options<'a>(migrate: &ArgMatches<'a>) -> Option<ShellOptions<'a>>
 fn word_options<'a>(name: &str, found: &ArgMatches<'a>) -> Option<ShellOptions<'a>>
     ensures limits { IfSome result IsWithinLimits }
     ensures matches { IfSome result (HasMatchesIn name.now (rows_of (found_of found.now))) }
-    ensures found { TakesWord name.now → ReadsAsWord (rows_of (found_of found.now)) → IsSome result }
+    ensures found { TakesWord name.now → ReadsAsWord
+        (rows_of (found_of found.now)) → IsSome result }
 {
     let word = text(found, "word")?;
     match name {
@@ -791,7 +796,8 @@ fn flag(found: &ArgMatches<'_>, id: &str) -> bool
 }
 
 fn text<'a>(found: &ArgMatches<'a>, id: &str) -> Option<&'a str>
-    ensures { option_map (λ text. text.now) result ≡ first_of id.now (rows_of (found_of found.now)) }
+    ensures { option_map (λ text. text.now) result
+        ≡ first_of id.now (rows_of (found_of found.now)) }
 {
     found.get_str(id)
 }

@@ -85,7 +85,8 @@ impl Keeping {
 
     /// Whether a call is kept, or met one that is.
     fn tells_of(&self, number: u64) -> bool
-        ensures { result ≡ (list_any (λ n. number == n) self.now.calls || list_any (λ n. number == n) self.now.partners) }
+        ensures { result ≡ (list_any (λ n. number == n) self.now.calls
+            || list_any (λ n. number == n) self.now.partners) }
     {
         self.keeps_call(number) || self.met_kept(number)
     }

@@ -108,14 +108,16 @@ impl Partners {
 
     fn set_receiver(&mut self, place: usize, partner: Partner)
         requires { place < table_slots }
-        ensures { self.new ≡ slice_set self.old place (meets_receiver partner (joined_at self.old place)) }
+        ensures { self.new ≡ slice_set self.old place
+            (meets_receiver partner (joined_at self.old place)) }
     {
         self.calls[place].receiver = Some(partner);
     }
 
     fn set_sender(&mut self, place: usize, partner: Partner)
         requires { place < table_slots }
-        ensures { self.new ≡ slice_set self.old place (meets_sender partner (joined_at self.old place)) }
+        ensures { self.new ≡ slice_set self.old place
+            (meets_sender partner (joined_at self.old place)) }
     {
         self.calls[place].sender = Some(partner);
     }
@@ -216,7 +218,8 @@ fn shown_sender(entries: &Entries, slots: &Slots, caller: ThreadId, call: &Call)
     requires legal { Legal entries.now }
     requires stands { Stands entries.now slots.now }
     requires live { IsTrue (is_live entries.now caller) }
-    ensures { result ≡ (if may_be_shown entries.now caller call.now then call.now.originator else caller) }
+    ensures { result ≡ (if may_be_shown entries.now caller call.now
+        then call.now.originator else caller) }
 {
     let originator = call.originator();
     if call.tag().propagates() && slots.is_live_beside(entries, originator, caller) {

@@ -105,7 +105,8 @@ impl<P: PenPort> Pen<P> {
     #[tactic(auto, using(crate::proofs::PenLemmas::follows_passes, crate::proofs::PenLemmas::passes_none, crate::proofs::PenLemmas::grows_none))]
     pub fn write(&mut self, patience: Patience) -> Turn
         ensures follows { Follows self.new.out (rest_of self.new.rest) self.new.given }
-        ensures wrote { Passes self.old.out self.new.out (rest_of self.old.rest) (rest_of self.new.rest) }
+        ensures wrote { Passes self.old.out self.new.out (rest_of self.old.rest)
+            (rest_of self.new.rest) }
         ensures done { result ≡ Turn.Written → self.new.rest ≡ None }
         ensures failed { self.new.failed ≡ true → result ≡ Turn.Failed }
         ensures given { self.new.given ≡ self.old.given }

@@ -58,7 +58,8 @@ impl PieceBuffer {
         ensures err { OnErr result (length self.new ≡ 0) }
         ensures failed { OnErr result (P.failures port.old < P.failures port.new) }
         ensures kept { OnOk result (P.failures port.new ≡ P.failures port.old) }
-        ensures fewer { OnOk result (0 < length self.new → most_left (P.reads_left port.new) self.new
+        ensures fewer { OnOk result (0 < length self.new
+            → most_left (P.reads_left port.new) self.new
             ≤ most_left (P.reads_left port.old) self.old) }
     {
         if self.start < self.end {

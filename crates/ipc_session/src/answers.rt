@@ -40,8 +40,10 @@ impl<'a> MemoryAnswers<'a> {
     /// What it gave, in order, with None for each break; None where a growth was refused.
     pub fn takes(&self) -> Option<&[Option<Told>]>
         ensures kept { IfSome result (λ takes.
-            takes_of self.now.version self.now.is_complete self.now.takes.items ≡ Some (flat_map (take_of self.now.version) takes.now)) }
-        ensures lost { IfNone result (takes_of self.now.version self.now.is_complete self.now.takes.items ≡ None) }
+            takes_of self.now.version self.now.is_complete self.now.takes.items
+            ≡ Some (flat_map (take_of self.now.version) takes.now)) }
+        ensures lost { IfNone result (takes_of self.now.version self.now.is_complete
+            self.now.takes.items ≡ None) }
     {
         self.is_complete.then_some(self.takes.as_slice())
     }
@@ -49,8 +51,10 @@ impl<'a> MemoryAnswers<'a> {
     fn note(&mut self, take: Option<Told>)
         ensures gone { self.new.is_gone ≡ self.old.is_gone }
         ensures version { self.new.version ≡ self.old.version }
-        ensures told { TellsTaken (takes_of self.old.version self.old.is_complete self.old.takes.items)
-            (takes_of self.new.version self.new.is_complete self.new.takes.items) (take_of self.old.version take) }
+        ensures told { TellsTaken (takes_of self.old.version self.old.is_complete
+            self.old.takes.items)
+            (takes_of self.new.version self.new.is_complete self.new.takes.items)
+            (take_of self.old.version take) }
     {
         if self.takes.push(take).is_err() {
             self.is_complete = false;

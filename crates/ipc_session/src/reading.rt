@@ -29,7 +29,8 @@ pub fn read_loop<P: PortRead, K: KernelPort, G: Gate>(
     gate: &mut G,
 ) -> Ending
     ensures calls { (bytes : List ℕ) × Consumes (P.remaining port.old) (P.remaining port.new) bytes
-        × EndsSo result (K.log kernel_port.old) (K.log kernel_port.new) bytes (P.remaining port.new) (Breaks ∷ []) }
+        × EndsSo result (K.log kernel_port.old) (K.log kernel_port.new) bytes
+        (P.remaining port.new) (Breaks ∷ []) }
     ensures device { result ≡ Ending.Device → P.failures port.old < P.failures port.new }
     ensures stopped { result ≡ Ending.Stopped → G.stopped gate.new ≡ true }
     ensures ended { result ≡ Ending.EndOfInput → IsAtEnd (P.remaining port.new) }
@@ -47,7 +48,8 @@ fn read_all<P: PortRead, K: KernelPort, G: Gate>(
     gate: &mut G,
 ) -> Ending
     ensures calls { (bytes : List ℕ) × Consumes (P.remaining port.old) (P.remaining port.new) bytes
-        × EndsSo result (K.log kernel_port.old) (K.log kernel_port.new) bytes (P.remaining port.new) [] }
+        × EndsSo result (K.log kernel_port.old) (K.log kernel_port.new) bytes
+        (P.remaining port.new) [] }
     ensures device { result ≡ Ending.Device → P.failures port.old < P.failures port.new }
     ensures stopped { result ≡ Ending.Stopped → G.stopped gate.new ≡ true }
     ensures ended { result ≡ Ending.EndOfInput → IsAtEnd (P.remaining port.new) }
@@ -156,7 +158,8 @@ fn read_turn<P: PortRead, K: KernelPort>(
 fn end_input<K: KernelPort>(kernel_port: &mut K, decoder: &mut CallDecoder, stage: Stage) -> Ending
     requires { stage ≢ Stage.Finished }
     ensures calls { (log : Log) (bytes left : List ℕ) (input : Option (List ℕ))
-        → Holds decoder.old left → HasServed log (K.log kernel_port.old) at_stage.Greeting bytes left stage [] → IsAtEnd input
+        → Holds decoder.old left → HasServed log (K.log kernel_port.old) at_stage.Greeting bytes
+        left stage [] → IsAtEnd input
         → EndsSo result log (K.log kernel_port.new) bytes input [] }
     ensures only { result ≡ Ending.Device → ⊥ }
     ensures never { result ≡ Ending.Stopped → ⊥ }
@@ -179,7 +182,8 @@ fn serve_piece<K: KernelPort>(
 ) -> Turned
     requires { stage ≢ Stage.Finished }
     ensures { (left : List ℕ) (input : Option (List ℕ)) → Holds decoder.old left
-        → ServesPiece (K.log kernel_port.old) (K.log kernel_port.new) stage (left ++ piece.now) input decoder.new result }
+        → ServesPiece (K.log kernel_port.old) (K.log kernel_port.new) stage (left ++ piece.now)
+        input decoder.new result }
 {
     let mut stage = stage;
     let mut rest = piece;

@@ -17,7 +17,8 @@ pub(crate) fn serve<K: KernelPort>(
     stage: Stage,
     heard: Result<Heard, FrameFault>,
 ) -> Turned
-    ensures { (calls : List KernelCall) × TellsMore (K.log kernel_port.old) (K.log kernel_port.new) calls
+    ensures { (calls : List KernelCall) × TellsMore (K.log kernel_port.old)
+        (K.log kernel_port.new) calls
         × Serves stage heard calls result }
 {
     let here = stage;
@@ -27,7 +28,8 @@ pub(crate) fn serve<K: KernelPort>(
 
 #[tactic(auto, unfolding(ipc_connection::specs::Replying::next_stage))]
 fn react<K: KernelPort>(kernel_port: &mut K, stage: Stage, reaction: Reaction) -> Turned
-    ensures { (calls : List KernelCall) × TellsMore (K.log kernel_port.old) (K.log kernel_port.new) calls
+    ensures { (calls : List KernelCall) × TellsMore (K.log kernel_port.old)
+        (K.log kernel_port.new) calls
         × ServesBy stage reaction calls result }
 {
     match reaction {
@@ -40,7 +42,8 @@ fn react<K: KernelPort>(kernel_port: &mut K, stage: Stage, reaction: Reaction) -
 
 /// Asks the kernel port, posts what it left, and answers what comes next.
 fn ask<K: KernelPort>(kernel_port: &mut K, stage: Stage, request: Request) -> Turned
-    ensures { (calls : List KernelCall) × TellsMore (K.log kernel_port.old) (K.log kernel_port.new) calls
+    ensures { (calls : List KernelCall) × TellsMore (K.log kernel_port.old)
+        (K.log kernel_port.new) calls
         × ServesBy stage (reaction.Ask request) calls result }
 {
     let told = kernel_port.ask(request);

@@ -21,10 +21,12 @@ fn write_piece<P: PortWrite>(
     buffer: &mut [u8],
 ) -> Result<bool, PortFault>
     requires { 0 < length buffer.old }
-    ensures wrote { OnOk result (Writes (P.written port.old) (P.written port.new) encoder.old encoder.new) }
+    ensures wrote { OnOk result (Writes (P.written port.old) (P.written port.new)
+        encoder.old encoder.new) }
     ensures more { IfOk result (λ more. more ≡ true → length encoder.new < length encoder.old) }
     ensures done { IfOk result (λ more. more ≡ false → encoder.old ≡ []) }
-    ensures part { OnErr result (AppendsPart (P.written port.old) (P.written port.new) encoder.old) }
+    ensures part { OnErr result (AppendsPart (P.written port.old)
+        (P.written port.new) encoder.old) }
     ensures failed { OnErr result (P.failures port.old < P.failures port.new) }
     ensures kept { OnOk result (P.failures port.new ≡ P.failures port.old) }
 {
@@ -102,7 +104,8 @@ fn encoder_of(next: Next) -> Option<Encoder>
 
 /// Writes what the answer port gives next, and answers how the loop ends, if it does.
 fn write_next<P: PortWrite, A: AnswerPort>(port: &mut P, answer_port: &mut A) -> Option<WriteEnding>
-    ensures text { Wrote (A.log answer_port.old) (A.log answer_port.new) (P.written port.old) (P.written port.new)
+    ensures text { Wrote (A.log answer_port.old) (A.log answer_port.new) (P.written port.old)
+        (P.written port.new)
         (broken_by result) (is_whole_at result) }
     ensures device { result ≡ Some WriteEnding.Device → P.failures port.old < P.failures port.new }
     ensures kept { result ≢ Some WriteEnding.Device → P.failures port.new ≡ P.failures port.old }
@@ -130,7 +133,8 @@ pub fn write_loop<P: PortWrite, A: AnswerPort, G: Gate>(
     answer_port: &mut A,
     gate: &mut G,
 ) -> WriteEnding
-    ensures text { Wrote (A.log answer_port.old) (A.log answer_port.new) (P.written port.old) (P.written port.new)
+    ensures text { Wrote (A.log answer_port.old) (A.log answer_port.new) (P.written port.old)
+        (P.written port.new)
         (broken_by (Some result)) (is_whole_at (Some result)) }
     ensures device { result ≡ WriteEnding.Device → P.failures port.old < P.failures port.new }
     ensures stopped { result ≡ WriteEnding.Stopped → G.stopped gate.new ≡ true }

@@ -111,7 +111,8 @@ fn run_line<W: PortWrite>(
 
 /// Obeys a line, and gives what is printed for it. None where it spells no command and asks for no compaction.
 fn reply(alloc: Global, kernel: &mut Kernel, line: &[u8]) -> Result<Option<String>, AllocError>
-    ensures found { IfOk result (λ reply. IfSome reply (λ text. RunsLine kernel.old line.now (string_bytes text) kernel.new)) }
+    ensures found { IfOk result (λ reply. IfSome reply
+        (λ text. RunsLine kernel.old line.now (string_bytes text) kernel.new)) }
     ensures none { result ≡ Ok None → IsNoCommand kernel.old line.now }
 {
     if asks_to_compact(line) {
@@ -138,7 +139,8 @@ fn asks_to_compact(line: &[u8]) -> bool
 
 /// Compacts a kernel up to its mark, and says how many entries were dropped and how many are left.
 fn compact(alloc: Global, kernel: &mut Kernel) -> Result<String, AllocError>
-    ensures { IfOk result (λ text. IsCompacted kernel.old compact_line (string_bytes text) kernel.new) }
+    ensures { IfOk result (λ text. IsCompacted kernel.old compact_line
+        (string_bytes text) kernel.new) }
 {
     let done = kernel.compact_marked();
     let mut text = String::new(alloc);

@@ -101,7 +101,8 @@ impl Slots {
     fn stop_of(&self, entries: &Entries, thread: ThreadId, control: MaskedControl) -> Option<Output>
         requires legal { Legal entries.now }
         requires stands { Stands entries.now self.now }
-        ensures { result ≡ option_and_then (stop entries.now control) (open_call entries.now thread) }
+        ensures { result ≡ option_and_then (stop entries.now control)
+            (open_call entries.now thread) }
     {
         match self.call_of(entries, thread) {
             Some(call) => self.stop_call(entries, &call, control),

@@ -31,7 +31,10 @@ impl Slots {
         requires within { place < table_slots }
         requires free { (slot_at self.old.table place).live ≡ None }
         requires live { IsOfNumber place version live }
-        ensures { self.new ≡ record self.old { table = slice_set self.old.table place (made_slot version live) } }
+        ensures { self.new ≡ record self.old {
+          table = slice_set self.old.table place
+              (made_slot version live);
+        } }
     {
         self.table.make(place, version, live);
     }

@@ -81,7 +81,8 @@ impl Slots {
         requires legal { Legal entries.now }
         requires stands { Stands entries.now self.now }
         requires call { IsStanding entries.now call.now }
-        ensures { result ≡ option_map (standing_of entries.now) (match_of entries.now call.now.number) }
+        ensures { result ≡ option_map (standing_of entries.now)
+            (match_of entries.now call.now.number) }
     {
         if !call.may_meet() {
             return None;

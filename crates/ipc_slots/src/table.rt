@@ -158,7 +158,8 @@ impl SlotTable {
     /// Ends a live thread.
     pub(crate) fn close(&mut self, thread: ThreadId)
         requires { IsSome (live_in self.old thread) }
-        ensures { self.new ≡ slice_set self.old (number_of thread) (ended (slot_at self.old (number_of thread))) }
+        ensures { self.new ≡ slice_set self.old (number_of thread)
+            (ended (slot_at self.old (number_of thread))) }
     {
         self.threads.close(thread);
         self.calls[thread.number() as usize] = None;

@@ -32,7 +32,8 @@ pub fn next_line<P: PortRead>(port: &mut P, buffer: &mut PieceBuffer, line: &mut
     ensures failed { result ≡ LineEnd.Failed → P.failures port.old < P.failures port.new }
     ensures kept { result ≢ LineEnd.Failed → P.failures port.new ≡ P.failures port.old }
     ensures fewer { result ≡ LineEnd.Newline
-        → most_left (P.reads_left port.new) buffer.new < most_left (P.reads_left port.old) buffer.old }
+        → most_left (P.reads_left port.new) buffer.new < most_left
+        (P.reads_left port.old) buffer.old }
 {
     line.clear();
     'pieces: loop {
@@ -56,9 +57,11 @@ fn next_piece<P: PortRead>(
     ensures unfilled { result ≡ Some LineEnd.Failed → length buffer.new ≡ 0 }
     ensures kept { result ≢ Some LineEnd.Failed → P.failures port.new ≡ P.failures port.old }
     ensures fewer { IsNone result
-        → most_left (P.reads_left port.new) buffer.new < most_left (P.reads_left port.old) buffer.old }
+        → most_left (P.reads_left port.new) buffer.new < most_left
+        (P.reads_left port.old) buffer.old }
     ensures newline { result ≡ Some LineEnd.Newline
-        → most_left (P.reads_left port.new) buffer.new < most_left (P.reads_left port.old) buffer.old }
+        → most_left (P.reads_left port.new) buffer.new < most_left
+        (P.reads_left port.old) buffer.old }
 {
     match buffer.fill(port) {
         Ok(()) => {

@@ -73,7 +73,8 @@ impl Candidates {
 impl Candidates {
     /// Where a place stands among them, if it does.
     fn index_of(&self, place: usize) -> Option<usize>
-        ensures found { IfSome result (λ index. (index < length self.now) × (slice_index_or self.now index place ≡ place)) }
+        ensures found { IfSome result (λ index. (index < length self.now)
+            × (slice_index_or self.now index place ≡ place)) }
         ensures none { IfNone result (is_among self.now place ≡ false) }
     {
         self.places

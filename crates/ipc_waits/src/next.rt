@@ -104,7 +104,8 @@ impl Waiting {
     ) -> Option<(u64, Output)>
         requires legal { Legal entries.now }
         requires waiting { IsWaiting entries.now self.now }
-        ensures { result ≡ better_meeting entries.now (standing_in (slot_at self.now.slots.table place)) best }
+        ensures { result ≡ better_meeting entries.now
+            (standing_in (slot_at self.now.slots.table place)) best }
     {
         let Some(call) = self.slots.held(place) else {
             return best;
@@ -119,7 +120,8 @@ impl Waiting {
     fn best_meeting(&self, entries: &Entries, places: &[usize]) -> Option<(u64, Output)>
         requires legal { Legal entries.now }
         requires waiting { IsWaiting entries.now self.now }
-        ensures { IsLeastMeeting entries.now (slots_at self.now.slots.table places.now) (length places.now) result }
+        ensures { IsLeastMeeting entries.now (slots_at self.now.slots.table places.now)
+            (length places.now) result }
     {
         let mut best = None;
         for place in places {

@@ -55,7 +55,8 @@ fn place_for(waits: &[Wait], wait: &Wait) -> usize
     requires { IsOrdered waits.now }
     ensures within { result ≤ length waits.now }
     ensures order { IsPartitionPoint
-        (λ w. comes_before w wait.now ≡ true) (λ w. comes_before w wait.now ≡ false) waits.now result }
+        (λ w. comes_before w wait.now ≡ true)
+        (λ w. comes_before w wait.now ≡ false) waits.now result }
 {
     waits.partition_point(|other| other.comes_before(wait))
 }
@@ -63,7 +64,8 @@ fn place_for(waits: &[Wait], wait: &Wait) -> usize
 /// Where a wait stands, if it does.
 fn place_of(waits: &[Wait], wait: &Wait) -> Option<usize>
     requires { IsOrdered waits.now }
-    ensures found { IfSome result (λ index. (index < length waits.now) × (slice_index_or waits.now index wait.now ≡ wait.now)) }
+    ensures found { IfSome result (λ index. (index < length waits.now)
+        × (slice_index_or waits.now index wait.now ≡ wait.now)) }
     ensures none { IfNone result (is_in waits.now wait.now ≡ false) }
 {
     let begin = waits.partition_point(|other| !wait.comes_before(other));
@@ -154,7 +156,8 @@ impl Queue {
         requires here { IsAt place before }
         requires there { IsAt place after }
         ensures after { HasHere self.new place after }
-        ensures elsewhere { (w : Wait) → (w.place == place) ≡ false → is_in self.new w ≡ is_in self.old w }
+        ensures elsewhere { (w : Wait) → (w.place == place) ≡ false → is_in self.new w
+            ≡ is_in self.old w }
     {
         let _ = place;
         if before == after {
@@ -219,7 +222,8 @@ impl Queue {
 
     /// The least key; None where nothing waits.
     pub fn least_key(&self) -> Option<u64>
-        ensures { (moment : ℕ) → list_any (λ w. nat_le w.key moment) self.now ≡ is_until result moment }
+        ensures { (moment : ℕ) → list_any (λ w. nat_le w.key moment) self.now
+            ≡ is_until result moment }
     {
         match self.waits.as_slice().first() {
             Some(wait) => Some(wait.key),

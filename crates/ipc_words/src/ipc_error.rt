@@ -67,7 +67,8 @@ impl IpcError {
 
     /// The phase's partner does not exist.
     pub fn non_existing_partner(phase: Phase) -> IpcError
-        ensures { result ≡ error_code (bit_of_phase phase) (code_of_kind ErrorKind.NonExistingPartner) 0 }
+        ensures { result ≡ error_code (bit_of_phase phase)
+            (code_of_kind ErrorKind.NonExistingPartner) 0 }
     {
         IpcError {
             word: phase.bit() + 0x4,
@@ -87,7 +88,8 @@ impl IpcError {
     pub fn message_overflow(phase: Phase, offset: u64) -> Option<IpcError>
         ensures fits { IsSome result ↔ (offset < 2 ^ 60) }
         ensures value { IfSome result (λ error.
-            error ≡ error_code (bit_of_phase phase) (code_of_kind ErrorKind.MessageOverflow) offset) }
+            error ≡ error_code (bit_of_phase phase)
+            (code_of_kind ErrorKind.MessageOverflow) offset) }
     {
         if offset < 0x1000_0000_0000_0000 {
             Some(IpcError {

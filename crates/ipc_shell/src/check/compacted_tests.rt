@@ -20,7 +20,8 @@ use std::test::Fail;
 // Compacts a kernel up to its end, where all its entries were handed on.
 fn compact_whole(kernel: &mut Kernel)
     ensures history { kernel.new.history ≡ kernel.old.history }
-    ensures compact { held_of (history_of kernel.new) ≡ kept_of kernel.new.history kernel.new.taken }
+    ensures compact { held_of (history_of kernel.new)
+        ≡ kept_of kernel.new.history kernel.new.taken }
 {
     // its contract says that the place is at most the end
     let _ = kernel.whole_from();
@@ -43,7 +44,8 @@ fn verdict_behind(kernel: &Kernel, room: BaseRoom, entries: &[Entry]) -> Verdict
 fn verdict_after(kernel: &Kernel, room: BaseRoom, entries: &[Entry]) -> Verdict
     ghost before: { Before }
     requires before { before ≡ record { past = kernel.now.history; taken = kernel.now.taken } }
-    requires compact { held_of (history_of kernel.now) ≡ kept_of kernel.now.history kernel.now.taken }
+    requires compact { held_of (history_of kernel.now)
+        ≡ kept_of kernel.now.history kernel.now.taken }
     ensures yes { (result ≡ Yes) ↔ Legal (kernel.now.history ++ entries.now) }
     ensures no { IfNo result (IsFirstFaultAfter kernel.now.history entries.now) }
 {

@@ -3,9 +3,11 @@ use ipc_core::{Limits, MAX_CALLS, MAX_ENTRIES};
 use std::alloc::Global;
 use std::fmt::Debug;
 use std::process::Abort;
-use std::test::Fail;
 
-// Fails the test where the two differ. A call of it is proved much faster than the macro in its place.
+// A test is a row of calls of the small functions here. They say nothing of what they give, so the tests carry no facts of the exchange,
+// and they fail the test themselves, so no exit opens in the tests.
+
+// Fails the test where the two differ.
 fn same<T: PartialEq + Debug + Drop>(rt: &impl Abort, left: T, right: T) {
     assert_eq!(*rt; left, right);
 }
@@ -15,12 +17,14 @@ const LIMITS: Limits = Limits {
     calls: MAX_CALLS,
 };
 
-// HELLO 0, 1, 2
+// HELLO 0, 1, 2, 3
 const HELLO_0: &[u8] = b"\x00\x00\x00\x03\x01\x00\x00";
 
 const HELLO_1: &[u8] = b"\x00\x00\x00\x03\x01\x00\x01";
 
 const HELLO_2: &[u8] = b"\x00\x00\x00\x03\x01\x00\x02";
+
+const HELLO_3: &[u8] = b"\x00\x00\x00\x03\x01\x00\x03";
 
 // HELLO 1 of version 2, and one of a version that there is not
 const HELLO_1_TWO: &[u8] = b"\x00\x00\x00\x05\x01\x00\x01\x00\x02";
@@ -61,10 +65,12 @@ const EXREG: &[u8] = &[
 // BYE
 const BYE: &[u8] = b"\x00\x00\x00\x01\x04";
 
-// 1.1, 2.1
+// 1.1, 2.1, 3.1
 const WELCOME_1: &[u8] = b"\x00\x00\x00\x09\x81\x00\x00\x00\x01\x00\x00\x00\x01";
 
 const WELCOME_2: &[u8] = b"\x00\x00\x00\x09\x81\x00\x00\x00\x02\x00\x00\x00\x01";
+
+const WELCOME_3: &[u8] = b"\x00\x00\x00\x09\x81\x00\x00\x00\x03\x00\x00\x00\x01";
 
 // the refusals K1 and K2
 const K1: &[u8] = b"\x00\x00\x00\x02\x84\x01";
@@ -161,15 +167,21 @@ const GOOD_AND_BAD: &[u8] =
 // a HELLO breaks off
 const PART: &[u8] = b"\x00\x00\x00";
 
-const NOTHING: &[u8] = b"";
-
 // A step of a dialogue; connections are numbered from 1 on.
-#[derive(Drop)]
+#[derive(Clone, Copy)]
 enum Step<'a> {
     Connect,
     Piece(usize, &'a [u8]),
     Finish(usize),
     Copy,
+}
+
+// Steps, and the frames by which they are answered on the connections 1 and 2.
+#[derive(Clone, Copy)]
+struct Dialogue<'a> {
+    steps: &'a [Step<'a>],
+    first: &'a [&'a [u8]],
+    second: &'a [&'a [u8]],
 }
 
 // How each piece is cut again.
@@ -180,54 +192,85 @@ enum Cut {
     Pieces(usize),
 }
 
+fn push(rt: &impl Abort, events: &mut Vec<Event>, event: Event) {
+    events.push(event).expect(rt, "memory");
+}
+
 fn push_piece(
+    rt: &impl Abort,
     alloc: Global,
     events: &mut Vec<Event>,
     connection: usize,
     bytes: &[u8],
-) -> Result<(), Fail> {
+) {
     let mut piece = Vec::new(alloc);
-    piece.extend_from_slice(bytes)?;
-    events.push(Event::Piece(connection, piece))?;
-    Ok(())
+    piece.extend_from_slice(bytes).expect(rt, "memory");
+    push(rt, events, Event::Piece(connection, piece));
 }
 
 fn push_pieces(
+    rt: &impl Abort,
     alloc: Global,
     events: &mut Vec<Event>,
     connection: usize,
     bytes: &[u8],
     cut: Cut,
-) -> Result<(), Fail> {
+) {
     match cut {
-        Cut::Not => push_piece(alloc, events, connection, bytes),
+        Cut::Not => push_piece(rt, alloc, events, connection, bytes),
         Cut::InTwo(place) => {
             let (front, back) = bytes.split_at(place.min(bytes.len()));
-            push_piece(alloc, events, connection, front)?;
-            push_piece(alloc, events, connection, back)
+            push_piece(rt, alloc, events, connection, front);
+            push_piece(rt, alloc, events, connection, back);
         }
         Cut::Pieces(size) => {
             for piece in bytes.chunks(size.max(1)) {
-                push_piece(alloc, events, connection, piece)?;
+                push_piece(rt, alloc, events, connection, piece);
             }
-            Ok(())
         }
     }
 }
 
-fn events_of(alloc: Global, steps: &[Step<'_>], cut: Cut) -> Result<Vec<Event>, Fail> {
+fn push_step(rt: &impl Abort, alloc: Global, events: &mut Vec<Event>, step: Step<'_>, cut: Cut) {
+    match step {
+        Step::Connect => push(rt, events, Event::Connect(1)),
+        Step::Piece(connection, bytes) => push_pieces(rt, alloc, events, connection, bytes, cut),
+        Step::Finish(connection) => push(rt, events, Event::Finish(connection)),
+        Step::Copy => push(rt, events, Event::Copy),
+    }
+}
+
+fn events_of(rt: &impl Abort, alloc: Global, steps: &[Step<'_>], cut: Cut) -> Vec<Event> {
     let mut events = Vec::new(alloc);
     for step in steps {
-        match step {
-            Step::Connect => events.push(Event::Connect(1))?,
-            Step::Piece(connection, bytes) => {
-                push_pieces(alloc, &mut events, *connection, bytes, cut)?;
-            }
-            Step::Finish(connection) => events.push(Event::Finish(*connection))?,
-            Step::Copy => events.push(Event::Copy)?,
-        }
+        push_step(rt, alloc, &mut events, *step, cut);
     }
-    Ok(events)
+    events
+}
+
+fn run(rt: &impl Abort, alloc: Global, events: Vec<Event>) -> (Exchange, Vec<Reply>) {
+    Exchange::run(alloc, LIMITS, events).expect(rt, "memory")
+}
+
+// Bytes of a connection go out.
+fn output(exchange: &mut Exchange, connection: usize, out: &mut [u8]) -> usize {
+    exchange.output(connection, out)
+}
+
+// The bytes of a connection are these.
+fn same_bytes(rt: &impl Abort, connection: usize, cut: Cut, left: &[u8], right: &[u8]) {
+    assert_eq!(*rt; left, right, "connection {connection}, {cut:?}");
+}
+
+// The bytes are these frames, and no more.
+fn assert_frames(rt: &impl Abort, connection: usize, cut: Cut, bytes: &[u8], frames: &[&[u8]]) {
+    let mut rest = bytes;
+    for frame in frames {
+        let (front, back) = rest.split_at(frame.len().min(rest.len()));
+        same_bytes(rt, connection, cut, front, frame);
+        rest = back;
+    }
+    same_bytes(rt, connection, cut, rest, &[]);
 }
 
 // These frames, and no more, wait on a connection.
@@ -239,51 +282,29 @@ fn assert_out(
     cut: Cut,
 ) {
     let mut out = [0u8; 256];
-    let count = exchange.output(connection, &mut out);
-    let mut rest = &out[..count.min(256)];
-    for frame in frames {
-        let (front, back) = rest.split_at(frame.len().min(rest.len()));
-        assert_eq!(rt; front, *frame, "connection {connection}, {cut:?}");
-        rest = back;
-    }
-    assert_eq!(rt; rest.len(), 0, "connection {connection}, {cut:?}");
+    let count = output(exchange, connection, &mut out);
+    assert_frames(rt, connection, cut, &out[..count.min(256)], frames);
 }
 
-fn assert_cut(
-    rt: &impl Abort,
-    alloc: Global,
-    steps: &[Step<'_>],
-    cut: Cut,
-    first: &[&[u8]],
-    second: &[&[u8]],
-) -> Result<(), Fail> {
-    let events = events_of(alloc, steps, cut)?;
-    let (mut exchange, _replies) = Exchange::run(alloc, LIMITS, events)?;
-    assert_out(rt, &mut exchange, 1, first, cut);
-    assert_out(rt, &mut exchange, 2, second, cut);
-    Ok(())
+fn assert_cut(rt: &impl Abort, alloc: Global, dialogue: Dialogue<'_>, cut: Cut) {
+    let events = events_of(rt, alloc, dialogue.steps, cut);
+    let (mut exchange, _) = run(rt, alloc, events);
+    assert_out(rt, &mut exchange, 1, dialogue.first, cut);
+    assert_out(rt, &mut exchange, 2, dialogue.second, cut);
 }
 
-// However its pieces are cut, a dialogue is answered by these frames on the connections 1 and 2.
-fn assert_dialogue(
-    rt: &impl Abort,
-    alloc: Global,
-    steps: &[Step<'_>],
-    first: &[&[u8]],
-    second: &[&[u8]],
-) -> Result<(), Fail> {
-    assert_cut(rt, alloc, steps, Cut::Not, first, second)?;
-    assert_cut(rt, alloc, steps, Cut::Pieces(1), first, second)?;
-    assert_cut(rt, alloc, steps, Cut::Pieces(7), first, second)?;
+// However its pieces are cut, a dialogue is answered so.
+fn assert_dialogue(rt: &impl Abort, alloc: Global, dialogue: Dialogue<'_>) {
+    assert_cut(rt, alloc, dialogue, Cut::Not);
+    assert_cut(rt, alloc, dialogue, Cut::Pieces(1));
+    assert_cut(rt, alloc, dialogue, Cut::Pieces(7));
     for place in 1..70 {
-        assert_cut(rt, alloc, steps, Cut::InTwo(place), first, second)?;
+        assert_cut(rt, alloc, dialogue, Cut::InTwo(place));
     }
-    Ok(())
 }
 
-#[test]
-fn a_word_goes_from_thread_to_thread(rt: HostRuntime) -> Result<(), Fail> {
-    let steps = [
+const WORD: Dialogue<'static> = Dialogue {
+    steps: &[
         Step::Connect,
         Step::Connect,
         Step::Piece(1, HELLO_1),
@@ -291,89 +312,121 @@ fn a_word_goes_from_thread_to_thread(rt: HostRuntime) -> Result<(), Fail> {
         Step::Piece(1, RECEIVE),
         Step::Piece(2, SEND),
         Step::Finish(2),
-    ];
-    let first = [WELCOME_1, RECEIVED];
-    let second = [WELCOME_2, SENT];
-    assert_dialogue(&rt, rt.alloc(), &steps, &first, &second)
-}
+    ],
+    first: &[WELCOME_1, RECEIVED],
+    second: &[WELCOME_2, SENT],
+};
 
 #[test]
-fn each_connection_is_answered_in_its_version(rt: HostRuntime) -> Result<(), Fail> {
-    let steps = [
+fn a_word_goes_from_thread_to_thread(rt: HostRuntime) {
+    assert_dialogue(&rt, rt.alloc(), WORD);
+}
+
+const TWO_VERSIONS: Dialogue<'static> = Dialogue {
+    steps: &[
         Step::Connect,
         Step::Connect,
         Step::Piece(1, HELLO_1_TWO),
         Step::Piece(2, HELLO_2),
         Step::Piece(1, RECEIVE),
         Step::Piece(2, SEND),
-    ];
-    let first = [WELCOME_1, RECEIVED_TWO];
-    let second = [WELCOME_2, SENT];
-    assert_dialogue(&rt, rt.alloc(), &steps, &first, &second)
-}
+    ],
+    first: &[WELCOME_1, RECEIVED_TWO],
+    second: &[WELCOME_2, SENT],
+};
 
 #[test]
-fn a_version_that_is_not_there_is_a_fault(rt: HostRuntime) -> Result<(), Fail> {
-    let steps = [
+fn each_connection_is_answered_in_its_version(rt: HostRuntime) {
+    assert_dialogue(&rt, rt.alloc(), TWO_VERSIONS);
+}
+
+const NO_VERSION: Dialogue<'static> = Dialogue {
+    steps: &[
         Step::Connect,
         Step::Connect,
         Step::Piece(1, HELLO_1_THREE),
         Step::Piece(2, HELLO_1),
-    ];
-    assert_dialogue(&rt, rt.alloc(), &steps, &[F15], &[WELCOME_1])
-}
+    ],
+    first: &[F15],
+    second: &[WELCOME_1],
+};
 
 #[test]
-fn a_refused_hello_may_be_said_again(rt: HostRuntime) -> Result<(), Fail> {
-    let steps = [
+fn a_version_that_is_not_there_is_a_fault(rt: HostRuntime) {
+    assert_dialogue(&rt, rt.alloc(), NO_VERSION);
+}
+
+const SAID_AGAIN: Dialogue<'static> = Dialogue {
+    steps: &[
         Step::Connect,
         Step::Connect,
         Step::Piece(1, HELLO_1),
         Step::Piece(2, HELLO_1),
         Step::Piece(2, HELLO_0),
         Step::Piece(2, HELLO_2),
-    ];
-    let second = [K2, K1, WELCOME_2];
-    assert_dialogue(&rt, rt.alloc(), &steps, &[WELCOME_1], &second)
-}
+    ],
+    first: &[WELCOME_1],
+    second: &[K2, K1, WELCOME_2],
+};
 
 #[test]
-fn a_fault_comes_behind_what_was_good(rt: HostRuntime) -> Result<(), Fail> {
-    let steps = [
+fn a_refused_hello_may_be_said_again(rt: HostRuntime) {
+    assert_dialogue(&rt, rt.alloc(), SAID_AGAIN);
+}
+
+const GOOD_FIRST: Dialogue<'static> = Dialogue {
+    steps: &[
         Step::Connect,
         Step::Connect,
         Step::Piece(1, GOOD_AND_BAD),
         Step::Piece(1, RECEIVE),
         Step::Piece(2, PART),
         Step::Finish(2),
+    ],
+    first: &[WELCOME_1, F3],
+    second: &[F9],
+};
+
+#[test]
+fn a_fault_comes_behind_what_was_good(rt: HostRuntime) {
+    assert_dialogue(&rt, rt.alloc(), GOOD_FIRST);
+}
+
+// Three frames and a receive come on a connection alone, which is answered so.
+fn assert_three(rt: &impl Abort, alloc: Global, frames: [&[u8]; 3], first: &[&[u8]]) {
+    let steps = &[
+        Step::Connect,
+        Step::Piece(1, frames[0]),
+        Step::Piece(1, frames[1]),
+        Step::Piece(1, frames[2]),
+        Step::Piece(1, RECEIVE),
     ];
-    assert_dialogue(&rt, rt.alloc(), &steps, &[WELCOME_1, F3], &[F9])
+    assert_alone(rt, alloc, steps, first);
+}
+
+// What comes on a connection alone is answered so.
+fn assert_alone(rt: &impl Abort, alloc: Global, steps: &[Step<'_>], first: &[&[u8]]) {
+    let second = &[];
+    let dialogue = Dialogue {
+        steps,
+        first,
+        second,
+    };
+    assert_dialogue(rt, alloc, dialogue);
 }
 
 #[test]
-fn what_is_out_of_place_ends_a_connection(rt: HostRuntime) -> Result<(), Fail> {
-    for (frames, want) in [
-        ([RECEIVE, HELLO_1, RECEIVE], [S1, NOTHING]),
-        ([EXREG, HELLO_1, RECEIVE], [S1, NOTHING]),
-        ([HELLO_1, HELLO_2, RECEIVE], [WELCOME_1, S1]),
-        ([HELLO_1, RECEIVE, RECEIVE], [WELCOME_1, K7]),
-        ([HELLO_1, RECEIVE, EXREG], [WELCOME_1, K7]),
-    ] {
-        let steps = [
-            Step::Connect,
-            Step::Piece(1, frames[0]),
-            Step::Piece(1, frames[1]),
-            Step::Piece(1, frames[2]),
-            Step::Piece(1, RECEIVE),
-        ];
-        assert_dialogue(&rt, rt.alloc(), &steps, &want, &[])?;
-    }
-    Ok(())
+fn what_is_out_of_place_ends_a_connection(rt: HostRuntime) {
+    let alloc = rt.alloc();
+    assert_three(&rt, alloc, [RECEIVE, HELLO_1, RECEIVE], &[S1]);
+    assert_three(&rt, alloc, [EXREG, HELLO_1, RECEIVE], &[S1]);
+    assert_three(&rt, alloc, [HELLO_1, HELLO_2, RECEIVE], &[WELCOME_1, S1]);
+    assert_three(&rt, alloc, [HELLO_1, RECEIVE, RECEIVE], &[WELCOME_1, K7]);
+    assert_three(&rt, alloc, [HELLO_1, RECEIVE, EXREG], &[WELCOME_1, K7]);
 }
 
-#[test]
-fn a_partner_that_ends_is_told(rt: HostRuntime) -> Result<(), Fail> {
-    let waiting = [
+const WAITING: Dialogue<'static> = Dialogue {
+    steps: &[
         Step::Connect,
         Step::Connect,
         Step::Piece(1, HELLO_1),
@@ -381,9 +434,13 @@ fn a_partner_that_ends_is_told(rt: HostRuntime) -> Result<(), Fail> {
         Step::Piece(2, SEND),
         Step::Piece(1, BYE),
         Step::Piece(1, BYE),
-    ];
-    assert_dialogue(&rt, rt.alloc(), &waiting, &[WELCOME_1], &[WELCOME_2, GONE])?;
-    let moving = [
+    ],
+    first: &[WELCOME_1],
+    second: &[WELCOME_2, GONE],
+};
+
+const MOVING: Dialogue<'static> = Dialogue {
+    steps: &[
         Step::Connect,
         Step::Connect,
         Step::Piece(1, HELLO_1),
@@ -392,34 +449,32 @@ fn a_partner_that_ends_is_told(rt: HostRuntime) -> Result<(), Fail> {
         Step::Piece(2, SEND_STRING),
         Step::Piece(2, BYE),
         Step::Copy,
-    ];
-    assert_dialogue(
-        &rt,
-        rt.alloc(),
-        &moving,
-        &[WELCOME_1, ABORTED],
-        &[WELCOME_2],
-    )
-}
-
-// What comes on a connection alone: HELLO 2 and the frames of the formats, cut off or not; and what is answered.
-const ALONE: [([&[u8]; 2], [&[u8]; 2]); 2] = [
-    ([HELLO_2, SEND], [WELCOME_2, GONE]),
-    ([HELLO_2, SEND_PART], [WELCOME_2, F9]),
-];
+    ],
+    first: &[WELCOME_1, ABORTED],
+    second: &[WELCOME_2],
+};
 
 #[test]
-fn a_frame_that_breaks_off_is_a_fault(rt: HostRuntime) -> Result<(), Fail> {
-    for (pieces, want) in &ALONE {
-        let steps = [
-            Step::Connect,
-            Step::Piece(1, pieces[0]),
-            Step::Piece(1, pieces[1]),
-            Step::Finish(1),
-        ];
-        assert_dialogue(&rt, rt.alloc(), &steps, want, &[])?;
-    }
-    Ok(())
+fn a_partner_that_ends_is_told(rt: HostRuntime) {
+    assert_dialogue(&rt, rt.alloc(), WAITING);
+    assert_dialogue(&rt, rt.alloc(), MOVING);
+}
+
+// HELLO 2 and a frame come, cut off or not, which is answered so.
+fn assert_frame(rt: &impl Abort, alloc: Global, frame: &[u8], answer: &[u8]) {
+    let steps = &[
+        Step::Connect,
+        Step::Piece(1, HELLO_2),
+        Step::Piece(1, frame),
+        Step::Finish(1),
+    ];
+    assert_alone(rt, alloc, steps, &[WELCOME_2, answer]);
+}
+
+#[test]
+fn a_frame_that_breaks_off_is_a_fault(rt: HostRuntime) {
+    assert_frame(&rt, rt.alloc(), SEND, GONE);
+    assert_frame(&rt, rt.alloc(), SEND_PART, F9);
 }
 
 // Bytes that a client sends first, and the number of the fault that they show.
@@ -442,124 +497,153 @@ const FAULTY: [(&[u8], u8); 10] = [
     (&TIME_POINT, 12),
 ];
 
-#[test]
-fn each_fault_of_a_frame_is_answered(rt: HostRuntime) -> Result<(), Fail> {
-    for (bytes, fault) in &FAULTY {
-        let answer = [0, 0, 0, 3, 0x85, 0x46, *fault];
-        let steps = [
-            Step::Connect,
-            Step::Piece(1, bytes),
-            Step::Piece(1, HELLO_1),
-        ];
-        assert_dialogue(&rt, rt.alloc(), &steps, &[&answer], &[])?;
-    }
-    Ok(())
+// These bytes are answered by a fault, and nothing is behind it.
+fn assert_fault(rt: &impl Abort, alloc: Global, bytes: &[u8], fault: u8) {
+    let answer = [0, 0, 0, 3, 0x85, 0x46, fault];
+    let steps = &[
+        Step::Connect,
+        Step::Piece(1, bytes),
+        Step::Piece(1, HELLO_1),
+    ];
+    assert_alone(rt, alloc, steps, &[&answer]);
 }
 
 #[test]
-fn what_went_out_and_what_waits_is_all(rt: HostRuntime) -> Result<(), Fail> {
-    let alloc = rt.alloc();
-    let steps = [
-        Step::Connect,
-        Step::Connect,
-        Step::Piece(1, HELLO_1),
-        Step::Piece(2, HELLO_2),
-        Step::Piece(1, RECEIVE),
-        Step::Piece(2, SEND),
-    ];
-    let mut events = Vec::new(alloc);
-    for event in events_of(alloc, &steps, Cut::Pieces(7))? {
-        events.push(event)?;
-        events.push(Event::Output(1, vec![in alloc; 0; 5]?))?;
+fn each_fault_of_a_frame_is_answered(rt: HostRuntime) {
+    for (bytes, fault) in &FAULTY {
+        assert_fault(&rt, rt.alloc(), bytes, *fault);
     }
-    let (mut exchange, replies) = Exchange::run(alloc, LIMITS, events)?;
+}
+
+// Behind each event 5 bytes of the first connection go out.
+fn with_outputs(rt: &impl Abort, alloc: Global, events: Vec<Event>) -> Vec<Event> {
+    let mut all = Vec::new(alloc);
+    for event in events {
+        push(rt, &mut all, event);
+        let room = vec![in alloc; 0; 5].expect(rt, "memory");
+        push(rt, &mut all, Event::Output(1, room));
+    }
+    all
+}
+
+// The bytes that went out.
+fn put_bytes(rt: &impl Abort, alloc: Global, replies: Vec<Reply>) -> Vec<u8> {
     let mut bytes = Vec::new(alloc);
     for reply in replies {
         if let Reply::Put(piece) = reply {
-            bytes.extend_from_slice(&piece)?;
+            bytes.extend_from_slice(&piece).expect(rt, "memory");
         }
     }
+    bytes
+}
+
+// The bytes that wait on a connection.
+fn waiting_bytes(
+    rt: &impl Abort,
+    alloc: Global,
+    exchange: &mut Exchange,
+    connection: usize,
+) -> Vec<u8> {
+    let mut out = [0u8; 256];
+    let count = output(exchange, connection, &mut out);
+    let bytes = out[..count.min(256)].to_vec(alloc);
+    bytes.expect(rt, "memory")
+}
+
+// The dialogue of a word, without its end.
+const EXCHANGED: &[Step<'static>] = &[
+    Step::Connect,
+    Step::Connect,
+    Step::Piece(1, HELLO_1),
+    Step::Piece(2, HELLO_2),
+    Step::Piece(1, RECEIVE),
+    Step::Piece(2, SEND),
+];
+
+#[test]
+fn what_went_out_and_what_waits_is_all(rt: HostRuntime) {
+    let alloc = rt.alloc();
+    let events = events_of(&rt, alloc, EXCHANGED, Cut::Pieces(7));
+    let (mut exchange, replies) = run(&rt, alloc, with_outputs(&rt, alloc, events));
+    let mut bytes = put_bytes(&rt, alloc, replies);
     // WELCOME, and 5 bytes of what was received
     same(&rt, bytes.len(), 18);
-    let mut rest = [0u8; 256];
-    let count = exchange.output(1, &mut rest);
-    bytes.extend_from_slice(&rest[..count.min(256)])?;
-    let (welcome, received) = bytes.as_slice().split_at(13.min(bytes.len()));
-    same(&rt, welcome, WELCOME_1);
-    same(&rt, received, RECEIVED);
-    Ok(())
+    let rest = waiting_bytes(&rt, alloc, &mut exchange, 1);
+    bytes.extend_from_slice(&rest).expect(&rt, "memory");
+    assert_frames(&rt, 1, Cut::Pieces(7), &bytes, &[WELCOME_1, RECEIVED]);
+}
+
+fn empty(rt: &impl Abort, alloc: Global, entries: u64) -> Exchange {
+    let limits = Limits {
+        entries,
+        calls: MAX_CALLS,
+    };
+    Exchange::new(alloc, limits).expect(rt, "memory")
+}
+
+fn connect(exchange: &mut Exchange) -> Result<usize, ConnectRefused> {
+    exchange.connect(1)
+}
+
+fn progress(exchange: &Exchange, connection: usize) -> Progress {
+    exchange.progress(connection)
 }
 
 #[test]
-fn the_last_connection_is_the_65535th(rt: HostRuntime) -> Result<(), Fail> {
-    let mut exchange = Exchange::new(rt.alloc(), LIMITS)?;
+fn the_last_connection_is_the_65535th(rt: HostRuntime) {
+    let mut exchange = empty(&rt, rt.alloc(), MAX_ENTRIES);
     for place in 0..65_535_usize {
-        same(&rt, exchange.connect(1), Ok(place + 1));
+        same(&rt, connect(&mut exchange), Ok(place + 1));
     }
-    same(&rt, exchange.connect(1), Err(ConnectRefused::TooMany));
+    same(&rt, connect(&mut exchange), Err(ConnectRefused::TooMany));
     same(&rt, exchange.connections(), 65_535);
-    same(&rt, exchange.progress(65_535), Progress::Running);
-    same(&rt, exchange.progress(65_536), Progress::Finished);
-    Ok(())
+    same(&rt, progress(&exchange, 65_535), Progress::Running);
+    same(&rt, progress(&exchange, 65_536), Progress::Finished);
 }
 
-// Two connections with the threads 1.1 and 2.1, over a history of so few entries.
-fn pair(alloc: Global, entries: u64) -> Result<Exchange, Fail> {
-    let mut exchange = Exchange::new(
-        alloc,
-        Limits {
-            entries,
-            calls: MAX_CALLS,
-        },
-    )?;
-    for hello in [HELLO_1, HELLO_2] {
-        let number = exchange.connect(1).ok().ok_or("a connection")?;
-        let _ = exchange.feed(number, hello);
-    }
-    Ok(exchange)
+fn feed(exchange: &mut Exchange, connection: usize, piece: &[u8]) {
+    let _ = exchange.feed(connection, piece);
+}
+
+// A connection comes and says HELLO; its number.
+fn greet(rt: &impl Abort, exchange: &mut Exchange, hello: &[u8]) -> usize {
+    let number = connect(exchange).expect(rt, "a connection");
+    feed(exchange, number, hello);
+    number
+}
+
+// A message of a word goes from the second connection to the first.
+fn assert_message(rt: &impl Abort, exchange: &mut Exchange) {
+    feed(exchange, 1, RECEIVE);
+    feed(exchange, 2, SEND);
+    assert_out(rt, exchange, 1, &[RECEIVED], Cut::Not);
+    assert_out(rt, exchange, 2, &[SENT], Cut::Not);
 }
 
 #[test]
-fn little_room_carries_many_messages(rt: HostRuntime) -> Result<(), Fail> {
-    let mut exchange = pair(rt.alloc(), 64)?;
+fn little_room_carries_many_messages(rt: HostRuntime) {
+    let mut exchange = empty(&rt, rt.alloc(), 64);
+    let _ = greet(&rt, &mut exchange, HELLO_1);
+    let _ = greet(&rt, &mut exchange, HELLO_2);
     assert_out(&rt, &mut exchange, 1, &[WELCOME_1], Cut::Not);
     assert_out(&rt, &mut exchange, 2, &[WELCOME_2], Cut::Not);
     for _ in 0..100_u64 {
-        let _ = exchange.feed(1, RECEIVE);
-        let _ = exchange.feed(2, SEND);
-        assert_out(&rt, &mut exchange, 1, &[RECEIVED], Cut::Not);
-        assert_out(&rt, &mut exchange, 2, &[SENT], Cut::Not);
+        assert_message(&rt, &mut exchange);
     }
     // a connection that comes late gets its thread
-    let number = exchange.connect(1).ok().ok_or("a connection")?;
-    let _ = exchange.feed(number, b"\x00\x00\x00\x03\x01\x00\x03");
-    assert_out(
-        &rt,
-        &mut exchange,
-        number,
-        &[b"\x00\x00\x00\x09\x81\x00\x00\x00\x03\x00\x00\x00\x01"],
-        Cut::Not,
-    );
-    Ok(())
+    let number = greet(&rt, &mut exchange, HELLO_3);
+    assert_out(&rt, &mut exchange, number, &[WELCOME_3], Cut::Not);
 }
 
 #[test]
-fn what_open_calls_need_is_no_room(rt: HostRuntime) -> Result<(), Fail> {
+fn what_open_calls_need_is_no_room(rt: HostRuntime) {
     // the first call and what may come of it leave too little for the second thread
-    let mut exchange = Exchange::new(
-        rt.alloc(),
-        Limits {
-            entries: 10,
-            calls: MAX_CALLS,
-        },
-    )?;
-    for _ in 0..2_u64 {
-        let _ = exchange.connect(1);
-    }
-    let _ = exchange.feed(1, HELLO_1);
-    let _ = exchange.feed(1, RECEIVE);
-    let _ = exchange.feed(2, HELLO_2);
+    let mut exchange = empty(&rt, rt.alloc(), 10);
+    let _ = connect(&mut exchange);
+    let _ = connect(&mut exchange);
+    feed(&mut exchange, 1, HELLO_1);
+    feed(&mut exchange, 1, RECEIVE);
+    feed(&mut exchange, 2, HELLO_2);
     assert_out(&rt, &mut exchange, 1, &[WELCOME_1], Cut::Not);
     assert_out(&rt, &mut exchange, 2, &[K5], Cut::Not);
-    Ok(())
 }

@@ -24,6 +24,8 @@ from refuse_memory import ROOT, built_shim
 from scripts import OF_A_FILE, OF_A_WORD, stored
 
 SECONDS = 60
+# What a program says that got no memory.
+NO_MEMORY = {"l4sh": b"l4sh: no memory\n", "l4d": b"l4d: no memory\n", "l4x": b"no memory\n"}
 DRAWN = (["chart"], ["chart", "--text"], ["chart", "--html"])
 # The options of each program: what is printed, and what is refused.
 SHELL_WORDS = ([], ["--help"], ["--version"], ["run", "--help"], ["chart", "--help"], ["no-command"], ["run", "--entries", "x"],
@@ -55,8 +57,7 @@ class Case:
         before, refused_line, _ = printed.partition(b"! K4 ")
         if self.words[:1] == ["talk"] and (status, told) == (usual[0], usual[2]) and refused_line:
             return "refused", None if usual[1].startswith(before) and printed.count(refused_line) == 1 else "it is not as otherwise"
-        name = os.path.basename(self.program).encode()
-        if status == 1 and told == name + b": no memory\n":
+        if status == 1 and told == NO_MEMORY[os.path.basename(self.program)]:
             return "ended", None if usual[1].startswith(printed) else "what is printed is no front of the usual"
         return "wrong", f"it ends by {status} and tells {told[:200]!r}"
 

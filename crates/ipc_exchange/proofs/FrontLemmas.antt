@@ -1,5 +1,5 @@
 -- Bytes that went out, put back in front of what waits: all happens alike.
-use Rattle.std.proofs.Common.{◌≡◌, ℕ, zero, suc, ◌+◌, ◌<◌, ◌≤◌, List, [], ◌∷◌, ◌++◌, length, take, drop, refl, sym, ap, ap₂, subst, ◌∙◌, append_assoc, arith, length-append, length-set}
+use Rattle.std.proofs.Common.{◌≡◌, ℕ, zero, suc, ◌+◌, ◌≤◌, List, [], ◌∷◌, ◌++◌, length, take, drop, refl, sym, ap, ap₂, subst, ◌∙◌, append_assoc, arith, length-append, length-set}
 use Rattle.std.specs.Prelude.{cond, not, slice_set}
 use Rattle.std.proofs.lemmas.List.{append-nil, length-take-le, take-append-drop}
 use Rattle.ipc_frame.specs.declared.version.WireVersion.{WireVersion}
@@ -13,7 +13,7 @@ use Rattle.ipc_exchange.specs.Service.{ConnectionParts, connection_at, place_of,
 use Rattle.ipc_exchange.specs.Serving.{Asked, Memory}
 use Rattle.ipc_exchange.specs.Events.{Event, ExchangeParts, HappenAll, Happens}
 use Rattle.ipc_exchange.specs.Apart.{OutputApart, NoneCame, bytes_at, in_front, put_out, with_front}
-use Rattle.ipc_exchange.proofs.MovedLemmas.{PassesTold, events_seen, more_told, newcomer, with_more}
+use Rattle.ipc_exchange.proofs.MovedLemmas.{PassesTold, events_seen, newcomer, with_more}
 
 -- one place further
 abbrev pub next : (ℕ → List ℕ) → ℕ → List ℕ

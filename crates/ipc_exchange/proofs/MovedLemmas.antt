@@ -24,7 +24,7 @@ use Rattle.ipc_connection.specs.declared.replying.Told.{Told}
 use Rattle.ipc_connection.specs.declared.replying.Told.TheVariants.{Faulted, Left}
 use Rattle.ipc_connection.specs.declared.stage.Stage.{Stage}
 use Rattle.ipc_connection.specs.declared.stage.Stage.TheVariants.{Greeting}
-use Rattle.ipc_exchange.specs.Service.{ConnectionParts, ServiceParts, connection_at, delivered, delivered_to, outcome_at, place_of, text_of, told_connection, told_outcome, with_outcome, without_outcome}
+use Rattle.ipc_exchange.specs.Service.{ConnectionParts, ServiceParts, connection_at, delivered, delivered_to, outcome_at, place_of, text_of, told_outcome, with_outcome, without_outcome}
 use Rattle.ipc_exchange.specs.Serving.{Asked, Does, Leaves, Memory, ObeysIn, Serves, ServesAll, ServesBy, Tells}
 use Rattle.ipc_exchange.specs.Events.{Commands, Event, ExchangeParts, HappenAll, Happens, held_at, holding, kept}
 use Rattle.ipc_exchange.specs.Events.{Connect, Copy, Finish, Piece, Reading}

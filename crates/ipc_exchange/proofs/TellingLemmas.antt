@@ -17,7 +17,6 @@ use Rattle.ipc_calls.specs.declared.heard.Heard.{Heard}
 use Rattle.ipc_calls.specs.declared.heard.Heard.TheVariants as heard
 use Rattle.ipc_connection.specs.Asking.{asks, command_of}
 use Rattle.ipc_connection.specs.Replying.{next_stage, thread_left, told_of}
-use Rattle.ipc_history.specs.CallParts.{CallParts}
 use Rattle.ipc_connection.specs.declared.asking.Reaction.{Reaction}
 use Rattle.ipc_connection.specs.declared.asking.Reaction.TheVariants.{Ask}
 use Rattle.ipc_connection.specs.declared.asking.Request.{Request}

@@ -1,5 +1,5 @@
 -- How what is heard on a connection is served.
-use Rattle.std.specs.Prelude.{◌≡◌, ℕ, ◌-◌, ◌^◌, List, [], ◌∷◌, ◌++◌, Option, Some, None, Result, slice_set, ◌⊎◌}
+use Rattle.std.specs.Prelude.{◌≡◌, ℕ, ◌-◌, ◌^◌, List, [], ◌∷◌, Option, Some, None, Result, slice_set, ◌⊎◌}
 use Rattle.ipc_frame.specs.declared.fault.FrameFault.{FrameFault}
 use Rattle.ipc_frame.specs.declared.frame.Frame.{Frame}
 use Rattle.ipc_frame.specs.declared.version.WireVersion.{WireVersion}

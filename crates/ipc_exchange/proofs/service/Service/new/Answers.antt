@@ -1,4 +1,4 @@
-use Rattle.std.proofs.Common.{length, arith, refl}
+use Rattle.std.proofs.Common.{arith, refl}
 use Rattle.ipc_exchange.specs.Rooms.{roomless}
 use Rattle.ipc_exchange.proofs.ReadyLemmas.{ended}
 use Rattle.ipc_exchange.proofs.service.Service.new.Goals as goal

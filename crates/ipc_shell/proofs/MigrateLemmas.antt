@@ -1,6 +1,5 @@
 -- From the entries that were read to the trace that is written anew.
-use Rattle.std.proofs.Common.{◌≡◌, ◌≢◌, ℕ, Bool, true, false, Option, Some, None, IfSome, List, [], ◌++◌, refl, sym, ◌+◌, ◌<◌, ◌⊎◌, arith, inl, inr, append-nil}
-use Rattle.std.specs.Io.KnownBytes.{Appends}
+use Rattle.std.proofs.Common.{◌≡◌, ◌≢◌, ℕ, Bool, true, false, Option, Some, None, IfSome, List, [], refl, sym, ◌+◌, ◌<◌, ◌⊎◌, arith, inl, inr, append-nil}
 use Rattle.std.proofs.KnownBytes.{Appends-nil}
 use Rattle.ipc_history.specs.declared.entry.Entry.{Entry}
 use Rattle.ipc_trace.specs.Traces.{HasUnknownVersion, versioned_text}
@@ -9,7 +8,7 @@ use Rattle.ipc_trace.specs.declared.fault.TraceEnd.TheVariants as end
 use Rattle.ipc_trace.specs.declared.version.TraceVersion.{TraceVersion}
 use Rattle.ipc_trace.specs.declared.version.TraceVersion.TheVariants.{Two}
 use Rattle.ipc_shell.specs.Checking.{HasBadLine, HasLines, torn_text}
-use Rattle.ipc_shell.specs.Migrating.{MigratesFront, MigratesTrace, TellsTorn, WritesMigrated}
+use Rattle.ipc_shell.specs.Migrating.{MigratesTrace, TellsTorn, WritesMigrated}
 use Rattle.ipc_shell.specs.Putting.{AppendsFront}
 use Rattle.ipc_shell.specs.declared.exit.Exit.{Exit}
 use Rattle.ipc_shell.specs.declared.exit.Exit.TheVariants.{Done, BadLine, NoMemory, DeviceFailed, Illegal, BadThreads, NoChart, BadWord, UnknownVersion, IllegalLine}

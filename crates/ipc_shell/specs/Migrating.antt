@@ -1,5 +1,5 @@
 -- Our choice (docs/FORMATS.md): what is written of a trace that is migrated.
-use Rattle.std.specs.Prelude.{◌≡◌, ℕ, ◌⊎◌, List, [], Bool, true, false, Option, IfSome}
+use Rattle.std.specs.Prelude.{ℕ, ◌⊎◌, List, [], Bool, true, Option, IfSome}
 use Rattle.std.specs.Io.KnownBytes.{Appends}
 use Rattle.ipc_history.specs.declared.entry.Entry.{Entry}
 use Rattle.ipc_trace.specs.Traces.{HasUnknownVersion, versioned_text}

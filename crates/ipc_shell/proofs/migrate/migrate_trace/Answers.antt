@@ -1,4 +1,4 @@
-use Rattle.std.proofs.Common.{◌≡◌, true, false, refl, subst}
+use Rattle.std.proofs.Common.{◌≡◌, true, refl, subst}
 use Rattle.ipc_trace.specs.Traces.{IsRead}
 use Rattle.ipc_shell.specs.Migrating.{WritesMigrated}
 use Rattle.ipc_shell.specs.declared.exit.Exit.TheVariants.{Done}

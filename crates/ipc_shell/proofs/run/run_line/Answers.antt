@@ -1,5 +1,4 @@
 use Rattle.std.proofs.Common.{sym, subst, ◌∙◌}
-use Rattle.std.specs.String.{string_bytes}
 use Rattle.ipc_shell.specs.Running.{RunsLine}
 use Rattle.ipc_shell.proofs.run.run_line.Goals as goal
 

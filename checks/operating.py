@@ -398,9 +398,11 @@ def slow_trace():
         pipe = os.open(fifo, os.O_RDONLY | os.O_NONBLOCK)
         with Server("--trace", fifo, "--connections", str(CALLERS + 2)) as server:
             begin = time.time()
-            callers = [call_nobody(server.path, 10 + it, FAR_BEHIND // 2 // CALLERS + 1_000) for it in range(CALLERS)]
+            # the pipe and the server's buffer take some lines, too
+            each = FAR_BEHIND // 2 // CALLERS + 5_000
+            callers = [call_nobody(server.path, 10 + it, each) for it in range(CALLERS)]
             assert [os.waitpid(it, 0)[1] for it in callers] == [0] * CALLERS
-            spent, calls = time.time() - begin, CALLERS * (FAR_BEHIND // 2 // CALLERS + 1_000)
+            spent, calls = time.time() - begin, CALLERS * each
             pair_works((Client(server.path, 1), Client(server.path, 2)))
             os.set_blocking(pipe, True)
             read = []

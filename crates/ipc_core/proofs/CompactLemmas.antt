@@ -4,7 +4,6 @@ use Rattle.std.proofs.Common.{◌≡◌, refl, sym, ap, ap₂, ◌∙◌, subst,
 use Rattle.std.proofs.lemmas.List.{append-nil, append_assoc, drop_all, length-drop, length-take-le}
 use Rattle.std.proofs.lemmas.List.Folds.{list_any-append}
 use Rattle.ipc_words.specs.Limits.{table_slots}
-use Rattle.ipc_history.specs.CallParts.{CallParts}
 use Rattle.ipc_history.specs.Entries.{calls}
 use Rattle.ipc_history.specs.Holding.{compacted, held_before, held_of, marked_to, reached}
 use Rattle.ipc_history.specs.HistoryParts.{HeldParts, HistoryParts}

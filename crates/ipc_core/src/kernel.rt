@@ -693,7 +693,7 @@ impl Kernel {
         Ok(answer)
     }
 
-    /// Copies a block of the least call in transfer: 65,536 bytes, or the rest. Takes no memory.
+    /// Copies a block of the least call in transfer: `BLOCK_BYTES` bytes, or the rest. Takes no memory.
     pub fn advance(&mut self) -> Advance
         ensures moved { result ≡ Advance.Moved → Advances self.old self.new }
         ensures idle { result ≡ Advance.Idle → (next_moving self.old.history ≡ None)

@@ -10,7 +10,7 @@ pub enum Progress {
 /// Why a connection is refused.
 #[derive(Clone, Copy, PartialEq, Eq, Debug)]
 pub enum ConnectRefused {
-    /// S4: there are 65,535 connections.
+    /// S4: there are `MAX_CONNECTIONS` connections.
     TooMany,
     /// F14: there is no memory.
     NoMemory,

@@ -46,7 +46,7 @@ is_buffer parts = nat_lt 0 (length parts) && list_all (λ part. nat_lt part.leng
 abbrev pub are_buffers : List (List Substring) → Bool
 are_buffers buffers = list_all is_buffer buffers && nat_le (sum_by (λ parts. length parts) buffers) max_substrings
 
--- Our choice (docs/PROFILE.md): the normal form, within the limits of a call. A message has at most 1,048,576 bytes of strings
+-- Our choice (docs/PROFILE.md): the normal form, within the limits of a call. A message has at most max_string_bytes bytes of strings
 unfoldable pub is_normal : CallParts → Bool
 is_normal call =
     is_tag_normal call

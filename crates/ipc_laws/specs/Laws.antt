@@ -37,7 +37,7 @@ CallsAreNormal =
     (H : List Entry) → Legal H → (n thread : ℕ) (call : CallParts)
     → call_at H n ≡ Some (thread, call) → IsTrue (is_normal call)
 
--- so the tag of n counts its words and strings, and its strings have at most 1,048,576 bytes; without a call there is nothing
+-- so the tag of n counts its words and strings, and its strings have at most max_string_bytes bytes; without a call there is nothing
 pub record IsNormalMessage (H : List Entry) (n : ℕ) : Type 0 where
   pub untyped : untyped_of (tag_of H n) ≡ length (words_of H n)
   pub typed : typed_of (tag_of H n) ≡ 2 * length (strings_of H n)

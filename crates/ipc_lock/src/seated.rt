@@ -714,7 +714,7 @@ impl<C: Ledger, T: Ledger> Locked<C, T> {
     }
 
     /// Copies of the entries from this place of the history on, counted from 0, as many as one group has: all of them, and
-    /// at most 256. No entry where the history has none there.
+    /// at most `MOST_OF_A_GROUP`. No entry where the history has none there.
     ///
     /// # Errors
     ///

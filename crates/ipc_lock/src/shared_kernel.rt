@@ -415,7 +415,7 @@ impl<C: Ledger, T: Ledger, P: PenPort + Drop> SharedKernel<C, T, P> {
     }
 
     /// Waits for the entry of this place of the history, counted from 0, and answers copies of it and of those that
-    /// follow it, at most 256. No entry once the kernel was closed and has none there.
+    /// follow it, at most `MOST_OF_A_GROUP`. No entry once the kernel was closed and has none there.
     ///
     /// # Errors
     ///

@@ -1,25 +1,22 @@
 -- Two calls meet once.
-use Rattle.std.proofs.lemmas.Bool.{false≢true, ne_eqb, cases_eq}
-use Rattle.std.proofs.lemmas.Option.{none-some, same_Some}
-use Rattle.std.proofs.Common.{◌≡◌, ◌≢◌, refl, sym, ap, ◌∙◌, subst, ℕ, Bool, true, false, ◌&&◌, ◌||◌, ◌==◌, eqb-true, eq-eqb, if◌then◌else◌, List, [], ◌∷◌, ◌++◌, Option, Some, None, is_some, ◌⊎◌, inl, inr, arith}
+use Rattle.std.proofs.lemmas.Bool.{false≢true, ne_eqb}
+use Rattle.std.proofs.lemmas.Option.{none-some}
+use Rattle.std.proofs.Common.{◌≡◌, ◌≢◌, refl, sym, ap, ◌∙◌, subst, ℕ, Bool, true, false, ◌&&◌, ◌||◌, ◌==◌, eqb-true, if◌then◌else◌, List, [], ◌∷◌, ◌++◌, Option, Some, None, is_some, ◌⊎◌, inl, inr, arith}
 use Rattle.std.specs.List.{list_any}
-use Rattle.std.specs.Option.{option_or}
-use Rattle.ipc_history.specs.Words.{first_some, last_some}
 use Rattle.ipc_history.specs.Entries.{closes, names, receiver_in, sender_in}
 use Rattle.ipc_history.specs.Phases.{is_over, receiver_of, sender_of}
 use Rattle.ipc_history.specs.Legal.{Legal, Follows}
 use Rattle.ipc_history.specs.declared.entry.Entry.{Entry}
 use Rattle.ipc_history.specs.declared.entry.Entry.TheVariants.{Given, Written}
 use Rattle.ipc_history.specs.declared.entry.Input.TheVariants.{At, Opened, Called, Exreg, Broke, Moved}
-use Rattle.ipc_history.specs.declared.entry.Output.{Output}
 use Rattle.ipc_history.specs.declared.entry.Output.TheVariants.{Began, Turned, Ended, Overflowed, Aborted, Failed}
 use Rattle.ipc_laws.proofs.Changing.{any_push}
 use Rattle.ipc_laws.proofs.Growth.{open_is_not_closed}
 use Rattle.ipc_laws.proofs.Histories.{began_place, legal_induction}
 use Rattle.ipc_laws.proofs.OutputLemmas.{next_output_means}
 use Rattle.ipc_laws.proofs.PhaseParts.{Meets, Passes, meets_parts, passes_parts}
-use Rattle.ipc_laws.proofs.Places.{Place, any_at, any_place, first_none}
-use Rattle.ipc_laws.proofs.Tests.{both, left, not_both, right}
+use Rattle.ipc_laws.proofs.Places.{any_at, any_place, first_none}
+use Rattle.ipc_laws.proofs.Tests.{left, not_both, right}
 use Rattle.ipc_partners.specs.Partners.{joins, met_receiver, met_sender, receiver_met, sender_met}
 use Rattle.ipc_partners.proofs.PartnerLemmas.{if_some, last_somewhere, receiver_push, sender_push}
 

@@ -2,18 +2,17 @@
 use Rattle.std.proofs.lemmas.Bool.{false≢true, false_from_ne_true, cases_eq, ne_eqb}
 use Rattle.std.proofs.lemmas.Option.{none-some, same_Some}
 use Rattle.std.proofs.lemmas.List.{append-nil, get_or-set_same, get_or-set_other, length-set}
-use Rattle.std.proofs.lemmas.List.Folds.{list_any-append}
-use Rattle.std.proofs.Common.{◌≡◌, ◌≢◌, refl, sym, ap, ap₂, ◌∙◌, subst, ℕ, ◌<◌, Bool, true, false, not, ◌&&◌, ◌||◌, ◌==◌, eqb-true, eq-eqb, if◌then◌else◌, List, [], ◌∷◌, ◌++◌, length, set, Option, Some, None, option_map, ◌⊎◌, inl, inr, arith}
+use Rattle.std.proofs.Common.{◌≡◌, ◌≢◌, refl, sym, ap, ◌∙◌, ℕ, ◌<◌, Bool, true, false, not, ◌&&◌, ◌||◌, ◌==◌, eqb-true, eq-eqb, if◌then◌else◌, List, [], ◌∷◌, ◌++◌, length, set, Option, Some, None, option_map, inl, inr, arith}
 use Rattle.std.specs.List.{list_any}
 use Rattle.std.specs.Option.{option_or}
 use Rattle.ipc_words.specs.Limits.{table_slots}
 use Rattle.ipc_words.specs.ThreadId.{number_of}
 use Rattle.ipc_history.specs.CallParts.{CallParts}
 use Rattle.ipc_history.specs.Words.{last_some}
-use Rattle.ipc_history.specs.Entries.{calls, names, number_in, opens, breaks}
+use Rattle.ipc_history.specs.Entries.{calls, names, number_in, opens}
 use Rattle.ipc_history.specs.Calls.{call_at, caller_of, is_called, last_call, originator_of, tag_of}
 use Rattle.ipc_history.specs.Matching.{before_call, is_propagated, shown_sender}
-use Rattle.ipc_history.specs.Threads.{has_broken, is_live, was_opened}
+use Rattle.ipc_history.specs.Threads.{is_live, was_opened}
 use Rattle.ipc_history.specs.Phases.{is_over}
 use Rattle.ipc_history.specs.Legal.{Legal, Follows}
 use Rattle.ipc_history.specs.declared.entry.Entry.{Entry}
@@ -23,16 +22,14 @@ use Rattle.ipc_history.specs.declared.entry.Input.TheVariants.{At, Opened, Calle
 use Rattle.ipc_history.specs.declared.entry.Output.{Output}
 use Rattle.ipc_history.specs.declared.entry.Output.TheVariants.{Began, Turned, Ended, Overflowed, Aborted, Failed}
 use Rattle.ipc_laws.proofs.Befores.{shown_kept}
-use Rattle.ipc_laws.proofs.Changing.{any_push}
-use Rattle.ipc_laws.proofs.Endings.{live_unbroken}
 use Rattle.ipc_laws.proofs.Growth.{caller_of_kept, has_broken_append}
 use Rattle.ipc_laws.proofs.Numbering.{calls_called}
 use Rattle.ipc_laws.proofs.OneLive.{one_live}
 use Rattle.ipc_laws.proofs.OpenCalls.{caller_lives}
 use Rattle.ipc_laws.proofs.OutputLemmas.{next_output_means}
 use Rattle.ipc_laws.proofs.PhaseParts.{meets_parts}
-use Rattle.ipc_laws.proofs.Places.{Place, any_place}
-use Rattle.ipc_laws.proofs.Tests.{left, right, not_both, both}
+use Rattle.ipc_laws.proofs.Places.{any_place}
+use Rattle.ipc_laws.proofs.Tests.{not_both, both}
 use Rattle.ipc_laws.proofs.ThreadChanges.{was_opened_push}
 use Rattle.ipc_laws.proofs.WordLemmas.{last_some_push}
 use Rattle.ipc_slots.specs.Standings.{may_be_shown, standing_of}

@@ -24,7 +24,7 @@ max_message_words = 63
 abbrev pub max_strings : ℕ
 max_strings = 31
 
--- our choice: the bytes of all strings of a message, 1,048,576
+-- our choice: the bytes of all strings of a message
 abbrev pub max_string_bytes : ℕ
 max_string_bytes = 2 ^ 20
 
@@ -44,7 +44,7 @@ substring_length_limit = 2 ^ 54
 abbrev pub last_moment : ℕ
 last_moment = 0x7fff_ffff_ffff_ffff
 
--- Histories. Our choice: the greatest limit of entries, 1,048,576, and the greatest number of a call
+-- Histories. Our choice: the greatest limit of entries, and the greatest number of a call
 abbrev pub max_entries : ℕ
 max_entries = 1048576
 
@@ -90,7 +90,7 @@ pledge_of_block = 2
 abbrev pub max_line_bytes : ℕ
 max_line_bytes = 2105343
 
--- our choice: the bytes of the body of a frame, 2,097,152
+-- our choice: the bytes of the body of a frame
 abbrev pub max_frame_body : ℕ
 max_frame_body = 2 ^ 21
 

@@ -1,7 +1,6 @@
-use Rattle.std.proofs.Common.{sym, ap, ap₂, ◌∙◌, ◌≡◌}
+use Rattle.std.proofs.Common.{sym, ◌∙◌}
 use Rattle.std.proofs.lemmas.Option.{none-some, same_Some}
 use Rattle.ipc_slots.specs.Standings.{standing_of}
-use Rattle.ipc_slots.specs.declared.slot.Standing.{Standing}
 use Rattle.ipc_desks.proofs.Standings.{standing_there}
 use Rattle.ipc_partners.proofs.PartnerLemmas.{partner_by}
 use Rattle.ipc_partners.proofs.partners.known_partner.Goals as goal

@@ -1,8 +1,7 @@
-use Rattle.std.proofs.Common.{◌≡◌, ◌+◌, ◌-◌, ◌≤◌, ◌∙◌, ap, sym, subst, length, min, arith}
+use Rattle.std.proofs.Common.{◌≡◌, ◌+◌, ◌-◌, ◌∙◌, ap, sym, subst, length, min, arith}
 use Rattle.ipc_history.specs.Holding.{held_of}
 use Rattle.ipc_core.specs.Books.{TookOthers}
 use Rattle.ipc_core.specs.Compacting.{kept_to, most_entries}
-use Rattle.ipc_core.specs.CourseParts.{CourseParts}
 use Rattle.ipc_core.specs.KernelParts.{history_of}
 use Rattle.ipc_core.proofs.CompactLemmas.{begun_same, compacts_whole, kept_begun}
 use Rattle.ipc_core.proofs.kernel.Kernel.compact.Goals as goal

@@ -1,5 +1,5 @@
 use Rattle.std.proofs.lemmas.Bool.{false≢true}
-use Rattle.std.proofs.Common.{◌≡◌, ◌+◌, ◌*◌, ◌≤◌, sym, ◌∙◌, false, ap, subst, IfSome, IsNone, IsTrue, length, arith}
+use Rattle.std.proofs.Common.{◌≡◌, ◌+◌, ◌*◌, ◌≤◌, sym, ◌∙◌, false, subst, IfSome, IsNone, IsTrue, arith}
 use Rattle.std.specs.Prelude.{◌↔◌}
 use Rattle.ipc_laws.specs.Counting.{pledged}
 use Rattle.ipc_core.specs.Room.{is_full}

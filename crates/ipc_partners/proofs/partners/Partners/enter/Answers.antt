@@ -1,4 +1,4 @@
-use Rattle.std.proofs.Common.{◌∙◌, arith}
+use Rattle.std.proofs.Common.{arith}
 use Rattle.ipc_desks.proofs.LastCalls.{live_below}
 use Rattle.ipc_partners.proofs.PartnerLemmas.{alive, enter_knows}
 use Rattle.ipc_partners.proofs.partners.Partners.enter.Goals as goal

@@ -1,4 +1,4 @@
-use Rattle.std.proofs.Common.{◌∙◌, arith}
+use Rattle.std.proofs.Common.{arith}
 use Rattle.ipc_partners.proofs.PartnerLemmas.{knows_none}
 use Rattle.ipc_partners.proofs.partners.Partners.new.Goals as goal
 

@@ -1,4 +1,4 @@
-use Rattle.std.proofs.Common.{◌≡◌, ◌+◌, length, vec_capacity}
+use Rattle.std.proofs.Common.{◌≡◌, length, vec_capacity}
 use Rattle.ipc_partners.proofs.partners.Partners.new.Given as goal
 
 abbrev pub invariant-loop : goal.invariant-loop

@@ -1,6 +1,6 @@
 -- Reading straight into the memory of a payload.
 use Rattle.std.proofs.Common.{◌≡◌, ℕ, ◌+◌, ◌-◌, ◌<◌, ◌≤◌, false, List, [], ◌++◌, length, take, Option, Some, None, Result, Ok, Err, refl, sym, ap, ◌∙◌, arith, length-append}
-use Rattle.std.proofs.lemmas.List.{append-nil, append_assoc, take-append-le, take-take, take_all, nil_from_length}
+use Rattle.std.proofs.lemmas.List.{append-nil, append_assoc, take-append-le, take-take, nil_from_length}
 use Rattle.std.proofs.Math.Seq.{take-append-add}
 use Rattle.ipc_ports.specs.declared.fault.PortFault.{PortFault}
 use Rattle.ipc_frame.specs.declared.kind.Side.TheVariants.{Server}
@@ -21,13 +21,6 @@ front_is front read behind rest len count size l c s =
     ∙ (ap (λ k. take (k + count) (front ++ (read ++ behind))) (sym l)
     ∙ (take-append-add front (read ++ behind) count
     ∙ ap (λ xs. front ++ xs) (take-append-le count read behind c))))
-
--- a list that was filled up begins as it was
-pub begins_so : (old new more : List ℕ) (size : ℕ) → length old ≤ size → new ≡ take size old ++ more → take (length old) new ≡ old
-begins_so old new more size small is =
-    let whole : take size old ≡ old = take_all size old small in
-    ap (take (length old)) (is ∙ ap (λ xs. xs ++ more) whole)
-    ∙ (take-append-le (length old) old more (omega arith) ∙ take_all (length old) old (omega arith))
 
 -- the bytes of a frame, those of its payload read on
 module _ (input input_now : Option (List ℕ)) (start old new : List ℕ) (most wanted : ℕ) (short : reading Server (start ++ old) ≡ Short wanted) (less : most < wanted) where

@@ -3,6 +3,8 @@ ghost use Rattle.ipc_calls.specs.Holding.{ForGone, FillsUp};
 ghost use Rattle.ipc_calls.specs.ReadOn.{Fails, TakesOn};
 ghost use Rattle.ipc_calls.specs.Taking.{Holds, IsUnfinished, Takes, Finishes};
 
+use crate::block::FEW;
+use crate::blocks::{Blocks, NoBlocks};
 use crate::heard::Heard;
 use crate::held::Held;
 use ipc_frame::{FrameFault, Judgement};
@@ -11,7 +13,11 @@ use std::alloc::Global;
 use std::marker::Model;
 
 // Takes bytes from the front of a piece up to the end of the frame that has begun: how many, and whether the frame is whole.
-pub(crate) fn fill(held: &mut Held, piece: &[u8]) -> Result<(usize, bool), FrameFault>
+pub(crate) fn fill<B: Blocks>(
+    held: &mut Held,
+    piece: &[u8],
+    blocks: &mut B,
+) -> Result<(usize, bool), FrameFault>
     requires { ForGone held.old (λ bytes. IsUnfinished bytes) }
     ensures fills { ForGone held.old (λ bytes. FillsUp bytes piece.now held.new result) }
     ensures rest { (used : ℕ) → result ≡ Ok (used, false)
@@ -28,8 +34,17 @@ pub(crate) fn fill(held: &mut Held, piece: &[u8]) -> Result<(usize, bool), Frame
                     return Ok((used, false));
                 }
                 let count = next.len().min(wanted);
-                used += held.keep(&next[..count], wanted);
+                used += held.keep(&next[..count], wanted, blocks);
             }
+        }
+    }
+}
+
+// The memory of long strings that were heard may be used again.
+fn keep_strings<B: Blocks>(heard: &Heard, blocks: &mut B) {
+    if let Heard::Call(call) = heard {
+        if call.strings().size() > FEW as u64 {
+            blocks.keep(call.strings());
         }
     }
 }
@@ -77,10 +92,25 @@ impl CallDecoder {
         ensures spent { self.old.spent ≡ true → (result ≡ Err FrameFault.Spent)
             × (self.new ≡ self.old) }
     {
+        self.take_in(piece, &mut NoBlocks)
+    }
+
+    /// As [`CallDecoder::take`]: a long payload is kept in a block that was used before, if there is one, and its strings are told to those
+    /// that give blocks.
+    pub fn take_in<B: Blocks>(
+        &mut self,
+        piece: &[u8],
+        blocks: &mut B,
+    ) -> Result<(usize, Option<Heard>), FrameFault>
+        ensures taken { (bytes : List ℕ) → Holds self.old bytes
+            → IsUnfinished bytes × Takes bytes piece.now self.new result }
+        ensures spent { self.old.spent ≡ true → (result ≡ Err FrameFault.Spent)
+            × (self.new ≡ self.old) }
+    {
         if self.spent {
             return Err(FrameFault::Spent);
         }
-        let found = match fill(&mut self.held, piece) {
+        let found = match fill(&mut self.held, piece, blocks) {
             Ok(found) => found,
             Err(fault) => {
                 self.spent = true;
@@ -93,6 +123,7 @@ impl CallDecoder {
         match self.held.hear(self.alloc) {
             Ok(heard) => {
                 self.held = Held::new(self.alloc);
+                keep_strings(&heard, blocks);
                 Ok((found.0, Some(heard)))
             }
             Err(fault) => {

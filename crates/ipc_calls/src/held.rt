@@ -4,10 +4,12 @@ ghost use Rattle.ipc_frame.specs.Numbers.{IsBytes, number_in, words_in};
 ghost use Rattle.ipc_frame.specs.Parts.{IpcParts};
 ghost use Rattle.ipc_calls.specs.CallOf.{call_of, asks_memory, has_time_point};
 ghost use Rattle.ipc_calls.specs.Reads.{Reads};
-ghost use Rattle.ipc_calls.specs.ReadOn.{Fails, KeepsOn, ReadsInto};
+ghost use Rattle.ipc_calls.specs.ReadOn.{Fails, KeepsOn};
 ghost use Rattle.ipc_calls.specs.Holding.{Keeps, ForGone, AreGone, IsWhole, TellsOf, IpcAt};
 ghost use Rattle.ipc_calls.specs.Holding.{FrameAt, HearsOf, head_in, max_start, start_size, version_at};
 
+use crate::block::{Block, FEW};
+use crate::blocks::Blocks;
 use crate::calls::IpcHead;
 use crate::heard::Heard;
 use crate::payload::Payload;
@@ -17,7 +19,7 @@ use ipc_history::Call;
 use ipc_ports::{PortFault, PortRead};
 use ipc_words::limits::{BLOCK_BYTES, MAX_BUFFER_WORDS, MAX_MESSAGE_WORDS};
 use ipc_words::{Control, MsgTag, ThreadId, Timeouts};
-use std::alloc::{AllocError, Global};
+use std::alloc::Global;
 use std::marker::Model;
 use std::mem;
 
@@ -27,9 +29,6 @@ const HEAD: usize = 50;
 /// The most bytes before a payload: the head, the words and the buffer words.
 const MAX_START: usize = HEAD + 8 * (MAX_MESSAGE_WORDS + MAX_BUFFER_WORDS);
 
-/// Where no more bytes than these are wanted of a payload, they are not read straight into its memory.
-const FEW: usize = 16_384;
-
 /// The most bytes that are read straight into the memory of a payload at once.
 const MANY: usize = BLOCK_BYTES as usize;
 
@@ -38,7 +37,7 @@ const MANY: usize = BLOCK_BYTES as usize;
 pub(crate) struct Held {
     start: [u8; MAX_START],
     len: usize,
-    payload: Vec<u8>,
+    payload: Block,
     lost: usize,
 }
 
@@ -48,12 +47,12 @@ impl Model for Held {
 
     ghost Value = { Kept };
 
-    ghost view = { λ h. record { bytes = take h.len h.start ++ h.payload.items; lost = h.lost } };
+    ghost view = { λ h. record { bytes = take h.len h.start ++ h.payload; lost = h.lost } };
 
     ghost invariant = { λ h. (h.len ≤ max_start)
         × (50 ≤ h.len → h.len ≤ start_size (take 50 h.start))
-        × (0 < length h.payload.items + h.lost → (50 ≤ h.len) × (start_size (take 50 h.start) ≤ h.len))
-        × (length h.payload.items + h.lost < 2 ^ 32) };
+        × (0 < length h.payload + h.lost → (50 ≤ h.len) × (start_size (take 50 h.start) ≤ h.len))
+        × (length h.payload + h.lost < 2 ^ 32) };
 }
 
 // What the types say of the bytes, for a type's model.
@@ -104,43 +103,6 @@ fn front(start: &[u8; MAX_START], len: usize) -> &[u8]
     ensures size { length (take len start.now) ≡ len }
 {
     &start[..len]
-}
-
-// Puts bytes behind a payload, which gets its room at once.
-fn store(payload: &mut Vec<u8>, bytes: &[u8], wanted: usize) -> Result<(), AllocError>
-    ensures ok { OnOk result (payload.new.items ≡ payload.old.items ++ bytes.now) }
-    ensures err { OnErr result (payload.new.items ≡ payload.old.items) }
-{
-    if payload.is_empty() {
-        payload.reserve_exact(wanted)?;
-    }
-    payload.extend_from_slice(bytes)
-}
-
-// Reads from a port behind a payload, at most so many bytes. None where there is no memory for them.
-fn read_behind<P: PortRead>(
-    payload: &mut Vec<u8>,
-    port: &mut P,
-    most: usize,
-) -> Option<Result<usize, PortFault>>
-    requires some { 0 < most }
-    requires few { length payload.old.items + most < 2 ^ 32 }
-    ensures read { ReadsInto (P.remaining port.old) (P.remaining port.new) payload.old.items
-        payload.new.items most result }
-    ensures within { length payload.new.items ≤ length payload.old.items + most }
-    ensures fails { Fails (P.remaining port.old) (P.remaining port.new) (P.failures port.old)
-        (P.failures port.new) result }
-{
-    let len = payload.len();
-    let Ok(()) = payload.resize(len + most, 0) else {
-        return None;
-    };
-    let read = port.read(&mut payload[len..]);
-    match read {
-        Ok(count) => payload.truncate(len + count),
-        Err(_) => payload.truncate(len),
-    }
-    Some(read)
 }
 
 // The numbers of an IPC frame.
@@ -240,7 +202,7 @@ impl Held {
         Held {
             start: [0; MAX_START],
             len: 0,
-            payload: Vec::new(alloc),
+            payload: Block::new(alloc),
             lost: 0,
         }
     }
@@ -251,12 +213,13 @@ impl Held {
         ensures bytes { IsBytes self.now.bytes }
     {
         let start = front(&self.start, self.len);
-        are_bytes(start, &self.payload);
+        are_bytes(start, self.payload.as_slice());
         judge(Side::Server, start, self.payload.len() + self.lost)
     }
 
-    /// Takes bytes from the front of these, at least one, where so many are wanted, and says how many.
-    pub(crate) fn keep(&mut self, bytes: &[u8], wanted: usize) -> usize
+    /// Takes bytes from the front of these, at least one, where so many are wanted, and says how many. A long payload is kept in a block that
+    /// was used before, if there is one.
+    pub(crate) fn keep<B: Blocks>(&mut self, bytes: &[u8], wanted: usize, blocks: &mut B) -> usize
         requires some { 0 < length bytes.now }
         requires few { length self.old.bytes + self.old.lost + length bytes.now < 2 ^ 32 }
         ensures some { 0 < result }
@@ -274,7 +237,7 @@ impl Held {
             self.len += count;
             return count;
         }
-        if self.lost > 0 || store(&mut self.payload, bytes, wanted).is_err() {
+        if self.lost > 0 || self.payload.store(bytes, wanted, blocks).is_err() {
             self.lost += bytes.len();
         }
         bytes.len()
@@ -295,7 +258,7 @@ impl Held {
         if wanted <= FEW || self.payload.is_empty() || self.lost > 0 {
             return None;
         }
-        read_behind(&mut self.payload, port, (wanted - 1).min(MANY))
+        self.payload.read_behind(port, (wanted - 1).min(MANY))
     }
 
     /// Whether no bytes have come.
@@ -313,11 +276,11 @@ impl Held {
             → IsWhole (self.old.bytes ++ gone) f → HearsOf f result }
     {
         let start = front(&self.start, self.len);
-        are_bytes(start, &self.payload);
+        are_bytes(start, self.payload.as_slice());
         if self.lost > 0 {
             return Err(lack(start));
         }
-        let payload = mem::replace(&mut self.payload, Vec::new(alloc));
-        hear(alloc, start, payload)
+        let payload = mem::replace(&mut self.payload, Block::new(alloc));
+        hear(alloc, start, payload.into_bytes())
     }
 }

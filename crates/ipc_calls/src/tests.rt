@@ -1,5 +1,6 @@
-use crate::{CallDecoder, Heard};
+use crate::{Blocks, CallDecoder, Heard};
 use ipc_frame::{Frame, FrameFault, IpcFrame, IpcParts, encode};
+use ipc_items::StringList;
 use ipc_ports::{MemoryPort, Trouble};
 use ipc_words::{MsgTag, ThreadId, Timeouts};
 use std::alloc::Global;
@@ -153,8 +154,8 @@ fn buffer_words_are_read_only_where_strings_are_accepted(rt: HostRuntime) {
     same(&rt, 4_004, told(CallDecoder::new(alloc).take(&many[..50])));
 }
 
-// A call with so many items that each name all of a payload of 65,536 bytes.
-fn many_strings(alloc: Global, items: u8) -> Result<Vec<u8>, Fail> {
+// A call with so many items that each name all of a payload of 65,536 such bytes.
+fn many_strings(alloc: Global, items: u8, byte: u8) -> Result<Vec<u8>, Fail> {
     let mut words = Vec::new(alloc);
     for _ in 0..items {
         words.push(0x400_0000)?;
@@ -169,7 +170,7 @@ fn many_strings(alloc: Global, items: u8) -> Result<Vec<u8>, Fail> {
         acceptor: 0,
         words,
         buffer_words: Vec::new(alloc),
-        payload: vec![in alloc; 5; 65_536]?,
+        payload: vec![in alloc; byte; 65_536]?,
     };
     match IpcFrame::new(parts) {
         Ok(ipc) => Ok(encode(alloc, Frame::Ipc(ipc))?),
@@ -180,10 +181,10 @@ fn many_strings(alloc: Global, items: u8) -> Result<Vec<u8>, Fail> {
 #[test]
 fn strings_of_a_mebibyte_are_heard_and_no_more(rt: HostRuntime) -> Result<(), Fail> {
     let alloc = rt.alloc();
-    let most = many_strings(alloc, 16)?;
+    let most = many_strings(alloc, 16, 5)?;
     same(&rt, most.len(), 65_842);
     same(&rt, 1_000, told(CallDecoder::new(alloc).take(&most)));
-    let more = many_strings(alloc, 17)?;
+    let more = many_strings(alloc, 17, 5)?;
     same(&rt, 4_008, told(CallDecoder::new(alloc).take(&more)));
     Ok(())
 }
@@ -191,7 +192,7 @@ fn strings_of_a_mebibyte_are_heard_and_no_more(rt: HostRuntime) -> Result<(), Fa
 #[test]
 fn the_middle_of_a_long_payload_is_read_in_place(rt: HostRuntime) -> Result<(), Fail> {
     let alloc = rt.alloc();
-    let call = many_strings(alloc, 1)?;
+    let call = many_strings(alloc, 1, 5)?;
     let front = call.get(..1_024).ok_or("a front")?;
     let behind = call.get(1_024..).ok_or("what is behind it")?;
     let mut port = MemoryPort::new(alloc, behind);
@@ -206,5 +207,64 @@ fn the_middle_of_a_long_payload_is_read_in_place(rt: HostRuntime) -> Result<(), 
     holds(&rt, matches!(read, Some(Ok(64_577))));
     holds(&rt, decoder.read_on(&mut port).is_none());
     same(&rt, 1_000, told(decoder.take(port.input())));
+    Ok(())
+}
+
+// Gives blocks of other bytes, each by so many shorter than the one before, and counts the strings that are told.
+#[derive(Drop)]
+struct Nines {
+    alloc: Global,
+    next: usize,
+    told: usize,
+}
+
+impl Blocks for Nines {
+    fn take(&mut self, _wanted: usize) -> Option<Vec<u8>> {
+        let size = self.next;
+        self.next = size.saturating_sub(20_000);
+        vec![in self.alloc; 9u8; size].ok()
+    }
+
+    fn keep(&mut self, list: &StringList) {
+        self.told = self.told.saturating_add(list.len());
+    }
+}
+
+// Whether the string of a call is heard as it is sent, where the middle of its payload is read in place.
+fn is_heard(
+    alloc: Global,
+    blocks: &mut Nines,
+    decoder: &mut CallDecoder,
+    byte: u8,
+) -> Result<bool, Fail> {
+    let call = many_strings(alloc, 1, byte)?;
+    let front = call.get(..1_024).ok_or("a front")?;
+    let behind = call.get(1_024..).ok_or("what is behind it")?;
+    let mut port = MemoryPort::new(alloc, behind);
+    let _ = decoder.take_in(front, blocks)?;
+    let _ = decoder.read_on(&mut port);
+    let (_, heard) = decoder.take_in(port.input(), blocks)?;
+    let Some(Heard::Call(call)) = heard else {
+        return Ok(false);
+    };
+    let string = call.strings().get(0).ok_or("a string")?;
+    Ok(string.len() == 65_536 && string.iter().all(|own| *own == byte))
+}
+
+#[test]
+fn a_block_that_was_used_before_shows_in_no_string(rt: HostRuntime) -> Result<(), Fail> {
+    let alloc = rt.alloc();
+    let mut blocks = Nines {
+        alloc,
+        next: 80_000,
+        told: 0,
+    };
+    let mut decoder = CallDecoder::new(alloc);
+    // longer than the payload, then shorter
+    holds(&rt, is_heard(alloc, &mut blocks, &mut decoder, 1)?);
+    holds(&rt, is_heard(alloc, &mut blocks, &mut decoder, 2)?);
+    holds(&rt, is_heard(alloc, &mut blocks, &mut decoder, 3)?);
+    same(&rt, blocks.next, 20_000);
+    same(&rt, blocks.told, 3);
     Ok(())
 }

@@ -14,7 +14,7 @@ use Rattle.ipc_frame.specs.declared.frame.Frame.TheVariants as frame
 use Rattle.ipc_frame.specs.Numbers.{IsBytes, number_text, number_in, fields_text, fields_in, AreWords, words_text, words_in}
 use Rattle.ipc_frame.specs.declared.fault.FrameFault.{FrameFault}
 use Rattle.ipc_frame.specs.declared.version.CallEnd.{CallEnd}
-use Rattle.ipc_frame.specs.declared.version.WireVersion.TheVariants.{One, Two}
+use Rattle.ipc_frame.specs.declared.version.WireVersion.TheVariants.{Two}
 use Rattle.ipc_frame.specs.Versions.{version_of}
 use Rattle.ipc_frame.specs.Parts.{IsPiece, words_of, piece_text, pieces_text, end_size}
 use Rattle.ipc_frame.specs.Frames.{kind_byte, side_of, kinds, widths, ipcr_kind, end_fields, kind_of, fields_of, tail_of, size_of, body_of, spelling, HasTail, IsFrame}

@@ -1,5 +1,5 @@
 -- What an encoder lends: the bytes that come next, where they stand in the memory of a string.
-use Rattle.std.specs.Prelude.{ℕ, ◌+◌, ◌-◌, List, [], ◌∷◌, length, drop, nat_lt, nat_le, if◌then◌else◌}
+use Rattle.std.specs.Prelude.{ℕ, ◌-◌, List, [], ◌∷◌, length, drop, nat_lt, nat_le, if◌then◌else◌}
 use Rattle.ipc_items.specs.Pieces.{PlacedBytes}
 use Rattle.ipc_frame.specs.declared.encoding.Source.{Source}
 use Rattle.ipc_frame.specs.declared.encoding.Source.TheVariants as source

@@ -14,7 +14,7 @@ use Rattle.ipc_frame.specs.declared.judging.Judgement.TheVariants as judged
 use Rattle.ipc_frame.specs.declared.frame.Frame.{Frame}
 use Rattle.ipc_frame.specs.declared.frame.Frame.TheVariants as frame
 use Rattle.ipc_frame.specs.declared.version.CallEnd.{CallEnd}
-use Rattle.ipc_frame.specs.declared.version.WireVersion.TheVariants.{One, Two}
+use Rattle.ipc_frame.specs.declared.version.WireVersion.TheVariants.{One}
 use Rattle.ipc_frame.specs.Versions.{version_of}
 use Rattle.ipc_frame.specs.Numbers.{number_in, fields_in, words_in}
 use Rattle.ipc_frame.specs.Parts.{IpcParts, IpcrParts, words_of}

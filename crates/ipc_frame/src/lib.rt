@@ -15,7 +15,6 @@ mod kind;
 mod laws;
 mod pieces;
 mod replies;
-mod scattering;
 mod telling;
 mod version;
 mod window;

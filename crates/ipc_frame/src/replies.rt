@@ -10,27 +10,8 @@ use crate::fault::FrameFault;
 use crate::ipcr::{IpcrFrame, IpcrParts, Placed};
 use crate::version::{CallEnd, WireVersion};
 use ipc_history::Outcome;
-use ipc_items::{BufferList, Piece, StringList, scatter};
+use ipc_items::{Piece, scatter_all};
 use std::alloc::{AllocError, Global};
-
-// The pieces of all strings, in order; those without bytes are left out.
-fn scattered<'a>(
-    alloc: Global,
-    buffers: &'a BufferList,
-    strings: &'a StringList,
-) -> Result<Vec<Piece<'a>>, AllocError>
-    ensures { IfOk result (λ pieces. map placed pieces.items
-        ≡ flat_map (λ placed. placed) (pieces_of_all buffers.now strings.now)) }
-{
-    let mut pieces = Vec::new(alloc);
-    for place in 0..strings.len() {
-        let (Some(parts), Some(bytes)) = (buffers.get(place), strings.get(place)) else {
-            break;
-        };
-        pieces.extend(scatter(parts, bytes))?;
-    }
-    Ok(pieces)
-}
 
 // The pieces with their bytes copied.
 fn owned(alloc: Global, pieces: &[Piece<'_>]) -> Result<Vec<Placed>, AllocError>
@@ -66,7 +47,7 @@ fn reply_parts(
 {
     let mut words = Vec::with_capacity(alloc, outcome.words.len())?;
     words.extend_from_slice(&outcome.words)?;
-    let pieces = scattered(alloc, &outcome.buffers, &outcome.strings)?;
+    let pieces = scatter_all(alloc, &outcome.buffers, &outcome.strings)?;
     Ok(IpcrParts {
         end: end_of(version, outcome),
         tag: outcome.tag,

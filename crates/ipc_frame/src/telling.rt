@@ -10,10 +10,10 @@ ghost use Rattle.ipc_frame.specs.Window.{page, passed, passed_numbers};
 use crate::encoding::{put_end, put_words};
 use crate::kind::FrameKind;
 use crate::replies::{end_of, fits};
-use crate::scattering::Scattered;
 use crate::version::WireVersion;
 use crate::window::Window;
 use ipc_history::Outcome;
+use ipc_items::Scattered;
 
 /// How many pieces an outcome has, and how many bytes spell them.
 #[derive(Clone, Copy)]
@@ -32,7 +32,7 @@ fn measure_of(outcome: &Outcome) -> Measure
         pieces: 0,
         bytes: 0,
     };
-    for piece in Scattered::of(outcome) {
+    for piece in Scattered::new(&outcome.buffers, &outcome.strings) {
         measure.pieces += 1;
         measure.bytes += 12 + piece.bytes.len();
     }
@@ -61,7 +61,7 @@ fn put_scattered(window: &mut Window, out: &mut [u8], outcome: &Outcome)
     ensures within { window.new.filled ≤ length out.new }
 {
     fits(WireVersion::One, outcome);
-    for piece in Scattered::of(outcome) {
+    for piece in Scattered::new(&outcome.buffers, &outcome.strings) {
         window.put_u64(out, piece.pointer);
         window.put_u32(out, piece.bytes.len() as u32);
         window.put(out, piece.bytes);
@@ -131,7 +131,7 @@ fn lend_piece(outcome: &Outcome, place: usize) -> &[u8]
     ensures { result.now ≡ lent_piece place (pieces_told outcome.now) }
 {
     let mut place = place;
-    for piece in Scattered::of(outcome) {
+    for piece in Scattered::new(&outcome.buffers, &outcome.strings) {
         // the place is in its pointer or its length
         if place < 12 {
             return &[];

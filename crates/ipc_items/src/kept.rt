@@ -1,4 +1,5 @@
-ghost use Rattle.std.specs.Prelude.{◌≡◌, ◌∷◌, ◌++◌, [], length, sum_by, slice_get, option_copied, IfOk, IsOk, OnOk, OnErr};
+ghost use Rattle.std.specs.Prelude.{◌≡◌, ◌∷◌, ◌++◌, [], length, sum_by, slice_get, option_copied, IfOk, IfErr, IfSome, IsOk, OnOk, OnErr};
+ghost use Rattle.std.specs.List.{concat};
 
 use crate::rows::Rows;
 use ipc_memory::Memory;
@@ -78,6 +79,41 @@ impl<T> Kept<T> {
     }
 }
 
+impl<T> Kept<T> {
+    // The same rows once more, without memory; None where they have one owner by themselves, or the owners cannot be counted.
+    pub(crate) fn share(&self) -> Option<Self>
+        ensures { IfSome result (λ kept. kept ≡ self.now) }
+    {
+        match &self.owned {
+            Owned::Sole(_) => None,
+            Owned::Shared(rows) => match Arc::try_clone(rows) {
+                Ok(rows) => Some(Kept {
+                    owned: Owned::Shared(rows),
+                }),
+                Err(_) => None,
+            },
+        }
+    }
+}
+
+impl Kept<u8> {
+    // The items of all rows, in their memory, where nobody else has them.
+    pub(crate) fn into_items(self) -> Result<Vec<u8>, Self>
+        ensures ok { IfOk result (λ items. items.items ≡ concat self) }
+        ensures err { IfErr result (λ kept. kept ≡ self) }
+    {
+        match self.owned {
+            Owned::Sole(rows) => Ok(rows.into_items()),
+            Owned::Shared(rows) => match Arc::try_unwrap(rows) {
+                Ok(rows) => Ok(rows.into_items()),
+                Err(rows) => Err(Kept {
+                    owned: Owned::Shared(rows),
+                }),
+            },
+        }
+    }
+}
+
 impl<T: Copy> Kept<T> {
     // Removes all rows; other owners keep theirs.
     pub(crate) fn clear(&mut self)
@@ -94,12 +130,8 @@ impl<T: Copy> Kept<T> {
         ensures same { IfOk result (λ kept. kept ≡ self.now) }
         ensures ample { M.is_ample → IsOk result }
     {
-        if let Owned::Shared(rows) = &self.owned {
-            if let Ok(rows) = Arc::try_clone(rows) {
-                return Ok(Kept {
-                    owned: Owned::Shared(rows),
-                });
-            }
+        if let Some(kept) = self.share() {
+            return Ok(kept);
         }
         Ok(Kept::sole(self.rows().copy(memory)?))
     }

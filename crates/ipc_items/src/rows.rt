@@ -1,5 +1,6 @@
 ghost use Rattle.std.specs.Prelude.{◌≡◌, ℕ, ◌<◌, ◌≤◌, List, [], ◌∷◌, ◌++◌, length, sum_by, IfOk, IsOk};
 ghost use Rattle.std.specs.Prelude.{OnOk, OnErr, slice_get, option_copied};
+ghost use Rattle.std.specs.List.{concat};
 ghost use Rattle.ipc_memory.specs.Memory.{ample_items};
 ghost use Rattle.ipc_items.specs.Rows.{AreEnds, grown, opened, place, rows};
 
@@ -64,6 +65,11 @@ impl<T> Rows<T> {
         self.items.len()
     }
 
+    // For how many items there is room.
+    pub(crate) fn room(&self) -> usize {
+        self.items.capacity()
+    }
+
     pub(crate) fn row(&self, k: usize) -> &[T]
         requires { k < length self.now }
         ensures { slice_get self.now k ≡ Some result.now }
@@ -79,6 +85,17 @@ impl<T> Rows<T> {
         } else {
             None
         }
+    }
+}
+
+impl Rows<u8> {
+    // The items of all rows, in their memory.
+    pub(crate) fn into_items(self) -> Vec<u8>
+        ensures { result.items ≡ concat self }
+    {
+        let Rows { items, ends } = self;
+        drop(ends);
+        items
     }
 }
 

@@ -1,6 +1,7 @@
 ghost use Rattle.std.specs.Prelude.{◌≡◌, ◌==◌, ◌↔◌, IsTrue, ℕ, ◌*◌, ◌≤◌, List, [], ◌∷◌, ◌++◌};
 ghost use Rattle.std.specs.Prelude.{length, if◌then◌else◌, IfOk, IfErr, IsOk, IsOkUnless, IfSome};
 ghost use Rattle.std.specs.Prelude.{OnErr, slice_get, option_copied};
+ghost use Rattle.std.specs.List.{concat};
 ghost use Rattle.std.specs.Option.{SomeIff, option_map_or};
 ghost use Rattle.ipc_words.specs.Limits.{max_message_words, max_string_bytes};
 ghost use Rattle.ipc_memory.specs.Memory.{ample_items};
@@ -148,6 +149,42 @@ impl StringList {
         Ok(StringList {
             rows: self.rows.copy(memory)?,
         })
+    }
+
+    /// One more owner of the list. Takes no memory. None where the list has one owner by itself.
+    pub fn share(&self) -> Option<Self>
+        ensures { IfSome result (λ list. list ≡ self.now) }
+    {
+        Some(StringList {
+            rows: self.rows.share()?,
+        })
+    }
+
+    /// The memory of the strings, which stand in it one behind the other. Where somebody else has the list, it comes back.
+    pub fn into_block(self) -> Result<Vec<u8>, Self>
+        ensures ok { IfOk result (λ block. block.items ≡ concat self) }
+        ensures err { IfErr result (λ list. list ≡ self) }
+    {
+        match self.rows.into_items() {
+            Ok(block) => Ok(block),
+            Err(rows) => Err(StringList { rows }),
+        }
+    }
+
+    /// As [`StringList::into_block`], where it has at least so many bytes, and room for at most twice as many.
+    #[tactic(auto, using(crate::proofs::RowLemmas::length_concat))]
+    pub(crate) fn into_block_for(self, wanted: usize) -> Result<Vec<u8>, Self>
+        ensures ok { IfOk result (λ block. wanted ≤ length block.items) }
+        ensures err { IfErr result (λ list. list ≡ self) }
+    {
+        let rows = self.rows.rows();
+        if rows.total() < wanted || rows.room() / 2 > wanted {
+            return Err(self);
+        }
+        match self.into_block() {
+            Ok(block) => Ok(block),
+            Err(list) => Err(list),
+        }
     }
 
     /// The sum of the lengths of the strings.

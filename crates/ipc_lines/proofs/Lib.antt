@@ -1,5 +1,4 @@
 pub mod Joins
-pub mod Placing
 pub mod Plain
 pub mod Splitting
 pub mod Cuts

@@ -9,27 +9,8 @@ ghost use Rattle.ipc_lines.specs.Lines.{outcome_text};
 use crate::lists::{separate, write_bytes, write_words};
 use crate::scalars::{HexText, IdText};
 use ipc_history::Outcome;
-use ipc_items::{BufferList, Piece, StringList, scatter};
+use ipc_items::{Piece, scatter_all};
 use std::alloc::{AllocError, Global};
-
-// The pieces of all strings, in order; those without bytes are left out.
-fn pieces<'a>(
-    alloc: Global,
-    buffers: &'a BufferList,
-    strings: &'a StringList,
-) -> Result<Vec<Piece<'a>>, AllocError>
-    ensures { IfOk result (λ pieces. map placed pieces.items
-        ≡ flat_map (λ placed. placed) (pieces_of_all buffers.now strings.now)) }
-{
-    let mut pieces = Vec::new(alloc);
-    for place in 0..strings.len() {
-        let (Some(parts), Some(bytes)) = (buffers.get(place), strings.get(place)) else {
-            break;
-        };
-        pieces.extend(scatter(parts, bytes))?;
-    }
-    Ok(pieces)
-}
 
 // Appends a piece: its pointer in HEX, `:` and its bytes.
 fn write_piece(alloc: Global, out: &mut String, piece: Piece<'_>) -> Result<(), AllocError>
@@ -72,7 +53,7 @@ pub fn outcome_line(alloc: Global, outcome: &Outcome) -> Result<String, AllocErr
     write!(line, "{} {error} ", IdText(outcome.actual))?;
     write_words(&mut line, &outcome.words)?;
     line.push_str(" ")?;
-    let pieces = pieces(alloc, &outcome.buffers, &outcome.strings)?;
+    let pieces = scatter_all(alloc, &outcome.buffers, &outcome.strings)?;
     write_pieces(alloc, &mut line, &pieces)?;
     Ok(line)
 }

@@ -1,6 +1,6 @@
 -- When memory lets go of entries of the history.
 use Rattle.std.specs.Prelude.{◌≡◌, ℕ, ◌+◌, ◌-◌, ◌*◌, ◌^◌, Bool, ◌&&◌, ◌||◌, nat_le, min, max, length, MatchBool}
-use Rattle.ipc_words.specs.Limits.{max_string_bytes}
+use Rattle.ipc_words.specs.Limits.{block_bytes}
 use Rattle.ipc_items.specs.Strings.{size_of}
 use Rattle.ipc_history.specs.Holding.{held_of}
 use Rattle.ipc_core.specs.Compacting.{Compacts}
@@ -16,7 +16,7 @@ few_entries = 4096
 
 -- so many bytes of strings come before any entry is let go, where the entries are few
 abbrev pub few_bytes : ℕ
-few_bytes = 8 * max_string_bytes
+few_bytes = 4 * block_bytes
 
 -- so many entries below the limit it is near
 abbrev pub near_the_limit : ℕ

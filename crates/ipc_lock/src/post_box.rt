@@ -269,10 +269,11 @@ impl<T: Ledger, P: PenPort + Drop> PostBox<T, P> {
         if pen.place() != self.place {
             return Some(pen);
         }
-        if self.shut || !pen.is_ready() {
-            self.bell.notify_one();
-        }
+        let is_for_writer = self.shut || !pen.is_ready();
         self.pen = Some(pen);
+        if is_for_writer {
+            self.ring();
+        }
         None
     }
 

@@ -52,6 +52,11 @@ fn look_on<R: Clock>(rt: &R, time: Duration) {
     }
 }
 
+/// Whether a step copied a block.
+fn has_moved<C: Ledger, T: Ledger>(answered: Answered<C, T>) -> bool {
+    matches!(answered.answer(), Answer::Advanced(Advance::Moved))
+}
+
 /// One kernel for all workers of a server, and a box for each connection, which has a pen of the port `P`.
 #[derive(Drop)]
 pub struct SharedKernel<C: Ledger, T: Ledger, P: PenPort + Drop> {
@@ -91,19 +96,35 @@ impl<C: Ledger, T: Ledger, P: PenPort + Drop> SharedKernel<C, T, P> {
 
     /// Takes the lock. It is tried for a while first: who sleeps for it has to be woken, and that costs more than most steps.
     fn inside<R: Wait>(&self, rt: &R) -> MutexGuard<'_, Inside<C, T, P>> {
+        if let Some(inside) = self.try_at_once() {
+            return inside;
+        }
+        if let Some(inside) = self.try_in_turns() {
+            return inside;
+        }
+        self.inside.lock(rt)
+    }
+
+    /// Tries to take the lock, again at once while another thread has it.
+    fn try_at_once(&self) -> Option<MutexGuard<'_, Inside<C, T, P>>> {
         for _ in 0..TRIES {
             if let Some(inside) = self.inside.try_lock() {
-                return inside;
+                return Some(inside);
             }
             spin_loop();
         }
+        None
+    }
+
+    /// Lets others run, and then tries to take the lock, again and again.
+    fn try_in_turns(&self) -> Option<MutexGuard<'_, Inside<C, T, P>>> {
         for _ in 0..TURNS {
             yield_now();
             if let Some(inside) = self.inside.try_lock() {
-                return inside;
+                return Some(inside);
             }
         }
-        self.inside.lock(rt)
+        None
     }
 
     /// Takes the lock, makes one step, and writes what it told to whom it concerns. A step is a command of the kernel at a moment, in
@@ -119,12 +140,28 @@ impl<C: Ledger, T: Ledger, P: PenPort + Drop> SharedKernel<C, T, P> {
         ensures takes { GivesSeat result.answer result.takes }
         ensures back { HandsBack command result.answer result.back }
     {
+        self.step(rt, now, seat, command, true)
+    }
+
+    /// As [`SharedKernel::submit`]. The mover is woken only where it may be needed.
+    fn step<R: Wait>(
+        &self,
+        rt: &R,
+        now: u64,
+        seat: Option<CallSeat<C>>,
+        command: Command,
+        wakes_mover: bool,
+    ) -> Answered<C, T>
+        ensures answers { AnswersStep seat command result.answer result.calls }
+        ensures takes { GivesSeat result.answer result.takes }
+        ensures back { HandsBack command result.answer result.back }
+    {
         let mut errands = Errands::none();
         let mut inside = self.inside(rt);
         let answered = inside.act(now, seat, command);
         let after = inside.after(None, &mut errands);
         drop(inside);
-        if after.begun {
+        if wakes_mover && after.begun {
             self.work.notify_one();
         }
         self.settle(rt, after, &mut errands);
@@ -317,17 +354,16 @@ impl<C: Ledger, T: Ledger, P: PenPort + Drop> SharedKernel<C, T, P> {
     /// Copies blocks of what is in transfer until nothing is. Where that are many the mover goes on.
     fn move_blocks<R: Wait>(&self, rt: &R, now: u64) {
         for _ in 0..MOST_BLOCKS {
-            let mut inside = self.inside(rt);
-            let answered = inside.act(now, None, Command::Advance);
-            let mut errands = Errands::none();
-            let after = inside.after(None, &mut errands);
-            drop(inside);
-            self.settle(rt, after, &mut errands);
-            if !matches!(answered.answer(), Answer::Advanced(Advance::Moved)) {
+            if !self.move_block(rt, now) {
                 return;
             }
         }
         self.work.notify_one();
+    }
+
+    /// Copies a block of what is in transfer; false where nothing is.
+    fn move_block<R: Wait>(&self, rt: &R, now: u64) -> bool {
+        has_moved(self.step(rt, now, None, Command::Advance, false))
     }
 
     /// Rests until a phase is due, or an earlier one comes, at the longest until the work is over. `now` is the moment, in microseconds. It

@@ -3,18 +3,18 @@ ghost use Rattle.std.specs.Prelude.{◌≡◌};
 ghost use Rattle.ipc_lock.specs.Upkeeping.{first_upkeep, is_due, noted, restarted};
 
 use ipc_core::Command;
-use ipc_words::limits::MAX_STRING_BYTES;
+use ipc_words::limits::BLOCK_BYTES;
 
 /// So many entries are held before any is let go.
 const FEW_ENTRIES: usize = 4_096;
 
 /// So many bytes of strings come before any entry is let go, where the entries are few.
-const FEW_BYTES: usize = 8 * MAX_STRING_BYTES;
+const FEW_BYTES: usize = 4 * BLOCK_BYTES as usize;
 
 /// What the greatest number of threads may have pledged, and a step may need, with room to spare.
 const NEAR_THE_LIMIT: usize = 16_384;
 
-/// When entries are let go: where as many are held as were left the last time, and as many again; where 8 MiB of strings came since;
+/// When entries are let go: where as many are held as were left the last time, and as many again; where four blocks of strings came since;
 /// or near the limit, where many more may be let go than before.
 #[derive(Drop)]
 pub(crate) struct Upkeep {

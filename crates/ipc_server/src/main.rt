@@ -11,6 +11,7 @@ mod paths;
 mod probe;
 mod server;
 mod serving;
+mod shared_blocks;
 mod socket;
 #[cfg(test)]
 mod tests;

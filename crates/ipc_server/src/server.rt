@@ -1,19 +1,22 @@
+use crate::shared_blocks::SharedBlocks;
 use ipc_core::{Answer, Command};
 use ipc_host::ServerClock;
+use ipc_items::FreeBlocks;
 use ipc_lock::SharedKernel;
 use ipc_pen::PenPort;
 use std::alloc::Global;
 use std::rt::Clock;
-use std::sync::Wait;
 use std::sync::ledger::Ledger;
+use std::sync::{Mutex, Wait};
 
-/// What all workers of a server share: the kernel under its lock, and the clock.
+/// What all workers of a server share: the kernel under its lock, the clock, and the memory of long strings.
 #[derive(Drop)]
 pub struct Server<'a, C: Ledger, T: Ledger, P: PenPort + Drop, R> {
     pub(crate) rt: &'a R,
     pub(crate) alloc: Global,
     pub(crate) shared: &'a SharedKernel<C, T, P>,
     pub(crate) clock: ServerClock,
+    blocks: Mutex<FreeBlocks>,
 }
 
 impl<'a, C: Ledger, T: Ledger, P: PenPort + Drop, R: Wait + Clock> Server<'a, C, T, P, R> {
@@ -29,7 +32,13 @@ impl<'a, C: Ledger, T: Ledger, P: PenPort + Drop, R: Wait + Clock> Server<'a, C,
             alloc,
             shared,
             clock,
+            blocks: Mutex::new(FreeBlocks::new(alloc)),
         }
+    }
+
+    /// The memory of long strings, for one connection.
+    pub(crate) fn blocks(&self) -> SharedBlocks<'_, R> {
+        SharedBlocks::new(self.rt, &self.blocks)
     }
 
     /// The moment, in microseconds.

@@ -145,7 +145,14 @@ where
     let mut reader = reader;
     let mut reads = reads;
     let mut kernel_port = kernel_port;
-    let _ = read_loop(server.alloc, &mut reader, &mut kernel_port, &mut reads);
+    let mut blocks = server.blocks();
+    let _ = read_loop(
+        server.alloc,
+        &mut reader,
+        &mut kernel_port,
+        &mut reads,
+        &mut blocks,
+    );
     reads.stop_reading();
     kernel_port.into_end()
 }

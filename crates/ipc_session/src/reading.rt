@@ -11,22 +11,23 @@ use crate::ending::Ending;
 use crate::gate::Gate;
 use crate::serving::serve;
 use crate::turned::Turned;
-use ipc_calls::CallDecoder;
+use ipc_calls::{Blocks, CallDecoder};
 use ipc_connection::Stage;
 use ipc_ports::PortRead;
 use std::alloc::Global;
 
 /// Reads frames and serves each by the rules of a connection, one after the other, and then tells the kernel port once that the
-/// thread ends. While the kernel port makes it wait nothing is read.
+/// thread ends. While the kernel port makes it wait nothing is read. The blocks give memory for long strings; no clause depends on them.
 ///
 /// S1, S5 and BYE come by what the bytes read say or what the kernel port answered, and nothing behind that is served. S2 comes only
 /// where the device failed in this run, S3 only where the gate said stop, and EndOfInput only where the input was read to its
 /// end, between two frames. At these three ends all whole frames of the bytes read were served.
-pub fn read_loop<P: PortRead, K: KernelPort, G: Gate>(
+pub fn read_loop<P: PortRead, K: KernelPort, G: Gate, B: Blocks>(
     alloc: Global,
     port: &mut P,
     kernel_port: &mut K,
     gate: &mut G,
+    blocks: &mut B,
 ) -> Ending
     ensures calls { (bytes : List ℕ) × Consumes (P.remaining port.old) (P.remaining port.new) bytes
         × EndsSo result (K.log kernel_port.old) (K.log kernel_port.new) bytes
@@ -35,17 +36,18 @@ pub fn read_loop<P: PortRead, K: KernelPort, G: Gate>(
     ensures stopped { result ≡ Ending.Stopped → G.stopped gate.new ≡ true }
     ensures ended { result ≡ Ending.EndOfInput → IsAtEnd (P.remaining port.new) }
 {
-    let ending = read_all(alloc, port, kernel_port, gate);
+    let ending = read_all(alloc, port, kernel_port, gate, blocks);
     kernel_port.broke();
     ending
 }
 
 /// Reads and serves up to an ending.
-fn read_all<P: PortRead, K: KernelPort, G: Gate>(
+fn read_all<P: PortRead, K: KernelPort, G: Gate, B: Blocks>(
     alloc: Global,
     port: &mut P,
     kernel_port: &mut K,
     gate: &mut G,
+    blocks: &mut B,
 ) -> Ending
     ensures calls { (bytes : List ℕ) × Consumes (P.remaining port.old) (P.remaining port.new) bytes
         × EndsSo result (K.log kernel_port.old) (K.log kernel_port.new) bytes
@@ -58,7 +60,7 @@ fn read_all<P: PortRead, K: KernelPort, G: Gate>(
     let mut stage = Stage::Greeting;
     let mut is_long = false;
     'turns: while gate.turn() {
-        let (turned, was_much) = read_next(port, kernel_port, &mut decoder, stage, is_long);
+        let (turned, was_much) = read_next(port, kernel_port, &mut decoder, stage, is_long, blocks);
         match turned {
             Turned::On(next) => stage = next,
             Turned::Over(ending) => return ending,
@@ -70,12 +72,13 @@ fn read_all<P: PortRead, K: KernelPort, G: Gate>(
 
 /// Reads once, the middle of a long string straight into its memory, and serves the frames that end in what was read. Also answers
 /// whether that was much, so that more may be waiting.
-fn read_next<P: PortRead, K: KernelPort>(
+fn read_next<P: PortRead, K: KernelPort, B: Blocks>(
     port: &mut P,
     kernel_port: &mut K,
     decoder: &mut CallDecoder,
     stage: Stage,
     is_long: bool,
+    blocks: &mut B,
 ) -> (Turned, bool)
     requires { stage ≢ Stage.Finished }
     ensures { ReadsOn (P.remaining port.old) (P.remaining port.new)
@@ -83,7 +86,7 @@ fn read_next<P: PortRead, K: KernelPort>(
         (P.failures port.old) (P.failures port.new) stage result.0 }
 {
     match decoder.read_on(port) {
-        None => read_piece(port, kernel_port, decoder, stage, is_long),
+        None => read_piece(port, kernel_port, decoder, stage, is_long, blocks),
         Some(Ok(0)) => (Turned::Over(end_input(kernel_port, decoder, stage)), false),
         Some(Ok(_)) => (Turned::On(stage), true),
         Some(Err(_)) => (Turned::Over(Ending::Device), false),
@@ -91,12 +94,13 @@ fn read_next<P: PortRead, K: KernelPort>(
 }
 
 /// Reads once into a buffer, and serves the frames that end in what was read. Also answers whether that was much.
-fn read_piece<P: PortRead, K: KernelPort>(
+fn read_piece<P: PortRead, K: KernelPort, B: Blocks>(
     port: &mut P,
     kernel_port: &mut K,
     decoder: &mut CallDecoder,
     stage: Stage,
     is_long: bool,
+    blocks: &mut B,
 ) -> (Turned, bool)
     requires { stage ≢ Stage.Finished }
     ensures { ReadsOn (P.remaining port.old) (P.remaining port.new)
@@ -104,37 +108,39 @@ fn read_piece<P: PortRead, K: KernelPort>(
         (P.failures port.old) (P.failures port.new) stage result.0 }
 {
     if is_long {
-        read_long(port, kernel_port, decoder, stage)
+        read_long(port, kernel_port, decoder, stage, blocks)
     } else {
-        read_turn(port, kernel_port, decoder, stage, &mut [0u8; SHORT])
+        read_turn(port, kernel_port, decoder, stage, &mut [0u8; SHORT], blocks)
     }
 }
 
 /// Reads once through a long buffer. It stands on the stack of this function alone, which is never
 /// inlined. So a connection that says little never touches it.
 #[inline(never)]
-fn read_long<P: PortRead, K: KernelPort>(
+fn read_long<P: PortRead, K: KernelPort, B: Blocks>(
     port: &mut P,
     kernel_port: &mut K,
     decoder: &mut CallDecoder,
     stage: Stage,
+    blocks: &mut B,
 ) -> (Turned, bool)
     requires { stage ≢ Stage.Finished }
     ensures { ReadsOn (P.remaining port.old) (P.remaining port.new)
         (K.log kernel_port.old) (K.log kernel_port.new) decoder.old decoder.new
         (P.failures port.old) (P.failures port.new) stage result.0 }
 {
-    read_turn(port, kernel_port, decoder, stage, &mut [0u8; LONG])
+    read_turn(port, kernel_port, decoder, stage, &mut [0u8; LONG], blocks)
 }
 
 /// Reads once into a buffer, and serves the frames that end in what was read. Also answers whether
 /// that was much.
-fn read_turn<P: PortRead, K: KernelPort>(
+fn read_turn<P: PortRead, K: KernelPort, B: Blocks>(
     port: &mut P,
     kernel_port: &mut K,
     decoder: &mut CallDecoder,
     stage: Stage,
     buffer: &mut [u8],
+    blocks: &mut B,
 ) -> (Turned, bool)
     requires goes_on { stage ≢ Stage.Finished }
     requires some { 0 < length buffer.old }
@@ -150,7 +156,7 @@ fn read_turn<P: PortRead, K: KernelPort>(
         let ending = end_input(kernel_port, decoder, stage);
         return (Turned::Over(ending), false);
     }
-    let turned = serve_piece(kernel_port, decoder, stage, &buffer[..count]);
+    let turned = serve_piece(kernel_port, decoder, stage, &buffer[..count], blocks);
     (turned, count >= SHORT)
 }
 
@@ -174,11 +180,12 @@ fn end_input<K: KernelPort>(kernel_port: &mut K, decoder: &mut CallDecoder, stag
 }
 
 /// Serves the frames that end in a piece, up to the end of the connection.
-fn serve_piece<K: KernelPort>(
+fn serve_piece<K: KernelPort, B: Blocks>(
     kernel_port: &mut K,
     decoder: &mut CallDecoder,
     stage: Stage,
     piece: &[u8],
+    blocks: &mut B,
 ) -> Turned
     requires { stage ≢ Stage.Finished }
     ensures { (left : List ℕ) (input : Option (List ℕ)) → Holds decoder.old left
@@ -191,7 +198,7 @@ fn serve_piece<K: KernelPort>(
     let mut turns = piece.len().saturating_add(1);
     'frames: while turns > 0 {
         turns -= 1;
-        let (used, heard) = match decoder.take(rest) {
+        let (used, heard) = match decoder.take_in(rest, blocks) {
             Err(fault) => return serve(kernel_port, stage, Err(fault)),
             Ok((_, None)) => return Turned::On(stage),
             Ok((used, Some(heard))) => (used, heard),

@@ -1,6 +1,7 @@
 ghost use Rattle.std.specs.Prelude.{◌≡◌, None, true};
 
 use super::*;
+use ipc_calls::NoBlocks;
 use ipc_connection::{Request, Told};
 use ipc_core::Refusal;
 use ipc_frame::{Frame, WireVersion};
@@ -131,7 +132,13 @@ fn assert_read<P: PortRead>(
         Some((request, refusal)) => kernel_port.with_refusal(request, refusal),
         None => kernel_port,
     };
-    let ending = read_loop(alloc, port, &mut kernel_port, &mut Open::new(turns));
+    let ending = read_loop(
+        alloc,
+        port,
+        &mut kernel_port,
+        &mut Open::new(turns),
+        &mut NoBlocks,
+    );
     same(rt, ending, end);
     let kept = kernel_port
         .deeds()

@@ -12,7 +12,7 @@ use Rattle.ipc_calls.proofs.FillLemmas.{not_both, some_gone, keeps_moved, keeps_
 use Rattle.ipc_calls.proofs.call_decoder.fill.Goals as goal
 
 pub returns-in-Bad : goal.returns-in-Bad
-returns-in-Bad c =
+returns-in-Bad g c =
     let inv = c.loop-fault.invariant in
     record {
       fills = λ gone are. let j = inv.joined gone are in fills_bad _ c.args.piece.now c.loop-fault.held j.0 j.1 c.loop-fault.used j.2 inv.within c.in-Bad.fault (c.in-Bad.ensures.tells j.0 j.1);
@@ -20,7 +20,7 @@ returns-in-Bad c =
     }
 
 pub returns-in-Whole : goal.returns-in-Whole
-returns-in-Whole c =
+returns-in-Whole g c =
     let inv = c.loop-fault.invariant in
     record {
       fills = λ gone are.
@@ -31,7 +31,7 @@ returns-in-Whole c =
     }
 
 pub returns-then-is_empty : goal.returns-then-is_empty
-returns-then-is_empty c =
+returns-then-is_empty g c =
     let inv = c.loop-fault.invariant in
     let next = take (length c.args.piece.now - c.loop-fault.used) (drop c.loop-fault.used c.args.piece.now) in
     let none = eqb-true (length next) 0 (sym c.is_empty.ensures ∙ c.if-is_empty.true) in
@@ -43,7 +43,7 @@ returns-then-is_empty c =
     }
 
 pub keep-used-requires-clause-some : goal.keep-used-requires-clause-some
-keep-used-requires-clause-some c =
+keep-used-requires-clause-some g c =
     let next = take (length c.args.piece.now - c.loop-fault.used) (drop c.loop-fault.used c.args.piece.now) in
     let some = eqb-false (length next) 0 (sym c.is_empty.ensures ∙ c.if-is_empty.false) in
     let held = c.loop-fault.held in
@@ -52,7 +52,7 @@ keep-used-requires-clause-some c =
     omega (arith, some, wants, size, c.min-count.ensures)
 
 pub keep-used-requires-clause-few : goal.keep-used-requires-clause-few
-keep-used-requires-clause-few c =
+keep-used-requires-clause-few g c =
     let held = c.loop-fault.held in
     let next = take (length c.args.piece.now - c.loop-fault.used) (drop c.loop-fault.used c.args.piece.now) in
     let most = short_within Server _ c.in-Short.wanted (c.in-Short.ensures.tells _ (some_gone held)) in
@@ -62,7 +62,7 @@ keep-used-requires-clause-few c =
     omega (arith, most, total, zeros, size, c.min-count.ensures)
 
 pub loop-fault-preserved : goal.loop-fault-preserved
-loop-fault-preserved c =
+loop-fault-preserved g c =
     let inv = c.loop-fault.invariant in
     let piece = c.args.piece.now in
     let used = c.loop-fault.used in

@@ -7,11 +7,11 @@ use Rattle.ipc_calls.proofs.call_decoder.fill.Given as goal
 
 -- what is held and what is left of the piece are all of it; a frame that is whole ends with the bytes held
 abbrev pub invariant-loop-fault : goal.invariant-loop-fault
-invariant-loop-fault l = record {
+invariant-loop-fault g l = record {
   within : l.used ≤ length l.piece;
   joined : (gone : List ℕ) → AreGone l.fn.held gone → (back : List ℕ) × AreGone l.held back × ((l.held.bytes ++ back) ++ drop l.used l.piece ≡ (l.fn.held.bytes ++ gone) ++ l.piece);
   exact : (back : List ℕ) (f : Frame) (n : ℕ) → AreGone l.held back → reading Server (l.held.bytes ++ back) ≡ Whole f n → n ≡ length (l.held.bytes ++ back);
 }
 
 abbrev pub decreases-loop-fault : goal.decreases-loop-fault
-decreases-loop-fault l = length l.piece - l.used
+decreases-loop-fault g l = length l.piece - l.used

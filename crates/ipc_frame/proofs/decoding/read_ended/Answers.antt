@@ -1,9 +1,6 @@
-use Rattle.std.proofs.Common.{◌≡◌, Some, drop, sym, ap₂, subst, ◌∙◌}
-use Rattle.ipc_frame.specs.declared.frame.Frame.{Frame}
-use Rattle.ipc_frame.specs.declared.kind.FrameKind.TheVariants.{Ipcr, IpcrTwo}
+use Rattle.ipc_frame.specs.declared.kind.FrameKind.TheVariants.{IpcrTwo}
 use Rattle.ipc_frame.specs.Numbers.{fields_in}
 use Rattle.ipc_frame.specs.Frames.{widths}
-use Rattle.ipc_frame.specs.Decoding.{MakesIpcr}
 use Rattle.ipc_frame.proofs.DecodeLemmas.{makes_second}
 use Rattle.ipc_frame.proofs.decoding.read_ended.Goals as goal
 

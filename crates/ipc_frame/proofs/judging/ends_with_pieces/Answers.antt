@@ -1,4 +1,4 @@
-use Rattle.std.proofs.Common.{◌≡◌, ◌-◌, ◌*◌, ◌+◌, take, drop, slice_index, length, is_some, sum, ap, ap₂, refl, ◌∙◌, arith}
+use Rattle.std.proofs.Common.{◌≡◌, ◌-◌, ◌*◌, ◌+◌, take, drop, slice_index, length, is_some, sum, ap, refl, ◌∙◌, arith}
 use Rattle.std.proofs.lemmas.List.{take_rest}
 use Rattle.ipc_frame.specs.Frames.{widths}
 use Rattle.ipc_frame.specs.Numbers.{fields_in}

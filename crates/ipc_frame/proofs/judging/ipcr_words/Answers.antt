@@ -1,9 +1,8 @@
-use Rattle.std.proofs.Common.{◌+◌, ◌-◌, sum, drop, ap, ap₂, ◌∙◌, arith}
+use Rattle.std.proofs.Common.{◌+◌, ◌-◌, drop, ap, ap₂, ◌∙◌}
 use Rattle.std.proofs.lemmas.List.{take_rest}
-use Rattle.ipc_frame.specs.Frames.{widths}
 use Rattle.ipc_frame.specs.Numbers.{number_in}
 use Rattle.ipc_frame.specs.Parts.{words_of}
-use Rattle.ipc_frame.proofs.JudgeLemmas.{pieced_head, tag_there}
+use Rattle.ipc_frame.proofs.JudgeLemmas.{tag_there}
 use Rattle.ipc_frame.proofs.judging.ipcr_words.Goals as goal
 
 pub returns : goal.returns

@@ -1,6 +1,6 @@
 use Rattle.std.proofs.Common.{rules, ◌≡◌, [], ◌∷◌, sym, ◌∙◌, arith}
 use Rattle.std.proofs.lemmas.List.{nil_from_length}
-use Rattle.ipc_frame.proofs.JudgeLemmas.{no_more, short_body, bad_kind, bad_size, right_kind, pieced_side, head_there}
+use Rattle.ipc_frame.proofs.JudgeLemmas.{no_more, short_body, bad_kind, bad_size, right_kind, pieced_side}
 use Rattle.ipc_frame.proofs.judging.judge_body.Goals as goal
 
 pub returns-in_default : goal.returns-in_default

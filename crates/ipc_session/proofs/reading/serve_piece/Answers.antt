@@ -21,7 +21,7 @@ returns-in-Ok-default-None g c = λ left input holds.
 pub returns-in-Over : goal.returns-in-Over
 returns-in-Over g c = λ left input holds.
     let p = c.frames.invariant left holds in
-    over _ _ _ _ _ _ _ _ c.take.new.self _ _ _ _ input _ c.requires p (took_one p.held _ _ _ _ _ c.in-Ok-default-Some.field-0-1-is (c.in-Ok-default-Some.ensures.taken p.held p.holds).1) c.in-Over.ensures
+    over _ _ _ _ _ _ _ _ c.take_in.new.self _ _ _ _ input _ c.requires p (took_one p.held _ _ _ _ _ c.in-Ok-default-Some.field-0-1-is (c.in-Ok-default-Some.ensures.taken p.held p.holds).1) c.in-Over.ensures
 
 pub frames-preserved : goal.frames-preserved
 frames-preserved g c = λ left holds.

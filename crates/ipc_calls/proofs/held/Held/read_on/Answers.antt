@@ -1,4 +1,4 @@
-use Rattle.std.proofs.Common.{◌≡◌, ◌<◌, ◌++◌, [], length, take, replicate, vec_len, sym, ap, subst, ◌∙◌, arith, length-append}
+use Rattle.std.proofs.Common.{◌≡◌, ◌<◌, ◌++◌, [], length, take, replicate, sym, ap, subst, ◌∙◌, arith, length-append}
 use Rattle.std.proofs.lemmas.Bool.{eqb-false}
 use Rattle.std.proofs.lemmas.List.{append-nil}
 use Rattle.ipc_frame.specs.declared.kind.Side.TheVariants.{Server}
@@ -16,23 +16,23 @@ read_behind-requires-clause-few g c =
     let within = short_within Server _ c.in-Short.wanted (c.in-Short.ensures.tells _ (some_gone held)) in
     let front = take c.self.inside.len c.self.inside.start in
     let bytes = ap (λ k. length k.bytes) c.self.view_is in
-    omega (arith, within, length-append held.bytes (replicate held.lost 0), length-append front c.self.inside.payload.items, bytes, c.min.ensures)
+    omega (arith, within, length-append held.bytes (replicate held.lost 0), length-append front c.self.inside.payload, bytes, c.min.ensures)
 
 pub invariant_of-self : goal.invariant_of-self
 invariant_of-self g c =
     let was = c.self.invariant in
     let few = read_behind-requires-clause-few g c.before in
-    let some = eqb-false (vec_len c.self.inside.payload) 0 (sym c.is_empty.ensures ∙ c.if-is_empty.false) in
+    let some = eqb-false (length c.self.inside.payload) 0 (sym c.is_empty.ensures ∙ c.if-is_empty.false) in
     let none = c.if-self-gt0.false in
-    (was.0, was.1, λ more. was.2 (omega (arith, some, c.self.inside.payload.ok)), omega (arith, few, c.read_behind.ensures.within, none))
+    (was.0, was.1, λ more. was.2 (omega (arith, some)), omega (arith, few, c.read_behind.ensures.within, none))
 
 pub returns-clause-read : goal.returns-clause-read
 returns-clause-read g c =
     let input = g.P.PortRead.remaining c.args.port.now in
     let left = g.P.PortRead.remaining c.read_behind.new.port in
     let start = take c.self.inside.len c.self.inside.start in
-    let old = c.self.inside.payload.items in
-    let new = c.read_behind.new.payload.items in
+    let old = c.self.inside.payload in
+    let new = c.read_behind.new.self in
     let none : c.self.inside.lost ≡ 0 = omega (arith, c.if-self-gt0.false) in
     let was = ap (λ k. record { bytes = start ++ old; lost = k }) (sym none) ∙ c.self.view_is in
     let held = c.args.self.now in

@@ -1,4 +1,4 @@
-use Rattle.std.proofs.Common.{◌≡◌, length, sym, ap, ◌∙◌, arith}
+use Rattle.std.proofs.Common.{length, ap, arith}
 use Rattle.std.proofs.lemmas.List.{length-drop}
 use Rattle.ipc_frame.specs.Frames.{spelling}
 use Rattle.ipc_frame.specs.Sources.{frame_of_source}

@@ -1,4 +1,4 @@
-use Rattle.std.proofs.Common.{◌≡◌, ◌+◌, ◌-◌, ◌≤◌, ◌∙◌, length, take, ap, ap₂, sym, arith}
+use Rattle.std.proofs.Common.{◌≡◌, ◌+◌, ◌-◌, ◌≤◌, ◌∙◌, length, take, ap, ap₂, arith}
 use Rattle.std.specs.List.{slice_range}
 use Rattle.ipc_items.specs.Rows.{grown}
 use Rattle.ipc_items.proofs.RowLemmas.{length-rows}

@@ -1,4 +1,4 @@
-use Rattle.std.proofs.Common.{◌≡◌, None, length, sym, subst, ◌∙◌}
+use Rattle.std.proofs.Common.{◌≡◌, None, sym, subst, ◌∙◌}
 use Rattle.ipc_items.specs.ItemFault.{string_fault}
 use Rattle.ipc_items.specs.ItemWords.{items_of}
 use Rattle.ipc_items.specs.Strings.{AreStrings}

@@ -1,9 +1,9 @@
 use Rattle.std.proofs.Common.{◌+◌, ◌≤◌, length, drop, ◌++◌, sym, ap, ◌∙◌, arith}
 use Rattle.std.specs.List.{flat_map}
 use Rattle.ipc_items.specs.Pieces.{pieces_of_all}
-use Rattle.ipc_frame.proofs.PlacingLemmas.{left_more, left_nothing, next_string, next_nothing, next_last, pieces_end_strings, pieces_end_string, pieces_end_buffer}
-use Rattle.ipc_frame.proofs.scattering.ScatteredIterator.next.Goals as goal
-use Rattle.ipc_frame.proofs.scattering.ScatteredIterator.next.Goals.{in_default-2-via-in-Some+in_default, in_default-2-via-in_default}
+use Rattle.ipc_items.proofs.ScatterLemmas.{left_more, left_nothing, next_string, next_nothing, next_last, pieces_end_strings, pieces_end_string, pieces_end_buffer}
+use Rattle.ipc_items.proofs.scattering.ScatteredIterator.next.Goals as goal
+use Rattle.ipc_items.proofs.scattering.ScatteredIterator.next.Goals.{in_default-2-via-in-Some+in_default, in_default-2-via-in_default}
 
 pub returns-in_default-2-clause-steps : goal.returns-in_default-2-clause-steps
 returns-in_default-2-clause-steps c =

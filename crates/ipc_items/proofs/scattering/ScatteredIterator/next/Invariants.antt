@@ -1,7 +1,7 @@
 use Rattle.std.proofs.Common.{◌≡◌, ◌-◌, ◌≤◌, length, drop, ◌++◌}
 use Rattle.std.specs.List.{flat_map}
 use Rattle.ipc_items.specs.Pieces.{pieces_of_all}
-use Rattle.ipc_frame.proofs.scattering.ScatteredIterator.next.Given as goal
+use Rattle.ipc_items.proofs.scattering.ScatteredIterator.next.Given as goal
 
 abbrev pub invariant-loop-self : goal.invariant-loop-self
 invariant-loop-self l = record {

@@ -1,14 +1,18 @@
-ghost use Rattle.std.specs.Prelude.{◌≡◌};
-ghost use Rattle.ipc_frame.specs.Replies.{pieces_told};
+ghost use Rattle.std.specs.Prelude.{◌≡◌, IfOk, map};
+ghost use Rattle.std.specs.List.{flat_map};
+ghost use Rattle.ipc_items.specs.Pieces.{pieces_of_all};
+ghost use Rattle.ipc_items.specs.Placed.{placed};
 
-use ipc_history::Outcome;
-use ipc_items::{BufferList, Piece, Pieces, StringList, scatter};
+use crate::buffer_list::BufferList;
+use crate::placing::{Piece, Pieces, scatter};
+use crate::string_list::StringList;
+use std::alloc::{AllocError, Global};
 use std::marker::Model;
 
-/// The pieces of all strings that are left to give, seen as the list of them. Those without bytes
-/// are left out.
+/// The pieces in which all strings of a message go into their buffer strings, as far as they are left to give, in order. Pieces without
+/// bytes are left out.
 #[derive(Drop)]
-pub(crate) struct Scattered<'a> {
+pub struct Scattered<'a> {
     buffers: &'a BufferList,
     strings: &'a StringList,
     // how many strings were begun
@@ -31,13 +35,14 @@ impl<'a> Model for Scattered<'a> {
 }
 
 impl<'a> Scattered<'a> {
-    /// The pieces of an outcome.
-    pub(crate) fn of(outcome: &'a Outcome) -> Self
-        ensures { result ≡ pieces_told outcome.now }
+    /// All pieces of these strings, each of which goes into the buffer string at its place.
+    pub fn new(buffers: &'a BufferList, strings: &'a StringList) -> Self
+        ensures { result
+            ≡ flat_map (λ pieces. pieces) (pieces_of_all buffers.now strings.now) }
     {
         Scattered {
-            buffers: &outcome.buffers,
-            strings: &outcome.strings,
+            buffers,
+            strings,
             begun: 0,
             pieces: scatter(&[], &[]),
         }
@@ -70,4 +75,18 @@ impl<'a> Iterator for Scattered<'a> {
         }
         self.pieces.next()
     }
+}
+
+/// The pieces that [`Scattered`] gives, in a list. The error: memory was refused.
+pub fn scatter_all<'a>(
+    alloc: Global,
+    buffers: &'a BufferList,
+    strings: &'a StringList,
+) -> Result<Vec<Piece<'a>>, AllocError>
+    ensures { IfOk result (λ pieces. map placed pieces.items
+        ≡ flat_map (λ placed. placed) (pieces_of_all buffers.now strings.now)) }
+{
+    let mut pieces = Vec::new(alloc);
+    pieces.extend(Scattered::new(buffers, strings))?;
+    Ok(pieces)
 }

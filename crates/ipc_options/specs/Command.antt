@@ -1,10 +1,21 @@
 -- The commands that `l4sh` and `l4d` ask `clap` for.
-use Rattle.std.specs.Prelude.{ℕ, Some, [], ◌∷◌, ◌-◌, ◌^◌, codes, true}
+use Rattle.std.specs.Prelude.{◌≡◌, ℕ, Some, [], ◌∷◌, ◌-◌, ◌^◌, codes, false, true}
 use Rattle.ipc_words.specs.Limits.{max_entries, max_calls, max_chart_entry, max_connections, max_space, max_thread_number}
-use Rattle.clap.specs.Words.{App, Rule, Text, new_app, new_rule, with_rule, with_subcommand}
+use Rattle.clap.specs.Words.{App, Rule, Text, app_of, new_app, new_rule, rule_of, with_rule, with_subcommand}
 use Rattle.clap.specs.Simple.{on_top}
 use Rattle.clap.specs.declared.builder.action.ArgAction.TheVariants.{Set, SetTrue}
+use Rattle.clap.specs.declared.builder.arg.Arg.{Arg}
+use Rattle.clap.specs.declared.builder.command.Command.{Command}
+use Rattle.clap.specs.declared.builder.command.Command.TheViews.{out-Command as fields_of}
 use Rattle.clap.specs.declared.builder.value_parser.ValueParser.TheVariants.{Unsigned}
+
+-- an argument of this rule, which only its own command has
+abbrev pub HasRule : Rule → Arg → Type 0
+HasRule rule arg = (arg.global ≡ false) × (rule_of arg ≡ rule)
+
+-- a command of this shape, whose arguments only it has
+abbrev pub IsOfApp : App → Command → Type 0
+IsOfApp app command = (app_of command ≡ app) × ((fields_of command).has_globals ≡ false)
 
 -- the texts of the limits that stand where an option is left out: each reads as its limit
 abbrev pub max_entries_text : Text
@@ -18,6 +29,19 @@ max_chart_entry_text = codes "4294967295"
 
 abbrev pub max_connections_text : Text
 max_connections_text = codes "65535"
+
+-- `--ID NAME`
+abbrev pub listed_rule : Text → Rule
+listed_rule id = record (new_rule id) { long = Some id; value_names = 1 }
+
+-- `--ID NAME`: a number from least up to most, by default the one that a text reads as
+abbrev pub bounded_rule : Text → ℕ → ℕ → Text → Rule
+bounded_rule id least most default = record (new_rule id) {
+  long = Some id;
+  value_names = 1;
+  parser = Some (Unsigned least most);
+  defaults = default ∷ [];
+}
 
 -- `--ID N`: a number up to most, by default the one that a text reads as
 abbrev pub number_rule : Text → ℕ → Text → Rule

@@ -2,6 +2,7 @@
 #![tactic(auto)]
 
 mod default_texts;
+mod parts;
 mod server;
 mod server_words;
 mod shell;

@@ -2,15 +2,16 @@
 ghost use Rattle.std.specs.Prelude.{◌≡◌, ◌<◌, ◌≤◌, IfErr, IfOk, IfSome, IsSome, Some, [], codes, false, map};
 ghost use Rattle.std.specs.Prelude.{option_map, string_bytes, true};
 ghost use Rattle.std.specs.Str.Parse.{digits_value, without_leading_plus};
-ghost use Rattle.clap.specs.Words.{app_of, fault_of, first_of, found_of, one_of, rows_of, rule_of};
-ghost use Rattle.ipc_options.specs.Command.{connections_rule, count_rule, dir_rule, flag_rule, hello_rule};
+ghost use Rattle.clap.specs.Words.{fault_of, first_of, found_of, one_of, rows_of};
+ghost use Rattle.ipc_options.specs.Command.{HasRule, IsOfApp, connections_rule, dir_rule, hello_rule};
 ghost use Rattle.ipc_options.specs.Command.{listening_app, live_rule, mode_rule};
-ghost use Rattle.ipc_options.specs.Command.{named_app, server_app, serving_app, spaces_rule, trace_rule};
+ghost use Rattle.ipc_options.specs.Command.{named_app, server_app, serving_app, spaces_rule};
 ghost use Rattle.ipc_options.specs.Server.{AreWithinLimits, HasCountsIn, HasOptionsIn, HasOptionsOf};
 ghost use Rattle.ipc_options.specs.Shell.{number_in};
 ghost use Rattle.ipc_words.specs.Limits.{max_connections};
 
 use crate::default_texts::{HELLO_WITHIN_TEXT, MAX_CONNECTIONS_TEXT};
+use crate::parts::{flag_option, number_option, text_option, with};
 use crate::server::{MAX_SPACES, ServerOptions};
 use crate::version::VERSION;
 use clap::builder::ValueParser;
@@ -43,59 +44,43 @@ pub fn server_options<'a>(alloc: Global, words: &'a [String]) -> Result<ServerOp
 }
 
 fn server_command<'a>(alloc: Global) -> Result<Command<'a>, AllocError>
-    ensures { IfOk result (λ command. app_of command ≡ server_app) }
+    ensures { IfOk result (IsOfApp server_app) }
 {
-    serving_command(alloc)?
-        .arg(flag_option(
-            alloc,
-            "probe",
-            "Sends one message by two connections of its own",
-        ))?
-        .arg(trace_option(alloc))?
-        .arg(flag_option(
-            alloc,
-            "trace-required",
-            "Ends before it serves anybody where the trace cannot be written",
-        ))?
-        .arg(flag_option(
-            alloc,
-            "log",
-            "Tells paths, refusals, faults and counters on standard error",
-        ))
+    let made = serving_command(alloc);
+    let probe = "Sends one message by two connections of its own";
+    let made = with(made, flag_option(alloc, "probe", probe));
+    let trace = "Writes each entry of the history to this file, which is made anew";
+    let made = with(made, text_option(alloc, "trace", "FILE", trace));
+    let required = "Ends before it serves anybody where the trace cannot be written";
+    let made = with(made, flag_option(alloc, "trace-required", required));
+    let log = "Tells paths, refusals, faults and counters on standard error";
+    with(made, flag_option(alloc, "log", log))
 }
 
 /// `l4d` with whom it serves.
 fn serving_command<'a>(alloc: Global) -> Result<Command<'a>, AllocError>
-    ensures { IfOk result (λ command. app_of command ≡ serving_app) }
+    ensures { IfOk result (IsOfApp serving_app) }
 {
-    listening_command(alloc)?
-        .arg(connections_option(alloc))?
-        .arg(flag_option(
-            alloc,
-            "keep-open",
-            "Takes connections without end: only a signal ends it",
-        ))?
-        .arg(live_option(alloc))?
-        .arg(hello_option(alloc))
+    let made = with(listening_command(alloc), connections_option(alloc));
+    let keep_open = "Takes connections without end: only a signal ends it";
+    let made = with(made, flag_option(alloc, "keep-open", keep_open));
+    let made = with(made, live_option(alloc));
+    with(made, hello_option(alloc))
 }
 
 /// `l4d` with where it listens.
 fn listening_command<'a>(alloc: Global) -> Result<Command<'a>, AllocError>
-    ensures { IfOk result (λ command. app_of command ≡ listening_app) }
+    ensures { IfOk result (IsOfApp listening_app) }
 {
-    named_command(alloc)
-        .arg(dir_option(alloc))?
-        .arg(spaces_option(alloc))?
-        .arg(mode_option(alloc))?
-        .arg(flag_option(
-            alloc,
-            "replace",
-            "Removes a path first where nobody answers",
-        ))
+    let made = with(Ok(named_command(alloc)), dir_option(alloc));
+    let made = with(made, spaces_option(alloc));
+    let made = with(made, mode_option(alloc));
+    let replace = "Removes a path first where nobody answers";
+    with(made, flag_option(alloc, "replace", replace))
 }
 
 fn named_command<'a>(alloc: Global) -> Command<'a>
-    ensures { app_of result ≡ named_app }
+    ensures { IsOfApp named_app result }
 {
     Command::new(alloc, "l4d")
         .about("A server of synchronous IPC between processes, over Unix sockets")
@@ -103,8 +88,7 @@ fn named_command<'a>(alloc: Global) -> Command<'a>
 }
 
 fn dir_option<'a>(alloc: Global) -> Arg<'a>
-    ensures local { result.global ≡ false }
-    ensures rule { rule_of result ≡ dir_rule }
+    ensures { HasRule dir_rule result }
 {
     Arg::new(alloc, "dir")
         .long("dir")
@@ -115,8 +99,7 @@ fn dir_option<'a>(alloc: Global) -> Arg<'a>
 }
 
 fn spaces_option<'a>(alloc: Global) -> Arg<'a>
-    ensures local { result.global ≡ false }
-    ensures rule { rule_of result ≡ spaces_rule }
+    ensures { HasRule spaces_rule result }
 {
     Arg::new(alloc, "spaces")
         .long("spaces")
@@ -127,8 +110,7 @@ fn spaces_option<'a>(alloc: Global) -> Arg<'a>
 }
 
 fn mode_option<'a>(alloc: Global) -> Arg<'a>
-    ensures local { result.global ≡ false }
-    ensures rule { rule_of result ≡ mode_rule }
+    ensures { HasRule mode_rule result }
 {
     Arg::new(alloc, "mode")
         .long("mode")
@@ -138,79 +120,43 @@ fn mode_option<'a>(alloc: Global) -> Arg<'a>
 }
 
 fn connections_option<'a>(alloc: Global) -> Arg<'a>
-    ensures local { result.global ≡ false }
-    ensures rule { rule_of result ≡ connections_rule }
+    ensures { HasRule connections_rule result }
 {
     let help = "How many connections each path takes, 1 to 65535";
     let most = u64::from(MAX_CONNECTIONS);
-    count_option(alloc, "connections", "M", most, MAX_CONNECTIONS_TEXT, help)
-}
-
-fn live_option<'a>(alloc: Global) -> Arg<'a>
-    ensures local { result.global ≡ false }
-    ensures rule { rule_of result ≡ live_rule }
-{
-    let help = "How many connections there may be at one time, 1 to 65535";
-    let most = u64::from(MAX_CONNECTIONS);
-    count_option(alloc, "live", "N", most, MAX_CONNECTIONS_TEXT, help)
-}
-
-fn hello_option<'a>(alloc: Global) -> Arg<'a>
-    ensures local { result.global ≡ false }
-    ensures rule { rule_of result ≡ hello_rule }
-{
-    let help = "After how long a connection without HELLO may be closed for a newer one";
-    let most = u64::from(u16::MAX);
-    count_option(
+    number_option(
         alloc,
-        "hello-within",
-        "SECONDS",
+        "connections",
+        "M",
+        1,
         most,
-        HELLO_WITHIN_TEXT,
+        MAX_CONNECTIONS_TEXT,
         help,
     )
 }
 
-fn trace_option<'a>(alloc: Global) -> Arg<'a>
-    ensures local { result.global ≡ false }
-    ensures rule { rule_of result ≡ trace_rule }
+fn live_option<'a>(alloc: Global) -> Arg<'a>
+    ensures { HasRule live_rule result }
 {
-    Arg::new(alloc, "trace")
-        .long("trace")
-        .value_name("FILE")
-        .help("Writes each entry of the history to this file, which is made anew")
+    let help = "How many connections there may be at one time, 1 to 65535";
+    let most = u64::from(MAX_CONNECTIONS);
+    number_option(alloc, "live", "N", 1, most, MAX_CONNECTIONS_TEXT, help)
 }
 
-/// The flag `--ID`.
-fn flag_option<'a>(alloc: Global, id: &'a str, help: &'a str) -> Arg<'a>
-    ensures local { result.global ≡ false }
-    ensures rule { rule_of result ≡ flag_rule id.entry.now }
+fn hello_option<'a>(alloc: Global) -> Arg<'a>
+    ensures { HasRule hello_rule result }
 {
-    Arg::new(alloc, id)
-        .long(id)
-        .action(ArgAction::SetTrue)
-        .help(help)
-}
-
-/// The option `--ID N`, of a number from 1 up to `most`.
-fn count_option<'a>(
-    alloc: Global,
-    id: &'a str,
-    name: &'a str,
-    most: u64,
-    default: &'a str,
-    help: &'a str,
-) -> Arg<'a>
-    requires some { 1 ≤ most }
-    ensures local { result.global ≡ false }
-    ensures rule { rule_of result ≡ count_rule id.entry.now most default.entry.now }
-{
-    Arg::new(alloc, id)
-        .long(id)
-        .value_name(name)
-        .value_parser(ValueParser::unsigned(1, most))
-        .default_value(default)
-        .help(help)
+    let help = "After how long a connection without HELLO may be closed for a newer one";
+    let most = u64::from(u16::MAX);
+    number_option(
+        alloc,
+        "hello-within",
+        "SECONDS",
+        1,
+        most,
+        HELLO_WITHIN_TEXT,
+        help,
+    )
 }
 
 /// A value that `clap` takes and `l4d` does not.

@@ -1,27 +1,26 @@
 //! The options of `l4sh`, read from its words.
 ghost use Rattle.std.specs.Prelude.{◌≡◌, IfErr, IfOk, IfSome, IsErrAnd, IsSome, IsSomeAnd, Some, [], codes, false, option_map};
 ghost use Rattle.std.specs.Prelude.{map, string_bytes};
-ghost use Rattle.clap.specs.Words.{IsUnsignedIn, app_of, fault_of, first_of, found_of, kind_of, one_of, rows_of, rule_of};
+ghost use Rattle.clap.specs.Words.{IsUnsignedIn, fault_of, first_of, found_of, kind_of, new_app, one_of, rows_of, with_rule};
 ghost use Rattle.clap.specs.Words.{subcommand_rows_of};
-ghost use Rattle.clap.specs.declared.builder.command.Command.TheViews.{out-Command as fields_of};
-ghost use Rattle.ipc_options.specs.Command.{chart_app, chart_forms_app, chart_places_app, check_app, drawing_app};
-ghost use Rattle.ipc_options.specs.Command.{count_app, counting_app, flag_rule, follow_app, label_rule, talk_app};
-ghost use Rattle.ipc_options.specs.Command.{explaining_app, file_rule, number_rule, proving_app, run_app};
-ghost use Rattle.ipc_options.specs.Command.{script_app, shell_app, state_app, text_rule, threads_rule, tracing_app};
-ghost use Rattle.ipc_options.specs.Command.{wire_app, word_app, word_rule};
+ghost use Rattle.ipc_options.specs.Command.{HasRule, IsOfApp, chart_app, chart_forms_app, chart_places_app, drawing_app};
+ghost use Rattle.ipc_options.specs.Command.{count_app, counting_app, follow_app, talk_app};
+ghost use Rattle.ipc_options.specs.Command.{file_rule, number_rule, proving_app, run_app, shell_named_app};
+ghost use Rattle.ipc_options.specs.Command.{shell_app, state_app, threads_rule, tracing_app, word_app};
 ghost use Rattle.ipc_options.specs.Shell.{AreWithinLimits, AsksVersion, HasLimitsIn, HasMatchesIn, IsAskedBy, IsFlagIn};
 ghost use Rattle.ipc_options.specs.Shell.{IsTaken, IsWithinLimits, Reads, ReadsAsChart, ReadsAsCheck, ReadsAsRun};
 ghost use Rattle.ipc_options.specs.Shell.{ReadsAsState, ReadsAsWord, TakesWord, TellsVersion, number_in};
-ghost use Rattle.ipc_options.specs.Command.{first_rule, folder_rule, migrate_app, place_rule, talk_places_app};
-ghost use Rattle.ipc_options.specs.Command.{talking_app};
+ghost use Rattle.ipc_options.specs.Command.{first_rule, folder_rule, migrate_app};
 ghost use Rattle.ipc_options.specs.Shell.{IsCountIn, ReadsAsMigrate, ReadsAsTalk, ReadsOneUpTo};
 ghost use Rattle.ipc_words.specs.Limits.{max_space, max_thread_number};
 
 use crate::default_texts::{MAX_CALLS_TEXT, MAX_CHART_ENTRY_TEXT, MAX_ENTRIES_TEXT};
+use crate::parts::{
+    flag_option, named, number_option, place_argument, text_option, with, with_command,
+};
 use crate::version::VERSION;
-use clap::builder::ValueParser;
 use clap::error::ErrorKind;
-use clap::{Arg, ArgAction, ArgMatches, Command, Error};
+use clap::{Arg, ArgMatches, Command, Error};
 use ipc_words::limits::{MAX_CALLS, MAX_CHART_ENTRY, MAX_ENTRIES, MAX_SPACE, MAX_THREAD_NUMBER};
 use std::alloc::{AllocError, Global};
 
@@ -149,192 +148,145 @@ pub fn shell_options<'a>(alloc: Global, words: &'a [String]) -> Result<ShellOpti
 }
 
 fn shell_command<'a>(alloc: Global) -> Result<Command<'a>, AllocError>
-    ensures { IfOk result (λ command. app_of command ≡ shell_app) }
+    ensures { IfOk result (IsOfApp shell_app) }
 {
-    talking_command(alloc)?.subcommand(migrate_command(alloc)?)
-}
-
-/// `l4sh` with what it follows and whom it talks to.
-fn talking_command<'a>(alloc: Global) -> Result<Command<'a>, AllocError>
-    ensures { IfOk result (λ command. app_of command ≡ talking_app) }
-{
-    counting_command(alloc)?
-        .subcommand(follow_command(alloc)?)?
-        .subcommand(talk_command(alloc)?)
+    let made = counting_command(alloc);
+    let made = with_command(made, follow_command(alloc));
+    let made = with_command(made, talk_command(alloc));
+    with_command(made, migrate_command(alloc))
 }
 
 /// `l4sh` with what it makes and counts.
 fn counting_command<'a>(alloc: Global) -> Result<Command<'a>, AllocError>
-    ensures { IfOk result (λ command. app_of command ≡ counting_app) }
+    ensures { IfOk result (IsOfApp counting_app) }
 {
-    explaining_command(alloc)?
-        .subcommand(period_command(alloc)?)?
-        .subcommand(count_command(alloc)?)
-}
-
-/// `l4sh` with what it explains: words and tags.
-fn explaining_command<'a>(alloc: Global) -> Result<Command<'a>, AllocError>
-    ensures { IfOk result (λ command. app_of command ≡ explaining_app) }
-{
-    tracing_command(alloc)?
-        .subcommand(explain_command(alloc)?)?
-        .subcommand(tag_command(alloc)?)
+    let made = tracing_command(alloc);
+    let made = with_command(made, explain_command(alloc));
+    let made = with_command(made, tag_command(alloc));
+    let made = with_command(made, period_command(alloc));
+    with_command(made, count_command(alloc))
 }
 
 /// `l4sh` with what it tells of a trace: its script and its states.
 fn tracing_command<'a>(alloc: Global) -> Result<Command<'a>, AllocError>
-    ensures { IfOk result (λ command. app_of command ≡ tracing_app) }
+    ensures { IfOk result (IsOfApp tracing_app) }
 {
-    drawing_command(alloc)?
-        .subcommand(script_command(alloc)?)?
-        .subcommand(state_command(alloc)?)
+    let made = drawing_command(alloc);
+    let script = "Writes the script for run whose history a trace is";
+    let made = with_command(made, trace_command(alloc, "script", script));
+    with_command(made, state_command(alloc))
 }
 
 /// `l4sh` with what it draws and serves.
 fn drawing_command<'a>(alloc: Global) -> Result<Command<'a>, AllocError>
-    ensures { IfOk result (λ command. app_of command ≡ drawing_app) }
+    ensures { IfOk result (IsOfApp drawing_app) }
 {
-    proving_command(alloc)?
-        .subcommand(chart_command(alloc)?)?
-        .subcommand(wire_command(alloc)?)
+    let made = proving_command(alloc);
+    let made = with_command(made, chart_command(alloc));
+    let wire = "Serves connections whose bytes a script on standard input gives";
+    with_command(made, named(alloc, "wire", wire))
 }
 
 /// `l4sh` with what it proves: runs and checks.
 fn proving_command<'a>(alloc: Global) -> Result<Command<'a>, AllocError>
-    ensures { IfOk result (λ command. app_of command ≡ proving_app) }
+    ensures { IfOk result (IsOfApp proving_app) }
+{
+    let made = with_command(Ok(shell_named(alloc)), run_command(alloc));
+    let check = "Says whether a trace is a legal history";
+    with_command(made, trace_command(alloc, "check", check))
+}
+
+fn shell_named<'a>(alloc: Global) -> Command<'a>
+    ensures { IsOfApp shell_named_app result }
 {
     Command::new(alloc, "l4sh")
         .about("A shell for synchronous IPC between threads")
         .version(VERSION)
         .subcommand_required(true)
-        .subcommand(run_command(alloc)?)?
-        .subcommand(check_command(alloc)?)
 }
 
 fn run_command<'a>(alloc: Global) -> Result<Command<'a>, AllocError>
-    ensures local { IfOk result (λ command. (fields_of command).has_globals ≡ false) }
-    ensures app { IfOk result (λ command. app_of command ≡ run_app) }
+    ensures { IfOk result (IsOfApp run_app) }
 {
-    Command::new(alloc, "run")
-        .about("Runs the script that it reads from standard input")
-        .arg(number_option(
+    let made = named(
+        alloc,
+        "run",
+        "Runs the script that it reads from standard input",
+    );
+    let made = with(
+        made,
+        up_to(
             alloc,
             "entries",
             MAX_ENTRIES,
             MAX_ENTRIES_TEXT,
             "The most entries that the history may hold, 0 to 1048576",
-        ))?
-        .arg(number_option(
+        ),
+    );
+    with(
+        made,
+        up_to(
             alloc,
             "calls",
             MAX_CALLS,
             MAX_CALLS_TEXT,
             "The most calls that may be made, 0 to 4294967295",
-        ))
-}
-
-fn check_command<'a>(alloc: Global) -> Result<Command<'a>, AllocError>
-    ensures local { IfOk result (λ command. (fields_of command).has_globals ≡ false) }
-    ensures app { IfOk result (λ command. app_of command ≡ check_app) }
-{
-    Command::new(alloc, "check")
-        .about("Says whether a trace is a legal history")
-        .arg(trace_file(alloc))
+        ),
+    )
 }
 
 fn chart_command<'a>(alloc: Global) -> Result<Command<'a>, AllocError>
-    ensures local { IfOk result (λ command. (fields_of command).has_globals ≡ false) }
-    ensures app { IfOk result (λ command. app_of command ≡ chart_app) }
+    ensures { IfOk result (IsOfApp chart_app) }
 {
-    chart_forms_command(alloc)?
-        .arg(number_option(
-            alloc,
-            "page",
-            MAX_CHART_ENTRY,
-            "0",
-            "Draws an HTML page with so many rows in a picture; 0: no pages",
-        ))?
-        .arg(number_option(
-            alloc,
-            "width",
-            MAX_CHART_ENTRY,
-            "0",
-            "The most characters of a line of text; 0: as many as it needs",
-        ))
+    let made = chart_forms_command(alloc);
+    let page = "Draws an HTML page with so many rows in a picture; 0: no pages";
+    let made = with(made, up_to(alloc, "page", MAX_CHART_ENTRY, "0", page));
+    let width = "The most characters of a line of text; 0: as many as it needs";
+    with(made, up_to(alloc, "width", MAX_CHART_ENTRY, "0", width))
 }
 
 /// `chart` with its file, the entries that it shows, and how it draws them.
 fn chart_forms_command<'a>(alloc: Global) -> Result<Command<'a>, AllocError>
-    ensures local { IfOk result (λ command. (fields_of command).has_globals ≡ false) }
-    ensures app { IfOk result (λ command. app_of command ≡ chart_forms_app) }
+    ensures { IfOk result (IsOfApp chart_forms_app) }
 {
-    chart_places_command(alloc)?
-        .arg(threads_option(alloc))?
-        .arg(text_flag(alloc))?
-        .arg(html_flag(alloc))?
-        .arg(unfolded_flag(alloc))
+    let made = with(chart_places_command(alloc), threads_option(alloc));
+    let text = "Draws it as text, for a terminal";
+    let made = with(made, flag_option(alloc, "text", text));
+    let html = "Draws it as an HTML page with a field that finds rows";
+    let made = with(made, flag_option(alloc, "html", html));
+    let unfolded = "Shows rows that come again each time, and not once with their number";
+    with(made, flag_option(alloc, "unfolded", unfolded))
 }
 
-/// `chart` with its file and the entries that it shows.
+/// `chart` with its file, and the entries that it shows.
 fn chart_places_command<'a>(alloc: Global) -> Result<Command<'a>, AllocError>
-    ensures local { IfOk result (λ command. (fields_of command).has_globals ≡ false) }
-    ensures app { IfOk result (λ command. app_of command ≡ chart_places_app) }
+    ensures { IfOk result (IsOfApp chart_places_app) }
 {
-    Command::new(alloc, "chart")
-        .about("Draws a trace as a sequence chart, in SVG on standard output")
-        .arg(trace_file(alloc))?
-        .arg(number_option(
-            alloc,
-            "from",
-            MAX_CHART_ENTRY,
-            "1",
-            "The first entry that is shown, counted from 1",
-        ))?
-        .arg(number_option(
-            alloc,
-            "to",
-            MAX_CHART_ENTRY,
-            MAX_CHART_ENTRY_TEXT,
-            "The last entry that is shown",
-        ))
-}
-
-fn wire_command<'a>(alloc: Global) -> Result<Command<'a>, AllocError>
-    ensures local { IfOk result (λ command. (fields_of command).has_globals ≡ false) }
-    ensures app { IfOk result (λ command. app_of command ≡ wire_app) }
-{
-    let about = "Serves connections whose bytes a script on standard input gives";
-    Ok(Command::new(alloc, "wire").about(about))
-}
-
-fn script_command<'a>(alloc: Global) -> Result<Command<'a>, AllocError>
-    ensures local { IfOk result (λ command. (fields_of command).has_globals ≡ false) }
-    ensures app { IfOk result (λ command. app_of command ≡ script_app) }
-{
-    Command::new(alloc, "script")
-        .about("Writes the script for run whose history a trace is")
-        .arg(trace_file(alloc))
+    let about = "Draws a trace as a sequence chart, in SVG on standard output";
+    let made = trace_command(alloc, "chart", about);
+    let from = "The first entry that is shown, counted from 1";
+    let made = with(made, up_to(alloc, "from", MAX_CHART_ENTRY, "1", from));
+    let to = "The last entry that is shown";
+    with(
+        made,
+        up_to(alloc, "to", MAX_CHART_ENTRY, MAX_CHART_ENTRY_TEXT, to),
+    )
 }
 
 fn state_command<'a>(alloc: Global) -> Result<Command<'a>, AllocError>
-    ensures local { IfOk result (λ command. (fields_of command).has_globals ≡ false) }
-    ensures app { IfOk result (λ command. app_of command ≡ state_app) }
+    ensures { IfOk result (IsOfApp state_app) }
 {
-    Command::new(alloc, "state")
-        .about("Says what each thread does after an entry of a trace, and each deadlock")
-        .arg(trace_file(alloc))?
-        .arg(number_option(
-            alloc,
-            "at",
-            MAX_CHART_ENTRY,
-            MAX_CHART_ENTRY_TEXT,
-            "The entry after which it is, counted from 1; 0: before the first; without it the last",
-        ))
+    let about = "Says what each thread does after an entry of a trace, and each deadlock";
+    let at =
+        "The entry after which it is, counted from 1; 0: before the first; without it the last";
+    with(
+        trace_command(alloc, "state", about),
+        up_to(alloc, "at", MAX_CHART_ENTRY, MAX_CHART_ENTRY_TEXT, at),
+    )
 }
 
 fn explain_command<'a>(alloc: Global) -> Result<Command<'a>, AllocError>
-    ensures local { IfOk result (λ command. (fields_of command).has_globals ≡ false) }
-    ensures app { IfOk result (λ command. app_of command ≡ word_app (codes "explain")) }
+    ensures { IfOk result (IsOfApp (word_app (codes "explain"))) }
 {
     let about = "Says what a number of a refusal, a word or an id means";
     let help = "A number as K6, F4 or TR3, a word in hexadecimal, or an id";
@@ -342,8 +294,7 @@ fn explain_command<'a>(alloc: Global) -> Result<Command<'a>, AllocError>
 }
 
 fn tag_command<'a>(alloc: Global) -> Result<Command<'a>, AllocError>
-    ensures local { IfOk result (λ command. (fields_of command).has_globals ≡ false) }
-    ensures app { IfOk result (λ command. app_of command ≡ word_app (codes "tag")) }
+    ensures { IfOk result (IsOfApp (word_app (codes "tag"))) }
 {
     let about = "Makes a tag of its fields, or says the fields of a tag";
     let help = "Fields as label=3,words=1,strings=1,p, or a tag in hexadecimal";
@@ -351,8 +302,7 @@ fn tag_command<'a>(alloc: Global) -> Result<Command<'a>, AllocError>
 }
 
 fn period_command<'a>(alloc: Global) -> Result<Command<'a>, AllocError>
-    ensures local { IfOk result (λ command. (fields_of command).has_globals ≡ false) }
-    ensures app { IfOk result (λ command. app_of command ≡ word_app (codes "period")) }
+    ensures { IfOk result (IsOfApp (word_app (codes "period"))) }
 {
     let about = "Makes a period of a time, or says what a period is worth";
     let help = "A time as 20us, 2ms or 1s, never, or a period in hexadecimal";
@@ -360,73 +310,55 @@ fn period_command<'a>(alloc: Global) -> Result<Command<'a>, AllocError>
 }
 
 fn count_command<'a>(alloc: Global) -> Result<Command<'a>, AllocError>
-    ensures local { IfOk result (λ command. (fields_of command).has_globals ≡ false) }
-    ensures app { IfOk result (λ command. app_of command ≡ count_app) }
+    ensures { IfOk result (IsOfApp count_app) }
 {
-    Command::new(alloc, "count")
-        .about("Counts the calls, messages and failures of a trace, and how long they waited")
-        .arg(trace_file(alloc))?
-        .arg(json_flag(alloc))
+    let about = "Counts the calls, messages and failures of a trace, and how long they waited";
+    let json = "Answers in JSON, for programs";
+    with(
+        trace_command(alloc, "count", about),
+        flag_option(alloc, "json", json),
+    )
 }
 
 fn follow_command<'a>(alloc: Global) -> Result<Command<'a>, AllocError>
-    ensures local { IfOk result (λ command. (fields_of command).has_globals ≡ false) }
-    ensures app { IfOk result (λ command. app_of command ≡ follow_app) }
+    ensures { IfOk result (IsOfApp follow_app) }
 {
-    Command::new(alloc, "follow")
-        .about("Tells a trace in words as it comes; FILE may be - for standard input")
-        .arg(trace_file(alloc))?
-        .arg(threads_option(alloc))?
-        .arg(label_option(alloc))?
-        .arg(failures_flag(alloc))
+    let about = "Tells a trace in words as it comes; FILE may be - for standard input";
+    let made = trace_command(alloc, "follow", about);
+    let made = with(made, threads_option(alloc));
+    let label = "The label of the messages that are told of, as 3 or 0x3; without it any";
+    let made = with(made, text_option(alloc, "label", "LABEL", label));
+    with(
+        made,
+        flag_option(alloc, "failures", "Tells of failures alone"),
+    )
 }
 
 fn talk_command<'a>(alloc: Global) -> Result<Command<'a>, AllocError>
-    ensures local { IfOk result (λ command. (fields_of command).has_globals ≡ false) }
-    ensures app { IfOk result (λ command. app_of command ≡ talk_app) }
+    ensures { IfOk result (IsOfApp talk_app) }
 {
-    talk_places_command(alloc)?.arg(first_option(
-        alloc,
-        "space",
-        MAX_SPACE,
-        "The space of that thread, 1 to 64",
-    ))
-}
-
-/// `talk` with the folder of a server, and the thread.
-fn talk_places_command<'a>(alloc: Global) -> Result<Command<'a>, AllocError>
-    ensures local { IfOk result (λ command. (fields_of command).has_globals ≡ false) }
-    ensures app { IfOk result (λ command. app_of command ≡ talk_places_app) }
-{
-    Command::new(alloc, "talk")
-        .about("Runs commands as people type them, and goes on after mistakes")
-        .arg(server_folder(alloc))?
-        .arg(first_option(
-            alloc,
-            "thread",
-            MAX_THREAD_NUMBER,
-            "The number of the server's thread",
-        ))
+    let about = "Runs commands as people type them, and goes on after mistakes";
+    let made = with(named(alloc, "talk", about), server_folder(alloc));
+    let thread = "The number of the server's thread";
+    let made = with(
+        made,
+        first_option(alloc, "thread", MAX_THREAD_NUMBER, thread),
+    );
+    let space = "The space of that thread, 1 to 64";
+    with(made, first_option(alloc, "space", MAX_SPACE, space))
 }
 
 fn migrate_command<'a>(alloc: Global) -> Result<Command<'a>, AllocError>
-    ensures local { IfOk result (λ command. (fields_of command).has_globals ≡ false) }
-    ensures app { IfOk result (λ command. app_of command ≡ migrate_app) }
+    ensures { IfOk result (IsOfApp migrate_app) }
 {
-    Command::new(alloc, "migrate")
-        .about("Writes a trace anew, as one of version 2")
-        .arg(place_argument(
-            alloc,
-            "old",
-            "OLD",
-            "The trace that is read, of version 1 or 2",
-        ))?
-        .arg(place_argument(
-            alloc,
-            "new",
-            "NEW",
-            "The file that is written, which is made anew",
-        ))
+    let about = "Writes a trace anew, as one of version 2";
+    let old = "The trace that is read, of version 1 or 2";
+    let new = "The file that is written, which is made anew";
+    let made = with(
+        named(alloc, "migrate", about),
+        place_argument(alloc, "old", "OLD", old),
+    );
+    with(made, place_argument(alloc, "new", "NEW", new))
 }
 
 /// A subcommand of one word.
@@ -436,164 +368,58 @@ fn word_command<'a>(
     about: &'a str,
     help: &'a str,
 ) -> Result<Command<'a>, AllocError>
-    ensures local { IfOk result (λ command. (fields_of command).has_globals ≡ false) }
-    ensures app { IfOk result (λ command. app_of command ≡ word_app name.entry.now) }
+    ensures { IfOk result (IsOfApp (word_app name.entry.now)) }
 {
-    Command::new(alloc, name)
-        .about(about)
-        .arg(word_argument(alloc, help))
+    with(
+        named(alloc, name, about),
+        place_argument(alloc, "word", "WORD", help),
+    )
 }
 
-/// FILE.
-fn trace_file<'a>(alloc: Global) -> Arg<'a>
-    ensures local { result.global ≡ false }
-    ensures rule { rule_of result ≡ file_rule }
+/// A subcommand of a trace, FILE.
+fn trace_command<'a>(
+    alloc: Global,
+    name: &'a str,
+    about: &'a str,
+) -> Result<Command<'a>, AllocError>
+    ensures { IfOk result (IsOfApp (with_rule (new_app name.entry.now) file_rule)) }
 {
-    Arg::new(alloc, "file")
-        .value_name("FILE")
-        .required(true)
-        .help("A trace: the lines of the entries of a history")
-}
-
-/// OLD or NEW.
-fn place_argument<'a>(alloc: Global, id: &'a str, name: &'a str, help: &'a str) -> Arg<'a>
-    ensures local { result.global ≡ false }
-    ensures rule { rule_of result ≡ place_rule id.entry.now }
-{
-    Arg::new(alloc, id)
-        .value_name(name)
-        .required(true)
-        .help(help)
+    let help = "A trace: the lines of the entries of a history";
+    with(
+        named(alloc, name, about),
+        place_argument(alloc, "file", "FILE", help),
+    )
 }
 
 /// DIR.
 fn server_folder<'a>(alloc: Global) -> Arg<'a>
-    ensures local { result.global ≡ false }
-    ensures rule { rule_of result ≡ folder_rule }
+    ensures { HasRule folder_rule result }
 {
     Arg::new(alloc, "dir").value_name("DIR").help(
         "The folder of a live l4d, as whose thread to talk; without it a kernel of its own",
     )
 }
 
-/// WORD.
-fn word_argument<'a>(alloc: Global, help: &'a str) -> Arg<'a>
-    ensures local { result.global ≡ false }
-    ensures rule { rule_of result ≡ word_rule }
-{
-    Arg::new(alloc, "word")
-        .value_name("WORD")
-        .required(true)
-        .help(help)
-}
-
 /// The option `--threads LIST`.
 fn threads_option<'a>(alloc: Global) -> Arg<'a>
-    ensures local { result.global ≡ false }
-    ensures rule { rule_of result ≡ threads_rule }
+    ensures { HasRule threads_rule result }
 {
-    Arg::new(alloc, "threads")
-        .long("threads")
-        .value_name("LIST")
-        .help("The threads that are shown, as 1.1,2.1; without it all")
-}
-
-/// The flag `--text`.
-fn text_flag<'a>(alloc: Global) -> Arg<'a>
-    ensures local { result.global ≡ false }
-    ensures rule { rule_of result ≡ text_rule }
-{
-    Arg::new(alloc, "text")
-        .long("text")
-        .action(ArgAction::SetTrue)
-        .help("Draws it as text, for a terminal")
-}
-
-/// The flag `--html`.
-fn html_flag<'a>(alloc: Global) -> Arg<'a>
-    ensures local { result.global ≡ false }
-    ensures rule { rule_of result ≡ flag_rule (codes "html") }
-{
-    Arg::new(alloc, "html")
-        .long("html")
-        .action(ArgAction::SetTrue)
-        .help("Draws it as an HTML page with a field that finds rows")
-}
-
-/// The flag `--unfolded`.
-fn unfolded_flag<'a>(alloc: Global) -> Arg<'a>
-    ensures local { result.global ≡ false }
-    ensures rule { rule_of result ≡ flag_rule (codes "unfolded") }
-{
-    Arg::new(alloc, "unfolded")
-        .long("unfolded")
-        .action(ArgAction::SetTrue)
-        .help("Shows rows that come again each time, and not once with their number")
-}
-
-/// The flag `--json`.
-fn json_flag<'a>(alloc: Global) -> Arg<'a>
-    ensures local { result.global ≡ false }
-    ensures rule { rule_of result ≡ flag_rule (codes "json") }
-{
-    Arg::new(alloc, "json")
-        .long("json")
-        .action(ArgAction::SetTrue)
-        .help("Answers in JSON, for programs")
-}
-
-/// The option `--label LABEL`.
-fn label_option<'a>(alloc: Global) -> Arg<'a>
-    ensures local { result.global ≡ false }
-    ensures rule { rule_of result ≡ label_rule }
-{
-    Arg::new(alloc, "label")
-        .long("label")
-        .value_name("LABEL")
-        .help("The label of the messages that are told of, as 3 or 0x3; without it any")
-}
-
-/// The flag `--failures`.
-fn failures_flag<'a>(alloc: Global) -> Arg<'a>
-    ensures local { result.global ≡ false }
-    ensures rule { rule_of result ≡ flag_rule (codes "failures") }
-{
-    Arg::new(alloc, "failures")
-        .long("failures")
-        .action(ArgAction::SetTrue)
-        .help("Tells of failures alone")
+    let help = "The threads that are shown, as 1.1,2.1; without it all";
+    text_option(alloc, "threads", "LIST", help)
 }
 
 /// The option `--ID N`, of a number up to `most`.
-fn number_option<'a>(
-    alloc: Global,
-    id: &'a str,
-    most: u64,
-    default: &'a str,
-    help: &'a str,
-) -> Arg<'a>
-    ensures local { result.global ≡ false }
-    ensures rule { rule_of result ≡ number_rule id.entry.now most default.entry.now }
+fn up_to<'a>(alloc: Global, id: &'a str, most: u64, default: &'a str, help: &'a str) -> Arg<'a>
+    ensures { HasRule (number_rule id.entry.now most default.entry.now) result }
 {
-    Arg::new(alloc, id)
-        .long(id)
-        .value_name("N")
-        .value_parser(ValueParser::unsigned(0, most))
-        .default_value(default)
-        .help(help)
+    number_option(alloc, id, "N", 0, most, default, help)
 }
 
 /// The option `--ID N`, of a number from 1 up to `most`, by default 1.
 fn first_option<'a>(alloc: Global, id: &'a str, most: u32, help: &'a str) -> Arg<'a>
-    ensures local { result.global ≡ false }
-    ensures rule { rule_of result ≡ first_rule id.entry.now most }
+    ensures { HasRule (first_rule id.entry.now most) result }
 {
-    Arg::new(alloc, id)
-        .long(id)
-        .value_name("N")
-        .value_parser(ValueParser::unsigned(1, u64::from(most)))
-        .default_value("1")
-        .help(help)
+    number_option(alloc, id, "N", 1, u64::from(most), "1", help)
 }
 
 /// The options of the subcommand that was entered.

@@ -1,9 +1,9 @@
-use Rattle.ipc_options.proofs.Commands.{if_ok, more}
 use Rattle.ipc_options.proofs.server_words.listening_command.Goals as goal
 
 pub returns : goal.returns
 returns c =
-    let one = more _ _ _ _ _ c.in_ok-arg.ensures c.dir_option.ensures.local c.dir_option.ensures.rule c.named_command.ensures in
-    let two = more _ _ _ _ _ c.in_ok-arg-2.ensures c.spaces_option.ensures.local c.spaces_option.ensures.rule one in
-    let three = more _ _ _ _ _ c.in_ok-arg-3.ensures c.mode_option.ensures.local c.mode_option.ensures.rule two in
-    if_ok c.arg-4.result (λ command adds. more _ _ _ _ _ adds c.flag_option.ensures.local c.flag_option.ensures.rule three) c.arg-4.ensures
+    let one = c.with-made.ensures _ _ c.named_command.ensures c.dir_option.ensures in
+    let two = c.with-made-2.ensures _ _ one c.spaces_option.ensures in
+    let three = c.with-made-3.ensures _ _ two c.mode_option.ensures in
+    let four = c.with.ensures _ _ three c.flag_option.ensures in
+    four

@@ -1,9 +1,9 @@
-use Rattle.ipc_options.proofs.Commands.{if_ok, more}
 use Rattle.ipc_options.proofs.server_words.server_command.Goals as goal
 
 pub returns : goal.returns
 returns c =
-    let one = more _ _ _ _ _ c.in_ok-arg.ensures c.flag_option.ensures.local c.flag_option.ensures.rule c.in_ok-serving_command.ensures in
-    let two = more _ _ _ _ _ c.in_ok-arg-2.ensures c.trace_option.ensures.local c.trace_option.ensures.rule one in
-    let three = more _ _ _ _ _ c.in_ok-arg-3.ensures c.flag_option-2.ensures.local c.flag_option-2.ensures.rule two in
-    if_ok c.arg-4.result (λ command adds. more _ _ _ _ _ adds c.flag_option-3.ensures.local c.flag_option-3.ensures.rule three) c.arg-4.ensures
+    let one = c.with-made.ensures _ _ c.serving_command-made.ensures c.flag_option.ensures in
+    let two = c.with-made-2.ensures _ _ one c.text_option.ensures in
+    let three = c.with-made-3.ensures _ _ two c.flag_option-2.ensures in
+    let four = c.with.ensures _ _ three c.flag_option-3.ensures in
+    four

@@ -7,12 +7,12 @@ use Rattle.ipc_options.proofs.server_words.server_options.Goals as goal
 -- an `Ok` of the parse comes where the words have no fault
 pub returns-in-Ok-clause-faultless : goal.returns-in-Ok-clause-faultless
 returns-in-Ok-clause-faultless c =
-    ap (λ (app : App). fault_of app (map string_bytes c.args.words.now)) (sym c.in_ok-command.ensures)
-    ∙ c.in_ok-matches.ensures.kinds (ap is_simple_and_free c.in_ok-command.ensures)
+    ap (λ (app : App). fault_of app (map string_bytes c.args.words.now)) (sym c.in_ok-command.ensures.0)
+    ∙ c.in_ok-matches.ensures.kinds (ap is_simple_and_free c.in_ok-command.ensures.0)
 
 -- the options are those of the matches, and the matches those of the words
 pub returns-in-Ok-clause-options : goal.returns-in-Ok-clause-options
 returns-in-Ok-clause-options c =
-    let parsed = (c.in_ok-matches.ensures.ok.2 (ap is_simple c.in_ok-command.ensures)).0 in
-    let same = parsed ∙ ap (λ (app : App). matches_of app (map string_bytes c.args.words.now)) c.in_ok-command.ensures in
+    let parsed = (c.in_ok-matches.ensures.ok.2 (ap is_simple c.in_ok-command.ensures.0)).0 in
+    let same = parsed ∙ ap (λ (app : App). matches_of app (map string_bytes c.args.words.now)) c.in_ok-command.ensures.0 in
     rw (← same) (search rules)

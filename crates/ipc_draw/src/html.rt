@@ -23,59 +23,51 @@ pub fn draw_html(
     let rows = if rows == 0 { ROWS_OF_PAGE } else { rows };
     let layout = Layout::of(alloc, scene, entries)?;
     let pages = pages_of(alloc, &scene.folds, rows)?;
-    let mut text = String::new(alloc);
-    put_top(&mut text, pages.len())?;
-    put_legend(alloc, &mut text, scene, &layout)?;
     let mut sheet = Sheet::new(alloc, scene, layout, 0)?;
+    let mut ink = Ink::new(alloc);
+    put_top(&mut ink, pages.len());
+    put_legend(alloc, &mut ink, scene, &layout);
     for (place, page) in pages.iter().enumerate() {
-        sheet.draw(scene, entries, page)?;
+        sheet.draw(scene, entries, page);
         let height = sheet.bottom().saturating_add(8);
-        put_page_head(&mut text, scene, page, place.saturating_add(1), height)?;
-        put_head(&mut text, layout.width, height)?;
-        put_paper(&mut text)?;
-        sheet.end_page(&mut text, 0)?;
-        text.push_str("</svg>\n</section>\n")?;
+        put_page_head(&mut ink, scene, page, place.saturating_add(1), height);
+        put_head(&mut ink, layout.width, height);
+        put_paper(&mut ink);
+        sheet.end_page(&mut ink, 0);
+        ink.put("</svg>\n</section>\n");
     }
-    text.push_str(SCRIPT)?;
-    text.push_str("</body>\n</html>\n")?;
-    Ok(text)
+    ink.put(SCRIPT);
+    ink.put("</body>\n</html>\n");
+    ink.finish()
 }
 
 // All above the legend.
-fn put_top(text: &mut String, pages: usize) -> Result<(), AllocError> {
-    text.push_str("<!DOCTYPE html>\n<html lang=\"en\">\n<head>\n<meta charset=\"utf-8\">\n")?;
-    text.push_str("<title>Chart of a trace</title>\n")?;
-    text.push_str(STYLE)?;
-    text.push_str(PAGE_STYLE)?;
-    text.push_str("</head>\n<body>\n<header>\n<label>Find <input id=\"field\" type=\"search\" ")?;
-    text.push_str("placeholder=\"2.1, timeout, label 5, waited ..\"></label>\n")?;
-    text.push_str("<span id=\"told\"></span>\n")?;
-    text.push_str("<label>Page <input id=\"page\" type=\"number\" style=\"width: 6em\" ")?;
-    write!(text, "min=\"1\" max=\"{pages}\" value=\"1\"></label>\n")?;
-    write!(text, "<span>of {pages}</span>\n</header>\n")
+fn put_top(ink: &mut Ink, pages: usize) {
+    ink.put("<!DOCTYPE html>\n<html lang=\"en\">\n<head>\n<meta charset=\"utf-8\">\n");
+    ink.put("<title>Chart of a trace</title>\n");
+    ink.put(STYLE);
+    ink.put(PAGE_STYLE);
+    ink.put("</head>\n<body>\n<header>\n<label>Find <input id=\"field\" type=\"search\" ");
+    ink.put("placeholder=\"2.1, timeout, label 5, waited ..\"></label>\n");
+    ink.put("<span id=\"told\"></span>\n");
+    ink.put("<label>Page <input id=\"page\" type=\"number\" style=\"width: 6em\" ");
+    let done = write!(
+        ink.text,
+        "min=\"1\" max=\"{pages}\" value=\"1\"></label>\n<span>of {pages}</span>\n</header>\n"
+    );
+    ink.keep(done);
 }
 
-fn put_legend(
-    alloc: Global,
-    text: &mut String,
-    scene: &Scene,
-    layout: &Layout,
-) -> Result<(), AllocError> {
+fn put_legend(alloc: Global, ink: &mut Ink, scene: &Scene, layout: &Layout) {
     let mut legend = Ink::new(alloc);
-    let height = draw_legend(&mut legend, scene, layout, 16)?;
-    put_head(text, layout.width, height)?;
-    text.push_str(legend.text.as_str())?;
-    text.push_str("</svg>\n")
+    let height = draw_legend(&mut legend, scene, layout, 16);
+    put_head(ink, layout.width, height);
+    ink.add(&legend);
+    ink.put("</svg>\n");
 }
 
 // The head of the section of a page, whose picture has this height: which entries it shows.
-fn put_page_head(
-    text: &mut String,
-    scene: &Scene,
-    page: &Page,
-    number: usize,
-    height: u64,
-) -> Result<(), AllocError> {
+fn put_page_head(ink: &mut Ink, scene: &Scene, page: &Page, number: usize, height: u64) {
     let mut first = None;
     let mut last = 0usize;
     for line in page {
@@ -87,8 +79,9 @@ fn put_page_head(
         }
     }
     let first = first.unwrap_or(last);
-    write!(
-        text,
+    let done = write!(
+        ink.text,
         "<section id=\"page{number}\" style=\"contain-intrinsic-height: auto {height}px\">\n<h2>Page {number}: entries {first} to {last}</h2>\n",
-    )
+    );
+    ink.keep(done);
 }

@@ -2,7 +2,7 @@ use ipc_chart::{Turn, Wait};
 use std::alloc::{AllocError, Global};
 
 /// A place among the rows: above a row, or at it.
-#[derive(Clone, Copy, PartialEq, Eq, Debug)]
+#[derive(Clone, Copy)]
 pub(crate) struct Place {
     pub(crate) row: usize,
     pub(crate) is_above: bool,
@@ -23,7 +23,7 @@ pub(crate) fn turns_upto(turns: &[Turn], place: Place) -> usize {
 }
 
 /// What a lane of a chart shows between two rows.
-#[derive(Clone, Copy, PartialEq, Eq, Debug)]
+#[derive(Clone, Copy)]
 pub(crate) struct Lane {
     /// Whether its thread lives.
     pub(crate) lives: bool,

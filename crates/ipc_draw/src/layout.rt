@@ -18,7 +18,7 @@ const MARGIN: u64 = 40;
 const LOOKED_AT: usize = 2_000;
 
 /// Where the parts of a chart stand, in pixels.
-#[derive(Clone, Copy, PartialEq, Eq, Debug)]
+#[derive(Clone, Copy)]
 pub(crate) struct Layout {
     /// The left end of the words.
     pub(crate) words: u64,
@@ -41,12 +41,8 @@ impl Layout {
     ) -> Result<Layout, AllocError> {
         let mut longest = 0usize;
         for row in scene.rows.iter().take(LOOKED_AT) {
-            longest = longest.max(
-                label_of(alloc, scene, entries, row)?
-                    .as_str()
-                    .chars()
-                    .count(),
-            );
+            let label = label_of(alloc, scene, entries, row).finish()?;
+            longest = longest.max(label.as_str().chars().count());
         }
         let wide = (longest as u64)
             .saturating_mul(LETTER)

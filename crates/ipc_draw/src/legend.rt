@@ -2,7 +2,6 @@ use crate::ink::Ink;
 use crate::layout::Layout;
 use crate::marks::draw_sample;
 use ipc_chart::{Mark, Scene, Wait};
-use std::alloc::AllocError;
 
 /// How marks are told in the legend, and their signs in text.
 const MARKS: [(Mark, &str, &str); 14] = [
@@ -37,48 +36,36 @@ fn has_wait(scene: &Scene, wait: Wait) -> bool {
 }
 
 /// Appends what the signs of a chart mean that are in it, in lines of at most so many characters; 0: in one line.
-pub(crate) fn put_legend_text(
-    text: &mut String,
-    scene: &Scene,
-    width: usize,
-) -> Result<(), AllocError> {
-    text.push_str("\n")?;
+pub(crate) fn put_legend_text(ink: &mut Ink, scene: &Scene, width: usize) {
+    ink.put("\n");
     let mut taken = 0usize;
     for (mark, sign, words) in MARKS {
         if has_mark(scene, mark) {
-            taken = put_sign(text, sign, words, taken, width)?;
+            taken = put_sign(ink, sign, words, taken, width);
         }
     }
     for (wait, sign, words) in WAITS {
         if has_wait(scene, wait) {
-            taken = put_sign(text, sign, words, taken, width)?;
+            taken = put_sign(ink, sign, words, taken, width);
         }
     }
-    text.push_str("\n")
+    ink.put("\n");
 }
 
 // Appends a sign to a line of so many characters, or to the next where it has no room, and answers how many that has.
-fn put_sign(
-    text: &mut String,
-    sign: &str,
-    words: &str,
-    taken: usize,
-    width: usize,
-) -> Result<usize, AllocError> {
+fn put_sign(ink: &mut Ink, sign: &str, words: &str, taken: usize, width: usize) -> usize {
     let length = sign.len().saturating_add(words.len()).saturating_add(3);
     let is_full = width > 0 && taken > 0 && taken.saturating_add(length) > width;
     if is_full {
-        text.push_str("\n")?;
+        ink.put("\n");
     }
-    text.push_str("  ")?;
-    text.push_str(sign)?;
-    text.push_str(" ")?;
-    text.push_str(words)?;
-    Ok(if is_full {
+    let done = write!(ink.text, "  {sign} {words}");
+    ink.keep(done);
+    if is_full {
         length
     } else {
         taken.saturating_add(length)
-    })
+    }
 }
 
 // Pixels that a sample takes, and a letter of a legend.
@@ -91,18 +78,13 @@ const GAP: u64 = 18;
 const LINE: u64 = 20;
 
 /// Draws what the marks of a chart mean that are in it, from a height on, and answers the height below it.
-pub(crate) fn draw_legend(
-    ink: &mut Ink,
-    scene: &Scene,
-    layout: &Layout,
-    top: u64,
-) -> Result<u64, AllocError> {
+pub(crate) fn draw_legend(ink: &mut Ink, scene: &Scene, layout: &Layout, top: u64) -> u64 {
     let mut place = (16u64, top);
     for (mark, _, words) in MARKS {
         if has_mark(scene, mark) {
             place = fitting(place, words, layout.width);
-            draw_sample(ink, mark, place.0, place.1)?;
-            place = behind(ink, place, words)?;
+            draw_sample(ink, mark, place.0, place.1);
+            place = behind(ink, place, words);
         }
     }
     for (wait, _, words) in WAITS {
@@ -114,11 +96,11 @@ pub(crate) fn draw_legend(
                 place.0.saturating_add(12),
                 high,
                 high.saturating_add(14),
-            )?;
-            place = behind(ink, place, words)?;
+            );
+            place = behind(ink, place, words);
         }
     }
-    Ok(place.1.saturating_add(LINE))
+    place.1.saturating_add(LINE)
 }
 
 fn length(words: &str) -> u64 {
@@ -138,8 +120,8 @@ fn fitting(place: (u64, u64), words: &str, width: u64) -> (u64, u64) {
 }
 
 // Writes the words behind a sample, and answers the place behind them.
-fn behind(ink: &mut Ink, place: (u64, u64), words: &str) -> Result<(u64, u64), AllocError> {
+fn behind(ink: &mut Ink, place: (u64, u64), words: &str) -> (u64, u64) {
     let (x, y) = place;
-    ink.words("w", x.saturating_add(SAMPLE), y.saturating_add(4), words)?;
-    Ok((x.saturating_add(length(words)), y))
+    ink.words("w", x.saturating_add(SAMPLE), y.saturating_add(4), words);
+    (x.saturating_add(length(words)), y)
 }

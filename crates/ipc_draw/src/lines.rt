@@ -10,7 +10,7 @@ use std::mem;
 const ROWS_BETWEEN_NAMES: usize = 40;
 
 /// A line of a chart.
-#[derive(Clone, Copy, PartialEq, Eq, Debug)]
+#[derive(Clone, Copy)]
 pub(crate) enum Line {
     /// The names of the threads.
     Names,

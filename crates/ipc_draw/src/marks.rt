@@ -1,10 +1,9 @@
 use crate::arrows::draw_arrow;
 use crate::ink::Ink;
 use ipc_chart::Mark;
-use std::alloc::AllocError;
 
 /// Draws a mark at one lane.
-pub(crate) fn draw_mark(ink: &mut Ink, mark: Mark, x: u64, y: u64) -> Result<(), AllocError> {
+pub(crate) fn draw_mark(ink: &mut Ink, mark: Mark, x: u64, y: u64) {
     match mark {
         Mark::Opened => ink.circle("ring", x, y, 4),
         Mark::Called => ink.circle("full", x, y, 3),
@@ -18,7 +17,7 @@ pub(crate) fn draw_mark(ink: &mut Ink, mark: Mark, x: u64, y: u64) -> Result<(),
 }
 
 /// Draws a mark as it stands in a legend, from a left end on.
-pub(crate) fn draw_sample(ink: &mut Ink, mark: Mark, x: u64, y: u64) -> Result<(), AllocError> {
+pub(crate) fn draw_sample(ink: &mut Ink, mark: Mark, x: u64, y: u64) {
     match mark {
         Mark::Ended
         | Mark::Began
@@ -31,27 +30,29 @@ pub(crate) fn draw_sample(ink: &mut Ink, mark: Mark, x: u64, y: u64) -> Result<(
 }
 
 // A face of a clock.
-fn draw_clock(ink: &mut Ink, x: u64, y: u64) -> Result<(), AllocError> {
-    ink.circle("late", x, y, 6)?;
+fn draw_clock(ink: &mut Ink, x: u64, y: u64) {
+    ink.circle("late", x, y, 6);
     let (high, right) = (y.saturating_sub(4), x.saturating_add(3));
-    write!(
+    let done = write!(
         ink.text,
         "<path class=\"late\" d=\"M{x} {high}L{x} {y}L{right} {y}\"/>\n",
-    )
+    );
+    ink.keep(done);
 }
 
 // Three quarters of a circle, with a head.
-fn draw_turn(ink: &mut Ink, x: u64, y: u64) -> Result<(), AllocError> {
+fn draw_turn(ink: &mut Ink, x: u64, y: u64) {
     let left = x.saturating_sub(6);
     let top = y.saturating_sub(6);
-    write!(
+    let done = write!(
         ink.text,
         "<path class=\"turn\" d=\"M{left} {y}A6 6 0 1 0 {x} {top}m5 -4l-5 4l5 4\"/>\n",
-    )
+    );
+    ink.keep(done);
 }
 
 // A square with a cross.
-fn draw_square(ink: &mut Ink, x: u64, y: u64) -> Result<(), AllocError> {
-    ink.rect("cancel", (x.saturating_sub(6), y.saturating_sub(6)), 12, 12)?;
-    ink.cross("cancel", x, y)
+fn draw_square(ink: &mut Ink, x: u64, y: u64) {
+    ink.rect("cancel", (x.saturating_sub(6), y.saturating_sub(6)), 12, 12);
+    ink.cross("cancel", x, y);
 }

@@ -1,56 +1,72 @@
+use crate::ink::Ink;
 use ipc_history::Call;
-use ipc_lines::{HexText, IdText};
-use std::alloc::AllocError;
+use ipc_lines::HexText;
 
 /// Labels from here on are written in HEX.
 const FIRST_LONG_LABEL: u64 = 65_536;
 
 /// Appends the label and the size of the message of a call, as `label 5, 2 words`.
-pub(crate) fn put_message(text: &mut String, call: &Call) -> Result<(), AllocError> {
+pub(crate) fn put_message(ink: &mut Ink, call: &Call) {
     let label = call.tag().label();
+    ink.put("label ");
     if label < FIRST_LONG_LABEL {
-        write!(text, "label {label}")?;
+        ink.number(label);
     } else {
-        write!(text, "label {}", HexText(label))?;
+        put_hex(ink, label);
     }
-    let words = call.words().len();
-    if words > 0 {
-        write!(text, ", {words} {}", plural(words, "word", "words"))?;
-    }
+    put_words(ink, call.words().len());
     let strings = call.strings().len();
     if strings > 0 {
         let bytes = call.strings().size();
-        write!(
-            text,
+        let done = write!(
+            ink.text,
             ", {strings} {} of {bytes} bytes",
             plural(strings, "string", "strings")
-        )?;
+        );
+        ink.keep(done);
     }
-    Ok(())
+}
+
+fn put_words(ink: &mut Ink, words: usize) {
+    if words > 0 {
+        let done = write!(ink.text, ", {words} {}", plural(words, "word", "words"));
+        ink.keep(done);
+    }
+}
+
+fn put_hex(ink: &mut Ink, number: u64) {
+    let done = write!(ink.text, "{}", HexText(number));
+    ink.keep(done);
 }
 
 /// Appends what a message has: its label, its words and the lengths of its strings, a line each, each begun with a newline.
-pub(crate) fn put_contents(text: &mut String, call: &Call) -> Result<(), AllocError> {
+pub(crate) fn put_contents(ink: &mut Ink, call: &Call) {
     let label = call.tag().label();
-    write!(text, "\nlabel {label} ({})", HexText(label))?;
+    let done = write!(ink.text, "\nlabel {label} ({})", HexText(label));
+    ink.keep(done);
     if !call.words().is_empty() {
-        text.push_str("\nwords")?;
+        ink.put("\nwords");
         for word in call.words() {
-            write!(text, " {}", HexText(*word))?;
+            ink.put(" ");
+            put_hex(ink, *word);
         }
     }
     if !call.strings().is_empty() {
-        text.push_str("\nstrings of")?;
-        for place in 0..call.strings().len() {
-            let length = call.strings().string_len(place);
-            write!(text, " {length}")?;
-        }
-        text.push_str(" bytes")?;
+        put_lengths(ink, call);
     }
     if call.tag().propagates() {
-        write!(text, "\nVirtualSender {}", IdText(call.originator()))?;
+        ink.put("\nVirtualSender ");
+        ink.id(call.originator());
     }
-    Ok(())
+}
+
+fn put_lengths(ink: &mut Ink, call: &Call) {
+    ink.put("\nstrings of");
+    for place in 0..call.strings().len() {
+        ink.put(" ");
+        ink.number(call.strings().string_len(place) as u64);
+    }
+    ink.put(" bytes");
 }
 
 /// The one word for one, the other one for other counts.

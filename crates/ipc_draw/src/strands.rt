@@ -3,7 +3,7 @@ use ipc_chart::{Column, Wait};
 use std::alloc::{AllocError, Global};
 
 /// The life line of a thread, as far as it is not drawn yet.
-#[derive(Clone, Copy, PartialEq, Eq, Debug)]
+#[derive(Clone, Copy)]
 pub(crate) struct Strand {
     /// The height from which on the thread lives; None: it does not.
     pub(crate) lives: Option<u64>,
@@ -32,28 +32,21 @@ pub(crate) fn strands_of(
 
 impl Strand {
     /// Draws it down to a height, from which on the rest is to be drawn.
-    pub(crate) fn draw(&mut self, ink: &mut Ink, x: u64, bottom: u64) -> Result<(), AllocError> {
+    pub(crate) fn draw(&mut self, ink: &mut Ink, x: u64, bottom: u64) {
         if let Some(top) = self.lives {
-            ink.line("life", (x, top), (x, bottom))?;
+            ink.line("life", (x, top), (x, bottom));
             self.lives = Some(bottom);
         }
-        self.draw_wait(ink, x, bottom)
+        self.draw_wait(ink, x, bottom);
     }
 
     /// From this height on it waits for something else.
-    pub(crate) fn turn(
-        &mut self,
-        ink: &mut Ink,
-        x: u64,
-        y: u64,
-        wait: Wait,
-    ) -> Result<(), AllocError> {
+    pub(crate) fn turn(&mut self, ink: &mut Ink, x: u64, y: u64, wait: Wait) {
         if wait != self.wait {
-            self.draw_wait(ink, x, y)?;
+            self.draw_wait(ink, x, y);
             self.wait = wait;
             self.since = y;
         }
-        Ok(())
     }
 
     /// The rest is drawn from this height on.
@@ -62,11 +55,10 @@ impl Strand {
         self.since = top;
     }
 
-    fn draw_wait(&mut self, ink: &mut Ink, x: u64, bottom: u64) -> Result<(), AllocError> {
+    fn draw_wait(&mut self, ink: &mut Ink, x: u64, bottom: u64) {
         if self.since < bottom {
-            ink.bar(self.wait, x, self.since, bottom)?;
+            ink.bar(self.wait, x, self.since, bottom);
         }
         self.since = bottom;
-        Ok(())
     }
 }

@@ -1,11 +1,13 @@
 use crate::amounts::{put_count, put_time};
+use crate::ink::Ink;
 use crate::lanes::{Lane, Place, lanes_of, turns_upto};
 use crate::legend::put_legend_text;
 use crate::lines::{Line, pages_of};
-use crate::words::{has_waited, label_of, put_waits};
+use crate::words::{has_waited, put_label, put_waits};
 use ipc_chart::{Column, Fold, Mark, Row, Scene, Wait};
 use ipc_history::Entry;
 use ipc_lines::IdText;
+use ipc_words::ThreadId;
 use std::alloc::{AllocError, Global};
 
 // Widths in characters: of the numbers, of the moments, of a lane where there are few or many, and of the words where lines are cut.
@@ -23,7 +25,7 @@ const LEAST_WORDS: usize = 40;
 #[derive(Drop)]
 struct Drawing {
     alloc: Global,
-    text: String,
+    ink: Ink,
     lanes: Vec<Lane>,
     // the next turn
     next: usize,
@@ -42,23 +44,21 @@ pub fn draw_text(
     entries: &[Entry],
     width: usize,
 ) -> Result<String, AllocError> {
+    let pages = pages_of(alloc, &scene.folds, 0)?;
     let mut drawing = Drawing {
         alloc,
-        text: String::new(alloc),
+        ink: Ink::new(alloc),
         lanes: lanes_of(alloc, &scene.columns)?,
         next: 0,
         lane: lane_width(alloc, &scene.columns, width)?,
         width,
         moment: first_moment(scene),
     };
-    for page in &pages_of(alloc, &scene.folds, 0)? {
-        for (place, line) in page.iter().enumerate() {
-            let behind = page.get(place.saturating_add(1));
-            drawing.line(scene, entries, *line, behind)?;
-        }
+    for page in &pages {
+        drawing.page(scene, entries, page);
     }
-    put_legend_text(&mut drawing.text, scene, width)?;
-    Ok(drawing.text)
+    put_legend_text(&mut drawing.ink, scene, width);
+    drawing.ink.finish()
 }
 
 fn first_moment(scene: &Scene) -> u64 {
@@ -87,57 +87,60 @@ fn lane_width(alloc: Global, columns: &[Column], width: usize) -> Result<usize, 
 }
 
 impl Drawing {
-    fn line(
-        &mut self,
-        scene: &Scene,
-        entries: &[Entry],
-        line: Line,
-        behind: Option<&Line>,
-    ) -> Result<(), AllocError> {
+    fn page(&mut self, scene: &Scene, entries: &[Entry], page: &[Line]) {
+        for (place, line) in page.iter().enumerate() {
+            let behind = page.get(place.saturating_add(1));
+            self.line(scene, entries, *line, behind);
+        }
+    }
+
+    fn line(&mut self, scene: &Scene, entries: &[Entry], line: Line, behind: Option<&Line>) {
         match line {
-            Line::Names => self.names(scene, behind),
-            Line::Row { row, .. } => match scene.rows.get(row) {
-                Some(found) => self.row(scene, entries, row, found),
-                None => Ok(()),
-            },
-            Line::Copies { fold } => match scene.folds.get(fold) {
-                Some(found) => self.copies(scene, found),
-                None => Ok(()),
-            },
+            Line::Names => {
+                let moment = moment_behind(scene, behind, self.moment);
+                self.names(scene, moment);
+            }
+            Line::Row { row, .. } => {
+                if let Some(found) = scene.rows.get(row) {
+                    self.row(scene, entries, row, found);
+                }
+            }
+            Line::Copies { fold } => {
+                if let Some(found) = scene.folds.get(fold) {
+                    self.copies(scene, found);
+                }
+            }
         }
     }
 
     // The names of the threads over their lanes, and the moment of the row behind.
-    fn names(&mut self, scene: &Scene, behind: Option<&Line>) -> Result<(), AllocError> {
-        let mut line = String::new(self.alloc);
-        let moment = match behind {
-            Some(Line::Row { row, .. }) => scene.rows.get(*row).map_or(0, |row| row.moment),
-            _ => self.moment,
-        };
-        let mut told = String::new(self.alloc);
-        put_time(&mut told, moment)?;
-        put_spaces(&mut line, NUMBERS)?;
-        put_right(&mut line, told.as_str(), MOMENTS)?;
-        line.push_str("  ")?;
+    fn names(&mut self, scene: &Scene, moment: u64) {
+        let mut line = Ink::new(self.alloc);
+        put_spaces(&mut line, NUMBERS);
+        let mut told = Ink::new(self.alloc);
+        put_time(&mut told, moment);
+        put_right(&mut line, &told, MOMENTS);
+        line.put("  ");
         for column in &scene.columns {
-            let name = format!(in self.alloc; "{}", IdText(column.thread))?;
-            let before = (self.lane / 2).saturating_sub(name.len() / 2);
-            put_spaces(&mut line, before)?;
-            line.push_str(name.as_str())?;
-            let taken = before.saturating_add(name.len());
-            put_spaces(&mut line, self.lane.saturating_sub(taken))?;
+            self.name(&mut line, column.thread);
         }
-        self.end_line(line.as_str())
+        self.end_line(&line);
+    }
+
+    // The name of a thread over its lane.
+    fn name(&self, line: &mut Ink, thread: ThreadId) {
+        let mut name = Ink::new(self.alloc);
+        name.id(thread);
+        let length = name.text.len();
+        let before = (self.lane / 2).saturating_sub(length / 2);
+        put_spaces(line, before);
+        line.add(&name);
+        let taken = before.saturating_add(length);
+        put_spaces(line, self.lane.saturating_sub(taken));
     }
 
     // The number of an entry, its moment, the lanes with its mark, and what it says.
-    fn row(
-        &mut self,
-        scene: &Scene,
-        entries: &[Entry],
-        place: usize,
-        row: &Row,
-    ) -> Result<(), AllocError> {
+    fn row(&mut self, scene: &Scene, entries: &[Entry], place: usize, row: &Row) {
         self.turn(
             scene,
             Place {
@@ -148,20 +151,16 @@ impl Drawing {
         if row.mark == Mark::Opened {
             self.set_alive(row.from, true);
         }
-        let number = (row.place as u64).saturating_add(1);
-        let number = format!(in self.alloc; "{number}")?;
-        let mut line = String::new(self.alloc);
-        put_right(&mut line, number.as_str(), NUMBERS)?;
-        self.put_moment(&mut line, row.moment)?;
-        let mut signs = self.signs()?;
-        self.put_mark(&mut signs, row);
-        for sign in &signs {
-            line.push_str(sign)?;
-        }
-        line.push_str(label_of(self.alloc, scene, entries, row)?.as_str())?;
+        let mut line = Ink::new(self.alloc);
+        let mut number = Ink::new(self.alloc);
+        number.number((row.place as u64).saturating_add(1));
+        put_right(&mut line, &number, NUMBERS);
+        self.put_moment(&mut line, row.moment);
+        self.put_signs(&mut line, Some(row));
+        put_label(&mut line, scene, entries, row);
         if has_waited(row) {
-            line.push_str("; ")?;
-            put_waits(&mut line, row)?;
+            line.put("; ");
+            put_waits(&mut line, row);
         }
         self.turn(
             scene,
@@ -173,11 +172,11 @@ impl Drawing {
         if row.mark == Mark::Broke {
             self.set_alive(row.from, false);
         }
-        self.end_line(line.as_str())
+        self.end_line(&line);
     }
 
     // How often the rows above it come.
-    fn copies(&mut self, scene: &Scene, fold: &Fold) -> Result<(), AllocError> {
+    fn copies(&mut self, scene: &Scene, fold: &Fold) {
         let last = last_row(fold);
         self.turn(
             scene,
@@ -186,33 +185,44 @@ impl Drawing {
                 is_above: false,
             },
         );
-        let mut line = String::new(self.alloc);
-        let mut count = String::from_str(self.alloc, "x ")?;
-        put_count(self.alloc, &mut count, fold.count as u64)?;
-        put_right(&mut line, count.as_str(), NUMBERS)?;
-        let (number, moment) = match scene.rows.get(last) {
-            Some(row) => ((row.place as u64).saturating_add(1), row.moment),
-            None => (0, self.moment),
-        };
-        self.put_moment(&mut line, moment)?;
-        for sign in &self.signs()? {
-            line.push_str(sign)?;
-        }
-        put_copies(&mut line, fold.period, number)?;
-        self.end_line(line.as_str())
+        let mut line = Ink::new(self.alloc);
+        let mut count = Ink::new(self.alloc);
+        count.put("x ");
+        put_count(self.alloc, &mut count, fold.count as u64);
+        put_right(&mut line, &count, NUMBERS);
+        let (number, moment) = end_of(scene, last, self.moment);
+        self.put_moment(&mut line, moment);
+        self.put_signs(&mut line, None);
+        put_copies(&mut line, fold.period, number);
+        self.end_line(&line);
     }
 
     // How long after the row before a row comes.
-    fn put_moment(&mut self, line: &mut String, moment: u64) -> Result<(), AllocError> {
+    fn put_moment(&mut self, line: &mut Ink, moment: u64) {
         let later = moment.saturating_sub(self.moment);
         self.moment = moment;
-        let mut told = String::new(self.alloc);
+        let mut told = Ink::new(self.alloc);
         if later > 0 {
-            told.push_str("+")?;
-            put_time(&mut told, later)?;
+            told.put("+");
+            put_time(&mut told, later);
         }
-        put_right(line, told.as_str(), MOMENTS)?;
-        line.push_str("  ")
+        put_right(line, &told, MOMENTS);
+        line.put("  ");
+    }
+
+    // The lanes, with the mark of a row among them.
+    fn put_signs(&self, line: &mut Ink, marked: Option<&Row>) {
+        match self.signs() {
+            Ok(mut signs) => {
+                if let Some(row) = marked {
+                    self.put_mark(&mut signs, row);
+                }
+                for sign in &signs {
+                    line.put(sign);
+                }
+            }
+            Err(lost) => line.keep(Err(lost)),
+        }
     }
 
     // What threads wait for behind a place.
@@ -268,26 +278,45 @@ impl Drawing {
     }
 
     // A line, cut where it is too long.
-    fn end_line(&mut self, line: &str) -> Result<(), AllocError> {
+    fn end_line(&mut self, line: &Ink) {
+        self.ink.keep(line.done);
+        let line = line.text.as_str();
         if self.width > 0 && line.chars().count() > self.width {
             for letter in line.chars().take(self.width.saturating_sub(1)) {
-                self.text.push(letter)?;
+                self.ink.letter(letter);
             }
-            self.text.push_str("…\n")
+            self.ink.put("…\n");
         } else {
-            self.text.push_str(line.trim_end())?;
-            self.text.push_str("\n")
+            self.ink.put(line.trim_end());
+            self.ink.put("\n");
         }
     }
 }
 
-/// Appends that so many rows above come again, up to the entry of this number.
-pub(crate) fn put_copies(text: &mut String, period: usize, number: u64) -> Result<(), AllocError> {
-    if period == 1 {
-        write!(text, "the row above, up to entry {number}")
-    } else {
-        write!(text, "the {period} rows above, up to entry {number}")
+/// The moment of the row that a line shows, if one is behind; else the moment that is given.
+pub(crate) fn moment_behind(scene: &Scene, behind: Option<&Line>, moment: u64) -> u64 {
+    match behind {
+        Some(Line::Row { row, .. }) => scene.rows.get(*row).map_or(0, |row| row.moment),
+        _ => moment,
     }
+}
+
+/// The number of the entry of a row and its moment; with no such row 0 and the moment that is given.
+pub(crate) fn end_of(scene: &Scene, row: usize, moment: u64) -> (u64, u64) {
+    match scene.rows.get(row) {
+        Some(row) => ((row.place as u64).saturating_add(1), row.moment),
+        None => (0, moment),
+    }
+}
+
+/// Appends that so many rows above come again, up to the entry of this number.
+pub(crate) fn put_copies(ink: &mut Ink, period: usize, number: u64) {
+    let done = if period == 1 {
+        write!(ink.text, "the row above, up to entry {number}")
+    } else {
+        write!(ink.text, "the {period} rows above, up to entry {number}")
+    };
+    ink.keep(done);
 }
 
 /// The last row of the last copy of a pattern.
@@ -349,15 +378,15 @@ pub(crate) fn sign_of(mark: Mark) -> &'static str {
     }
 }
 
-fn put_spaces(text: &mut String, count: usize) -> Result<(), AllocError> {
+fn put_spaces(ink: &mut Ink, count: usize) {
     for _ in 0..count {
-        text.push_str(" ")?;
+        ink.put(" ");
     }
-    Ok(())
 }
 
 // A text at the right end of a field of so many characters.
-fn put_right(text: &mut String, told: &str, width: usize) -> Result<(), AllocError> {
-    put_spaces(text, width.saturating_sub(told.chars().count()))?;
-    text.push_str(told)
+fn put_right(ink: &mut Ink, told: &Ink, width: usize) {
+    let taken = told.text.as_str().chars().count();
+    put_spaces(ink, width.saturating_sub(taken));
+    ink.add(told);
 }

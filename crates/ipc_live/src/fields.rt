@@ -60,7 +60,7 @@ impl Verb {
 }
 
 /// A word of a command, by what stands before its `=`.
-#[derive(Clone, Copy, PartialEq, Eq, Debug)]
+#[derive(Clone, Copy)]
 enum Field<'a> {
     /// How long each phase may take that waits.
     Timeout(&'a [u8]),
@@ -79,6 +79,38 @@ enum Field<'a> {
     Text(&'a [u8]),
 }
 
+/// What stands before the `=` of a word.
+#[derive(Clone, Copy)]
+enum Name {
+    Timeout,
+    Send,
+    Receive,
+    Label,
+    Words,
+    As,
+    Buffers,
+}
+
+/// The names, as they are typed.
+const NAMES: [(&[u8], Name); 7] = [
+    (b"timeout", Name::Timeout),
+    (b"send", Name::Send),
+    (b"receive", Name::Receive),
+    (b"label", Name::Label),
+    (b"words", Name::Words),
+    (b"as", Name::As),
+    (b"buffers", Name::Buffers),
+];
+
+fn name_of(word: &[u8]) -> Option<Name> {
+    for (text, name) in NAMES {
+        if text == word {
+            return Some(name);
+        }
+    }
+    None
+}
+
 // The field of a word. A word without a name is an untyped word of the message.
 fn field_of(word: &[u8]) -> Option<Field<'_>> {
     if let [b'"', text @ ..] = word {
@@ -89,20 +121,19 @@ fn field_of(word: &[u8]) -> Option<Field<'_>> {
     };
     let (name, behind) = word.split_at(end);
     let value = behind.strip_prefix(b"=")?;
-    match name {
-        b"timeout" => Some(Field::Timeout(value)),
-        b"send" => Some(Field::Send(value)),
-        b"receive" => Some(Field::Receive(value)),
-        b"label" => Some(Field::Label(value)),
-        b"words" => Some(Field::Words(value)),
-        b"as" => Some(Field::As(value)),
-        b"buffers" => Some(Field::Buffers(value)),
-        _ => None,
-    }
+    Some(match name_of(name)? {
+        Name::Timeout => Field::Timeout(value),
+        Name::Send => Field::Send(value),
+        Name::Receive => Field::Receive(value),
+        Name::Label => Field::Label(value),
+        Name::Words => Field::Words(value),
+        Name::As => Field::As(value),
+        Name::Buffers => Field::Buffers(value),
+    })
 }
 
 /// Why a word is no field of its command.
-#[derive(Clone, Copy, PartialEq, Eq, Debug)]
+#[derive(Clone, Copy)]
 pub(crate) enum FieldFault {
     /// It is none, or says what the command has no use for.
     Wrong,

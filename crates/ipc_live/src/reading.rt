@@ -48,20 +48,24 @@ pub(crate) fn hear(alloc: Global, line: &[u8]) -> Result<Heard, AllocError> {
         let text = format!(in alloc; "a line of more than {MAX_LINE_BYTES} bytes")?;
         return Ok(Heard::Mistake(text));
     }
-    let Some(words) = words_of(alloc, line)? else {
-        return mistake(alloc, "a quotation mark is missing");
-    };
+    match words_of(alloc, line)? {
+        Some(words) => hear_words(alloc, &words),
+        None => mistake(alloc, "a quotation mark is missing"),
+    }
+}
+
+fn hear_words(alloc: Global, words: &[Vec<u8>]) -> Result<Heard, AllocError> {
     let Some(name) = words.first() else {
         return Ok(Heard::Nothing);
     };
     match name.as_slice() {
         b"help" | b"?" => Ok(Heard::Help),
         b"quit" | b"exit" => Ok(Heard::Quit),
-        b"exreg" => hear_exreg(alloc, &words),
-        b"wait" => hear_receive(alloc, &words),
+        b"exreg" => hear_exreg(alloc, words),
+        b"wait" => hear_receive(alloc, words),
         other => match Verb::read(other) {
-            Some(Verb::Receive) => hear_receive(alloc, &words),
-            Some(verb) => hear_call(alloc, verb, &words),
+            Some(Verb::Receive) => hear_receive(alloc, words),
+            Some(verb) => hear_call(alloc, verb, words),
             None => mistake_at(
                 alloc,
                 "wanted is send, receive, call, reply_wait, exreg, help or quit; not ",
@@ -115,20 +119,45 @@ fn hear_fields(
     words: &[Vec<u8>],
 ) -> Result<Heard, AllocError> {
     let mut fields = Fields::new(alloc, verb);
+    match take_words(alloc, verb, &mut fields, words)? {
+        Some(mistake) => Ok(mistake),
+        None => with_buffers(alloc, verb, thread, &fields),
+    }
+}
+
+// Takes the words; the mistake of the first one that is no field of the command.
+fn take_words(
+    alloc: Global,
+    verb: Verb,
+    fields: &mut Fields,
+    words: &[Vec<u8>],
+) -> Result<Option<Heard>, AllocError> {
     for word in words {
         match fields.add(alloc, word)? {
             Ok(()) => {}
-            Err(FieldFault::Wrong) => return wrong_field(alloc, verb, word),
-            Err(FieldFault::LongStrings) => {
-                let text = format!(in alloc;
-                    "a message has 31 strings at most, of {MAX_STRING_BYTES} bytes together"
-                )?;
-                return Ok(Heard::Mistake(text));
-            }
+            Err(FieldFault::Wrong) => return Ok(Some(wrong_field(alloc, verb, word)?)),
+            Err(FieldFault::LongStrings) => return Ok(Some(long_strings(alloc)?)),
         }
     }
+    Ok(None)
+}
+
+fn long_strings(alloc: Global) -> Result<Heard, AllocError> {
+    let text = format!(in alloc;
+        "a message has 31 strings at most, of {MAX_STRING_BYTES} bytes together"
+    )?;
+    Ok(Heard::Mistake(text))
+}
+
+// The buffers, and then the request.
+fn with_buffers(
+    alloc: Global,
+    verb: Verb,
+    thread: ThreadId,
+    fields: &Fields,
+) -> Result<Heard, AllocError> {
     match fields.buffers(alloc) {
-        Ok(buffers) => with_message(alloc, verb, thread, &fields, buffers),
+        Ok(buffers) => with_message(alloc, verb, thread, fields, buffers),
         Err(BufferFault::NoMemory) => Err(AllocError),
         Err(BufferFault::TooManyWords) => mistake(alloc, "there are 16 buffers at most"),
         Err(BufferFault::TooLong) => mistake(alloc, "a buffer has less than 2^54 bytes"),

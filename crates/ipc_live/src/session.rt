@@ -16,7 +16,7 @@ use ipc_words::ThreadId;
 use std::alloc::{AllocError, Global};
 
 /// What came of a line.
-#[derive(Clone, Copy, PartialEq, Eq, Debug)]
+#[derive(Clone, Copy)]
 enum Step {
     /// The next one may come.
     Next,

@@ -86,12 +86,20 @@ fn put_outcome(text: &mut String, outcome: &IpcrFrame) -> Result<(), AllocError>
     let error = HexText(outcome.error().to_word());
     let (sender, actual) = (IdText(outcome.sender()), IdText(outcome.actual()));
     write!(text, "= {tag} {sender} {actual} {error} ")?;
+    put_words(text, outcome.words())?;
+    put_pieces(text, outcome)
+}
+
+fn put_words(text: &mut String, words: &[u64]) -> Result<(), AllocError> {
     let mut mark = "";
-    for word in outcome.words() {
+    for word in words {
         write!(text, "{mark}{}", HexText(*word))?;
         mark = ",";
     }
-    text.push_str(if mark.is_empty() { "- " } else { " " })?;
+    text.push_str(if mark.is_empty() { "- " } else { " " })
+}
+
+fn put_pieces(text: &mut String, outcome: &IpcrFrame) -> Result<(), AllocError> {
     let mut mark = "";
     for piece in outcome.pieces() {
         write!(text, "{mark}{}:x", HexText(piece.pointer()))?;
@@ -140,31 +148,35 @@ fn tell_message(
     }
     let label = received.label();
     write!(text, ", label {label}, ")?;
-    match received.words() {
-        [] => text.push_str("no words")?,
-        [word] => write!(text, "1 word, {word}")?,
-        words => {
-            let count = words.len();
-            write!(text, "{count} words")?;
-        }
-    }
-    for string in &received.strings(alloc)? {
-        text.push_str(", ")?;
+    tell_words(text, received.words())?;
+    let strings = received.strings(alloc)?;
+    for string in &strings {
         tell_string(text, string)?;
     }
     Ok(())
 }
 
-// A string as a text between quotation marks, where it is one and is short; else how long it is.
+fn tell_words(text: &mut String, words: &[u64]) -> Result<(), AllocError> {
+    match words {
+        [] => text.push_str("no words"),
+        [word] => write!(text, "1 word, {word}"),
+        words => {
+            let count = words.len();
+            write!(text, "{count} words")
+        }
+    }
+}
+
+// A comma, and a string as a text between quotation marks, where it is one and is short; else how long it is.
 fn tell_string(text: &mut String, string: &[u8]) -> Result<(), AllocError> {
     let is_text = string
         .iter()
         .all(|byte| matches!(*byte, b' '..=b'~') && *byte != b'"');
     if !is_text || string.len() > MAX_SHOWN {
         let length = string.len();
-        return write!(text, "a string of {length} bytes");
+        return write!(text, ", a string of {length} bytes");
     }
-    text.push_str("\"")?;
+    text.push_str(", \"")?;
     for byte in string {
         text.push(char::from(*byte))?;
     }

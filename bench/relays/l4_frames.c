@@ -13,26 +13,6 @@ static uint8_t *p16(uint8_t *p, uint16_t v) {
     memcpy(p, &v, 2);
     return p + 2;
 }
-static uint8_t *p32(uint8_t *p, uint32_t v) {
-    v = __builtin_bswap32(v);
-    memcpy(p, &v, 4);
-    return p + 4;
-}
-static uint8_t *p64(uint8_t *p, uint64_t v) {
-    v = __builtin_bswap64(v);
-    memcpy(p, &v, 8);
-    return p + 8;
-}
-static uint32_t g32(const uint8_t *p) {
-    uint32_t v;
-    memcpy(&v, p, 4);
-    return __builtin_bswap32(v);
-}
-static uint64_t g64(const uint8_t *p) {
-    uint64_t v;
-    memcpy(&v, p, 8);
-    return __builtin_bswap64(v);
-}
 
 int l4_open(struct l4 *c, const char *path) {
     struct sockaddr_un a = {.sun_family = AF_UNIX};
@@ -84,19 +64,19 @@ static int wr(int fd, const uint8_t *p, size_t n) {
 }
 size_t l4_head(uint8_t *b, const struct l4_call *k) {
     unsigned nw = (k->tag & 63) + (k->tag >> 6 & 63), i;
-    uint8_t *p = p32(b, (uint32_t)(46 + 8 * nw + 8 * k->nb + k->npayload));
+    uint8_t *p = l4_put32(b, (uint32_t)(46 + 8 * nw + 8 * k->nb + k->npayload));
     *p++ = L4_IPC;
-    p = p64(p, k->to);
-    p = p64(p, k->from);
-    p = p32(p, k->timeouts);
-    p = p64(p, k->vsender);
-    p = p64(p, k->tag);
-    p = p64(p, k->acceptor);
+    p = l4_put64(p, k->to);
+    p = l4_put64(p, k->from);
+    p = l4_put32(p, k->timeouts);
+    p = l4_put64(p, k->vsender);
+    p = l4_put64(p, k->tag);
+    p = l4_put64(p, k->acceptor);
     *p++ = k->nb;
     for (i = 0; i < nw && i < 63; i++)
-        p = p64(p, k->words[i]);
+        p = l4_put64(p, k->words[i]);
     for (i = 0; i < k->nb && i < 32; i++)
-        p = p64(p, k->bwords[i]);
+        p = l4_put64(p, k->bwords[i]);
     return p - b;
 }
 int l4_send(struct l4 *c, const struct l4_call *k) {
@@ -128,7 +108,7 @@ int l4_read(struct l4 *c, struct l4_frame *f) {
     size_t need = 4;
     for (;;) {
         if (c->have >= 4) {
-            need = 4 + (size_t)g32(c->rb);
+            need = 4 + (size_t)l4_get32(c->rb);
             if (need < 5 || need > 4 + 2097152)
                 return -2;
             if (c->have >= need)
@@ -156,14 +136,14 @@ int l4_read(struct l4 *c, struct l4_frame *f) {
     case L4_WELCOME:
         if (body != 9)
             return -2;
-        f->id = g64(p);
+        f->id = l4_get64(p);
         return 0;
     case L4_EXREGR:
         if (body != 25)
             return -2;
-        f->id = g64(p);
-        f->control = g64(p + 8);
-        f->code = g64(p + 16);
+        f->id = l4_get64(p);
+        f->control = l4_get64(p + 8);
+        f->code = l4_get64(p + 16);
         return 0;
     case L4_REFUSED:
         if (body != 2)
@@ -184,22 +164,22 @@ int l4_read(struct l4 *c, struct l4_frame *f) {
     }
     if (body < 34)
         return -2;
-    f->tag = g64(p);
-    f->sender = g64(p + 8);
-    f->actual = g64(p + 16);
-    f->error = g64(p + 24);
+    f->tag = l4_get64(p);
+    f->sender = l4_get64(p + 8);
+    f->actual = l4_get64(p + 16);
+    f->error = l4_get64(p + 24);
     p += 32;
     f->nwords = (f->tag & 63) + (f->tag >> 6 & 63);
     if (f->nwords > 63 || (size_t)(end - p) < 8u * f->nwords + 1)
         return -2;
     for (unsigned i = 0; i < f->nwords; i++, p += 8)
-        f->w[i] = g64(p);
+        f->w[i] = l4_get64(p);
     f->npieces = *p++;
     for (unsigned i = 0; i < f->npieces; i++) {
         if (end - p < 12)
             return -2;
-        f->piece[i].ptr = g64(p);
-        f->piece[i].len = g32(p + 8);
+        f->piece[i].ptr = l4_get64(p);
+        f->piece[i].len = l4_get32(p + 8);
         f->piece[i].bytes = p += 12;
         if ((size_t)(end - p) < f->piece[i].len)
             return -2;
@@ -210,7 +190,7 @@ int l4_read(struct l4 *c, struct l4_frame *f) {
 int l4_hello(struct l4 *c, unsigned number) {
     uint8_t b[7];
     struct l4_frame f;
-    p16(p32(b, 3) + 1, number);
+    p16(l4_put32(b, 3) + 1, number);
     b[4] = L4_HELLO;
     if (wr(c->fd, b, 7))
         return -1;
@@ -230,7 +210,7 @@ int l4_ipc(struct l4 *c, const struct l4_call *k, struct l4_frame *f) {
 }
 int l4_exreg(struct l4 *c, uint64_t dest, uint64_t control, struct l4_frame *f) {
     uint8_t b[21];
-    p64(p64(p32(b, 17) + 1, dest), control);
+    l4_put64(l4_put64(l4_put32(b, 17) + 1, dest), control);
     b[4] = L4_EXREG;
     return wr(c->fd, b, 21) ? -1 : l4_read(c, f);
 }

@@ -4,6 +4,29 @@
 #define L4_FRAMES_H
 #include <stddef.h>
 #include <stdint.h>
+#include <string.h>
+
+/* Numbers as frames have them: the highest byte first. What puts one answers the place behind it. */
+static inline uint8_t *l4_put32(uint8_t *p, uint32_t v) {
+    v = __builtin_bswap32(v);
+    memcpy(p, &v, 4);
+    return p + 4;
+}
+static inline uint8_t *l4_put64(uint8_t *p, uint64_t v) {
+    v = __builtin_bswap64(v);
+    memcpy(p, &v, 8);
+    return p + 8;
+}
+static inline uint32_t l4_get32(const uint8_t *p) {
+    uint32_t v;
+    memcpy(&v, p, 4);
+    return __builtin_bswap32(v);
+}
+static inline uint64_t l4_get64(const uint8_t *p) {
+    uint64_t v;
+    memcpy(&v, p, 8);
+    return __builtin_bswap64(v);
+}
 
 #define L4_NIL 0ull
 #define L4_ANY (~0ull)

@@ -1,1 +1,13 @@
+pub mod ItemLemmas
+pub mod NormalLemmas
+pub mod CallLemmas
+pub mod HeldLemmas
+pub mod FillLemmas
+pub mod HearLemmas
+pub mod WordLemmas
+pub mod AtLemmas
+pub mod TakeLemmas
+pub mod HearingLemmas
+pub mod PieceLemmas
+pub mod ReadOnLemmas
 pub mod ChainLemmas

@@ -11,8 +11,8 @@ use Rattle.ipc_connection.specs.declared.asking.Request.{Request}
 use Rattle.ipc_connection.specs.declared.asking.Request.TheVariants.{Open, Enter, Exreg}
 use Rattle.ipc_connection.specs.declared.stage.Stage.{Stage}
 use Rattle.ipc_connection.specs.declared.stage.Stage.TheVariants.{Greeting, Serving, Finished}
-use Rattle.ipc_calls.specs.declared.heard.Heard.{Heard}
-use Rattle.ipc_calls.specs.declared.heard.Heard.TheVariants as heard
+use Rattle.ipc_connection.specs.declared.heard.Heard.{Heard}
+use Rattle.ipc_connection.specs.declared.heard.Heard.TheVariants as heard
 
 -- a HELLO opens a thread, once; a call and an ExchangeRegisters want one; BYE ends. The faults of a
 -- frame and of its items come before all else, so a frame out of place is one without them

@@ -11,7 +11,7 @@ use Rattle.ipc_connection.specs.declared.asking.Reaction.TheVariants.{Ask, Leave
 use Rattle.ipc_connection.specs.declared.asking.Request.{Request}
 use Rattle.ipc_connection.specs.declared.stage.Stage.{Stage}
 use Rattle.ipc_connection.specs.declared.stage.Stage.TheVariants.{Finished}
-use Rattle.ipc_calls.specs.declared.heard.Heard.{Heard}
+use Rattle.ipc_connection.specs.declared.heard.Heard.{Heard}
 use Rattle.ipc_connection.specs.declared.replying.Told.{Told}
 use Rattle.ipc_connection.specs.declared.replying.Told.TheVariants.{Opened, Entered, Exchanged, Refused, Faulted, Left}
 

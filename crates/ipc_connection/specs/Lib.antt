@@ -1,3 +1,12 @@
+pub mod Reads
+pub mod CallOf
+pub mod Frames
+pub mod Payloads
+pub mod Hearing
+pub mod Taking
+pub mod Holding
+pub mod Laws
+pub mod ReadOn
 pub mod Chain
 pub mod Faults
 pub mod Asking

@@ -2,8 +2,8 @@ ghost use Rattle.std.specs.Prelude.{◌≡◌, Ok};
 ghost use Rattle.ipc_connection.specs.Asking.{asks, command_of, version_asked};
 
 use crate::fault::{FRAME, OUT_OF_PLACE, SESSION};
+use crate::heard::Heard;
 use crate::stage::Stage;
-use ipc_calls::Heard;
 use ipc_core::Command;
 use ipc_frame::{FrameFault, WireVersion};
 use ipc_history::Call;

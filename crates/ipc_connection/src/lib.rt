@@ -1,15 +1,31 @@
-//! The rules of a connection: what a frame asks of the kernel, how its answer is told, what stage comes next.
+//! The rules of a connection: what a frame to the server asks for, in normal form, read from a stream in any pieces; what that
+//! asks of the kernel, how its answer is told, what stage comes next.
 #![tactic(auto)]
 
 mod asking;
+mod block;
+mod blocks;
+mod call_decoder;
+mod calls;
 mod fault;
+mod heard;
+mod held;
+mod laws;
+mod payload;
 mod replying;
 mod stage;
 
 pub use asking::{Reaction, Request, asks, command_of, version_asked};
+pub use blocks::{Blocks, NoBlocks};
+pub use call_decoder::CallDecoder;
+pub use calls::call_of;
 pub use fault::{FRAME, KERNEL, OUT_OF_PLACE, SESSION};
+pub use heard::Heard;
+pub use laws::{a_frame_is_heard, a_piece_is_heard, frames_add_up};
 pub use replying::{Told, is_posted, next_stage, next_version, reply, thread_left, told_of};
 pub use stage::Stage;
 
+#[cfg(test)]
+mod hearing_tests;
 #[cfg(test)]
 mod tests;

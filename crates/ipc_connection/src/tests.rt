@@ -1,5 +1,4 @@
 use super::*;
-use ipc_calls::Heard;
 use ipc_core::{Answer, Command, Refusal};
 use ipc_frame::{Frame, FrameFault, WireVersion};
 use ipc_words::{Control, ThreadId};
@@ -8,12 +7,12 @@ use std::process::Abort;
 use std::test::Fail;
 
 // Fails the test where the two differ. A call of it is proved much faster than the macro in its place.
-fn same<T: PartialEq + Debug + Drop>(rt: &impl Abort, left: T, right: T) {
+pub(crate) fn same<T: PartialEq + Debug + Drop>(rt: &impl Abort, left: T, right: T) {
     assert_eq!(*rt; left, right);
 }
 
 // Fails the test where this is not so.
-fn holds(rt: &impl Abort, is_so: bool) {
+pub(crate) fn holds(rt: &impl Abort, is_so: bool) {
     assert!(*rt; is_so);
 }
 

@@ -10,7 +10,7 @@ use Rattle.ipc_connection.specs.Asking.{asks}
 use Rattle.ipc_connection.specs.Chain.{Chain}
 use Rattle.ipc_connection.specs.declared.asking.Reaction.{Reaction}
 use Rattle.ipc_connection.specs.declared.asking.Reaction.TheVariants.{Ask, Leave, Refuse, Nothing}
-use Rattle.ipc_calls.specs.declared.heard.Heard.{Heard}
+use Rattle.ipc_connection.specs.declared.heard.Heard.{Heard}
 use Rattle.ipc_connection.specs.declared.replying.Told.{Told}
 use Rattle.ipc_core.specs.Outcomes.{outcome_to_take}
 use Rattle.ipc_connection.specs.declared.stage.Stage.{Stage}

@@ -7,9 +7,9 @@ use Rattle.ipc_frame.specs.Stream.{stream_of}
 use Rattle.ipc_frame.specs.declared.fault.FrameFault.{FrameFault}
 use Rattle.ipc_frame.specs.declared.kind.Side.TheVariants.{Server}
 use Rattle.ipc_core.specs.declared.command.Command.{Command}
-use Rattle.ipc_calls.specs.Hearing.{heard_at_end, heard_in, left_in}
-use Rattle.ipc_calls.specs.Taking.{Decoding, Holds}
-use Rattle.ipc_calls.specs.declared.heard.Heard.{Heard}
+use Rattle.ipc_connection.specs.Hearing.{heard_at_end, heard_in, left_in}
+use Rattle.ipc_connection.specs.Taking.{Decoding, Holds}
+use Rattle.ipc_connection.specs.declared.heard.Heard.{Heard}
 use Rattle.ipc_connection.specs.Asking.{asks}
 use Rattle.ipc_connection.specs.Chain.{Chain}
 use Rattle.ipc_connection.specs.declared.asking.Reaction.{Reaction}

@@ -6,12 +6,12 @@ use Rattle.ipc_frame.specs.declared.fault.FrameFault.{FrameFault}
 use Rattle.ipc_frame.specs.declared.fault.FrameFault.TheVariants.{NoMemory, Unfinished}
 use Rattle.ipc_frame.specs.declared.frame.Frame.{Frame}
 use Rattle.ipc_frame.specs.declared.kind.Side.TheVariants.{Server}
-use Rattle.ipc_calls.specs.Hearing.{IsCut, heard_in, heard_of, left_in}
-use Rattle.ipc_calls.specs.Taking as taking
-use Rattle.ipc_calls.specs.Taking.{Decoding, Finishes, Holds, Takes}
-use Rattle.ipc_calls.specs.declared.heard.Heard.{Heard}
-use Rattle.ipc_calls.specs.declared.heard.Heard.TheVariants.{Bye}
-use Rattle.ipc_calls.proofs.PieceLemmas.{FailsFirst, cut_cons, cut_first, take_fails, take_hears, take_rests}
+use Rattle.ipc_connection.specs.Hearing.{IsCut, heard_in, heard_of, left_in}
+use Rattle.ipc_connection.specs.Taking as taking
+use Rattle.ipc_connection.specs.Taking.{Decoding, Finishes, Holds, Takes}
+use Rattle.ipc_connection.specs.declared.heard.Heard.{Heard}
+use Rattle.ipc_connection.specs.declared.heard.Heard.TheVariants.{Bye}
+use Rattle.ipc_connection.proofs.PieceLemmas.{FailsFirst, cut_cons, cut_first, take_fails, take_hears, take_rests}
 use Rattle.ipc_connection.specs.Chain.{Chain}
 use Rattle.ipc_connection.specs.declared.stage.Stage.{Stage}
 use Rattle.ipc_connection.specs.declared.stage.Stage.TheVariants.{Greeting, Serving, Finished}

@@ -13,8 +13,8 @@ use Rattle.ipc_core.specs.KernelParts.{KernelParts}
 use Rattle.ipc_core.specs.declared.command.Answer.{Answer}
 use Rattle.ipc_core.specs.declared.command.Command.{Command}
 use Rattle.ipc_core.specs.declared.command.Command.TheVariants as command
-use Rattle.ipc_calls.specs.Hearing.{heard_at_end, left_in}
-use Rattle.ipc_calls.specs.declared.heard.Heard.{Heard}
+use Rattle.ipc_connection.specs.Hearing.{heard_at_end, left_in}
+use Rattle.ipc_connection.specs.declared.heard.Heard.{Heard}
 use Rattle.ipc_connection.specs.Asking.{asks, command_of, version_asked}
 use Rattle.ipc_connection.specs.Chain.{Chain}
 use Rattle.ipc_connection.specs.Replying.{next_stage, next_version, reply, thread_left, told_of}

@@ -12,8 +12,8 @@ use Rattle.ipc_core.specs.declared.command.Answer.{Answer}
 use Rattle.ipc_core.specs.declared.command.Command.{Command}
 use Rattle.ipc_core.specs.declared.command.Command.TheVariants.{Broke}
 use Rattle.ipc_core.proofs.AgainLaws.{obeyed_alike, room_history, room_once}
-use Rattle.ipc_calls.specs.Hearing.{heard_at_end, heard_in, left_in}
-use Rattle.ipc_calls.specs.declared.heard.Heard.{Heard}
+use Rattle.ipc_connection.specs.Hearing.{heard_at_end, heard_in, left_in}
+use Rattle.ipc_connection.specs.declared.heard.Heard.{Heard}
 use Rattle.ipc_connection.specs.Asking.{asks}
 use Rattle.ipc_connection.specs.Chain.{Chain}
 use Rattle.ipc_connection.specs.declared.asking.Reaction.{Reaction}

@@ -6,8 +6,8 @@ use Rattle.ipc_frame.specs.Replies.{ipcr_of}
 use Rattle.ipc_frame.specs.declared.fault.FrameFault.{FrameFault}
 use Rattle.ipc_core.specs.KernelParts.{KernelParts}
 use Rattle.ipc_core.specs.declared.command.Command.{Command}
-use Rattle.ipc_calls.specs.Hearing.{heard_at_end}
-use Rattle.ipc_calls.specs.declared.heard.Heard.{Heard}
+use Rattle.ipc_connection.specs.Hearing.{heard_at_end}
+use Rattle.ipc_connection.specs.declared.heard.Heard.{Heard}
 use Rattle.ipc_connection.specs.Asking.{asks}
 use Rattle.ipc_connection.specs.Chain.{Chain}
 use Rattle.ipc_connection.specs.Replying.{reply}

@@ -5,10 +5,10 @@ use Rattle.ipc_frame.specs.Stream.{End, Rest, Stopped, Stream, more, stream_of}
 use Rattle.ipc_frame.specs.declared.fault.FrameFault.{FrameFault}
 use Rattle.ipc_frame.specs.declared.kind.Side.TheVariants.{Server}
 use Rattle.ipc_frame.proofs.StreamLemmas.{more_is_stream}
-use Rattle.ipc_calls.specs.Hearing.{heard_behind, heard_in, heard_of, left_in}
+use Rattle.ipc_connection.specs.Hearing.{heard_behind, heard_in, heard_of, left_in}
 use Rattle.ipc_connection.specs.declared.stage.Stage.{Stage}
 use Rattle.ipc_connection.specs.declared.stage.Stage.TheVariants.{Greeting, Serving, Finished}
-use Rattle.ipc_calls.specs.declared.heard.Heard.{Heard}
+use Rattle.ipc_connection.specs.declared.heard.Heard.{Heard}
 use Rattle.ipc_exchange.specs.Service.{ServiceParts, connection_at}
 use Rattle.ipc_exchange.specs.Serving.{Ample, Asked, Serves, ServesAll}
 use Rattle.ipc_connection.proofs.ChainLemmas.{chain_both, chain_split}

@@ -13,8 +13,8 @@ use Rattle.ipc_core.specs.declared.command.Answer.TheVariants as answer
 use Rattle.ipc_core.specs.declared.command.Command.{Command}
 use Rattle.ipc_core.specs.declared.command.Command.TheVariants.{Open, Enter, Exreg, Broke, At, Advance, Take}
 use Rattle.ipc_core.specs.declared.refusal.Refusal.{Refusal}
-use Rattle.ipc_calls.specs.declared.heard.Heard.{Heard}
-use Rattle.ipc_calls.specs.declared.heard.Heard.TheVariants as heard
+use Rattle.ipc_connection.specs.declared.heard.Heard.{Heard}
+use Rattle.ipc_connection.specs.declared.heard.Heard.TheVariants as heard
 use Rattle.ipc_connection.specs.Asking.{asks, command_of}
 use Rattle.ipc_connection.specs.Replying.{next_stage, thread_left, told_of}
 use Rattle.ipc_connection.specs.declared.asking.Reaction.{Reaction}

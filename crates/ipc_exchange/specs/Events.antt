@@ -7,10 +7,10 @@ use Rattle.ipc_core.specs.declared.command.Answer.{Answer}
 use Rattle.ipc_core.specs.declared.command.Command.{Command}
 use Rattle.ipc_core.specs.declared.command.Command.TheVariants as command
 use Rattle.ipc_connection.specs.Chain.{Chain}
-use Rattle.ipc_calls.specs.Hearing.{heard_at_end, left_in}
+use Rattle.ipc_connection.specs.Hearing.{heard_at_end, left_in}
 use Rattle.ipc_connection.specs.declared.stage.Stage.{Stage}
 use Rattle.ipc_connection.specs.declared.stage.Stage.TheVariants.{Greeting, Serving, Finished}
-use Rattle.ipc_calls.specs.declared.heard.Heard.{Heard}
+use Rattle.ipc_connection.specs.declared.heard.Heard.{Heard}
 use Rattle.ipc_exchange.specs.Service.{ServiceParts, connection_at, with_connection}
 use Rattle.ipc_exchange.specs.Serving.{Answers, Asked, Hears, Memory, Serves, ServesAll, first_kernel}
 

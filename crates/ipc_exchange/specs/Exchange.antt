@@ -1,6 +1,6 @@
 -- An exchange as its methods see it, and what it stands for.
 use Rattle.std.specs.Prelude.{◌≡◌, ℕ, List, [], length, slice_index_or, true, if◌then◌else◌}
-use Rattle.ipc_calls.specs.Taking.{Decoding, Holds}
+use Rattle.ipc_connection.specs.Taking.{Decoding, Holds}
 use Rattle.ipc_connection.specs.declared.stage.Stage.{Stage}
 use Rattle.ipc_connection.specs.declared.stage.Stage.TheVariants.{Greeting, Serving, Finished}
 use Rattle.ipc_exchange.specs.Service.{ServiceParts, connection_at}
@@ -10,7 +10,7 @@ use Rattle.ipc_exchange.specs.Events.{Event, ExchangeParts, Happens, held_at}
 use Rattle.ipc_exchange.specs.Feeding.{HoldsFor, has_finished}
 use Rattle.ipc_exchange.specs.declared.progress.Progress.{Progress}
 use Rattle.ipc_exchange.specs.declared.progress.Progress.TheVariants as progress
-use Rattle.ipc_calls.specs.Hearing.{heard_at_end}
+use Rattle.ipc_connection.specs.Hearing.{heard_at_end}
 
 -- the service, and a decoder for each connection
 pub record RoomyExchange : Type 0 where

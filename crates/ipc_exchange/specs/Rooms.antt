@@ -4,8 +4,8 @@ use Rattle.std.specs.Prelude.{slice_index_or, slice_set, IsTrue, ⊤, Result, Ok
 use Rattle.ipc_words.specs.Limits.{table_slots}
 use Rattle.ipc_words.specs.ThreadId.{number_of}
 use Rattle.ipc_frame.specs.declared.fault.FrameFault.{FrameFault}
-use Rattle.ipc_calls.specs.declared.heard.Heard.{Heard}
-use Rattle.ipc_calls.specs.declared.heard.Heard.TheVariants as heard
+use Rattle.ipc_connection.specs.declared.heard.Heard.{Heard}
+use Rattle.ipc_connection.specs.declared.heard.Heard.TheVariants as heard
 use Rattle.ipc_history.specs.Threads.{is_live}
 use Rattle.ipc_core.specs.KernelParts.{KernelParts}
 use Rattle.ipc_core.specs.Laws.{IsSound}

@@ -17,9 +17,9 @@ use Rattle.ipc_connection.specs.Chain.{Chain}
 use Rattle.ipc_connection.specs.Replying.{next_stage, thread_left, told_of}
 use Rattle.ipc_connection.specs.declared.asking.Reaction.{Reaction}
 use Rattle.ipc_connection.specs.declared.asking.Reaction.TheVariants.{Ask, Leave, Refuse, Nothing}
-use Rattle.ipc_calls.specs.Hearing.{IsCut, heard_in, heard_of}
-use Rattle.ipc_calls.specs.Taking as taking
-use Rattle.ipc_calls.specs.declared.heard.Heard.{Heard}
+use Rattle.ipc_connection.specs.Hearing.{IsCut, heard_in, heard_of}
+use Rattle.ipc_connection.specs.Taking as taking
+use Rattle.ipc_connection.specs.declared.heard.Heard.{Heard}
 use Rattle.ipc_connection.specs.declared.replying.Told.{Told}
 use Rattle.ipc_connection.specs.declared.replying.Told.TheVariants.{Faulted, Left}
 use Rattle.ipc_exchange.specs.Service.{ServiceParts, at_rest, connection_at, delivered, told_connection}

@@ -11,7 +11,7 @@ ghost use Rattle.ipc_exchange.specs.Exchange.{Happened, Shows, progress_of};
 use crate::feeding::{close_connection, feed_connection};
 use crate::progress::{ConnectRefused, Progress};
 use crate::service::Service;
-use ipc_calls::CallDecoder;
+use ipc_connection::CallDecoder;
 use ipc_core::Limits;
 use ipc_history::Entries;
 use ipc_words::limits::MAX_CONNECTIONS;

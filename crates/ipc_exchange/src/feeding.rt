@@ -1,12 +1,12 @@
 ghost use Rattle.std.specs.Prelude.{◌≡◌, ◌<◌, ◌≤◌, ◌+◌, ℕ, List, [], length, false, true, Ok, Err, IfSome, IsNone};
-ghost use Rattle.ipc_calls.specs.Taking.{Holds};
-ghost use Rattle.ipc_calls.specs.declared.heard.Heard.TheVariants.{Bye};
+ghost use Rattle.ipc_connection.specs.Taking.{Holds};
+ghost use Rattle.ipc_connection.specs.declared.heard.Heard.TheVariants.{Bye};
 ghost use Rattle.ipc_exchange.specs.Exchange.{ClosesConnection};
 ghost use Rattle.ipc_exchange.specs.Feeding.{FeedsConnection, FeedsFirst, HearsOne, IsHeard};
 ghost use Rattle.ipc_exchange.specs.Rooms.{CanServe, Ready, StaysReady, WantsRoom, service_of};
 
 use crate::service::Service;
-use ipc_calls::{CallDecoder, Heard};
+use ipc_connection::{CallDecoder, Heard};
 use ipc_frame::FrameFault;
 
 fn is_bye(heard: &Heard) -> bool

@@ -22,9 +22,8 @@ ghost use Rattle.ipc_exchange.specs.Rooms.{table_told};
 
 use crate::connections::Connections;
 use crate::marked_kernel::MarkedKernel;
-use ipc_calls::Heard;
 use ipc_connection::{
-    Reaction, Request, Stage, Told, asks, command_of, next_stage, thread_left, told_of,
+    Heard, Reaction, Request, Stage, Told, asks, command_of, next_stage, thread_left, told_of,
     version_asked,
 };
 use ipc_core::{Advance, Command, Limits, NoThread};

@@ -1,5 +1,5 @@
 //! The memory of long strings, which all connections use again.
-use ipc_calls::Blocks;
+use ipc_connection::Blocks;
 use ipc_items::{FreeBlocks, MAX_FREE_BLOCKS, StringList};
 use std::sync::{Mutex, Wait};
 

@@ -10,11 +10,11 @@ use Rattle.ipc_frame.specs.declared.fault.FrameFault.{FrameFault}
 use Rattle.ipc_frame.specs.declared.fault.FrameFault.TheVariants.{Unfinished}
 use Rattle.ipc_frame.specs.declared.frame.Frame.{Frame}
 use Rattle.ipc_frame.specs.declared.kind.Side.TheVariants.{Server}
-use Rattle.ipc_calls.proofs.HearingLemmas.{joined}
-use Rattle.ipc_calls.proofs.PieceLemmas.{stream_short}
-use Rattle.ipc_calls.specs.Hearing.{heard_of}
-use Rattle.ipc_calls.specs.Taking.{Decoding, Finishes, Holds}
-use Rattle.ipc_calls.specs.declared.heard.Heard.{Heard}
+use Rattle.ipc_connection.proofs.HearingLemmas.{joined}
+use Rattle.ipc_connection.proofs.PieceLemmas.{stream_short}
+use Rattle.ipc_connection.specs.Hearing.{heard_of}
+use Rattle.ipc_connection.specs.Taking.{Decoding, Finishes, Holds}
+use Rattle.ipc_connection.specs.declared.heard.Heard.{Heard}
 use Rattle.ipc_connection.proofs.ChainLemmas.{chain_both, chain_none, chain_push}
 use Rattle.ipc_connection.specs.Chain.{Chain}
 use Rattle.ipc_connection.specs.KernelCalls.{KernelCall, Breaks, TellsMore}

@@ -6,11 +6,11 @@ use Rattle.ipc_frame.specs.declared.kind.Side.TheVariants.{Server}
 use Rattle.ipc_frame.specs.declared.frame.Frame.{Frame}
 use Rattle.ipc_frame.specs.declared.fault.FrameFault.{FrameFault}
 use Rattle.ipc_frame.proofs.FoundLemmas.{whole_within}
-use Rattle.ipc_calls.proofs.PieceLemmas.{stream_short, stream_bad, stream_whole, drop_past, given, heard_part, none_not, some_is, err_is}
-use Rattle.ipc_calls.specs.Hearing.{heard_of}
-use Rattle.ipc_calls.specs.Holding.{HearsOf}
-use Rattle.ipc_calls.specs.Taking.{Decoding, Holds, Takes, TakesBy}
-use Rattle.ipc_calls.specs.declared.heard.Heard.{Heard}
+use Rattle.ipc_connection.proofs.PieceLemmas.{stream_short, stream_bad, stream_whole, drop_past, given, heard_part, none_not, some_is, err_is}
+use Rattle.ipc_connection.specs.Hearing.{heard_of}
+use Rattle.ipc_connection.specs.Holding.{HearsOf}
+use Rattle.ipc_connection.specs.Taking.{Decoding, Holds, Takes, TakesBy}
+use Rattle.ipc_connection.specs.declared.heard.Heard.{Heard}
 
 -- no frame ends in the piece
 abbrev pub TookNone : List ℕ → List ℕ → Decoding → Type 0

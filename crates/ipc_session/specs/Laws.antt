@@ -1,7 +1,7 @@
 -- What holds of what is served.
 use Rattle.std.specs.Prelude.{◌≡◌, List, [], ◌∷◌, Result}
 use Rattle.ipc_frame.specs.declared.fault.FrameFault.{FrameFault}
-use Rattle.ipc_calls.specs.declared.heard.Heard.{Heard}
+use Rattle.ipc_connection.specs.declared.heard.Heard.{Heard}
 use Rattle.ipc_connection.specs.KernelCalls.{Asks, Breaks, KernelCall, Posts}
 use Rattle.ipc_connection.specs.declared.replying.Told.{Told}
 use Rattle.ipc_session.specs.Serving.{ServesAll}

@@ -7,11 +7,11 @@ use Rattle.ipc_frame.specs.declared.fault.FrameFault.TheVariants.{Unfinished}
 use Rattle.ipc_frame.specs.declared.frame.Frame.{Frame}
 use Rattle.ipc_frame.specs.declared.frame.Frame.TheVariants as frame
 use Rattle.ipc_frame.specs.declared.kind.Side.TheVariants.{Server}
-use Rattle.ipc_calls.specs.Hearing.{heard_of}
-use Rattle.ipc_calls.specs.Holding.{HearsOf}
-use Rattle.ipc_calls.specs.Taking.{Decoding, Holds}
-use Rattle.ipc_calls.specs.declared.heard.Heard.{Heard}
-use Rattle.ipc_calls.specs.declared.heard.Heard.TheVariants as said
+use Rattle.ipc_connection.specs.Hearing.{heard_of}
+use Rattle.ipc_connection.specs.Holding.{HearsOf}
+use Rattle.ipc_connection.specs.Taking.{Decoding, Holds}
+use Rattle.ipc_connection.specs.declared.heard.Heard.{Heard}
+use Rattle.ipc_connection.specs.declared.heard.Heard.TheVariants as said
 use Rattle.ipc_connection.specs.KernelCalls.{Asks, KernelCall, Posts, TellsMore}
 use Rattle.ipc_connection.specs.Faults.{fault_number, of_frame, of_kernel, of_session, out_of_place}
 use Rattle.ipc_connection.specs.declared.asking.Request.{Request}

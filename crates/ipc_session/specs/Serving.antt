@@ -1,7 +1,7 @@
 -- How what is heard is served, and how a connection ends by it.
 use Rattle.std.specs.Prelude.{◌≡◌, List, [], ◌∷◌, Result, ⊤}
 use Rattle.ipc_frame.specs.declared.fault.FrameFault.{FrameFault}
-use Rattle.ipc_calls.specs.declared.heard.Heard.{Heard}
+use Rattle.ipc_connection.specs.declared.heard.Heard.{Heard}
 use Rattle.ipc_connection.specs.Asking.{asks}
 use Rattle.ipc_connection.specs.Chain.{Chain}
 use Rattle.ipc_connection.specs.KernelCalls.{Asks, KernelCall, left_to_post}

@@ -1,6 +1,6 @@
 ghost use Rattle.std.specs.Prelude.{◌≡◌, ◌≢◌, ◌<◌, ℕ, List, [], ◌∷◌, ◌++◌, Option, length, true};
 ghost use Rattle.std.specs.Io.KnownBytes.{Consumes, IsAtEnd};
-ghost use Rattle.ipc_calls.specs.Taking.{Holds};
+ghost use Rattle.ipc_connection.specs.Taking.{Holds};
 ghost use Rattle.ipc_connection.specs.KernelCalls.{Breaks};
 ghost use Rattle.ipc_session.specs.Reading.{EndsSo, HasServed, Log, ReadsOn, ServesPiece};
 ghost use Rattle.ipc_connection.specs.declared.stage.Stage.TheVariants as at_stage;
@@ -11,8 +11,7 @@ use crate::ending::Ending;
 use crate::gate::Gate;
 use crate::serving::serve;
 use crate::turned::Turned;
-use ipc_calls::{Blocks, CallDecoder};
-use ipc_connection::Stage;
+use ipc_connection::{Blocks, CallDecoder, Stage};
 use ipc_ports::PortRead;
 use std::alloc::Global;
 

@@ -6,8 +6,7 @@ ghost use Rattle.ipc_session.specs.Serving.{Serves, ServesBy, ending_by, ends_wi
 use crate::calling::KernelPort;
 use crate::ending::Ending;
 use crate::turned::Turned;
-use ipc_calls::Heard;
-use ipc_connection::{Reaction, Request, Stage, Told, asks, is_posted, next_stage};
+use ipc_connection::{Heard, Reaction, Request, Stage, Told, asks, is_posted, next_stage};
 use ipc_core::Refusal;
 use ipc_frame::FrameFault;
 

@@ -1,8 +1,7 @@
 ghost use Rattle.std.specs.Prelude.{◌≡◌, None, true};
 
 use super::*;
-use ipc_calls::NoBlocks;
-use ipc_connection::{Request, Told};
+use ipc_connection::{NoBlocks, Request, Told};
 use ipc_core::Refusal;
 use ipc_frame::{Frame, WireVersion};
 use ipc_ports::{MemoryPort, PortFault, PortRead, Trouble};

@@ -1,5 +1,5 @@
 use Rattle.std.proofs.Common.{◌+◌, ℕ, List, length}
-use Rattle.ipc_calls.specs.Taking.{Decoding, Holds}
+use Rattle.ipc_connection.specs.Taking.{Decoding, Holds}
 use Rattle.ipc_exchange.specs.Service.{ServiceParts}
 use Rattle.ipc_exchange.specs.Rooms.{StaysReady, service_of}
 use Rattle.ipc_exchange.specs.Feeding.{FeedsConnection}

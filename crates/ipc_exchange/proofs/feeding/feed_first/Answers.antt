@@ -1,6 +1,6 @@
 use Rattle.std.proofs.Common.{sym, ◌∙◌, ap, subst, None, Some, arith}
-use Rattle.ipc_calls.specs.Taking.{Takes}
-use Rattle.ipc_calls.proofs.PieceLemmas.{take_hears}
+use Rattle.ipc_connection.specs.Taking.{Takes}
+use Rattle.ipc_connection.proofs.PieceLemmas.{take_hears}
 use Rattle.ipc_exchange.proofs.FeedLemmas.{ends, fails, finished_is, goes_on, held_size, rests, service_stage, taken_as}
 use Rattle.ipc_exchange.specs.Feeding.{has_finished}
 use Rattle.ipc_exchange.proofs.feeding.feed_first.Goals as goal

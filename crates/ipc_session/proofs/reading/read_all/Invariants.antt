@@ -1,7 +1,7 @@
 -- All whole frames of the bytes read were served, and the device has not failed.
 use Rattle.std.proofs.Common.{◌≡◌, ℕ, List, []}
 use Rattle.std.specs.Io.KnownBytes.{Consumes}
-use Rattle.ipc_calls.specs.Taking.{Holds}
+use Rattle.ipc_connection.specs.Taking.{Holds}
 use Rattle.ipc_connection.specs.declared.stage.Stage.TheVariants.{Greeting}
 use Rattle.ipc_session.specs.Reading.{HasServed}
 use Rattle.ipc_session.proofs.reading.read_all.Given as goal

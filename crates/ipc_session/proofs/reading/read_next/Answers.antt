@@ -1,9 +1,9 @@
 use Rattle.std.proofs.Common.{◌≡◌, ℕ, List, ◌+◌, ◌++◌, length, Option, Some, None, Result, Ok, refl, sym, subst, arith}
 use Rattle.std.proofs.KnownBytes.{Consumes-trans}
 use Rattle.std.specs.Io.KnownBytes.{Consumes}
-use Rattle.ipc_calls.specs.ReadOn.{Fails, TakesMore, TakesOn}
+use Rattle.ipc_connection.specs.ReadOn.{Fails, TakesMore, TakesOn}
 use Rattle.ipc_ports.specs.declared.fault.PortFault.{PortFault}
-use Rattle.ipc_calls.specs.Taking.{Decoding, Holds}
+use Rattle.ipc_connection.specs.Taking.{Decoding, Holds}
 use Rattle.ipc_connection.specs.declared.stage.Stage.{Stage}
 use Rattle.ipc_session.proofs.ReadLemmas.{begin, leaves_piece, stop}
 use Rattle.ipc_session.proofs.TakeLemmas.{took_none}

@@ -1,6 +1,6 @@
 -- Of the piece behind whatever bytes were held, the frames so far were served.
 use Rattle.std.proofs.Common.{ℕ, List, ◌++◌}
-use Rattle.ipc_calls.specs.Taking.{Holds}
+use Rattle.ipc_connection.specs.Taking.{Holds}
 use Rattle.ipc_session.proofs.ReadLemmas.{Progress}
 use Rattle.ipc_session.proofs.reading.serve_piece.Given as goal
 

@@ -1,9 +1,0 @@
-pub mod Reads
-pub mod CallOf
-pub mod Frames
-pub mod Payloads
-pub mod Hearing
-pub mod Taking
-pub mod Holding
-pub mod Laws
-pub mod ReadOn

@@ -2,10 +2,9 @@
 use Rattle.std.proofs.lemmas.Bool.{false≢true}
 use Rattle.std.proofs.lemmas.List.{take-append-drop, take_all, take_more}
 use lib.Seq.{take-length}
-use Rattle.std.proofs.Common.{◌≡◌, refl, sym, ap, ◌∙◌, subst, append-nil, append_assoc, ℕ, zero, suc, ◌+◌, ◌<◌, ◌≤◌, Bool, true, false, List, [], ◌∷◌, ◌++◌, length, take, drop, get_or, Contains, Option, arith}
+use Rattle.std.proofs.Common.{◌≡◌, refl, sym, ap, ◌∙◌, subst, append-nil, append_assoc, ℕ, ◌+◌, ◌<◌, ◌≤◌, true, false, List, [], ◌∷◌, ◌++◌, length, take, drop, get_or, Option}
 use Rattle.ipc_history.specs.Entries.{calls}
 use Rattle.ipc_history.specs.Holding.{Holds}
-use Rattle.ipc_history.specs.Keeping.{kept_ahead}
 use Rattle.ipc_history.specs.NextOutput.{next_output}
 use Rattle.ipc_history.specs.Legal.{Legal, Follows}
 use Rattle.ipc_history.specs.Phases.{is_over}
@@ -18,8 +17,7 @@ use Rattle.ipc_laws.proofs.Growth.{open_is_called}
 use Rattle.ipc_laws.proofs.Histories.{follows_last, legal_front}
 use Rattle.ipc_laws.proofs.OpenCalls.{caller_lives}
 use Rattle.ipc_laws.proofs.Settling.{legal_push}
-use Rattle.ipc_slots.specs.Slots.{Stands}
-use Rattle.ipc_slots.specs.declared.slots.Slots.{Slots}
+use Rattle.ipc_slots.specs.PastSlots.{PastSlots}
 use Rattle.ipc_compact.specs.Compact.{Base, is_kept, kept_before, kept_of}
 use Rattle.ipc_compact.specs.Making.{Before, IsCompactOf}
 use Rattle.ipc_compact.proofs.CallReading as there
@@ -54,18 +52,18 @@ compact_holds P taken legal =
     (drop_whole (kept_of P taken) ∙ sym (drop_whole P))
 
 -- the past and the entries before a place are legal, the slots are theirs, and what is held holds their open calls
-pub record IsWalkedAfter (P kept X : List Entry) (i : ℕ) (past : List Entry) (slots : Slots) : Type 0 where
+pub record IsWalkedAfter (P kept X : List Entry) (i : ℕ) (past : List Entry) (slots : PastSlots) : Type 0 where
   pub walked : past ≡ P ++ take i X
   pub legal : Legal (P ++ take i X)
-  pub stands : Stands (P ++ take i X) slots
+  pub told : slots.past ≡ P ++ take i X
   pub held : Holds (P ++ take i X) (kept ++ take i X)
 
 module _ (base : Base) (kept : List Entry) (before : Before) (is : IsCompactOf base kept before) where
-  pub after_start : (X past : List Entry) (slots : Slots) → past ≡ before.past → Stands before.past slots → IsWalkedAfter before.past kept X 0 past slots
-  after_start X past slots same stands = record {
+  pub after_start : (X past : List Entry) (slots : PastSlots) → past ≡ before.past → slots.past ≡ before.past → IsWalkedAfter before.past kept X 0 past slots
+  after_start X past slots same told = record {
     walked = same ∙ sym (append-nil before.past);
     legal = subst Legal (sym (append-nil before.past)) is.legal;
-    stands = subst (λ l. Stands l slots) (sym (append-nil before.past)) stands;
+    told = told ∙ sym (append-nil before.past);
     held = rw (append-nil before.past, append-nil kept) (subst (Holds before.past) (kept_is base kept before is) (compact_holds before.past before.taken is.legal));
   }
 
@@ -79,12 +77,12 @@ module _ (P kept X so_far : List Entry) (i : ℕ) (e : Entry) (within : i < leng
   held_more : kept ++ take (i + 1) X ≡ (kept ++ take i X) ++ e ∷ []
   held_more = ap (λ l. kept ++ l) one ∙ sym (append_assoc kept (take i X) (e ∷ []))
 
-  pub after_on : (past now : List Entry) (slots new : Slots) → IsWalkedAfter P kept X i past slots → now ≡ so_far ++ e ∷ [] → Follows so_far e
-      → Stands (so_far ++ e ∷ []) new → IsWalkedAfter P kept X (i + 1) now new
-  after_on past now slots new was added follows stands = record {
+  pub after_on : (past now : List Entry) (slots new : PastSlots) → IsWalkedAfter P kept X i past slots → now ≡ so_far ++ e ∷ [] → Follows so_far e
+      → new.past ≡ so_far ++ e ∷ [] → IsWalkedAfter P kept X (i + 1) now new
+  after_on past now slots new was added follows told = record {
     walked = added ∙ sym more;
     legal = rw more (legal_push so_far e (rw same was.legal) follows);
-    stands = rw more stands;
+    told = told ∙ sym more;
     held = rw (more, held_more) (pushed_holds so_far (kept ++ take i X) e (subst (λ l. Holds l (kept ++ take i X)) (sym same) was.held));
   }
 
@@ -101,5 +99,5 @@ pub fault_all : (P X : List Entry) (i : ℕ) (expected : Option Output) → IsFi
 fault_all P X i expected fault legal =
     fault.fault (legal_front (P ++ take (i + 1) X) (drop (i + 1) X) (subst Legal (ap (λ l. P ++ l) (sym (take-append-drop (i + 1) X)) ∙ sym (append_assoc P (take (i + 1) X) (drop (i + 1) X))) legal))
 
-pub after_whole : (P kept X past : List Entry) (i : ℕ) (slots : Slots) → length X ≤ i → IsWalkedAfter P kept X i past slots → Legal (P ++ X)
+pub after_whole : (P kept X past : List Entry) (i : ℕ) (slots : PastSlots) → length X ≤ i → IsWalkedAfter P kept X i past slots → Legal (P ++ X)
 after_whole P kept X past i slots all walked = subst (λ l. Legal (P ++ l)) (take_all i X all) walked.legal

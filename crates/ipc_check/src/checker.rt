@@ -39,7 +39,7 @@ pub fn check(entries: &[Entry]) -> Verdict
                 expected: slots.next_output(&before),
             };
         }
-        let _ = slots.note(&before, entry);
+        let _ = slots.note(entry, index);
         past.add(entry);
     }
     Verdict::Yes

@@ -31,7 +31,7 @@ pub fn check_from(base: &Base, kept: &[Entry], entries: &[Entry]) -> Verdict
                 expected: slots.next_output(&so_far),
             };
         }
-        let _ = slots.note(&so_far, entry);
+        let _ = slots.note(entry, so_far.next_place());
         past.add(entry);
     }
     Verdict::Yes

@@ -23,7 +23,7 @@ use Rattle.ipc_laws.proofs.WordLemmas.{first_some_push}
 use Rattle.ipc_slots.specs.Making.{IsMade, IsOfNumber, made_slot}
 use Rattle.ipc_slots.specs.Slots.{Stands, blank, live_at, live_of, slot_at, slot_of}
 use Rattle.ipc_slots.specs.declared.slot.Live.{Live}
-use Rattle.ipc_slots.specs.declared.slots.Slots.{Slots}
+use Rattle.ipc_slots.specs.declared.kept.KeptSlots.{KeptSlots}
 use Rattle.ipc_slots.proofs.Holders.{live_of_is}
 use Rattle.ipc_slots.proofs.MadeSlots.{slot_above, stands_made}
 use Rattle.ipc_slots.proofs.Starting.{length_replicate}
@@ -163,13 +163,13 @@ module _ (base : Base) (kept : List Entry) (before : Before) (is : IsCompactOf b
   live_is k = ap (λ s. s.live) (slot_is k)
 
   -- so many slots are made, and the others are blank
-  pub record IsMadeTo (place : ℕ) (slots : Slots) : Type 0 where
+  pub record IsMadeTo (place : ℕ) (slots : KeptSlots) : Type 0 where
     pub made : IsMade slots base.moment base.calls
     pub size : length slots.table ≡ table_slots
     pub done : (k : ℕ) → k < place → slot_at slots.table k ≡ slot_of P k
     pub rest : (k : ℕ) → place ≤ k → slot_at slots.table k ≡ blank
 
-  pub made_start : (slots : Slots) → slots.table ≡ replicate table_slots blank → IsMade slots base.moment base.calls → IsMadeTo 0 slots
+  pub made_start : (slots : KeptSlots) → slots.table ≡ replicate table_slots blank → IsMade slots base.moment base.calls → IsMadeTo 0 slots
   made_start slots table made = record {
     made = made;
     size = ap length table ∙ length_replicate table_slots;
@@ -177,13 +177,13 @@ module _ (base : Base) (kept : List Entry) (before : Before) (is : IsCompactOf b
     rest = λ k h. ap (λ l. slot_at l k) table ∙ slot_at-replicate table_slots k;
   }
 
-  pub made_free : (slots : Slots) (place : ℕ) → IsMadeTo place slots → (slot_at slots.table place).live ≡ None
+  pub made_free : (slots : KeptSlots) (place : ℕ) → IsMadeTo place slots → (slot_at slots.table place).live ≡ None
   made_free slots place was = ap (λ s. s.live) (was.rest place (omega arith))
 
   pub made_live : (place version : ℕ) (live : Option Live) → version ≡ last_version P place → live ≡ option_map (live_from kept base.over) (live_of kept place) → IsOfNumber place version live
   made_live place version live same is_live = subst (IsOfNumber place version) (live_is place ∙ sym is_live) (of_number P is.legal place version same)
 
-  pub made_more : (slots now : Slots) (place version : ℕ) (live : Option Live) → place < table_slots → IsMadeTo place slots → version ≡ last_version P place → live ≡ option_map (live_from kept base.over) (live_of kept place) → now ≡ record slots { table = slice_set slots.table place (made_slot version live) } → IsMadeTo (place + 1) now
+  pub made_more : (slots now : KeptSlots) (place version : ℕ) (live : Option Live) → place < table_slots → IsMadeTo place slots → version ≡ last_version P place → live ≡ option_map (live_from kept base.over) (live_of kept place) → now ≡ record slots { table = slice_set slots.table place (made_slot version live) } → IsMadeTo (place + 1) now
   made_more slots now place version live within was same is_live set = rw set (record {
     made = record { moment = was.made.moment; calls_made = was.made.calls_made; top = was.made.top; last = was.made.last };
     size = length-set slots.table place (made_slot version live) ∙ was.size;
@@ -194,7 +194,7 @@ module _ (base : Base) (kept : List Entry) (before : Before) (is : IsCompactOf b
     rest = λ k h. get_or-set_other slots.table place k (made_slot version live) blank (λ e. omega (arith, e, h)) ∙ was.rest k (omega (arith, h));
   })
 
-  pub made_end : (slots : Slots) (place : ℕ) → table_slots ≤ place → IsMadeTo place slots → Stands P slots
+  pub made_end : (slots : KeptSlots) (place : ℕ) → table_slots ≤ place → IsMadeTo place slots → Stands P slots
   made_end slots place all was =
       stands_made P slots is.legal is.quiet
       (record { moment = was.made.moment ∙ sym moment_is; calls_made = was.made.calls_made ∙ sym calls_is; top = was.made.top; last = was.made.last })

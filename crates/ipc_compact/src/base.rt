@@ -1,14 +1,13 @@
 ghost use Rattle.std.specs.Prelude.{◌≡◌, ◌<◌, length, IfOk, IfErr};
 ghost use Rattle.ipc_words.specs.Limits.{table_slots};
 ghost use Rattle.ipc_history.specs.declared.entry.Entry.{Entry};
-ghost use Rattle.ipc_slots.specs.Slots.{Stands};
 ghost use Rattle.ipc_compact.specs.BaseRoom.{nothing_written};
 ghost use Rattle.ipc_compact.specs.Making.{Before, IsCompactOf};
 
 use crate::making;
 use crate::room::BaseRoom;
 use ipc_history::Entry;
-use ipc_slots::Slots;
+use ipc_slots::{KeptSlots, Slots};
 use ipc_words::limits::TABLE_SLOTS;
 use std::marker::Model;
 
@@ -88,15 +87,15 @@ impl Base {
     pub fn slots(&self, kept: &[Entry]) -> Slots
         ghost before: { Before }
         requires { IsCompactOf self.now kept.now before }
-        ensures { Stands before.past result }
+        ensures { result.past ≡ before.past }
     {
         let versions = self.versions.as_slice();
         let over = self.over.as_slice();
-        let mut slots = Slots::made(self.moment, self.calls);
+        let mut slots = KeptSlots::made(self.moment, self.calls);
         for place in 0..TABLE_SLOTS {
             let live = making::live_of(kept, over, place as u32);
             slots.make(place, versions[place], live);
         }
-        slots
+        Slots::of(slots)
     }
 }

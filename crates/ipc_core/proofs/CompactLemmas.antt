@@ -46,9 +46,10 @@ open_kept H taken legal n (Given (Moved k count)) opened is = absurd (false≢tr
 open_kept H taken legal n (Written output) opened is = absurd (false≢true is)
 
 -- what the last calls tell is what is kept
-pub passes_is : (H : List Entry) (taken : List ℕ) (desks : List Desk) → Legal H → DesksKeep H taken desks → TookOthers H taken → (kept : KeptParts) → PassesAs kept (kept_upto H taken table_slots) → (e : Entry) → passes kept e ≡ is_kept H taken e
+pub passes_is : (P H : List Entry) (taken : List ℕ) (desks : List Desk) → P ≡ H → Legal H → DesksKeep P taken desks → TookOthers H taken → (kept : KeptParts) → PassesAs kept (kept_upto P taken table_slots) → (e : Entry) → passes kept e ≡ is_kept H taken e
 unfolding TookOthers
-passes_is H taken desks legal keeps others kept same e = same e ∙ kept_is H taken legal keeps.over others e
+passes_is P H taken desks seen legal keeps others kept same e =
+    same e ∙ (ap (λ l. passes (kept_upto l taken table_slots) e) seen ∙ kept_is H taken legal (subst (λ l. DesksKeep l taken desks) seen keeps).over others e)
 
 -- what is kept of what is held, is kept of all
 pub kept_of_all : (taken : List ℕ) (test : Entry → Bool) (upto : ℕ) (history : HistoryParts) → Legal history.entries → ((e : Entry) → test e ≡ is_kept history.entries taken e) → WasPlaced history.entries taken history.held.front history.held.places history.held.whole_from → history.held.whole_from ≤ length history.entries → compacted test upto history ≡ kept_to taken upto history

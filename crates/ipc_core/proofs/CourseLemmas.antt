@@ -21,9 +21,8 @@ use Rattle.ipc_core.specs.Outcomes.{IsTaken, finished_from, is_among}
 use Rattle.ipc_core.proofs.BookLemmas.{none_twice}
 use Rattle.ipc_core.proofs.BusyLaws.{clock_call, no_call}
 use Rattle.ipc_core.proofs.FinishedLaws.{finished_clock, finished_live, finished_more, finished_none, named_more, named_once, names_few}
-use Rattle.ipc_desks.specs.Desks.{Keeps as DesksKeep}
+use Rattle.ipc_desks.specs.PastDesks.{PastDesks}
 use Rattle.ipc_desks.specs.Finishes.{finishes}
-use Rattle.ipc_desks.specs.declared.desk.Desk.{Desk}
 use Rattle.ipc_words.specs.Limits.{table_slots}
 use Rattle.std.proofs.lemmas.List.{take_all, take-append-drop, take-append-le}
 use Rattle.std.specs.List.{IsDistinct}
@@ -49,11 +48,12 @@ take_none : (H : List Entry) → H ≡ [] → (k : ℕ) → take k H ≡ []
 take_none H empty zero = refl
 take_none H empty (suc k) = rw empty refl
 
-pub course_none : (H : List Entry) (waiting : Waiting) (desks : List Desk) (taken : List ℕ) (since : ℕ) (finished : List ℕ) (width : ℕ) → H ≡ [] → IsWaiting [] waiting → DesksKeep [] [] desks → taken ≡ [] → since ≡ 0 → finished ≡ [] → table_slots ≤ width → IsCourse H waiting desks taken since finished width
-course_none H waiting desks taken since finished width empty stands keeps none start nobody wide = record {
+pub course_none : (H : List Entry) (waiting : Waiting) (desks : PastDesks) (since : ℕ) (finished : List ℕ) (width : ℕ) → H ≡ [] → waiting.slots.past ≡ [] → IsWaiting waiting → desks.past ≡ [] → since ≡ 0 → finished ≡ [] → table_slots ≤ width → IsCourse H waiting desks since finished width
+course_none H waiting desks since finished width empty slots stands none start nobody wide = record {
   legal = subst Legal (sym empty) nothing_legal;
-  waiting_is = subst (λ l. IsWaiting l waiting) (sym empty) stands;
-  desks_are = subst (λ l. DesksKeep l taken desks) (sym empty) (subst (λ t. DesksKeep [] t desks) (sym none) keeps);
+  waits_in = slots ∙ sym empty;
+  waiting_is = stands;
+  desks_of = none ∙ sym empty;
   names = λ t. ap (is_among t) nobody ∙ sym (ap₂ (λ p h. finished_from p h t) (take_none H empty since) empty ∙ finished_none [] nothing_legal t);
   once = subst (IsDistinct (λ a b. a == b)) (sym nobody) none_twice;
   begun = omega (arith, start);
@@ -61,11 +61,12 @@ course_none H waiting desks taken since finished width empty stands keeps none s
 }
 
 -- where a command begins it has finished nothing
-pub course_begins : (H : List Entry) (waiting : Waiting) (desks : List Desk) (taken : List ℕ) (since start : ℕ) (finished names : List ℕ) (width wider : ℕ) → IsCourse H waiting desks taken since finished width → start ≡ length H → names ≡ [] → width ≤ wider → IsCourse H waiting desks taken start names wider
-course_begins H waiting desks taken since start finished names width wider course begins nobody more = record {
+pub course_begins : (H : List Entry) (waiting : Waiting) (desks : PastDesks) (since start : ℕ) (finished names : List ℕ) (width wider : ℕ) → IsCourse H waiting desks since finished width → start ≡ length H → names ≡ [] → width ≤ wider → IsCourse H waiting desks start names wider
+course_begins H waiting desks since start finished names width wider course begins nobody more = record {
   legal = course.legal;
+  waits_in = course.waits_in;
   waiting_is = course.waiting_is;
-  desks_are = course.desks_are;
+  desks_of = course.desks_of;
   names = λ t. ap (is_among t) nobody ∙ sym (ap (λ p. finished_from p H t) (ap (λ k. take k H) begins ∙ take_all (length H) H (omega arith)) ∙ finished_none H course.legal t);
   once = subst (IsDistinct (λ a b. a == b)) (sym nobody) none_twice;
   begun = omega (arith, begins);
@@ -73,16 +74,16 @@ course_begins H waiting desks taken since start finished names width wider cours
 }
 
 -- one more entry that follows
-module _ (H E K : List Entry) (e : Entry) (waiting : Waiting) (desks : List Desk) (taken : List ℕ) (since : ℕ) (finished : List ℕ) (width : ℕ) (course : IsCourse H waiting desks taken since finished width) (begun : since ≤ length H) (follows : Follows H e) (here : E ≡ H) (longer : K ≡ H ++ e ∷ []) (fresh : (t : ℕ) → is_of t e ≡ true → finished_from (take since H) H t ≡ false) (first second : Option ℕ) (named : (t : ℕ) → (option_map_or (λ s. s == t) first false || option_map_or (λ s. s == t) second false) ≡ finishes E e t) where
+module _ (H K : List Entry) (e : Entry) (waiting : Waiting) (desks : PastDesks) (since : ℕ) (finished : List ℕ) (width : ℕ) (course : IsCourse H waiting desks since finished width) (follows : Follows H e) (longer : K ≡ H ++ e ∷ []) (fresh : (t : ℕ) → is_of t e ≡ true → finished_from (take since H) H t ≡ false) (first second : Option ℕ) (named : (t : ℕ) → (option_map_or (λ s. s == t) first false || option_map_or (λ s. s == t) second false) ≡ finishes desks.past e t) where
   same_front : take since K ≡ take since H
-  same_front = ap (take since) longer ∙ take-append-le since H (e ∷ []) begun
+  same_front = ap (take since) longer ∙ take-append-le since H (e ∷ []) course.begun
 
   -- who is named then
   pub names_then : (t : ℕ) → is_among t (with_name (with_name finished first) second) ≡ finished_from (take since K) K t
   names_then t =
       let step = named_more (with_name finished first) second t ∙ ap (λ b. b || option_map_or (λ s. s == t) second false) (named_more finished first t) in
       let both : (is_among t finished || option_map_or (λ s. s == t) first false || option_map_or (λ s. s == t) second false) ≡ (is_among t finished || (option_map_or (λ s. s == t) first false || option_map_or (λ s. s == t) second false)) = or_assoc (is_among t finished) (option_map_or (λ s. s == t) first false) (option_map_or (λ s. s == t) second false) in
-      let parts = ap₂ (λ a b. a || b) (course.names t) (named t ∙ ap (λ l. finishes l e t) here) in
+      let parts = ap₂ (λ a b. a || b) (course.names t) (named t ∙ ap (λ l. finishes l e t) course.desks_of) in
       let more = finished_more (take since H) (drop since H) H e course.legal (sym (take-append-drop since H)) follows t (fresh t) in
       step ∙ (both ∙ (parts ∙ (sym more ∙ ap₂ (λ p h. finished_from p h t) (sym same_front) (sym longer))))
     where
@@ -109,13 +110,14 @@ module _ (H E K : List Entry) (e : Entry) (waiting : Waiting) (desks : List Desk
       let wide = course.wide in
       omega (arith, few, wide, more)
 
-  pub course_more : (after : Waiting) (kept : List Desk) (names : List ℕ) (wider : ℕ) → IsWaiting (E ++ e ∷ []) after → DesksKeep (E ++ e ∷ []) taken kept → names ≡ with_name (with_name finished first) second → width ≤ wider → IsCourse K after kept taken since names wider
-  course_more after kept names wider stands keeps names_are more =
-      let whole : E ++ e ∷ [] ≡ K = ap (λ l. l ++ e ∷ []) here ∙ sym longer in
+  pub course_more : (after : Waiting) (kept : PastDesks) (names : List ℕ) (wider : ℕ) → after.slots.past ≡ waiting.slots.past ++ e ∷ [] → IsWaiting after → kept.past ≡ desks.past ++ e ∷ [] → names ≡ with_name (with_name finished first) second → width ≤ wider → IsCourse K after kept since names wider
+  course_more after kept names wider told stands noted names_are more =
+      let begun = course.begun in
       record {
         legal = legal_then;
-        waiting_is = subst (λ l. IsWaiting l after) whole stands;
-        desks_are = subst (λ l. DesksKeep l taken kept) whole keeps;
+        waits_in = told ∙ ap (λ l. l ++ e ∷ []) course.waits_in ∙ sym longer;
+        waiting_is = stands;
+        desks_of = noted ∙ ap (λ l. l ++ e ∷ []) course.desks_of ∙ sym longer;
         names = λ t. ap (is_among t) names_are ∙ names_then t;
         begun = omega (arith, begun, ap length longer, length-append H (e ∷ []));
         once = subst (IsDistinct (λ a b. a == b)) (sym names_are) (named_once (with_name finished first) second (named_once finished first course.once));
@@ -136,6 +138,10 @@ took H taken t o legal given last = go (is_among o.call taken) (is_over H o.call
     go true b c among over e = absurd (none-some o e)
     go false false c among over e = absurd (none-some o e)
     go false true c among over e = (record { called = (last_is H legal t o.call last).1; over = over }, among)
+
+pub took_now : (P H : List Entry) (told taken : List ℕ) (t : ℕ) (o : OutcomeParts) → P ≡ H → told ≡ taken → Legal P → outcome_to_take P told t ≡ Some o → last_call P t ≡ Some o.call → IsTaken H o.call × (is_among o.call taken ≡ false)
+took_now P H told taken t o seen same legal given last =
+    subst (λ k. IsTaken H o.call × (is_among o.call k ≡ false)) same (subst (λ l. IsTaken l o.call × (is_among o.call told ≡ false)) seen (took P told t o legal given last))
 
 -- a command's input ends nobody's outcome that it finished, since it has finished none
 pub input_fresh : (H E : List Entry) (moment since : ℕ) (e : Entry) → Legal H → E ≡ H ++ at_if_later H moment → since ≡ length H → (t : ℕ) → is_of t e ≡ true → finished_from (take since E) E t ≡ false

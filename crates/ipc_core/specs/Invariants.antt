@@ -10,36 +10,35 @@ use Rattle.ipc_history.specs.HistoryParts.{HistoryParts}
 use Rattle.ipc_history.specs.Legal.{Legal, Quiet}
 use Rattle.ipc_history.specs.declared.entry.Entry.{Entry}
 use Rattle.ipc_laws.specs.Counting.{room_owed}
-use Rattle.ipc_desks.specs.Desks.{Keeps as DesksKeep}
-use Rattle.ipc_desks.specs.declared.desk.Desk.{Desk}
+use Rattle.ipc_desks.specs.PastDesks.{PastDesks}
 use Rattle.ipc_compact.specs.Places.{WasPlaced}
-use Rattle.ipc_partners.specs.Partners.{Knows}
-use Rattle.ipc_partners.specs.declared.partners.Joined.{Joined}
+use Rattle.ipc_partners.specs.PastPartners.{PastPartners}
 use Rattle.ipc_waits.specs.Waiting.{IsWaiting}
 use Rattle.ipc_waits.specs.declared.waiting.Waiting.{Waiting}
 use Rattle.ipc_core.specs.Books.{AreBooks}
 use Rattle.ipc_core.specs.CourseParts.{CourseParts, history_of}
 use Rattle.ipc_core.specs.Outcomes.{finished_from, is_among}
 
--- a course: a legal history, who waits in it, desks that are its, and the threads whose calls the last command finished, each once
-pub record IsCourse (H : List Entry) (waiting : Waiting) (desks : List Desk) (taken : List ℕ) (since : ℕ)
-    (finished : List ℕ) (width : ℕ) : Type 0 where
+-- a course: a legal history, who waits in it, desks that are of it, and the threads whose calls the last command finished, each once
+pub record IsCourse (H : List Entry) (waiting : Waiting) (desks : PastDesks) (since : ℕ) (finished : List ℕ) (width : ℕ) : Type 0 where
   pub legal : Legal H
-  pub waiting_is : IsWaiting H waiting
-  pub desks_are : DesksKeep H taken desks
+  pub waits_in : waiting.slots.past ≡ H
+  pub waiting_is : IsWaiting waiting
+  pub desks_of : desks.past ≡ H
   pub names : (thread : ℕ) → is_among thread finished ≡ finished_from (take since H) H thread
   pub once : IsDistinct (λ a b. a == b) finished
   pub begun : since ≤ length H
   pub wide : table_slots ≤ width
 
--- a course, with the calls that met the last ones; memory holds all entries of the last command, and of those before a place what a
--- compaction kept
-pub record IsHeldCourse (history : HistoryParts) (waiting : Waiting) (desks : List Desk) (partners : List Joined) (taken : List ℕ)
-    (since : ℕ) (finished : List ℕ) (width : ℕ) : Type 0 where
-  pub course : IsCourse history.entries waiting desks taken since finished width
+-- a course, with the calls that met the last ones, and how many outcomes were taken; memory holds all entries of the last command, and of
+-- those before a place what a compaction kept
+pub record IsHeldCourse (history : HistoryParts) (waiting : Waiting) (desks : PastDesks) (partners : PastPartners) (takes since : ℕ)
+    (finished : List ℕ) (width : ℕ) : Type 0 where
+  pub course : IsCourse history.entries waiting desks since finished width
   pub front : history.held.whole_from ≤ since
-  pub knows : Knows history.entries partners
-  pub kept : WasPlaced history.entries taken history.held.front history.held.places history.held.whole_from
+  pub partners_of : partners.past ≡ history.entries
+  pub counted : takes ≡ length desks.taken
+  pub kept : WasPlaced history.entries desks.taken history.held.front history.held.places history.held.whole_from
 
 -- a kernel's history is legal and quiet, within its limit with all that is owed; its moment is not before
 -- the history's, and no phase is due then

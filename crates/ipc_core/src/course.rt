@@ -18,10 +18,9 @@ ghost use Rattle.ipc_history.specs.Timing.{is_due_at};
 ghost use Rattle.ipc_compact.specs.Compact.{base_of, kept_of};
 ghost use Rattle.ipc_laws.specs.Counting.{open_calls, pledged, room_owed, live_threads, pledge_of};
 ghost use Rattle.ipc_desks.specs.CallsOf.{is_busy, last_call, made_by, outcome_to_take, taken_by};
-ghost use Rattle.ipc_desks.specs.Desks.{Keeps, one_if};
+ghost use Rattle.ipc_desks.specs.Desks.{one_if};
 ghost use Rattle.ipc_desks.specs.Messages.{prepared};
 ghost use Rattle.ipc_desks.specs.Finishes.{finishes, is_named};
-ghost use Rattle.ipc_slots.specs.Slots.{Stands};
 ghost use Rattle.ipc_waits.specs.FirstDue.{IsLeastDue};
 ghost use Rattle.ipc_core.specs.Books.{TookOthers};
 ghost use Rattle.ipc_core.specs.CourseParts.{ComesIdle, HasCopies, SameBooks, history_of};
@@ -34,13 +33,11 @@ ghost use Rattle.ipc_core.specs.CommandRoom.{command_need, is_clock};
 ghost use Rattle.ipc_core.specs.ExchangeRegisters.{exreg_answer, phases_of};
 
 use crate::answers::ExregAnswer;
-use crate::taken::Taken;
 use ipc_compact::{Base, BaseRoom};
 use ipc_desks::{Desks, Finished, Prepared};
 use ipc_history::{Call, EnteredCall, Entries, Entry, History, Input, Outcome, Output};
 use ipc_memory::Memory;
 use ipc_partners::{Keeping, Partners};
-use ipc_past::Past;
 use ipc_slots::Slots;
 use ipc_waits::Waiting;
 use ipc_words::limits::{PLEDGE_OF_THREAD, TABLE_SLOTS};
@@ -56,7 +53,7 @@ pub(crate) struct Course {
     desks: Desks,
     partners: Partners,
     keeping: Keeping,
-    taken: Taken,
+    takes: u64,
     since: usize,
     finished: Vec<ThreadId>,
 }
@@ -73,12 +70,12 @@ impl Model for Course {
       entries = c.history.entries;
       held = c.history.held;
       room = c.history.room;
-      taken = c.taken;
+      taken = c.desks.taken;
       since = c.since;
       finished = c.finished.items;
     } };
 
-    ghost invariant = { λ c. IsHeldCourse c.history c.waiting.value c.desks c.partners c.taken c.since c.finished.items
+    ghost invariant = { λ c. IsHeldCourse c.history c.waiting.value c.desks c.partners c.takes c.since c.finished.items
         (vec_capacity c.finished) };
 }
 
@@ -101,7 +98,7 @@ impl Course {
             desks: Desks::new(memory)?,
             partners: Partners::new(memory)?,
             keeping: Keeping::new(memory)?,
-            taken: Taken::none(),
+            takes: 0,
             since: 0,
             finished: memory.with_capacity(TABLE_SLOTS)?,
         })
@@ -115,6 +112,7 @@ impl Course {
             + one_if (is_busy self.now.entries self.now.taken thread)
             ≡ made_by self.now.entries thread }
     {
+        let _ = self.desks.kept();
         self.history.whole()
     }
 
@@ -146,9 +144,7 @@ impl Course {
         ensures { result ≡ base_of self.now.entries self.now.taken }
     {
         ipc_partners::base_of(
-            &self.history.whole(),
-            self.taken.past(),
-            self.taken.len(),
+            self.takes,
             self.waiting.slots(),
             &self.desks,
             &self.partners,
@@ -198,7 +194,7 @@ impl Course {
     pub(crate) fn takes(&self) -> u64
         ensures { result ≡ length self.now.taken }
     {
-        self.taken.len()
+        self.takes
     }
 
     /// The live threads whose last call the last command finished.
@@ -215,8 +211,7 @@ impl Course {
         requires { IsTrue (is_live self.now.entries thread) }
         ensures { result ≡ made_by self.now.entries thread }
     {
-        self.desks
-            .made(&self.history.whole(), self.taken.past(), thread)
+        self.desks.made(thread)
     }
 
     /// How many outcomes of calls of a live thread were taken.
@@ -224,8 +219,7 @@ impl Course {
         requires { IsTrue (is_live self.now.entries thread) }
         ensures { result ≡ taken_by self.now.entries self.now.taken thread }
     {
-        self.desks
-            .taken(&self.history.whole(), self.taken.past(), thread)
+        self.desks.taken(thread)
     }
 
     /// Whether the outcome of a live thread's last call was not yet taken.
@@ -233,61 +227,56 @@ impl Course {
         requires { IsTrue (is_live self.now.entries thread) }
         ensures { result ≡ is_busy self.now.entries self.now.taken thread }
     {
-        self.desks
-            .is_busy(&self.history.whole(), self.taken.past(), thread)
+        self.desks.is_busy(thread)
     }
 
     /// How many threads are live.
     pub(crate) fn live(&self) -> u64
         ensures { result ≡ live_threads self.now.entries }
     {
-        self.waiting.slots().live_threads(&self.history.whole())
+        self.waiting.slots().live_threads()
     }
 
     /// Whether a thread is live.
     pub(crate) fn is_live(&self, thread: ThreadId) -> bool
         ensures { result ≡ is_live self.now.entries thread }
     {
-        self.waiting.slots().is_live(&self.history.whole(), thread)
+        self.waiting.slots().is_live(thread)
     }
 
     /// Whether a thread of a number is live.
     pub(crate) fn is_taken(&self, number: u32) -> bool
         ensures { result ≡ is_taken self.now.entries number }
     {
-        self.waiting.slots().is_taken(&self.history.whole(), number)
+        self.waiting.slots().is_taken(number)
     }
 
     /// The version that the next thread of a number gets; None where the number is worn out.
     pub(crate) fn next_version_of(&self, number: u32) -> Option<u32>
         ensures { result ≡ next_version self.now.entries number }
     {
-        self.waiting
-            .slots()
-            .next_version_of(&self.history.whole(), number)
+        self.waiting.slots().next_version_of(number)
     }
 
     /// The open call of a thread.
     pub(crate) fn open_call_of(&self, thread: ThreadId) -> Option<u64>
         ensures { result ≡ open_call self.now.entries thread }
     {
-        self.waiting
-            .slots()
-            .open_call_of(&self.history.whole(), thread)
+        self.waiting.slots().open_call_of(thread)
     }
 
     /// How many calls are open.
     pub(crate) fn open_calls(&self) -> usize
         ensures { result ≡ open_calls self.now.entries }
     {
-        self.waiting.slots().open_calls(&self.history.whole())
+        self.waiting.slots().open_calls()
     }
 
     /// How many calls were made.
     pub(crate) fn calls_made(&self) -> u64
         ensures { result ≡ calls_made self.now.entries }
     {
-        self.waiting.slots().calls_made(&self.history.whole())
+        self.waiting.slots().calls_made()
     }
 
     /// The next output.
@@ -301,9 +290,7 @@ impl Course {
     pub(crate) fn pledged_for_calls(&self) -> u128
         ensures { result ≡ sum_by (pledge_of self.now.entries) (numbers self.now.entries) }
     {
-        self.waiting
-            .slots()
-            .pledged_for_calls(&self.history.whole())
+        self.waiting.slots().pledged_for_calls()
     }
 
     /// Whether a waiting phase is due at a moment. Looks at no thread.
@@ -311,14 +298,14 @@ impl Course {
         requires { moment < last_moment + 1 }
         ensures { result ≡ list_any (is_due_at self.now.entries moment) (numbers self.now.entries) }
     {
-        self.waiting.is_any_due_at(&self.history.whole(), moment)
+        self.waiting.is_any_due_at(moment)
     }
 
     /// The least moment at which a waiting phase is due. Looks at no thread.
     pub(crate) fn least_due(&self) -> Option<u64>
         ensures { IsLeastDue self.now.entries result }
     {
-        self.waiting.least_due(&self.history.whole())
+        self.waiting.least_due()
     }
 
     /// The least call in transfer, and how many of its bytes are copied next.
@@ -327,7 +314,7 @@ impl Course {
         ensures some { IfSome result (λ next. (next_moving self.now.entries ≡ Some next.0)
             × (next.1 ≡ block_of self.now.entries next.0)) }
     {
-        self.waiting.slots().next_block(&self.history.whole())
+        self.waiting.slots().next_block()
     }
 
     /// What ExchangeRegisters answers to a live thread about a target.
@@ -336,9 +323,7 @@ impl Course {
         requires { IsTrue (is_live self.now.entries thread) }
         ensures { result ≡ exreg_answer self.now.entries thread target }
     {
-        let entries = self.history.whole();
-        let slots = self.waiting.slots();
-        if slots.is_live_beside(&entries, target, thread) {
+        if self.waiting.slots().is_live_beside(target, thread) {
             ExregAnswer {
                 result: target,
                 control: self.phases_of(target),
@@ -358,13 +343,12 @@ impl Course {
     fn phases_of(&self, thread: ThreadId) -> Control
         ensures { result ≡ phases_of self.now.entries thread }
     {
-        let entries = self.history.whole();
-        let receive = if self.waiting.slots().is_in_receive_phase(&entries, thread) {
+        let receive = if self.waiting.slots().is_in_receive_phase(thread) {
             2
         } else {
             0
         };
-        let send = if self.waiting.slots().is_in_send_phase(&entries, thread) {
+        let send = if self.waiting.slots().is_in_send_phase(thread) {
             4
         } else {
             0
@@ -478,14 +462,9 @@ impl Course {
         ensures taken { self.new.taken ≡ self.old.taken }
         ensures since { self.new.since ≡ self.old.since }
     {
-        let entries = self.history.whole();
-        self.keeping.fill(
-            &entries,
-            self.taken.past(),
-            self.waiting.slots(),
-            &self.desks,
-            &self.partners,
-        );
+        let _ = self.desks.kept();
+        self.keeping
+            .fill(self.waiting.slots(), &self.desks, &self.partners);
         self.history.compact(upto, &self.keeping);
     }
 
@@ -504,10 +483,8 @@ impl Course {
         ensures since { self.new.since ≡ self.old.since }
         ensures held { self.new.held ≡ self.old.held }
     {
-        let outcome = self
-            .desks
-            .take(&self.history.whole(), self.taken.past(), thread)?;
-        self.taken.add(outcome.call);
+        let outcome = self.desks.take(thread)?;
+        self.takes += 1;
         Some(outcome)
     }
 
@@ -522,17 +499,10 @@ impl Course {
         ensures room { self.new.room ≡ self.old.room }
         ensures books { SameBooks self.old self.new }
     {
-        let entries = self.history.whole();
-        let ended = note(
-            &mut self.desks,
-            &entries,
-            self.taken.past(),
-            self.waiting.slots(),
-            &entry,
-            copies,
-        );
-        self.partners.note(&entries, self.waiting.slots(), &entry);
-        self.waiting.note(&entries, &entry);
+        let hint = self.history.whole().next_place();
+        let ended = note(&mut self.desks, self.waiting.slots(), &entry, copies);
+        self.partners.note(self.waiting.slots(), &entry);
+        self.waiting.note(&entry, hint);
         add(&mut self.finished, ended.first);
         add(&mut self.finished, ended.second);
         self.history.push(entry);
@@ -563,7 +533,7 @@ impl Course {
         ensures room { self.new.room ≡ self.old.room }
         ensures books { SameBooks self.old self.new }
     {
-        if self.waiting.slots().now(&self.history.whole()) < moment {
+        if self.waiting.slots().now() < moment {
             self.append(Entry::Given(Input::At(moment)), None);
         }
     }
@@ -641,32 +611,24 @@ impl Course {
     }
 }
 
-/// Notes an entry at the desks, and says whose call it ended.
-fn note(
-    desks: &mut Desks,
-    entries: &Entries,
-    taken: &Past<u64>,
-    slots: &Slots,
-    entry: &Entry,
-    copies: Option<Prepared>,
-) -> Finished
-    requires legal { Legal entries.now }
-    requires follows { Follows entries.now entry.now }
-    requires stands { Stands entries.now slots.now }
-    requires keeps { Keeps entries.now taken.now desks.old }
-    requires idle { ComesIdle entries.now taken.now entry.now }
+/// Notes an entry at the desks, and says whose call it ended. The slots are those of the entries before it.
+fn note(desks: &mut Desks, slots: &Slots, entry: &Entry, copies: Option<Prepared>) -> Finished
+    requires past { slots.now.past ≡ desks.old.past }
+    requires follows { Follows desks.old.past entry.now }
+    requires idle { ComesIdle desks.old.past desks.old.taken entry.now }
     requires copies { HasCopies entry.now copies }
-    ensures keeps { Keeps (entries.now ++ entry.now ∷ []) taken.now desks.new }
-    ensures finished { (t : ℕ) → is_named result t ≡ finishes entries.now entry.now t }
+    ensures past { desks.new.past ≡ desks.old.past ++ entry.now ∷ [] }
+    ensures taken { desks.new.taken ≡ desks.old.taken }
+    ensures finished { (t : ℕ) → is_named result t ≡ finishes desks.old.past entry.now t }
 {
     match entry {
         Entry::Given(Input::Called(number, caller, call)) => match copies {
             Some(copies) => {
-                desks.note_called(entries, taken, slots, *number, *caller, call.call(), copies)
+                desks.note_called(slots, entry, *number, *caller, call.call(), copies)
             }
             None => unreachable!(),
         },
-        _ => desks.note(entries, taken, slots, entry),
+        _ => desks.note(slots, entry),
     }
 }
 

@@ -11,7 +11,6 @@ mod refusal;
 mod room;
 #[cfg(test)]
 mod row_tests;
-mod taken;
 #[cfg(test)]
 mod tests;
 

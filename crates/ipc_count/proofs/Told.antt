@@ -2,14 +2,14 @@
 use Rattle.std.proofs.Common.{◌≡◌, sym, ap, ◌∙◌, ℕ, ◌+◌, ◌<◌, ◌≤◌, List, [], ◌∷◌, ◌++◌, length, take, get_or, Option, append_assoc, append-nil}
 use Rattle.std.proofs.lemmas.List.{take_all, take_more}
 use Rattle.ipc_history.specs.declared.entry.Entry.{Entry}
-use Rattle.ipc_slots.specs.declared.slots.Slots.{Slots}
-use Rattle.ipc_state.proofs.Walks.{IsWalked, walked_whole}
+use Rattle.ipc_slots.specs.PastSlots.{PastSlots}
+use Rattle.ipc_state.proofs.Walks.{IsWalked}
 use Rattle.ipc_count.specs.Events.{event_in, events_after, events_in, one}
 use Rattle.ipc_count.specs.Walked.{IsTold}
 use Rattle.ipc_count.specs.declared.event.Event.{Event}
 
 -- the entries before a place, and what they add
-pub record IsToldTo (H : List Entry) (i : ℕ) (past : List Entry) (slots : Slots) (events : List Event) : Type 0 where
+pub record IsToldTo (H : List Entry) (i : ℕ) (past : List Entry) (slots : PastSlots) (events : List Event) : Type 0 where
   pub walked : IsWalked H i past slots
   pub told : events ≡ events_in (take i H)
 
@@ -32,8 +32,8 @@ told_more H before i e event old new within at same told is added =
     added ∙ ap (λ l. l ++ one event) told ∙ ap (λ o. events_in (take i H) ++ one o) (is ∙ ap (λ P. event_in P e) same)
     ∙ sym (more [] (take i H) e) ∙ ap (λ x. events_in (take i H ++ x ∷ [])) at ∙ ap events_in (sym (take_more H i e within))
 
-pub told_whole : (H past : List Entry) (i : ℕ) (slots : Slots) (events : List Event) → length H ≤ i → IsToldTo H i past slots events → IsTold H events
+pub told_whole : (H past : List Entry) (i : ℕ) (slots : PastSlots) (events : List Event) → length H ≤ i → IsToldTo H i past slots events → IsTold H events
 told_whole H past i slots events all to = record {
-  legal = (walked_whole H past i slots all to.walked).legal;
+  legal = rw (take_all i H all) at to.walked.legal;
   events_are = to.told ∙ ap events_in (take_all i H all);
 }

@@ -1,13 +1,12 @@
 ghost use Rattle.std.specs.Prelude.{◌≡◌, IsFalse};
-ghost use Rattle.ipc_history.specs.Legal.{Follows, Legal};
+ghost use Rattle.ipc_history.specs.Legal.{Follows};
 ghost use Rattle.ipc_history.specs.Phases.{is_over};
 ghost use Rattle.ipc_history.specs.declared.entry.Entry.TheVariants.{Written};
-ghost use Rattle.ipc_slots.specs.Slots.{Stands};
 ghost use Rattle.ipc_slots.specs.Standings.{standing_of};
 ghost use Rattle.ipc_slots.specs.Steps.{Names};
 ghost use Rattle.ipc_count.specs.Events.{called, event_in, failed, given_in, met, written_in};
 
-use ipc_history::{Call, Entries, Entry, Input, Output};
+use ipc_history::{Call, Entry, Input, Output};
 use ipc_slots::{Slots, Standing};
 use ipc_words::{IpcError, Phase, ThreadId};
 
@@ -40,17 +39,15 @@ pub enum Happening {
     Failure,
 }
 
-// What the next entry of a history adds, of which these are the entries before it.
+// What the next entry of a history adds, of which these are the slots before it.
 #[tactic(auto, unfolding(crate::specs::Events::event_in))]
-pub(crate) fn event_of(slots: &Slots, before: &Entries, entry: &Entry) -> Option<Event>
-    requires legal { Legal before.now }
-    requires follows { Follows before.now entry.now }
-    requires stands { Stands before.now slots.now }
-    ensures { result ≡ event_in before.now entry.now }
+pub(crate) fn event_of(slots: &Slots, entry: &Entry) -> Option<Event>
+    requires { Follows slots.now.past entry.now }
+    ensures { result ≡ event_in slots.now.past entry.now }
 {
     match entry {
         Entry::Given(input) => input_event(input),
-        Entry::Written(output) => output_event(slots, before, output),
+        Entry::Written(output) => output_event(slots, output),
     }
 }
 
@@ -88,48 +85,37 @@ fn called(caller: ThreadId, call: &Call) -> Event
 }
 
 // What the next output adds.
-fn output_event(slots: &Slots, before: &Entries, output: &Output) -> Option<Event>
-    requires legal { Legal before.now }
-    requires follows { Follows before.now (Written output.now) }
-    requires stands { Stands before.now slots.now }
-    ensures { result ≡ written_in before.now output.now }
+fn output_event(slots: &Slots, output: &Output) -> Option<Event>
+    requires { Follows slots.now.past (Written output.now) }
+    ensures { result ≡ written_in slots.now.past output.now }
 {
     match *output {
         Output::Began(_, _) => None,
         Output::Turned(_, _) => None,
         Output::Ended(sending, receiving) => {
-            Some(meeting(slots, before, output, sending, receiving, true))
+            Some(meeting(slots, output, sending, receiving, true))
         }
         Output::Overflowed(sending, receiving, _) => {
-            Some(meeting(slots, before, output, sending, receiving, false))
+            Some(meeting(slots, output, sending, receiving, false))
         }
         Output::Aborted(sending, receiving, _) => {
-            Some(meeting(slots, before, output, sending, receiving, false))
+            Some(meeting(slots, output, sending, receiving, false))
         }
-        Output::Failed(number, error) => Some(failure(slots, before, output, number, error)),
+        Output::Failed(number, error) => Some(failure(slots, output, number, error)),
     }
 }
 
 // The pair of the two calls that the next output names, and whether the message came whole.
 #[tactic(auto, unfolding(ipc_slots::specs::Standings::standing_of))]
-fn meeting(
-    slots: &Slots,
-    before: &Entries,
-    output: &Output,
-    sending: u64,
-    receiving: u64,
-    is_whole: bool,
-) -> Event
-    requires legal { Legal before.now }
-    requires follows { Follows before.now (Written output.now) }
-    requires stands { Stands before.now slots.now }
+fn meeting(slots: &Slots, output: &Output, sending: u64, receiving: u64, is_whole: bool) -> Event
+    requires follows { Follows slots.now.past (Written output.now) }
     requires named { Names output.now sending receiving }
-    ensures { result ≡ met before.now sending receiving is_whole }
+    ensures { result ≡ met slots.now.past sending receiving is_whole }
 {
     let _ = output;
-    let sender = open_call(slots, before, sending);
-    let receiver = open_call(slots, before, receiving);
-    let moment = slots.moment();
+    let sender = open_call(slots, sending);
+    let receiver = open_call(slots, receiving);
+    let moment = slots.now();
     let what = if is_whole {
         Happening::Message {
             bytes: sender.size,
@@ -148,15 +134,13 @@ fn meeting(
 
 // The pair of the phase of a call that fails by the next output.
 #[tactic(auto, unfolding(ipc_slots::specs::Standings::standing_of))]
-fn failure(slots: &Slots, before: &Entries, output: &Output, number: u64, error: IpcError) -> Event
-    requires legal { Legal before.now }
-    requires follows { Follows before.now (Written output.now) }
-    requires stands { Stands before.now slots.now }
+fn failure(slots: &Slots, output: &Output, number: u64, error: IpcError) -> Event
+    requires follows { Follows slots.now.past (Written output.now) }
     requires named { Names output.now number number }
-    ensures { result ≡ failed before.now number error }
+    ensures { result ≡ failed slots.now.past number error }
 {
     let _ = output;
-    let call = open_call(slots, before, number);
+    let call = open_call(slots, number);
     match error.phase() {
         Phase::Send => Event {
             from: call.caller,
@@ -172,14 +156,12 @@ fn failure(slots: &Slots, before: &Entries, output: &Output, number: u64, error:
 }
 
 // An open call, by its number.
-fn open_call(slots: &Slots, before: &Entries, number: u64) -> Standing
-    requires legal { Legal before.now }
-    requires stands { Stands before.now slots.now }
-    requires open { IsFalse (is_over before.now number) }
-    ensures { result ≡ standing_of before.now number }
+fn open_call(slots: &Slots, number: u64) -> Standing
+    requires { IsFalse (is_over slots.now.past number) }
+    ensures { result ≡ standing_of slots.now.past number }
 {
-    let place = slots.place_of(before, number);
-    match slots.call_at(place) {
+    let place = slots.place_of(number);
+    match slots.kept().call_at(place) {
         Some(call) => call,
         None => unreachable!(),
     }

@@ -36,11 +36,11 @@ pub fn events_of(alloc: Global, entries: &[Entry]) -> Result<Vec<Event>, CountFa
         if !slots.follows(&before, entry) {
             return Err(CountFault::Illegal(index));
         }
-        let event = event_of(&slots, &before, entry);
+        let event = event_of(&slots, entry);
         let Ok(()) = add(&mut events, event) else {
             return Err(CountFault::NoMemory);
         };
-        let _ = slots.note(&before, entry);
+        let _ = slots.note(entry, index);
         past.add(entry);
     }
     Ok(events)

@@ -1,7 +1,7 @@
 -- The desks of the empty history.
 use Rattle.std.proofs.lemmas.Bool.{false≢true}
 use Rattle.std.proofs.lemmas.List.{length-replicate}
-use Rattle.std.proofs.Common.{◌≡◌, refl, sym, ap, ◌∙◌, ℕ, zero, suc, zero-le, List, [], length}
+use Rattle.std.proofs.Common.{◌≡◌, refl, sym, ap, ◌∙◌, ℕ, zero, suc, List, [], length}
 use Rattle.std.specs.Prelude.{replicate}
 use Rattle.ipc_words.specs.Limits.{table_slots}
 use Rattle.ipc_slots.specs.Slots.{live_of}

@@ -1,5 +1,5 @@
 -- What one more entry makes of what is kept for a call.
-use Rattle.std.proofs.Common.{◌≡◌, refl, sym, ap, ◌∙◌, ℕ, Bool, true, false, ◌||◌, ◌&&◌, ◌==◌, not, if◌then◌else◌, List, [], ◌∷◌, ◌++◌, Option, Some, None, arith}
+use Rattle.std.proofs.Common.{◌≡◌, refl, ap, ◌∙◌, ℕ, Bool, true, false, ◌||◌, ◌&&◌, ◌==◌, if◌then◌else◌, List, [], ◌∷◌, ◌++◌, arith}
 use Rattle.std.specs.Option.{option_map_or}
 use Rattle.ipc_words.specs.ThreadId.{nilthread}
 use Rattle.ipc_history.specs.Entries.{breaks, closes, ends_send}
@@ -10,14 +10,13 @@ use Rattle.ipc_history.specs.Legal.{Legal, Follows}
 use Rattle.ipc_history.specs.Outcomes.{outcome_of}
 use Rattle.ipc_history.specs.declared.entry.Entry.{Entry}
 use Rattle.ipc_laws.proofs.Changing.{changes}
-use Rattle.ipc_laws.proofs.Growth.{buffers_of_kept, caller_of_kept, originator_of_kept, over_kept, strings_of_kept, tag_of_kept, to_of_kept, words_of_kept}
+use Rattle.ipc_laws.proofs.Growth.{buffers_of_kept, caller_of_kept, originator_of_kept, strings_of_kept, tag_of_kept, to_of_kept, words_of_kept}
 use Rattle.ipc_laws.proofs.Lasting.{outcome_kept}
 use Rattle.ipc_laws.proofs.Settling.{legal_push}
 use Rattle.ipc_laws.proofs.ThreadChanges.{has_broken_push}
 use Rattle.ipc_desks.specs.CallsOf.{is_among}
 use Rattle.ipc_desks.specs.Desks.{is_unsent, message_at, told_at}
 use Rattle.ipc_desks.specs.Messages.{message_of}
-use Rattle.ipc_desks.specs.declared.desk.Told.{Told}
 use Rattle.ipc_desks.specs.declared.desk.Told.TheVariants.{Nothing, Waiting, Ready}
 
 pub message_kept : (P Q : List Entry) (n : ℕ) → is_called P n ≡ true → message_of (P ++ Q) n ≡ message_of P n

@@ -1,17 +1,15 @@
 -- What a call that is entered makes of the desks.
 use Rattle.std.proofs.lemmas.Bool.{false≢true, false_from_ne_true, ne_eqb, cases_eq}
-use Rattle.std.proofs.lemmas.Option.{none-some, same_Some}
-use Rattle.std.proofs.Common.{◌≡◌, ◌≢◌, refl, sym, ap, ◌∙◌, ℕ, ◌+◌, ◌≤◌, ◌<◌, ◌^◌, add-zero, Bool, true, false, ◌||◌, ◌&&◌, ◌==◌, not, eqb-true, eq-eqb, if◌then◌else◌, List, [], ◌∷◌, ◌++◌, length, Option, Some, None, is_some, option_and_then, unwrap_or, inl, inr, ◌⊎◌, arith}
+use Rattle.std.proofs.Common.{◌≡◌, ◌≢◌, refl, sym, ap, ◌∙◌, ℕ, ◌+◌, ◌<◌, ◌^◌, add-zero, Bool, true, false, ◌||◌, ◌&&◌, ◌==◌, not, eq-eqb, if◌then◌else◌, List, [], ◌∷◌, ◌++◌, Option, Some, None, unwrap_or, inl, inr, ◌⊎◌, arith}
 use Rattle.std.specs.List.{list_any}
-use Rattle.std.specs.Option.{option_map_or, option_or}
+use Rattle.std.specs.Option.{option_map_or}
 use Rattle.ipc_words.specs.ThreadId.{nilthread, number_of}
 use Rattle.ipc_history.specs.CallParts.{CallParts}
-use Rattle.ipc_history.specs.Words.{first_some}
 use Rattle.ipc_history.specs.Entries.{names, calls, closes, ends_send}
-use Rattle.ipc_history.specs.Calls.{is_called, caller_of, to_of, from_of, tag_of, originator_of, words_of, strings_of, buffers_of, calls_made}
+use Rattle.ipc_history.specs.Calls.{is_called, caller_of, to_of, from_of, tag_of, originator_of, words_of, strings_of, buffers_of}
 use Rattle.ipc_history.specs.Threads.{is_live, has_broken, now}
 use Rattle.ipc_history.specs.Phases.{is_sent, is_over}
-use Rattle.ipc_history.specs.Outcomes.{nothing, outcome_in, outcome_of, timed}
+use Rattle.ipc_history.specs.Outcomes.{nothing, outcome_of, timed}
 use Rattle.ipc_history.specs.Legal.{Legal, Follows}
 use Rattle.ipc_history.specs.declared.entry.Entry.{Entry}
 use Rattle.ipc_history.specs.declared.entry.Entry.TheVariants.{Given, Written}
@@ -25,8 +23,7 @@ use Rattle.ipc_laws.proofs.Histories.{follows_at, named_open}
 use Rattle.ipc_laws.proofs.Numbering.{calls_called, entered as entered_free}
 use Rattle.ipc_laws.proofs.OneOpen.{caller_at, free_parts}
 use Rattle.ipc_laws.proofs.Places.{any_at, any_place}
-use Rattle.ipc_laws.proofs.Settling.{legal_push}
-use Rattle.ipc_laws.proofs.Tests.{not_both, left, right}
+use Rattle.ipc_laws.proofs.Tests.{not_both}
 use Rattle.ipc_laws.proofs.ThreadChanges.{has_broken_push, is_live_push}
 use Rattle.ipc_laws.proofs.Told.{told_none}
 use Rattle.ipc_slots.specs.Slots.{live_of}
@@ -35,16 +32,13 @@ use Rattle.ipc_slots.proofs.SlotSteps.{live_kept}
 use Rattle.ipc_desks.specs.CallsOf.{is_among, is_busy, last_call, made_by, taken_by}
 use Rattle.ipc_desks.specs.Desks.{Keeps, blank_desk, desk_at, desk_of, is_unsent, message_at, one_if, thread_desk, told_at}
 use Rattle.ipc_desks.specs.Finishes.{ends_call, finishes, is_named}
-use Rattle.ipc_desks.specs.Messages.{MessageParts, message_in, message_of, prepared}
+use Rattle.ipc_desks.specs.Messages.{message_in, message_of, prepared}
 use Rattle.ipc_desks.specs.Steps.{Changed, entered, entered_told}
 use Rattle.ipc_desks.specs.declared.desk.Desk.{Desk}
-use Rattle.ipc_desks.specs.declared.desk.Told.{Told}
 use Rattle.ipc_desks.specs.declared.desk.Told.TheVariants.{Nothing, Waiting, Ready}
-use Rattle.ipc_desks.specs.declared.finished.Finished.{Finished}
 use Rattle.ipc_desks.proofs.LastCalls.{absent, last_is, last_push, made_push, made_within, new_call_at}
 use Rattle.ipc_desks.proofs.CallDesks.{over_same}
-use Rattle.ipc_desks.proofs.DeskSteps.{desk_by, taken_by_same, thread_desk_same}
-use Rattle.ipc_desks.proofs.Finishing.{same_tests}
+use Rattle.ipc_desks.proofs.DeskSteps.{taken_by_same, thread_desk_same}
 
 bool_cases : (b : Bool) → (b ≡ true) ⊎ (b ≡ false)
 bool_cases true = inl refl

@@ -1,29 +1,24 @@
 -- What one more entry makes of the desks.
-use Rattle.std.proofs.lemmas.Bool.{false≢true, false_from_ne_true, ne_eqb, cases_eq}
-use Rattle.std.proofs.lemmas.Option.{none-some, same_Some}
-use Rattle.std.proofs.Common.{◌≡◌, ◌≢◌, refl, sym, ap, ◌∙◌, ℕ, ◌+◌, ◌≤◌, ◌<◌, Bool, true, false, ◌||◌, ◌&&◌, ◌==◌, not, eqb-true, eq-eqb, if◌then◌else◌, List, [], ◌∷◌, ◌++◌, length, count_by, Option, Some, None, option_and_then, inl, inr, ◌⊎◌, arith}
-use Rattle.std.specs.List.{list_any}
-use Rattle.std.specs.Option.{option_map_or, option_or}
+use Rattle.std.proofs.Common.{◌≡◌, refl, ℕ, true, false, ◌==◌, eq-eqb, List, [], ◌∷◌, ◌++◌, length, Option, Some, None, option_and_then}
+use Rattle.std.specs.Option.{option_map_or}
 use Rattle.ipc_words.specs.Limits.{table_slots}
-use Rattle.ipc_words.specs.ThreadId.{nilthread, number_of}
-use Rattle.ipc_history.specs.Words.{last_some}
-use Rattle.ipc_history.specs.Entries.{breaks, closes, ends_send, number_in, opens, thread_in}
-use Rattle.ipc_history.specs.Calls.{is_called, caller_of}
-use Rattle.ipc_history.specs.Threads.{has_broken, is_live, was_opened}
+use Rattle.ipc_words.specs.ThreadId.{number_of}
+use Rattle.ipc_history.specs.Entries.{breaks, closes, ends_send, number_in}
+use Rattle.ipc_history.specs.Calls.{caller_of}
+use Rattle.ipc_history.specs.Threads.{has_broken, is_live}
 use Rattle.ipc_history.specs.Phases.{is_over}
 use Rattle.ipc_history.specs.Legal.{Legal, Follows}
 use Rattle.ipc_history.specs.declared.entry.Entry.{Entry}
 use Rattle.ipc_laws.proofs.Endings.{live_unbroken}
-use Rattle.ipc_laws.proofs.Growth.{caller_of_kept, is_called_kept, open_is_called, over_kept}
+use Rattle.ipc_laws.proofs.Growth.{is_called_kept, over_kept}
 use Rattle.ipc_laws.proofs.OpenCalls.{caller_lives}
-use Rattle.ipc_laws.proofs.Places.{Place, any_at}
+use Rattle.ipc_laws.proofs.Places.{any_at}
 use Rattle.ipc_laws.proofs.Steps.{call_at_push}
 use Rattle.ipc_laws.proofs.Sums.{count_agrees}
-use Rattle.ipc_laws.proofs.Tests.{not_both}
 use Rattle.ipc_slots.specs.Slots.{live_of}
 use Rattle.ipc_slots.proofs.Holders.{live_of_at, live_of_is}
 use Rattle.ipc_desks.specs.CallsOf.{is_among, is_busy, last_call, made_by, taken_by}
-use Rattle.ipc_desks.specs.Desks.{Keeps, blank_desk, desk_at, desk_of, message_at, one_if, thread_desk, told_at}
+use Rattle.ipc_desks.specs.Desks.{Keeps, blank_desk, desk_at, desk_of, message_at, thread_desk, told_at}
 use Rattle.ipc_desks.specs.declared.desk.Desk.{Desk}
 use Rattle.ipc_desks.specs.declared.desk.Told.TheVariants.{Nothing}
 use Rattle.ipc_desks.proofs.LastCalls.{last_is, last_kept, made_kept, open_is_last}

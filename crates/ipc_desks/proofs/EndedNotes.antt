@@ -1,9 +1,8 @@
 -- What the program does where a transfer ends well is right.
-use Rattle.std.proofs.Common.{◌≡◌, refl, sym, ap, ◌∙◌, subst, ℕ, ◌≤◌, Bool, true, false, not, ◌==◌, List, [], ◌∷◌, ◌++◌, length, Option, Some, None, arith}
+use Rattle.std.proofs.Common.{◌≡◌, sym, ap, ◌∙◌, subst, ℕ, ◌≤◌, true, not, ◌==◌, List, [], ◌∷◌, ◌++◌, length, Some, None}
 use Rattle.ipc_words.specs.ThreadId.{nilthread, number_of}
 use Rattle.ipc_items.specs.declared.buffer_list.Substring.{Substring}
-use Rattle.ipc_history.specs.Calls.{caller_of, from_of, buffers_of, strings_of}
-use Rattle.ipc_history.specs.Matching.{shown_sender}
+use Rattle.ipc_history.specs.Calls.{caller_of, from_of, buffers_of}
 use Rattle.ipc_history.specs.Outcomes.{HasItsWords, OutcomeParts, nothing, received, timed}
 use Rattle.ipc_history.specs.Threads.{now}
 use Rattle.ipc_laws.proofs.ReceivedWords.{received_counted}

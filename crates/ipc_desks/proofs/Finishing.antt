@@ -1,21 +1,17 @@
 -- Whose call an entry ends.
-use Rattle.std.proofs.lemmas.Bool.{false≢true, false_from_ne_true, or_cases}
-use Rattle.std.proofs.lemmas.Option.{none-some, same_Some}
-use Rattle.std.proofs.Common.{◌≡◌, refl, sym, ap, ◌∙◌, ℕ, Bool, true, false, ◌||◌, ◌&&◌, ◌==◌, not, eqb-true, eq-eqb, List, [], ◌∷◌, ◌++◌, Option, Some, None, inl, inr, ◌⊎◌, arith}
+use Rattle.std.proofs.lemmas.Bool.{false≢true, false_from_ne_true}
+use Rattle.std.proofs.Common.{◌≡◌, refl, sym, ap, ◌∙◌, ℕ, Bool, true, false, ◌||◌, ◌&&◌, ◌==◌, not, List, [], ◌∷◌, ◌++◌, Option, Some, None, arith}
 use Rattle.std.specs.Option.{option_map_or}
 use Rattle.ipc_words.specs.ThreadId.{nilthread}
-use Rattle.ipc_history.specs.Entries.{breaks, calls, closes, ends_send, number_in, opens}
-use Rattle.ipc_history.specs.Calls.{is_called, caller_of, from_of}
+use Rattle.ipc_history.specs.Entries.{breaks, calls, closes, ends_send, number_in}
+use Rattle.ipc_history.specs.Calls.{caller_of, from_of}
 use Rattle.ipc_history.specs.Threads.{is_live}
 use Rattle.ipc_history.specs.Phases.{is_over}
 use Rattle.ipc_history.specs.Legal.{Legal, Follows}
 use Rattle.ipc_history.specs.declared.entry.Entry.{Entry}
 use Rattle.ipc_laws.proofs.Changing.{changes}
 use Rattle.ipc_laws.proofs.Growth.{open_is_called}
-use Rattle.ipc_laws.proofs.OpenCalls.{caller_lives}
-use Rattle.ipc_laws.proofs.Settling.{legal_push}
 use Rattle.ipc_laws.proofs.Tests.{left, not_both, refuted, right}
-use Rattle.ipc_laws.proofs.ThreadChanges.{is_live_push}
 use Rattle.ipc_desks.specs.CallsOf.{last_call}
 use Rattle.ipc_desks.specs.Finishes.{ends_call, finishes}
 use Rattle.ipc_desks.proofs.LastCalls.{last_is, last_kept, open_is_last}

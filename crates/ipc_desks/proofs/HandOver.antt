@@ -1,15 +1,13 @@
 -- What is handed over where a transfer ends well.
 use Rattle.std.proofs.lemmas.Bool.{false≢true, true≢false, false_from_ne_true}
-use Rattle.std.proofs.Common.{◌≡◌, ◌≢◌, refl, sym, ap, ◌∙◌, ℕ, ◌+◌, ◌≤◌, ◌==◌, ◌||◌, ◌&&◌, not, eqb-true, eq-eqb, if◌then◌else◌, Bool, true, false, List, [], ◌∷◌, ◌++◌, length, Option, Some, None, arith}
+use Rattle.std.proofs.Common.{◌≡◌, ◌≢◌, refl, sym, ap, ◌∙◌, ℕ, ◌≤◌, ◌==◌, ◌||◌, ◌&&◌, eqb-true, eq-eqb, if◌then◌else◌, Bool, true, false, List, [], ◌∷◌, ◌++◌, length, Some, arith}
 use Rattle.std.specs.List.{list_any}
 use Rattle.ipc_words.specs.MsgTag.{propagates}
-use Rattle.ipc_words.specs.ThreadId.{number_of, nilthread}
-use Rattle.ipc_items.specs.declared.buffer_list.Substring.{Substring}
+use Rattle.ipc_words.specs.ThreadId.{number_of}
 use Rattle.ipc_history.specs.Words.{before}
 use Rattle.ipc_history.specs.Entries.{calls}
-use Rattle.ipc_history.specs.Calls.{is_called, caller_of, originator_of, tag_of, strings_of, buffers_of, to_of}
+use Rattle.ipc_history.specs.Calls.{is_called, caller_of, originator_of, tag_of, strings_of, buffers_of}
 use Rattle.ipc_history.specs.Threads.{is_live, space_of}
-use Rattle.ipc_history.specs.Phases.{is_over, is_sent}
 use Rattle.ipc_history.specs.Matching.{before_call, is_propagated, shown_sender}
 use Rattle.ipc_history.specs.Outcomes.{received}
 use Rattle.ipc_history.specs.Legal.{Legal, Follows}
@@ -24,12 +22,10 @@ use Rattle.ipc_laws.proofs.Numbering.{called_below, calls_called, entered, numbe
 use Rattle.ipc_laws.proofs.OneOpen.{caller_at, free_parts}
 use Rattle.ipc_laws.proofs.Pairing.{legal_before, unsent_running}
 use Rattle.ipc_laws.proofs.PhaseParts.{meets_parts}
-use Rattle.ipc_laws.proofs.Tests.{not_both}
-use Rattle.ipc_desks.specs.Desks.{Keeps, desk_at, desk_of, is_unsent, message_at, told_at}
-use Rattle.ipc_desks.specs.Messages.{MessageParts, delivered, is_shown, message_of}
-use Rattle.ipc_desks.specs.Steps.{Changed, Moved, buffers_in, emptied, unbuffered}
+use Rattle.ipc_desks.specs.Desks.{Keeps, desk_at, is_unsent}
+use Rattle.ipc_desks.specs.Messages.{delivered, is_shown, message_of}
+use Rattle.ipc_desks.specs.Steps.{Changed, buffers_in, emptied}
 use Rattle.ipc_desks.specs.declared.desk.Desk.{Desk}
-use Rattle.ipc_desks.specs.declared.desk.Told.TheVariants.{Nothing, Waiting, Ready}
 use Rattle.ipc_desks.proofs.DeskSteps.{desk_open}
 use Rattle.ipc_desks.proofs.MessageLemmas.{fitting-length}
 use Rattle.ipc_desks.proofs.OutputDesks.{ended_apart, passes, places_apart, untaken}

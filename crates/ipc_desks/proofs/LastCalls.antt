@@ -1,9 +1,8 @@
 -- The last call of a thread, and how many calls it made.
-use Rattle.std.proofs.lemmas.Bool.{false≢true, false_from_ne_true, ne_eqb}
+use Rattle.std.proofs.lemmas.Bool.{false≢true, false_from_ne_true}
 use Rattle.std.proofs.lemmas.Option.{none-some, cond_some}
 use Rattle.std.proofs.lemmas.List.Sums.{sum_by_push, sum_by-cons}
-use Rattle.std.proofs.Common.{◌≡◌, ◌≢◌, refl, sym, ap, ◌∙◌, ℕ, suc, zero-le, ◌+◌, ◌≤◌, ◌<◌, add-zero, Bool, true, false, ◌==◌, ◌&&◌, not, eqb-true, eq-eqb, cond, if◌then◌else◌, List, [], ◌∷◌, ◌++◌, length, count_by, Option, Some, None, is_some, arith}
-use Rattle.std.specs.List.{list_any}
+use Rattle.std.proofs.Common.{◌≡◌, refl, sym, ap, ◌∙◌, ℕ, suc, zero-le, ◌+◌, ◌≤◌, ◌<◌, add-zero, Bool, true, false, ◌==◌, eqb-true, eq-eqb, cond, List, [], ◌∷◌, ◌++◌, count_by, Option, Some, None, is_some, arith}
 use Rattle.std.specs.Option.{option_or}
 use Rattle.ipc_words.specs.Limits.{table_slots}
 use Rattle.ipc_words.specs.ThreadId.{number_of}
@@ -18,9 +17,8 @@ use Rattle.ipc_history.specs.declared.entry.Entry.{Entry}
 use Rattle.ipc_history.specs.declared.entry.Entry.TheVariants.{Given, Written}
 use Rattle.ipc_history.specs.declared.entry.Input.TheVariants.{At, Opened, Called, Exreg, Broke, Moved}
 use Rattle.ipc_laws.proofs.Endings.{caller_here, live_opened}
-use Rattle.ipc_laws.proofs.Growth.{caller_of_kept, is_called_kept, open_is_called, was_open}
-use Rattle.ipc_laws.proofs.Histories.{admitted_at, legal_induction}
-use Rattle.ipc_laws.proofs.LiveThreads.{taken, opened_free}
+use Rattle.ipc_laws.proofs.Growth.{caller_of_kept, open_is_called, was_open}
+use Rattle.ipc_laws.proofs.Histories.{legal_induction}
 use Rattle.ipc_laws.proofs.Numbering.{called_below, calls_called, entered, number_at}
 use Rattle.ipc_laws.proofs.OneOpen.{caller_at, free_parts, none_open}
 use Rattle.ipc_laws.proofs.Pairing.{legal_before}

@@ -1,9 +1,8 @@
 -- What an output that ends a call makes of the desks.
-use Rattle.std.proofs.lemmas.Bool.{false≢true, false_from_ne_true, ne_eqb, cases_eq, or_cases}
+use Rattle.std.proofs.lemmas.Bool.{false_from_ne_true, ne_eqb, cases_eq, or_cases}
 use Rattle.std.proofs.lemmas.Option.{none-some, same_Some}
-use Rattle.std.proofs.Common.{◌≡◌, ◌≢◌, refl, sym, ap, ◌∙◌, ℕ, ◌+◌, ◌*◌, ◌≤◌, ◌<◌, Bool, true, false, ◌||◌, ◌&&◌, ◌==◌, not, eqb-true, eq-eqb, if◌then◌else◌, cond, nat_le, ◌^◌, option_map, List, [], ◌∷◌, ◌++◌, length, Option, Some, None, option_and_then, unwrap_or, inl, inr, ◌⊎◌, arith}
-use Rattle.std.specs.List.{list_any}
-use Rattle.std.specs.Option.{option_map_or, option_or}
+use Rattle.std.proofs.Common.{◌≡◌, ◌≢◌, refl, sym, ap, ◌∙◌, ℕ, ◌+◌, ◌*◌, ◌≤◌, Bool, true, false, ◌||◌, ◌&&◌, ◌==◌, not, eqb-true, eq-eqb, if◌then◌else◌, cond, nat_le, ◌^◌, option_map, List, [], ◌∷◌, ◌++◌, length, Option, Some, None, unwrap_or, inl, inr, ◌⊎◌, arith}
+use Rattle.std.specs.Option.{option_map_or}
 use Rattle.ipc_words.specs.ThreadId.{nilthread, number_of}
 use Rattle.std.proofs.lemmas.List.Sums.{sum_by-cons}
 use Rattle.ipc_items.specs.declared.buffer_list.Substring.{Substring}
@@ -11,20 +10,17 @@ use Rattle.ipc_items.specs.Buffers.{capacity}
 use Rattle.ipc_items.specs.Fit.{overflow_offset}
 use Rattle.ipc_items.specs.Strings.{size_of}
 use Rattle.ipc_laws.proofs.Normal.{normal_message, moves_fit}
-use Rattle.ipc_history.specs.Words.{first_some}
-use Rattle.ipc_history.specs.Entries.{breaks, closes, ends_send, ends, calls}
-use Rattle.ipc_history.specs.Calls.{is_called, caller_of, from_of, to_of, buffers_of, strings_of, message_size}
-use Rattle.ipc_history.specs.Threads.{is_live, has_broken, now}
-use Rattle.ipc_history.specs.Phases.{is_over, is_sent, receiver_of, is_transferring}
+use Rattle.ipc_history.specs.Entries.{closes, ends_send}
+use Rattle.ipc_history.specs.Calls.{caller_of, from_of, to_of, buffers_of, strings_of, message_size}
+use Rattle.ipc_history.specs.Threads.{has_broken, now}
+use Rattle.ipc_history.specs.Phases.{is_over, is_sent}
 use Rattle.ipc_history.specs.Matching.{matches}
-use Rattle.ipc_history.specs.Outcomes.{OutcomeParts, failure, nothing, received, outcome_in, outcome_of, timed}
+use Rattle.ipc_history.specs.Outcomes.{failure, nothing, received, outcome_in, outcome_of, timed}
 use Rattle.ipc_history.specs.Legal.{Legal, Follows}
-use Rattle.ipc_history.specs.NextOutput.{next_output}
 use Rattle.ipc_history.specs.declared.entry.Entry.{Entry}
-use Rattle.ipc_history.specs.declared.entry.Entry.TheVariants.{Given, Written}
+use Rattle.ipc_history.specs.declared.entry.Entry.TheVariants.{Written}
 use Rattle.ipc_history.specs.declared.entry.Output.{Output}
-use Rattle.ipc_history.specs.declared.entry.Output.TheVariants.{Began, Turned, Ended, Overflowed, Aborted, Failed}
-use Rattle.ipc_laws.specs.Meaning.{Means}
+use Rattle.ipc_history.specs.declared.entry.Output.TheVariants.{Ended, Overflowed, Aborted, Failed}
 use Rattle.ipc_laws.proofs.Befores.{propagated_kept, shown_kept}
 use Rattle.ipc_laws.proofs.Changing.{changes}
 use Rattle.ipc_laws.proofs.EndMoments.{end_moment_new}
@@ -34,27 +30,23 @@ use Rattle.ipc_laws.proofs.OneOpen.{one_open}
 use Rattle.ipc_laws.proofs.OnePhase.{passes_apart, receiver_turned, sends_apart}
 use Rattle.ipc_laws.proofs.OpenCalls.{caller_lives}
 use Rattle.ipc_laws.proofs.OutputLemmas.{next_output_means}
-use Rattle.ipc_laws.proofs.PhaseParts.{Meets, Passes, meets_parts, passes_parts}
+use Rattle.ipc_laws.proofs.PhaseParts.{Passes, meets_parts, passes_parts}
 use Rattle.ipc_laws.proofs.Tests.{not_both, left, right}
 use Rattle.ipc_laws.proofs.ThreadChanges.{has_broken_push, is_live_push}
 use Rattle.ipc_laws.proofs.Told.{told_none}
 use Rattle.ipc_laws.proofs.WordLemmas.{first_some_push}
 use Rattle.ipc_slots.specs.Slots.{live_of}
-use Rattle.ipc_slots.specs.Steps.{Names}
 use Rattle.ipc_slots.proofs.Holders.{live_of_is}
 use Rattle.ipc_slots.proofs.OutputCalls.{both_open}
 use Rattle.ipc_slots.proofs.SlotSteps.{live_kept}
-use Rattle.ipc_desks.specs.CallsOf.{is_among, last_call, made_by, taken_by}
-use Rattle.ipc_desks.specs.Desks.{Keeps, desk_at, desk_of, is_unsent, message_at, told_at}
+use Rattle.ipc_desks.specs.CallsOf.{is_among, last_call}
+use Rattle.ipc_desks.specs.Desks.{Keeps, desk_at, desk_of, is_unsent, message_at}
 use Rattle.ipc_desks.specs.Finishes.{finishes, is_named}
 use Rattle.ipc_desks.specs.Messages.{message_of}
 use Rattle.ipc_desks.specs.Steps.{Changed, Failing, Moved, finished, emptied, unbuffered}
 use Rattle.ipc_desks.specs.declared.desk.Desk.{Desk}
-use Rattle.ipc_desks.specs.declared.desk.Told.{Told}
-use Rattle.ipc_desks.specs.declared.desk.Told.TheVariants.{Nothing, Waiting, Ready}
-use Rattle.ipc_desks.specs.declared.finished.Finished.{Finished}
 use Rattle.ipc_desks.proofs.LastCalls.{last_is}
-use Rattle.ipc_desks.proofs.DeskSteps.{desk_by, desk_here, desk_open, desk_same, keeps_step}
+use Rattle.ipc_desks.proofs.DeskSteps.{desk_here, desk_open, desk_same, keeps_step}
 use Rattle.ipc_desks.proofs.Finishing.{Ended as HasEnded, ended_finished, finished_ended, same_tests}
 
 pub some_name : (t u : ℕ) (o : Option ℕ) → t ≡ u → (option_map_or (λ x. x == u) (Some t) false || option_map_or (λ x. x == u) o false) ≡ true

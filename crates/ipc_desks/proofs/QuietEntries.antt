@@ -2,22 +2,21 @@
 use Rattle.std.proofs.lemmas.Bool.{false≢true, false_from_ne_true, ne_eqb, cases_eq}
 use Rattle.std.proofs.lemmas.List.Sums.{sum_by-cons, sum_by-append}
 use Rattle.std.proofs.lemmas.Option.{none-some, same_Some}
-use Rattle.std.proofs.Common.{◌≡◌, ◌≢◌, refl, sym, ap, ◌∙◌, ℕ, ◌+◌, ◌≤◌, ◌<◌, cond, Bool, true, false, ◌||◌, ◌&&◌, ◌==◌, not, eqb-true, eq-eqb, if◌then◌else◌, List, [], ◌∷◌, ◌++◌, length, count_by, Option, Some, None, option_and_then, inl, inr, ◌⊎◌, arith}
+use Rattle.std.proofs.Common.{◌≡◌, ◌≢◌, refl, sym, ap, ◌∙◌, ℕ, ◌≤◌, cond, Bool, true, false, ◌&&◌, ◌==◌, not, eqb-true, eq-eqb, List, [], ◌∷◌, ◌++◌, count_by, Option, Some, None, inl, inr, ◌⊎◌, arith}
 use Rattle.std.specs.List.{list_any}
-use Rattle.std.specs.Option.{option_map_or, option_or}
+use Rattle.std.specs.Option.{option_map_or}
 use Rattle.ipc_words.specs.ThreadId.{nilthread, number_of}
 use Rattle.ipc_history.specs.Words.{last_some}
 use Rattle.ipc_history.specs.Entries.{breaks, closes, ends_send, number_in, opens, thread_in}
 use Rattle.ipc_history.specs.Calls.{is_called, caller_of}
-use Rattle.ipc_history.specs.Threads.{has_broken, is_live, was_opened, is_taken}
-use Rattle.ipc_history.specs.Phases.{is_over}
+use Rattle.ipc_history.specs.Threads.{is_live, was_opened}
 use Rattle.ipc_history.specs.Legal.{Legal, Follows, is_admissible}
 use Rattle.ipc_history.specs.declared.entry.Entry.{Entry}
 use Rattle.ipc_history.specs.declared.entry.Entry.TheVariants.{Given, Written}
 use Rattle.ipc_history.specs.declared.entry.Input.TheVariants.{At, Opened, Called, Exreg, Broke, Moved}
 use Rattle.ipc_history.specs.declared.entry.Output.{Output}
 use Rattle.ipc_history.specs.declared.entry.Output.TheVariants.{Began, Turned}
-use Rattle.ipc_laws.proofs.Endings.{broken_at, live_opened, live_unbroken}
+use Rattle.ipc_laws.proofs.Endings.{broken_at, live_opened}
 use Rattle.ipc_laws.proofs.LiveThreads.{opened_free, taken as taken_number}
 use Rattle.ipc_history.specs.CallParts.{CallParts}
 use Rattle.ipc_history.specs.Entries.{calls}
@@ -34,17 +33,16 @@ use Rattle.ipc_laws.proofs.Settling.{legal_push}
 use Rattle.ipc_laws.proofs.Tests.{not_both}
 use Rattle.ipc_laws.proofs.ThreadChanges.{is_live_push}
 use Rattle.ipc_slots.specs.Slots.{live_of}
-use Rattle.ipc_slots.proofs.Holders.{last_number, live_of_at, live_of_is}
+use Rattle.ipc_slots.proofs.Holders.{last_number, live_of_is}
 use Rattle.ipc_slots.proofs.SlotSteps.{last_kept as last_opened_kept, live_kept}
-use Rattle.ipc_desks.specs.CallsOf.{calls_by, is_among, is_busy, last_call, made_by, taken_by}
-use Rattle.ipc_desks.specs.Desks.{Keeps, blank_desk, desk_at, desk_of, message_at, one_if, thread_desk, told_at}
+use Rattle.ipc_desks.specs.CallsOf.{calls_by, is_among, last_call, made_by, taken_by}
+use Rattle.ipc_desks.specs.Desks.{Keeps, blank_desk, desk_of, thread_desk}
 use Rattle.ipc_desks.specs.Steps.{Changed, left}
 use Rattle.ipc_desks.specs.Finishes.{finishes}
 use Rattle.ipc_desks.specs.declared.desk.Desk.{Desk}
-use Rattle.ipc_desks.specs.declared.desk.Told.TheVariants.{Nothing}
 use Rattle.ipc_desks.proofs.LastCalls.{last_is, last_kept, made_kept}
 use Rattle.ipc_desks.proofs.DeskSteps.{desk_same, keeps_step, taken_kept}
-use Rattle.ipc_desks.proofs.Finishing.{Ended, finished_ended, none_finished}
+use Rattle.ipc_desks.proofs.Finishing.{finished_ended, none_finished}
 use Rattle.ipc_laws.proofs.Changing.{changes}
 use Rattle.ipc_laws.proofs.Growth.{open_is_called}
 use Rattle.ipc_history.specs.Calls.{from_of}

@@ -1,5 +1,5 @@
 -- What the slots say of an open call.
-use Rattle.std.proofs.Common.{◌≡◌, refl, sym, ap, ◌∙◌, ℕ, false, List, Some}
+use Rattle.std.proofs.Common.{◌≡◌, refl, ap, ◌∙◌, ℕ, false, List, Some}
 use Rattle.ipc_words.specs.ThreadId.{number_of}
 use Rattle.ipc_history.specs.Calls.{caller_of, from_of}
 use Rattle.ipc_history.specs.Matching.{shown_sender}
@@ -9,10 +9,10 @@ use Rattle.ipc_history.specs.declared.entry.Entry.{Entry}
 use Rattle.ipc_slots.specs.Slots.{Stands, slot_at}
 use Rattle.ipc_slots.specs.Standings.{standing_of}
 use Rattle.ipc_slots.specs.Steps.{standing_in}
-use Rattle.ipc_slots.specs.declared.slots.Slots.{Slots}
+use Rattle.ipc_slots.specs.declared.kept.KeptSlots.{KeptSlots}
 use Rattle.ipc_slots.proofs.Holders.{slot_of_call}
 
-pub standing_there : (P : List Entry) → Legal P → (slots : Slots) → Stands P slots → (n : ℕ) → is_over P n ≡ false → (place : ℕ) → place ≡ number_of (caller_of P n) → standing_in (slot_at slots.table place) ≡ Some (standing_of P n)
+pub standing_there : (P : List Entry) → Legal P → (slots : KeptSlots) → Stands P slots → (n : ℕ) → is_over P n ≡ false → (place : ℕ) → place ≡ number_of (caller_of P n) → standing_in (slot_at slots.table place) ≡ Some (standing_of P n)
 standing_there P legal slots stands n o place is = rw is (ap standing_in (stands.table (number_of (caller_of P n))) ∙ slot_of_call P legal n o)
 
 pub standing_caller : (P : List Entry) (n : ℕ) → (standing_of P n).caller ≡ caller_of P n

@@ -1,5 +1,6 @@
 pub mod CallsOf
 pub mod Messages
 pub mod Desks
+pub mod PastDesks
 pub mod Finishes
 pub mod Steps

@@ -4,8 +4,10 @@
 mod desk;
 mod desks;
 mod finished;
+mod kept;
 mod message;
 
 pub use desks::Desks;
 pub use finished::Finished;
+pub use kept::KeptDesks;
 pub use message::Prepared;

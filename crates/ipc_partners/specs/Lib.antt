@@ -1,3 +1,4 @@
 pub mod Partners
+pub mod PastPartners
 pub mod Kept
 pub mod Bases

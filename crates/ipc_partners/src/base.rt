@@ -2,24 +2,19 @@
 ghost use Rattle.std.specs.Prelude.{◌≡◌, [], length, Contains, IfSome, IsTrue};
 ghost use Rattle.ipc_words.specs.Limits.{table_slots};
 ghost use Rattle.ipc_history.specs.Calls.{caller_of};
-ghost use Rattle.ipc_history.specs.Legal.{Legal};
 ghost use Rattle.ipc_history.specs.Threads.{is_live};
 ghost use Rattle.ipc_history.specs.declared.entry.Entry.TheVariants.{Given};
-ghost use Rattle.ipc_slots.specs.Slots.{Stands};
 ghost use Rattle.ipc_desks.specs.CallsOf.{calls_by, made_by};
-ghost use Rattle.ipc_desks.specs.Desks.{Keeps as DesksKeep};
 ghost use Rattle.ipc_compact.specs.BaseRoom.{nothing_written};
 ghost use Rattle.ipc_compact.specs.BaseTold.{dropped_by};
 ghost use Rattle.ipc_compact.specs.Compact.{base_of, further_calls, is_among, kept_calls, kept_of};
 ghost use Rattle.ipc_partners.specs.Bases.{over_in, written_to};
 ghost use Rattle.ipc_partners.specs.Kept.{TookOthers};
-ghost use Rattle.ipc_partners.specs.Partners.{Knows};
 
 use crate::partners::Partners;
 use ipc_compact::{Base, BaseRoom};
 use ipc_desks::Desks;
-use ipc_history::{Entries, Entry, Input};
-use ipc_past::Past;
+use ipc_history::{Entry, Input};
 use ipc_slots::Slots;
 use ipc_words::ThreadId;
 use ipc_words::limits::TABLE_SLOTS;
@@ -49,96 +44,64 @@ fn made_in(kept: &[Entry], thread: ThreadId) -> u64
 }
 
 /// How many calls of a live thread are not kept; 0 for none.
-fn dropped_by(
-    entries: &Entries,
-    taken: &Past<u64>,
-    desks: &Desks,
-    kept: &[Entry],
-    thread: Option<ThreadId>,
-) -> u64
-    requires legal { Legal entries.now }
-    requires desks { DesksKeep entries.now taken.now desks.now }
-    requires live { IfSome thread (λ t. IsTrue (is_live entries.now t)) }
-    requires kept { kept.now ≡ kept_of entries.now taken.now }
-    ensures { result ≡ dropped_by entries.now kept.now thread }
+fn dropped_by(desks: &Desks, kept: &[Entry], thread: Option<ThreadId>) -> u64
+    requires live { IfSome thread (λ t. IsTrue (is_live desks.now.past t)) }
+    requires kept { kept.now ≡ kept_of desks.now.past desks.now.taken }
+    ensures { result ≡ dropped_by desks.now.past kept.now thread }
 {
+    let _ = desks.kept();
     match thread {
-        Some(thread) => desks.made(entries, taken, thread) - made_in(kept, thread),
+        Some(thread) => desks.made(thread) - made_in(kept, thread),
         None => 0,
     }
 }
 
 /// Writes of each thread number its last version, and how many calls were dropped.
-fn write_numbers(
-    entries: &Entries,
-    taken: &Past<u64>,
-    slots: &Slots,
-    desks: &Desks,
-    kept: &[Entry],
-    room: &mut BaseRoom,
-)
-    requires legal { Legal entries.now }
-    requires stands { Stands entries.now slots.now }
-    requires desks { DesksKeep entries.now taken.now desks.now }
-    requires kept { kept.now ≡ kept_of entries.now taken.now }
+fn write_numbers(slots: &Slots, desks: &Desks, kept: &[Entry], room: &mut BaseRoom)
+    requires slots { slots.now.past ≡ desks.now.past }
+    requires kept { kept.now ≡ kept_of desks.now.past desks.now.taken }
     requires room { room.old ≡ nothing_written }
-    ensures { room.new ≡ written_to entries.now kept.now table_slots }
+    ensures { room.new ≡ written_to desks.now.past kept.now table_slots }
 {
+    let _ = desks.kept();
     for place in 0..TABLE_SLOTS {
-        let next = slots.next_version_of(entries, place as u32);
-        let thread = slots.thread_at(entries, place);
-        let dropped = dropped_by(entries, taken, desks, kept, thread);
+        let next = slots.next_version_of(place as u32);
+        let thread = slots.thread_at(place);
+        let dropped = dropped_by(desks, kept, thread);
         room.add_number(next, dropped);
     }
 }
 
 /// Whether a call is kept: it is the last one of its live caller, and its outcome was not taken.
-fn is_kept(
-    entries: &Entries,
-    taken: &Past<u64>,
-    slots: &Slots,
-    desks: &Desks,
-    partners: &Partners,
-    number: u64,
-    caller: ThreadId,
-) -> bool
-    requires legal { Legal entries.now }
-    requires stands { Stands entries.now slots.now }
-    requires desks { DesksKeep entries.now taken.now desks.now }
-    requires knows { Knows entries.now partners.now }
-    requires others { TookOthers entries.now taken.now }
-    requires caller { caller_of entries.now number ≡ caller }
-    ensures { result ≡ is_among number (kept_calls entries.now taken.now) }
+fn is_kept(slots: &Slots, desks: &Desks, partners: &Partners, number: u64, caller: ThreadId) -> bool
+    requires slots { slots.now.past ≡ desks.now.past }
+    requires partners { partners.now.past ≡ desks.now.past }
+    requires others { TookOthers desks.now.past desks.now.taken }
+    requires caller { caller_of desks.now.past number ≡ caller }
+    ensures { result ≡ is_among number (kept_calls desks.now.past desks.now.taken) }
 {
-    if !slots.is_live(entries, caller) {
+    let _ = desks.kept();
+    if !slots.is_live(caller) {
         return false;
     }
-    if !desks.is_busy(entries, taken, caller) {
+    if !desks.is_busy(caller) {
         return false;
     }
-    partners.at(caller.number() as usize).number == number
+    partners.kept().at(caller.number() as usize).number == number
 }
 
 /// The call that an input of the history enters, where it is no kept call.
-fn over_in_input(
-    entries: &Entries,
-    taken: &Past<u64>,
-    slots: &Slots,
-    desks: &Desks,
-    partners: &Partners,
-    input: &Input,
-) -> Option<u64>
-    requires legal { Legal entries.now }
-    requires stands { Stands entries.now slots.now }
-    requires desks { DesksKeep entries.now taken.now desks.now }
-    requires knows { Knows entries.now partners.now }
-    requires others { TookOthers entries.now taken.now }
-    requires there { Contains entries.now (Given input.now) }
-    ensures { result ≡ over_in entries.now taken.now (Given input.now) }
+fn over_in_input(slots: &Slots, desks: &Desks, partners: &Partners, input: &Input) -> Option<u64>
+    requires slots { slots.now.past ≡ desks.now.past }
+    requires partners { partners.now.past ≡ desks.now.past }
+    requires others { TookOthers desks.now.past desks.now.taken }
+    requires there { Contains desks.now.past (Given input.now) }
+    ensures { result ≡ over_in desks.now.past desks.now.taken (Given input.now) }
 {
+    let _ = desks.kept();
     match input {
         Input::Called(number, caller, _) => {
-            if is_kept(entries, taken, slots, desks, partners, *number, *caller) {
+            if is_kept(slots, desks, partners, *number, *caller) {
                 None
             } else {
                 Some(*number)
@@ -149,50 +112,38 @@ fn over_in_input(
 }
 
 /// The call that an entry of the history enters, where it is no kept call.
-fn over_in(
-    entries: &Entries,
-    taken: &Past<u64>,
-    slots: &Slots,
-    desks: &Desks,
-    partners: &Partners,
-    entry: &Entry,
-) -> Option<u64>
-    requires legal { Legal entries.now }
-    requires stands { Stands entries.now slots.now }
-    requires desks { DesksKeep entries.now taken.now desks.now }
-    requires knows { Knows entries.now partners.now }
-    requires others { TookOthers entries.now taken.now }
-    requires there { Contains entries.now entry.now }
-    ensures { result ≡ over_in entries.now taken.now entry.now }
+fn over_in(slots: &Slots, desks: &Desks, partners: &Partners, entry: &Entry) -> Option<u64>
+    requires slots { slots.now.past ≡ desks.now.past }
+    requires partners { partners.now.past ≡ desks.now.past }
+    requires others { TookOthers desks.now.past desks.now.taken }
+    requires there { Contains desks.now.past entry.now }
+    ensures { result ≡ over_in desks.now.past desks.now.taken entry.now }
 {
     match entry {
-        Entry::Given(input) => over_in_input(entries, taken, slots, desks, partners, input),
+        Entry::Given(input) => over_in_input(slots, desks, partners, input),
         Entry::Written(_) => None,
     }
 }
 
 /// Writes the calls that count as over.
 fn write_over(
-    entries: &Entries,
-    taken: &Past<u64>,
     slots: &Slots,
     desks: &Desks,
     partners: &Partners,
     kept: &[Entry],
     room: &mut BaseRoom,
 )
-    requires legal { Legal entries.now }
-    requires stands { Stands entries.now slots.now }
-    requires desks { DesksKeep entries.now taken.now desks.now }
-    requires knows { Knows entries.now partners.now }
-    requires others { TookOthers entries.now taken.now }
-    requires kept { kept.now ≡ kept_of entries.now taken.now }
+    requires slots { slots.now.past ≡ desks.now.past }
+    requires partners { partners.now.past ≡ desks.now.past }
+    requires others { TookOthers desks.now.past desks.now.taken }
+    requires kept { kept.now ≡ kept_of desks.now.past desks.now.taken }
     requires room { room.old.over ≡ [] }
-    ensures { room.new ≡ record room.old { over = further_calls entries.now taken.now } }
+    ensures { room.new ≡ record room.old { over = further_calls desks.now.past desks.now.taken } }
 {
+    let _ = desks.kept();
     for place in 0..kept.len() {
         let entry = &kept[place];
-        if let Some(number) = over_in(entries, taken, slots, desks, partners, entry) {
+        if let Some(number) = over_in(slots, desks, partners, entry) {
             room.add_over(number);
         }
     }
@@ -200,8 +151,6 @@ fn write_over(
 
 /// The base of a history, where so many outcomes were taken and these entries are kept of it. It is written into a room. Takes no memory.
 pub fn base_of(
-    entries: &Entries,
-    taken: &Past<u64>,
     takes: u64,
     slots: &Slots,
     desks: &Desks,
@@ -209,17 +158,15 @@ pub fn base_of(
     kept: &[Entry],
     mut room: BaseRoom,
 ) -> Base
-    requires legal { Legal entries.now }
-    requires stands { Stands entries.now slots.now }
-    requires desks { DesksKeep entries.now taken.now desks.now }
-    requires knows { Knows entries.now partners.now }
-    requires others { TookOthers entries.now taken.now }
-    requires takes { takes ≡ length taken.now }
-    requires kept { kept.now ≡ kept_of entries.now taken.now }
-    ensures { result ≡ base_of entries.now taken.now }
+    requires slots { slots.now.past ≡ desks.now.past }
+    requires partners { partners.now.past ≡ desks.now.past }
+    requires others { TookOthers desks.now.past desks.now.taken }
+    requires takes { takes ≡ length desks.now.taken }
+    requires kept { kept.now ≡ kept_of desks.now.past desks.now.taken }
+    ensures { result ≡ base_of desks.now.past desks.now.taken }
 {
     room.clear();
-    write_numbers(entries, taken, slots, desks, kept, &mut room);
-    write_over(entries, taken, slots, desks, partners, kept, &mut room);
-    room.into_base(slots.now(entries), slots.calls_made(entries), takes)
+    write_numbers(slots, desks, kept, &mut room);
+    write_over(slots, desks, partners, kept, &mut room);
+    room.into_base(slots.now(), slots.calls_made(), takes)
 }

@@ -1,17 +1,11 @@
 ghost use Rattle.std.specs.Prelude.{◌≡◌, ◌≤◌, ◌+◌, ◌*◌, ◌<◌, ◌++◌, [], ◌∷◌, length, vec_capacity, vec_len, IsOk, IfOk};
 ghost use Rattle.std.specs.List.Sorted.{IsPermutation};
 ghost use Rattle.ipc_words.specs.Limits.{table_slots};
-ghost use Rattle.ipc_history.specs.Legal.{Legal};
-ghost use Rattle.ipc_slots.specs.Slots.{Stands};
-ghost use Rattle.ipc_desks.specs.Desks.{Keeps as DesksKeep};
-ghost use Rattle.ipc_partners.specs.Partners.{Knows};
 ghost use Rattle.ipc_partners.specs.Kept.{InOrder, KeptParts, kept_upto, nothing_kept, partner_numbers, partner_threads, partners_in, threads_in};
 
 use crate::partners::{Joined, Partner, Partners};
 use ipc_desks::Desks;
-use ipc_history::Entries;
 use ipc_memory::Memory;
-use ipc_past::Past;
 use ipc_slots::Slots;
 use ipc_words::ThreadId;
 use ipc_words::limits::TABLE_SLOTS;
@@ -99,49 +93,30 @@ impl Found {
     }
 
     /// Adds what is kept for the live thread of a number.
-    fn keep_at(
-        &mut self,
-        entries: &Entries,
-        taken: &Past<u64>,
-        slots: &Slots,
-        desks: &Desks,
-        partners: &Partners,
-        place: usize,
-    )
-        requires legal { Legal entries.now }
-        requires stands { Stands entries.now slots.now }
-        requires desks { DesksKeep entries.now taken.now desks.now }
-        requires knows { Knows entries.now partners.now }
+    fn keep_at(&mut self, slots: &Slots, desks: &Desks, partners: &Partners, place: usize)
+        requires slots { slots.now.past ≡ desks.now.past }
+        requires partners { partners.now.past ≡ desks.now.past }
         requires within { place < table_slots }
-        requires kept { self.old ≡ kept_upto entries.now taken.now place }
-        ensures { self.new ≡ kept_upto entries.now taken.now (place + 1) }
+        requires kept { self.old ≡ kept_upto desks.now.past desks.now.taken place }
+        ensures { self.new ≡ kept_upto desks.now.past desks.now.taken (place + 1) }
     {
-        if let Some(thread) = slots.thread_at(entries, place) {
+        if let Some(thread) = slots.thread_at(place) {
             self.add_thread(thread);
-            if desks.is_busy(entries, taken, thread) {
-                self.add(partners.at(place));
+            if desks.is_busy(thread) {
+                self.add(partners.kept().at(place));
             }
         }
     }
 
     /// Finds what is kept of a history, where these outcomes were taken. Takes no memory.
-    pub(crate) fn find(
-        &mut self,
-        entries: &Entries,
-        taken: &Past<u64>,
-        slots: &Slots,
-        desks: &Desks,
-        partners: &Partners,
-    )
-        requires legal { Legal entries.now }
-        requires stands { Stands entries.now slots.now }
-        requires desks { DesksKeep entries.now taken.now desks.now }
-        requires knows { Knows entries.now partners.now }
-        ensures { self.new ≡ kept_upto entries.now taken.now table_slots }
+    pub(crate) fn find(&mut self, slots: &Slots, desks: &Desks, partners: &Partners)
+        requires slots { slots.now.past ≡ desks.now.past }
+        requires partners { partners.now.past ≡ desks.now.past }
+        ensures { self.new ≡ kept_upto desks.now.past desks.now.taken table_slots }
     {
         self.clear();
         for place in 0..TABLE_SLOTS {
-            self.keep_at(entries, taken, slots, desks, partners, place);
+            self.keep_at(slots, desks, partners, place);
         }
     }
 

@@ -2,21 +2,16 @@ ghost use Rattle.std.specs.Prelude.{◌≡◌, ◌==◌, ◌||◌, IsOk};
 ghost use Rattle.std.specs.List.{list_any};
 ghost use Rattle.std.specs.List.Sorted.{IsNonDecreasing};
 ghost use Rattle.ipc_words.specs.Limits.{table_slots};
-ghost use Rattle.ipc_history.specs.Legal.{Legal};
 ghost use Rattle.ipc_history.specs.declared.entry.Entry.{Entry};
 ghost use Rattle.ipc_history.specs.declared.entry.Entry.TheVariants.{Given, Written};
-ghost use Rattle.ipc_slots.specs.Slots.{Stands};
-ghost use Rattle.ipc_desks.specs.Desks.{Keeps as DesksKeep};
 ghost use Rattle.ipc_compact.specs.Compact.{is_among};
-ghost use Rattle.ipc_partners.specs.Partners.{Knows};
 ghost use Rattle.ipc_partners.specs.Kept.{PassesAs, kept_upto, passes};
 
 use crate::found::Found;
 use crate::partners::Partners;
 use ipc_desks::Desks;
-use ipc_history::{Entries, Entry, Input, Keeps, Output};
+use ipc_history::{Entry, Input, Keeps, Output};
 use ipc_memory::Memory;
-use ipc_past::Past;
 use ipc_slots::Slots;
 use ipc_words::ThreadId;
 use std::alloc::AllocError;
@@ -58,21 +53,12 @@ impl Keeping {
     }
 
     /// Finds what is kept of a history, where these outcomes were taken. Takes no memory.
-    pub fn fill(
-        &mut self,
-        entries: &Entries,
-        taken: &Past<u64>,
-        slots: &Slots,
-        desks: &Desks,
-        partners: &Partners,
-    )
-        requires legal { Legal entries.now }
-        requires stands { Stands entries.now slots.now }
-        requires desks { DesksKeep entries.now taken.now desks.now }
-        requires knows { Knows entries.now partners.now }
-        ensures { PassesAs self.new (kept_upto entries.now taken.now table_slots) }
+    pub fn fill(&mut self, slots: &Slots, desks: &Desks, partners: &Partners)
+        requires slots { slots.now.past ≡ desks.now.past }
+        requires partners { partners.now.past ≡ desks.now.past }
+        ensures { PassesAs self.new (kept_upto desks.now.past desks.now.taken table_slots) }
     {
-        self.found.find(entries, taken, slots, desks, partners);
+        self.found.find(slots, desks, partners);
         self.found.sort();
     }
 

@@ -4,8 +4,10 @@
 mod base;
 mod found;
 mod keeping;
+mod kept;
 mod partners;
 
 pub use base::base_of;
 pub use keeping::Keeping;
+pub use kept::KeptPartners;
 pub use partners::{Joined, Partner, Partners};

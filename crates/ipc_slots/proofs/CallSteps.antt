@@ -38,7 +38,7 @@ use Rattle.ipc_slots.specs.Steps.{calling}
 use Rattle.ipc_slots.specs.declared.slot.Phase.TheVariants.{Sending, Receiving}
 use Rattle.ipc_slots.specs.Slot.{Slot}
 use Rattle.ipc_slots.specs.declared.slot.Standing.{Standing}
-use Rattle.ipc_slots.specs.declared.slots.Slots.{Slots}
+use Rattle.ipc_slots.specs.declared.kept.KeptSlots.{KeptSlots}
 use Rattle.ipc_slots.proofs.Holders.{live_of_at, live_of_is}
 use Rattle.ipc_slots.proofs.OutputSteps.{same}
 use Rattle.ipc_slots.proofs.SlotSteps.{live_kept, space_kept, version_kept, last_kept}
@@ -212,7 +212,7 @@ module _ (P : List Entry) (n t : ℕ) (call : CallParts) (legal : Legal P) (foll
   unfolding Follows
   numbered = (entered_free P n t call follows.1).1
 
-  pub noted_called : (slots : Slots) → Stands P slots → number_of t < table_slots → Stands Q (record slots { table = slice_set slots.table (number_of t) (calling (entered P n t call) (slot_at slots.table (number_of t))); calls_made = n; last = Nothing })
+  pub noted_called : (slots : KeptSlots) → Stands P slots → number_of t < table_slots → Stands Q (record slots { table = slice_set slots.table (number_of t) (calling (entered P n t call) (slot_at slots.table (number_of t))); calls_made = n; last = Nothing })
   noted_called slots stands within = record {
     size = length-set slots.table (number_of t) _ ∙ stands.size;
     moment = stands.moment ∙ sym ((changes P e).moment);

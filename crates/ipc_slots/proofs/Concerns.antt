@@ -1,17 +1,15 @@
 -- A rule gives nothing for a call that it does not concern.
-use Rattle.std.proofs.Common.{◌≡◌, refl, sym, ap, ◌∙◌, ℕ, Bool, false, ◌||◌, List, None}
+use Rattle.std.proofs.Common.{◌≡◌, refl, sym, ◌∙◌, ℕ, Bool, false, ◌||◌, List, None}
 use Rattle.ipc_history.specs.Threads.{is_live}
 use Rattle.ipc_history.specs.Legal.{Legal}
 use Rattle.ipc_history.specs.declared.entry.Entry.{Entry}
 use Rattle.ipc_laws.proofs.Tests.{not_both}
 use Rattle.ipc_slots.specs.Rules.{IsStanding, abort_by, concerns, end_by, rule_of, timeout_by, waits_to_receive, waits_to_send}
 use Rattle.ipc_slots.specs.declared.rules.Rule.{Rule}
-use Rattle.ipc_slots.specs.declared.rules.Rule.TheVariants.{Ends, Fails, Meets, Expires, Copies}
+use Rattle.ipc_slots.specs.declared.rules.Rule.TheVariants.{Ends, Fails, Expires, Copies}
 use Rattle.ipc_slots.specs.declared.slot.Phase.{Phase}
 use Rattle.ipc_slots.specs.declared.slot.Phase.TheVariants.{Sending, Passing, Receiving, Taking}
 use Rattle.ipc_slots.specs.declared.slot.Standing.{Standing}
-use Rattle.ipc_slots.proofs.Meets.{sending_kept}
-use Rattle.ipc_slots.proofs.Overs.{unsent_no_meeting}
 use Rattle.ipc_slots.proofs.PhaseFacts.{end_at, timeout_at}
 use Rattle.ipc_slots.proofs.Stops.{abort_told}
 
@@ -36,6 +34,5 @@ no_timeout moment s (Taking k by bytes) is h = rw is refl
 pub unconcerned : (rule : Rule) (P : List Entry) → Legal P → (s : Standing) → IsStanding P s → concerns rule s.phase ≡ false → rule_of rule P s.number ≡ None
 unconcerned Ends P legal s call h = sym (end_at P legal s call) ∙ no_end (is_live P s.to) s s.phase refl h
 unconcerned Copies P legal s call h = sym (abort_told P legal s call) ∙ no_abort (is_live P s.to) s s.phase refl h
-unconcerned Meets P legal s call h = unsent_no_meeting P s.number (sym (ap (λ s. waits_to_send s.phase) call.is ∙ sending_kept P legal s.number call.opened) ∙ h)
 unconcerned (Expires moment) P legal s call h = sym (timeout_at P legal moment s call) ∙ no_timeout moment s s.phase refl h
 unconcerned Fails P legal s call h = not_both refl h

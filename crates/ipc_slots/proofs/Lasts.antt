@@ -28,7 +28,7 @@ use Rattle.ipc_slots.specs.Slots.{Stands, slot_at}
 use Rattle.ipc_slots.specs.Rules.{IsStanding, turn_by, turn_of, turned_by}
 use Rattle.ipc_slots.specs.Standings.{standing_of}
 use Rattle.ipc_slots.specs.declared.slot.Standing.{Standing}
-use Rattle.ipc_slots.specs.declared.slots.Slots.{Slots}
+use Rattle.ipc_slots.specs.declared.kept.KeptSlots.{KeptSlots}
 use Rattle.ipc_slots.proofs.Leasts.{slot_standing}
 use Rattle.ipc_slots.proofs.Meets.{looked_up, none_up, receiving_kept}
 use Rattle.ipc_slots.proofs.Tables.{held}
@@ -119,16 +119,16 @@ unfolding stop_after
 stop_last P thread target control = refl
 
 -- the call in the slot that was found
-pub slot_call : (P : List Entry) (slots : Slots) → Stands P slots → (k n : ℕ) → holds (slot_at slots.table k) n ≡ true → (s : Standing) → standing_in (slot_at slots.table k) ≡ Some s → IsStanding P s × (s.number ≡ n)
+pub slot_call : (P : List Entry) (slots : KeptSlots) → Stands P slots → (k n : ℕ) → holds (slot_at slots.table k) n ≡ true → (s : Standing) → standing_in (slot_at slots.table k) ≡ Some s → IsStanding P s × (s.number ≡ n)
 slot_call P slots stands k n h s e =
     let x = held (slot_at slots.table k) n h in
     (slot_standing P slots stands k s e, ap (λ s. s.number) (same_Some s x.0 (sym e ∙ x.1)) ∙ x.2)
 
-pub slot_full : (P : List Entry) (slots : Slots) (k n : ℕ) → holds (slot_at slots.table k) n ≡ true → standing_in (slot_at slots.table k) ≡ None → ⊥
+pub slot_full : (P : List Entry) (slots : KeptSlots) (k n : ℕ) → holds (slot_at slots.table k) n ≡ true → standing_in (slot_at slots.table k) ≡ None → ⊥
 slot_full P slots k n h e = let x = held (slot_at slots.table k) n h in none-some x.0 (sym e ∙ x.1)
 
 -- what comes of the last entry, by what the slots keep of it
-pub last_at : (P : List Entry) (slots : Slots) → Stands P slots → (l : Last) → slots.last ≡ l → IsLast P l
+pub last_at : (P : List Entry) (slots : KeptSlots) → Stands P slots → (l : Last) → slots.last ≡ l → IsLast P l
 last_at P slots stands l is = subst (IsLast P) is stands.last
 
 pub exreg_told : (P : List Entry) (thread target control : ℕ) → last P ≡ Some (Given (Exreg thread target control))

@@ -4,6 +4,7 @@ use Rattle.std.proofs.lemmas.Option.{none-some, same_Some}
 use Rattle.std.proofs.Common.{◌≡◌, refl, sym, ap, ◌∙◌, ℕ, zero, suc, ◌<◌, ◌≤◌, Bool, true, false, List, [], ◌∷◌, ◌++◌, Option, Some, None, option_map, ◌⊎◌, inl, inr, arith}
 use Rattle.ipc_words.specs.ThreadId.{number_of}
 use Rattle.ipc_history.specs.Words.{first_some}
+use Rattle.ipc_history.specs.NextOutput.{meeting_of}
 use Rattle.ipc_history.specs.Calls.{numbers, calls_made, caller_of}
 use Rattle.ipc_history.specs.Phases.{is_over}
 use Rattle.ipc_history.specs.Legal.{Legal}
@@ -21,10 +22,10 @@ use Rattle.ipc_slots.specs.Slots.{Stands, slot_at}
 use Rattle.ipc_slots.specs.Standings.{standing_of}
 use Rattle.ipc_slots.specs.Steps.{holds, standing_in}
 use Rattle.ipc_slots.specs.declared.rules.Rule.{Rule}
-use Rattle.ipc_slots.specs.declared.rules.Rule.TheVariants.{Ends, Fails, Meets, Expires, Copies}
+use Rattle.ipc_slots.specs.declared.rules.Rule.TheVariants.{Ends, Fails, Expires, Copies}
 use Rattle.ipc_slots.specs.Slot.{Slot}
 use Rattle.ipc_slots.specs.declared.slot.Standing.{Standing}
-use Rattle.ipc_slots.specs.declared.slots.Slots.{Slots}
+use Rattle.ipc_slots.specs.declared.kept.KeptSlots.{KeptSlots}
 use Rattle.ipc_laws.proofs.Tests.{not_both}
 use Rattle.ipc_slots.proofs.Tables.{held}
 use Rattle.ipc_slots.proofs.Holders.{call_of_slot, live_of_is, slot_of_call}
@@ -33,13 +34,13 @@ pub least_start : (f : ℕ → Option Output) (table : List Slot) → IsLeast f 
 least_start f table = record { seen = λ k h s e y g. absurd (omega arith); is = λ b e. absurd (none-some b e) }
 
 -- a call is held below the top
-pub held_below : (P : List Entry) (slots : Slots) → Stands P slots → (k : ℕ) (s : Standing) → standing_in (slot_at slots.table k) ≡ Some s → k < slots.top
+pub held_below : (P : List Entry) (slots : KeptSlots) → Stands P slots → (k : ℕ) (s : Standing) → standing_in (slot_at slots.table k) ≡ Some s → k < slots.top
 held_below P slots stands k s e = elim (cases_order k slots.top) [ inl same ↦ absurd (past (omega arith)) | inr (inl less) ↦ less | inr (inr more) ↦ absurd (past (omega arith)) ]
   where
     past : slots.top ≤ k → ⊥
     past far = let call = call_of_slot P k s (ap standing_in (sym (stands.table k)) ∙ e) in none-some call.thread (sym (stands.above k far) ∙ (live_of_is P k call.thread call.live).last)
 
-pub none_held : (P : List Entry) (slots : Slots) → Stands P slots → (n i : ℕ) → slots.top ≤ i → ((k : ℕ) → k < i → holds (slot_at slots.table k) n ≡ false) → (k : ℕ) → holds (slot_at slots.table k) n ≡ true → ⊥
+pub none_held : (P : List Entry) (slots : KeptSlots) → Stands P slots → (n i : ℕ) → slots.top ≤ i → ((k : ℕ) → k < i → holds (slot_at slots.table k) n ≡ false) → (k : ℕ) → holds (slot_at slots.table k) n ≡ true → ⊥
 none_held P slots stands n i all below k h =
     let s = held (slot_at slots.table k) n h in
     let less = held_below P slots stands k s.0 s.1 in
@@ -121,7 +122,7 @@ module _ (P : List Entry) (legal : Legal P) (f : ℕ → Option Output) (quiet :
           same = same_Some y it.0.1 (sym first.gives ∙ (ap f (sym at) ∙ is it.0 it.1))
 
 -- so the best of all slots is the first in call order
-module _ (P : List Entry) (slots : Slots) (legal : Legal P) (stands : Stands P slots) (f : ℕ → Option Output) (quiet : (n : ℕ) → is_over P n ≡ true → f n ≡ None) where
+module _ (P : List Entry) (slots : KeptSlots) (legal : Legal P) (stands : Stands P slots) (f : ℕ → Option Output) (quiet : (n : ℕ) → is_over P n ≡ true → f n ≡ None) where
   standing_number : (n : ℕ) → (standing_of P n).number ≡ n
   unfolding standing_of
   standing_number n = refl
@@ -145,13 +146,15 @@ module _ (P : List Entry) (slots : Slots) (legal : Legal P) (stands : Stands P s
 pub rule_over : (rule : Rule) (P : List Entry) (n : ℕ) → is_over P n ≡ true → rule_of rule P n ≡ None
 rule_over Ends P n o = over_no_end P n o
 rule_over Fails P n o = over_no_partner P n o
-rule_over Meets P n o = over_no_meeting P n o
 rule_over (Expires moment) P n o = over_no_due P moment n o
 rule_over Copies P n o = over_no_abort P n o
 
 -- what a slot holds is an open call
-pub slot_standing : (P : List Entry) (slots : Slots) → Stands P slots → (k : ℕ) (s : Standing) → standing_in (slot_at slots.table k) ≡ Some s → IsStanding P s
+pub slot_standing : (P : List Entry) (slots : KeptSlots) → Stands P slots → (k : ℕ) (s : Standing) → standing_in (slot_at slots.table k) ≡ Some s → IsStanding P s
 slot_standing P slots stands k s e = let is = call_of_slot P k s (ap standing_in (sym (stands.table k)) ∙ e) in record { opened = is.opened; is = is.is }
 
-pub least_told : (P : List Entry) (slots : Slots) (rule : Rule) (i : ℕ) (best o : Option (ℕ × Output)) → Legal P → Stands P slots → slots.top ≤ i → IsLeast (rule_of rule P) slots.table i best → best ≡ o → option_map (λ b. b.1) o ≡ first_some (rule_of rule P) (numbers P)
+pub least_told : (P : List Entry) (slots : KeptSlots) (rule : Rule) (i : ℕ) (best o : Option (ℕ × Output)) → Legal P → Stands P slots → slots.top ≤ i → IsLeast (rule_of rule P) slots.table i best → best ≡ o → option_map (λ b. b.1) o ≡ first_some (rule_of rule P) (numbers P)
 least_told P slots rule i best o legal stands all h e = ap (option_map (λ b. b.1)) (sym e) ∙ sym (least_is P slots legal stands (rule_of rule P) (rule_over rule P) i all best h)
+
+pub least_meets : (P : List Entry) (slots : KeptSlots) (i : ℕ) (best o : Option (ℕ × Output)) → Legal P → Stands P slots → slots.top ≤ i → IsLeast (meeting_of P) slots.table i best → best ≡ o → option_map (λ b. b.1) o ≡ first_some (meeting_of P) (numbers P)
+least_meets P slots i best o legal stands all h e = ap (option_map (λ b. b.1)) (sym e) ∙ sym (least_is P slots legal stands (meeting_of P) (over_no_meeting P) i all best h)

@@ -22,7 +22,7 @@ use Rattle.ipc_slots.specs.Making.{IsMade}
 use Rattle.ipc_slots.specs.Outputs.{last_output}
 use Rattle.ipc_slots.specs.Slots.{Stands, blank, ended, fresh, live_at, live_of, live_slots, slot_at, slot_of}
 use Rattle.ipc_slots.specs.Slot.{Slot}
-use Rattle.ipc_slots.specs.declared.slots.Slots.{Slots}
+use Rattle.ipc_slots.specs.declared.kept.KeptSlots.{KeptSlots}
 use Rattle.ipc_slots.proofs.LiveCounts.{live_none, one_less_live, one_more_live}
 use Rattle.ipc_slots.proofs.LiveSlots.{live_alike, live_blank, live_slots_closed, live_slots_opened}
 use Rattle.ipc_slots.proofs.SlotSteps.{last_kept, live_kept}
@@ -139,7 +139,7 @@ ends_quiet P quiet =
     quiet
 
 -- slots that are made so stand for a quiet history
-pub stands_made : (P : List Entry) (slots : Slots) → Legal P → Quiet P → IsMade slots (now P) (calls_made P) → length slots.table ≡ table_slots → ((k : ℕ) → slot_at slots.table k ≡ slot_of P k) → Stands P slots
+pub stands_made : (P : List Entry) (slots : KeptSlots) → Legal P → Quiet P → IsMade slots (now P) (calls_made P) → length slots.table ≡ table_slots → ((k : ℕ) → slot_at slots.table k ≡ slot_of P k) → Stands P slots
 stands_made P slots legal quiet made size table =
     let c = counted P legal in
     let top = made.top in

@@ -22,7 +22,7 @@ use Rattle.ipc_slots.specs.declared.slot.Live.{Live}
 use Rattle.ipc_slots.specs.declared.slot.Phase.{Phase}
 use Rattle.ipc_slots.specs.declared.slot.Phase.TheVariants.{Sending, Passing, Receiving, Taking}
 use Rattle.ipc_slots.specs.declared.slot.Standing.{Standing}
-use Rattle.ipc_slots.specs.declared.slots.Slots.{Slots}
+use Rattle.ipc_slots.specs.declared.kept.KeptSlots.{KeptSlots}
 use Rattle.ipc_slots.proofs.Finds.{find_nothing, find_only, find_passes, false_unless}
 use Rattle.ipc_slots.proofs.Lookups.{live_is}
 use Rattle.ipc_slots.proofs.PhaseFacts.{Says, phase_says}
@@ -40,14 +40,14 @@ space_live : (P : List Entry) (t : ℕ) → (live_at P t).space ≡ space_of P t
 unfolding live_at
 space_live P t = refl
 
-pub call_found : (P : List Entry) (slots : Slots) → Legal P → Stands P slots → (t : ℕ) (o : Option Live) → o ≡ live_in slots.table t → option_and_then (λ l. l.call) o ≡ option_map (standing_of P) (open_call P t)
+pub call_found : (P : List Entry) (slots : KeptSlots) → Legal P → Stands P slots → (t : ℕ) (o : Option Live) → o ≡ live_in slots.table t → option_and_then (λ l. l.call) o ≡ option_map (standing_of P) (open_call P t)
 call_found P slots legal stands t o e = ap (option_and_then (λ l. l.call)) (e ∙ live_is P slots legal stands t) ∙ go (is_live P t) refl
   where
     go : (b : Bool) → is_live P t ≡ b → option_and_then (λ l. l.call) (if b then Some (live_at P t) else None) ≡ option_map (standing_of P) (open_call P t)
     go true live = in_live P t
     go false dead = rw (no_call P legal t dead) refl
 
-pub space_found : (P : List Entry) (slots : Slots) → Legal P → Stands P slots → (t : ℕ) → is_live P t ≡ true → space_in slots.table t ≡ space_of P t
+pub space_found : (P : List Entry) (slots : KeptSlots) → Legal P → Stands P slots → (t : ℕ) → is_live P t ≡ true → space_in slots.table t ≡ space_of P t
 space_found P slots legal stands t live = rw (live_is P slots legal stands t, live) (space_live P t)
 
 numbered : (P : List Entry) (n : ℕ) → (standing_of P n).number ≡ n
@@ -147,7 +147,7 @@ abbrev chosen : ℕ → (Standing → Bool) → Standing → Option Standing
 chosen sender test r = (if awaits_by sender (test r) r then Some r else None)
 
 -- the receiving call that the program finds
-pub met_law : (P : List Entry) (slots : Slots) → Legal P → Stands P slots → (s : Standing) → IsStanding P s → (if may_meet_by s then option_and_then (λ r. if awaits_by s.shown (space_in slots.table s.caller == space_in slots.table r.caller) r then Some r else None) (option_map (standing_of P) (open_call P s.to)) else None) ≡ option_map (standing_of P) (match_of P s.number)
+pub met_law : (P : List Entry) (slots : KeptSlots) → Legal P → Stands P slots → (s : Standing) → IsStanding P s → (if may_meet_by s then option_and_then (λ r. if awaits_by s.shown (space_in slots.table s.caller == space_in slots.table r.caller) r then Some r else None) (option_map (standing_of P) (open_call P s.to)) else None) ≡ option_map (standing_of P) (match_of P s.number)
 met_law P slots legal stands s call = rw (may_meet_is P legal s call, match_is P legal s.number) (decided (is_sending P s.number && not (to_of P s.number == caller_of P s.number)))
   where
     n : ℕ

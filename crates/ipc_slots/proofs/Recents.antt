@@ -2,9 +2,9 @@
 use Rattle.std.proofs.Common.{ℕ, List}
 use Rattle.ipc_history.specs.declared.entry.Entry.{Entry}
 use Rattle.ipc_slots.specs.Slots.{Stands}
-use Rattle.ipc_slots.specs.declared.slots.Slots.{Slots}
+use Rattle.ipc_slots.specs.declared.kept.KeptSlots.{KeptSlots}
 
-pub looks : (P : List Entry) (slots : Slots) (place : ℕ) → Stands P slots → Stands P (record slots { recent = place })
+pub looks : (P : List Entry) (slots : KeptSlots) (place : ℕ) → Stands P slots → Stands P (record slots { recent = place })
 looks P slots place stands = record {
   size = stands.size;
   moment = stands.moment;

@@ -24,7 +24,7 @@ use Rattle.ipc_slots.specs.Slots.{Stands, slot_at}
 use Rattle.ipc_slots.specs.Standings.{standing_of}
 use Rattle.ipc_slots.specs.Steps.{standing_in}
 use Rattle.ipc_slots.specs.declared.slot.Standing.{Standing}
-use Rattle.ipc_slots.specs.declared.slots.Slots.{Slots}
+use Rattle.ipc_slots.specs.declared.kept.KeptSlots.{KeptSlots}
 use Rattle.ipc_slots.proofs.Holders.{standing_number}
 use Rattle.ipc_slots.proofs.Holders.{slot_of_call}
 use Rattle.ipc_slots.proofs.Leasts.{held_below, slot_standing}
@@ -98,7 +98,7 @@ pub record Counts (P : List Entry) (by : Standing → ℕ) (of : ℕ → ℕ) : 
   pub opened : (n : ℕ) → is_over P n ≡ false → by (standing_of P n) ≡ of n
   pub over : (n : ℕ) → is_over P n ≡ true → of n ≡ 0
 
-module _ (P : List Entry) (slots : Slots) (legal : Legal P) (stands : Stands P slots) (by : Standing → ℕ) (of : ℕ → ℕ) (counts : Counts P by of) (size : ℕ) (whole : size ≡ table_slots) where
+module _ (P : List Entry) (slots : KeptSlots) (legal : Legal P) (stands : Stands P slots) (by : Standing → ℕ) (of : ℕ → ℕ) (counts : Counts P by of) (size : ℕ) (whole : size ≡ table_slots) where
   positive : (n : ℕ) → is_over P n ≡ false → 0 < n
   positive n o = let made = called_place P n (open_is_called P n o) in let at = number_at P legal n made.thread made.call made.at in omega arith
 
@@ -155,12 +155,12 @@ pledges_count : (P : List Entry) → Counts P pledge_by (pledge_of P)
 unfolding pledge_of standing_of
 pledges_count P = record { opened = λ n o. rw o refl; over = λ n o. rw o refl }
 
-pub pledges_told : (P : List Entry) (slots : Slots) → Legal P → Stands P slots → (i total : ℕ) → slots.top ≤ i → i ≤ slots.top → total ≡ sum_below (λ k. pledge_in (slot_at slots.table k)) i → total ≡ sum_by (pledge_of P) (numbers P)
+pub pledges_told : (P : List Entry) (slots : KeptSlots) → Legal P → Stands P slots → (i total : ℕ) → slots.top ≤ i → i ≤ slots.top → total ≡ sum_below (λ k. pledge_in (slot_at slots.table k)) i → total ≡ sum_by (pledge_of P) (numbers P)
 pledges_told P slots legal stands i total past within e = sum_told P slots legal stands pledge_by (pledge_of P) (pledges_count P) table_slots refl i total past within e
 
 opens_count : (P : List Entry) → Counts P (λ s. 1) (λ n. cond (not (is_over P n)) 1 0)
 opens_count P = record { opened = λ n o. rw o refl; over = λ n o. rw o refl }
 
-pub opens_told : (P : List Entry) (slots : Slots) → Legal P → Stands P slots → (i total : ℕ) → slots.top ≤ i → i ≤ slots.top → total ≡ sum_below (λ k. open_in (slot_at slots.table k)) i → total ≡ open_calls P
+pub opens_told : (P : List Entry) (slots : KeptSlots) → Legal P → Stands P slots → (i total : ℕ) → slots.top ≤ i → i ≤ slots.top → total ≡ sum_below (λ k. open_in (slot_at slots.table k)) i → total ≡ open_calls P
 unfolding open_calls
 opens_told P slots legal stands i total past within e = sum_told P slots legal stands (λ s. 1) (λ n. cond (not (is_over P n)) 1 0) (opens_count P) table_slots refl i total past within e

@@ -6,10 +6,10 @@ use Rattle.ipc_words.specs.Version.{next_version_of}
 use Rattle.ipc_slots.specs.Slot.{Slot}
 use Rattle.ipc_slots.specs.declared.last.Last.TheVariants.{Nothing}
 use Rattle.ipc_slots.specs.declared.slot.Live.{Live}
-use Rattle.ipc_slots.specs.declared.slots.Slots.{Slots}
+use Rattle.ipc_slots.specs.declared.kept.KeptSlots.{KeptSlots}
 
 -- slots at a moment (time), after so many calls, where nothing comes of the last entry
-pub record IsMade (slots : Slots) (time calls : ℕ) : Type 0 where
+pub record IsMade (slots : KeptSlots) (time calls : ℕ) : Type 0 where
   pub moment : slots.moment ≡ time
   pub calls_made : slots.calls_made ≡ calls
   pub top : slots.top ≡ table_slots

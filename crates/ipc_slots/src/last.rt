@@ -3,18 +3,16 @@ ghost use Rattle.std.specs.Prelude.{option_and_then};
 ghost use Rattle.ipc_history.specs.Phases.{open_call};
 ghost use Rattle.ipc_history.specs.Words.{last};
 ghost use Rattle.ipc_history.specs.NextOutput.{stop, stop_after, turn_after};
-ghost use Rattle.ipc_history.specs.Legal.{Legal};
 ghost use Rattle.ipc_history.specs.declared.entry.Entry.TheVariants.{Given, Written};
 ghost use Rattle.ipc_history.specs.declared.entry.Input.TheVariants.{Exreg};
 ghost use Rattle.ipc_history.specs.declared.entry.Output.TheVariants.{Began};
 ghost use Rattle.ipc_slots.specs.Outputs.{last_output};
 ghost use Rattle.ipc_slots.specs.Last.{last_of};
-ghost use Rattle.ipc_slots.specs.Slots.{Stands};
 ghost use Rattle.ipc_slots.specs.Rules.{IsStanding, IsSmall, stop_by, turn_by, turn_of};
 
 use crate::slot::{Phase, Standing};
 use crate::slots::Slots;
-use ipc_history::{Entries, Output};
+use ipc_history::Output;
 use ipc_words::{IpcError, MaskedControl, Phase as FailedPhase, ThreadId};
 
 /// The last entry of a history, where an output may come of it alone.
@@ -78,18 +76,12 @@ impl Standing {
 
 impl Slots {
     /// What S and R stop of an open call.
-    fn stop_call(
-        &self,
-        entries: &Entries,
-        call: &Standing,
-        control: MaskedControl,
-    ) -> Option<Output>
-        requires legal { Legal entries.now }
-        requires stands { Stands entries.now self.now }
-        requires call { IsStanding entries.now call.now }
-        ensures { result ≡ stop entries.now control call.now.number }
+    fn stop_call(&self, call: &Standing, control: MaskedControl) -> Option<Output>
+        requires { IsStanding self.now.past call.now }
+        ensures { result ≡ stop self.now.past control call.now.number }
     {
-        let is_partner_live = self.is_live(entries, call.partner());
+        let _ = self.kept();
+        let is_partner_live = self.is_live(call.partner());
         call.stop(
             is_partner_live,
             control.stops_send(),
@@ -98,79 +90,71 @@ impl Slots {
     }
 
     /// What S and R stop of the open call of a thread.
-    fn stop_of(&self, entries: &Entries, thread: ThreadId, control: MaskedControl) -> Option<Output>
-        requires legal { Legal entries.now }
-        requires stands { Stands entries.now self.now }
-        ensures { result ≡ option_and_then (stop entries.now control)
-            (open_call entries.now thread) }
+    fn stop_of(&self, thread: ThreadId, control: MaskedControl) -> Option<Output>
+        ensures { result ≡ option_and_then (stop self.now.past control)
+            (open_call self.now.past thread) }
     {
-        match self.call_of(entries, thread) {
-            Some(call) => self.stop_call(entries, &call, control),
+        match self.call_of(thread) {
+            Some(call) => self.stop_call(&call, control),
             None => None,
         }
     }
 
     /// What comes of the message of an open call that begins to pass, where it is propagated.
-    fn turn_of(&self, entries: &Entries, call: &Standing) -> Option<Output>
-        requires legal { Legal entries.now }
-        requires stands { Stands entries.now self.now }
-        requires call { IsStanding entries.now call.now }
-        ensures { result ≡ turn_of entries.now call.now.number }
+    fn turn_of(&self, call: &Standing) -> Option<Output>
+        requires { IsStanding self.now.past call.now }
+        ensures { result ≡ turn_of self.now.past call.now.number }
     {
+        let _ = self.kept();
         if call.shown == call.caller {
             return None;
         }
-        let waiting = self.call_of(entries, call.shown)?;
+        let waiting = self.call_of(call.shown)?;
         waiting.turn(call.caller, call.to)
     }
 
     /// What an ExchangeRegisters stops that is the last entry.
     fn stop_exreg(
         &self,
-        entries: &Entries,
         thread: ThreadId,
         target: ThreadId,
         control: MaskedControl,
     ) -> Option<Output>
-        requires legal { Legal entries.now }
-        requires stands { Stands entries.now self.now }
-        requires last { last entries.now ≡ Some (Given (Exreg thread target control)) }
-        ensures { result ≡ stop_after entries.now (Given (Exreg thread target control)) }
+        requires { last self.now.past ≡ Some (Given (Exreg thread target control)) }
+        ensures { result ≡ stop_after self.now.past (Given (Exreg thread target control)) }
     {
-        if self.is_live_beside(entries, target, thread) {
-            self.stop_of(entries, target, control)
+        let _ = self.kept();
+        if self.is_live_beside(target, thread) {
+            self.stop_of(target, control)
         } else {
             None
         }
     }
 
     /// What a Began makes come that is the last entry.
-    fn turn_began(&self, entries: &Entries, sending: u64, receiving: u64) -> Option<Output>
-        requires legal { Legal entries.now }
-        requires stands { Stands entries.now self.now }
-        requires last { last entries.now ≡ Some (Written (Began sending receiving)) }
-        ensures { result ≡ turn_after entries.now (Written (Began sending receiving)) }
+    fn turn_began(&self, sending: u64, receiving: u64) -> Option<Output>
+        requires { last self.now.past ≡ Some (Written (Began sending receiving)) }
+        ensures { result ≡ turn_after self.now.past (Written (Began sending receiving)) }
     {
         let _ = receiving;
-        let place = self.place_of(entries, sending);
-        let Some(call) = self.call_at(place) else {
+        let kept = self.kept();
+        let place = self.place_of(sending);
+        let Some(call) = kept.call_at(place) else {
             unreachable!()
         };
-        self.turn_of(entries, &call)
+        self.turn_of(&call)
     }
 
     /// What the last entry makes come.
-    pub fn after_last(&self, entries: &Entries) -> Option<Output>
-        requires legal { Legal entries.now }
-        requires stands { Stands entries.now self.now }
-        ensures { result ≡ last_output entries.now }
+    pub fn after_last(&self) -> Option<Output>
+        ensures { result ≡ last_output self.now.past }
     {
-        match self.last {
+        match self.kept().last {
             Last::Nothing => None,
             Last::ExchangeRegisters(thread, target, control) => {
-                self.stop_exreg(entries, thread, target, control)
+                self.stop_exreg(thread, target, control)
             }
-            Last::Began(sending, receiving) => self.turn_began(entries, sending, receiving),
+            Last::Began(sending, receiving) => self.turn_began(sending, receiving),
         }
     }
 }

@@ -1,22 +1,18 @@
 -- The live threads by their numbers.
-use Rattle.std.proofs.Common.{◌≡◌, ◌≢◌, refl, sym, ap, ◌∙◌, ℕ, zero, suc, ◌+◌, ◌<◌, ◌≤◌, List, [], ◌∷◌, ◌++◌, length, take, get_or, Option, Some, None, Bool, true, false, arith, below_more}
+use Rattle.std.proofs.Common.{◌≡◌, ◌≢◌, refl, sym, ap, ◌∙◌, ℕ, zero, suc, ◌+◌, ◌<◌, List, length, take, get_or, Option, Some, None, true, false, arith, below_more}
 use Rattle.std.specs.Prelude.{replicate}
 use Rattle.std.specs.Option.{option_or}
 use Rattle.std.proofs.Math.ListN.{set}
 use Rattle.std.proofs.lemmas.List.{get_or-set_same, get_or-set_other}
 use Rattle.ipc_words.specs.Limits.{table_slots}
-use Rattle.ipc_words.specs.ThreadId.{number_of}
 use Rattle.ipc_history.specs.Words.{last_some}
 use Rattle.ipc_history.specs.Entries.{thread_in}
 use Rattle.ipc_history.specs.Threads.{is_live, space_of}
 use Rattle.ipc_history.specs.declared.entry.Entry.{Entry}
-use Rattle.ipc_history.specs.declared.entry.Entry.TheVariants.{Given, Written}
-use Rattle.ipc_history.specs.declared.entry.Input.TheVariants.{Opened}
 use Rattle.ipc_laws.proofs.WordLemmas.{last_some_more}
 use Rattle.ipc_slots.specs.Slots.{Stands, live_at, live_of, slot_of, slot_at}
 use Rattle.ipc_slots.specs.Steps.{standing_in}
-use Rattle.ipc_slots.specs.declared.slots.Slots.{Slots}
-use Rattle.ipc_slots.specs.declared.slot.Live.{Live}
+use Rattle.ipc_slots.specs.declared.kept.KeptSlots.{KeptSlots}
 
 pub live_none : (P : List Entry) (k : ℕ) → None ≡ last_some (thread_in k) P → None ≡ (slot_of P k).live
 unfolding slot_of live_of
@@ -30,7 +26,7 @@ live_there : (P : List Entry) (k t : ℕ) → Some t ≡ last_some (thread_in k)
 unfolding slot_of live_of
 live_there P k t opened live = rw (← opened, live) refl
 
-pub live_some : (P : List Entry) (slots : Slots) (k t space : ℕ) → Stands P slots → Some t ≡ last_some (thread_in k) P → is_live P t ≡ true
+pub live_some : (P : List Entry) (slots : KeptSlots) (k t space : ℕ) → Stands P slots → Some t ≡ last_some (thread_in k) P → is_live P t ≡ true
     → space ≡ space_of P t → Some (record { thread = t; space = space; call = standing_in (slot_at slots.table k) }) ≡ (slot_of P k).live
 unfolding live_at
 live_some P slots k t space stands opened live is =

@@ -6,15 +6,9 @@ use Rattle.ipc_history.specs.Entries.{thread_in}
 use Rattle.ipc_history.specs.Threads.{now}
 use Rattle.ipc_history.specs.Legal.{Legal}
 use Rattle.ipc_history.specs.declared.entry.Entry.{Entry}
-use Rattle.ipc_slots.specs.Slots.{Stands, slot_of}
-use Rattle.ipc_slots.specs.declared.slots.Slots.{Slots}
+use Rattle.ipc_slots.specs.Slots.{slot_of}
 use Rattle.ipc_slots.specs.declared.slot.Live.{Live}
 use Rattle.ipc_state.specs.declared.state.State.{State}
-
--- a legal history, and its slots
-pub record IsBuilt (P : List Entry) (slots : Slots) : Type 0 where
-  pub legal : Legal P
-  pub stands : Stands P slots
 
 -- the entries before the place are legal, those up to it are not
 pub record IsFaultAt (P : List Entry) (index : ℕ) : Type 0 where

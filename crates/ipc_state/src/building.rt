@@ -1,15 +1,15 @@
 ghost use Rattle.std.specs.Prelude.{◌≡◌, IfOk, IfErr};
-ghost use Rattle.ipc_state.specs.States.{IsBuilt, IsFaultAt};
+ghost use Rattle.ipc_state.specs.States.{IsFaultAt};
 
 use ipc_history::{Entries, Entry};
 use ipc_past::Past;
 use ipc_slots::Slots;
 
-/// The slots of a history, as the checker builds them. An `Err` is the place of the first entry that does
+/// The slots of a history, as the checker builds them: slots are of legal histories alone. An `Err` is the place of the first entry that does
 /// not follow those before it.
 #[tactic(auto, using(crate::proofs::Walks::walked_whole))]
 pub fn slots_of(entries: &[Entry]) -> Result<Slots, usize>
-    ensures built { IfOk result (IsBuilt entries.now) }
+    ensures built { IfOk result (λ slots. slots.past ≡ entries.now) }
     ensures fault { IfErr result (IsFaultAt entries.now) }
 {
     let mut slots = Slots::new();
@@ -20,19 +20,8 @@ pub fn slots_of(entries: &[Entry]) -> Result<Slots, usize>
         if !slots.follows(&before, entry) {
             return Err(index);
         }
-        let _ = slots.note(&before, entry);
+        let _ = slots.note(entry, index);
         past.add(entry);
     }
     Ok(slots)
-}
-
-/// A history as a past, which costs nothing to make.
-pub(crate) fn past_of(entries: &[Entry]) -> Past<Entry>
-    ensures { result ≡ entries.now }
-{
-    let mut past = Past::new();
-    for index in 0..entries.len() {
-        past.add(&entries[index]);
-    }
-    past
 }

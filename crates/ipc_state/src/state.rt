@@ -4,9 +4,9 @@ ghost use Rattle.ipc_words.specs.Limits.{table_slots};
 ghost use Rattle.ipc_history.specs.Entries.{thread_in};
 ghost use Rattle.ipc_state.specs.States.{HasOpened, IsFaultAt, IsStateOf};
 
-use crate::building::{past_of, slots_of};
+use crate::building::slots_of;
 use crate::threads::threads_of;
-use ipc_history::{Entries, Entry, Input};
+use ipc_history::{Entry, Input};
 use ipc_slots::Live;
 use ipc_words::ThreadId;
 use ipc_words::limits::TABLE_SLOTS;
@@ -28,10 +28,9 @@ pub fn state_of(entries: &[Entry]) -> Result<State, usize>
 {
     let slots = slots_of(entries)?;
     let opened = last_opened(entries);
-    let past = past_of(entries);
     Ok(State {
-        threads: threads_of(&slots, &Entries::of(&past, entries), &opened),
-        moment: slots.moment(),
+        threads: threads_of(&slots, &opened),
+        moment: slots.kept().moment(),
     })
 }
 

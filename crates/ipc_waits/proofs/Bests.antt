@@ -17,7 +17,7 @@ use Rattle.ipc_slots.specs.Standings.{standing_of}
 use Rattle.ipc_slots.specs.Steps.{standing_in}
 use Rattle.ipc_slots.specs.declared.rules.Rule.{Rule}
 use Rattle.ipc_slots.specs.Slot.{Slot}
-use Rattle.ipc_slots.specs.declared.slots.Slots.{Slots}
+use Rattle.ipc_slots.specs.declared.kept.KeptSlots.{KeptSlots}
 use Rattle.ipc_slots.proofs.Betters.{least_better}
 use Rattle.ipc_slots.proofs.Holders.{slot_of_call}
 use Rattle.ipc_slots.proofs.Leasts.{first_found, rule_over}
@@ -45,7 +45,7 @@ best_more f table places i place d best within is least =
     subst (λ slot. IsLeast f (slots_at table places) (i + 1) (better_of f (standing_in slot) best)) there (least_better f (slots_at table places) i best least)
 
 -- an open call whose place is among them is seen
-pub seen_there : (P : List Entry) (slots : Slots) → Legal P → Stands P slots → (places : List ℕ) (n : ℕ) → is_over P n ≡ false → is_among places (number_of (caller_of P n)) ≡ true → (i : ℕ) × (i < length places) × (standing_in (slot_at (slots_at slots.table places) i) ≡ Some (standing_of P n))
+pub seen_there : (P : List Entry) (slots : KeptSlots) → Legal P → Stands P slots → (places : List ℕ) (n : ℕ) → is_over P n ≡ false → is_among places (number_of (caller_of P n)) ≡ true → (i : ℕ) × (i < length places) × (standing_in (slot_at (slots_at slots.table places) i) ≡ Some (standing_of P n))
 seen_there P slots legal stands places n opened placed =
     let k = number_of (caller_of P n) in
     let i = index_of places k 0 placed in
@@ -53,7 +53,7 @@ seen_there P slots legal stands places n opened placed =
     (i.0, i.1, ap standing_in (slot_there slots.table places i.0 0 i.1 ∙ ap (slot_at slots.table) i.2) ∙ at)
 
 -- so the best of the places is the first in call order
-pub best_is : (P : List Entry) (slots : Slots) (rule : Rule) (places : List ℕ) (best : Option (ℕ × Output)) → Legal P → Stands P slots → AsksOnly P places (rule_of rule P) → IsBest (rule_of rule P) slots.table places best → first_some (rule_of rule P) (numbers P) ≡ option_map (λ b. b.1) best
+pub best_is : (P : List Entry) (slots : KeptSlots) (rule : Rule) (places : List ℕ) (best : Option (ℕ × Output)) → Legal P → Stands P slots → AsksOnly P places (rule_of rule P) → IsBest (rule_of rule P) slots.table places best → first_some (rule_of rule P) (numbers P) ≡ option_map (λ b. b.1) best
 best_is P slots rule places best legal stands asks is = first_found P legal (rule_of rule P) (rule_over rule P) best is.is found
   where
     found : (n : ℕ) (y : Output) → rule_of rule P n ≡ Some y → ((k : ℕ) → k < n → rule_of rule P k ≡ None) → IsFound best n

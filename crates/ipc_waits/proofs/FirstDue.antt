@@ -5,7 +5,7 @@ use Rattle.ipc_words.specs.Limits.{last_moment}
 use Rattle.ipc_history.specs.Legal.{Legal}
 use Rattle.ipc_history.specs.declared.entry.Entry.{Entry}
 use Rattle.ipc_slots.specs.Slots.{Stands}
-use Rattle.ipc_slots.specs.declared.slots.Slots.{Slots}
+use Rattle.ipc_slots.specs.declared.kept.KeptSlots.{KeptSlots}
 use Rattle.ipc_waits.specs.FirstDue.{IsLeastDue}
 use Rattle.ipc_waits.specs.Keys.{Mirrors, due_under}
 use Rattle.ipc_waits.specs.Queues.{is_until}
@@ -13,7 +13,7 @@ use Rattle.ipc_waits.specs.declared.queue.Wait.{Wait}
 use Rattle.ipc_waits.proofs.WaitFacts.{any_is_due}
 
 -- the least key of the deadlines, where the clock reaches it
-pub least_due : (P : List Entry) (slots : Slots) → Legal P → Stands P slots → (ws : List Wait) → Mirrors due_under slots.table ws → (key least : Option ℕ) → IfSome least (λ moment. moment < last_moment + 1) → ((moment : ℕ) → moment < last_moment + 1 → is_until least moment ≡ is_until key moment) → ((moment : ℕ) → list_any (λ w. nat_le w.key moment) ws ≡ is_until key moment) → IsLeastDue P least
+pub least_due : (P : List Entry) (slots : KeptSlots) → Legal P → Stands P slots → (ws : List Wait) → Mirrors due_under slots.table ws → (key least : Option ℕ) → IfSome least (λ moment. moment < last_moment + 1) → ((moment : ℕ) → moment < last_moment + 1 → is_until least moment ≡ is_until key moment) → ((moment : ℕ) → list_any (λ w. nat_le w.key moment) ws ≡ is_until key moment) → IsLeastDue P least
 least_due P slots legal stands ws mirrors key least within same is = record {
   within = within;
   due = λ moment early. sym (any_is_due P slots legal stands ws mirrors moment (omega (arith, early))) ∙ (is moment ∙ sym (same moment early));

@@ -65,9 +65,9 @@ abbrev followed_by : List Slot → Option Change → (ℕ → Option Standing) �
 followed_by table None calls = calls
 followed_by table (Some c) calls = changed_at c.place (calls_in table c.place) calls
 
-have_followed : (calls : ℕ → Option Standing) (old new : Waiting) (change : Option Change) → HaveAll calls old.waits → FollowsChange old new change → HaveAll (followed_by old.slots.table change calls) new.waits
+have_followed : (calls : ℕ → Option Standing) (old new : Waiting) (change : Option Change) → HaveAll calls old.waits → FollowsChange old new change → HaveAll (followed_by old.slots.kept.table change calls) new.waits
 have_followed calls old new None have follows = subst (λ w. HaveAll calls w.waits) (sym (follows.nothing refl)) have
-have_followed calls old new (Some c) have follows = have_changed calls old.waits new.waits c.place (calls_in old.slots.table c.place) have follows.followed.here follows.followed.elsewhere
+have_followed calls old new (Some c) have follows = have_changed calls old.waits new.waits c.place (calls_in old.slots.kept.table c.place) have follows.followed.here follows.followed.elsewhere
 
 followed_is : (table : List Slot) (change : Option Change) (calls : ℕ → Option Standing) (k : ℕ) → (names_place k change ≡ false → calls k ≡ calls_in table k) → followed_by table change calls k ≡ calls_in table k
 followed_is table None calls k same = same refl
@@ -78,9 +78,9 @@ followed_is table (Some c) calls k same = go (k == c.place) refl
     go false e = same (eqb_sym c.place k ∙ e)
 
 -- so where both changes are followed the queues have the calls that the slots hold
-module _ (table : List Slot) (changes : Changes) (old first second : Waiting) (changed : HaveChanged table old.slots.table changes) (one : FollowsChange old first changes.first) (two : FollowsChange first second changes.second) where
-  calls_are : (k : ℕ) → followed_by first.slots.table changes.second (followed_by old.slots.table changes.first (calls_in table)) k ≡ calls_in second.slots.table k
-  calls_are k = ap (λ s. followed_by s.table changes.second (followed_by old.slots.table changes.first (calls_in table)) k) one.slots ∙ (followed_is old.slots.table changes.second _ k (λ no_second. followed_is old.slots.table changes.first (calls_in table) k (λ no_first. ap standing_in (sym (changed.elsewhere k (neither _ _ no_first no_second))))) ∙ ap (λ s. calls_in s.table k) (sym (two.slots ∙ one.slots)))
+module _ (table : List Slot) (changes : Changes) (old first second : Waiting) (changed : HaveChanged table old.slots.kept.table changes) (one : FollowsChange old first changes.first) (two : FollowsChange first second changes.second) where
+  calls_are : (k : ℕ) → followed_by first.slots.kept.table changes.second (followed_by old.slots.kept.table changes.first (calls_in table)) k ≡ calls_in second.slots.kept.table k
+  calls_are k = ap (λ s. followed_by s.kept.table changes.second (followed_by old.slots.kept.table changes.first (calls_in table)) k) one.slots ∙ (followed_is old.slots.kept.table changes.second _ k (λ no_second. followed_is old.slots.kept.table changes.first (calls_in table) k (λ no_first. ap standing_in (sym (changed.elsewhere k (neither _ _ no_first no_second))))) ∙ ap (λ s. calls_in s.kept.table k) (sym (two.slots ∙ one.slots)))
     where
       neither : (a b : Bool) → a ≡ false → b ≡ false → (a || b) ≡ false
       neither a b x y = grind arith
@@ -88,7 +88,7 @@ module _ (table : List Slot) (changes : Changes) (old first second : Waiting) (c
   has_again : (key_of : Standing → Option ℕ) (calls again : ℕ → Option Standing) (waits : List Wait) → ((k : ℕ) → calls k ≡ again k) → HasAll key_of calls waits → HasAll key_of again waits
   has_again key_of calls again waits same has w = has w ∙ ap (λ c. is_of key_of c w) (same w.place)
 
-  pub waits_are : AreWaits table old.waits → AreWaits second.slots.table second.waits
+  pub waits_are : AreWaits table old.waits → AreWaits second.slots.kept.table second.waits
   waits_are are =
       let have = have_followed _ first second changes.second (have_followed (calls_in table) old first changes.first (record { senders = are.senders; watchers = are.watchers; deadlines = are.deadlines }) one) two in
       record {
@@ -107,34 +107,34 @@ stays old new place k is_open follows held among = follows k ∙ go (place == k)
     go true same = held same
     go false other = among
 
-follows_keeps : (old new : Waiting) (change : Option Change) → FollowsChange old new change → (k : ℕ) → is_some (calls_in old.slots.table k) ≡ true → is_among old.candidates k ≡ true → is_among new.candidates k ≡ true
+follows_keeps : (old new : Waiting) (change : Option Change) → FollowsChange old new change → (k : ℕ) → is_some (calls_in old.slots.kept.table k) ≡ true → is_among old.candidates k ≡ true → is_among new.candidates k ≡ true
 follows_keeps old new None follows k held among = ap (λ w. is_among w.candidates k) (follows.nothing refl) ∙ among
-follows_keeps old new (Some c) follows k held among = stays old.candidates new.candidates c.place k _ follows.followed.candidates (λ same. ap (λ j. is_some (calls_in old.slots.table j)) (eqb-true c.place k same) ∙ held) among
+follows_keeps old new (Some c) follows k held among = stays old.candidates new.candidates c.place k _ follows.followed.candidates (λ same. ap (λ j. is_some (calls_in old.slots.kept.table j)) (eqb-true c.place k same) ∙ held) among
 
-follows_adds : (old new : Waiting) (change : Option Change) → FollowsChange old new change → (k : ℕ) → is_some (calls_in old.slots.table k) ≡ true → names_place k change ≡ true → is_among new.candidates k ≡ true
+follows_adds : (old new : Waiting) (change : Option Change) → FollowsChange old new change → (k : ℕ) → is_some (calls_in old.slots.kept.table k) ≡ true → names_place k change ≡ true → is_among new.candidates k ≡ true
 follows_adds old new None follows k held named = absurd (false≢true named)
-follows_adds old new (Some c) follows k held named = follows.followed.candidates k ∙ rw named (ap (λ j. is_some (calls_in old.slots.table j)) (eqb-true c.place k named) ∙ held)
+follows_adds old new (Some c) follows k held named = follows.followed.candidates k ∙ rw named (ap (λ j. is_some (calls_in old.slots.kept.table j)) (eqb-true c.place k named) ∙ held)
 
 module _ (changes : Changes) (old first second : Waiting) (one : FollowsChange old first changes.first) (two : FollowsChange first second changes.second) where
-  open_then : (k : ℕ) → is_some (calls_in old.slots.table k) ≡ true → is_some (calls_in first.slots.table k) ≡ true
-  open_then k held = ap (λ s. is_some (calls_in s.table k)) one.slots ∙ held
+  open_then : (k : ℕ) → is_some (calls_in old.slots.kept.table k) ≡ true → is_some (calls_in first.slots.kept.table k) ≡ true
+  open_then k held = ap (λ s. is_some (calls_in s.kept.table k)) one.slots ∙ held
 
-  pub places_stay : (k : ℕ) → is_some (calls_in old.slots.table k) ≡ true → is_among old.candidates k ≡ true → is_among second.candidates k ≡ true
+  pub places_stay : (k : ℕ) → is_some (calls_in old.slots.kept.table k) ≡ true → is_among old.candidates k ≡ true → is_among second.candidates k ≡ true
   places_stay k held among = follows_keeps first second changes.second two k (open_then k held) (follows_keeps old first changes.first one k held among)
 
-  pub places_come : (k : ℕ) → is_some (calls_in old.slots.table k) ≡ true → changes_at changes k ≡ true → is_among second.candidates k ≡ true
+  pub places_come : (k : ℕ) → is_some (calls_in old.slots.kept.table k) ≡ true → changes_at changes k ≡ true → is_among second.candidates k ≡ true
   places_come k held at = elim (or_cases (names_place k changes.first) (names_place k changes.second) at) [
     | inl a ↦ follows_keeps first second changes.second two k (open_then k held) (follows_adds old first changes.first one k held a)
     | inr b ↦ follows_adds first second changes.second two k (open_then k held) b
   ]
 
 -- An entry is followed
-module _ (P : List Entry) (e : Entry) (legal : Legal P) (follows : Follows P e) (table : List Slot) (changes : Changes) (old first second : Waiting) (stands : Stands (P ++ e ∷ []) old.slots) (changed : HaveChanged table old.slots.table changes) (named : HasNamed P e changes) (one : FollowsChange old first changes.first) (two : FollowsChange first second changes.second) where
+module _ (P : List Entry) (e : Entry) (legal : Legal P) (follows : Follows P e) (table : List Slot) (changes : Changes) (old first second : Waiting) (past : old.slots.past ≡ P ++ e ∷ []) (stands : Stands (P ++ e ∷ []) old.slots.kept) (changed : HaveChanged table old.slots.kept.table changes) (named : HasNamed P e changes) (one : FollowsChange old first changes.first) (two : FollowsChange first second changes.second) where
   covers_again : IsTouched P e old.candidates → CoversAt (P ++ e ∷ []) second.candidates
   covers_again touched = entry_covers_at P e touched.base second.candidates legal follows touched.covers (λ n opened among. places_stay changes old first second one two (number_of (caller_of (P ++ e ∷ []) n)) (open_there n opened) (touched.kept _ among)) there
     where
       -- the slot of its caller holds an held call
-      open_there : (n : ℕ) → is_over (P ++ e ∷ []) n ≡ false → is_some (calls_in old.slots.table (number_of (caller_of (P ++ e ∷ []) n))) ≡ true
+      open_there : (n : ℕ) → is_over (P ++ e ∷ []) n ≡ false → is_some (calls_in old.slots.kept.table (number_of (caller_of (P ++ e ∷ []) n))) ≡ true
       open_there n opened = ap (λ slot. is_some (standing_in slot)) (stands.table (number_of (caller_of (P ++ e ∷ []) n))) ∙ ap is_some (slot_of_call (P ++ e ∷ []) (legal_push P e legal follows) n opened)
 
       there : (n : ℕ) → is_among (touched_by P e) n ≡ true → is_over (P ++ e ∷ []) n ≡ false → is_among second.candidates (number_of (caller_of (P ++ e ∷ []) n)) ≡ true
@@ -146,9 +146,8 @@ module _ (P : List Entry) (e : Entry) (legal : Legal P) (follows : Follows P e) 
               let waits = touched.unnamed n among is in
               places_stay changes old first second one two (number_of (caller_of (P ++ e ∷ []) n)) (open_there n opened) (ap (λ t. is_among old.candidates (number_of t)) (caller_of_kept P (e ∷ []) n (open_is_called P n waits.0)) ∙ waits.1)
 
-  pub noted : AreWaits table old.waits → IsTouched P e old.candidates → IsWaiting (P ++ e ∷ []) second
+  pub noted : AreWaits table old.waits → IsTouched P e old.candidates → IsWaiting second
   noted are touched = record {
-    slots = subst (Stands (P ++ e ∷ [])) (sym (two.slots ∙ one.slots)) stands;
     waits = waits_are table changes old first second changed one two are;
-    covers = covers_again touched;
+    covers = subst (λ H. CoversAt H second.candidates) (sym (ap (λ s. s.past) (two.slots ∙ one.slots) ∙ past)) (covers_again touched);
   }

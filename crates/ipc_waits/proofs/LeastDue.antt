@@ -23,7 +23,7 @@ use Rattle.ipc_waits.proofs.Kept.{due_at_open}
 use Rattle.ipc_slots.specs.Rules.{rule_of}
 use Rattle.ipc_slots.specs.declared.rules.Rule.TheVariants.{Expires}
 use Rattle.ipc_slots.specs.Slots.{Stands}
-use Rattle.ipc_slots.specs.declared.slots.Slots.{Slots}
+use Rattle.ipc_slots.specs.declared.kept.KeptSlots.{KeptSlots}
 use Rattle.ipc_waits.specs.Keys.{Mirrors, due_under}
 use Rattle.ipc_waits.specs.Next.{IsOpenAt}
 use Rattle.ipc_waits.specs.Queues.{IsLeastWait, is_in, until}
@@ -79,7 +79,7 @@ module _ {Y : Type 0} (f : ℕ → Option Y) where
 
 -- The least that is due
 
-module _ (P : List Entry) (slots : Slots) (legal : Legal P) (stands : Stands P slots) (ws : List Wait) (mirrors : Mirrors due_under slots.table ws) where
+module _ (P : List Entry) (slots : KeptSlots) (legal : Legal P) (stands : Stands P slots) (ws : List Wait) (mirrors : Mirrors due_under slots.table ws) where
   pub due_is_open : (moment : ℕ) (w : Wait) → is_in (until moment ws) w ≡ true → IsOpenAt P w
   due_is_open moment w there =
       let wait = wait_of P slots legal stands due_under ws mirrors w (right (nat_le w.key moment) (is_in ws w) (sym (in_filter (λ w. nat_le w.key moment) ws w) ∙ there)) in

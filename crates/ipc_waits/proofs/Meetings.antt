@@ -28,7 +28,7 @@ use Rattle.ipc_slots.specs.declared.slot.Phase.{Phase}
 use Rattle.ipc_slots.specs.declared.slot.Phase.TheVariants.{Sending, Passing, Receiving, Taking}
 use Rattle.ipc_slots.specs.Slot.{Slot}
 use Rattle.ipc_slots.specs.declared.slot.Standing.{Standing}
-use Rattle.ipc_slots.specs.declared.slots.Slots.{Slots}
+use Rattle.ipc_slots.specs.declared.kept.KeptSlots.{KeptSlots}
 use Rattle.ipc_slots.proofs.Betters.{earlier_found, earlier_gives, earlier_keeps}
 use Rattle.ipc_slots.proofs.Holders.{slot_of_call}
 use Rattle.ipc_slots.proofs.Leasts.{first_found, slot_standing}
@@ -98,7 +98,7 @@ meeting_more P table places i place d best within is least =
     subst (λ slot. IsLeastMeeting P (slots_at table places) (i + 1) (better_meeting P (standing_in slot) best)) there (least_meeting_more P (slots_at table places) i best least)
 
 -- so the best is the meeting of the least sending call
-pub meeting_is : (P : List Entry) (slots : Slots) (places : List ℕ) (best : Option (ℕ × Output)) → Legal P → Stands P slots → CoversAt P places → IsLeastMeeting P (slots_at slots.table places) (length places) best → first_some (meeting_of P) (numbers P) ≡ option_map (λ b. b.1) best
+pub meeting_is : (P : List Entry) (slots : KeptSlots) (places : List ℕ) (best : Option (ℕ × Output)) → Legal P → Stands P slots → CoversAt P places → IsLeastMeeting P (slots_at slots.table places) (length places) best → first_some (meeting_of P) (numbers P) ≡ option_map (λ b. b.1) best
 meeting_is P slots places best legal stands covers least = first_found P legal (meeting_of P) (over_no_meeting P) best least.is found
   where
     found : (n : ℕ) (y : Output) → meeting_of P n ≡ Some y → ((k : ℕ) → k < n → meeting_of P k ≡ None) → IsFound best n
@@ -113,7 +113,7 @@ meeting_is P slots places best legal stands covers least = first_found P legal (
 number_is : (P : List Entry) (s : Standing) (n : ℕ) → s ≡ standing_of P n → s.number ≡ n
 number_is P s n e = ap (λ s. s.number) e ∙ standing_number P n
 
-module _ (P : List Entry) (slots : Slots) (legal : Legal P) (stands : Stands P slots) (w : Wait) (there : IsOpenAt P w) where
+module _ (P : List Entry) (slots : KeptSlots) (legal : Legal P) (stands : Stands P slots) (w : Wait) (there : IsOpenAt P w) where
   held_there : standing_in (slot_at slots.table w.place) ≡ Some (standing_of P w.number)
   held_there = ap (λ k. standing_in (slot_at slots.table k)) (sym there.place) ∙ (ap standing_in (stands.table (number_of (caller_of P w.number))) ∙ slot_of_call P legal w.number there.opened)
 
@@ -173,7 +173,7 @@ firsts P test (x ∷ ws) same = go (meeting_by P x.number) refl (test x.number) 
     go (Some m) e false f later = absurd (false≢true (sym f ∙ (sym here ∙ ap is_some e)))
     go None e true f later = absurd (false≢true (sym (sym f ∙ (sym here ∙ ap is_some e))))
 
-module _ (P : List Entry) (slots : Slots) (legal : Legal P) (stands : Stands P slots) (ws : List Wait) (mirrors : Mirrors sends_under slots.table ws) (m : ℕ) (opened : is_over P m ≡ false) (receives : is_receiving P m ≡ true) where
+module _ (P : List Entry) (slots : KeptSlots) (legal : Legal P) (stands : Stands P slots) (ws : List Wait) (mirrors : Mirrors sends_under slots.table ws) (m : ℕ) (opened : is_over P m ≡ false) (receives : is_receiving P m ≡ true) where
   abbrev accepted : ℕ → Bool
   accepted k = not (to_of P k == caller_of P k) && accepts P m (shown_sender P k)
 

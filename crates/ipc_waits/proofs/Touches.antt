@@ -20,7 +20,7 @@ use Rattle.ipc_waits.proofs.AtPlaces.IsTouched.{Due, Named, Watching}
 use Rattle.ipc_waits.proofs.Kept.{due_at_open}
 use Rattle.ipc_slots.specs.Slots.{Stands, live_of, slot_of}
 use Rattle.ipc_slots.specs.Steps.{standing_in}
-use Rattle.ipc_slots.specs.declared.slots.Slots.{Slots}
+use Rattle.ipc_slots.specs.declared.kept.KeptSlots.{KeptSlots}
 use Rattle.ipc_waits.specs.Keys.{AreWaits}
 use Rattle.ipc_waits.specs.Touching.{waits_touched}
 use Rattle.ipc_waits.specs.Waiting.{IsTouched}
@@ -28,7 +28,7 @@ use Rattle.ipc_waits.specs.declared.waits.Waits.{Waits}
 use Rattle.ipc_waits.proofs.WaitFacts.{due_wait_until, watchers_wait}
 use Rattle.ipc_waits.proofs.WaitKeys.{watches_open}
 
-module _ (P : List Entry) (slots : Slots) (waits : Waits) (legal : Legal P) (stands : Stands P slots) (are : AreWaits slots.table waits) (n : ℕ) where
+module _ (P : List Entry) (slots : KeptSlots) (waits : Waits) (legal : Legal P) (stands : Stands P slots) (are : AreWaits slots.table waits) (n : ℕ) where
   -- the place of the call is that of a wait which the entry touches
   abbrev Waits_there : Entry → Type 0
   Waits_there e = (is_over P n ≡ false) × (is_among (map (λ w. w.place) (waits_touched e waits)) (number_of (caller_of P n)) ≡ true)
@@ -55,7 +55,7 @@ module _ (P : List Entry) (slots : Slots) (waits : Waits) (legal : Legal P) (sta
       go (Due moment c d) = due e moment c d
 
 -- so before an entry its places are found: an input comes where nothing was asked for any more, an output leaves what was asked for
-module _ (P : List Entry) (slots : Slots) (waits : Waits) (legal : Legal P) (stands : Stands P slots) (are : AreWaits slots.table waits) (e : Entry) (follows : Follows P e) (base places : List ℕ) (covers : CoversAt P base) (added : (k : ℕ) → is_among places k ≡ (is_among base k || is_among (map (λ w. w.place) (waits_touched e waits)) k)) where
+module _ (P : List Entry) (slots : KeptSlots) (waits : Waits) (legal : Legal P) (stands : Stands P slots) (are : AreWaits slots.table waits) (e : Entry) (follows : Follows P e) (base places : List ℕ) (covers : CoversAt P base) (added : (k : ℕ) → is_among places k ≡ (is_among base k || is_among (map (λ w. w.place) (waits_touched e waits)) k)) where
   among_left : (a b c : Bool) → c ≡ (a || b) → a ≡ true → c ≡ true
   among_left a b c e h = grind arith
 

@@ -24,7 +24,7 @@ use Rattle.ipc_slots.specs.Slots.{Stands, slot_at}
 use Rattle.ipc_slots.specs.Standings.{standing_of}
 use Rattle.ipc_slots.specs.Steps.{standing_in}
 use Rattle.ipc_slots.specs.declared.slot.Standing.{Standing}
-use Rattle.ipc_slots.specs.declared.slots.Slots.{Slots}
+use Rattle.ipc_slots.specs.declared.kept.KeptSlots.{KeptSlots}
 use Rattle.ipc_slots.proofs.Holders.{call_of_slot, slot_of_call}
 use Rattle.ipc_slots.proofs.ThreadSteps.{live_within}
 use Rattle.ipc_waits.specs.Keys.{Mirrors, due_under, is_of, sends_under, watches_under}
@@ -52,7 +52,7 @@ its_number P n = eq-eqb n n refl
 abbrev pub wait_for : List Entry → ℕ → ℕ → Wait
 wait_for P n key = record { key = key; number = n; place = number_of (caller_of P n) }
 
-module _ (P : List Entry) (slots : Slots) (legal : Legal P) (stands : Stands P slots) (key_of : Standing → Option ℕ) (ws : List Wait) (mirrors : Mirrors key_of slots.table ws) where
+module _ (P : List Entry) (slots : KeptSlots) (legal : Legal P) (stands : Stands P slots) (key_of : Standing → Option ℕ) (ws : List Wait) (mirrors : Mirrors key_of slots.table ws) where
   pub wait_of : (w : Wait) → is_in ws w ≡ true → IsWaitOf P key_of w
   wait_of w there = go (standing_in (slot_at slots.table w.place)) refl (sym (mirrors w) ∙ there)
     where
@@ -95,7 +95,7 @@ module _ (P : List Entry) (slots : Slots) (legal : Legal P) (stands : Stands P s
 
 -- The waiting sends
 
-module _ (P : List Entry) (slots : Slots) (legal : Legal P) (stands : Stands P slots) (ws : List Wait) (mirrors : Mirrors sends_under slots.table ws) where
+module _ (P : List Entry) (slots : KeptSlots) (legal : Legal P) (stands : Stands P slots) (ws : List Wait) (mirrors : Mirrors sends_under slots.table ws) where
   -- those to a thread are its senders
   pub sender_is : (t : ℕ) (w : Wait) → is_in (under t ws) w ≡ true → sends_to P w.number t ≡ true
   sender_is t w there =
@@ -131,7 +131,7 @@ module _ (P : List Entry) (slots : Slots) (legal : Legal P) (stands : Stands P s
 -- The watchers
 
 -- a live thread is a thread
-live_is_neither : (P : List Entry) (slots : Slots) → Legal P → Stands P slots → (t : ℕ) → is_live P t ≡ true → ((t == anythread) ≡ false) × ((t == anylocalthread) ≡ false)
+live_is_neither : (P : List Entry) (slots : KeptSlots) → Legal P → Stands P slots → (t : ℕ) → is_live P t ≡ true → ((t == anythread) ≡ false) × ((t == anylocalthread) ≡ false)
 live_is_neither P slots legal stands t live =
     let within = live_within P slots legal stands t live in
     (other anythread (omega arith) within, other anylocalthread (omega arith) within)
@@ -139,7 +139,7 @@ live_is_neither P slots legal stands t live =
     other : (id : ℕ) → table_slots ≤ number_of id → number_of t < table_slots → (t == id) ≡ false
     other id far near = false_from_ne_true (t == id) (λ same. (let e : number_of t ≡ number_of id = ap number_of (eqb-true t id same) in absurd (omega arith)))
 
-module _ (P : List Entry) (slots : Slots) (legal : Legal P) (stands : Stands P slots) (ws : List Wait) (mirrors : Mirrors watches_under slots.table ws) where
+module _ (P : List Entry) (slots : KeptSlots) (legal : Legal P) (stands : Stands P slots) (ws : List Wait) (mirrors : Mirrors watches_under slots.table ws) where
   pub watcher_waits : (t n : ℕ) → is_live P t ≡ true → watches P t n ≡ true → is_in (under t ws) (wait_for P n t) ≡ true
   watcher_waits t n live h =
       let thread = live_is_neither P slots legal stands t live in
@@ -151,7 +151,7 @@ module _ (P : List Entry) (slots : Slots) (legal : Legal P) (stands : Stands P s
 
 -- The deadlines
 
-module _ (P : List Entry) (slots : Slots) (legal : Legal P) (stands : Stands P slots) (ws : List Wait) (mirrors : Mirrors due_under slots.table ws) where
+module _ (P : List Entry) (slots : KeptSlots) (legal : Legal P) (stands : Stands P slots) (ws : List Wait) (mirrors : Mirrors due_under slots.table ws) where
   pub due_waits : (moment n : ℕ) → is_due_at P moment n ≡ true → (key : ℕ) × (is_in ws (wait_for P n key) ≡ true) × (nat_le key moment ≡ true)
   due_waits moment n due = go (due_under (standing_of P n)) refl (due_reaches P legal n o moment due)
     where

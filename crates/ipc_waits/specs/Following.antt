@@ -14,10 +14,10 @@ CanFollow waiting change = IfSome change (λ c. (c.place < table_slots) × HaveA
 
 -- from then on they have those of the call that the slot holds; elsewhere they are as they were
 pub record Followed (old new : Waiting) (change : Change) : Type 0 where
-  pub here : HaveAt new.waits change.place (standing_in (slot_at old.slots.table change.place))
+  pub here : HaveAt new.waits change.place (standing_in (slot_at old.slots.kept.table change.place))
   pub elsewhere : SameElsewhere old.waits new.waits change.place
   pub candidates : FollowsPlace old.candidates new.candidates change.place
-      (is_some (standing_in (slot_at old.slots.table change.place)))
+      (is_some (standing_in (slot_at old.slots.kept.table change.place)))
 
 pub record FollowsChange (old new : Waiting) (change : Option Change) : Type 0 where
   pub slots : new.slots ≡ old.slots

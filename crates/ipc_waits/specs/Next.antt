@@ -8,12 +8,15 @@ use Rattle.ipc_history.specs.Phases.{is_over}
 use Rattle.ipc_history.specs.declared.entry.Entry.{Entry}
 use Rattle.ipc_history.specs.declared.entry.Output.{Output}
 use Rattle.ipc_waits.specs.Finding.{source_of}
+use Rattle.ipc_slots.specs.PastSlots.{PastSlots}
 use Rattle.ipc_slots.specs.Least.{IsFound, IsLeast, earlier}
 use Rattle.ipc_slots.specs.Slots.{slot_at}
 use Rattle.ipc_slots.specs.Steps.{standing_in}
 use Rattle.ipc_slots.specs.Slot.{Slot}
 use Rattle.ipc_slots.specs.declared.slot.Standing.{Standing}
+use Rattle.ipc_waits.specs.Waiting.{IsWaiting}
 use Rattle.ipc_waits.specs.declared.queue.Wait.{Wait}
+use Rattle.ipc_waits.specs.declared.waiting.Waiting.{Waiting}
 
 -- the slots at these places
 abbrev pub slots_at : List Slot → List ℕ → List Slot
@@ -46,3 +49,8 @@ pub record IsLeastMeeting (P : List Entry) (table : List Slot) (i : ℕ) (best :
 pub record IsOpenAt (P : List Entry) (w : Wait) : Type 0 where
   pub opened : IsFalse (is_over P w.number)
   pub place : number_of (caller_of P w.number) ≡ w.place
+
+-- slots that are read are those of this one, of which its invariant holds
+pub record IsReadAs (slots : PastSlots) (waiting : Waiting) : Type 0 where
+  pub same : slots ≡ waiting.slots
+  pub holds : IsWaiting waiting

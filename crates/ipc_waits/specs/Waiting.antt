@@ -6,16 +6,14 @@ use Rattle.ipc_history.specs.Entries.{names}
 use Rattle.ipc_history.specs.Phases.{is_over}
 use Rattle.ipc_history.specs.declared.entry.Entry.{Entry}
 use Rattle.ipc_waits.specs.Finding.{CoversAt, is_among, touched}
-use Rattle.ipc_slots.specs.Slots.{Stands}
 use Rattle.ipc_waits.specs.Keys.{AreWaits}
 use Rattle.ipc_waits.specs.declared.waiting.Waiting.{Waiting}
 
--- the slots are those of the history, the queues have the waits of the calls that the slots hold, and each output that is
+-- the queues have the waits of the calls that the slots hold, and each output that is
 -- possible is found under a call at one of the places
-pub record IsWaiting (P : List Entry) (waiting : Waiting) : Type 0 where
-  pub slots : Stands P waiting.slots
-  pub waits : AreWaits waiting.slots.table waiting.waits
-  pub covers : CoversAt P waiting.candidates
+pub record IsWaiting (waiting : Waiting) : Type 0 where
+  pub waits : AreWaits waiting.slots.kept.table waiting.waits
+  pub covers : CoversAt waiting.slots.past waiting.candidates
 
 -- before an entry: the places have those under whose calls an output is found, and those of the calls that the entry touches
 -- without naming them

@@ -2,7 +2,7 @@ ghost use Rattle.std.specs.Prelude.{◌≡◌, ℕ, ◌+◌, ◌<◌, ◌++◌, 
 ghost use Rattle.std.specs.List.{list_any};
 ghost use Rattle.ipc_words.specs.Limits.{last_moment};
 ghost use Rattle.ipc_history.specs.Calls.{numbers};
-ghost use Rattle.ipc_history.specs.Legal.{Legal, Follows};
+ghost use Rattle.ipc_history.specs.Legal.{Follows};
 ghost use Rattle.ipc_history.specs.Timing.{is_due_at};
 ghost use Rattle.ipc_waits.specs.FirstDue.{IsLeastDue};
 ghost use Rattle.ipc_waits.specs.Following.{CanFollow, FollowsChange};
@@ -11,7 +11,7 @@ ghost use Rattle.ipc_waits.specs.Waiting.{IsTouched, IsWaiting};
 
 use crate::candidates::Candidates;
 use crate::waits::Waits;
-use ipc_history::{Entries, Entry};
+use ipc_history::Entry;
 use ipc_memory::Memory;
 use ipc_slots::{Change, Slots};
 use ipc_words::limits::LAST_MOMENT;
@@ -44,11 +44,14 @@ impl Waiting {
     ///
     /// Where a growth of memory is refused.
     pub fn new<M: Memory>(memory: M) -> Result<Waiting, AllocError>
-        ensures empty { IfOk result (IsWaiting []) }
+        ensures past { IfOk result (λ waiting. waiting.slots.past ≡ []) }
+        ensures empty { IfOk result IsWaiting }
         ensures ample { M.is_ample → IsOk result }
     {
+        let slots = Slots::new();
+        let _ = slots.kept();
         Ok(Waiting {
-            slots: Slots::new(),
+            slots,
             waits: Waits::new(memory)?,
             candidates: Candidates::new(memory)?,
         })
@@ -63,15 +66,14 @@ impl Waiting {
 
     /// Before an entry, finds the calls that it touches without naming them: those whose partner ends, and those that are due.
     /// An input comes where nothing more is possible, so that what was looked at before is forgotten.
-    fn touch(&mut self, entries: &Entries, entry: &Entry)
-        requires legal { Legal entries.now }
-        requires follows { Follows entries.now entry.now }
-        requires waiting { IsWaiting entries.now self.old }
+    fn touch(&mut self, entry: &Entry)
+        requires follows { Follows self.old.slots.past entry.now }
+        requires waiting { IsWaiting self.old }
         ensures slots { self.new.slots ≡ self.old.slots }
         ensures waits { self.new.waits ≡ self.old.waits }
-        ensures touched { IsTouched entries.now entry.now self.new.candidates }
+        ensures touched { IsTouched self.old.slots.past entry.now self.new.candidates }
     {
-        let _ = entries;
+        let _ = self.slots.kept();
         if let Entry::Given(_) = entry {
             self.candidates.clear();
         }
@@ -92,38 +94,38 @@ impl Waiting {
         }
     }
 
-    /// Takes note of the next entry of a legal history, whose entries before it these are. Takes no memory.
-    pub fn note(&mut self, entries: &Entries, entry: &Entry)
-        requires legal { Legal entries.now }
-        requires follows { Follows entries.now entry.now }
-        requires waiting { IsWaiting entries.now self.old }
-        ensures { IsWaiting (entries.now ++ entry.now ∷ []) self.new }
+    /// Takes note of the next entry of the history, which memory may hold at the hint where it enters a call. Takes no memory.
+    pub fn note(&mut self, entry: &Entry, hint: usize)
+        requires follows { Follows self.old.slots.past entry.now }
+        requires waiting { IsWaiting self.old }
+        ensures past { self.new.slots.past ≡ self.old.slots.past ++ entry.now ∷ [] }
+        ensures waiting { IsWaiting self.new }
     {
-        self.touch(entries, entry);
-        let changes = self.slots.note(entries, entry);
+        self.touch(entry);
+        let _ = self.slots.kept();
+        let changes = self.slots.note(entry, hint);
         self.follow(changes.first);
         self.follow(changes.second);
+        let _ = self.slots.kept();
     }
 
     /// Whether a waiting phase is due at a moment. Looks at the least deadline alone.
-    pub fn is_any_due_at(&self, entries: &Entries, moment: u64) -> bool
-        requires legal { Legal entries.now }
-        requires waiting { IsWaiting entries.now self.now }
+    pub fn is_any_due_at(&self, moment: u64) -> bool
+        requires waiting { IsWaiting self.now }
         requires in_range { moment < last_moment + 1 }
-        ensures { result ≡ list_any (is_due_at entries.now moment) (numbers entries.now) }
+        ensures { result ≡ list_any (is_due_at self.now.slots.past moment) (numbers self.now.slots.past) }
     {
-        let _ = entries;
+        let _ = self.slots.kept();
         self.waits.deadlines().is_any_until(moment)
     }
 
     /// The least moment, in microseconds, at which a waiting phase is due; None where no clock reading makes one due. Looks at the least
     /// deadline alone.
-    pub fn least_due(&self, entries: &Entries) -> Option<u64>
-        requires legal { Legal entries.now }
-        requires waiting { IsWaiting entries.now self.now }
-        ensures { IsLeastDue entries.now result }
+    pub fn least_due(&self) -> Option<u64>
+        requires { IsWaiting self.now }
+        ensures { IsLeastDue self.now.slots.past result }
     {
-        let _ = entries;
+        let _ = self.slots.kept();
         reached(self.waits.deadlines().least_key())
     }
 }

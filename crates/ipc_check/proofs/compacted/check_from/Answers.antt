@@ -10,16 +10,14 @@ pub returns-then-not-follows-clause-no : goal.returns-then-not-follows-clause-no
 returns-then-not-follows-clause-no g c =
     let l = c.loop-index in
     let e = c.index-entries-index in
-    let same = c.of_pieces-so_far.ensures ∙ l.invariant.walked in
-    fault_after g.before.past c.args.kept.now c.args.entries.now c.of_pieces-so_far.result l.index e.result c.loop-index-test.true e.is same
+    fault_after g.before.past c.args.kept.now c.args.entries.now l.slots.past l.index e.result c.loop-index-test.true e.is l.invariant.told
     c.next_output.result l.invariant.legal c.if-not-follows.ensures.no c.next_output.ensures
 
 pub returns-then-not-follows-clause-yes : goal.returns-then-not-follows-clause-yes
 returns-then-not-follows-clause-yes g c =
     let l = c.loop-index in
     let e = c.index-entries-index in
-    let same = c.of_pieces-so_far.ensures ∙ l.invariant.walked in
-    let fault = fault_after g.before.past c.args.kept.now c.args.entries.now c.of_pieces-so_far.result l.index e.result c.loop-index-test.true e.is same
+    let fault = fault_after g.before.past c.args.kept.now c.args.entries.now l.slots.past l.index e.result c.loop-index-test.true e.is l.invariant.told
     c.next_output.result l.invariant.legal c.if-not-follows.ensures.no c.next_output.ensures in
     let expected = c.next_output.result in
     ((λ yes. absurd (no_is_not_yes l.index expected yes)), (λ legal. absurd (fault_all g.before.past c.args.entries.now l.index expected fault legal)))
@@ -28,7 +26,7 @@ pub loop-index-preserved : goal.loop-index-preserved
 loop-index-preserved g c =
     let l = c.loop-index in
     let e = c.index-entries-index in
-    let same = c.of_pieces-so_far.ensures ∙ l.invariant.walked in
-    let added = c.add.ensures ∙ ap (λ p. p ++ e.result ∷ []) (sym c.of_pieces-so_far.ensures) in
-    after_on g.before.past c.args.kept.now c.args.entries.now c.of_pieces-so_far.result l.index e.result c.loop-index-test.true e.is same
-    l.past c.add.new.self l.slots c.note.new.self l.invariant added c.if-not-follows.ensures.yes c.note.ensures.stands
+    let was = l.invariant in
+    let added = c.add.ensures ∙ ap (λ p. p ++ e.result ∷ []) (was.walked ∙ sym was.told) in
+    after_on g.before.past c.args.kept.now c.args.entries.now l.slots.past l.index e.result c.loop-index-test.true e.is was.told
+    l.past c.add.new.self l.slots c.note.new.self was added c.if-not-follows.ensures.yes c.note.ensures.past

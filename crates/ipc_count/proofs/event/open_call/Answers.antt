@@ -5,12 +5,12 @@ use Rattle.ipc_count.proofs.event.open_call.Goals as goal
 
 pub unreachable-requires : goal.unreachable-requires
 unreachable-requires c =
-    let there = call_there c.args.before.now c.args.slots.now c.args.number c.place_of-place.result c.requires.legal c.requires.stands c.requires.open c.place_of-place.ensures.place in
-    let bad : None ≡ Some (standing_of c.args.before.now c.args.number) = sym c.in-None.is ∙ c.call_at.ensures ∙ there in
+    let there = call_there c.args.slots.now.past c.kept.result.now c.args.number c.place_of-place.result c.kept.ensures.legal c.kept.ensures.stands c.requires c.place_of-place.ensures.place in
+    let bad : None ≡ Some (standing_of c.args.slots.now.past c.args.number) = sym c.in-None.is ∙ c.call_at.ensures ∙ there in
     absurd (cc)
 
 pub returns : goal.returns
 returns c =
-    let there = call_there c.args.before.now c.args.slots.now c.args.number c.place_of-place.result c.requires.legal c.requires.stands c.requires.open c.place_of-place.ensures.place in
-    let same : Some c.in-Some.call ≡ Some (standing_of c.args.before.now c.args.number) = sym c.in-Some.is ∙ c.call_at.ensures ∙ there in
+    let there = call_there c.args.slots.now.past c.kept.result.now c.args.number c.place_of-place.result c.kept.ensures.legal c.kept.ensures.stands c.requires c.place_of-place.ensures.place in
+    let same : Some c.in-Some.call ≡ Some (standing_of c.args.slots.now.past c.args.number) = sym c.in-Some.is ∙ c.call_at.ensures ∙ there in
     cc

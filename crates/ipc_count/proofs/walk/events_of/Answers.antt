@@ -7,8 +7,8 @@ pub returns-then-not-follows-clause-fault : goal.returns-then-not-follows-clause
 returns-then-not-follows-clause-fault c =
     let l = c.loop-index in
     let e = c.index-entries-index in
-    let same = c.of-before.ensures ∙ l.invariant.walked.walked in
-    fault_at c.args.entries.now c.of-before.result l.index e.result c.loop-index-test.true e.is same l.invariant.walked.legal c.if-not-follows.ensures.no
+    let was = l.invariant.walked in
+    fault_at c.args.entries.now l.slots.past l.index e.result c.loop-index-test.true e.is was.told was.legal c.if-not-follows.ensures.no
 
 pub loop-index-init : goal.loop-index-init
 loop-index-init c = record {
@@ -20,11 +20,11 @@ pub loop-index-preserved : goal.loop-index-preserved
 loop-index-preserved c =
     let l = c.loop-index in
     let e = c.index-entries-index in
-    let same = c.of-before.ensures ∙ l.invariant.walked.walked in
-    let added = c.add-in-loop-index.ensures ∙ ap (λ p. p ++ e.result ∷ []) (sym c.of-before.ensures) in
+    let was = l.invariant.walked in
+    let added = c.add-in-loop-index.ensures ∙ ap (λ p. p ++ e.result ∷ []) (was.walked ∙ sym was.told) in
     record {
-      walked = walk_on c.args.entries.now c.of-before.result l.index e.result c.loop-index-test.true e.is same
-          c.add-in-loop-index.new.self c.note.new.self l.invariant.walked.legal added c.if-not-follows.ensures.yes c.note.ensures.stands;
-      told = told_more c.args.entries.now c.of-before.result l.index e.result c.event_of-event.result l.events.items c.add.new.events.items
-          c.loop-index-test.true e.is same l.invariant.told c.event_of-event.ensures c.in-Ok.ensures;
+      walked = walk_on c.args.entries.now l.slots.past l.index e.result c.loop-index-test.true e.is was.told
+          c.add-in-loop-index.new.self c.note.new.self was.legal added c.if-not-follows.ensures.yes c.note.ensures.past;
+      told = told_more c.args.entries.now l.slots.past l.index e.result c.event_of-event.result l.events.items c.add.new.events.items
+          c.loop-index-test.true e.is was.told l.invariant.told c.event_of-event.ensures c.in-Ok.ensures;
     }

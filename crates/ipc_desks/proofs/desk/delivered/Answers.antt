@@ -1,4 +1,4 @@
-use Rattle.std.proofs.Common.{◌≡◌, sym, ap, subst, arith}
+use Rattle.std.proofs.Common.{◌≡◌, subst, arith}
 use Rattle.ipc_history.specs.Outcomes.{HasItsWords}
 use Rattle.ipc_desks.specs.Messages.{delivered}
 use Rattle.ipc_desks.proofs.desk.delivered.Goals as goal

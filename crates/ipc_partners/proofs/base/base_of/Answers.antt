@@ -9,5 +9,5 @@ write_over-requires-clause-room c = ap (λ r. r.over) c.write_numbers.ensures
 
 pub returns : goal.returns
 returns c =
-    base_written c.args.entries.now c.args.taken.now c.args.kept.now c.requires.kept c.write_numbers.new.room c.write_over.new.room c.write_numbers.ensures c.write_over.ensures
-    c.now.result c.calls_made.result c.args.takes c.now.ensures c.calls_made.ensures c.requires.takes c.into_base.result c.into_base.ensures
+    base_written c.args.desks.now.past c.args.desks.now.taken c.args.kept.now c.requires.kept c.write_numbers.new.room c.write_over.new.room c.write_numbers.ensures c.write_over.ensures
+    c.now.result c.calls_made.result c.args.takes (rw c.requires.slots at c.now.ensures) (rw c.requires.slots at c.calls_made.ensures) c.requires.takes c.into_base.result c.into_base.ensures

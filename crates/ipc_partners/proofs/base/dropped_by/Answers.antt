@@ -4,9 +4,9 @@ use Rattle.ipc_partners.proofs.base.dropped_by.Goals as goal
 pub overflow_sub-result : goal.overflow_sub-result
 overflow_sub-result c =
     rw (c.made.ensures, c.made_in.ensures)
-    (made_more c.args.entries.now c.args.taken.now c.requires.legal c.in-Some.thread (rw c.in-Some.is at c.requires.live) c.args.kept.now c.requires.kept)
+    (made_more c.args.desks.now.past c.args.desks.now.taken c.kept.ensures.legal c.in-Some.thread (rw c.in-Some.is at c.requires.live) c.args.kept.now c.requires.kept)
 
 pub returns-in-Some : goal.returns-in-Some
 returns-in-Some c =
     rw (c.made.ensures, c.made_in.ensures, c.in-Some.is)
-    (dropped_is c.args.entries.now c.args.taken.now c.requires.legal c.in-Some.thread (rw c.in-Some.is at c.requires.live) c.args.kept.now c.requires.kept)
+    (dropped_is c.args.desks.now.past c.args.desks.now.taken c.kept.ensures.legal c.in-Some.thread (rw c.in-Some.is at c.requires.live) c.args.kept.now c.requires.kept)

@@ -3,4 +3,4 @@ use Rattle.ipc_partners.specs.Bases.{over_in}
 use Rattle.ipc_partners.proofs.base.write_over.Given as goal
 
 abbrev pub invariant-loop-place : goal.invariant-loop-place
-invariant-loop-place l = l.room ≡ record l.fn.room { over = filter_map (over_in l.entries l.taken) (take l.place l.kept) }
+invariant-loop-place l = l.room ≡ record l.fn.room { over = filter_map (over_in l.desks.past l.desks.taken) (take l.place l.kept) }

@@ -9,14 +9,13 @@ pub returns-then-not-follows-clause-fault : goal.returns-then-not-follows-clause
 returns-then-not-follows-clause-fault c =
     let l = c.loop-index in
     let e = c.index-entries-index in
-    let same = c.of-before.ensures ∙ l.invariant.walked in
-    fault_at c.args.entries.now c.of-before.result l.index e.result c.loop-index-test.true e.is same l.invariant.legal c.if-not-follows.ensures.no
+    fault_at c.args.entries.now l.slots.past l.index e.result c.loop-index-test.true e.is l.invariant.told l.invariant.legal c.if-not-follows.ensures.no
 
 pub loop-index-preserved : goal.loop-index-preserved
 loop-index-preserved c =
     let l = c.loop-index in
     let e = c.index-entries-index in
-    let same = c.of-before.ensures ∙ l.invariant.walked in
-    let added = c.add.ensures ∙ ap (λ p. p ++ e.result ∷ []) (sym c.of-before.ensures) in
-    walk_on c.args.entries.now c.of-before.result l.index e.result c.loop-index-test.true e.is same
-    c.add.new.self c.note.new.self l.invariant.legal added c.if-not-follows.ensures.yes c.note.ensures.stands
+    let was = l.invariant in
+    let added = c.add.ensures ∙ ap (λ p. p ++ e.result ∷ []) (was.walked ∙ sym was.told) in
+    walk_on c.args.entries.now l.slots.past l.index e.result c.loop-index-test.true e.is was.told
+    c.add.new.self c.note.new.self was.legal added c.if-not-follows.ensures.yes c.note.ensures.past

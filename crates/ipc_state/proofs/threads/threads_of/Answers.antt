@@ -9,6 +9,6 @@ loop-place-preserved c =
     let size = c.loop-place.invariant.0 in
     let within : c.loop-place.place < length c.loop-place.threads = omega (arith, size) in (
       length-set c.loop-place.threads c.loop-place.place c.live_of.result ∙ size,
-      set_more c.loop-place.threads c.loop-place.place c.live_of.result None (λ k. (slot_of c.args.entries.now k).live) within c.loop-place.invariant.1
+      set_more c.loop-place.threads c.loop-place.place c.live_of.result None (λ k. (slot_of c.args.slots.now.past k).live) within c.loop-place.invariant.1
           c.live_of.ensures,
     )

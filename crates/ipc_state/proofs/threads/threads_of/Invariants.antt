@@ -5,4 +5,4 @@ use Rattle.ipc_state.proofs.threads.threads_of.Given as goal
 
 abbrev pub invariant-loop-place : goal.invariant-loop-place
 invariant-loop-place l =
-    (length l.threads ≡ table_slots) × ((k : ℕ) → k < l.place → get_or l.threads k None ≡ (slot_of l.entries k).live)
+    (length l.threads ≡ table_slots) × ((k : ℕ) → k < l.place → get_or l.threads k None ≡ (slot_of l.slots.past k).live)

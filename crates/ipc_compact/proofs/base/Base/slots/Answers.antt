@@ -28,5 +28,5 @@ loop-place-preserved g c = λ is.
     let over = c.as_slice-over.ensures.value ∙ ap (λ b. b.over) c.self.view_is in
     made_more c.args.self.now c.args.kept.now g.before is c.loop-place.slots c.make.new.self c.loop-place.place _ c.live_of-live.result c.loop-place-test.true (c.loop-place.invariant is) (ap (λ l. get_or l c.loop-place.place 0) versions ∙ version_at c.args.self.now c.args.kept.now g.before is c.loop-place.place 0 c.loop-place-test.true) (rw over at c.live_of-live.ensures) c.make.ensures
 
-pub returns : goal.returns
-returns g c = made_end c.args.self.now c.args.kept.now g.before c.requires c.loop-place.slots c.loop-place.place c.loop-place-test.false (c.loop-place.invariant c.requires)
+pub of-requires : goal.of-requires
+of-requires g c = (c.requires.legal, made_end c.args.self.now c.args.kept.now g.before c.requires c.loop-place.slots c.loop-place.place c.loop-place-test.false (c.loop-place.invariant c.requires))

@@ -1,12 +1,10 @@
-use Rattle.std.proofs.Common.{◌≡◌, ◌≤◌, ◌+◌, ◌∙◌, refl, sym, ap, ap₂, subst, length, vec_capacity, arith}
-use Rattle.ipc_words.specs.Limits.{table_slots}
+use Rattle.std.proofs.Common.{◌≡◌, ◌≤◌, ◌+◌, ◌∙◌, refl, sym, ap, subst, length, vec_capacity, arith}
 use Rattle.ipc_history.specs.Holding.{held_of, reached}
 use Rattle.ipc_history.specs.declared.entry.Entry.{Entry}
 use Rattle.ipc_history.proofs.HoldingLemmas.{reached_most}
 use Rattle.ipc_compact.specs.Compact.{is_kept}
 use Rattle.ipc_compact.specs.Places.{WasPlaced}
-use Rattle.ipc_partners.specs.Partners.{Knows}
-use Rattle.ipc_partners.specs.Kept.{kept_upto, passes}
+use Rattle.ipc_partners.specs.Kept.{passes}
 use Rattle.ipc_core.specs.Books.{TookOthers}
 use Rattle.ipc_core.specs.Compacting.{kept_to}
 use Rattle.ipc_core.specs.CourseParts.{history_of}
@@ -15,19 +13,19 @@ use Rattle.ipc_core.proofs.CompactLemmas.{held_few, kept_now, kept_of_all, open_
 use Rattle.ipc_core.proofs.course.Course.compact.Goals as goal
 
 -- what was found passes what is kept
-same : (c : goal.After-compact) (e : Entry) → passes c.fill.new.self e ≡ is_kept c.self.inside.history.entries c.self.inside.taken e
-same c e = passes_is _ _ c.self.inside.desks c.self.invariant.course.legal c.self.invariant.course.desks_are (subst (λ v. TookOthers v.entries v.taken) (sym c.self.view_is) c.requires.others) c.fill.new.self (λ e. c.fill.ensures e ∙ ap₂ (λ l t. passes (kept_upto l t table_slots) e) c.whole-entries.ensures c.past.ensures) e
+same : (c : goal.After-compact) (e : Entry) → passes c.fill.new.self e ≡ is_kept c.self.inside.history.entries c.self.inside.desks.taken e
+same c e = passes_is _ _ _ c.kept.result.now c.self.invariant.course.desks_of c.self.invariant.course.legal c.kept.ensures.keeps (subst (λ v. TookOthers v.entries v.taken) (sym c.self.view_is) c.requires.others) c.fill.new.self c.fill.ensures e
 
 short : (c : goal.After-compact) → c.self.inside.history.held.whole_from ≤ length c.self.inside.history.entries
 short c = let front = c.self.invariant.front in let begun = c.self.invariant.course.begun in omega (arith, front, begun)
 
-held : (c : goal.After-compact) → c.compact.new.self.held ≡ kept_to c.self.inside.taken c.args.upto c.self.inside.history
-held c = c.compact.ensures.held ∙ kept_of_all c.self.inside.taken (passes c.fill.new.self) c.args.upto c.self.inside.history c.self.invariant.course.legal (same c) c.self.invariant.kept (short c)
+held : (c : goal.After-compact) → c.compact.new.self.held ≡ kept_to c.self.inside.desks.taken c.args.upto c.self.inside.history
+held c = c.compact.ensures.held ∙ kept_of_all c.self.inside.desks.taken (passes c.fill.new.self) c.args.upto c.self.inside.history c.self.invariant.course.legal (same c) c.self.invariant.kept (short c)
 
 pub compact-requires-clause-called : goal.compact-requires-clause-called
 compact-requires-clause-called c = λ n e opened inside is.
-    passes_is _ _ c.self.inside.desks c.self.invariant.course.legal c.self.invariant.course.desks_are (subst (λ v. TookOthers v.entries v.taken) (sym c.self.view_is) c.requires.others) c.fill.new.self (λ e. c.fill.ensures e ∙ ap₂ (λ l t. passes (kept_upto l t table_slots) e) c.whole-entries.ensures c.past.ensures) e
-    ∙ open_kept c.self.inside.history.entries c.self.inside.taken c.self.invariant.course.legal n e opened is
+    passes_is _ _ _ c.kept.result.now c.self.invariant.course.desks_of c.self.invariant.course.legal c.kept.ensures.keeps (subst (λ v. TookOthers v.entries v.taken) (sym c.self.view_is) c.requires.others) c.fill.new.self c.fill.ensures e
+    ∙ open_kept c.self.inside.history.entries c.self.inside.desks.taken c.self.invariant.course.legal n e opened is
 
 pub invariant_of-self : goal.invariant_of-self
 invariant_of-self c =
@@ -35,11 +33,12 @@ invariant_of-self c =
     let most = reached_most c.self.inside.history c.args.upto (short c) in
     let begun = c.requires.begun in
     record {
-      course = subst (λ l. IsCourse l c.self.inside.waiting.value c.self.inside.desks c.self.inside.taken c.self.inside.since c.self.inside.finished.items (vec_capacity c.self.inside.finished)) (sym c.compact.ensures.entries) c.self.invariant.course;
+      course = subst (λ l. IsCourse l c.self.inside.waiting.value c.self.inside.desks c.self.inside.since c.self.inside.finished.items (vec_capacity c.self.inside.finished)) (sym c.compact.ensures.entries) c.self.invariant.course;
       front = omega (arith, most, begun, ap (λ h. h.whole_from) (held c), ap (λ v. length v.entries) c.self.view_is, ap (λ v. v.since) c.self.view_is);
-      knows = subst (λ l. Knows l c.self.inside.partners) (sym c.compact.ensures.entries) c.self.invariant.knows;
-      kept = subst (λ l. WasPlaced l c.self.inside.taken c.compact.new.self.held.front c.compact.new.self.held.places c.compact.new.self.held.whole_from) (sym c.compact.ensures.entries)
-          (subst (λ h. WasPlaced H c.self.inside.taken h.front h.places h.whole_from) (sym (held c)) (kept_now H c.self.inside.taken _ _ (reached c.args.upto c.self.inside.history) most refl refl));
+      partners_of = c.self.invariant.partners_of ∙ sym c.compact.ensures.entries;
+      counted = c.self.invariant.counted;
+      kept = subst (λ l. WasPlaced l c.self.inside.desks.taken c.compact.new.self.held.front c.compact.new.self.held.places c.compact.new.self.held.whole_from) (sym c.compact.ensures.entries)
+          (subst (λ h. WasPlaced H c.self.inside.desks.taken h.front h.places h.whole_from) (sym (held c)) (kept_now H c.self.inside.desks.taken _ _ (reached c.args.upto c.self.inside.history) most refl refl));
     }
 
 pub returns-clause-held : goal.returns-clause-held

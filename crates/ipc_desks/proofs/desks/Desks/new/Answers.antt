@@ -1,6 +1,5 @@
-use Rattle.std.proofs.Common.{sym, ap, ◌∙◌, arith, ◌≡◌}
-use Rattle.ipc_desks.proofs.Beginning.{kept_none}
+use Rattle.ipc_slots.proofs.Starting.{nothing_legal}
 use Rattle.ipc_desks.proofs.desks.Desks.new.Goals as goal
 
-pub returns-clause-desks : goal.returns-clause-desks
-returns-clause-desks g c = kept_none c.loop.desks.items c.loop.counter c.loop.invariant.items (omega (arith, c.loop-test.false))
+pub invariant_of-result : goal.invariant_of-result
+invariant_of-result g c = record { legal = rw c.new-2.ensures nothing_legal; keeps = rw (c.new-2.ensures, c.new-3.ensures) (rw c.in_ok-kept.was at c.new.ensures.desks) }

@@ -1,19 +1,29 @@
-use Rattle.std.proofs.Common.{sym, ap, ◌∙◌, ◌≡◌, subst, ◌^◌, ◌<◌, ◌==◌, ◌&&◌, arith}
+use Rattle.std.proofs.Common.{◌∙◌, subst, ◌==◌, ◌&&◌, arith}
 use Rattle.ipc_words.specs.ThreadId.{nilthread}
 use Rattle.ipc_history.specs.Threads.{now}
+use Rattle.ipc_history.specs.declared.entry.Entry.TheVariants.{Given}
+use Rattle.ipc_history.specs.declared.entry.Input.TheVariants.{Called}
+use Rattle.ipc_laws.proofs.Settling.{legal_push}
 use Rattle.ipc_desks.specs.Messages.{prepared}
 use Rattle.ipc_desks.specs.Steps.{Changed, entered}
 use Rattle.ipc_desks.proofs.CalledDesks.{alive, called_finishes, called_keeps, made_fits, named_once}
 use Rattle.ipc_desks.proofs.desks.Desks.note_called.Goals as goal
 
-pub place_of_thread-place-requires-clause-live : goal.place_of_thread-place-requires-clause-live
-place_of_thread-place-requires-clause-live c = alive c.args.entries.now c.args.number c.args.caller c.args.call.now c.requires.legal c.requires.follows
+pub place_of_thread-place-requires : goal.place_of_thread-place-requires
+place_of_thread-place-requires c = alive c.args.self.now.past c.args.number c.args.caller c.args.call.now c.kept.ensures.legal c.requires.follows
 
 pub enter-requires-clause-few : goal.enter-requires-clause-few
-enter-requires-clause-few c = rw c.place_of_thread-place.ensures.place (made_fits c.args.entries.now c.args.self.now c.args.taken.now c.args.number c.args.caller c.args.call.now c.requires.legal c.requires.follows c.requires.keeps (omega (arith, c.ranges.number.fits)))
+enter-requires-clause-few c =
+    let follows = rw (← c.self.view_is) at c.requires.follows in
+    rw c.place_of_thread-place.ensures.place (made_fits c.self.inside.past c.self.inside.kept c.self.inside.taken c.args.number c.args.caller c.args.call.now c.self.invariant.legal follows c.self.invariant.keeps (omega (arith, c.ranges.number.fits)))
 
-pub returns-clause-keeps : goal.returns-clause-keeps
-returns-clause-keeps c = called_keeps c.args.entries.now c.args.number c.args.caller c.args.call.now c.requires.legal c.requires.follows c.args.taken.now c.requires.keeps.called c.requires.idle c.args.self.now c.enter.new.self c.requires.keeps (subst (λ x. Changed x (entered (now c.args.entries.now) c.args.number c.args.call.now (prepared c.args.call.now)) c.args.self.now c.enter.new.self) c.place_of_thread-place.ensures.place (subst (λ x. Changed c.place_of_thread-place.result (entered (now c.args.entries.now) c.args.number c.args.call.now x) c.args.self.now c.enter.new.self) c.requires.copies (subst (λ x. Changed c.place_of_thread-place.result (entered x c.args.number c.args.call.now c.args.copies) c.args.self.now c.enter.new.self) c.now-moment.ensures c.enter.ensures)))
+pub invariant_of-self : goal.invariant_of-self
+invariant_of-self c =
+    let follows = rw (← c.self.view_is) at c.requires.follows in
+    let idle = rw (← c.self.view_is) at c.requires.idle in
+    let past = rw (← c.self.view_is) at c.requires.past in
+    let moment = rw past at c.now-moment.ensures in
+    rw (c.add.ensures, c.requires.entry) (record { legal = legal_push c.self.inside.past (Given (Called c.args.number c.args.caller c.args.call.now)) c.self.invariant.legal follows; keeps = called_keeps c.self.inside.past c.args.number c.args.caller c.args.call.now c.self.invariant.legal follows c.self.inside.taken c.self.invariant.keeps.called idle c.self.inside.kept c.enter.new.self c.self.invariant.keeps (subst (λ x. Changed x (entered (now c.self.inside.past) c.args.number c.args.call.now (prepared c.args.call.now)) c.self.inside.kept c.enter.new.self) c.place_of_thread-place.ensures.place (subst (λ x. Changed c.place_of_thread-place.result (entered (now c.self.inside.past) c.args.number c.args.call.now x) c.self.inside.kept c.enter.new.self) c.requires.copies (subst (λ x. Changed c.place_of_thread-place.result (entered x c.args.number c.args.call.now c.args.copies) c.self.inside.kept c.enter.new.self) moment c.enter.ensures))) })
 
 pub returns-clause-finished : goal.returns-clause-finished
-returns-clause-finished c t = rw (c.at_once.ensures, c.is_over_at_once.ensures) (named_once ((c.args.call.now.from == nilthread) && (c.args.call.now.to == nilthread)) c.args.caller t ∙ called_finishes c.args.entries.now c.args.number c.args.caller c.args.call.now c.requires.legal c.requires.follows t)
+returns-clause-finished c t = rw (c.at_once.ensures, c.is_over_at_once.ensures) (named_once ((c.args.call.now.from == nilthread) && (c.args.call.now.to == nilthread)) c.args.caller t ∙ called_finishes c.args.self.now.past c.args.number c.args.caller c.args.call.now c.kept.ensures.legal c.requires.follows t)

@@ -1,34 +1,39 @@
-use Rattle.std.proofs.Common.{sym, ap, ◌∙◌, arith, subst, ◌≤◌, ◌+◌, ◌≡◌, true}
-use Rattle.ipc_words.specs.ThreadId.{number_of}
+use Rattle.std.proofs.Common.{sym, ap, ◌∙◌, arith, subst, ◌≤◌, ◌+◌, ◌≡◌, Some}
 use Rattle.ipc_desks.specs.CallsOf.{made_by, outcome_to_take}
 use Rattle.ipc_desks.specs.Desks.{desk_at}
-use Rattle.ipc_desks.specs.Steps.{Changed, is_ready, outcome_in_told, taken_from}
-use Rattle.ipc_desks.proofs.TakenDesks.{none_taken, outcome_is, ready_fewer, told_keeps, told_last}
+use Rattle.ipc_desks.specs.Steps.{Changed, outcome_in_told, taken_from}
+use Rattle.ipc_desks.proofs.TakenDesks.{outcome_is, ready_fewer, told_keeps, told_last}
 use Rattle.ipc_desks.proofs.desks.Desks.take.Goals as goal
 
 pub take_outcome-requires-clause-few : goal.take_outcome-requires-clause-few
 take_outcome-requires-clause-few c ready =
+    let live = rw (← c.self.view_is) at c.requires in
+    let made = rw (← c.self.view_is) at c.made-made.ensures in
     let place = c.place_of_thread-place.ensures.place in
-    let fewer : (desk_at c.args.self.now c.place_of_thread-place.result).taken + 1 ≤ made_by c.args.entries.now c.args.thread = rw place (ready_fewer c.args.entries.now c.requires.legal c.args.taken.now c.args.self.now c.requires.keeps c.args.thread c.requires.live (rw place at ready)) in
-    omega (arith, fewer, c.made-made.ensures)
+    let fewer : (desk_at c.self.inside.kept c.place_of_thread-place.result).taken + 1 ≤ made_by c.self.inside.past c.args.thread = rw place (ready_fewer c.self.inside.past c.self.invariant.legal c.self.inside.taken c.self.inside.kept c.self.invariant.keeps c.args.thread live (rw place at ready)) in
+    omega (arith, fewer, made)
 
-given_told : (c : goal.After-take_outcome) → c.take_outcome.result ≡ outcome_in_told (desk_at c.args.self.now (number_of c.args.thread)).told
-given_told c = c.take_outcome.ensures.result ∙ ap (λ p. outcome_in_told (desk_at c.args.self.now p).told) c.place_of_thread-place.ensures.place
+pub invariant_of-self : goal.invariant_of-self
+invariant_of-self c =
+    let live = rw (← c.self.view_is) at c.requires in
+    let given : c.take_outcome.result ≡ outcome_to_take c.self.inside.past c.self.inside.taken c.args.thread = c.take_outcome.ensures.result ∙ (ap (λ p. outcome_in_told (desk_at c.self.inside.kept p).told) c.place_of_thread-place.ensures.place ∙ outcome_is c.self.inside.past c.self.invariant.legal c.self.inside.taken c.self.inside.kept c.self.invariant.keeps c.args.thread live) in
+    let changed = subst (λ p. Changed p taken_from c.self.inside.kept c.take_outcome.new.self) c.place_of_thread-place.ensures.place c.take_outcome.ensures.desks in
+    record { legal = c.self.invariant.legal; keeps = rw (c.add.ensures, ap (λ o. o.call) c.outcome.view_is) (told_keeps c.self.inside.past c.self.invariant.legal c.self.inside.taken c.self.inside.kept c.self.invariant.keeps c.args.thread live c.take_outcome.new.self changed (Some c.in-Some.outcome) (sym given ∙ c.in-Some.is)) }
 
-given : (c : goal.After-take_outcome) → c.take_outcome.result ≡ outcome_to_take c.args.entries.now c.args.taken.now c.args.thread
-given c = given_told c ∙ outcome_is c.args.entries.now c.requires.legal c.args.taken.now c.args.self.now c.requires.keeps c.args.thread c.requires.live
+pub returns-in-Some-clause-given : goal.returns-in-Some-clause-given
+returns-in-Some-clause-given c =
+    let live = rw (← c.self.view_is) at c.requires in
+    let given : c.take_outcome.result ≡ outcome_to_take c.self.inside.past c.self.inside.taken c.args.thread = c.take_outcome.ensures.result ∙ (ap (λ p. outcome_in_told (desk_at c.self.inside.kept p).told) c.place_of_thread-place.ensures.place ∙ outcome_is c.self.inside.past c.self.invariant.legal c.self.inside.taken c.self.inside.kept c.self.invariant.keeps c.args.thread live) in
+    rw (← c.self.view_is) (sym c.in-Some.is ∙ given)
 
-changed : (c : goal.After-take_outcome) → Changed (number_of c.args.thread) taken_from c.args.self.now c.take_outcome.new.self
-changed c = subst (λ p. Changed p taken_from c.args.self.now c.take_outcome.new.self) c.place_of_thread-place.ensures.place c.take_outcome.ensures.desks
+pub returns-in-Some-clause-call : goal.returns-in-Some-clause-call
+returns-in-Some-clause-call c =
+    let live = rw (← c.self.view_is) at c.requires in
+    let given : c.take_outcome.result ≡ outcome_to_take c.self.inside.past c.self.inside.taken c.args.thread = c.take_outcome.ensures.result ∙ (ap (λ p. outcome_in_told (desk_at c.self.inside.kept p).told) c.place_of_thread-place.ensures.place ∙ outcome_is c.self.inside.past c.self.invariant.legal c.self.inside.taken c.self.inside.kept c.self.invariant.keeps c.args.thread live) in
+    rw (← c.self.view_is) (told_last c.self.inside.past c.self.invariant.legal c.self.inside.taken c.self.inside.kept c.self.invariant.keeps c.args.thread live (Some c.in-Some.outcome) (sym given ∙ c.in-Some.is))
 
-pub returns-clause-given : goal.returns-clause-given
-returns-clause-given c = given c
-
-pub returns-clause-call : goal.returns-clause-call
-returns-clause-call c = told_last c.args.entries.now c.requires.legal c.args.taken.now c.args.self.now c.requires.keeps c.args.thread c.requires.live c.take_outcome.result (sym (given c))
-
-pub returns-clause-some : goal.returns-clause-some
-returns-clause-some c = told_keeps c.args.entries.now c.requires.legal c.args.taken.now c.args.self.now c.requires.keeps c.args.thread c.requires.live c.take_outcome.new.self (changed c) c.take_outcome.result (sym (given c))
-
-pub returns-clause-none : goal.returns-clause-none
-returns-clause-none c none = none_taken c.args.entries.now c.requires.legal c.args.taken.now c.args.self.now c.requires.keeps c.args.thread c.requires.live c.take_outcome.new.self (changed c) (sym (given_told c) ∙ none)
+pub returns-in-None-clause-given : goal.returns-in-None-clause-given
+returns-in-None-clause-given c =
+    let live = rw (← c.self.view_is) at c.requires in
+    let given : c.take_outcome.result ≡ outcome_to_take c.self.inside.past c.self.inside.taken c.args.thread = c.take_outcome.ensures.result ∙ (ap (λ p. outcome_in_told (desk_at c.self.inside.kept p).told) c.place_of_thread-place.ensures.place ∙ outcome_is c.self.inside.past c.self.invariant.legal c.self.inside.taken c.self.inside.kept c.self.invariant.keeps c.args.thread live) in
+    rw (← c.self.view_is) (sym c.in-None.is ∙ given)

@@ -3,4 +3,4 @@ use Rattle.ipc_partners.specs.Kept.{kept_upto}
 use Rattle.ipc_partners.proofs.found.Found.find.Given as goal
 
 abbrev pub invariant-loop-place : goal.invariant-loop-place
-invariant-loop-place l = l.self ≡ kept_upto l.entries l.taken l.place
+invariant-loop-place l = l.self ≡ kept_upto l.desks.past l.desks.taken l.place

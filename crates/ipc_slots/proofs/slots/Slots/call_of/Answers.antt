@@ -3,7 +3,7 @@ use Rattle.ipc_slots.proofs.Meets.{call_found}
 use Rattle.ipc_slots.proofs.slots.Slots.call_of.Goals as goal
 
 pub returns-in-Some : goal.returns-in-Some
-returns-in-Some c = call_found c.args.entries.now c.args.self.now c.requires.legal c.requires.stands c.args.thread _ (sym c.in-Some.is ∙ c.live.ensures)
+returns-in-Some c = call_found c.args.self.now.past c.kept.result.now c.kept.ensures.legal c.kept.ensures.stands c.args.thread _ (sym c.in-Some.is ∙ c.live.ensures)
 
 pub returns-in-None : goal.returns-in-None
-returns-in-None c = call_found c.args.entries.now c.args.self.now c.requires.legal c.requires.stands c.args.thread _ (sym c.in-None.is ∙ c.live.ensures)
+returns-in-None c = call_found c.args.self.now.past c.kept.result.now c.kept.ensures.legal c.kept.ensures.stands c.args.thread _ (sym c.in-None.is ∙ c.live.ensures)

@@ -3,4 +3,4 @@ use Rattle.ipc_slots.proofs.Answering.{first_due}
 use Rattle.ipc_slots.proofs.slots.Slots.first_timeout.Goals as goal
 
 pub returns : goal.returns
-returns c = c.least.ensures ∙ first_due c.args.entries.now c.args.self.now.moment c.requires.stands.moment
+returns c = c.least.ensures ∙ first_due c.args.self.now.past c.now.result c.now.ensures

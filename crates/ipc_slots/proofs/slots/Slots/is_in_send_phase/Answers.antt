@@ -5,7 +5,7 @@ use Rattle.ipc_slots.proofs.Answering.{send_told}
 use Rattle.ipc_slots.proofs.slots.Slots.is_in_send_phase.Goals as goal
 
 pub returns-in-Some : goal.returns-in-Some
-returns-in-Some c = c.is_in_send_phase.ensures ∙ (ap (λ b. in_send_by b c.in-Some.call) (c.is_live.ensures ∙ ap (is_live c.args.entries.now) c.partner.ensures) ∙ send_told c.args.entries.now c.requires.legal c.args.thread _ (sym c.in-Some.is ∙ c.call_of.ensures))
+returns-in-Some c = c.is_in_send_phase.ensures ∙ (ap (λ b. in_send_by b c.in-Some.call) (c.is_live.ensures ∙ ap (is_live c.args.self.now.past) c.partner.ensures) ∙ send_told c.args.self.now.past c.kept.ensures.legal c.args.thread _ (sym c.in-Some.is ∙ c.call_of.ensures))
 
 pub returns-in-None : goal.returns-in-None
-returns-in-None c = send_told c.args.entries.now c.requires.legal c.args.thread _ (sym c.in-None.is ∙ c.call_of.ensures)
+returns-in-None c = send_told c.args.self.now.past c.kept.ensures.legal c.args.thread _ (sym c.in-None.is ∙ c.call_of.ensures)

@@ -5,4 +5,4 @@ use Rattle.ipc_slots.proofs.SlotSums.{sum_below}
 use Rattle.ipc_slots.proofs.slots.Slots.open_calls.Given as goal
 
 abbrev pub invariant-loop-place : goal.invariant-loop-place
-invariant-loop-place l = (l.total ≡ sum_below (λ k. open_in (slot_at l.self.table k)) l.place) × (l.total ≤ l.place)
+invariant-loop-place l = (l.total ≡ sum_below (λ k. open_in (slot_at l.kept.table k)) l.place) × (l.total ≤ l.place)

@@ -5,4 +5,4 @@ use Rattle.ipc_slots.proofs.Leasts.{none_held}
 use Rattle.ipc_slots.proofs.slots.Slots.place_by_walk.Goals as goal
 
 pub unreachable-requires : goal.unreachable-requires
-unreachable-requires c = none_held c.args.entries.now c.args.self.now c.requires.stands c.args.number c.loop-place.place c.loop-place-test.false c.loop-place.invariant (number_of (caller_of c.args.entries.now c.args.number)) (held_somewhere c.args.entries.now c.requires.legal c.args.self.now.table c.requires.stands.table c.args.number c.requires.open)
+unreachable-requires c = none_held c.args.self.now.past c.kept-kept.result.now c.kept-kept.ensures.stands c.args.number c.loop-place.place c.loop-place-test.false c.loop-place.invariant (number_of (caller_of c.args.self.now.past c.args.number)) (held_somewhere c.args.self.now.past c.kept-kept.ensures.legal c.kept-kept.result.now.table c.kept-kept.ensures.stands.table c.args.number c.requires)

@@ -5,4 +5,4 @@ use Rattle.ipc_slots.proofs.SlotSums.{sum_below}
 use Rattle.ipc_slots.proofs.slots.Slots.pledged_for_calls.Given as goal
 
 abbrev pub invariant-loop-place : goal.invariant-loop-place
-invariant-loop-place l = (l.total ≡ sum_below (λ k. pledge_in (slot_at l.self.table k)) l.place) × (l.total ≤ l.place * 2 ^ 64)
+invariant-loop-place l = (l.total ≡ sum_below (λ k. pledge_in (slot_at l.kept.table k)) l.place) × (l.total ≤ l.place * 2 ^ 64)

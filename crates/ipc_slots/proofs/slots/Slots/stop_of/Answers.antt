@@ -3,11 +3,11 @@ use Rattle.ipc_history.specs.NextOutput.{stop}
 use Rattle.ipc_slots.proofs.Lasts.{call_up, stop_absent}
 use Rattle.ipc_slots.proofs.slots.Slots.stop_of.Goals as goal
 
-pub stop_call-requires-clause-call : goal.stop_call-requires-clause-call
-stop_call-requires-clause-call c = (call_up c.args.entries.now c.args.thread c.in-Some.call (sym c.in-Some.is ∙ c.call_of.ensures)).1
+pub stop_call-requires : goal.stop_call-requires
+stop_call-requires c = (call_up c.args.self.now.past c.args.thread c.in-Some.call (sym c.in-Some.is ∙ c.call_of.ensures)).1
 
 pub returns-in-Some : goal.returns-in-Some
-returns-in-Some c = c.stop_call.ensures ∙ sym (ap (option_and_then (stop c.args.entries.now c.args.control)) (call_up c.args.entries.now c.args.thread c.in-Some.call (sym c.in-Some.is ∙ c.call_of.ensures)).0)
+returns-in-Some c = c.stop_call.ensures ∙ sym (ap (option_and_then (stop c.args.self.now.past c.args.control)) (call_up c.args.self.now.past c.args.thread c.in-Some.call (sym c.in-Some.is ∙ c.call_of.ensures)).0)
 
 pub returns-in-None : goal.returns-in-None
-returns-in-None c = stop_absent c.args.entries.now c.args.thread c.args.control (sym c.in-None.is ∙ c.call_of.ensures)
+returns-in-None c = stop_absent c.args.self.now.past c.args.thread c.args.control (sym c.in-None.is ∙ c.call_of.ensures)

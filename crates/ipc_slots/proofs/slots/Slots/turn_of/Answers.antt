@@ -3,10 +3,10 @@ use Rattle.ipc_slots.proofs.Lasts.{turn_law}
 use Rattle.ipc_slots.proofs.slots.Slots.turn_of.Goals as goal
 
 pub returns-then-eq : goal.returns-then-eq
-returns-then-eq c = let law = turn_law c.args.entries.now c.requires.legal c.args.call.now c.requires.call in rw (sym c.eq.ensures ∙ c.if-eq.true) at law
+returns-then-eq c = let law = turn_law c.args.self.now.past c.kept.ensures.legal c.args.call.now c.requires in rw (sym c.eq.ensures ∙ c.if-eq.true) at law
 
 pub returns-in_err-waiting : goal.returns-in_err-waiting
-returns-in_err-waiting c = let law = turn_law c.args.entries.now c.requires.legal c.args.call.now c.requires.call in c.from_residual.ensures ∙ (rw (sym c.eq.ensures ∙ c.if-eq.false, sym c.call_of.ensures ∙ c.in_err-waiting.was) at law)
+returns-in_err-waiting c = let law = turn_law c.args.self.now.past c.kept.ensures.legal c.args.call.now c.requires in c.from_residual.ensures ∙ (rw (sym c.eq.ensures ∙ c.if-eq.false, sym c.call_of.ensures ∙ c.in_err-waiting.was) at law)
 
 pub returns : goal.returns
-returns c = let law = turn_law c.args.entries.now c.requires.legal c.args.call.now c.requires.call in c.turn.ensures ∙ (rw (sym c.eq.ensures ∙ c.if-eq.false, sym c.call_of.ensures ∙ c.in_ok-waiting.was) at law)
+returns c = let law = turn_law c.args.self.now.past c.kept.ensures.legal c.args.call.now c.requires in c.turn.ensures ∙ (rw (sym c.eq.ensures ∙ c.if-eq.false, sym c.call_of.ensures ∙ c.in_ok-waiting.was) at law)

@@ -6,8 +6,9 @@ use Rattle.ipc_waits.proofs.Touches.{nothing_held, nothing_quiet}
 use Rattle.ipc_waits.proofs.waiting.Waiting.new.Goals as goal
 
 pub returns-clause-empty : goal.returns-clause-empty
-returns-clause-empty g c = record {
-  slots = c.new.ensures;
-  waits = no_calls c.new.result.table c.in_ok-new.field-0 (λ k. ap standing_in (c.new.ensures.table k) ∙ nothing_held k) c.in_ok-new.ensures.senders c.in_ok-new.ensures.watchers c.in_ok-new.ensures.deadlines;
-  covers = quiet_covers_at [] _ nothing_quiet;
-}
+returns-clause-empty g c =
+    let stands = rw (c.kept.ensures.kept, c.new-slots.ensures) at c.kept.ensures.stands in
+    record {
+      waits = no_calls c.new-slots.result.kept.table c.in_ok-new.field-0 (λ k. ap standing_in (stands.table k) ∙ nothing_held k) c.in_ok-new.ensures.senders c.in_ok-new.ensures.watchers c.in_ok-new.ensures.deadlines;
+      covers = rw c.new-slots.ensures (quiet_covers_at [] _ nothing_quiet);
+    }

@@ -1,5 +1,6 @@
 -- Small facts for the runs of scripts.
-use Rattle.std.proofs.Common.{◌≡◌, ◌≢◌, rules, Option, Some, None}
+use Rattle.std.proofs.Common.{◌≡◌, ◌≢◌, ℕ, rules, arith, ap, refl, Option, Some, None, List, [], ◌∷◌, length}
+use Rattle.std.specs.Io.KnownBytes.{prepend_known}
 use Rattle.ipc_shell.specs.declared.lines.NextLine.TheVariants as next
 
 -- a line that was read is no failure
@@ -11,3 +12,9 @@ none_is_not_some value none some = cc
 
 pub some_injective : {X : Type 0} {x y : X} → Some x ≡ Some y → x ≡ y
 some_injective is = cc
+
+-- where no bytes stand before them
+pub prepend_none : (held : List ℕ) (bytes : Option (List ℕ)) → held ≡ [] → prepend_known held bytes ≡ bytes
+prepend_none [] None none = refl
+prepend_none [] (Some bytes) none = refl
+prepend_none (x ∷ xs) bytes none = absurd (omega (arith, ap length none))

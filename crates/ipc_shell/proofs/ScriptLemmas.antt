@@ -1,7 +1,7 @@
 -- The lines of a script that were obeyed so far, one more at a time, and how a run ends after them.
 use Rattle.std.proofs.Common.{◌≡◌, ℕ, ◌+◌, ◌<◌, ◌≤◌, Option, Some, None, IfSome, List, [], ◌∷◌, ◌++◌, length, refl, sym, ap, subst, ◌∙◌, arith, append_assoc, append-nil, length-append, inl, inr}
 use Rattle.std.specs.Option.{IsSomeAnd}
-use Rattle.std.specs.Io.KnownBytes.{Appends, prepend_known}
+use Rattle.std.specs.Io.KnownBytes.{Appends}
 use Rattle.std.proofs.KnownBytes.{Appends-nil, Appends-trans}
 use Rattle.ipc_shell.specs.ScriptLines.{lines_of, longest_line}
 use Rattle.ipc_shell.specs.Failing.{most_lines}
@@ -37,10 +37,9 @@ module _ (S : Type 0) (Obeys : S → List ℕ → List ℕ → S → Type 0) (Is
   obeys_more start middle last (l ∷ ls) line text more (between, (first, (rest, is, one, others))) taken =
       (between, (first, (rest ++ more, ap (λ t. t ++ more) is ∙ append_assoc first rest more, one, obeys_more between middle last ls line rest more others taken)))
 
-  pub none_obeyed : (start : S) (bytes before : Option (List ℕ)) (held : List ℕ) → held ≡ [] → ObeyedSoFar Obeys start bytes (prepend_known held bytes) before before start 1
-  none_obeyed start None before held none = tt
-  none_obeyed start (Some bytes) before [] none = record { before = []; text = []; lines_are = refl; number_is = refl; taken = (refl, refl); appended = Appends-nil before }
-  none_obeyed start (Some bytes) before (x ∷ xs) none = absurd (omega (arith, ap length none))
+  pub none_obeyed : (start : S) (bytes before : Option (List ℕ)) → ObeyedSoFar Obeys start bytes bytes before before start 1
+  none_obeyed start None before = tt
+  none_obeyed start (Some bytes) before = record { before = []; text = []; lines_are = refl; number_is = refl; taken = (refl, refl); appended = Appends-nil before }
 
   -- so many lines stand before one of this number
   pub many_obeyed : (start : S) (bytes rest before now : Option (List ℕ)) (state : S) (number : ℕ) → ObeyedSoFar Obeys start bytes rest before now state number → most_lines < number

@@ -18,7 +18,6 @@ use Rattle.ipc_exchange.specs.declared.progress.ConnectRefused.TheVariants.{TooM
 use Rattle.ipc_exchange.proofs.EndingLemmas.{others_stay}
 use Rattle.ipc_exchange.proofs.FeedLemmas.{service_stage}
 use Rattle.ipc_exchange.specs.Serving.{MayLack}
-use Rattle.std.specs.Io.KnownBytes.{prepend_known}
 use Rattle.ipc_shell.specs.Failing.{most_lines}
 use Rattle.ipc_shell.specs.Reading.{ReadsLine}
 use Rattle.ipc_shell.specs.ScriptLines.{lines_of}
@@ -470,10 +469,8 @@ pub record WiredSoFar (start : ExchangeParts) (bytes rest before now : Option (L
   pub shows : Shows exchange parts
   pub so_far : ObeyedSoFar WiresLine start bytes rest before now parts number
 
-pub none_wired : (start : ExchangeParts) (bytes before : Option (List ℕ)) (held : List ℕ) (exchange : RoomyExchange) → held ≡ [] → Shows exchange start
-    → WiredSoFar start bytes (prepend_known held bytes) before before exchange 1
-none_wired start bytes before held exchange none shows =
-    record { parts = start; shows = shows; so_far = none_obeyed ExchangeParts WiresLine IsNoWire start bytes before held none }
+pub none_wired : (start : ExchangeParts) (bytes before : Option (List ℕ)) (exchange : RoomyExchange) → Shows exchange start → WiredSoFar start bytes bytes before before exchange 1
+none_wired start bytes before exchange shows = record { parts = start; shows = shows; so_far = none_obeyed ExchangeParts WiresLine IsNoWire start bytes before }
 
 module _ (start : ExchangeParts) (line : List ℕ) (number : ℕ) (before now bytes rest left : Option (List ℕ)) where
   pub empty_wired : (exchange : RoomyExchange) → length line ≡ 0 → WiredSoFar start bytes rest before now exchange number → ReadsLine rest left line next.Line

@@ -14,6 +14,7 @@ use ipc_history::Entry;
 use ipc_options::ChartOptions;
 use ipc_ports::{PortRead, PortWrite};
 use ipc_trace::{TraceEnd, TraceRead, read_trace};
+use ipc_words::ThreadId;
 use std::alloc::{AllocError, Global};
 
 /// Draws the trace of a reader as a sequence chart and prints it, over the whole lines where the last
@@ -35,16 +36,32 @@ pub fn chart_trace<R: PortRead, W: PortWrite>(
     ensures silent { result ≢ Exit.Done → result ≢ Exit.DeviceFailed
         → W.written writer.new ≡ W.written writer.old }
 {
-    let Ok(selection) = selection_of(alloc, options) else {
-        return Exit::NoMemory;
-    };
-    let Some(selection) = selection else {
-        return Exit::BadThreads;
-    };
+    match selection_of(alloc, options) {
+        Ok(Some(selection)) => chart_selected(alloc, options, &selection, reader, writer),
+        Ok(None) => Exit::BadThreads,
+        Err(_) => Exit::NoMemory,
+    }
+}
+
+// Draws the trace of a reader as `chart_trace` does, by this selection.
+fn chart_selected<R: PortRead, W: PortWrite>(
+    alloc: Global,
+    options: &ChartOptions<'_>,
+    selection: &Selection,
+    reader: &mut R,
+    writer: &mut W,
+) -> Exit
+    ensures charts { ChartsTrace options.now.to (R.remaining reader.old) result }
+    ensures device { result ≡ Exit.DeviceFailed
+        → R.failures reader.old + W.failures writer.old
+        < R.failures reader.new + W.failures writer.new }
+    ensures silent { result ≢ Exit.Done → result ≢ Exit.DeviceFailed
+        → W.written writer.new ≡ W.written writer.old }
+{
     let read = read_trace(alloc, reader);
     match read.end {
-        TraceEnd::Whole => print_chart(alloc, &read, options, &selection, writer),
-        TraceEnd::Torn => print_chart(alloc, &read, options, &selection, writer),
+        TraceEnd::Whole => print_chart(alloc, &read, options, selection, writer),
+        TraceEnd::Torn => print_chart(alloc, &read, options, selection, writer),
         TraceEnd::BadLine(number) => Exit::BadLine(number),
         TraceEnd::UnknownVersion => Exit::UnknownVersion,
         TraceEnd::DeviceFailed => Exit::DeviceFailed,
@@ -57,18 +74,22 @@ fn selection_of(
     alloc: Global,
     options: &ChartOptions<'_>,
 ) -> Result<Option<Selection>, AllocError> {
-    let threads = match options.threads {
-        Some(list) => match read_threads(alloc, list)? {
-            Some(threads) => Some(threads),
-            None => return Ok(None),
-        },
-        None => None,
+    let Some(list) = options.threads else {
+        return Ok(Some(selection_with(options, None)));
     };
-    Ok(Some(Selection {
+    match read_threads(alloc, list)? {
+        Some(threads) => Ok(Some(selection_with(options, Some(threads)))),
+        None => Ok(None),
+    }
+}
+
+// What is shown where these threads are.
+fn selection_with(options: &ChartOptions<'_>, threads: Option<Vec<ThreadId>>) -> Selection {
+    Selection {
         first: u64::from(options.from),
         last: u64::from(options.to),
         threads,
-    }))
+    }
 }
 
 // Draws the entries that were read and prints them, where those up to the last that may be shown are a legal
@@ -104,14 +125,31 @@ fn print_legal<W: PortWrite>(
     ensures silent { result ≢ Exit.Done → result ≢ Exit.DeviceFailed
         → W.written writer.new ≡ W.written writer.old }
 {
-    let Ok(scene) = scene_of(alloc, entries, selection, !options.is_unfolded) else {
-        return Exit::NoMemory;
-    };
+    match scene_of(alloc, entries, selection, !options.is_unfolded) {
+        Ok(scene) => print_scene(alloc, &scene, entries, options, selection, writer),
+        Err(_) => Exit::NoMemory,
+    }
+}
+
+// Draws the scene of entries and prints it, if it has a row.
+fn print_scene<W: PortWrite>(
+    alloc: Global,
+    scene: &Scene,
+    entries: &[Entry],
+    options: &ChartOptions<'_>,
+    selection: &Selection,
+    writer: &mut W,
+) -> Exit
+    ensures ends { MayDraw result }
+    ensures failed { result ≡ Exit.DeviceFailed → W.failures writer.old < W.failures writer.new }
+    ensures silent { result ≢ Exit.Done → result ≢ Exit.DeviceFailed
+        → W.written writer.new ≡ W.written writer.old }
+{
     let count = entries.len() as u64;
     if let Some(emptiness) = selection.emptiness(count, scene.rows.len()) {
         return Exit::NoChart(fault_of(emptiness, count));
     }
-    let Ok(picture) = picture_of(alloc, &scene, entries, options) else {
+    let Ok(picture) = picture_of(alloc, scene, entries, options) else {
         return Exit::NoMemory;
     };
     match put(writer, picture.as_bytes()) {

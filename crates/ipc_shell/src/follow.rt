@@ -6,9 +6,11 @@ mod tests;
 use crate::exit::Exit;
 use crate::output::put;
 use ipc_follow::{Follower, Selection, read_label, read_threads};
+use ipc_history::Entry;
 use ipc_options::FollowOptions;
 use ipc_ports::{PieceBuffer, PortRead, PortWrite};
 use ipc_trace::{LineEnd, LineFault, TraceLines, next_line};
+use ipc_words::ThreadId;
 use std::alloc::Global;
 
 /// Tells the entries of the trace of a reader in words, each as soon as its line is there, to the end of the
@@ -26,20 +28,52 @@ pub fn follow_trace<R: PortRead, W: PortWrite>(
         → R.failures reader.old + W.failures writer.old
         < R.failures reader.new + W.failures writer.new }
 {
-    let selection = match selection_of(alloc, options) {
-        Ok(selection) => selection,
-        Err(fault) => return fault.exit(),
-    };
-    let mut follower = Follower::new(alloc, selection);
+    match selection_of(alloc, options) {
+        Ok(selection) => {
+            let mut follower = Follower::new(alloc, selection);
+            follow_with(alloc, &mut follower, reader, writer)
+        }
+        Err(fault) => fault.exit(),
+    }
+}
+
+// Tells the entries of the trace of a reader as `follow_trace` does, by this follower.
+fn follow_with<R: PortRead, W: PortWrite>(
+    alloc: Global,
+    follower: &mut Follower,
+    reader: &mut R,
+    writer: &mut W,
+) -> Exit
+    ensures device { result ≡ Exit.DeviceFailed
+        → R.failures reader.old + W.failures writer.old
+        < R.failures reader.new + W.failures writer.new }
+{
     let mut buffer = PieceBuffer::new();
     let mut line = Vec::new(alloc);
     let mut lines = TraceLines::new(alloc);
+    follow_lines(follower, &mut lines, &mut buffer, &mut line, reader, writer)
+}
+
+// The same over the lines of a trace. The bytes of a buffer stand before those of the reader, and each line is read
+// into `line`.
+fn follow_lines<R: PortRead, W: PortWrite>(
+    follower: &mut Follower,
+    lines: &mut TraceLines,
+    buffer: &mut PieceBuffer,
+    line: &mut Vec<u8>,
+    reader: &mut R,
+    writer: &mut W,
+) -> Exit
+    ensures device { result ≡ Exit.DeviceFailed
+        → R.failures reader.old + W.failures writer.old
+        < R.failures reader.new + W.failures writer.new }
+{
     let mut number: u64 = 0;
     'lines: loop {
         number = number.saturating_add(1);
-        match next_line(reader, &mut buffer, &mut line) {
+        match next_line(reader, buffer, line) {
             LineEnd::Newline => {
-                if let Some(exit) = follow_line(&mut follower, &mut lines, &line, number, writer) {
+                if let Some(exit) = follow_line(follower, lines, line, number, writer) {
                     return exit;
                 }
             }
@@ -74,26 +108,34 @@ impl Unselected {
 
 // What is told.
 fn selection_of(alloc: Global, options: &FollowOptions<'_>) -> Result<Selection, Unselected> {
-    let threads = match options.threads {
-        Some(list) => match read_threads(alloc, list) {
-            Ok(Some(threads)) => Some(threads),
-            Ok(None) => return Err(Unselected::BadThreads),
-            Err(_) => return Err(Unselected::NoMemory),
-        },
-        None => None,
-    };
-    let label = match options.label {
-        Some(word) => match read_label(word) {
-            Some(label) => Some(label),
-            None => return Err(Unselected::BadLabel),
-        },
-        None => None,
-    };
     Ok(Selection {
-        threads,
-        label,
+        threads: threads_of(alloc, options.threads)?,
+        label: label_of(options.label)?,
         failures: options.failures,
     })
+}
+
+// The threads of a list, if there is one.
+fn threads_of(alloc: Global, list: Option<&str>) -> Result<Option<Vec<ThreadId>>, Unselected> {
+    let Some(list) = list else {
+        return Ok(None);
+    };
+    match read_threads(alloc, list) {
+        Ok(Some(threads)) => Ok(Some(threads)),
+        Ok(None) => Err(Unselected::BadThreads),
+        Err(_) => Err(Unselected::NoMemory),
+    }
+}
+
+// The label of a word, if there is one.
+fn label_of(word: Option<&str>) -> Result<Option<u64>, Unselected> {
+    let Some(word) = word else {
+        return Ok(None);
+    };
+    match read_label(word) {
+        Some(label) => Ok(Some(label)),
+        None => Err(Unselected::BadLabel),
+    }
 }
 
 // Tells the entry of a line. None where the next one may come.
@@ -109,14 +151,23 @@ fn follow_line<W: PortWrite>(
     ensures kept { result ≢ Some Exit.DeviceFailed
         → W.failures writer.new ≡ W.failures writer.old }
 {
-    let entry = match lines.read(line) {
-        Ok(Some(entry)) => entry,
-        Ok(None) => return None,
-        Err(LineFault::Bad) => return Some(Exit::BadLine(number)),
-        Err(LineFault::UnknownVersion) => return Some(Exit::UnknownVersion),
-        Err(LineFault::NoMemory) => return Some(Exit::NoMemory),
-    };
-    match follower.tell(&entry) {
+    match lines.read(line) {
+        Ok(Some(entry)) => tell_entry(follower, &entry, writer),
+        Ok(None) => None,
+        Err(LineFault::Bad) => Some(Exit::BadLine(number)),
+        Err(LineFault::UnknownVersion) => Some(Exit::UnknownVersion),
+        Err(LineFault::NoMemory) => Some(Exit::NoMemory),
+    }
+}
+
+// Tells an entry. None where the next one may come.
+fn tell_entry<W: PortWrite>(follower: &mut Follower, entry: &Entry, writer: &mut W) -> Option<Exit>
+    ensures failed { result ≡ Some Exit.DeviceFailed
+        → W.failures writer.old < W.failures writer.new }
+    ensures kept { result ≢ Some Exit.DeviceFailed
+        → W.failures writer.new ≡ W.failures writer.old }
+{
+    match follower.tell(entry) {
         Ok(Some(text)) => match put(writer, text.as_bytes()) {
             Ok(()) => None,
             Err(_) => Some(Exit::DeviceFailed),

@@ -32,25 +32,52 @@ pub fn talk_to_server<N: Net, R: PortRead, W: PortWrite>(
         → R.failures reader.old + W.failures writer.old
         < R.failures reader.new + W.failures writer.new }
 {
-    let Ok(path) = path_of(alloc, options) else {
-        return Talked {
+    match path_of(alloc, options) {
+        Ok(path) => talk_at(rt, alloc, path.as_str(), options.thread, reader, writer),
+        Err(_) => Talked {
             ending: Ending::NoMemory,
             reason: None,
-        };
-    };
-    let stream = match UnixStream::connect(rt, path.as_str()) {
-        Ok(stream) => stream,
-        Err(error) => {
-            return Talked {
-                ending: Ending::NoServer,
-                reason: format!(in alloc; "{path}: {error}").ok(),
-            };
-        }
-    };
+        },
+    }
+}
+
+// Connects to a path, and talks as the thread of this number.
+fn talk_at<N: Net, R: PortRead, W: PortWrite>(
+    rt: &N,
+    alloc: Global,
+    path: &str,
+    number: u16,
+    reader: &mut R,
+    writer: &mut W,
+) -> Talked
+    ensures { result.ending ≡ Ending.DeviceFailed
+        → R.failures reader.old + W.failures writer.old
+        < R.failures reader.new + W.failures writer.new }
+{
+    match UnixStream::connect(rt, path) {
+        Ok(stream) => talk_along(alloc, &stream, number, reader, writer),
+        Err(error) => Talked {
+            ending: Ending::NoServer,
+            reason: format!(in alloc; "{path}: {error}").ok(),
+        },
+    }
+}
+
+// Talks over a socket as the thread of this number.
+fn talk_along<R: PortRead, W: PortWrite>(
+    alloc: Global,
+    stream: &UnixStream,
+    number: u16,
+    reader: &mut R,
+    writer: &mut W,
+) -> Talked
+    ensures { result.ending ≡ Ending.DeviceFailed
+        → R.failures reader.old + W.failures writer.old
+        < R.failures reader.new + W.failures writer.new }
+{
     let (reads, writes) = (Blank::new(1), Blank::new(1));
-    let number = options.thread;
     let ending = talk_over::<Brand, Brand, _, _>(
-        alloc, &stream, number, reader, writer, reads, writes,
+        alloc, stream, number, reader, writer, reads, writes,
     );
     let reason = ending.reason(alloc).unwrap_or(None);
     Talked { ending, reason }

@@ -5,6 +5,7 @@
 #![tactic(auto)]
 
 ghost use Rattle.std.specs.Prelude.{◌≡◌, ◌<◌};
+ghost use Rattle.ipc_words.specs.Limits.{max_calls, max_entries};
 
 mod chart;
 mod check;
@@ -29,7 +30,8 @@ use follow::follow_trace;
 use ipc_core::{Limits, MAX_CALLS, MAX_ENTRIES};
 use ipc_explain::{answer_period, answer_tag, explain};
 use ipc_options::{
-    ChartOptions, FollowOptions, ScriptLimits, ShellOptions, shell_options, tell_version,
+    ChartOptions, FollowOptions, ScriptLimits, ShellOptions, StateOptions, TalkOptions,
+    shell_options, tell_version,
 };
 use ipc_ports::{Failures, PortRead, PortWrite, ReadPort, WritePort};
 use ipc_reasons::{Grammar, reason_text};
@@ -43,7 +45,7 @@ use new_file::NewFile;
 use run::run_script;
 use std::alloc::{AllocError, Global};
 use std::fs::{self, File};
-use std::io::{self, BufWriter};
+use std::io::{self, BufWriter, Write};
 use std::marker::Brand;
 use std::net::Net;
 use std::process::ExitCode;
@@ -120,32 +122,48 @@ impl<N: PortWrite> Task for TraceWriter<N> {
 
 fn main(rt: HostRuntime) -> io::Result<ExitCode> {
     let alloc = rt.alloc();
-    let Ok(words) = std::env::args(&rt) else {
-        return ended(&rt, &Ending::from(Exit::NoMemory));
-    };
-    let Ok(words) = words.collect::<Vec<String>>(alloc) else {
-        return ended(&rt, &Ending::from(Exit::NoMemory));
-    };
-    match shell_options(alloc, &words) {
+    match words_of(&rt, alloc) {
+        Some(words) => obey_words(&rt, alloc, &words),
+        None => ended_alone(&rt, Exit::NoMemory, &None),
+    }
+}
+
+/// The words that the program was started with. None where they cannot be had.
+fn words_of(rt: &HostRuntime, alloc: Global) -> Option<Vec<String>> {
+    let words = std::env::args(rt).ok()?;
+    words.collect::<Vec<String>>(alloc).ok()
+}
+
+/// Does what the words ask for, and answers the status of the program.
+fn obey_words<R: Alloc + Files + Input + Print + Eprint + Net>(
+    rt: &R,
+    alloc: Global,
+    words: &[String],
+) -> io::Result<ExitCode> {
+    match shell_options(alloc, words) {
         Ok(options) => {
-            let ending = obey::<Brand, Brand, _>(
-                &rt,
-                alloc,
-                &options,
-                Blank::new(1),
-                Blank::new(1),
-            );
-            ended(&rt, &ending)
+            let (reads, writes) = (Blank::new(1), Blank::new(1));
+            let ending = obey::<Brand, Brand, _>(rt, alloc, &options, reads, writes);
+            ended(rt, &ending)
         }
-        Err(error) if error.kind() == ErrorKind::OutOfMemory => {
-            ended(&rt, &Ending::from(Exit::NoMemory))
-        }
-        Err(error) if error.kind() == ErrorKind::DisplayVersion => {
-            tell_version(&rt, alloc, &error)?;
+        Err(error) => tell_error(rt, alloc, &error),
+    }
+}
+
+/// Tells what is wrong with the words, or the version where they ask for it, and answers the status of the program.
+fn tell_error<R: Alloc + Files + Print + Eprint>(
+    rt: &R,
+    alloc: Global,
+    error: &clap::Error,
+) -> io::Result<ExitCode> {
+    match error.kind() {
+        ErrorKind::OutOfMemory => ended_alone(rt, Exit::NoMemory, &None),
+        ErrorKind::DisplayVersion => {
+            tell_version(rt, alloc, error)?;
             Ok(ExitCode::from(0))
         }
-        Err(error) => {
-            rt.eprint(&error)?;
+        _ => {
+            rt.eprint(error)?;
             Ok(ExitCode::from(2))
         }
     }
@@ -164,73 +182,144 @@ fn obey<L: Ledger, M: Ledger, R: Files + Input + Print + Net>(
     requires writes_name { writes.name ≡ M.name }
     requires writes_parts { (writes.parts ≡ M.parts) × (0 < writes.parts) }
 {
-    let reads = Failures::<L>::new(reads);
     let mut writer = WritePort::new(io::writer(rt), Failures::<M>::new(writes));
+    obey_into(rt, alloc, options, Failures::<L>::new(reads), &mut writer)
+}
+
+/// Does what was asked for, and prints to a writer.
+fn obey_into<L: Ledger, R: Files + Input + Net, W: PortWrite>(
+    rt: &R,
+    alloc: Global,
+    options: &ShellOptions<'_>,
+    reads: Failures<L>,
+    writer: &mut W,
+) -> Ending {
     match options {
-        ShellOptions::Run(limits) => {
-            let mut reader = KeptPort::new(alloc, ReadPort::new(rt.reader(), reads));
-            let exit = run_script(alloc, kernel_limits(limits), &mut reader, &mut writer);
-            with_reason(alloc, exit, Grammar::Script, reader.tail())
-        }
-        ShellOptions::Wire => {
-            let limits = Limits {
-                entries: MAX_ENTRIES,
-                calls: MAX_CALLS,
-            };
-            let mut reader = KeptPort::new(alloc, ReadPort::new(rt.reader(), reads));
-            let exit = wire_script(alloc, limits, &mut reader, &mut writer);
-            with_reason(alloc, exit, Grammar::Wire, reader.tail())
-        }
+        ShellOptions::Run(limits) => run_input(rt, alloc, limits, reads, writer),
+        ShellOptions::Wire => wire_input(rt, alloc, reads, writer),
         ShellOptions::Check { file } => {
-            look(rt, alloc, *file, &mut Printing::Check, reads, &mut writer)
+            print_of(rt, alloc, *file, Printing::Check, reads, writer)
         }
-        ShellOptions::Chart(chart) => chart_file(rt, alloc, chart, reads, &mut writer),
-        ShellOptions::State(state) => {
-            let mut task = Printing::Look(Look::StateAt(state.at as usize));
-            look(rt, alloc, state.file, &mut task, reads, &mut writer)
-        }
+        ShellOptions::Chart(chart) => chart_file(rt, alloc, chart, reads, writer),
+        ShellOptions::State(state) => state_of_file(rt, alloc, state, reads, writer),
         ShellOptions::Script { file } => {
-            let mut task = Printing::Look(Look::Script);
-            look(rt, alloc, *file, &mut task, reads, &mut writer)
+            look_at_file(rt, alloc, *file, Look::Script, reads, writer)
         }
         ShellOptions::Count { file, is_json } => {
-            let mut task = Printing::Look(Look::Counts { is_json: *is_json });
-            look(rt, alloc, *file, &mut task, reads, &mut writer)
+            let look = Look::Counts { is_json: *is_json };
+            look_at_file(rt, alloc, *file, look, reads, writer)
         }
-        ShellOptions::Follow(options) => {
-            let mut task = Printing::Follow(*options);
-            look(rt, alloc, options.file, &mut task, reads, &mut writer)
+        ShellOptions::Follow(follow) => {
+            print_of(
+                rt,
+                alloc,
+                follow.file,
+                Printing::Follow(*follow),
+                reads,
+                writer,
+            )
         }
         ShellOptions::Migrate { old, new } => {
             let files = Migration {
                 old: *old,
                 new: *new,
             };
-            migrate_file::<L, Brand, R, _>(rt, alloc, &files, reads, Blank::new(1), &mut writer)
+            migrate_file(rt, alloc, &files, reads, writer)
         }
-        ShellOptions::Talk => {
-            let limits = Limits {
-                entries: MAX_ENTRIES,
-                calls: MAX_CALLS,
-            };
-            let mut reader = ReadPort::new(rt.reader(), reads);
-            Ending::from(talk_with(alloc, limits, &mut reader, &mut writer))
-        }
-        ShellOptions::TalkTo(talk) => {
-            let mut reader = ReadPort::new(rt.reader(), reads);
-            let talked = talk_to_server(rt, alloc, talk, &mut reader, &mut writer);
-            Ending::WithServer(talked)
-        }
+        ShellOptions::Talk => talk_over_input(rt, alloc, reads, writer),
+        ShellOptions::TalkTo(talk) => talk_from_input(rt, alloc, talk, reads, writer),
         ShellOptions::Explain { word } => {
-            Ending::from(print_answer(explain(alloc, *word), &mut writer))
+            Ending::from(print_answer(explain(alloc, *word), writer))
         }
-        ShellOptions::Tag { word } => {
-            Ending::from(print_answer(answer_tag(alloc, *word), &mut writer))
-        }
+        ShellOptions::Tag { word } => Ending::from(print_answer(answer_tag(alloc, *word), writer)),
         ShellOptions::Period { word } => {
-            Ending::from(print_answer(answer_period(alloc, *word), &mut writer))
+            Ending::from(print_answer(answer_period(alloc, *word), writer))
         }
     }
+}
+
+/// Runs the script of standard input.
+fn run_input<L: Ledger, R: Input, W: PortWrite>(
+    rt: &R,
+    alloc: Global,
+    limits: &ScriptLimits,
+    reads: Failures<L>,
+    writer: &mut W,
+) -> Ending {
+    let mut reader = KeptPort::new(alloc, ReadPort::new(rt.reader(), reads));
+    let exit = run_script(alloc, kernel_limits(limits), &mut reader, writer);
+    with_reason(alloc, exit, Grammar::Script, reader.tail())
+}
+
+/// Runs the wire script of standard input.
+fn wire_input<L: Ledger, R: Input, W: PortWrite>(
+    rt: &R,
+    alloc: Global,
+    reads: Failures<L>,
+    writer: &mut W,
+) -> Ending {
+    let mut reader = KeptPort::new(alloc, ReadPort::new(rt.reader(), reads));
+    let exit = wire_script(alloc, greatest_limits(), &mut reader, writer);
+    with_reason(alloc, exit, Grammar::Wire, reader.tail())
+}
+
+/// Talks over standard input, with a kernel of its own.
+fn talk_over_input<L: Ledger, R: Input, W: PortWrite>(
+    rt: &R,
+    alloc: Global,
+    reads: Failures<L>,
+    writer: &mut W,
+) -> Ending {
+    let mut reader = ReadPort::new(rt.reader(), reads);
+    Ending::from(talk_with(alloc, greatest_limits(), &mut reader, writer))
+}
+
+/// Talks from standard input with a live server.
+fn talk_from_input<L: Ledger, R: Input + Net, W: PortWrite>(
+    rt: &R,
+    alloc: Global,
+    options: &TalkOptions<'_>,
+    reads: Failures<L>,
+    writer: &mut W,
+) -> Ending {
+    let mut reader = ReadPort::new(rt.reader(), reads);
+    Ending::WithServer(talk_to_server(rt, alloc, options, &mut reader, writer))
+}
+
+/// Tells the state of the threads of a trace.
+fn state_of_file<L: Ledger, R: Files + Input, W: PortWrite>(
+    rt: &R,
+    alloc: Global,
+    options: &StateOptions<'_>,
+    reads: Failures<L>,
+    writer: &mut W,
+) -> Ending {
+    let look = Look::StateAt(options.at as usize);
+    look_at_file(rt, alloc, options.file, look, reads, writer)
+}
+
+/// Prints what is asked of the trace of a file, or of standard input.
+fn look_at_file<L: Ledger, R: Files + Input, W: PortWrite>(
+    rt: &R,
+    alloc: Global,
+    file: &str,
+    look: Look,
+    reads: Failures<L>,
+    writer: &mut W,
+) -> Ending {
+    print_of(rt, alloc, file, Printing::Look(look), reads, writer)
+}
+
+/// Prints this of the trace of a file, or of standard input.
+fn print_of<L: Ledger, R: Files + Input, W: PortWrite>(
+    rt: &R,
+    alloc: Global,
+    file: &str,
+    mut printing: Printing<'_>,
+    reads: Failures<L>,
+    writer: &mut W,
+) -> Ending {
+    look(rt, alloc, file, &mut printing, reads, writer)
 }
 
 /// Draws the trace of a file, or of standard input.
@@ -241,29 +330,33 @@ fn chart_file<L: Ledger, R: Files + Input, W: PortWrite>(
     reads: Failures<L>,
     writer: &mut W,
 ) -> Ending {
-    let ending = if has_two_forms(options) {
-        Ending::from(Exit::NoChart(ChartFault::TwoForms))
-    } else {
-        look(
-            rt,
-            alloc,
-            options.file,
-            &mut Printing::Chart(*options),
-            reads,
-            writer,
-        )
-    };
-    let Some(exit) = exit_alone(&ending) else {
-        return ending;
-    };
-    let reason = match exit {
-        Exit::NoChart(fault) => chart_reason(alloc, options, fault).ok(),
+    if has_two_forms(options) {
+        return no_chart(alloc, options, ChartFault::TwoForms);
+    }
+    let printing = Printing::Chart(*options);
+    let ending = print_of(rt, alloc, options.file, printing, reads, writer);
+    told_chart(alloc, options, &ending).unwrap_or(ending)
+}
+
+/// The ending of a chart with a reason of its own, where it has one.
+fn told_chart(alloc: Global, options: &ChartOptions<'_>, ending: &Ending) -> Option<Ending> {
+    let exit = exit_alone(ending)?;
+    match exit {
+        Exit::NoChart(fault) => Some(no_chart(alloc, options, fault)),
         Exit::IllegalLine { entries, .. } if entries > 0 => {
-            format!(in alloc; "--to {entries} draws what comes before it").ok()
+            let reason = format!(in alloc; "--to {entries} draws what comes before it").ok();
+            Some(Ending::Alone { exit, reason })
         }
-        _ => return ending,
-    };
-    Ending::Alone { exit, reason }
+        _ => None,
+    }
+}
+
+/// There is nothing to draw, for this reason. Without memory there is no reason.
+fn no_chart(alloc: Global, options: &ChartOptions<'_>, fault: ChartFault) -> Ending {
+    Ending::Alone {
+        exit: Exit::NoChart(fault),
+        reason: chart_reason(alloc, options, fault).ok(),
+    }
 }
 
 /// The exit of an ending without a server.
@@ -284,20 +377,43 @@ fn look<T: Task, L: Ledger, R: Files + Input, W: PortWrite>(
     writer: &mut W,
 ) -> Ending {
     if file == "-" {
-        let mut reader = KeptPort::new(alloc, ReadPort::new(rt.reader(), reads));
-        let exit = task.perform(alloc, &mut reader, writer);
-        return with_reason(alloc, exit, Grammar::Trace, reader.tail());
+        return look_at_input(rt, alloc, task, reads, writer);
     }
-    let opened = match File::open(rt, file) {
-        Ok(opened) => opened,
-        Err(error) => return not_opened(alloc, file, &error),
-    };
+    match File::open(rt, file) {
+        Ok(opened) => look_at_opened(rt, alloc, file, opened, task, reads, writer),
+        Err(error) => not_opened(alloc, file, &error),
+    }
+}
+
+/// Does this with the trace of standard input.
+fn look_at_input<T: Task, L: Ledger, R: Input, W: PortWrite>(
+    rt: &R,
+    alloc: Global,
+    task: &mut T,
+    reads: Failures<L>,
+    writer: &mut W,
+) -> Ending {
+    let mut reader = KeptPort::new(alloc, ReadPort::new(rt.reader(), reads));
+    let exit = task.perform(alloc, &mut reader, writer);
+    with_reason(alloc, exit, Grammar::Trace, reader.tail())
+}
+
+/// Does this with the trace of a file that was opened.
+fn look_at_opened<T: Task, L: Ledger, R: Files, W: PortWrite>(
+    rt: &R,
+    alloc: Global,
+    file: &str,
+    opened: R::File,
+    task: &mut T,
+    reads: Failures<L>,
+    writer: &mut W,
+) -> Ending {
     let mut reader = KeptPort::new(alloc, ReadPort::new(opened, reads));
     let exit = task.perform(alloc, &mut reader, writer);
-    if exit == Exit::DeviceFailed {
-        return device_failed(rt, alloc, file);
+    match exit {
+        Exit::DeviceFailed => device_failed(rt, alloc, file),
+        _ => with_reason(alloc, exit, Grammar::Trace, reader.tail()),
     }
-    with_reason(alloc, exit, Grammar::Trace, reader.tail())
 }
 
 /// The files of a migration: the trace that is read, and the one that is written.
@@ -307,9 +423,19 @@ struct Migration<'a> {
     new: &'a str,
 }
 
-/// Writes the trace of a file, or of standard input, anew into a file, which is made at its first write. The count of
-/// the failures of that one begins as a blank.
-fn migrate_file<L: Ledger, N: Ledger, R: Files + Input, W: PortWrite>(
+/// Writes the trace of a file, or of standard input, anew into a file, which is made at its first write.
+fn migrate_file<L: Ledger, R: Files + Input, W: PortWrite>(
+    rt: &R,
+    alloc: Global,
+    files: &Migration<'_>,
+    reads: Failures<L>,
+    writer: &mut W,
+) -> Ending {
+    migrate_over::<L, Brand, R, _>(rt, alloc, files, reads, Blank::new(1), writer)
+}
+
+/// The same. The count of the failures of the new file begins as a blank.
+fn migrate_over<L: Ledger, N: Ledger, R: Files + Input, W: PortWrite>(
     rt: &R,
     alloc: Global,
     files: &Migration<'_>,
@@ -321,29 +447,56 @@ fn migrate_file<L: Ledger, N: Ledger, R: Files + Input, W: PortWrite>(
     requires writes_parts { (writes.parts ≡ N.parts) × (0 < writes.parts) }
 {
     let Migration { old, new } = *files;
-    let Ok(mut file) = BufWriter::with_capacity(alloc, BUFFER, NewFile::new(rt, new)) else {
-        return Ending::from(Exit::NoMemory);
-    };
-    let port = WritePort::new(&mut file, Failures::<N>::new(writes));
-    let mut trace = TraceWriter::new(alloc, port);
-    let ending = look(rt, alloc, old, &mut trace, reads, writer);
-    drop(trace);
-    match file.get_ref().fault() {
-        Some(fault) => not_opened(alloc, new, &fault),
-        None => ending,
+    match BufWriter::with_capacity(alloc, BUFFER, NewFile::new(rt, new)) {
+        Ok(mut file) => {
+            let ending = migrate_into::<L, N, _, R, _>(
+                rt, alloc, old, &mut file, reads, writes, writer,
+            );
+            match file.get_ref().fault() {
+                Some(fault) => not_opened(alloc, new, &fault),
+                None => ending,
+            }
+        }
+        Err(_) => Ending::from(Exit::NoMemory),
     }
+}
+
+/// Writes the trace of a file, or of standard input, anew into this file. The count of the failures of the new one
+/// begins as a blank.
+fn migrate_into<L: Ledger, N: Ledger, F: Write, R: Files + Input, W: PortWrite>(
+    rt: &R,
+    alloc: Global,
+    old: &str,
+    new: &mut F,
+    reads: Failures<L>,
+    writes: Blank,
+    writer: &mut W,
+) -> Ending
+    requires writes_name { writes.name ≡ N.name }
+    requires writes_parts { (writes.parts ≡ N.parts) × (0 < writes.parts) }
+{
+    let port = WritePort::new(new, Failures::<N>::new(writes));
+    let mut trace = TraceWriter::new(alloc, port);
+    look(rt, alloc, old, &mut trace, reads, writer)
 }
 
 /// A device failed. The reason is the file where that is a folder, which can be opened and not read. Without memory
 /// there is no reason.
 fn device_failed<R: Files>(rt: &R, alloc: Global, file: &str) -> Ending {
     let exit = Exit::DeviceFailed;
+    if is_folder(rt, file) {
+        let reason = format!(in alloc; "{file}: is a folder").ok();
+        Ending::Alone { exit, reason }
+    } else {
+        Ending::from(exit)
+    }
+}
+
+/// Whether a path is that of a folder.
+fn is_folder<R: Files>(rt: &R, file: &str) -> bool {
     match fs::metadata(rt, file) {
-        Ok(found) if found.is_dir() => Ending::Alone {
-            exit,
-            reason: format!(in alloc; "{file}: is a folder").ok(),
-        },
-        _ => Ending::from(exit),
+        Ok(found) => found.is_dir(),
+        Err(_) => false,
     }
 }
 
@@ -365,10 +518,8 @@ fn with_reason(alloc: Global, exit: Exit, grammar: Grammar, tail: &Tail) -> Endi
     let Some(line) = tail.line(number) else {
         return Ending::from(exit);
     };
-    match bad_line_reason(alloc, grammar, line) {
-        Ok(reason) => Ending::Alone { exit, reason },
-        Err(_) => Ending::from(exit),
-    }
+    let reason = bad_line_reason(alloc, grammar, line).unwrap_or(None);
+    Ending::Alone { exit, reason }
 }
 
 fn bad_line_reason(
@@ -381,9 +532,21 @@ fn bad_line_reason(
         return Ok(Some(text));
     }
     match reason_text(alloc, grammar, line)? {
-        None if grammar == Grammar::Wire => Ok(Some(wire_reason(alloc, line)?)),
-        None if grammar == Grammar::Trace => Ok(Some(trace_reason(alloc)?)),
-        reason => Ok(reason),
+        Some(reason) => Ok(Some(reason)),
+        None => meaning_reason(alloc, grammar, line),
+    }
+}
+
+/// Why a line is bad whose fields are well formed, where that is known.
+fn meaning_reason(
+    alloc: Global,
+    grammar: Grammar,
+    line: &[u8],
+) -> Result<Option<String>, AllocError> {
+    match grammar {
+        Grammar::Wire => Ok(Some(wire_reason(alloc, line)?)),
+        Grammar::Trace => Ok(Some(trace_reason(alloc)?)),
+        Grammar::Script => Ok(None),
     }
 }
 
@@ -415,26 +578,48 @@ fn kernel_limits(limits: &ScriptLimits) -> Limits
     }
 }
 
+/// The greatest limits that a kernel takes.
+fn greatest_limits() -> Limits
+    ensures { result ≡ record { entries = max_entries; calls = max_calls } }
+{
+    Limits {
+        entries: MAX_ENTRIES,
+        calls: MAX_CALLS,
+    }
+}
+
 /// Says on standard error why the program ended, where it did not end well, and answers its status.
 fn ended<R: Eprint>(rt: &R, ending: &Ending) -> io::Result<ExitCode> {
-    let (status, reason) = match ending {
-        Ending::Alone { exit, reason } => {
-            match exit {
-                Exit::Done | Exit::Illegal => {}
-                _ => rt.eprintln(exit)?,
-            }
-            (exit.status(), reason)
-        }
-        Ending::WithServer(talked) => {
-            match talked.ending {
-                ipc_live::Ending::Done => {}
-                _ => rt.eprintln(&talked.ending)?,
-            }
-            (talked.ending.status(), &talked.reason)
-        }
-    };
-    if let Some(reason) = reason {
-        rt.eprintln(reason)?;
+    match ending {
+        Ending::Alone { exit, reason } => ended_alone(rt, *exit, reason),
+        Ending::WithServer(talked) => ended_with_server(rt, talked),
     }
-    Ok(ExitCode::from(status))
+}
+
+/// The same of an ending without a server.
+fn ended_alone<R: Eprint>(rt: &R, exit: Exit, reason: &Option<String>) -> io::Result<ExitCode> {
+    match exit {
+        Exit::Done | Exit::Illegal => {}
+        _ => rt.eprintln(&exit)?,
+    }
+    tell_reason(rt, reason)?;
+    Ok(ExitCode::from(exit.status()))
+}
+
+/// The same of a thread of a server.
+fn ended_with_server<R: Eprint>(rt: &R, talked: &Talked) -> io::Result<ExitCode> {
+    match talked.ending {
+        ipc_live::Ending::Done => {}
+        _ => rt.eprintln(&talked.ending)?,
+    }
+    tell_reason(rt, &talked.reason)?;
+    Ok(ExitCode::from(talked.ending.status()))
+}
+
+/// Says the reason on standard error, if one is known.
+fn tell_reason<R: Eprint>(rt: &R, reason: &Option<String>) -> io::Result<()> {
+    match reason {
+        Some(reason) => rt.eprintln(reason),
+        None => Ok(()),
+    }
 }

@@ -17,6 +17,8 @@ pub struct NewFile<'a, R: Files> {
 }
 
 impl<'a, R: Files> NewFile<'a, R> {
+    ghost use Rattle.std.specs.Prelude.{◌≤◌, IfOk, length};
+
     /// A file that is not made yet.
     pub fn new(rt: &'a R, path: &'a str) -> NewFile<'a, R> {
         NewFile {
@@ -30,6 +32,16 @@ impl<'a, R: Files> NewFile<'a, R> {
     /// Why it could not be made, if that failed.
     pub fn fault(&self) -> Option<io::Error> {
         self.fault
+    }
+
+    // Makes it, and writes into it.
+    fn write_first(&mut self, buf: &[u8]) -> io::Result<usize>
+        ensures { IfOk result (λ written. written ≤ length buf.now) }
+    {
+        let mut file = self.made()?;
+        let written = file.write(buf);
+        self.file = Some(file);
+        written
     }
 
     fn made(&mut self) -> io::Result<R::File> {
@@ -51,12 +63,7 @@ impl<R: Files> Write for NewFile<'_, R> {
     fn write(&mut self, buf: &[u8]) -> io::Result<usize> {
         match &mut self.file {
             Some(file) => file.write(buf),
-            None => {
-                let mut file = self.made()?;
-                let written = file.write(buf);
-                self.file = Some(file);
-                written
-            }
+            None => self.write_first(buf),
         }
     }
 

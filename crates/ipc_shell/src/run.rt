@@ -1,4 +1,5 @@
 ghost use Rattle.std.specs.Prelude.{◌≡◌, ◌≢◌, ◌+◌, ◌<◌, Some, None, Ok, true, false, IfOk, IfSome};
+ghost use Rattle.std.specs.Io.KnownBytes.{prepend_known};
 ghost use Rattle.std.specs.String.{string_bytes};
 ghost use Rattle.ipc_shell.specs.Failing.{HasFailed};
 ghost use Rattle.ipc_shell.specs.Running.{compact_line, first_kernel, EndsLine, IsCompacted, IsNoCommand, RunsLine, RunsScript};
@@ -54,11 +55,36 @@ pub fn run_script<R: PortRead, W: PortWrite>(
     };
     let mut buffer = PieceBuffer::new();
     let mut line = Vec::new(alloc);
+    run_lines(alloc, &mut kernel, &mut buffer, &mut line, reader, writer)
+}
+
+/// Runs the lines of a script as [`run_script`] does, by this kernel. The bytes of a buffer stand before those of the
+/// reader, and each line is read into `line`.
+fn run_lines<R: PortRead, W: PortWrite>(
+    alloc: Global,
+    kernel: &mut Kernel,
+    buffer: &mut PieceBuffer,
+    line: &mut Vec<u8>,
+    reader: &mut R,
+    writer: &mut W,
+) -> Exit
+    ensures runs { RunsScript kernel.old (prepend_known buffer.old (R.remaining reader.old))
+        (W.written writer.old) (W.written writer.new) result }
+    ensures device { result ≡ Exit.DeviceFailed
+        → HasFailed (R.failures reader.old + W.failures writer.old)
+        (R.failures reader.new + W.failures writer.new)
+        (prepend_known buffer.old (R.remaining reader.old)) }
+    ensures kept { result ≢ Exit.DeviceFailed
+        → (R.failures reader.new ≡ R.failures reader.old)
+        × (W.failures writer.new ≡ W.failures writer.old) }
+    ensures flushed { result ≢ Exit.DeviceFailed
+        → W.flushed writer.old ≡ true → W.flushed writer.new ≡ true }
+{
     'lines: for number in 1..u64::MAX {
-        match next_line(reader, &mut buffer, &mut line) {
+        match next_line(reader, buffer, line) {
             NextLine::Line if line.is_empty() => {}
             NextLine::Line => {
-                if let Some(exit) = run_line(alloc, &mut kernel, &line, number, writer) {
+                if let Some(exit) = run_line(alloc, kernel, line, number, writer) {
                     return exit;
                 }
             }

@@ -35,22 +35,47 @@ pub fn talk_with<R: PortRead, W: PortWrite>(
     };
     let mut buffer = PieceBuffer::new();
     let mut line = Vec::new(alloc);
+    talk_lines(alloc, &mut kernel, &mut buffer, &mut line, reader, writer)
+}
+
+// Obeys what is typed as `talk_with` does, by this kernel. The bytes of a buffer stand before those of the reader, and
+// each line is read into `line`.
+fn talk_lines<R: PortRead, W: PortWrite>(
+    alloc: Global,
+    kernel: &mut Kernel,
+    buffer: &mut PieceBuffer,
+    line: &mut Vec<u8>,
+    reader: &mut R,
+    writer: &mut W,
+) -> Exit
+    ensures goes_on { MayEndTalk result }
+    ensures device { result ≡ Exit.DeviceFailed
+        → R.failures reader.old + W.failures writer.old
+        < R.failures reader.new + W.failures writer.new }
+{
     'lines: loop {
-        match next_line(reader, &mut buffer, &mut line) {
+        match next_line(reader, buffer, line) {
             LineEnd::Newline => {
-                if let Some(exit) = reply(alloc, &mut kernel, &line, writer) {
+                if let Some(exit) = reply(alloc, kernel, line, writer) {
                     return exit;
                 }
             }
-            LineEnd::Input => {
-                return match reply(alloc, &mut kernel, &line, writer) {
-                    Some(exit) => exit,
-                    None => Exit::Done,
-                };
-            }
+            LineEnd::Input => return last_reply(alloc, kernel, line, writer),
             LineEnd::Failed => return Exit::DeviceFailed,
             LineEnd::NoMemory => return Exit::NoMemory,
         }
+    }
+}
+
+// Puts what is said to the last line, and says how the talk ends.
+fn last_reply<W: PortWrite>(alloc: Global, kernel: &mut Kernel, line: &[u8], writer: &mut W) -> Exit
+    ensures ends { MayEndTalk result }
+    ensures failed { result ≡ Exit.DeviceFailed → W.failures writer.old < W.failures writer.new }
+    ensures kept { result ≢ Exit.DeviceFailed → W.failures writer.new ≡ W.failures writer.old }
+{
+    match reply(alloc, kernel, line, writer) {
+        Some(exit) => exit,
+        None => Exit::Done,
     }
 }
 
@@ -85,16 +110,25 @@ fn said_to(alloc: Global, kernel: &mut Kernel, line: &[u8]) -> Result<Option<Str
         let text = format!(in alloc; "? a line of more than {MAX_LINE_BYTES} bytes\n")?;
         return Ok(Some(text));
     }
-    match read_typed(alloc, line)? {
-        Typed::Quit => Ok(None),
-        Typed::Nothing => Ok(Some(String::new(alloc))),
-        Typed::Help => Ok(Some(String::from_str(alloc, HELP)?)),
-        Typed::Mistake(reason) => {
-            let text = format!(in alloc; "? {reason}\n")?;
-            Ok(Some(text))
-        }
-        Typed::Line(exact) => Ok(Some(obeyed(alloc, kernel, line, &exact)?)),
-    }
+    let typed = read_typed(alloc, line)?;
+    said_to_typed(alloc, kernel, line, &typed)
+}
+
+// What is said to a line of this meaning. None where it asks to end.
+fn said_to_typed(
+    alloc: Global,
+    kernel: &mut Kernel,
+    line: &[u8],
+    typed: &Typed,
+) -> Result<Option<String>, AllocError> {
+    let said = match typed {
+        Typed::Quit => return Ok(None),
+        Typed::Nothing => String::new(alloc),
+        Typed::Help => String::from_str(alloc, HELP)?,
+        Typed::Mistake(reason) => format!(in alloc; "? {reason}\n")?,
+        Typed::Line(exact) => obeyed(alloc, kernel, line, exact)?,
+    };
+    Ok(Some(said))
 }
 
 // Obeys an exact line, which stands for one that was typed.
@@ -105,23 +139,48 @@ fn obeyed(
     exact: &String,
 ) -> Result<String, AllocError> {
     let mut text = String::new(alloc);
-    if typed != exact.as_bytes() {
-        write!(text, "> {exact}\n")?;
+    write_exact(&mut text, typed, exact)?;
+    write_obeyed(alloc, kernel, exact, &mut text)?;
+    Ok(text)
+}
+
+// Appends an exact line, where another was typed.
+fn write_exact(text: &mut String, typed: &[u8], exact: &String) -> Result<(), AllocError> {
+    if typed == exact.as_bytes() {
+        return Ok(());
     }
-    let Some(command) = read_command(alloc, exact.as_bytes())? else {
-        text.push_str("? this is no command\n")?;
-        return Ok(text);
-    };
-    let answer = answer(alloc, kernel, command)?;
-    let whole = answer.as_str().trim_end();
-    text.push_str(whole)?;
-    let last = match whole.rsplit_once('\n') {
-        Some((_, last)) => last,
-        None => whole,
-    };
-    if let Some(words) = words_beside(alloc, last.as_bytes())? {
+    write!(text, "> {exact}\n")
+}
+
+// Obeys an exact line, and appends what it gives.
+fn write_obeyed(
+    alloc: Global,
+    kernel: &mut Kernel,
+    exact: &String,
+    text: &mut String,
+) -> Result<(), AllocError> {
+    match read_command(alloc, exact.as_bytes())? {
+        Some(command) => {
+            let answer = answer(alloc, kernel, command)?;
+            write_answer(alloc, answer.as_str().trim_end(), text)
+        }
+        None => text.push_str("? this is no command\n"),
+    }
+}
+
+// Appends the lines of an answer, with words beside the last one.
+fn write_answer(alloc: Global, answer: &str, text: &mut String) -> Result<(), AllocError> {
+    text.push_str(answer)?;
+    if let Some(words) = words_beside(alloc, last_line(answer).as_bytes())? {
         write!(text, "    {words}")?;
     }
-    text.push_str("\n")?;
-    Ok(text)
+    text.push_str("\n")
+}
+
+// The last of some lines.
+fn last_line(lines: &str) -> &str {
+    match lines.rsplit_once('\n') {
+        Some((_, last)) => last,
+        None => lines,
+    }
 }

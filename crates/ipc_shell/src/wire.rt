@@ -1,5 +1,6 @@
 ghost use Rattle.std.specs.Prelude.{◌≡◌, ◌≢◌, ◌+◌, ◌++◌, ◌<◌, ◌≤◌, ℕ, Bool, IfOk, IfSome, IsNone};
 ghost use Rattle.std.specs.Prelude.{MatchOption, OnOk, Some, length, true};
+ghost use Rattle.std.specs.Io.KnownBytes.{prepend_known};
 ghost use Rattle.std.specs.String.{string_bytes};
 ghost use Rattle.ipc_exchange.specs.Events.{Connect, ExchangeParts, Finish, Piece};
 ghost use Rattle.ipc_exchange.specs.Exchange.{Shows};
@@ -71,12 +72,39 @@ pub fn wire_script<R: PortRead, W: PortWrite>(
     };
     let mut buffer = PieceBuffer::new();
     let mut line = Vec::new(alloc);
+    wire_lines(alloc, &mut exchange, &mut buffer, &mut line, reader, writer)
+}
+
+/// Runs the lines of a wire script as [`wire_script`] does, by this exchange. The bytes of a buffer stand before those
+/// of the reader, and each line is read into `line`.
+fn wire_lines<R: PortRead, W: PortWrite>(
+    alloc: Global,
+    exchange: &mut Exchange,
+    buffer: &mut PieceBuffer,
+    line: &mut Vec<u8>,
+    reader: &mut R,
+    writer: &mut W,
+) -> Exit
+    ensures wires { (parts : ExchangeParts) → Shows exchange.old parts
+        → WiresScript parts (prepend_known buffer.old (R.remaining reader.old))
+        (W.written writer.old) (W.written writer.new) result }
+    ensures device { (parts : ExchangeParts) → Shows exchange.old parts
+        → result ≡ Exit.DeviceFailed
+        → HasFailed (R.failures reader.old + W.failures writer.old)
+        (R.failures reader.new + W.failures writer.new)
+        (prepend_known buffer.old (R.remaining reader.old)) }
+    ensures kept { result ≢ Exit.DeviceFailed
+        → (R.failures reader.new ≡ R.failures reader.old)
+        × (W.failures writer.new ≡ W.failures writer.old) }
+    ensures flushed { result ≢ Exit.DeviceFailed
+        → W.flushed writer.old ≡ true → W.flushed writer.new ≡ true }
+{
     let mut piece = [0u8; PIECE];
     'lines: for number in 1..u64::MAX {
-        match next_line(reader, &mut buffer, &mut line) {
+        match next_line(reader, buffer, line) {
             NextLine::Line if line.is_empty() => {}
             NextLine::Line => {
-                let done = wire_line(alloc, &mut exchange, &mut piece, &line, number, writer);
+                let done = wire_line(alloc, exchange, &mut piece, line, number, writer);
                 if let Some(exit) = done {
                     return exit;
                 }

@@ -1,7 +1,7 @@
 -- No call failed so far.
 use Rattle.std.proofs.Common.{◌≡◌}
 use Rattle.ipc_ports.specs.Ports.{most_left}
-use Rattle.ipc_shell.proofs.follow.follow_trace.Given as goal
+use Rattle.ipc_shell.proofs.follow.follow_lines.Given as goal
 
 abbrev pub invariant-lines : goal.invariant-lines
 invariant-lines g l = record {

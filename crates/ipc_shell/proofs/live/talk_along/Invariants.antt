@@ -1,4 +1,4 @@
-use Rattle.ipc_shell.proofs.live.talk_to_server.Given as goal
+use Rattle.ipc_shell.proofs.live.talk_along.Given as goal
 
 abbrev pub ghosts-talk_over-I-Ledger : goal.ghosts-talk_over-I-Ledger
 ghosts-talk_over-I-Ledger g a = record { name = a.reads.name; parts = a.reads.parts }

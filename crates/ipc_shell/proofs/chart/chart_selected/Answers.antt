@@ -2,7 +2,7 @@ use Rattle.std.proofs.Common.{true, false, subst}
 use Rattle.ipc_trace.specs.Traces.{IsRead}
 use Rattle.ipc_shell.proofs.CheckLemmas.{bad_line, torn_lines}
 use Rattle.ipc_shell.proofs.LookLemmas.{drawn, whole_lines}
-use Rattle.ipc_shell.proofs.chart.chart_trace.Goals as goal
+use Rattle.ipc_shell.proofs.chart.chart_selected.Goals as goal
 
 pub returns-in-Whole-clause-charts : goal.returns-in-Whole-clause-charts
 returns-in-Whole-clause-charts g c =

@@ -1,13 +1,13 @@
 -- The lines that were taken so far, and what was printed for them; no call failed.
 use Rattle.std.proofs.Common.{◌≡◌, true}
 use Rattle.std.specs.Io.KnownBytes.{prepend_known}
-use Rattle.ipc_shell.specs.Running.{first_kernel, RunsLine}
+use Rattle.ipc_shell.specs.Running.{RunsLine}
 use Rattle.ipc_shell.proofs.ScriptLemmas.{ObeyedSoFar}
-use Rattle.ipc_shell.proofs.run.run_script.Given as goal
+use Rattle.ipc_shell.proofs.run.run_lines.Given as goal
 
 abbrev pub invariant-lines : goal.invariant-lines
 invariant-lines g l = record {
-  so_far : ObeyedSoFar RunsLine (first_kernel l.fn.limits) (g.R.PortRead.remaining l.fn.reader) (prepend_known l.buffer (g.R.PortRead.remaining l.reader))
+  so_far : ObeyedSoFar RunsLine l.fn.kernel (prepend_known l.fn.buffer (g.R.PortRead.remaining l.fn.reader)) (prepend_known l.buffer (g.R.PortRead.remaining l.reader))
       (g.W.PortWrite.written l.fn.writer) (g.W.PortWrite.written l.writer) l.kernel l.number;
   read : g.R.PortRead.failures l.reader ≡ g.R.PortRead.failures l.fn.reader;
   written : g.W.PortWrite.failures l.writer ≡ g.W.PortWrite.failures l.fn.writer;

@@ -113,7 +113,8 @@ impl Desks {
         requires { IsTrue (is_live self.old.past thread) }
         ensures past { self.new.past ≡ self.old.past }
         ensures given { result ≡ outcome_to_take self.old.past self.old.taken thread }
-        ensures call { IfSome result (λ outcome. last_call self.old.past thread ≡ Some outcome.call) }
+        ensures call { IfSome result (λ outcome. last_call self.old.past thread
+            ≡ Some outcome.call) }
         ensures some { IfSome result (λ outcome.
             self.new.taken ≡ self.old.taken ++ outcome.call ∷ []) }
         ensures none { result ≡ None → self.new.taken ≡ self.old.taken }
@@ -296,7 +297,8 @@ impl Desks {
         requires plain { number_in (Given input.now) ≡ None }
         ensures past { self.new.past ≡ self.old.past ++ entry.now ∷ [] }
         ensures taken { self.new.taken ≡ self.old.taken }
-        ensures finished { (t : ℕ) → is_named result t ≡ finishes self.old.past (Given input.now) t }
+        ensures finished { (t : ℕ) → is_named result t
+            ≡ finishes self.old.past (Given input.now) t }
     {
         if let Input::Broke(thread) = input {
             self.note_broke(entry, *thread);

@@ -197,7 +197,8 @@ impl KeptDesks {
         requires receiver { to ≡ number_of (caller_of slots.now.past receiving) }
         requires from_within { from < table_slots }
         requires to_within { to < table_slots }
-        ensures outcome { result ≡ timed moment (received slots.now.past call.now.number receiving) }
+        ensures outcome { result ≡ timed moment
+            (received slots.now.past call.now.number receiving) }
         ensures desks { Moved from to self.old self.new }
     {
         let _ = slots.kept();

@@ -237,7 +237,10 @@ impl KeptSlots {
           recent = place;
           last = last_of (Written output.now);
         } }
-        ensures changes { result ≡ record { first = Some (change_at self.old.table place); second = None } }
+        ensures changes { result ≡ record {
+          first = Some (change_at self.old.table place);
+          second = None;
+        } }
     {
         let change = self.change_at(place);
         self.change(place, output);
@@ -256,7 +259,10 @@ impl KeptSlots {
           recent = sending;
           last = last_of (Written output.now);
         } }
-        ensures changes { result ≡ record { first = Some (change_at self.old.table sending); second = Some (change_at self.old.table receiving) } }
+        ensures changes { result ≡ record {
+          first = Some (change_at self.old.table sending);
+          second = Some (change_at self.old.table receiving);
+        } }
     {
         let changes = Changes::two(self.change_at(sending), self.change_at(receiving));
         self.change_both(sending, receiving, output);
@@ -275,7 +281,10 @@ impl KeptSlots {
           top = raised number self.old.top;
           last = Nothing;
         } }
-        ensures changes { result ≡ record { first = Some (change_at self.old.table number); second = None } }
+        ensures changes { result ≡ record {
+          first = Some (change_at self.old.table number);
+          second = None;
+        } }
     {
         let change = self.change_at(number);
         self.table.open(thread, space);
@@ -293,7 +302,10 @@ impl KeptSlots {
           table = slice_set self.old.table number (ended (slot_at self.old.table number));
           last = Nothing;
         } }
-        ensures changes { result ≡ record { first = Some (change_at self.old.table number); second = None } }
+        ensures changes { result ≡ record {
+          first = Some (change_at self.old.table number);
+          second = None;
+        } }
     {
         let change = self.change_at(number);
         self.table.close(thread);
@@ -316,7 +328,10 @@ impl KeptSlots {
           recent = place;
           last = Nothing;
         } }
-        ensures changes { result ≡ record { first = Some (change_at self.old.table place); second = None } }
+        ensures changes { result ≡ record {
+          first = Some (change_at self.old.table place);
+          second = None;
+        } }
     {
         let change = self.change_at(place);
         self.table.set_call(place, call);
@@ -342,7 +357,8 @@ impl KeptSlots {
     fn copy(&mut self, number: u64, count: u64, sending: usize, receiving: usize)
         requires sending { sending < table_slots }
         requires receiving { receiving < table_slots }
-        requires room { (k : _) (s : _) → standing_in (slot_at self.old.table k) ≡ Some s → HasRoom count s }
+        requires room { (k : _) (s : _) → standing_in (slot_at self.old.table k)
+            ≡ Some s → HasRoom count s }
         ensures { self.new ≡ record self.old {
           table = both_copied number count self.old.table
               sending receiving;
@@ -364,14 +380,18 @@ impl KeptSlots {
     ) -> Changes
         requires sending { sending < table_slots }
         requires receiving { receiving < table_slots }
-        requires room { (k : _) (s : _) → standing_in (slot_at self.old.table k) ≡ Some s → HasRoom count s }
+        requires room { (k : _) (s : _) → standing_in (slot_at self.old.table k)
+            ≡ Some s → HasRoom count s }
         ensures kept { self.new ≡ record self.old {
           table = both_copied number count self.old.table
               sending receiving;
           recent = sending;
           last = Nothing;
         } }
-        ensures changes { result ≡ record { first = Some (change_at self.old.table sending); second = Some (change_at self.old.table receiving) } }
+        ensures changes { result ≡ record {
+          first = Some (change_at self.old.table sending);
+          second = Some (change_at self.old.table receiving);
+        } }
     {
         let changes = Changes::two(self.change_at(sending), self.change_at(receiving));
         self.copy(number, count, sending, receiving);

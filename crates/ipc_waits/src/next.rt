@@ -65,8 +65,10 @@ impl Waiting {
     /// What a rule gives for the least call, where it gives something at the candidates alone.
     fn least(&self, rule: &Rule) -> Option<Output>
         requires waiting { IsWaiting self.now }
-        requires asks { AsksOnly self.now.slots.past self.now.candidates (rule_of rule.now self.now.slots.past) }
-        ensures { result ≡ first_some (rule_of rule.now self.now.slots.past) (numbers self.now.slots.past) }
+        requires asks { AsksOnly self.now.slots.past self.now.candidates
+            (rule_of rule.now self.now.slots.past) }
+        ensures { result ≡ first_some (rule_of rule.now self.now.slots.past)
+            (numbers self.now.slots.past) }
     {
         let _ = self.slots.kept();
         let (_, output) = best_at(&self.slots, rule, self.candidates.places())?;
@@ -76,7 +78,8 @@ impl Waiting {
     /// The timeout of the least call that is due.
     fn first_timeout(&self) -> Option<Output>
         requires { IsWaiting self.now }
-        ensures { result ≡ first_some (timeout_of self.now.slots.past) (numbers self.now.slots.past) }
+        ensures { result ≡ first_some (timeout_of self.now.slots.past)
+            (numbers self.now.slots.past) }
     {
         let _ = self.slots.kept();
         let now = self.slots.now();
@@ -189,7 +192,8 @@ impl<'a> ReadWaiting<'a> {
 
     /// The meeting of the least sending call.
     fn least_meeting(&self) -> Option<Output>
-        ensures { result ≡ first_some (meeting_of self.now.slots.past) (numbers self.now.slots.past) }
+        ensures { result ≡ first_some (meeting_of self.now.slots.past)
+            (numbers self.now.slots.past) }
     {
         let waiting = self.waiting();
         let _ = waiting.slots.kept();

@@ -113,7 +113,8 @@ impl Waiting {
     pub fn is_any_due_at(&self, moment: u64) -> bool
         requires waiting { IsWaiting self.now }
         requires in_range { moment < last_moment + 1 }
-        ensures { result ≡ list_any (is_due_at self.now.slots.past moment) (numbers self.now.slots.past) }
+        ensures { result ≡ list_any (is_due_at self.now.slots.past moment)
+            (numbers self.now.slots.past) }
     {
         let _ = self.slots.kept();
         self.waits.deadlines().is_any_until(moment)

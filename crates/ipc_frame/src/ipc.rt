@@ -69,24 +69,38 @@ impl Model for IpcFrame {
     ghost invariant = { λ f. FitsIpc f.parts };
 }
 
+// What is wrong with parts, where anything is.
+fn fault_of(parts: &IpcParts) -> Option<FrameFault>
+    ensures fault { result ≡ ipc_fault parts.now }
+    ensures within { IfNone result (IsIpc parts.now) }
+{
+    let words = parts.tag.untyped() as usize + parts.tag.typed() as usize;
+    if words > MAX_MESSAGE_WORDS || parts.buffer_words.len() > MAX_BUFFER_WORDS {
+        return Some(FrameFault::TooManyWords);
+    }
+    if parts.words.len() != words {
+        return Some(FrameFault::WrongSize);
+    }
+    let numbers = 46 + 8 * words + 8 * parts.buffer_words.len();
+    if parts.payload.len() > MAX_FRAME_BODY - numbers {
+        return Some(FrameFault::TooLong);
+    }
+    None
+}
+
 impl IpcFrame {
     /// The frame of these parts. Where it answers F4, F3 or F1, in this order, the parts are dropped.
     pub fn new(parts: IpcParts) -> Result<IpcFrame, FrameFault>
         ensures frame { IfNone (ipc_fault parts) (result ≡ Ok parts) }
         ensures fault { IfSome (ipc_fault parts) (λ fault. result ≡ Err fault) }
     {
-        let words = parts.tag.untyped() as usize + parts.tag.typed() as usize;
-        if words > MAX_MESSAGE_WORDS || parts.buffer_words.len() > MAX_BUFFER_WORDS {
-            return Err(FrameFault::TooManyWords);
+        match fault_of(&parts) {
+            None => Ok(IpcFrame::of(parts)),
+            Some(fault) => {
+                drop(parts);
+                Err(fault)
+            }
         }
-        if parts.words.len() != words {
-            return Err(FrameFault::WrongSize);
-        }
-        let numbers = 46 + 8 * words + 8 * parts.buffer_words.len();
-        if parts.payload.len() > MAX_FRAME_BODY - numbers {
-            return Err(FrameFault::TooLong);
-        }
-        Ok(IpcFrame::of(parts))
     }
 
     // The frame of parts that are within the limits.

@@ -149,6 +149,26 @@ fn head_of(end: Option<CallEnd>) -> usize
     if end.is_some() { 50 } else { 34 }
 }
 
+// What is wrong with parts, where anything is.
+fn fault_of(parts: &IpcrParts) -> Option<FrameFault>
+    ensures fault { result ≡ ipcr_fault parts.now }
+    ensures within { IfNone result (IsIpcr parts.now) }
+    ensures pieces { IfNone result (AllByRecursion IsPiece parts.now.pieces) }
+{
+    let words = parts.tag.untyped() as usize + parts.tag.typed() as usize;
+    if words > MAX_MESSAGE_WORDS {
+        return Some(FrameFault::TooManyWords);
+    }
+    if parts.words.len() != words || parts.pieces.len() > MAX_PIECES {
+        return Some(FrameFault::WrongSize);
+    }
+    let most = MAX_FRAME_BODY - (head_of(parts.end) + 8 * words);
+    if !pieces_within(&parts.pieces, most) {
+        return Some(FrameFault::TooLong);
+    }
+    None
+}
+
 impl IpcrFrame {
     /// The frame of these parts. Where it answers F4, F3 or F1, in this order, the parts are
     /// dropped. More than [`MAX_PIECES`] pieces are F3.
@@ -156,20 +176,13 @@ impl IpcrFrame {
         ensures frame { IfNone (ipcr_fault parts) (result ≡ Ok parts) }
         ensures fault { IfSome (ipcr_fault parts) (λ fault. result ≡ Err fault) }
     {
-        let words = parts.tag.untyped() as usize + parts.tag.typed() as usize;
-        if words > MAX_MESSAGE_WORDS {
-            return Err(FrameFault::TooManyWords);
+        match fault_of(&parts) {
+            None => Ok(IpcrFrame::of(parts)),
+            Some(fault) => {
+                drop(parts);
+                Err(fault)
+            }
         }
-        if parts.words.len() != words || parts.pieces.len() > MAX_PIECES {
-            return Err(FrameFault::WrongSize);
-        }
-        if !pieces_within(
-            &parts.pieces,
-            MAX_FRAME_BODY - (head_of(parts.end) + 8 * words),
-        ) {
-            return Err(FrameFault::TooLong);
-        }
-        Ok(IpcrFrame::of(parts))
     }
 
     // The frame of parts that are within the limits.

@@ -2,12 +2,12 @@ ghost use Rattle.std.specs.Prelude.{◌≡◌, ◌≤◌, ◌^◌, length};
 ghost use Rattle.ipc_words.specs.Limits.{max_frame_body};
 ghost use Rattle.ipc_frame.specs.Parts.{pieces_text, ipcr_size};
 ghost use Rattle.ipc_history.specs.Outcomes.{OutcomeParts};
-ghost use Rattle.ipc_frame.specs.Frames.{kind_byte, kind_of, widths, fields_of, tail_of, spelling};
+ghost use Rattle.ipc_frame.specs.Frames.{kind_byte, kind_of, tail_of, spelling};
 ghost use Rattle.ipc_frame.specs.Replies.{pieces_told, reply_of, ipcr_of};
 ghost use Rattle.ipc_frame.specs.Lending.{lent_piece, lent_pieces};
-ghost use Rattle.ipc_frame.specs.Window.{page, passed, passed_numbers};
+ghost use Rattle.ipc_frame.specs.Window.{page, passed, passed_parts};
 
-use crate::encoding::{put_end, put_words};
+use crate::encoding::{put_end, put_ipcr_numbers, put_piece, put_words};
 use crate::kind::FrameKind;
 use crate::replies::{end_of, fits};
 use crate::version::WireVersion;
@@ -62,9 +62,7 @@ fn put_scattered(window: &mut Window, out: &mut [u8], outcome: &Outcome)
 {
     fits(WireVersion::One, outcome);
     for piece in Scattered::new(&outcome.buffers, &outcome.strings) {
-        window.put_u64(out, piece.pointer);
-        window.put_u32(out, piece.bytes.len() as u32);
-        window.put(out, piece.bytes);
+        put_piece(window, out, piece.pointer, piece.bytes);
     }
 }
 
@@ -83,19 +81,22 @@ fn put_reply_tail(window: &mut Window, out: &mut [u8], outcome: &Outcome)
 }
 
 // The numbers after the kind, and the rest.
+#[tactic(auto, unfolding(crate::specs::Window::passed_parts))]
 fn put_reply_parts(window: &mut Window, out: &mut [u8], version: WireVersion, outcome: &Outcome)
     requires { window.old.filled ≤ length out.old }
-    ensures shown { page window.new out.new ≡ passed (tail_of (ipcr_of version outcome.now))
-        (passed_numbers (widths (kind_of (ipcr_of version outcome.now)))
-        (fields_of (ipcr_of version outcome.now))
-        (page window.old out.old)) }
+    ensures shown { page window.new out.new ≡ passed_parts (ipcr_of version outcome.now)
+        (page window.old out.old) }
     ensures within { window.new.filled ≤ length out.new }
 {
     put_end(window, out, end_of(version, outcome));
-    window.put_u64(out, outcome.tag.to_word());
-    window.put_u64(out, outcome.sender.to_word());
-    window.put_u64(out, outcome.actual.to_word());
-    window.put_u64(out, outcome.error.to_word());
+    put_ipcr_numbers(
+        window,
+        out,
+        outcome.tag,
+        outcome.sender,
+        outcome.actual,
+        outcome.error,
+    );
     put_reply_tail(window, out, outcome);
 }
 

@@ -6,4 +6,9 @@ use Rattle.ipc_frame.proofs.WindowLemmas.{frame_passed}
 use Rattle.ipc_frame.proofs.telling.put_reply.Goals as goal
 
 pub returns-clause-shown : goal.returns-clause-shown
-returns-clause-shown c = frame_passed (ipcr_of c.args.version c.args.outcome.now) (page c.args.window.now c.args.out.now) (page c.put_u32.new.self c.put_u32.new.out) (page c.put_u8.new.self c.put_u8.new.out) (page c.put_reply_parts.new.window c.put_reply_parts.new.out) (cc) (c.put_u8.ensures.shown ∙ ap (λ byte. passed (number_text 1 byte) (page c.put_u32.new.self c.put_u32.new.out)) (c.reply_byte.ensures c.args.outcome.now)) (cc)
+returns-clause-shown c =
+    let p0 = page c.args.window.now c.args.out.now in
+    let p1 = page c.put_u32.new.self c.put_u32.new.out in
+    let size = c.put_u32.ensures.shown ∙ ap (λ n. passed (number_text 4 n) p0) c.reply_size.ensures.value in
+    let byte = c.put_u8.ensures.shown ∙ ap (λ n. passed (number_text 1 n) p1) (c.reply_byte.ensures c.args.outcome.now) in
+    frame_passed (ipcr_of c.args.version c.args.outcome.now) p0 p1 (page c.put_u8.new.self c.put_u8.new.out) (page c.put_reply_parts.new.window c.put_reply_parts.new.out) size byte c.put_reply_parts.ensures.shown

@@ -10,9 +10,9 @@ loop-piece-preserved c =
     let piece = placed c.in-Some.piece in
     let first = c.in-Some.ensures.steps in
     record {
-      left = first_passed c.loop-piece.piece-iterator c.next.new.self piece (page c.loop-piece.window c.loop-piece.out) (page c.put_u64.new.self c.put_u64.new.out) (page c.put_u32.new.self c.put_u32.new.out) (page c.put.new.self c.put.new.out) first (cc) (cc) (cc) ∙ c.loop-piece.invariant.left;
+      left = first_passed c.loop-piece.piece-iterator c.next.new.self piece (page c.loop-piece.window c.loop-piece.out) (page c.put_piece.new.window c.put_piece.new.out) first c.put_piece.ensures.shown ∙ c.loop-piece.invariant.left;
       small = omega (arith, c.loop-piece.invariant.small, ap (λ ps. length (pieces_text ps)) first, piece_size piece c.next.new.self);
-      within = c.put.ensures.within;
+      within = c.put_piece.ensures.within;
     }
 
 pub returns-clause-shown : goal.returns-clause-shown

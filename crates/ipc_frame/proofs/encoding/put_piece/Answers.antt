@@ -1,0 +1,10 @@
+use Rattle.std.proofs.Common.{length}
+use Rattle.ipc_frame.specs.Numbers.{number_text}
+use Rattle.ipc_frame.specs.Window.{page}
+use Rattle.ipc_frame.proofs.WindowLemmas.{tail_passed}
+use Rattle.ipc_frame.proofs.encoding.put_piece.Goals as goal
+
+pub returns-clause-shown : goal.returns-clause-shown
+returns-clause-shown c =
+    let bytes = c.args.bytes.now in
+    tail_passed (number_text 8 c.args.pointer) (number_text 4 (length bytes)) bytes (page c.args.window.now c.args.out.now) (page c.put_u64.new.self c.put_u64.new.out) (page c.put_u32.new.self c.put_u32.new.out) (page c.put.new.self c.put.new.out) c.put_u64.ensures.shown c.put_u32.ensures.shown c.put.ensures.shown

@@ -24,8 +24,3 @@ pub use heard::Heard;
 pub use laws::{a_frame_is_heard, a_piece_is_heard, frames_add_up};
 pub use replying::{Told, is_posted, next_stage, next_version, reply, thread_left, told_of};
 pub use stage::Stage;
-
-#[cfg(test)]
-mod hearing_tests;
-#[cfg(test)]
-mod tests;

@@ -33,6 +33,3 @@ pub use laws::{
 };
 pub use replies::ipcr_of;
 pub use version::{CallEnd, WireVersion};
-
-#[cfg(test)]
-mod tests;

@@ -4,8 +4,6 @@
 mod fault;
 mod lines;
 mod reading;
-#[cfg(test)]
-mod tests;
 mod version;
 mod whole;
 mod writing;

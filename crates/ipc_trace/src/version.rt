@@ -73,7 +73,7 @@ fn may_open_in_version_1(thread: ThreadId) -> bool
 }
 
 /// What the first line of a trace is.
-#[derive(Clone, Copy, PartialEq, Eq, Debug)]
+#[derive(Clone, Copy)]
 pub(crate) enum FirstLine {
     /// That of a trace of version 2.
     OfVersion2,

@@ -1,0 +1,119 @@
+// What a connection asks of the kernel, and how the kernel's answer is told.
+use crate::comparing::{holds, same};
+use ipc_connection::{
+    FRAME, Heard, KERNEL, Reaction, Stage, Told, asks, command_of, is_posted, next_stage,
+    next_version, reply, thread_left, told_of,
+};
+use ipc_core::{Answer, Command, Refusal};
+use ipc_frame::{Frame, FrameFault, WireVersion};
+use ipc_words::{Control, ThreadId};
+
+// The thread 2.1.
+const SECOND: u64 = 0x2_0000_0001;
+
+// Whether the kernel is asked for the thread 2, of a connection from space 3.
+fn opens_second(reaction: Reaction) -> bool {
+    match reaction {
+        Reaction::Ask(request) => matches!(
+            command_of(request, 3),
+            Command::Open {
+                number: 2,
+                space: 3
+            }
+        ),
+        _ => false,
+    }
+}
+
+// Whether a fault of a frame is told, by its number.
+fn refuses(reaction: Reaction, number: u8) -> bool {
+    matches!(reaction, Reaction::Refuse(class, own) if class == FRAME && own == number)
+}
+
+fn is_welcomed(version: WireVersion, told: &Told) -> bool {
+    matches!(reply(version, *told), Some(Frame::Welcome(_)))
+}
+
+fn is_told_nothing(version: WireVersion, told: &Told) -> bool {
+    reply(version, *told).is_none()
+}
+
+fn is_refused_as(version: WireVersion, told: &Told, number: u8) -> bool {
+    matches!(reply(version, *told), Some(Frame::Refused(own)) if own == number)
+}
+
+// Whether a fault of the kernel is told, by its number.
+fn is_fault_as(version: WireVersion, told: &Told, number: u8) -> bool {
+    matches!(reply(version, *told), Some(Frame::Fault(class, own)) if class == KERNEL && own == number)
+}
+
+// Whether an exchange with code 0 is told, and its moment.
+fn is_exchanged_at(version: WireVersion, told: &Told, moment: Option<u64>) -> bool {
+    matches!(reply(version, *told), Some(Frame::Exregr(_, _, 0, own)) if own == moment)
+}
+
+fn leaves_to_post(told: &Told) -> bool {
+    is_posted(*told)
+}
+
+fn stage_behind(stage: Stage, told: &Told) -> Stage {
+    next_stage(stage, *told)
+}
+
+// Whether a connection that is left leaves its thread.
+fn is_left(thread: ThreadId) -> bool {
+    let left = next_stage(Stage::Serving(thread), Told::Left);
+    thread_left(Stage::Serving(thread), left) == Some(thread)
+}
+
+#[test]
+fn a_connection_greets_is_served_and_ends(rt: HostRuntime) {
+    let thread = ThreadId::from_word(SECOND);
+    let one = WireVersion::One;
+    let hello = Heard::Hello(2, one);
+    holds(&rt, opens_second(asks(Stage::Greeting, Ok(hello))));
+    let told = told_of(one, 0, Answer::Opened(thread));
+    holds(&rt, told == Told::Opened(thread, one));
+    holds(&rt, is_welcomed(one, &told));
+    holds(&rt, !leaves_to_post(&told));
+    let serving = Stage::Serving(thread);
+    same(&rt, stage_behind(Stage::Greeting, &told), serving);
+    holds(&rt, is_left(thread));
+}
+
+#[test]
+fn a_fault_is_told_by_its_number(rt: HostRuntime) {
+    same(&rt, FrameFault::NoMemory.number(), 14);
+    let fault = FrameFault::Unfinished;
+    holds(&rt, refuses(asks(Stage::Greeting, Err(fault)), 9));
+}
+
+#[test]
+fn each_refusal_is_told_by_its_number(rt: HostRuntime) {
+    let (one, two) = (WireVersion::One, WireVersion::Two);
+    let told = told_of(one, 0, Answer::Refused(Refusal::HistoryFull));
+    holds(&rt, is_refused_as(one, &told, 5));
+    same(&rt, stage_behind(Stage::Greeting, &told), Stage::Greeting);
+    let busy = Told::Refused(Refusal::Busy);
+    holds(&rt, is_fault_as(one, &busy, 7));
+    holds(&rt, leaves_to_post(&busy));
+    let gone = Told::Refused(Refusal::NoThread);
+    holds(&rt, is_told_nothing(two, &gone));
+    holds(&rt, !leaves_to_post(&gone));
+    same(&rt, stage_behind(Stage::Greeting, &gone), Stage::Finished);
+}
+
+fn version_behind(version: WireVersion, told: &Told) -> WireVersion {
+    next_version(version, *told)
+}
+
+#[test]
+fn an_exchange_has_its_moment_in_version_2_alone(rt: HostRuntime) {
+    let (one, two) = (WireVersion::One, WireVersion::Two);
+    let thread = ThreadId::from_word(SECOND);
+    let told = Told::Exchanged(thread, Control::from_word(4), 0, 7);
+    holds(&rt, is_exchanged_at(one, &told, None));
+    holds(&rt, is_exchanged_at(two, &told, Some(7)));
+    same(&rt, version_behind(two, &told), two);
+    same(&rt, version_behind(one, &Told::Opened(thread, two)), two);
+}

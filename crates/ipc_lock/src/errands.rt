@@ -4,11 +4,24 @@ use ipc_pen::{Patience, Pen, PenPort};
 
 /// The pens with which a thread writes what its step told, its own connection's first. At most three: the writers of the others are
 /// woken.
-#[derive(Drop)]
 pub(crate) struct Errands<P: PenPort + Drop> {
     pub(crate) first: Option<Pen<P>>,
     pub(crate) second: Option<Pen<P>>,
     pub(crate) third: Option<Pen<P>>,
+}
+
+// Written out, and not derived, so that a function in which errands end calls this, and does not take three pens apart.
+impl<P: PenPort + Drop> Drop for Errands<P> {
+    fn drop(self) {
+        let Errands {
+            first,
+            second,
+            third,
+        } = self;
+        drop(first);
+        drop(second);
+        drop(third);
+    }
 }
 
 impl<P: PenPort + Drop> Errands<P> {

@@ -255,16 +255,24 @@ impl<C: Ledger, T: Ledger, P: PenPort + Drop> Inside<C, T, P> {
     fn look_again(&mut self, pen: &mut Option<Pen<P>>)
         ensures only { OnlyTakes self.old.locked.kernel self.new.locked.kernel }
     {
-        if pen.is_none() {
-            return;
-        }
         let Some(own) = pen.take() else {
             return;
         };
-        let Inside { locked, boxes, .. } = self;
-        if let Some(post_box) = boxes.get_mut(own.place()) {
-            *pen = post_box.look_again(locked, own);
+        if let Some(again) = self.lay_down(own) {
+            drop(pen.replace(again));
         }
+    }
+
+    /// Lays a pen down in its own box. It comes out again where something came meanwhile.
+    fn lay_down(&mut self, pen: Pen<P>) -> Option<Pen<P>>
+        ensures only { OnlyTakes self.old.locked.kernel self.new.locked.kernel }
+    {
+        let Inside { locked, boxes, .. } = self;
+        let Some(post_box) = boxes.get_mut(pen.place()) else {
+            drop(pen);
+            return None;
+        };
+        post_box.look_again(locked, pen)
     }
 
     /// What a box's writer does next; None while there is nothing to do.
@@ -330,7 +338,20 @@ impl<C: Ledger, T: Ledger, P: PenPort + Drop> Inside<C, T, P> {
         }
     }
 
-    pub(crate) fn shut(&mut self, place: usize)
+    /// Shuts a box, and ends the thread that is told there. None where there is none.
+    pub(crate) fn end_at(
+        &mut self,
+        now: u64,
+        place: usize,
+        errands: &mut Errands<P>,
+    ) -> Option<After> {
+        self.shut(place);
+        let thread = self.thread_at(place)?;
+        drop(self.act(now, None, Command::Broke(thread)));
+        Some(self.after(None, errands))
+    }
+
+    fn shut(&mut self, place: usize)
         ensures { self.new.locked ≡ self.old.locked }
     {
         if let Some(post_box) = self.boxes.get_mut(place) {

@@ -38,6 +38,13 @@ pub(crate) struct PostBox<T: Ledger, P: PenPort + Drop> {
     pub ghost own: { is_own pen place ≡ true },
 }
 
+/// A bell for a box's writer, and one for its reader.
+fn two_bells(alloc: Global) -> Result<(Arc<Condvar>, Arc<Condvar>), AllocError> {
+    let first = Arc::new(alloc, Condvar::new())?;
+    let second = Arc::new(alloc, Condvar::new())?;
+    Ok((first, second))
+}
+
 impl<T: Ledger, P: PenPort + Drop> PostBox<T, P> {
     /// An empty box of this number, in which the pen of a port lies.
     pub(crate) fn new(alloc: Global, port: P, place: usize) -> Result<Self, AllocError>
@@ -46,6 +53,7 @@ impl<T: Ledger, P: PenPort + Drop> PostBox<T, P> {
         ensures version { IfOk result (λ b. b.version ≡ One) }
         ensures pen { IfOk result (λ b. NewPen b.pen place) }
     {
+        let (bell, emptied) = two_bells(alloc)?;
         Ok(PostBox {
             place,
             version: WireVersion::One,
@@ -53,8 +61,8 @@ impl<T: Ledger, P: PenPort + Drop> PostBox<T, P> {
             shut: false,
             seat: None,
             pen: Some(Pen::new(port, place)),
-            bell: Arc::new(alloc, Condvar::new())?,
-            emptied: Arc::new(alloc, Condvar::new())?,
+            bell,
+            emptied,
         })
     }
 
@@ -69,8 +77,8 @@ impl<T: Ledger, P: PenPort + Drop> PostBox<T, P> {
         self.version = WireVersion::One;
         self.posted = None;
         self.shut = false;
-        self.seat = None;
-        self.pen = Some(Pen::new(port, place));
+        drop(self.seat.take());
+        drop(self.pen.replace(Pen::new(port, place)));
     }
 
     /// Lets go of what a connection leaves behind.
@@ -80,8 +88,8 @@ impl<T: Ledger, P: PenPort + Drop> PostBox<T, P> {
     {
         self.shut = true;
         self.posted = None;
-        self.seat = None;
-        self.pen = None;
+        drop(self.seat.take());
+        drop(self.pen.take());
     }
 
     /// Leaves what is told. A full or shut box hands it back and stays as it is.
@@ -223,11 +231,14 @@ impl<T: Ledger, P: PenPort + Drop> PostBox<T, P> {
         ensures only { OnlyTakes locked.old.kernel locked.new.kernel }
         ensures shut { self.new.shut ≡ self.old.shut }
     {
-        // the box is its own
-        if self.lay(pen).is_some() {
-            return None;
+        match self.lay(pen) {
+            // the box is its own
+            Some(other) => {
+                drop(other);
+                None
+            }
+            None => self.load(locked),
         }
-        self.load(locked)
     }
 
     /// What the writer does next: it goes on with a frame that is not at its end, or takes the pen out with what is next. None while
@@ -235,24 +246,43 @@ impl<T: Ledger, P: PenPort + Drop> PostBox<T, P> {
     pub(crate) fn work<C: Ledger>(&mut self, locked: &mut Locked<C, T>) -> Option<Work<P>>
         ensures only { OnlyTakes locked.old.kernel locked.new.kernel }
     {
-        let Some(pen) = &self.pen else {
-            return None;
-        };
-        if pen.has_failed() {
-            self.pen = None;
-            return Some(Work::Over);
+        if self.has_failed() {
+            self.end_work()
+        } else if self.is_idle() {
+            self.begin(locked)
+        } else {
+            self.go_on()
         }
-        if !pen.is_ready() {
-            return Some(Work::Write(self.pen.take()?));
+    }
+
+    /// What the writer does with a pen that is at its end: it takes the pen out with what is next, and ends where nothing comes any more.
+    fn begin<C: Ledger>(&mut self, locked: &mut Locked<C, T>) -> Option<Work<P>>
+        ensures only { OnlyTakes locked.old.kernel locked.new.kernel }
+    {
+        match self.load(locked) {
+            Some(pen) => Some(Work::Write(pen)),
+            None if self.shut => self.end_work(),
+            None => None,
         }
-        if let Some(pen) = self.load(locked) {
-            return Some(Work::Write(pen));
+    }
+
+    /// Whether the pen lies here and its device has failed.
+    fn has_failed(&self) -> bool {
+        match &self.pen {
+            Some(pen) => pen.has_failed(),
+            None => false,
         }
-        if self.shut {
-            self.pen = None;
-            return Some(Work::Over);
-        }
-        None
+    }
+
+    /// Writes on with the pen, where it lies here.
+    fn go_on(&mut self) -> Option<Work<P>> {
+        Some(Work::Write(self.pen.take()?))
+    }
+
+    /// Nothing more is written, and the pen goes.
+    fn end_work(&mut self) -> Option<Work<P>> {
+        drop(self.pen.take());
+        Some(Work::Over)
     }
 
     /// Lays the box's own pen down; that of another box is handed back. Its writer is woken where a frame is not at its end, where the

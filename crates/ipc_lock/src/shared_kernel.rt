@@ -53,7 +53,7 @@ fn look_on<R: Clock>(rt: &R, time: Duration) {
 }
 
 /// Whether a step copied a block.
-fn has_moved<C: Ledger, T: Ledger>(answered: Answered<C, T>) -> bool {
+fn has_moved<C: Ledger, T: Ledger>(answered: &Answered<C, T>) -> bool {
     matches!(answered.answer(), Answer::Advanced(Advance::Moved))
 }
 
@@ -161,8 +161,8 @@ impl<C: Ledger, T: Ledger, P: PenPort + Drop> SharedKernel<C, T, P> {
         let answered = inside.act(now, seat, command);
         let after = inside.after(None, &mut errands);
         drop(inside);
-        if wakes_mover && after.begun {
-            self.work.notify_one();
+        if wakes_mover {
+            self.wake_mover(&after);
         }
         self.settle(rt, after, &mut errands);
         answered
@@ -265,19 +265,21 @@ impl<C: Ledger, T: Ledger, P: PenPort + Drop> SharedKernel<C, T, P> {
     }
 
     fn end_at<R: Wait>(&self, rt: &R, now: u64, place: usize) {
-        let mut inside = self.inside(rt);
-        inside.shut(place);
-        let Some(thread) = inside.thread_at(place) else {
-            return;
-        };
-        let _ = inside.act(now, None, Command::Broke(thread));
         let mut errands = Errands::none();
-        let after = inside.after(None, &mut errands);
+        let mut inside = self.inside(rt);
+        let ended = inside.end_at(now, place, &mut errands);
         drop(inside);
+        if let Some(after) = ended {
+            self.wake_mover(&after);
+            self.settle(rt, after, &mut errands);
+        }
+    }
+
+    /// Wakes the mover where a transfer has begun.
+    fn wake_mover(&self, after: &After) {
         if after.begun {
             self.work.notify_one();
         }
-        self.settle(rt, after, &mut errands);
     }
 
     /// Waits until a box's pen lies there with something to write that nobody else has taken, and takes it out. None once nothing more
@@ -363,7 +365,10 @@ impl<C: Ledger, T: Ledger, P: PenPort + Drop> SharedKernel<C, T, P> {
 
     /// Copies a block of what is in transfer; false where nothing is.
     fn move_block<R: Wait>(&self, rt: &R, now: u64) -> bool {
-        has_moved(self.step(rt, now, None, Command::Advance, false))
+        let answered = self.step(rt, now, None, Command::Advance, false);
+        let moved = has_moved(&answered);
+        drop(answered);
+        moved
     }
 
     /// Rests until a phase is due, or an earlier one comes, at the longest until the work is over. `now` is the moment, in microseconds. It

@@ -3,7 +3,7 @@ ghost use Rattle.std.specs.Prelude.{◌≡◌, IfOk, take};
 ghost use Rattle.ipc_lock.specs.Groups.{IsGroupAt, most_of_a_group};
 
 use ipc_history::{Call, CallFields, EnteredCall, Entry, Input};
-use ipc_items::BufferList;
+use ipc_items::{BufferList, StringList};
 use std::alloc::{AllocError, Global};
 
 /// The most entries of a group: so many are copied under the lock at once.
@@ -68,7 +68,10 @@ fn copy_entered(alloc: Global, call: &Call) -> Result<EnteredCall, AllocError>
 {
     match EnteredCall::new(alloc, copy_call(alloc, call)?) {
         Ok(entered) => Ok(entered),
-        Err(_) => Err(AllocError),
+        Err(back) => {
+            drop(back);
+            Err(AllocError)
+        }
     }
 }
 
@@ -77,6 +80,7 @@ fn copy_call(alloc: Global, call: &Call) -> Result<Call, AllocError>
 {
     let mut words = Vec::with_capacity(alloc, call.words().len())?;
     words.extend_from_slice(call.words())?;
+    let (strings, buffers) = copy_lists(alloc, call)?;
     let copy = Call::new(CallFields {
         to: call.to(),
         from: call.from(),
@@ -85,11 +89,26 @@ fn copy_call(alloc: Global, call: &Call) -> Result<Call, AllocError>
         tag: call.tag(),
         originator: call.originator(),
         words,
-        strings: call.strings().copy(alloc)?,
-        buffers: copy_buffers(alloc, call)?,
+        strings,
+        buffers,
     });
     // a call is in normal form, and so its copy is
     copy.ok_or(AllocError)
+}
+
+/// Copies of a call's strings and of its buffers.
+fn copy_lists(alloc: Global, call: &Call) -> Result<(StringList, Option<BufferList>), AllocError>
+    ensures strings { IfOk result (λ lists. lists.0 ≡ call.now.strings) }
+    ensures buffers { IfOk result (λ lists. lists.1 ≡ call.now.buffers) }
+{
+    let strings = call.strings().copy(alloc)?;
+    match copy_buffers(alloc, call) {
+        Ok(buffers) => Ok((strings, buffers)),
+        Err(error) => {
+            drop(strings);
+            Err(error)
+        }
+    }
 }
 
 fn copy_buffers(alloc: Global, call: &Call) -> Result<Option<BufferList>, AllocError>

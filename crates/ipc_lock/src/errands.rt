@@ -33,6 +33,15 @@ impl<P: PenPort + Drop> Errands<P> {
         }
     }
 
+    /// One pen.
+    pub(crate) fn of(pen: Pen<P>) -> Errands<P> {
+        Errands {
+            first: Some(pen),
+            second: None,
+            third: None,
+        }
+    }
+
     /// Whether there is no pen.
     pub(crate) fn is_empty(&self) -> bool {
         self.first.is_none() && self.second.is_none() && self.third.is_none()
@@ -62,7 +71,7 @@ impl<P: PenPort + Drop> Errands<P> {
         } else {
             return Some(pen);
         };
-        *slot = Some(pen);
+        drop(slot.replace(pen));
         None
     }
 

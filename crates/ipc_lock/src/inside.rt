@@ -409,16 +409,23 @@ impl<C: Ledger, T: Ledger, P: PenPort + Drop> Inside<C, T, P> {
     pub(crate) fn release(&mut self, place: usize)
         ensures { self.new.locked ≡ self.old.locked }
     {
-        for owner in self.owners.iter_mut() {
-            if *owner == Some(place) {
-                *owner = None;
-            }
-        }
+        self.disown(place);
         if let Some(post_box) = self.boxes.get_mut(place) {
             post_box.clear();
         }
         // its room was made with the box
         let _ = self.free.push(place);
+    }
+
+    /// No thread is told in this box any more.
+    fn disown(&mut self, place: usize)
+        ensures { self.new.locked ≡ self.old.locked }
+    {
+        for owner in self.owners.iter_mut() {
+            if *owner == Some(place) {
+                *owner = None;
+            }
+        }
     }
 
     /// Whether a transfer has begun, so that the mover has work.

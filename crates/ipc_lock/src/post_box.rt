@@ -73,12 +73,12 @@ impl<T: Ledger, P: PenPort + Drop> PostBox<T, P> {
         ensures version { self.new.version ≡ One }
         ensures pen { NewPen self.new.pen place }
     {
+        self.clear();
         self.place = place;
         self.version = WireVersion::One;
-        self.posted = None;
         self.shut = false;
-        drop(self.seat.take());
-        drop(self.pen.replace(Pen::new(port, place)));
+        let pen = Pen::new(port, place);
+        drop(self.pen.replace(pen));
     }
 
     /// Lets go of what a connection leaves behind.
@@ -120,7 +120,7 @@ impl<T: Ledger, P: PenPort + Drop> PostBox<T, P> {
     {
         self.version = version;
         self.posted = Some(Told::Opened(seat.thread(), version));
-        self.seat = Some(seat);
+        drop(self.seat.replace(seat));
     }
 
     /// Nothing more can be posted. What is in it can still be taken.

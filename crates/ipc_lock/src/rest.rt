@@ -1,5 +1,5 @@
 /// How long a worker rests that tells the kernel the time.
-#[derive(Clone, Copy, PartialEq, Eq, Debug)]
+#[derive(Drop)]
 pub(crate) enum Rest {
     /// Not at all: a phase is due.
     Not,

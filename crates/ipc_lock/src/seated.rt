@@ -402,8 +402,9 @@ impl<C: Ledger, T: Ledger> Answered<C, T> {
             answer,
             calls,
             takes,
-            back: _,
+            back,
         } = self;
+        drop(back);
         (answer, calls, takes)
     }
 
@@ -413,11 +414,13 @@ impl<C: Ledger, T: Ledger> Answered<C, T> {
         ensures back { result.1 ≡ self.back }
     {
         let Answered {
-            answer: _,
+            answer,
             calls,
-            takes: _,
+            takes,
             back,
         } = self;
+        drop(answer);
+        drop(takes);
         (calls, back)
     }
 

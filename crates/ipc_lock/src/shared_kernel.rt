@@ -18,6 +18,7 @@ use ipc_lines::entry_line;
 use ipc_pen::{Pen, PenPort};
 use std::alloc::Global;
 use std::hint::spin_loop;
+use std::mem::replace;
 use std::rt::Clock;
 use std::sync::ledger::{Blank, Ledger};
 use std::sync::{Condvar, CondvarTimeouts, Mutex, MutexGuard, Wait};
@@ -229,7 +230,7 @@ impl<C: Ledger, T: Ledger, P: PenPort + Drop> SharedKernel<C, T, P> {
             return (Told::Refused(Refusal::NoThread), Entered::Open);
         };
         let (told, seat) = inside.ask(now, end.place, end.seat.take(), request, space);
-        end.seat = seat;
+        drop(replace(&mut end.seat, seat));
         let mut errands = Errands::none();
         let after = inside.after(Some(end.place), &mut errands);
         drop(inside);
@@ -302,8 +303,7 @@ impl<C: Ledger, T: Ledger, P: PenPort + Drop> SharedKernel<C, T, P> {
 
     /// Lays a pen down in its box. What came meanwhile is written first, as far as the device has room.
     pub fn give_back<R: Wait>(&self, rt: &R, pen: Pen<P>) {
-        let mut errands = Errands::none();
-        let _ = errands.add(pen);
+        let mut errands = Errands::of(pen);
         self.inside(rt).take_back(&mut errands);
         self.carry(rt, &mut errands);
     }

@@ -3,15 +3,17 @@
 
     checks/failing_devices.py L4SH [L4D] [--every N]
 
-The commands read what lies in the tree: `run` the scripts of checks/scripts/run and of examples/, `wire` those of
-checks/scripts/wire, and `check`, `state`, `script` and `chart` the traces of the examples. With --every N only each N-th script
-is taken.
+The commands read what lies in the tree: `run` the scripts of checks/scripts/run and of examples/, `wire` and `talk` those of
+checks/scripts/wire and checks/scripts/talk, and `check`, `state`, `script`, `count`, `follow` and `chart` the traces of the examples.
+With --every N only each N-th script of `run` and `wire` is taken.
 
 - Where read, write or open number k fails, the status is 1, standard error says `l4sh: device failed`, of an open with the file
   and the reason in a second line, and what was printed is a front of the usual output. No verdict or answer is printed that is
   not the usual one.
 - A write that takes nothing counts as failed.
 - Where each call moves one byte, and where 999 calls in a row are interrupted, all is as usual. 1,000 count as a failed device.
+- Where each call moves one byte and one fails, exactly the bytes before it are printed, and the answers of exactly the lines that were read whole.
+- Where the line `torn` of a migration cannot be written, the new trace is whole.
 
 For the trace of `l4d` the same is so of its writes and of its open: `l4d: trace TR1` is told once, the server serves on and ends
 with status 1, and what stands in the file is a front of a legal history. Where l4d cannot write to standard output it ends with
@@ -96,6 +98,20 @@ def wrongs_of(shim, words, given, path=None):
         yield f"each {kind} moves one byte", None if ran == usual else f"it is not as usual: {ran}"
 
 
+def bytewise_wrongs(shim, l4sh, trace):
+    """What was tried of a script of two lines and of a legal trace whose calls move one byte each, and what is wrong with it."""
+    script, answers = b"open 1 1\nopen 2 1\n", (b"opened 1.1 1\n= 1.1\n", b"opened 2.1 1\n= 2.1\n")
+    for place in range(1, len(script) + 2):
+        ran = shim.run([l4sh, "run"], script, fail_kind="read", one_byte=1, fail_at=place)
+        printed = b"".join(answers[: script[: place - 1].count(b"\n")])
+        yield f"read {place} fails", None if ran == (1, printed, FAILED) else f"{ran}"
+    for words, given, whole in (([l4sh, "run"], script, b"".join(answers)), ([l4sh, "check", trace], b"", b"yes\n")):
+        for place in range(1, len(whole) + 1):
+            for wishes in ({}, {"fail_errno": errno.EINTR, "fail_times": MANY}):
+                ran = shim.run(words, given, fail_kind="write", one_byte=1, fail_at=place, **wishes)
+                yield f"write {place} of {words[1]} fails {wishes}", None if ran == (1, whole[: place - 1], FAILED) else f"{ran}"
+
+
 def is_front_of_legal(l4sh, file):
     """What is wrong with the trace in a file, which may end inside a line."""
     if not os.path.exists(file):
@@ -170,6 +186,16 @@ def migration_wrongs(shim, l4sh, trace, new):
         if kind != "open":
             ran = migrate(fail_kind=kind, one_byte=1)
             yield f"each {kind} moves one byte", None if ran == (usual, whole) else f"it is not as usual: {ran}"
+    ran, made = migrate(fail_kind="write", fail_on=1, fail_at=1)
+    yield "the line torn fails", is_as_failed(ran, usual, "migrate") or (None if made == whole else "the new trace is not whole")
+
+
+def legal_trace(room):
+    """The file of a legal trace of one entry."""
+    path = f"{room}/legal.trace"
+    with open(path, "wb") as file:
+        file.write(b"opened 1.1 1\n")
+    return path
 
 
 def torn_trace(l4sh, room):
@@ -187,7 +213,7 @@ def commands(l4sh, every, room):
     examples = sorted(glob.glob(f"{ROOT}/examples/*.l4"))
     scripts = [(path, "run") for path in examples + sorted(glob.glob(f"{ROOT}/checks/scripts/run/*.in"))]
     scripts += [(path, "wire") for path in sorted(glob.glob(f"{ROOT}/checks/scripts/wire/*.in"))]
-    for path, command in scripts[::every]:
+    for path, command in scripts[::every] + [(path, "talk") for path in sorted(glob.glob(f"{ROOT}/checks/scripts/talk/*.in"))]:
         with open(path, "rb") as file:
             text = file.read()
         # (a stored run of one byte stands for many, and a mistake has an end of its own)
@@ -199,7 +225,7 @@ def commands(l4sh, every, room):
         trace = f"{room}/{os.path.basename(path)}.trace"
         with open(trace, "wb") as file:
             file.write(b"".join(line for line in printed.splitlines(keepends=True) if not line.startswith((b"=", b"!"))))
-        for command in ("check", "state", "script", "chart"):
+        for command in ("check", "state", "script", "count", "follow", "chart"):
             yield f"{command} of {os.path.basename(path)}", [l4sh, command, trace], b"", trace
 
 
@@ -216,6 +242,7 @@ def main(words):
     with tempfile.TemporaryDirectory() as room:
         shim = Shim(room)
         looks = [(name, wrongs_of(shim, *more)) for name, *more in commands(l4sh, every, room)]
+        looks += [("byte by byte", bytewise_wrongs(shim, l4sh, legal_trace(room)))]
         looks += [("migrate", migration_wrongs(shim, l4sh, torn_trace(l4sh, room), f"{room}/new"))]
         looks += [("l4d", trace_wrongs(shim, l4sh, l4d)) for l4d in others]
         for name, tried in looks:

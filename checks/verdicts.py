@@ -6,11 +6,13 @@
 The entry lines that a script prints, without its answer lines, are a trace of which `l4sh check` says `yes`. With one output line left
 out that is not the last line, it says `no N EXPECTED`, where N is the place of that line and EXPECTED the line itself. With the last
 newline left out, it says `torn` behind its verdict on the lines before. All this holds of both versions of the trace, in version 2 with the
-first line counted. Anything else is told, and the status is then 1."""
+first line counted; where a number above 255 is opened, which version 1 has not, it is of version 2 alone. Anything else is told, and the status is then 1."""
 import os
 import subprocess
 import sys
 import tempfile
+
+from scripts import version_line
 
 ROOT = os.path.dirname(os.path.dirname(os.path.abspath(__file__)))
 PROGRAM = f"{ROOT}/crates/ipc_shell/out/l4sh"
@@ -63,7 +65,7 @@ def main():
                 lines = trace_of(file.read())
             if not lines:
                 continue
-            for header in (b"", VERSION_2):
+            for header in sorted({version_line(b"".join(lines)), VERSION_2}):
                 more, wrongs = wrongs_of(lines, room, header)
                 count += more
                 failed += len(wrongs)

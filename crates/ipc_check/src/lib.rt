@@ -6,6 +6,3 @@ mod compacted;
 
 pub use checker::{Verdict, check};
 pub use compacted::check_from;
-
-#[cfg(test)]
-mod tests;

@@ -9,10 +9,6 @@ pub mod laws;
 mod obeying;
 mod refusal;
 mod room;
-#[cfg(test)]
-mod row_tests;
-#[cfg(test)]
-mod tests;
 
 pub use answers::{Advance, Compacted, EnterRefused, ExregAnswer, NoThread};
 pub use command::{Answer, Command};

@@ -2,4 +2,10 @@
 #![tactic(auto)]
 
 #[cfg(test)]
+mod check;
+#[cfg(test)]
 mod compacted;
+#[cfg(test)]
+mod kernel;
+#[cfg(test)]
+mod rows;

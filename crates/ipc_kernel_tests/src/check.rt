@@ -1,4 +1,4 @@
-use super::*;
+use ipc_check::{Verdict, check};
 use ipc_history::{Call, CallFields, EnteredCall, Entry, Input, Output};
 use ipc_items::{BufferList, StringList, Substring};
 use ipc_words::{IpcError, MsgTag, Period, ThreadId};

@@ -1,7 +1,7 @@
-use super::*;
-use crate::tests::{
+use crate::kernel::{
     at, broke, call_of, enter, exreg, first, holds, open, period, roomy, same, take,
 };
+use ipc_core::{Kernel, Refusal};
 use ipc_history::{CallFields, Entry, Output};
 use ipc_items::{BufferList, StringList, Substring};
 use ipc_words::{IpcError, MsgTag, Period, ThreadId};

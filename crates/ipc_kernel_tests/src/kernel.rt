@@ -1,5 +1,8 @@
-use super::*;
-use crate::row_tests::{failed, outputs};
+use crate::rows::{failed, outputs};
+use ipc_core::{
+    Advance, Answer, Command, Compacted, ExregAnswer, Kernel, LAST_MOMENT, Limits, MAX_CALLS,
+    MAX_ENTRIES, NoThread, Refusal,
+};
 use ipc_history::{Call, CallFields, Outcome, Output};
 use ipc_items::StringList;
 use ipc_words::{Control, IpcError, MsgTag, Period, ThreadId};

@@ -5,6 +5,7 @@ ghost use Rattle.ipc_check.specs.declared.checker.Verdict.TheVariants.{Yes};
 
 use ipc_history::{Entries, Entry, Output};
 use ipc_past::Past;
+use ipc_rules::{follows, next_output};
 use ipc_slots::Slots;
 
 /// Whether entries are a legal history.
@@ -33,10 +34,10 @@ pub fn check(entries: &[Entry]) -> Verdict
     for index in 0..entries.len() {
         let before = Entries::of(&past, &entries[..index]);
         let entry = &entries[index];
-        if !slots.follows(&before, entry) {
+        if !follows(&slots, &before, entry) {
             return Verdict::No {
                 index,
-                expected: slots.next_output(&before),
+                expected: next_output(&slots, &before),
             };
         }
         let _ = slots.note(entry, index);

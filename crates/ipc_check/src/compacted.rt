@@ -8,6 +8,7 @@ use crate::checker::Verdict;
 use ipc_compact::Base;
 use ipc_history::{Entries, Entry};
 use ipc_past::Past;
+use ipc_rules::{follows, next_output};
 
 /// Whether entries follow a history that was compacted, which is legal and has no next output: of it this base and these kept entries
 /// are left. The answer is that of [`check`] over the whole history, those entries behind it; a place is counted among them. Takes no
@@ -25,10 +26,10 @@ pub fn check_from(base: &Base, kept: &[Entry], entries: &[Entry]) -> Verdict
     for index in 0..entries.len() {
         let so_far = Entries::of_pieces(&past, kept, &entries[..index]);
         let entry = &entries[index];
-        if !slots.follows(&so_far, entry) {
+        if !follows(&slots, &so_far, entry) {
             return Verdict::No {
                 index,
-                expected: slots.next_output(&so_far),
+                expected: next_output(&slots, &so_far),
             };
         }
         let _ = slots.note(entry, so_far.next_place());

@@ -38,6 +38,7 @@ use ipc_desks::{Desks, Finished, Prepared};
 use ipc_history::{Call, EnteredCall, Entries, Entry, History, Input, Outcome, Output};
 use ipc_memory::Memory;
 use ipc_partners::{Keeping, Partners};
+use ipc_rules::{is_in_receive_phase, is_in_send_phase, next_block};
 use ipc_slots::Slots;
 use ipc_waits::Waiting;
 use ipc_words::limits::{PLEDGE_OF_THREAD, TABLE_SLOTS};
@@ -314,7 +315,7 @@ impl Course {
         ensures some { IfSome result (λ next. (next_moving self.now.entries ≡ Some next.0)
             × (next.1 ≡ block_of self.now.entries next.0)) }
     {
-        self.waiting.slots().next_block()
+        next_block(self.waiting.slots())
     }
 
     /// What ExchangeRegisters answers to a live thread about a target.
@@ -343,12 +344,12 @@ impl Course {
     fn phases_of(&self, thread: ThreadId) -> Control
         ensures { result ≡ phases_of self.now.entries thread }
     {
-        let receive = if self.waiting.slots().is_in_receive_phase(thread) {
+        let receive = if is_in_receive_phase(self.waiting.slots(), thread) {
             2
         } else {
             0
         };
-        let send = if self.waiting.slots().is_in_send_phase(thread) {
+        let send = if is_in_send_phase(self.waiting.slots(), thread) {
             4
         } else {
             0

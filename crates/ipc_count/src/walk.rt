@@ -5,6 +5,7 @@ ghost use Rattle.ipc_count.specs.Walked.{IsFaultOf, IsTold};
 use crate::event::{Event, event_of};
 use ipc_history::{Entries, Entry};
 use ipc_past::Past;
+use ipc_rules::follows;
 use ipc_slots::Slots;
 use std::alloc::{AllocError, Global};
 
@@ -33,7 +34,7 @@ pub fn events_of(alloc: Global, entries: &[Entry]) -> Result<Vec<Event>, CountFa
     for index in 0..entries.len() {
         let before = Entries::of(&past, &entries[..index]);
         let entry = &entries[index];
-        if !slots.follows(&before, entry) {
+        if !follows(&slots, &before, entry) {
             return Err(CountFault::Illegal(index));
         }
         let event = event_of(&slots, entry);

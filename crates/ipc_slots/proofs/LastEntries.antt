@@ -8,7 +8,7 @@ use Rattle.ipc_history.specs.declared.entry.Input.TheVariants.{Exreg}
 use Rattle.ipc_history.specs.declared.entry.Output.TheVariants.{Began}
 use Rattle.ipc_laws.proofs.WordLemmas.{last_some_push}
 use Rattle.ipc_slots.specs.Last.{IsLast, last_of}
-use Rattle.ipc_slots.specs.Outputs.{last_output}
+use Rattle.ipc_slots.specs.Last.{last_output}
 
 last_push : (P : List Entry) (e : Entry) → last (P ++ e ∷ []) ≡ Some e
 last_push P e = last_some_push (λ x. Some x) P e

@@ -19,15 +19,9 @@ pub mod MadeSlots
 pub mod CallSteps
 pub mod Lookups
 pub mod PhaseFacts
-pub mod Leasts
-pub mod Betters
 pub mod MovedSteps
 pub mod Spaces
-pub mod Meets
-pub mod Stops
-pub mod Lasts
 pub mod Answering
 pub mod SlotSums
-pub mod Concerns
 pub mod Changed
 pub mod Naming

@@ -19,7 +19,7 @@ use Rattle.ipc_laws.specs.Counting.{live_threads}
 use Rattle.ipc_laws.proofs.Histories.{legal_front}
 use Rattle.ipc_laws.proofs.ThreadChanges.{is_live_push, live_threads_push}
 use Rattle.ipc_slots.specs.Making.{IsMade}
-use Rattle.ipc_slots.specs.Outputs.{last_output}
+use Rattle.ipc_slots.specs.Last.{last_output}
 use Rattle.ipc_slots.specs.Slots.{Stands, blank, ended, fresh, live_at, live_of, live_slots, slot_at, slot_of}
 use Rattle.ipc_slots.specs.Slot.{Slot}
 use Rattle.ipc_slots.specs.declared.kept.KeptSlots.{KeptSlots}

@@ -27,7 +27,7 @@ use Rattle.ipc_slots.specs.declared.slot.Standing.{Standing}
 use Rattle.ipc_slots.specs.declared.kept.KeptSlots.{KeptSlots}
 use Rattle.ipc_slots.proofs.Holders.{standing_number}
 use Rattle.ipc_slots.proofs.Holders.{slot_of_call}
-use Rattle.ipc_slots.proofs.Leasts.{held_below, slot_standing}
+use Rattle.ipc_slots.proofs.Holders.{held_below, slot_standing}
 use Rattle.ipc_slots.proofs.OutputSteps.{one_holder}
 use Rattle.ipc_slots.proofs.Tables.{holds_it}
 use Rattle.ipc_slots.proofs.ThreadSteps.{live_within}

@@ -84,6 +84,25 @@ impl KeptSlots {
         self.moment
     }
 
+    /// The last entry, where an output may come of it alone.
+    pub fn last(&self) -> Last
+        ensures { result ≡ self.now.last }
+    {
+        self.last
+    }
+
+    /// No thread had a number from this one on.
+    pub fn top(&self) -> usize
+        ensures { result ≡ self.now.top }
+    {
+        self.top
+    }
+
+    /// Where the entry of the open call of a thread is looked for first.
+    pub fn hint_of(&self, thread: ThreadId) -> usize {
+        self.table.hint_of(thread)
+    }
+
     /// What is kept of the open call of the slot at a place, where it stands; None past the last place.
     pub fn held(&self, place: usize) -> Option<&Standing>
         ensures { option_copied result ≡ standing_in (slot_at self.now.table place) }
@@ -127,7 +146,7 @@ impl KeptSlots {
     }
 
     /// Whether two threads that are live are of one space.
-    pub(crate) fn are_local(&self, thread: ThreadId, other: ThreadId) -> bool
+    pub fn are_local(&self, thread: ThreadId, other: ThreadId) -> bool
         ensures { result ≡ (space_in self.now.table thread == space_in self.now.table other) }
     {
         self.space_in(thread) == self.space_in(other)

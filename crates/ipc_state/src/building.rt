@@ -3,6 +3,7 @@ ghost use Rattle.ipc_state.specs.States.{IsFaultAt};
 
 use ipc_history::{Entries, Entry};
 use ipc_past::Past;
+use ipc_rules::follows;
 use ipc_slots::Slots;
 
 /// The slots of a history, as the checker builds them: slots are of legal histories alone. An `Err` is the place of the first entry that does
@@ -17,7 +18,7 @@ pub fn slots_of(entries: &[Entry]) -> Result<Slots, usize>
     for index in 0..entries.len() {
         let before = Entries::of(&past, &entries[..index]);
         let entry = &entries[index];
-        if !slots.follows(&before, entry) {
+        if !follows(&slots, &before, entry) {
             return Err(index);
         }
         let _ = slots.note(entry, index);

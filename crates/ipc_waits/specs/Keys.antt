@@ -4,7 +4,8 @@ use Rattle.std.specs.Prelude.{Option, Some, None, option_map, if◌then◌else�
 use Rattle.std.specs.Option.{option_map_or}
 use Rattle.ipc_words.specs.ThreadId.{anythread, anylocalthread}
 use Rattle.ipc_words.specs.Time.{span}
-use Rattle.ipc_slots.specs.Rules.{partner_by, waits_to_receive, waits_to_send}
+use Rattle.ipc_rules.specs.Rules.{waits_to_receive, waits_to_send}
+use Rattle.ipc_slots.specs.Standings.{partner_by}
 use Rattle.ipc_slots.specs.Slots.{slot_at}
 use Rattle.ipc_slots.specs.Steps.{standing_in}
 use Rattle.ipc_slots.specs.declared.slot.Phase.{Phase}

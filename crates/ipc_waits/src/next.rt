@@ -3,9 +3,10 @@ ghost use Rattle.ipc_waits.specs.FindingLaws.{AsksOnly};
 ghost use Rattle.ipc_history.specs.Calls.{numbers};
 ghost use Rattle.ipc_history.specs.NextOutput.{meeting_of, next_output, timeout_of};
 ghost use Rattle.ipc_history.specs.Words.{first_some};
-ghost use Rattle.ipc_slots.specs.Outputs.{waiting_output};
-ghost use Rattle.ipc_slots.specs.Rules.{IsStanding, rule_of};
+ghost use Rattle.ipc_rules.specs.Outputs.{waiting_output};
+ghost use Rattle.ipc_rules.specs.Rules.{rule_of};
 ghost use Rattle.ipc_slots.specs.Slots.{slot_at};
+ghost use Rattle.ipc_slots.specs.Standings.{IsStanding};
 ghost use Rattle.ipc_slots.specs.Steps.{standing_in};
 ghost use Rattle.ipc_waits.specs.Next.{IsBest, IsLeastMeeting, IsOpenAt, better_meeting, meeting_by, meeting_under, slots_at};
 ghost use Rattle.ipc_waits.specs.Waiting.{IsWaiting};
@@ -13,7 +14,8 @@ ghost use Rattle.ipc_waits.specs.Waiting.{IsWaiting};
 use crate::queue::Wait;
 use crate::waiting::Waiting;
 use ipc_history::{Entries, Output};
-use ipc_slots::{Phase, ReadSlots, Rule, Slots, Standing, earlier};
+use ipc_rules::{ReadSlots, Rule, after_last, earlier};
+use ipc_slots::{Phase, Slots, Standing};
 use std::marker::Model;
 
 /// Of what a rule gives for the calls at some places the first in call order.
@@ -22,7 +24,7 @@ fn best_at(slots: &Slots, rule: &Rule, places: &[usize]) -> Option<(u64, Output)
 {
     let mut best = None;
     for place in places {
-        best = slots.better(rule, *place, best);
+        best = rule.better(slots, *place, best);
     }
     best
 }
@@ -85,7 +87,7 @@ impl Waiting {
         let now = self.slots.now();
         let wait = self.waits.deadlines().least_until(now)?;
         let call = self.slots.held(wait.place)?;
-        self.slots.apply(&Rule::Expires(now), call)
+        Rule::Expires(now).apply(&self.slots, call)
     }
 
     /// It beside the entries of its history.
@@ -96,7 +98,7 @@ impl Waiting {
     {
         ReadWaiting {
             waiting: self,
-            slots: self.slots.read(entries),
+            slots: ReadSlots::of(&self.slots, entries),
         }
     }
 
@@ -224,7 +226,7 @@ impl<'a> ReadWaiting<'a> {
     fn next_output(&self) -> Option<Output>
         ensures { result ≡ next_output self.now.slots.past }
     {
-        match self.waiting().slots.after_last() {
+        match after_last(&self.waiting().slots) {
             Some(output) => Some(output),
             None => self.waiting_output(),
         }

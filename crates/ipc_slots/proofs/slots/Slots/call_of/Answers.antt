@@ -1,5 +1,5 @@
 use Rattle.std.proofs.Common.{sym, ◌∙◌}
-use Rattle.ipc_slots.proofs.Meets.{call_found}
+use Rattle.ipc_slots.proofs.Lookups.{call_found}
 use Rattle.ipc_slots.proofs.slots.Slots.call_of.Goals as goal
 
 pub returns-in-Some : goal.returns-in-Some

@@ -1,6 +1,5 @@
 use Rattle.std.proofs.Common.{sym, ◌∙◌}
-use Rattle.ipc_slots.proofs.Lasts.{call_up}
-use Rattle.ipc_slots.proofs.Meets.{none_up}
+use Rattle.ipc_slots.proofs.Lookups.{call_up, none_up}
 use Rattle.ipc_history.specs.Phases.{open_call}
 use Rattle.ipc_slots.proofs.slots.Slots.open_call_of.Goals as goal
 

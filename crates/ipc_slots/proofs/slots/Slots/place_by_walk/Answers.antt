@@ -1,7 +1,6 @@
 use Rattle.ipc_words.specs.ThreadId.{number_of}
 use Rattle.ipc_history.specs.Calls.{caller_of}
-use Rattle.ipc_slots.proofs.Holders.{held_somewhere}
-use Rattle.ipc_slots.proofs.Leasts.{none_held}
+use Rattle.ipc_slots.proofs.Holders.{held_somewhere, none_held}
 use Rattle.ipc_slots.proofs.slots.Slots.place_by_walk.Goals as goal
 
 pub unreachable-requires : goal.unreachable-requires

@@ -1,8 +1,8 @@
 use Rattle.std.proofs.Common.{◌≡◌, ◌∙◌, sym, ap, subst, option_copied, arith}
 use Rattle.ipc_history.specs.Threads.{now}
-use Rattle.ipc_slots.proofs.Answering.{first_due}
-use Rattle.ipc_slots.specs.Rules.{rule_of}
-use Rattle.ipc_slots.specs.declared.rules.Rule.TheVariants.{Expires}
+use Rattle.ipc_rules.proofs.Answering.{first_due}
+use Rattle.ipc_rules.specs.Rules.{rule_of}
+use Rattle.ipc_rules.specs.declared.rules.Rule.TheVariants.{Expires}
 use Rattle.ipc_waits.specs.Queues.{IsLeastWait, until}
 use Rattle.ipc_waits.proofs.LeastDue.{due_is_open, least_is_due, none_is_due, now_in_range}
 use Rattle.ipc_waits.proofs.Meetings.{call_there, none_there}

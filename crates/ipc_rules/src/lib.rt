@@ -1,0 +1,17 @@
+//! What may come next of a history, by its slots: the rules of the next output, and what a call or a clock may add.
+#![tactic(auto)]
+
+mod admission;
+mod last;
+mod meetings;
+mod phases;
+mod read;
+mod rules;
+mod transfers;
+
+pub use admission::{is_admissible, is_free, may_move, may_open};
+pub use last::after_last;
+pub use phases::{is_in_receive_phase, is_in_send_phase};
+pub use read::{ReadSlots, follows, next_output};
+pub use rules::{Rule, earlier};
+pub use transfers::{next_block, next_moving};

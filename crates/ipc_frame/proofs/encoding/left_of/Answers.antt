@@ -9,4 +9,5 @@ returns c =
     let same = ap length c.deref_mut.ensures.value in
     let l : length c.next.new.out ≡ length text = omega (arith, c.next.auto.out, same, c.in_ok-bytes.ensures.len, c.left.ensures) in
     let count : c.next.result ≡ length text = omega (arith, c.next.ensures.count, l, c.next.auto.out) in
-    with_items_is c.in_ok-bytes.bytes c.next.new.out (omega (arith, l, c.left.ensures, c.in_ok-bytes.ensures.len)) ∙ given_whole text c.next.new.out c.next.result l count c.next.ensures.bytes
+    with_items_is c.in_ok-bytes.bytes c.next.new.out (omega (arith, l, c.left.ensures, c.in_ok-bytes.ensures.len))
+    ∙ given_whole text c.next.new.out c.next.result l count c.next.ensures.bytes

@@ -13,4 +13,5 @@ returns-clause-shown c =
     let words = c.put_words.ensures.shown ∙ ap (λ ws. passed (words_text ws) p0) c.words.ensures in
     let buffer_words = c.put_words-2.ensures.shown ∙ ap (λ ws. passed (words_text ws) p1) c.buffer_words.ensures.buffer_words in
     let payload = c.put.ensures.shown ∙ ap (λ bytes. passed bytes p2) c.payload.ensures.payload in
-    tail_passed (words_text ipc.words) (words_text ipc.buffer_words) ipc.payload p0 p1 p2 (page c.put.new.self c.put.new.out) words buffer_words payload
+    let p3 = page c.put.new.self c.put.new.out in
+    tail_passed (words_text ipc.words) (words_text ipc.buffer_words) ipc.payload p0 p1 p2 p3 words buffer_words payload

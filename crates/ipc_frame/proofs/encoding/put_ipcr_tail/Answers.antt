@@ -14,4 +14,5 @@ returns-clause-shown c =
     let words = c.put_words.ensures.shown ∙ ap (λ ws. passed (words_text ws) p0) c.words.ensures in
     let count = c.put_u8.ensures.shown ∙ ap (λ ps. passed (number_text 1 (length ps)) p1) c.pieces-pieces.ensures.pieces in
     let pieces = c.put_pieces.ensures.shown ∙ ap (λ ps. passed (pieces_text ps) p2) c.pieces-pieces.ensures.pieces in
-    tail_passed (words_text ipcr.words) (number_text 1 (length ipcr.pieces)) (pieces_text ipcr.pieces) p0 p1 p2 (page c.put_pieces.new.window c.put_pieces.new.out) words count pieces
+    let p3 = page c.put_pieces.new.window c.put_pieces.new.out in
+    tail_passed (words_text ipcr.words) (number_text 1 (length ipcr.pieces)) (pieces_text ipcr.pieces) p0 p1 p2 p3 words count pieces

@@ -11,4 +11,6 @@ returns-clause-shown c =
     let p1 = page c.put_u32.new.self c.put_u32.new.out in
     let size = c.put_u32.ensures.shown ∙ ap (λ n. passed (number_text 4 n) p0) c.reply_size.ensures.value in
     let byte = c.put_u8.ensures.shown ∙ ap (λ n. passed (number_text 1 n) p1) (c.reply_byte.ensures c.args.outcome.now) in
-    frame_passed (ipcr_of c.args.version c.args.outcome.now) p0 p1 (page c.put_u8.new.self c.put_u8.new.out) (page c.put_reply_parts.new.window c.put_reply_parts.new.out) size byte c.put_reply_parts.ensures.shown
+    let p2 = page c.put_u8.new.self c.put_u8.new.out in
+    let p3 = page c.put_reply_parts.new.window c.put_reply_parts.new.out in
+    frame_passed (ipcr_of c.args.version c.args.outcome.now) p0 p1 p2 p3 size byte c.put_reply_parts.ensures.shown

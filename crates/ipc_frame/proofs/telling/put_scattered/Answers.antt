@@ -9,8 +9,11 @@ pub loop-piece-preserved : goal.loop-piece-preserved
 loop-piece-preserved c =
     let piece = placed c.in-Some.piece in
     let first = c.in-Some.ensures.steps in
+    let before = page c.loop-piece.window c.loop-piece.out in
+    let after = page c.put_piece.new.window c.put_piece.new.out in
+    let passes = first_passed c.loop-piece.piece-iterator c.next.new.self piece before after first c.put_piece.ensures.shown in
     record {
-      left = first_passed c.loop-piece.piece-iterator c.next.new.self piece (page c.loop-piece.window c.loop-piece.out) (page c.put_piece.new.window c.put_piece.new.out) first c.put_piece.ensures.shown ∙ c.loop-piece.invariant.left;
+      left = passes ∙ c.loop-piece.invariant.left;
       small = omega (arith, c.loop-piece.invariant.small, ap (λ ps. length (pieces_text ps)) first, piece_size piece c.next.new.self);
       within = c.put_piece.ensures.within;
     }

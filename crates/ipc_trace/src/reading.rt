@@ -1,5 +1,5 @@
 //! A trace that is read.
-ghost use Rattle.std.specs.Prelude.{◌≡◌, ◌≢◌, ◌<◌, length, IfSome, None};
+ghost use Rattle.std.specs.Prelude.{◌≡◌, ◌≢◌, ◌<◌, [], length, IfSome, None};
 ghost use Rattle.ipc_trace.specs.Taking.{ReadsEntry, ReadsLine, TakesEntry};
 ghost use Rattle.ipc_trace.specs.Traces.{HasUnknownVersion, IsRead, MayEndAtUnknown};
 ghost use Rattle.ipc_trace.specs.Versions.{version_so_far};
@@ -149,10 +149,31 @@ fn read_entries<P: PortRead>(
 {
     let mut buffer = PieceBuffer::new();
     let mut line = Vec::new(alloc);
+    let end = read_lines(port, &mut buffer, &mut line, reader, entries);
+    drop(line);
+    end
+}
+
+// The same, line by line, through a buffer that holds nothing and the memory of a line.
+fn read_lines<P: PortRead>(
+    port: &mut P,
+    buffer: &mut PieceBuffer,
+    line: &mut Vec<u8>,
+    reader: &mut TraceLines,
+    entries: &mut Vec<Entry>,
+) -> TraceEnd
+    requires first { reader.old ≡ None }
+    requires none { length entries.old.items ≡ 0 }
+    requires empty { buffer.old ≡ [] }
+    ensures read { IsRead (P.remaining port.old) (P.remaining port.new)
+        (version_so_far reader.new) entries.new.items result }
+    ensures failed { result ≡ TraceEnd.DeviceFailed → P.failures port.old < P.failures port.new }
+    ensures kept { result ≢ TraceEnd.DeviceFailed → P.failures port.new ≡ P.failures port.old }
+{
     'lines: loop {
-        match next_line(port, &mut buffer, &mut line) {
+        match next_line(port, buffer, line) {
             LineEnd::Newline => {
-                if let Some(end) = take_line(reader, &line, entries) {
+                if let Some(end) = take_line(reader, line, entries) {
                     return end;
                 }
             }

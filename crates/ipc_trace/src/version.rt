@@ -46,10 +46,12 @@ impl TraceVersion {
     pub fn may_hold(self, entry: &Entry) -> bool
         ensures { result ≡ may_hold self entry.now }
     {
-        match (self, entry) {
-            (TraceVersion::One, Entry::Given(input)) => may_give_in_version_1(input),
-            (TraceVersion::One, Entry::Written(_)) => true,
-            (TraceVersion::Two, _) => true,
+        match self {
+            TraceVersion::One => match entry {
+                Entry::Given(input) => may_give_in_version_1(input),
+                Entry::Written(_) => true,
+            },
+            TraceVersion::Two => true,
         }
     }
 }

@@ -86,7 +86,7 @@ impl<P: PortWrite> TraceWriter<P> {
             return Err(PutFault::Stopped);
         }
         match ended_line(self.alloc, entry) {
-            Ok(line) => self.put_bytes(line.as_bytes()),
+            Ok(line) => self.put_line(line),
             Err(_) => Err(PutFault::NoMemory),
         }
     }
@@ -107,7 +107,7 @@ impl<P: PortWrite> TraceWriter<P> {
             return Err(PutFault::Stopped);
         }
         match ended_text(self.alloc, line) {
-            Ok(line) => self.put_bytes(line.as_bytes()),
+            Ok(line) => self.put_line(line),
             Err(_) => Err(PutFault::NoMemory),
         }
     }
@@ -133,6 +133,18 @@ impl<P: PortWrite> TraceWriter<P> {
         } else {
             Err(PutFault::DeviceFailed)
         }
+    }
+
+    // Writes a line, which has its newline.
+    fn put_line(&mut self, line: String) -> Result<(), PutFault>
+        requires going { self.old.is_stopped ≡ false }
+        ensures ok { OnOk result (PutsLine self.old self.new (string_bytes line)) }
+        ensures err { OnErr result (FailsInLine self.old self.new (string_bytes line)) }
+        ensures device { IfErr result (λ fault. fault ≡ PutFault.DeviceFailed) }
+    {
+        let put = self.put_bytes(line.as_bytes());
+        drop(line);
+        put
     }
 
     // Writes the bytes of a line, its newline too.

@@ -4,7 +4,7 @@ use Rattle.std.specs.Io.KnownBytes.{prepend_known}
 use Rattle.ipc_trace.specs.Taking.{TakesEntry}
 use Rattle.ipc_trace.proofs.Ends.{ends_whole, ends_torn, ends_failed, ends_without_memory, ends_at_line, newline_is_no_failure, input_is_no_newline, input_is_not_no_memory}
 use Rattle.ipc_trace.proofs.Stages.{no_lines, one_more}
-use Rattle.ipc_trace.proofs.reading.read_entries.Goals as goal
+use Rattle.ipc_trace.proofs.reading.read_lines.Goals as goal
 
 pub returns-in-Some-clause-read : goal.returns-in-Some-clause-read
 returns-in-Some-clause-read g c =

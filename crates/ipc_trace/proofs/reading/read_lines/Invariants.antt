@@ -3,7 +3,7 @@ use Rattle.std.proofs.Common.{◌≡◌}
 use Rattle.std.specs.Io.KnownBytes.{prepend_known}
 use Rattle.ipc_ports.specs.Ports.{most_left}
 use Rattle.ipc_trace.proofs.Stages.{LinesSoFar}
-use Rattle.ipc_trace.proofs.reading.read_entries.Given as goal
+use Rattle.ipc_trace.proofs.reading.read_lines.Given as goal
 
 abbrev pub invariant-lines : goal.invariant-lines
 invariant-lines g l = record {

@@ -11,45 +11,69 @@ use ipc_words::{Control, ThreadId};
 // The thread 2.1.
 const SECOND: u64 = 0x2_0000_0001;
 
-// Whether the kernel is asked for the thread 2, of a connection from space 3.
+// Whether a command opens the thread 2, of a connection from space 3.
+fn opens(command: &Command) -> bool {
+    matches!(
+        command,
+        Command::Open {
+            number: 2,
+            space: 3
+        }
+    )
+}
+
+// Whether the kernel is asked for that.
 fn opens_second(reaction: Reaction) -> bool {
     match reaction {
-        Reaction::Ask(request) => matches!(
-            command_of(request, 3),
-            Command::Open {
-                number: 2,
-                space: 3
-            }
-        ),
-        _ => false,
+        Reaction::Ask(request) => {
+            let command = command_of(request, 3);
+            let opens = opens(&command);
+            drop(command);
+            opens
+        }
+        other => {
+            drop(other);
+            false
+        }
     }
 }
 
 // Whether a fault of a frame is told, by its number.
 fn refuses(reaction: Reaction, number: u8) -> bool {
-    matches!(reaction, Reaction::Refuse(class, own) if class == FRAME && own == number)
+    let refuses =
+        matches!(&reaction, Reaction::Refuse(class, own) if *class == FRAME && *own == number);
+    drop(reaction);
+    refuses
 }
 
-fn is_welcomed(version: WireVersion, told: &Told) -> bool {
-    matches!(reply(version, *told), Some(Frame::Welcome(_)))
+// What an answer tells, and what of it is looked at here.
+#[derive(Clone, Copy, PartialEq, Eq)]
+enum Said {
+    Nothing,
+    Welcome,
+    Refused(u8),
+    Fault(u8, u8),
+    Exregr(u64, Option<u64>),
+    Other,
 }
 
-fn is_told_nothing(version: WireVersion, told: &Told) -> bool {
-    reply(version, *told).is_none()
+fn shown(frame: &Option<Frame>) -> Said {
+    match frame {
+        None => Said::Nothing,
+        Some(Frame::Welcome(_)) => Said::Welcome,
+        Some(Frame::Refused(number)) => Said::Refused(*number),
+        Some(Frame::Fault(class, number)) => Said::Fault(*class, *number),
+        Some(Frame::Exregr(_, _, code, moment)) => Said::Exregr(*code, *moment),
+        Some(_) => Said::Other,
+    }
 }
 
-fn is_refused_as(version: WireVersion, told: &Told, number: u8) -> bool {
-    matches!(reply(version, *told), Some(Frame::Refused(own)) if own == number)
-}
-
-// Whether a fault of the kernel is told, by its number.
-fn is_fault_as(version: WireVersion, told: &Told, number: u8) -> bool {
-    matches!(reply(version, *told), Some(Frame::Fault(class, own)) if class == KERNEL && own == number)
-}
-
-// Whether an exchange with code 0 is told, and its moment.
-fn is_exchanged_at(version: WireVersion, told: &Told, moment: Option<u64>) -> bool {
-    matches!(reply(version, *told), Some(Frame::Exregr(_, _, 0, own)) if own == moment)
+// Whether the answer says this.
+fn says(version: WireVersion, told: &Told, wanted: Said) -> bool {
+    let frame = reply(version, *told);
+    let own = shown(&frame);
+    drop(frame);
+    own == wanted
 }
 
 fn leaves_to_post(told: &Told) -> bool {
@@ -74,7 +98,7 @@ fn a_connection_greets_is_served_and_ends(rt: HostRuntime) {
     holds(&rt, opens_second(asks(Stage::Greeting, Ok(hello))));
     let told = told_of(one, 0, Answer::Opened(thread));
     holds(&rt, told == Told::Opened(thread, one));
-    holds(&rt, is_welcomed(one, &told));
+    holds(&rt, says(one, &told, Said::Welcome));
     holds(&rt, !leaves_to_post(&told));
     let serving = Stage::Serving(thread);
     same(&rt, stage_behind(Stage::Greeting, &told), serving);
@@ -92,13 +116,13 @@ fn a_fault_is_told_by_its_number(rt: HostRuntime) {
 fn each_refusal_is_told_by_its_number(rt: HostRuntime) {
     let (one, two) = (WireVersion::One, WireVersion::Two);
     let told = told_of(one, 0, Answer::Refused(Refusal::HistoryFull));
-    holds(&rt, is_refused_as(one, &told, 5));
+    holds(&rt, says(one, &told, Said::Refused(5)));
     same(&rt, stage_behind(Stage::Greeting, &told), Stage::Greeting);
     let busy = Told::Refused(Refusal::Busy);
-    holds(&rt, is_fault_as(one, &busy, 7));
+    holds(&rt, says(one, &busy, Said::Fault(KERNEL, 7)));
     holds(&rt, leaves_to_post(&busy));
     let gone = Told::Refused(Refusal::NoThread);
-    holds(&rt, is_told_nothing(two, &gone));
+    holds(&rt, says(two, &gone, Said::Nothing));
     holds(&rt, !leaves_to_post(&gone));
     same(&rt, stage_behind(Stage::Greeting, &gone), Stage::Finished);
 }
@@ -112,8 +136,8 @@ fn an_exchange_has_its_moment_in_version_2_alone(rt: HostRuntime) {
     let (one, two) = (WireVersion::One, WireVersion::Two);
     let thread = ThreadId::from_word(SECOND);
     let told = Told::Exchanged(thread, Control::from_word(4), 0, 7);
-    holds(&rt, is_exchanged_at(one, &told, None));
-    holds(&rt, is_exchanged_at(two, &told, Some(7)));
+    holds(&rt, says(one, &told, Said::Exregr(0, None)));
+    holds(&rt, says(two, &told, Said::Exregr(0, Some(7))));
     same(&rt, version_behind(two, &told), two);
     same(&rt, version_behind(one, &Told::Opened(thread, two)), two);
 }

@@ -33,7 +33,7 @@ fn is_written_again(rt: &impl Abort, alloc: Global, side: Side, bytes: &[u8]) {
 #[test]
 fn each_vector_is_read_and_written(rt: HostRuntime) {
     for (side, bytes) in VECTORS {
-        is_written_again(&rt, rt.alloc(), side, bytes);
+        is_written_again(&rt, rt.alloc(), *side, bytes);
     }
 }
 
@@ -167,7 +167,7 @@ fn is_a_frame_however_cut(rt: &impl Abort, alloc: Global, side: Side, bytes: &[u
 #[test]
 fn every_cut_in_two_of_a_vector_reads_it(rt: HostRuntime) {
     for (side, bytes) in VECTORS {
-        is_a_frame_however_cut(&rt, rt.alloc(), side, bytes);
+        is_a_frame_however_cut(&rt, rt.alloc(), *side, bytes);
     }
 }
 
@@ -183,7 +183,7 @@ fn fault_of(alloc: Global, side: Side, bytes: &[u8]) -> u8 {
 }
 
 // What the server is sent, and the number of the fault.
-const FAULTY: [(&[u8], u8); 8] = [
+const FAULTY: &[(&[u8], u8)] = &[
     (&[0, 0, 0, 0], 3),
     (&[0, 0x20, 0, 0, 5], 2),
     (&[0, 0x20, 0, 0, 2], 9),
@@ -196,7 +196,7 @@ const FAULTY: [(&[u8], u8); 8] = [
 ];
 
 // Other bytes in some places of the call, how many of its bytes are there, and the number of the fault.
-const CHANGED_CALLS: [(&[(usize, u8)], usize, u8); 4] = [
+const CHANGED_CALLS: &[(&[(usize, u8)], usize, u8)] = &[
     (&[(3, 46)], 49, 9),
     (&[(3, 46)], 50, 3),
     (&[(3, 46), (40, 0x7f)], 50, 4),
@@ -216,10 +216,10 @@ fn is_faulty_call(rt: &impl Abort, alloc: Global, changes: &[(usize, u8)], size:
 #[test]
 fn faults_are_told_at_their_bytes(rt: HostRuntime) {
     for (bytes, fault) in FAULTY {
-        same(&rt, fault_of(rt.alloc(), Side::Server, bytes), fault);
+        same(&rt, fault_of(rt.alloc(), Side::Server, bytes), *fault);
     }
     for (changes, size, fault) in CHANGED_CALLS {
-        is_faulty_call(&rt, rt.alloc(), changes, size, fault);
+        is_faulty_call(&rt, rt.alloc(), changes, *size, *fault);
     }
 }
 
@@ -248,7 +248,7 @@ fn fronts_are_unfinished(rt: &impl Abort, alloc: Global, side: Side, bytes: &[u8
 #[test]
 fn a_prefix_is_unfinished(rt: HostRuntime) {
     for (side, bytes) in VECTORS {
-        fronts_are_unfinished(&rt, rt.alloc(), side, bytes);
+        fronts_are_unfinished(&rt, rt.alloc(), *side, bytes);
     }
 }
 
@@ -301,7 +301,7 @@ fn fault_of_parts(parts: IpcParts) -> u8 {
 }
 
 // A tag, so many words and so many bytes of a call, and the number of the fault.
-const SIZES: [(u64, usize, usize, u8); 4] = [
+const SIZES: &[(u64, usize, usize, u8)] = &[
     (0x3f, 63, 2_097_152 - 550, 0),
     (0x3f, 63, 2_097_152 - 549, 1),
     (0x3f, 62, 2_097_152, 3),
@@ -312,12 +312,12 @@ const SIZES: [(u64, usize, usize, u8); 4] = [
 fn parts_past_the_limits_make_no_frame(rt: HostRuntime) {
     let alloc = rt.alloc();
     for (tag, words, bytes, fault) in SIZES {
-        let words = words_of(&rt, alloc, words);
-        let payload = bytes_of(&rt, alloc, bytes);
+        let words = words_of(&rt, alloc, *words);
+        let payload = bytes_of(&rt, alloc, *bytes);
         same(
             &rt,
-            fault_of_parts(parts_of(alloc, tag, words, payload)),
-            fault,
+            fault_of_parts(parts_of(alloc, *tag, words, payload)),
+            *fault,
         );
     }
 }
@@ -360,7 +360,7 @@ fn a_version_that_is_not_there_is_told_when_its_hello_is_whole(rt: HostRuntime) 
 }
 
 // The same of the outcome of version 2: a body that is too short, and a tag of 64 words, at the 49th byte of the body.
-const CHANGED_OUTCOMES: [(&[(usize, u8)], usize, u8); 3] = [
+const CHANGED_OUTCOMES: &[(&[(usize, u8)], usize, u8)] = &[
     (&[(3, 0x31)], 5, 3),
     (&[(27, 0), (28, 0x7f)], 52, 9),
     (&[(27, 0), (28, 0x7f)], 53, 4),
@@ -385,6 +385,6 @@ fn is_faulty_outcome(
 #[test]
 fn an_outcome_of_version_2_shows_its_faults_where_it_shows_its_tag(rt: HostRuntime) {
     for (changes, size, fault) in CHANGED_OUTCOMES {
-        is_faulty_outcome(&rt, rt.alloc(), changes, size, fault);
+        is_faulty_outcome(&rt, rt.alloc(), changes, *size, *fault);
     }
 }

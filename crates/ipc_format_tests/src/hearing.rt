@@ -13,23 +13,17 @@ use std::alloc::Global;
 use std::process::Abort;
 
 // What is heard, as a short number: the number of a HELLO, 1,000 and the words of a call, 2,000 for an EXREG, 3,000 for a BYE.
-fn said(heard: Heard) -> u64 {
+fn said(heard: &Heard) -> u64 {
     match heard {
-        Heard::Hello(number, _) => u64::from(number),
-        Heard::Call(call) => words_said(call),
+        Heard::Hello(number, _) => u64::from(*number),
+        Heard::Call(call) => 1_000 + call.words().len() as u64,
         Heard::Exreg(_, _) => 2_000,
         Heard::Bye => 3_000,
     }
 }
 
-fn words_said(call: Call) -> u64 {
-    let count = call.words().len() as u64;
-    drop(call);
-    1_000 + count
-}
-
 // The same of what a decoder answers: 4,000 and the number of a fault; 5,000 where nothing is heard.
-fn told(answer: Result<(usize, Option<Heard>), FrameFault>) -> u64 {
+fn told(answer: &Result<(usize, Option<Heard>), FrameFault>) -> u64 {
     match answer {
         Ok((_, Some(heard))) => said(heard),
         Ok((_, None)) => 5_000,
@@ -39,7 +33,10 @@ fn told(answer: Result<(usize, Option<Heard>), FrameFault>) -> u64 {
 
 // What a decoder hears of a piece, as a short number.
 fn taken(decoder: &mut CallDecoder, piece: &[u8]) -> u64 {
-    told(decoder.take(piece))
+    let answer = decoder.take(piece);
+    let heard = told(&answer);
+    drop(answer);
+    heard
 }
 
 // What is heard of bytes at the start of a stream.
@@ -111,7 +108,7 @@ fn a_proper_prefix_is_unfinished(rt: HostRuntime) {
 }
 
 // What is sent, and what is heard.
-const FAULTY: [(&[u8], u64); 6] = [
+const FAULTY: &[(&[u8], u64)] = &[
     (&[0, 0, 0, 0], 4_003),
     (&[0, 0x20, 0, 0, 5], 4_002),
     (&[0, 0x20, 0, 1], 4_001),
@@ -123,12 +120,12 @@ const FAULTY: [(&[u8], u64); 6] = [
 #[test]
 fn faults_are_told_at_the_byte_that_shows_them(rt: HostRuntime) {
     for (bytes, heard) in FAULTY {
-        same(&rt, heard, first_taken(rt.alloc(), bytes));
+        same(&rt, *heard, first_taken(rt.alloc(), bytes));
     }
 }
 
 // Other bytes in some places of the call, how many of its bytes come, and what is heard.
-const CHANGED: [(&[(usize, u8)], usize, u64); 5] = [
+const CHANGED: &[(&[(usize, u8)], usize, u64)] = &[
     (&[(3, 46)], 50, 4_003),
     (&[(3, 46), (40, 0x7f)], 50, 4_004),
     (&[(49, 33)], 50, 4_004),
@@ -152,7 +149,7 @@ fn changed_is_heard(
 #[test]
 fn words_and_periods_out_of_range_are_refused(rt: HostRuntime) {
     for (changes, size, heard) in CHANGED {
-        changed_is_heard(&rt, rt.alloc(), changes, size, heard);
+        changed_is_heard(&rt, rt.alloc(), changes, *size, *heard);
     }
 }
 
@@ -300,20 +297,19 @@ fn has_string(call: &Call, byte: u8) -> bool {
 }
 
 // The same of what is heard.
-fn is_string(answer: Result<(usize, Option<Heard>), FrameFault>, byte: u8) -> bool {
+fn is_string(answer: &Result<(usize, Option<Heard>), FrameFault>, byte: u8) -> bool {
     match answer {
-        Ok((_, Some(Heard::Call(call)))) => {
-            let has = has_string(&call, byte);
-            drop(call);
-            has
-        }
+        Ok((_, Some(Heard::Call(call)))) => has_string(call, byte),
         _ => false,
     }
 }
 
 // Takes bytes where there are blocks. Says whether the string of a call is heard, of such bytes.
 fn hears_string(decoder: &mut CallDecoder, bytes: &[u8], blocks: &mut Nines, byte: u8) -> bool {
-    is_string(decoder.take_in(bytes, blocks), byte)
+    let answer = decoder.take_in(bytes, blocks);
+    let hears = is_string(&answer, byte);
+    drop(answer);
+    hears
 }
 
 // The string of a call is heard as it is sent, where the middle of its payload is read in place.

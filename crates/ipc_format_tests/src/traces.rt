@@ -37,7 +37,7 @@ fn is_read_as(
 }
 
 // Texts, the version and how many entries are read of each, and how the reading ends.
-const ENDS: [(&str, TraceVersion, usize, TraceEnd); 31] = [
+const ENDS: &[(&str, TraceVersion, usize, TraceEnd)] = &[
     ("", ONE, 0, TraceEnd::Whole),
     ("opened 1.1 1\nbegan 1 2\n", ONE, 2, TraceEnd::Whole),
     ("opened 1.1 1\nopened 2", ONE, 1, TraceEnd::Torn),
@@ -102,35 +102,37 @@ const ENDS: [(&str, TraceVersion, usize, TraceEnd); 31] = [
 #[test]
 fn a_trace_ends_as_its_lines_say(rt: HostRuntime) {
     for (text, version, entries, end) in ENDS {
-        is_read_as(&rt, rt.alloc(), text, version, entries, end);
+        is_read_as(&rt, rt.alloc(), text, *version, *entries, *end);
     }
 }
 
-// The next line has an entry, or tells the version.
-fn has_entry(lines: &mut TraceLines, line: &[u8]) -> bool {
-    matches!(lines.read(line), Ok(Some(_)))
-}
-
-fn has_version(lines: &mut TraceLines, line: &[u8]) -> bool {
-    matches!(lines.read(line), Ok(None))
-}
-
-// The next line is not read for this.
-fn is_fault(lines: &mut TraceLines, line: &[u8], fault: LineFault) -> bool {
-    matches!(lines.read(line), Err(own) if own == fault)
+// Reads the next line, and says whether it has an entry; else it tells the version.
+fn has_entry(lines: &mut TraceLines, line: &[u8]) -> Result<bool, LineFault> {
+    let read = lines.read(line);
+    let has = match &read {
+        Ok(entry) => Ok(entry.is_some()),
+        Err(fault) => Err(*fault),
+    };
+    drop(read);
+    has
 }
 
 #[test]
 fn lines_are_read_one_by_one(rt: HostRuntime) {
     let mut lines = TraceLines::new(rt.alloc());
-    holds(&rt, has_version(&mut lines, b"l4trace 2"));
-    holds(&rt, has_entry(&mut lines, b"opened 1.1 1"));
-    holds(&rt, is_fault(&mut lines, b"l4trace 2", LineFault::Bad));
+    same(&rt, has_entry(&mut lines, b"l4trace 2"), Ok(false));
+    same(&rt, has_entry(&mut lines, b"opened 1.1 1"), Ok(true));
+    let bad = Err(LineFault::Bad);
+    same(&rt, has_entry(&mut lines, b"l4trace 2"), bad);
     same(&rt, lines.version(), TWO);
     drop(lines);
+}
+
+#[test]
+fn a_first_line_of_another_version_is_told(rt: HostRuntime) {
     let mut lines = TraceLines::new(rt.alloc());
-    let unknown = LineFault::UnknownVersion;
-    holds(&rt, is_fault(&mut lines, b"l4trace 4", unknown));
+    let unknown = Err(LineFault::UnknownVersion);
+    same(&rt, has_entry(&mut lines, b"l4trace 4"), unknown);
     same(&rt, lines.version(), ONE);
     drop(lines);
 }

@@ -65,7 +65,7 @@ pub(crate) const EXREGR_TWO: [u8; 37] = [
 pub(crate) const REFUSED: [u8; 6] = [0, 0, 0, 2, 0x84, 2];
 
 // All of them, with who reads them; the last five tell F1, F9, K7, F14 and F15.
-pub(crate) const VECTORS: [(Side, &[u8]); 17] = [
+pub(crate) const VECTORS: &[(Side, &[u8])] = &[
     (Side::Server, &HELLO),
     (Side::Server, &HELLO_TWO),
     (Side::Server, &IPC),

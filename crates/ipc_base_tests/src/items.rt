@@ -1,0 +1,499 @@
+use crate::comparing::{holds, same};
+use ipc_items::{
+    BufferList, Fit, FreeBlocks, ItemFault, MAX_FREE_BLOCKS, MAX_FREE_BYTES, Piece, StringList,
+    Substring, fit, pieces_join_to_strings, scatter, spelled_strings_are_read,
+};
+use ipc_words::limits::{
+    MAX_BUFFER_WORDS, MAX_MESSAGE_WORDS, MAX_STRING_BYTES, SUBSTRING_LENGTH_LIMIT,
+};
+use std::alloc::Global;
+use std::process::Abort;
+
+const PAYLOAD: &[u8] = b"abchello";
+
+fn part(length: u64, pointer: u64) -> Substring {
+    Substring { length, pointer }
+}
+
+// So many equal bytes.
+fn bytes(rt: &impl Abort, alloc: Global, size: usize) -> Vec<u8> {
+    vec![in alloc; 7u8; size].expect(rt, "memory")
+}
+
+fn copy_of(rt: &impl Abort, alloc: Global, text: &[u8]) -> Vec<u8> {
+    let mut copy = Vec::new(alloc);
+    copy.extend_from_slice(text).expect(rt, "memory");
+    copy
+}
+
+// The strings, in their order.
+fn string_list(rt: &impl Abort, alloc: Global, texts: &[&[u8]]) -> StringList {
+    let mut list = StringList::new(alloc);
+    for text in texts {
+        push_string(rt, alloc, &mut list, text);
+    }
+    list
+}
+
+fn push_string(rt: &impl Abort, alloc: Global, list: &mut StringList, text: &[u8]) {
+    let fits = list.push(alloc, text).expect(rt, "memory");
+    holds(rt, fits);
+}
+
+// Fails the test where the list has other strings.
+fn assert_strings(rt: &impl Abort, list: &StringList, texts: &[&[u8]]) {
+    same(rt, list.len(), texts.len());
+    for k in 0..texts.len() {
+        same(rt, list.get(k), Some(texts[k]));
+    }
+}
+
+// abc and hello
+fn two_strings(rt: &impl Abort, alloc: Global) -> StringList {
+    string_list(rt, alloc, &[b"abc", b"hello"])
+}
+
+#[test]
+fn strings_are_kept(rt: HostRuntime) {
+    let list = two_strings(&rt, rt.alloc());
+    assert_strings(&rt, &list, &[b"abc", b"hello"]);
+    same(&rt, list.size(), 8);
+    same(&rt, list.get(2), None);
+}
+
+// Whether a list takes as many strings of so many bytes each.
+fn takes_strings(rt: &impl Abort, alloc: Global, count: usize, size: usize) -> bool {
+    let strings = vec![in alloc; bytes(rt, alloc, size); count].expect(rt, "memory");
+    let list = StringList::of(alloc, strings).expect(rt, "memory");
+    list.is_some()
+}
+
+#[test]
+fn strings_are_bounded(rt: HostRuntime) {
+    for (count, size, is_taken) in [
+        (1, 1_048_576, true),
+        (1, 1_048_577, false),
+        (31, 0, true),
+        (32, 0, false),
+    ] {
+        let takes = takes_strings(&rt, rt.alloc(), count, size);
+        same(&rt, takes, is_taken);
+    }
+}
+
+// What string items spell over the payload.
+fn read(rt: &impl Abort, alloc: Global, words: &[u64]) -> Result<StringList, ItemFault> {
+    assert!(*rt; words.len() <= MAX_MESSAGE_WORDS);
+    StringList::read(alloc, words, PAYLOAD)
+}
+
+// What they spell over a payload that is given away.
+fn cut(rt: &impl Abort, alloc: Global, words: &[u64]) -> Result<StringList, ItemFault> {
+    assert!(*rt; words.len() <= MAX_MESSAGE_WORDS);
+    StringList::cut(alloc, words, copy_of(rt, alloc, PAYLOAD))
+}
+
+fn assert_read(rt: &impl Abort, alloc: Global, words: &[u64], texts: &[&[u8]]) {
+    let list = read(rt, alloc, words).ok().expect(rt, "strings");
+    assert_strings(rt, &list, texts);
+}
+
+fn assert_cut(rt: &impl Abort, alloc: Global, words: &[u64], texts: &[&[u8]]) {
+    let list = cut(rt, alloc, words).ok().expect(rt, "strings");
+    assert_strings(rt, &list, texts);
+}
+
+const SPELLED: [(&[u64], &[&[u8]]); 10] = [
+    (&[], &[]),
+    // end to end, in two strings, with another last bit, in one string
+    (&[0xc00, 0x0, 0x1400, 0x3], &[b"abc", b"hello"]),
+    (&[0xc01, 0x0, 0x1400, 0x3], &[b"abc", b"hello"]),
+    (&[0xe00, 0x0, 0x1400, 0x3], &[b"abchello"]),
+    (&[0x1010, 0x0, 0x4], &[b"abchello"]),
+    // with bytes left behind, with a gap, in another order, one over the other, with no bytes
+    (&[0xc00, 0x0], &[b"abc"]),
+    (&[0xc00, 0x1, 0x1000, 0x4], &[b"bch", b"ello"]),
+    (&[0x1400, 0x3, 0xc00, 0x0], &[b"hello", b"abc"]),
+    (&[0xc00, 0x0, 0x2000, 0x0], &[b"abc", b"abchello"]),
+    (&[0x0, 0x8], &[b""]),
+];
+
+#[test]
+fn string_items_are_read_and_cut(rt: HostRuntime) {
+    for (words, texts) in SPELLED {
+        assert_read(&rt, rt.alloc(), words, texts);
+        assert_cut(&rt, rt.alloc(), words, texts);
+    }
+}
+
+// The number of the fault, 0 where there is none.
+fn fault_number(spelled: Result<StringList, ItemFault>) -> u8 {
+    match spelled {
+        Ok(list) => {
+            drop(list);
+            0
+        }
+        Err(fault) => fault.number(),
+    }
+}
+
+const FAULTS: [(&[u64], u8); 7] = [
+    (&[0xe00, 0x0], 5),
+    (&[0x8, 0x0], 6),
+    (&[0x1400, 0x4], 7),
+    (&[0x0, 0x9], 7),
+    (&[0xc18], 6),
+    (&[0xe00, 0x9], 5),
+    (&[0x1400, 0x4, 0x8, 0x0], 7),
+];
+
+#[test]
+fn first_fault_decides(rt: HostRuntime) {
+    for (words, number) in FAULTS {
+        same(&rt, fault_number(read(&rt, rt.alloc(), words)), number);
+        same(&rt, fault_number(cut(&rt, rt.alloc(), words)), number);
+    }
+}
+
+// As many items, each of which names all of a payload of 65,536 bytes.
+fn whole_payloads(rt: &impl Abort, alloc: Global, count: usize) -> Result<StringList, ItemFault> {
+    let mut words = Vec::new(alloc);
+    for _ in 0..count {
+        words
+            .extend_from_slice(&[0x400_0000, 0])
+            .expect(rt, "memory");
+    }
+    assert!(*rt; words.len() <= MAX_MESSAGE_WORDS);
+    StringList::read(alloc, &words, &bytes(rt, alloc, 65_536))
+}
+
+// 32 pointers to the first byte.
+const MANY_POINTERS: [u64; 33] = [
+    0x5f0, 0x0, 0x0, 0x0, 0x0, 0x0, 0x0, 0x0, 0x0, 0x0, 0x0, 0x0, 0x0, 0x0, 0x0, 0x0, 0x0, 0x0,
+    0x0, 0x0, 0x0, 0x0, 0x0, 0x0, 0x0, 0x0, 0x0, 0x0, 0x0, 0x0, 0x0, 0x0, 0x0,
+];
+
+// Fails the test where the items spell another number of strings, or of bytes in them.
+fn assert_counts(rt: &impl Abort, spelled: Result<StringList, ItemFault>, count: usize, size: u64) {
+    let list = spelled.ok().expect(rt, "strings");
+    same(rt, list.len(), count);
+    same(rt, list.size(), size);
+}
+
+#[test]
+fn string_bytes_are_counted(rt: HostRuntime) {
+    let alloc = rt.alloc();
+    assert_counts(&rt, whole_payloads(&rt, alloc, 16), 16, 1_048_576);
+    same(&rt, fault_number(whole_payloads(&rt, alloc, 17)), 8);
+    assert_counts(&rt, read(&rt, alloc, &MANY_POINTERS), 1, 32);
+}
+
+#[test]
+fn faults_are_told(rt: HostRuntime) {
+    let text = format!(in rt.alloc(); "{}", ItemFault::NoMemory).expect(&rt, "memory");
+    same(&rt, text.as_str(), "no memory");
+}
+
+#[test]
+fn laws_hold() {
+    pieces_join_to_strings();
+    spelled_strings_are_read();
+}
+
+fn read_buffers(rt: &impl Abort, alloc: Global, words: &[u64]) -> Result<BufferList, ItemFault> {
+    assert!(*rt; words.len() <= MAX_BUFFER_WORDS);
+    BufferList::read(alloc, words)
+}
+
+fn buffer_fault(rt: &impl Abort, alloc: Global, words: &[u64]) -> Option<ItemFault> {
+    read_buffers(rt, alloc, words).err()
+}
+
+// Fails the test where buffer string k has other substrings.
+fn assert_buffer(rt: &impl Abort, list: &BufferList, k: usize, parts: &[Substring]) {
+    same(rt, list.get(k), Some(parts));
+}
+
+#[test]
+fn buffer_items_are_read(rt: HostRuntime) {
+    let words = [0xc00, 0x1000, 0xa00, 0x2000, 0xc00, u64::MAX];
+    let list = read_buffers(&rt, rt.alloc(), &words)
+        .ok()
+        .expect(&rt, "buffers");
+    same(&rt, list.len(), 2);
+    same(&rt, list.capacity(0), 3);
+    assert_buffer(&rt, &list, 1, &[part(2, 0x2000), part(3, u64::MAX)]);
+    same(&rt, list.iter().count(), 2);
+}
+
+#[test]
+fn faults_of_buffer_items_are_found(rt: HostRuntime) {
+    let past = buffer_fault(&rt, rt.alloc(), &[0xe00, 0x0]);
+    same(&rt, past, Some(ItemFault::PastWords));
+    let reserved = buffer_fault(&rt, rt.alloc(), &[0x8, 0x0]);
+    same(&rt, reserved, Some(ItemFault::ReservedBit));
+}
+
+fn push_buffer(rt: &impl Abort, alloc: Global, list: &mut BufferList, parts: &[Substring]) -> bool {
+    list.push_buffer(alloc, parts).expect(rt, "memory")
+}
+
+// Buffer strings of substrings of these lengths.
+fn buffer_list(rt: &impl Abort, alloc: Global, buffers: &[&[u64]]) -> BufferList {
+    let mut list = BufferList::new(alloc);
+    for lengths in buffers {
+        let parts = parts_of(rt, alloc, lengths);
+        let fits = push_buffer(rt, alloc, &mut list, &parts);
+        holds(rt, fits);
+    }
+    list
+}
+
+fn parts_of(rt: &impl Abort, alloc: Global, lengths: &[u64]) -> Vec<Substring> {
+    let mut parts = Vec::new(alloc);
+    for length in lengths {
+        parts.push(part(*length, 0x1000)).expect(rt, "memory");
+    }
+    parts
+}
+
+#[test]
+fn a_buffer_has_a_substring(rt: HostRuntime) {
+    let mut list = BufferList::new(rt.alloc());
+    let fits = push_buffer(&rt, rt.alloc(), &mut list, &[]);
+    same(&rt, fits, false);
+}
+
+// The list of one buffer string of these substrings.
+fn list_of_one(rt: &impl Abort, alloc: Global, parts: Vec<Substring>) -> Option<BufferList> {
+    let buffers = vec![in alloc; parts].expect(rt, "memory");
+    BufferList::of(alloc, buffers).expect(rt, "memory")
+}
+
+#[test]
+fn buffers_are_taken_whole(rt: HostRuntime) {
+    let parts = parts_of(&rt, rt.alloc(), &[1, 1, 9]);
+    let list = list_of_one(&rt, rt.alloc(), parts).expect(&rt, "buffers");
+    same(&rt, list.capacity(0), 11);
+    same(&rt, list.first_pointer(0), 0x1000);
+}
+
+// Whether a list takes one buffer string of as many substrings of a length.
+fn takes_equal(rt: &impl Abort, alloc: Global, count: usize, length: u64) -> bool {
+    let parts = vec![in alloc; part(length, 0); count].expect(rt, "memory");
+    list_of_one(rt, alloc, parts).is_some()
+}
+
+#[test]
+fn substrings_are_bounded(rt: HostRuntime) {
+    for (count, length, is_taken) in [
+        (0, 1, false),
+        (31, 1, true),
+        (32, 1, false),
+        (1, SUBSTRING_LENGTH_LIMIT - 1, true),
+        (1, SUBSTRING_LENGTH_LIMIT, false),
+    ] {
+        let takes = takes_equal(&rt, rt.alloc(), count, length);
+        same(&rt, takes, is_taken);
+    }
+}
+
+// Whether a list takes as many buffer strings of one substring each, no two of one length.
+fn takes_unequal(rt: &impl Abort, alloc: Global, count: u64) -> bool {
+    let mut buffers = Vec::new(alloc);
+    for length in 0..count {
+        let parts = vec![in alloc; part(length, 0)].expect(rt, "memory");
+        buffers.push(parts).expect(rt, "memory");
+    }
+    let list = BufferList::of(alloc, buffers).expect(rt, "memory");
+    list.is_some()
+}
+
+#[test]
+fn substrings_are_counted_over_all_buffers(rt: HostRuntime) {
+    same(&rt, takes_unequal(&rt, rt.alloc(), 31), true);
+    same(&rt, takes_unequal(&rt, rt.alloc(), 32), false);
+}
+
+// How abc and hello fit buffer strings of substrings of these lengths.
+fn fits(rt: &impl Abort, alloc: Global, buffers: &[&[u64]]) -> Fit {
+    let strings = two_strings(rt, alloc);
+    let buffers = buffer_list(rt, alloc, buffers);
+    fit(&strings, Some(&buffers))
+}
+
+const FITTING: [(&[&[u64]], Fit); 3] = [
+    (&[&[3], &[4]], Fit::Overflow { offset: 3 }),
+    (&[&[3]], Fit::Overflow { offset: 3 }),
+    (&[&[3], &[2, 3]], Fit::Fits),
+];
+
+#[test]
+fn strings_fit_to_the_last_byte(rt: HostRuntime) {
+    for (buffers, wanted) in FITTING {
+        same(&rt, fits(&rt, rt.alloc(), buffers), wanted);
+    }
+}
+
+#[test]
+fn nothing_fits_where_no_strings_are_taken(rt: HostRuntime) {
+    let strings = two_strings(&rt, rt.alloc());
+    same(&rt, fit(&strings, None), Fit::Overflow { offset: 0 });
+    let none = StringList::new(rt.alloc());
+    same(&rt, fit(&none, None), Fit::Fits);
+}
+
+fn assert_piece(rt: &impl Abort, piece: Option<Piece<'_>>, pointer: u64, bytes: &[u8]) {
+    let piece = piece.expect(rt, "a piece");
+    same(rt, piece.pointer, pointer);
+    same(rt, piece.bytes, bytes);
+}
+
+#[test]
+fn pieces_come_in_order(rt: HostRuntime) {
+    let parts = [part(2, 0x2000), part(3, 0x3000)];
+    let mut pieces = scatter(&parts, b"hello");
+    assert_piece(&rt, pieces.next(), 0x2000, b"he");
+    assert_piece(&rt, pieces.next(), 0x3000, b"llo");
+    same(&rt, pieces.next().is_none(), true);
+}
+
+fn copy(rt: &impl Abort, alloc: Global, list: &StringList) -> StringList {
+    list.copy(alloc).expect(rt, "memory")
+}
+
+#[test]
+fn a_copy_stands_apart(rt: HostRuntime) {
+    let list = two_strings(&rt, rt.alloc());
+    let mut other = copy(&rt, rt.alloc(), &list);
+    other.clear();
+    same(&rt, other.is_empty(), true);
+    same(&rt, list.is_empty(), false);
+    same(&rt, list.string_len(1), 5);
+}
+
+// Strings that can be shared.
+fn shared(rt: &impl Abort, alloc: Global) -> StringList {
+    let list = cut(rt, alloc, &[0xc00, 0x0, 0x1400, 0x3]);
+    list.ok().expect(rt, "strings")
+}
+
+#[test]
+fn owners_of_shared_strings_stand_apart(rt: HostRuntime) {
+    let alloc = rt.alloc();
+    let list = shared(&rt, alloc);
+    let mut longer = copy(&rt, alloc, &list);
+    push_string(&rt, alloc, &mut longer, b"you");
+    let mut other = copy(&rt, alloc, &list);
+    other.clear();
+    push_string(&rt, alloc, &mut other, b"new");
+    assert_strings(&rt, &list, &[b"abc", b"hello"]);
+    assert_strings(&rt, &other, &[b"new"]);
+    drop(list);
+    assert_strings(&rt, &longer, &[b"abc", b"hello", b"you"]);
+}
+
+fn copy_of_buffers(rt: &impl Abort, alloc: Global, list: &BufferList) -> BufferList {
+    list.copy(alloc).expect(rt, "memory")
+}
+
+#[test]
+fn a_copy_of_buffers_stands_apart(rt: HostRuntime) {
+    let mut list = buffer_list(&rt, rt.alloc(), &[&[2, 3]]);
+    let other = copy_of_buffers(&rt, rt.alloc(), &list);
+    list.clear();
+    same(&rt, list.is_empty(), true);
+    same(&rt, other.len(), 1);
+    same(&rt, other.capacity(0), 5);
+    same(&rt, other.first_pointer(0), 0x1000);
+}
+
+// A list of one string of so many bytes, which can be shared.
+fn long_list(rt: &impl Abort, alloc: Global, size: usize) -> StringList {
+    let words = [(size as u64).saturating_mul(1_024), 0];
+    let list = StringList::cut(alloc, &words, bytes(rt, alloc, size));
+    list.ok().expect(rt, "strings")
+}
+
+fn owner(rt: &impl Abort, list: &StringList) -> StringList {
+    list.share().expect(rt, "one more owner")
+}
+
+// Whether the list is kept.
+fn keeps(free: &mut FreeBlocks, list: StringList) -> bool {
+    free.keep(list).is_none()
+}
+
+// How many bytes a block has that is handed out, 0 where there is none.
+fn taken(free: &mut FreeBlocks, wanted: usize) -> usize {
+    match free.take(wanted) {
+        Some(block) => {
+            let size = block.len();
+            drop(block);
+            size
+        }
+        None => 0,
+    }
+}
+
+#[test]
+fn a_list_of_one_owner_has_no_other(rt: HostRuntime) {
+    let list = two_strings(&rt, rt.alloc());
+    same(&rt, list.share().is_none(), true);
+}
+
+#[test]
+fn a_block_is_handed_out_once_nobody_else_has_it(rt: HostRuntime) {
+    let list = long_list(&rt, rt.alloc(), 100);
+    let mut free = FreeBlocks::new(rt.alloc());
+    same(&rt, keeps(&mut free, owner(&rt, &list)), true);
+    same(&rt, taken(&mut free, 100), 0);
+    drop(list);
+    // too short, and more than twice as long
+    for (wanted, size) in [(101, 0), (49, 0), (50, 100)] {
+        same(&rt, taken(&mut free, wanted), size);
+    }
+    same(&rt, free.oldest().is_none(), true);
+}
+
+#[test]
+fn a_block_is_found_behind_three_that_are_in_use(rt: HostRuntime) {
+    let list = long_list(&rt, rt.alloc(), 100);
+    let mut free = FreeBlocks::new(rt.alloc());
+    for _ in 0..4 {
+        same(&rt, keeps(&mut free, owner(&rt, &list)), true);
+    }
+    let other = long_list(&rt, rt.alloc(), 90);
+    same(&rt, keeps(&mut free, other), true);
+    // the fifth is not looked at; the four before it go behind it
+    same(&rt, taken(&mut free, 80), 0);
+    same(&rt, taken(&mut free, 80), 90);
+}
+
+// Keeps as many lists of so many bytes, or fails the test.
+fn fill(rt: &impl Abort, alloc: Global, free: &mut FreeBlocks, count: usize, size: usize) {
+    for _ in 0..count {
+        let list = long_list(rt, alloc, size);
+        holds(rt, keeps(free, list));
+    }
+}
+
+#[test]
+fn the_oldest_lists_make_way(rt: HostRuntime) {
+    let mut free = FreeBlocks::new(rt.alloc());
+    let most = MAX_FREE_BYTES / MAX_STRING_BYTES;
+    fill(&rt, rt.alloc(), &mut free, most, MAX_STRING_BYTES);
+    let back = free.keep(long_list(&rt, rt.alloc(), 5));
+    let back = back.expect(&rt, "no room for its bytes");
+    let oldest = free.oldest().expect(&rt, "oldest");
+    same(&rt, oldest.size(), MAX_STRING_BYTES as u64);
+    same(&rt, keeps(&mut free, back), true);
+}
+
+#[test]
+fn so_many_lists_are_kept(rt: HostRuntime) {
+    let mut free = FreeBlocks::new(rt.alloc());
+    fill(&rt, rt.alloc(), &mut free, MAX_FREE_BLOCKS, 5);
+    let list = long_list(&rt, rt.alloc(), 5);
+    same(&rt, keeps(&mut free, list), false);
+}

@@ -14,6 +14,7 @@ use ipc_words::{Control, MsgTag, Period, ThreadId};
 use std::alloc::Global;
 use std::fmt::Debug;
 use std::marker::Brand;
+use std::mem::replace;
 use std::process::Abort;
 use std::sync::Wait;
 use std::sync::ledger::{Blank, Ledger};
@@ -21,7 +22,7 @@ use std::thread;
 use std::thread::Threads;
 
 // A test is a row of calls, most of them of the small functions here. They say nothing of what they give, so their callers carry no
-// facts, and they fail the test themselves, so no exit opens in their callers.
+// facts, and they fail the test themselves, so no exit opens in their callers. What has many parts ends by a call of `drop`.
 
 // Fails the test where the two differ.
 fn same<T: PartialEq + Debug + Drop>(rt: &impl Abort, left: T, right: T) {
@@ -196,20 +197,36 @@ fn said<C: Ledger, T: Ledger, R: Wait>(
     command: Command,
 ) -> &'static str {
     let answered = submit(rt, kernel, now, None, command);
-    word_of(answered.answer())
+    let word = word_of(answered.answer());
+    drop(answered);
+    word
 }
 
 // The line of an outcome that was taken.
 fn line_of<T: Ledger>(rt: &impl Abort, alloc: Global, taken: Taken<T>) -> String {
-    outcome_line(alloc, &taken.into_outcome()).expect(rt, "memory")
+    let outcome = taken.into_outcome();
+    let line = outcome_line(alloc, &outcome);
+    drop(outcome);
+    line.expect(rt, "memory")
 }
 
 // One of a test's threads, with its seats. Each of its steps lays its seat back.
-#[derive(Drop)]
 struct Party<C: Ledger, T: Ledger> {
     thread: ThreadId,
     calls: Option<CallSeat<C>>,
     takes: TakeSeat<T>,
+}
+
+impl<C: Ledger, T: Ledger> Drop for Party<C, T> {
+    fn drop(self) {
+        let Party {
+            thread: _,
+            calls,
+            takes,
+        } = self;
+        drop(calls);
+        drop(takes);
+    }
 }
 
 impl<C: Ledger, T: Ledger> Party<C, T> {
@@ -218,8 +235,10 @@ impl<C: Ledger, T: Ledger> Party<C, T> {
         let answered = submit(rt, kernel, 0, None, Command::Open { number, space: 1 });
         let (answer, calls, takes) = answered.into_parts();
         holds(rt, calls.is_some());
+        let thread = opened(&answer);
+        drop(answer);
         Party {
-            thread: opened(&answer).expect(rt, "an open"),
+            thread: thread.expect(rt, "an open"),
             calls,
             takes: takes.expect(rt, "the seat of its outcomes"),
         }
@@ -231,6 +250,11 @@ impl<C: Ledger, T: Ledger> Party<C, T> {
             .as_ref()
             .expect(rt, "the seat of its calls")
             .made()
+    }
+
+    // Lays the seat of its calls back.
+    fn keep(&mut self, calls: Option<CallSeat<C>>) {
+        drop(replace(&mut self.calls, calls));
     }
 
     // Enters a call at a moment.
@@ -256,10 +280,12 @@ impl<C: Ledger, T: Ledger> Party<C, T> {
     ) {
         let answered = self.submit_call(rt, kernel, now, call);
         let (answer, calls, takes) = answered.into_parts();
-        self.calls = calls;
+        self.keep(calls);
         same(rt, entered(&answer), Some(number));
         holds(rt, self.calls.is_some());
         holds(rt, takes.is_none());
+        drop(answer);
+        drop(takes);
     }
 
     // Enters a call that is refused so, and hands the call back; the seat is as it was.
@@ -274,8 +300,9 @@ impl<C: Ledger, T: Ledger> Party<C, T> {
         let answered = self.submit_call(rt, kernel, 0, call);
         same(rt, refused(answered.answer()), Some(refusal));
         let (calls, back) = answered.into_call();
-        self.calls = calls;
+        self.keep(calls);
         holds(rt, back.is_some());
+        drop(back);
         same(rt, self.made(rt), made);
     }
 
@@ -296,7 +323,9 @@ impl<C: Ledger, T: Ledger> Party<C, T> {
 
     // Nothing comes any more.
     fn is_told_nothing<R: Wait + Abort>(&mut self, rt: &R, kernel: &SharedKernel<C, T, SlowPort>) {
-        holds(rt, outcome(rt, kernel, &mut self.takes).is_none());
+        let taken = outcome(rt, kernel, &mut self.takes);
+        holds(rt, taken.is_none());
+        drop(taken);
     }
 
     // Makes a call and waits until it is over; the first word of its outcome, which is its own.
@@ -306,16 +335,30 @@ impl<C: Ledger, T: Ledger> Party<C, T> {
         kernel: &SharedKernel<C, T, SlowPort>,
         call: Call,
     ) -> Option<u64> {
-        let answered = self.submit_call(rt, kernel, 0, call);
-        let (answer, calls, _) = answered.into_parts();
-        self.calls = calls;
-        let number = entered(&answer).expect(rt, "an entered call");
+        let number = self.enter_any(rt, kernel, call);
         let taken = outcome(rt, kernel, &mut self.takes).expect(rt, "an outcome");
         same(rt, taken.thread(), self.thread);
         same(rt, taken.amount(), self.made(rt));
         let outcome = taken.into_outcome();
         same(rt, outcome.call, number);
-        outcome.words.first().copied()
+        let word = outcome.words.first().copied();
+        drop(outcome);
+        word
+    }
+
+    // Enters a call; its number.
+    fn enter_any<R: Wait + Abort>(
+        &mut self,
+        rt: &R,
+        kernel: &SharedKernel<C, T, SlowPort>,
+        call: Call,
+    ) -> u64 {
+        let answered = self.submit_call(rt, kernel, 0, call);
+        let number = entered(answered.answer());
+        let (calls, back) = answered.into_call();
+        self.keep(calls);
+        drop(back);
+        number.expect(rt, "an entered call")
     }
 }
 
@@ -344,11 +387,23 @@ fn assert_lines<C: Ledger, T: Ledger, R: Wait + Abort>(
     }
     let group = kernel.wait_entries(rt, 0).expect(rt, "the entries");
     same(rt, group.len(), lines.len());
+    drop(group);
     kernel.close(rt);
+    assert_no_lines(rt, kernel, index);
+}
+
+// The kernel was closed, and has nothing at this place.
+fn assert_no_lines<C: Ledger, T: Ledger, R: Wait + Abort>(
+    rt: &R,
+    kernel: &SharedKernel<C, T, SlowPort>,
+    index: usize,
+) {
     let line = kernel.wait_line(rt, index).expect(rt, "a line or none");
     holds(rt, line.is_none());
+    drop(line);
     let group = kernel.wait_entries(rt, index).expect(rt, "no entries");
     holds(rt, group.is_empty());
+    drop(group);
 }
 
 #[test]
@@ -362,53 +417,81 @@ fn seated_meeting<C: Ledger, T: Ledger, R: Abort>(rt: &R, alloc: Global, calls: 
 {
     let mut locked = Locked::<C, T>::new(alloc, ROOM, calls, takes).expect(rt, "a kernel");
     meet_in_seats(rt, alloc, &mut locked);
-    let ended = entry_at(rt, alloc, &locked, 5);
+    assert_end(rt, alloc, &locked);
+    drop(locked);
+}
+
+// The last of six entries, and none behind it.
+fn assert_end<C: Ledger, T: Ledger, R: Abort>(rt: &R, alloc: Global, locked: &Locked<C, T>) {
+    let ended = entry_at(rt, alloc, locked, 5);
     same(rt, ended.as_str(), "ended 2 1");
     let none = locked.entry(alloc, 6).expect(rt, "no entry");
     holds(rt, none.is_none());
+    drop(none);
 }
 
 fn meet_in_seats<C: Ledger, T: Ledger, R: Abort>(rt: &R, alloc: Global, locked: &mut Locked<C, T>) {
-    let (one, mut calls_of_one, mut takes_of_one) = open_seats(rt, locked, 1);
-    let (_, mut calls_of_two, _) = open_seats(rt, locked, 2);
+    let mut one = seated(rt, locked, 1);
+    let mut two = seated(rt, locked, 2);
     let receive = receives(rt, alloc, ThreadId::ANYTHREAD, 0);
-    enter_by(rt, locked, &mut calls_of_one, receive, 1);
-    let send = sends(rt, alloc, one, 0, 7);
-    enter_by(rt, locked, &mut calls_of_two, send, 2);
-    let taken = take_by(locked, &mut takes_of_one).expect(rt, "an outcome");
-    same(rt, taken.thread(), one);
-    let line = line_of(rt, alloc, taken);
-    same(rt, line.as_str(), "1 0x1 2.1 nil 0x0 0x7 -");
-    holds(rt, take_by(locked, &mut takes_of_one).is_none());
-    same(rt, calls_of_one.made(), 1);
-    same(rt, calls_of_two.made(), 1);
-    same(rt, takes_of_one.taken(), 1);
+    enter_by(rt, locked, &mut one, receive, 1);
+    let send = sends(rt, alloc, first(1), 0, 7);
+    enter_by(rt, locked, &mut two, send, 2);
+    same(rt, one.made(rt), 1);
+    same(rt, two.made(rt), 1);
+    take_once(rt, alloc, locked, &mut one);
 }
 
-fn open_seats<C: Ledger, T: Ledger, R: Abort>(
+// The outcome of a receive, which is given once.
+fn take_once<C: Ledger, T: Ledger, R: Abort>(
+    rt: &R,
+    alloc: Global,
+    locked: &mut Locked<C, T>,
+    one: &mut Party<C, T>,
+) {
+    let taken = take_by(locked, one).expect(rt, "an outcome");
+    same(rt, taken.thread(), one.thread);
+    let line = line_of(rt, alloc, taken);
+    same(rt, line.as_str(), "1 0x1 2.1 nil 0x0 0x7 -");
+    let again = take_by(locked, one);
+    holds(rt, again.is_none());
+    drop(again);
+    same(rt, one.takes.taken(), 1);
+}
+
+// Opens the thread of a number.
+fn seated<C: Ledger, T: Ledger, R: Abort>(
     rt: &R,
     locked: &mut Locked<C, T>,
     number: u64,
-) -> (ThreadId, CallSeat<C>, TakeSeat<T>) {
-    locked.open_seated(number, 1).expect(rt, "an open")
+) -> Party<C, T> {
+    let (thread, calls, takes) = locked.open_seated(number, 1).expect(rt, "an open");
+    Party {
+        thread,
+        calls: Some(calls),
+        takes,
+    }
 }
 
-// Enters a call by a seat, which has this number.
+// Enters a call by a thread's seat, which has this number.
 fn enter_by<C: Ledger, T: Ledger, R: Abort>(
     rt: &R,
     locked: &mut Locked<C, T>,
-    seat: &mut CallSeat<C>,
+    party: &mut Party<C, T>,
     call: Call,
     number: u64,
 ) {
-    same(rt, locked.enter_seated(seat, call).ok(), Some(number));
+    let mut seat = party.calls.take().expect(rt, "the seat of its calls");
+    let entered = locked.enter_seated(&mut seat, call).ok();
+    party.keep(Some(seat));
+    same(rt, entered, Some(number));
 }
 
 fn take_by<C: Ledger, T: Ledger>(
     locked: &mut Locked<C, T>,
-    seat: &mut TakeSeat<T>,
+    party: &mut Party<C, T>,
 ) -> Option<Taken<T>> {
-    locked.take_seated(seat)
+    locked.take_seated(&mut party.takes)
 }
 
 // The line of the entry of a place.
@@ -419,7 +502,10 @@ fn entry_at<C: Ledger, T: Ledger, R: Abort>(
     index: usize,
 ) -> String {
     let entry = locked.entry(alloc, index).expect(rt, "an entry or none");
-    entry_line(alloc, &entry.expect(rt, "an entry")).expect(rt, "memory")
+    let entry = entry.expect(rt, "an entry");
+    let line = entry_line(alloc, &entry);
+    drop(entry);
+    line.expect(rt, "memory")
 }
 
 #[test]
@@ -451,6 +537,7 @@ fn submitted_meeting<C: Ledger, T: Ledger, R: Wait + Abort>(
             "broke 1.1",
         ],
     );
+    drop(kernel);
 }
 
 fn meet<C: Ledger, T: Ledger, R: Wait + Abort>(
@@ -469,7 +556,7 @@ fn meet<C: Ledger, T: Ledger, R: Wait + Abort>(
     same(rt, one.made(rt), 1);
     same(rt, two.made(rt), 1);
     // nothing is to take twice, and who waits for a thread that has ended is told so
-    let _ = submit(rt, kernel, 0, None, Command::Broke(first(1)));
+    same(rt, said(kernel, rt, 0, Command::Broke(first(1))), "done");
     one.is_told_nothing(rt, kernel);
 }
 
@@ -489,6 +576,7 @@ fn timeouts<C: Ledger, T: Ledger, R: Wait + Abort>(
 {
     let kernel = shared::<C, T, R>(rt, alloc, ROOM, calls, takes);
     time_out(rt, alloc, &kernel);
+    drop(kernel);
 }
 
 fn time_out<C: Ledger, T: Ledger, R: Wait + Abort>(
@@ -522,12 +610,18 @@ fn stopped_transfers<C: Ledger, T: Ledger, R: Wait + Abort>(
     requires calls { (calls.name ≡ C.name) × (calls.parts ≡ C.parts) × (calls.parts ≡ 2 ^ 63) }
     requires takes { (takes.name ≡ T.name) × (takes.parts ≡ T.parts) × (takes.parts ≡ 2 ^ 63) }
 {
-    let kernel = &shared::<C, T, R>(rt, alloc, ROOM, calls, takes);
-    stop_and_break(rt, alloc, kernel);
-    same(rt, said(kernel, rt, 0, Command::Advance), "idle");
+    let kernel = shared::<C, T, R>(rt, alloc, ROOM, calls, takes);
+    stop_and_break(rt, alloc, &kernel);
+    same(rt, said(&kernel, rt, 0, Command::Advance), "idle");
+    end_all(rt, &kernel);
+    drop(kernel);
+}
+
+fn end_all<C: Ledger, T: Ledger, R: Wait + Abort>(rt: &R, kernel: &SharedKernel<C, T, SlowPort>) {
     // a group has all entries, also behind a call with a string
     let group = kernel.wait_entries(rt, 0).expect(rt, "the entries");
     same(rt, group.len(), kernel.entries(rt));
+    drop(group);
     kernel.end_work(rt);
     holds(rt, !kernel.wait_work(rt));
     kernel.close(rt);
@@ -541,10 +635,10 @@ fn stop_and_break<C: Ledger, T: Ledger, R: Wait + Abort>(
 ) {
     let mut one = Party::open(rt, kernel, 1);
     let mut two = Party::open(rt, kernel, 2);
-    let three = Party::open(rt, kernel, 3);
+    let mut three = Party::open(rt, kernel, 3);
     begin_transfer(rt, alloc, kernel, &mut one, &mut two, 1);
     holds(rt, kernel.wait_work(rt));
-    stop_by(rt, kernel, three, first(2));
+    stop_by(rt, kernel, &mut three, first(2));
     two.is_told(rt, alloc, kernel, "2 0x8000 nil nil 0x10000e - -");
     one.is_told(rt, alloc, kernel, "1 0x8000 nil nil 0x10000f - -");
     begin_transfer(rt, alloc, kernel, &mut one, &mut two, 3);
@@ -556,18 +650,20 @@ fn stop_and_break<C: Ledger, T: Ledger, R: Wait + Abort>(
 fn stop_by<C: Ledger, T: Ledger, R: Wait + Abort>(
     rt: &R,
     kernel: &SharedKernel<C, T, SlowPort>,
-    stopper: Party<C, T>,
+    stopper: &mut Party<C, T>,
     target: ThreadId,
 ) {
-    let Party { thread, calls, .. } = stopper;
     let stop = Command::Exreg {
-        thread,
+        thread: stopper.thread,
         target,
         control: Control::from_word(4),
     };
-    let (answer, calls, _) = submit(rt, kernel, 0, calls, stop).into_parts();
-    same(rt, word_of(&answer), "exchanged");
-    holds(rt, calls.is_some());
+    let answered = submit(rt, kernel, 0, stopper.calls.take(), stop);
+    same(rt, word_of(answered.answer()), "exchanged");
+    let (calls, back) = answered.into_call();
+    stopper.keep(calls);
+    drop(back);
+    holds(rt, stopper.calls.is_some());
 }
 
 // The first thread receives a string of the second one, by calls from this number on, of which a block is copied.
@@ -604,7 +700,16 @@ fn stale_seats<C: Ledger, T: Ledger, R: Wait + Abort>(
         entries: MAX_ENTRIES,
         calls: 1,
     };
-    let kernel = &shared::<C, T, R>(rt, alloc, limits, calls, takes);
+    let kernel = shared::<C, T, R>(rt, alloc, limits, calls, takes);
+    open_again(rt, alloc, &kernel);
+    drop(kernel);
+}
+
+fn open_again<C: Ledger, T: Ledger, R: Wait + Abort>(
+    rt: &R,
+    alloc: Global,
+    kernel: &SharedKernel<C, T, SlowPort>,
+) {
     let mut one = Party::open(rt, kernel, 1);
     same(rt, said(kernel, rt, 0, Command::Broke(one.thread)), "done");
     let mut again = Party::open(rt, kernel, 1);
@@ -694,6 +799,7 @@ fn boxes<C: Ledger, T: Ledger, R: Wait + Abort>(rt: &R, alloc: Global, calls: Bl
     assert_told(rt, alloc, &told);
     shut_box(rt, alloc, &kernel);
     shut_box(rt, alloc, &kernel);
+    drop(kernel);
 }
 
 // A connection, whose port has room or not.
@@ -733,6 +839,7 @@ fn fill_box<C: Ledger, T: Ledger, R: Wait + Abort>(
     let (entered, _) = ask(rt, kernel, &mut posts, Request::Enter(one, send));
     same(rt, entered, Told::Entered);
     kernel.post(rt, &posts, Told::Refused(Refusal::CallsSpent));
+    drop(posts);
     takes
 }
 
@@ -766,7 +873,11 @@ fn told_slowly<C: Ledger, T: Ledger, R: Wait + Abort>(
     kernel.give_back(rt, written_pen(rt, kernel, takes));
     let pen = written_pen(rt, kernel, takes);
     holds(rt, pen.is_ready());
-    pen.into_port().written
+    let SlowPort {
+        written,
+        is_open: _,
+    } = pen.into_port();
+    written
 }
 
 // A box that is shut takes nothing more, and its pen goes; one that was given back comes again.
@@ -781,7 +892,9 @@ fn shut_box<C: Ledger, T: Ledger, R: Wait + Abort>(
     kernel.hang_up(rt, 0, &posts);
     let (shut, _) = ask(rt, kernel, &mut posts, Request::Open(4, WireVersion::One));
     same(rt, shut, Told::Refused(Refusal::NoThread));
-    holds(rt, kernel.wait_pen(rt, &takes).is_none());
+    let pen = kernel.wait_pen(rt, &takes);
+    holds(rt, pen.is_none());
+    drop(pen);
     kernel.leave(rt, 0, &takes);
     kernel.release(rt, posts);
 }
@@ -800,7 +913,17 @@ fn meetings<C: Ledger + Send + Sync, T: Ledger + Send + Sync, R: Threads + Wait 
     requires calls { (calls.name ≡ C.name) × (calls.parts ≡ C.parts) × (calls.parts ≡ 2 ^ 63) }
     requires takes { (takes.name ≡ T.name) × (takes.parts ≡ T.parts) × (takes.parts ≡ 2 ^ 63) }
 {
-    let kernel = &shared::<C, T, R>(rt, alloc, ROOM, calls, takes);
+    let kernel = shared::<C, T, R>(rt, alloc, ROOM, calls, takes);
+    meet_often(rt, alloc, &kernel);
+    has_let_go(rt, &kernel);
+    drop(kernel);
+}
+
+fn meet_often<C: Ledger + Send + Sync, T: Ledger + Send + Sync, R: Threads + Wait + Abort + Sync>(
+    rt: &R,
+    alloc: Global,
+    kernel: &SharedKernel<C, T, SlowPort>,
+) {
     let one = Party::open(rt, kernel, 1);
     let two = Party::open(rt, kernel, 2);
     kernel.mark(rt, usize::MAX);
@@ -812,8 +935,19 @@ fn meetings<C: Ledger + Send + Sync, T: Ledger + Send + Sync, R: Threads + Wait 
         move || make_calls(rt, alloc, kernel, two, send_calls),
     );
     counts_up(rt, &received);
+    are_none(rt, &sent);
+}
+
+// A send has no word to tell.
+fn are_none(rt: &impl Abort, sent: &[Option<u64>]) {
     same(rt, sent.len(), 10_000);
     holds(rt, sent.iter().all(|word| word.is_none()));
+}
+
+fn has_let_go<C: Ledger, T: Ledger, R: Wait + Abort>(
+    rt: &R,
+    kernel: &SharedKernel<C, T, SlowPort>,
+) {
     // two opens, and for each message two calls, began and ended
     same(rt, kernel.entries(rt), 40_002);
     // of which the kernel has let go of most

@@ -26,7 +26,13 @@ pub(crate) fn with<'a>(
     ensures { (app : App) (rule : Rule) → IfOk made.entry (IsOfApp app) → HasRule rule arg.entry
         → IfOk result (IsOfApp (with_rule app rule)) }
 {
-    made?.arg(arg)
+    match made {
+        Ok(command) => command.arg(arg),
+        Err(error) => {
+            drop(arg);
+            Err(error)
+        }
+    }
 }
 
 /// The command with one subcommand more.
@@ -37,7 +43,20 @@ pub(crate) fn with_command<'a>(
     ensures { (app sub_app : App) → IfOk made.entry (IsOfApp app) → IfOk sub.entry (IsOfApp sub_app)
         → IfOk result (IsOfApp (with_subcommand app sub_app.top)) }
 {
-    made?.subcommand(sub?)
+    let command = match made {
+        Ok(command) => command,
+        Err(error) => {
+            drop(sub);
+            return Err(error);
+        }
+    };
+    match sub {
+        Ok(sub) => command.subcommand(sub),
+        Err(error) => {
+            drop(command);
+            Err(error)
+        }
+    }
 }
 
 /// The argument NAME, which has to be there.
@@ -84,10 +103,7 @@ pub(crate) fn number_option<'a>(
 ) -> Arg<'a>
     ensures { HasRule (bounded_rule id.entry.now least most default.entry.now) result }
 {
-    Arg::new(alloc, id)
-        .long(id)
-        .value_name(name)
+    text_option(alloc, id, name, help)
         .value_parser(ValueParser::unsigned(least, most))
         .default_value(default)
-        .help(help)
 }

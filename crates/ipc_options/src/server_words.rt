@@ -33,14 +33,46 @@ pub fn server_options<'a>(alloc: Global, words: &'a [String]) -> Result<ServerOp
         fault_of server_app (map string_bytes words.entry.now) ≡ []) }
 {
     let mut command = server_command(alloc)?;
+    let options = options_by(alloc, &mut command, words);
+    drop(command);
+    options
+}
+
+/// The options that the command of `l4d` reads from its words, as `server_options` answers them.
+fn options_by<'a>(
+    alloc: Global,
+    command: &mut Command<'a>,
+    words: &'a [String],
+) -> Result<ServerOptions<'a>, Error>
+    requires { IsOfApp server_app command.old }
+    ensures options { IfOk result (HasOptionsOf (map string_bytes words.entry.now)) }
+    ensures traced { IfOk result (λ options. options.trace_required ≡ true → IsSome options.trace) }
+    ensures kept { IfOk result (λ options.
+        options.keep_open ≡ true → options.connections ≡ max_connections) }
+    ensures faultless { IfOk result (λ _.
+        fault_of server_app (map string_bytes words.entry.now) ≡ []) }
+{
     let matches = command.try_get_matches_from_mut(words)?;
     match options_in(&matches) {
-        Ok(options) => Ok(options),
+        Ok(options) => {
+            drop(matches);
+            Ok(options)
+        }
         Err(refused) => {
-            let message = refused.to_string(alloc)?;
-            Err(command.error(ErrorKind::ValueValidation, message.as_str())?)
+            drop(matches);
+            Err(refusal(alloc, command, refused)?)
         }
     }
+}
+
+/// The error that tells why a value is refused.
+fn refusal(
+    alloc: Global,
+    command: &mut Command<'_>,
+    refused: Refused<'_>,
+) -> Result<Error, AllocError> {
+    let message = refused.to_string(alloc)?;
+    command.error(ErrorKind::ValueValidation, message.as_str())
 }
 
 fn server_command<'a>(alloc: Global) -> Result<Command<'a>, AllocError>
@@ -90,33 +122,25 @@ fn named_command<'a>(alloc: Global) -> Command<'a>
 fn dir_option<'a>(alloc: Global) -> Arg<'a>
     ensures { HasRule dir_rule result }
 {
-    Arg::new(alloc, "dir")
-        .long("dir")
-        .value_name("DIR")
+    let help = "The folder of the paths space1 to spaceN";
+    text_option(alloc, "dir", "DIR", help)
         .required(true)
         .action(ArgAction::Set)
-        .help("The folder of the paths space1 to spaceN")
 }
 
 fn spaces_option<'a>(alloc: Global) -> Arg<'a>
     ensures { HasRule spaces_rule result }
 {
-    Arg::new(alloc, "spaces")
-        .long("spaces")
-        .value_name("N")
+    text_option(alloc, "spaces", "N", "How many spaces, 1 to 64")
         .required(true)
         .value_parser(ValueParser::unsigned(1, u64::from(MAX_SPACE)))
-        .help("How many spaces, 1 to 64")
 }
 
 fn mode_option<'a>(alloc: Global) -> Arg<'a>
     ensures { HasRule mode_rule result }
 {
-    Arg::new(alloc, "mode")
-        .long("mode")
-        .value_name("OCTAL")
-        .default_value("600")
-        .help("The permissions of each path, as chmod has them")
+    let help = "The permissions of each path, as chmod has them";
+    text_option(alloc, "mode", "OCTAL", help).default_value("600")
 }
 
 fn connections_option<'a>(alloc: Global) -> Arg<'a>
@@ -160,7 +184,7 @@ fn hello_option<'a>(alloc: Global) -> Arg<'a>
 }
 
 /// A value that `clap` takes and `l4d` does not.
-#[derive(Clone, Copy, PartialEq, Eq, Debug)]
+#[derive(Clone, Copy)]
 enum Refused<'a> {
     /// The folder is empty.
     Folder,
@@ -291,162 +315,5 @@ fn mode_of(text: &str) -> Option<u32>
     match u32::from_str_radix(text, 8) {
         Ok(mode) if mode < 512 => Some(mode),
         _ => None,
-    }
-}
-
-#[cfg(test)]
-mod tests {
-    use super::*;
-    use crate::server::OWNER_ONLY;
-    use crate::shell::tests::{same, same_at};
-    use std::test::Fail;
-
-    fn words_of(alloc: Global, words: &[&str]) -> Result<Vec<String>, AllocError> {
-        let mut strings = Vec::new(alloc);
-        for word in words {
-            strings.push(String::from_str(alloc, word)?)?;
-        }
-        Ok(strings)
-    }
-
-    #[test]
-    fn takes(rt: HostRuntime) -> Result<(), Fail> {
-        let words = words_of(rt.alloc(), &["l4d", "--dir", "here", "--spaces", "64"])?;
-        let options = server_options(rt.alloc(), words.as_slice())?;
-        same(&rt, options.dir, "here");
-        same(&rt, (options.spaces, options.connections), (64, 65_535));
-        same(&rt, (options.live, options.hello_within), (65_535, 10));
-        same(&rt, options.mode, OWNER_ONLY);
-        let flags = [
-            options.keep_open,
-            options.probe,
-            options.replace,
-            options.log,
-            options.trace_required,
-        ];
-        same(&rt, flags, [false; 5]);
-        same(&rt, options.trace, None);
-        let words = words_of(
-            rt.alloc(),
-            &[
-                "l4d",
-                "--dir=.",
-                "--spaces=1",
-                "--connections=2",
-                "--mode=660",
-                "--probe",
-                "--trace",
-                "meetings",
-                "--live",
-                "300",
-                "--hello-within=65535",
-                "--replace",
-                "--log",
-                "--trace-required",
-            ],
-        )?;
-        let options = server_options(rt.alloc(), words.as_slice())?;
-        same(&rt, (options.spaces, options.connections), (1, 2));
-        same(&rt, options.mode, 0o660);
-        same(&rt, (options.live, options.hello_within), (300, 65_535));
-        let flags = [
-            options.probe,
-            options.replace,
-            options.log,
-            options.trace_required,
-        ];
-        same(&rt, flags, [true; 4]);
-        same(&rt, options.trace, Some("meetings"));
-        let words = words_of(rt.alloc(), &["l4d", "--dir=.", "--spaces=1", "--keep-open"])?;
-        let options = server_options(rt.alloc(), words.as_slice())?;
-        same(
-            &rt,
-            (options.keep_open, options.connections),
-            (true, 65_535),
-        );
-        Ok(())
-    }
-
-    #[test]
-    fn refuses(rt: HostRuntime) -> Result<(), Fail> {
-        let cases: [(&[&str], ErrorKind); 16] = [
-            (
-                &["l4d", "--dir", ".", "--spaces", "1", "--trace"],
-                ErrorKind::InvalidValue,
-            ),
-            (
-                &["l4d", "--spaces", "1"],
-                ErrorKind::MissingRequiredArgument,
-            ),
-            (&["l4d", "--dir", "."], ErrorKind::MissingRequiredArgument),
-            (
-                &["l4d", "--dir", ".", "--spaces", "0"],
-                ErrorKind::ValueValidation,
-            ),
-            (
-                &["l4d", "--dir", ".", "--spaces", "65"],
-                ErrorKind::ValueValidation,
-            ),
-            (
-                &["l4d", "--dir", ".", "--spaces", "1", "--connections", "0"],
-                ErrorKind::ValueValidation,
-            ),
-            (
-                &[
-                    "l4d",
-                    "--dir",
-                    ".",
-                    "--spaces",
-                    "1",
-                    "--connections",
-                    "65536",
-                ],
-                ErrorKind::ValueValidation,
-            ),
-            (
-                &[
-                    "l4d",
-                    "--dir=.",
-                    "--spaces=1",
-                    "--connections=2",
-                    "--keep-open",
-                ],
-                ErrorKind::ValueValidation,
-            ),
-            (
-                &["l4d", "--dir", ".", "--spaces", "1", "--mode", "1000"],
-                ErrorKind::ValueValidation,
-            ),
-            (
-                &["l4d", "--dir", ".", "--spaces", "1", "--mode", "8"],
-                ErrorKind::ValueValidation,
-            ),
-            (
-                &["l4d", "--dir", "", "--spaces", "1"],
-                ErrorKind::ValueValidation,
-            ),
-            (
-                &["l4d", "--dir", ".", "--spaces", "1", "--live", "0"],
-                ErrorKind::ValueValidation,
-            ),
-            (
-                &["l4d", "--dir", ".", "--spaces", "1", "--hello-within=65536"],
-                ErrorKind::ValueValidation,
-            ),
-            (
-                &["l4d", "--dir", ".", "--spaces", "1", "--trace-required"],
-                ErrorKind::ValueValidation,
-            ),
-            (&["l4d", "--version"], ErrorKind::DisplayVersion),
-            (&["l4d", "--help"], ErrorKind::DisplayHelp),
-        ];
-        for (words, kind) in cases {
-            let words = words_of(rt.alloc(), words)?;
-            match server_options(rt.alloc(), words.as_slice()) {
-                Ok(_) => assert!(rt; false, "taken: {words:?}"),
-                Err(error) => same_at(&rt, &words, error.kind(), kind),
-            }
-        }
-        Ok(())
     }
 }

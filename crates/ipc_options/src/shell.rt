@@ -25,7 +25,7 @@ use ipc_words::limits::{MAX_CALLS, MAX_CHART_ENTRY, MAX_ENTRIES, MAX_SPACE, MAX_
 use std::alloc::{AllocError, Global};
 
 /// What `l4sh` was asked for.
-#[derive(Clone, Copy, PartialEq, Eq, Debug)]
+#[derive(Clone, Copy)]
 pub enum ShellOptions<'a> {
     /// `l4sh run`.
     Run(ScriptLimits),
@@ -58,7 +58,7 @@ pub enum ShellOptions<'a> {
 }
 
 /// The limits of the kernel under a script.
-#[derive(Clone, Copy, PartialEq, Eq, Debug)]
+#[derive(Clone, Copy)]
 pub struct ScriptLimits {
     /// The most entries that the history may hold, 0 to `MAX_ENTRIES`.
     pub entries: u32,
@@ -67,7 +67,7 @@ pub struct ScriptLimits {
 }
 
 /// What `l4sh chart` was asked for.
-#[derive(Clone, Copy, PartialEq, Eq, Debug)]
+#[derive(Clone, Copy)]
 pub struct ChartOptions<'a> {
     /// The path of a trace.
     pub file: &'a str,
@@ -90,7 +90,7 @@ pub struct ChartOptions<'a> {
 }
 
 /// What `l4sh state` was asked for.
-#[derive(Clone, Copy, PartialEq, Eq, Debug)]
+#[derive(Clone, Copy)]
 pub struct StateOptions<'a> {
     /// The path of a trace.
     pub file: &'a str,
@@ -99,7 +99,7 @@ pub struct StateOptions<'a> {
 }
 
 /// What `l4sh follow` was asked for.
-#[derive(Clone, Copy, PartialEq, Eq, Debug)]
+#[derive(Clone, Copy)]
 pub struct FollowOptions<'a> {
     /// The path of a trace, or `-` for standard input.
     pub file: &'a str,
@@ -112,7 +112,7 @@ pub struct FollowOptions<'a> {
 }
 
 /// What `l4sh talk` was asked for, with a live server.
-#[derive(Clone, Copy, PartialEq, Eq, Debug)]
+#[derive(Clone, Copy)]
 pub struct TalkOptions<'a> {
     /// The folder of the server's paths.
     pub dir: &'a str,
@@ -136,14 +136,37 @@ pub fn shell_options<'a>(alloc: Global, words: &'a [String]) -> Result<ShellOpti
         → IsErrAnd result TellsVersion }
 {
     let mut command = shell_command(alloc)?;
+    let options = options_by(&mut command, words);
+    drop(command);
+    options
+}
+
+/// The options that the command of `l4sh` reads from its words, as `shell_options` answers them.
+fn options_by<'a>(command: &mut Command<'a>, words: &'a [String]) -> Result<ShellOptions<'a>, Error>
+    requires { IsOfApp shell_app command.old }
+    ensures limits { IfOk result IsWithinLimits }
+    ensures asked { IfOk result (IsAskedBy (map string_bytes words.entry.now)) }
+    ensures faultless { IfOk result (λ _.
+        fault_of shell_app (map string_bytes words.entry.now) ≡ []) }
+    ensures taken { IfErr result (λ error. IsTaken (map string_bytes words.entry.now)
+        → kind_of error ≡ ErrorKind.OutOfMemory) }
+    ensures version { AsksVersion (map string_bytes words.entry.now)
+        → IsErrAnd result TellsVersion }
+{
     let matches = command.try_get_matches_from_mut(words)?;
     match options_of(&matches) {
-        Some(options) => Ok(options),
+        Some(options) => {
+            drop(matches);
+            Ok(options)
+        }
         // `clap` has refused each number that is past its limit already.
-        None => Err(command.error(
-            ErrorKind::ValueValidation,
-            "--thread and --space want DIR, the folder of a server",
-        )?),
+        None => {
+            drop(matches);
+            Err(command.error(
+                ErrorKind::ValueValidation,
+                "--thread and --space want DIR, the folder of a server",
+            )?)
+        }
     }
 }
 
@@ -645,435 +668,5 @@ fn number_up_to(found: &ArgMatches<'_>, id: &str, most: u32) -> Option<u32>
         Some(number)
     } else {
         None
-    }
-}
-
-#[cfg(test)]
-pub(crate) mod tests {
-    use super::*;
-    use std::fmt::Debug;
-    use std::process::Abort;
-    use std::test::Fail;
-
-    // Fails the test where the two differ. A call of it is proved much faster than the macro in its place.
-    pub(crate) fn same<T: PartialEq + Debug + Drop>(rt: &impl Abort, left: T, right: T) {
-        assert_eq!(*rt; left, right);
-    }
-
-    // The same, and says where.
-    pub(crate) fn same_at<T: PartialEq + Debug + Drop>(
-        rt: &impl Abort,
-        at: &impl Debug,
-        left: T,
-        right: T,
-    ) {
-        assert_eq!(*rt; left, right, "at {at:?}");
-    }
-
-    fn words_of(alloc: Global, words: &[&str]) -> Result<Vec<String>, AllocError> {
-        let mut strings = Vec::new(alloc);
-        for word in words {
-            strings.push(String::from_str(alloc, word)?)?;
-        }
-        Ok(strings)
-    }
-
-    fn assert_asked(
-        rt: &impl Abort,
-        alloc: Global,
-        cases: &[(&[&str], ShellOptions<'_>)],
-    ) -> Result<(), Fail> {
-        for (words, wanted) in cases {
-            let strings = words_of(alloc, words)?;
-            let options = shell_options(alloc, &strings)?;
-            same_at(rt, words, options, *wanted);
-        }
-        Ok(())
-    }
-
-    fn assert_refused(
-        rt: &impl Abort,
-        alloc: Global,
-        cases: &[(&[&str], ErrorKind)],
-    ) -> Result<(), Fail> {
-        for (words, kind) in cases {
-            let strings = words_of(alloc, words)?;
-            match shell_options(alloc, &strings) {
-                Ok(options) => assert!(rt; false, "{options:?} at {words:?}"),
-                Err(error) => same_at(rt, words, error.kind(), *kind),
-            }
-        }
-        Ok(())
-    }
-
-    #[test]
-    fn runs_with_the_limits_that_are_given(rt: HostRuntime) -> Result<(), Fail> {
-        let cases: [(&[&str], u32, u32); 5] = [
-            (&["l4sh", "run"], 1_048_576, 4_294_967_295),
-            (&["l4sh", "run", "--entries", "10"], 10, 4_294_967_295),
-            (&["l4sh", "run", "--entries=10", "--calls", "1"], 10, 1),
-            (&["l4sh", "run", "--calls", "0", "--entries", "0"], 0, 0),
-            (
-                &[
-                    "l4sh",
-                    "run",
-                    "--entries",
-                    "1048576",
-                    "--calls",
-                    "4294967295",
-                ],
-                1_048_576,
-                4_294_967_295,
-            ),
-        ];
-        for (words, entries, calls) in cases {
-            let strings = words_of(rt.alloc(), words)?;
-            let options = shell_options(rt.alloc(), &strings)?;
-            let limits = ScriptLimits { entries, calls };
-            same_at(&rt, &words, options, ShellOptions::Run(limits));
-        }
-        Ok(())
-    }
-
-    #[test]
-    fn serves_connections_without_an_option(rt: HostRuntime) -> Result<(), Fail> {
-        let strings = words_of(rt.alloc(), &["l4sh", "wire"])?;
-        same(
-            &rt,
-            shell_options(rt.alloc(), &strings)?,
-            ShellOptions::Wire,
-        );
-        let strings = words_of(rt.alloc(), &["l4sh", "talk"])?;
-        same(
-            &rt,
-            shell_options(rt.alloc(), &strings)?,
-            ShellOptions::Talk,
-        );
-        Ok(())
-    }
-
-    #[test]
-    fn talks_to_the_server_of_the_folder_that_is_named(rt: HostRuntime) -> Result<(), Fail> {
-        let of = |dir, thread, space| ShellOptions::TalkTo(TalkOptions { dir, thread, space });
-        let cases: [(&[&str], ShellOptions); 4] = [
-            (&["l4sh", "talk", "meet"], of("meet", 1, 1)),
-            (
-                &["l4sh", "talk", "--thread", "1023", "/run/l4d"],
-                of("/run/l4d", 1023, 1),
-            ),
-            (
-                &["l4sh", "talk", "meet", "--space=64", "--thread=2"],
-                of("meet", 2, 64),
-            ),
-            (&["l4sh", "talk", "--thread", "1"], ShellOptions::Talk),
-        ];
-        assert_asked(&rt, rt.alloc(), &cases)
-    }
-
-    #[test]
-    fn checks_and_charts_the_file_that_is_named(rt: HostRuntime) -> Result<(), Fail> {
-        let strings = words_of(rt.alloc(), &["l4sh", "check", "here/trace"])?;
-        let options = shell_options(rt.alloc(), &strings)?;
-        same(&rt, options, ShellOptions::Check { file: "here/trace" });
-        let plain = ChartOptions {
-            file: "trace",
-            from: 1,
-            to: 4_294_967_295,
-            threads: None,
-            is_text: false,
-            is_html: false,
-            is_unfolded: false,
-            page: 0,
-            width: 0,
-        };
-        let narrow = ChartOptions {
-            file: "trace",
-            from: 7,
-            to: 20,
-            threads: Some("1.1,2.1"),
-            is_text: true,
-            width: 100,
-            ..plain
-        };
-        let paged = ChartOptions {
-            file: "-",
-            is_html: true,
-            is_unfolded: true,
-            page: 200,
-            ..plain
-        };
-        let cases: [(&[&str], ChartOptions); 3] = [
-            (&["l4sh", "chart", "trace"], plain),
-            (
-                &[
-                    "l4sh",
-                    "chart",
-                    "--html",
-                    "--page",
-                    "200",
-                    "--unfolded",
-                    "-",
-                ],
-                paged,
-            ),
-            (
-                &[
-                    "l4sh",
-                    "chart",
-                    "--from",
-                    "7",
-                    "--to=20",
-                    "--threads",
-                    "1.1,2.1",
-                    "--text",
-                    "--width=100",
-                    "trace",
-                ],
-                narrow,
-            ),
-        ];
-        for (words, chart) in cases {
-            let strings = words_of(rt.alloc(), words)?;
-            let options = shell_options(rt.alloc(), &strings)?;
-            same_at(&rt, &words, options, ShellOptions::Chart(chart));
-        }
-        Ok(())
-    }
-
-    #[test]
-    fn tells_of_the_trace_that_is_named(rt: HostRuntime) -> Result<(), Fail> {
-        let file = "trace";
-        let cases: [(&[&str], ShellOptions); 10] = [
-            (
-                &["l4sh", "follow", "-"],
-                ShellOptions::Follow(FollowOptions {
-                    file: "-",
-                    threads: None,
-                    label: None,
-                    failures: false,
-                }),
-            ),
-            (
-                &[
-                    "l4sh",
-                    "follow",
-                    "trace",
-                    "--threads",
-                    "1.1",
-                    "--label=0x3",
-                    "--failures",
-                ],
-                ShellOptions::Follow(FollowOptions {
-                    file,
-                    threads: Some("1.1"),
-                    label: Some("0x3"),
-                    failures: true,
-                }),
-            ),
-            (
-                &["l4sh", "count", "trace"],
-                ShellOptions::Count {
-                    file,
-                    is_json: false,
-                },
-            ),
-            (
-                &["l4sh", "count", "--json", "trace"],
-                ShellOptions::Count {
-                    file,
-                    is_json: true,
-                },
-            ),
-            (
-                &["l4sh", "state", "trace"],
-                ShellOptions::State(StateOptions {
-                    file,
-                    at: 4_294_967_295,
-                }),
-            ),
-            (
-                &["l4sh", "state", "trace", "--at", "7"],
-                ShellOptions::State(StateOptions { file, at: 7 }),
-            ),
-            (
-                &["l4sh", "state", "--at=0", "trace"],
-                ShellOptions::State(StateOptions { file, at: 0 }),
-            ),
-            (
-                &["l4sh", "state", "--at", "4294967295", "trace"],
-                ShellOptions::State(StateOptions {
-                    file,
-                    at: 4_294_967_295,
-                }),
-            ),
-            (&["l4sh", "script", "trace"], ShellOptions::Script { file }),
-            (
-                &["l4sh", "script", "--", "--at"],
-                ShellOptions::Script { file: "--at" },
-            ),
-        ];
-        assert_asked(&rt, rt.alloc(), &cases)
-    }
-
-    #[test]
-    fn explains_the_word_that_is_given(rt: HostRuntime) -> Result<(), Fail> {
-        let cases: [(&[&str], ShellOptions); 5] = [
-            (
-                &["l4sh", "migrate", "here/old", "new"],
-                ShellOptions::Migrate {
-                    old: "here/old",
-                    new: "new",
-                },
-            ),
-            (
-                &["l4sh", "explain", "K6"],
-                ShellOptions::Explain { word: "K6" },
-            ),
-            (
-                &["l4sh", "tag", "label=3,words=1,p"],
-                ShellOptions::Tag {
-                    word: "label=3,words=1,p",
-                },
-            ),
-            (
-                &["l4sh", "period", "2ms"],
-                ShellOptions::Period { word: "2ms" },
-            ),
-            (
-                &["l4sh", "period", "tag"],
-                ShellOptions::Period { word: "tag" },
-            ),
-        ];
-        assert_asked(&rt, rt.alloc(), &cases)
-    }
-
-    #[test]
-    fn refuses_words_of_a_trace_or_a_word(rt: HostRuntime) -> Result<(), Fail> {
-        let cases: [(&[&str], ErrorKind); 26] = [
-            (&["l4sh", "follow"], ErrorKind::MissingRequiredArgument),
-            (&["l4sh", "migrate"], ErrorKind::MissingRequiredArgument),
-            (
-                &["l4sh", "migrate", "old"],
-                ErrorKind::MissingRequiredArgument,
-            ),
-            (
-                &["l4sh", "migrate", "old", "new", "third"],
-                ErrorKind::UnknownArgument,
-            ),
-            (
-                &["l4sh", "follow", "trace", "--label"],
-                ErrorKind::InvalidValue,
-            ),
-            (
-                &["l4sh", "talk", "here", "there"],
-                ErrorKind::UnknownArgument,
-            ),
-            (
-                &["l4sh", "talk", "--thread", "2"],
-                ErrorKind::ValueValidation,
-            ),
-            (
-                &["l4sh", "talk", "here", "--thread", "1024"],
-                ErrorKind::ValueValidation,
-            ),
-            (
-                &["l4sh", "talk", "here", "--space", "0"],
-                ErrorKind::ValueValidation,
-            ),
-            (&["l4sh", "count"], ErrorKind::MissingRequiredArgument),
-            (
-                &["l4sh", "count", "trace", "--text"],
-                ErrorKind::UnknownArgument,
-            ),
-            (&["l4sh", "state"], ErrorKind::MissingRequiredArgument),
-            (
-                &["l4sh", "state", "--at", "7"],
-                ErrorKind::MissingRequiredArgument,
-            ),
-            (
-                &["l4sh", "state", "trace", "--at", "seven"],
-                ErrorKind::ValueValidation,
-            ),
-            (
-                &["l4sh", "state", "trace", "--at", "4294967296"],
-                ErrorKind::ValueValidation,
-            ),
-            (&["l4sh", "state", "trace", "--at"], ErrorKind::InvalidValue),
-            (
-                &["l4sh", "state", "trace", "--to", "7"],
-                ErrorKind::UnknownArgument,
-            ),
-            (&["l4sh", "state", "one", "two"], ErrorKind::UnknownArgument),
-            (&["l4sh", "script"], ErrorKind::MissingRequiredArgument),
-            (
-                &["l4sh", "script", "trace", "--at", "7"],
-                ErrorKind::UnknownArgument,
-            ),
-            (
-                &["l4sh", "script", "one", "two"],
-                ErrorKind::UnknownArgument,
-            ),
-            (&["l4sh", "explain"], ErrorKind::MissingRequiredArgument),
-            (&["l4sh", "explain", "K6", "K7"], ErrorKind::UnknownArgument),
-            (&["l4sh", "tag", "0x1", "--at"], ErrorKind::UnknownArgument),
-            (&["l4sh", "period"], ErrorKind::MissingRequiredArgument),
-            (&["l4sh", "period", "--help"], ErrorKind::DisplayHelp),
-        ];
-        assert_refused(&rt, rt.alloc(), &cases)
-    }
-
-    #[test]
-    fn refuses(rt: HostRuntime) -> Result<(), Fail> {
-        let cases: [(&[&str], ErrorKind); 19] = [
-            (&["l4sh", "--version"], ErrorKind::DisplayVersion),
-            (&["l4sh", "-V"], ErrorKind::DisplayVersion),
-            (&["l4sh", "run", "--version"], ErrorKind::UnknownArgument),
-            (
-                &["l4sh", "run", "--entries", "1048577"],
-                ErrorKind::ValueValidation,
-            ),
-            (
-                &["l4sh", "run", "--calls", "4294967296"],
-                ErrorKind::ValueValidation,
-            ),
-            (
-                &["l4sh", "run", "--entries", "ten"],
-                ErrorKind::ValueValidation,
-            ),
-            (&["l4sh", "run", "--entries"], ErrorKind::InvalidValue),
-            (&["l4sh", "run", "here"], ErrorKind::UnknownArgument),
-            (&["l4sh", "check"], ErrorKind::MissingRequiredArgument),
-            (&["l4sh", "check", "one", "two"], ErrorKind::UnknownArgument),
-            (
-                &["l4sh", "chart", "--text"],
-                ErrorKind::MissingRequiredArgument,
-            ),
-            (&["l4sh", "wire", "here"], ErrorKind::UnknownArgument),
-            (
-                &["l4sh", "wire", "--entries", "5"],
-                ErrorKind::UnknownArgument,
-            ),
-            (&["l4sh", "wire", "--help"], ErrorKind::DisplayHelp),
-            (&["l4sh", "walk"], ErrorKind::InvalidSubcommand),
-            (&["l4sh", "--entries", "10"], ErrorKind::UnknownArgument),
-            (&["l4sh"], ErrorKind::MissingSubcommand),
-            (&["l4sh", "--help"], ErrorKind::DisplayHelp),
-            (&["l4sh", "help"], ErrorKind::DisplayHelp),
-        ];
-        assert_refused(&rt, rt.alloc(), &cases)
-    }
-
-    #[test]
-    fn the_version_is_that_of_the_program(rt: HostRuntime) -> Result<(), Fail> {
-        let strings = words_of(rt.alloc(), &["l4sh", "--version"])?;
-        match shell_options(rt.alloc(), &strings) {
-            Ok(options) => assert!(rt; false, "{options:?}"),
-            Err(error) => {
-                let text = error.to_string(rt.alloc())?;
-                let expected = format!(in rt.alloc(); "l4sh {VERSION}\n")?;
-                same(&rt, text.as_str(), expected.as_str());
-            }
-        }
-        Ok(())
     }
 }

@@ -3,7 +3,7 @@ use clap::Error;
 use std::alloc::Global;
 use std::fs::File;
 use std::io;
-use std::path::PathBuf;
+use std::path::Path;
 use std::rt::Files;
 
 /// The version of `l4d` and `l4sh`, and the toolchain that they are proved with.
@@ -31,9 +31,23 @@ pub fn tell_version<R: Files + Alloc + Print>(
     }
 }
 
+/// What the file beside this program says.
 fn commit<R: Files + Alloc>(rt: &R, alloc: Global) -> Option<String> {
     let program = std::env::current_exe(rt).ok()?;
-    let beside = program.parent()?.join(alloc, COMMIT).ok()?;
-    let file = File::open(rt, &beside).ok()?;
+    let commit = commit_beside(rt, alloc, program.as_path());
+    drop(program);
+    commit
+}
+
+fn commit_beside<R: Files>(rt: &R, alloc: Global, program: Path<'_>) -> Option<String> {
+    let file = program.parent()?.join(alloc, COMMIT).ok()?;
+    let commit = text_of(rt, alloc, file.as_path());
+    drop(file);
+    commit
+}
+
+/// The text of a file.
+fn text_of<R: Files>(rt: &R, alloc: Global, path: Path<'_>) -> Option<String> {
+    let file = File::open(rt, path).ok()?;
     io::read_to_string(alloc, file).ok()
 }

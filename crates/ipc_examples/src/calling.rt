@@ -9,7 +9,7 @@ use ipc_words::ThreadId;
 use std::alloc::Global;
 
 /// Who is asked.
-#[derive(Clone, Copy, PartialEq, Eq, Debug)]
+#[derive(Clone, Copy)]
 pub enum Server {
     /// Thread 1 itself.
     KeyValue,
@@ -36,7 +36,7 @@ impl Server {
 }
 
 /// How a server is looked for.
-#[derive(Clone, Copy, PartialEq, Eq, Debug)]
+#[derive(Clone, Copy)]
 pub enum Search {
     /// By its thread number.
     Number,

@@ -1,10 +1,9 @@
 //! Where a thread is: by its number, or by its name.
 use crate::messages::{code_of, next_of};
-use crate::names::{Standing, name_buffer, put_name, standing_of};
+use crate::names::{Standing, message_with_name, name_buffer, standing_of};
 use crate::naming::{LOOK_UP, NAMES_NUMBER, NameError, REGISTER};
 use crate::trouble::Trouble;
-use ipc_client::{Client, Message, Timeout};
-use ipc_items::StringList;
+use ipc_client::{Answer, Client, Message, Received, Timeout};
 use ipc_ports::{PortRead, PortWrite};
 use ipc_words::ThreadId;
 use std::alloc::Global;
@@ -19,14 +18,25 @@ pub fn live_thread<I: PortRead, O: PortWrite>(
     number: u16,
 ) -> Result<Option<ThreadId>, Trouble> {
     for version in 1..=MAX_VERSION {
-        if let Some(thread) = ThreadId::global(u32::from(number), version) {
-            match standing_of(alloc, client, thread)? {
-                Standing::Ended => {}
-                Standing::Live | Standing::Asks(_) => return Ok(Some(thread)),
-            }
+        if let Some(thread) = ThreadId::global(u32::from(number), version)
+            && is_live(alloc, client, thread)?
+        {
+            return Ok(Some(thread));
         }
     }
     Ok(None)
+}
+
+// Whether a thread is live. A request of it that is taken meanwhile is dropped.
+fn is_live<I: PortRead, O: PortWrite>(
+    alloc: Global,
+    client: &mut Client<I, O>,
+    thread: ThreadId,
+) -> Result<bool, Trouble> {
+    let standing = standing_of(alloc, client, thread)?;
+    let has_ended = matches!(&standing, Standing::Ended);
+    drop(standing);
+    Ok(!has_ended)
 }
 
 /// Registers a name as the own thread.
@@ -63,15 +73,44 @@ fn ask<I: PortRead, O: PortWrite>(
     let Some(server) = live_thread(alloc, client, NAMES_NUMBER)? else {
         return Err(Trouble::NoNames);
     };
-    let mut strings = StringList::new(alloc);
-    put_name(alloc, &mut strings, name.as_bytes())?;
-    let request = Message::of(alloc, label, &[], &strings)?;
+    let request = message_with_name(alloc, label, &[], name.as_bytes())?;
+    thread_in(call(alloc, client, server, request)?)
+}
+
+// Sends a request, and waits for its answer.
+fn call<I: PortRead, O: PortWrite>(
+    alloc: Global,
+    client: &mut Client<I, O>,
+    server: ThreadId,
+    request: Message,
+) -> Result<Answer, Trouble> {
     let never = Timeout::never();
-    let answer = client.call(server, request, never, never, name_buffer(alloc)?)?;
+    match name_buffer(alloc) {
+        Ok(buffers) => Ok(client.call(server, request, never, never, buffers)?),
+        Err(trouble) => {
+            drop(request);
+            Err(trouble)
+        }
+    }
+}
+
+// The thread that an answer of the name server tells.
+fn thread_in(answer: Answer) -> Result<ThreadId, Trouble> {
     let code = code_of(&answer).unwrap_or(0);
     match next_of(answer)? {
-        Some(reply) if reply.label() == 0 => Ok(ThreadId::from_word(reply.word(0).unwrap_or(0))),
-        Some(reply) => Err(Trouble::Name(NameError::of_number(reply.label()))),
+        Some(reply) => {
+            let told = told_by(&reply);
+            drop(reply);
+            told
+        }
         None => Err(Trouble::Failed(code)),
+    }
+}
+
+// The same of its message.
+fn told_by(reply: &Received) -> Result<ThreadId, Trouble> {
+    match reply.label() {
+        0 => Ok(ThreadId::from_word(reply.word(0).unwrap_or(0))),
+        number => Err(Trouble::Name(NameError::of_number(number))),
     }
 }

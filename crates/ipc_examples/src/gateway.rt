@@ -1,6 +1,6 @@
 //! A gateway before the key-value server: passes each request on in the name of who asked, so that the server answers them itself.
 use crate::calling::{Search, Server, thread_of};
-use crate::messages::{message, message_of};
+use crate::messages::{Received, message, message_of};
 use crate::trouble::Trouble;
 use ipc_client::{Buffers, Client, Message, Timeout};
 use ipc_ports::{PortRead, PortWrite};
@@ -22,13 +22,18 @@ pub fn serve<I: PortRead, O: PortWrite, R: Wait>(
         let never = Timeout::never();
         let next = client.receive(ThreadId::ANYTHREAD, never, Buffers::none(alloc))?;
         if let Ok(request) = message_of(next)? {
-            let mut passed = message(alloc, request.label, &request.words)?;
-            passed.tag = passed.tag.with_propagated(true);
-            passed.sender = request.sender;
-            pass(alloc, client, search, passed)?;
+            pass(alloc, client, search, in_name_of_sender(alloc, request)?)?;
         }
     }
     Ok(())
+}
+
+// The message of a request in the name of who asked.
+fn in_name_of_sender(alloc: Global, request: Received) -> Result<Message, Trouble> {
+    let mut passed = message(alloc, request.label, &request.words)?;
+    passed.tag = passed.tag.with_propagated(true);
+    passed.sender = request.sender;
+    Ok(passed)
 }
 
 // Passes a message on to the key-value server. One that nobody takes is dropped.
@@ -43,7 +48,12 @@ fn pass<I: PortRead, O: PortWrite>(
             let _ = message_of(client.send(server, message, Timeout::never())?)?;
             Ok(())
         }
-        Err(Trouble::NoThread) => Ok(()),
-        Err(trouble) => Err(trouble),
+        Err(trouble) => {
+            drop(message);
+            match trouble {
+                Trouble::NoThread => Ok(()),
+                _ => Err(trouble),
+            }
+        }
     }
 }

@@ -1,7 +1,7 @@
 //! A server that keeps words by words.
 use crate::messages::{Received, message, message_of};
 use crate::trouble::Trouble;
-use ipc_client::{Buffers, Client, Message, Timeout};
+use ipc_client::{Answer, Buffers, Client, Message, Timeout};
 use ipc_ports::{PortRead, PortWrite};
 use ipc_words::ThreadId;
 use std::alloc::Global;
@@ -27,23 +27,39 @@ pub fn serve<I: PortRead, O: PortWrite, R: Wait>(
     client: &mut Client<I, O>,
 ) -> Result<(), Trouble> {
     let mut table = BTreeMap::new(alloc);
+    let served = serve_from(rt, alloc, client, &mut table);
+    drop(table);
+    served
+}
+
+/// The same from a table that is kept.
+fn serve_from<I: PortRead, O: PortWrite, R: Wait>(
+    rt: &R,
+    alloc: Global,
+    client: &mut Client<I, O>,
+    table: &mut BTreeMap<u64, u64>,
+) -> Result<(), Trouble> {
     let mut waiting = None;
     for _ in rt.forever() {
         let next = match waiting {
-            Some(request) => {
-                let answer = answer(alloc, &mut table, request)?;
-                client.reply_wait(
-                    request.sender,
-                    answer,
-                    Timeout::never(),
-                    Buffers::none(alloc),
-                )?
-            }
+            Some(request) => answer_and_wait(alloc, client, table, request)?,
             None => client.receive(ThreadId::ANYTHREAD, Timeout::never(), Buffers::none(alloc))?,
         };
         waiting = message_of(next)?.ok();
     }
     Ok(())
+}
+
+/// Answers a request, and receives the next one.
+fn answer_and_wait<I: PortRead, O: PortWrite>(
+    alloc: Global,
+    client: &mut Client<I, O>,
+    table: &mut BTreeMap<u64, u64>,
+    request: Received,
+) -> Result<Answer, Trouble> {
+    let answer = answer(alloc, table, request)?;
+    let buffers = Buffers::none(alloc);
+    Ok(client.reply_wait(request.sender, answer, Timeout::never(), buffers)?)
 }
 
 /// The answer to a request.

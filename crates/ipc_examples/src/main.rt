@@ -34,29 +34,50 @@ use trouble::{Trouble, USAGE};
 
 fn main(rt: HostRuntime) -> io::Result<ExitCode> {
     let alloc = rt.alloc();
-    let Ok(words) = std::env::args(&rt) else {
-        return ended(&rt, &Trouble::NoMemory);
-    };
-    let Ok(words) = words.collect::<Vec<String>>(alloc) else {
-        return ended(&rt, &Trouble::NoMemory);
-    };
-    if let [_, word] = words.as_slice()
-        && word.as_str() == "--help"
-    {
+    match words_of(&rt, alloc) {
+        Some(words) => obey_words(&rt, alloc, &words),
+        None => ended(&rt, &Trouble::NoMemory),
+    }
+}
+
+/// The words that the program was started with. None where they cannot be had.
+fn words_of(rt: &HostRuntime, alloc: Global) -> Option<Vec<String>> {
+    let words = std::env::args(rt).ok()?;
+    words.collect::<Vec<String>>(alloc).ok()
+}
+
+/// Does what the words ask for, and answers the status of the program.
+fn obey_words<R: Net + Wait + Print + Eprint>(
+    rt: &R,
+    alloc: Global,
+    words: &[String],
+) -> io::Result<ExitCode> {
+    if ask_for_help(words) {
         println!(rt; "{USAGE}")?;
         return Ok(ExitCode::from(0));
     }
-    let Some(task) = Task::of(words.as_slice()) else {
-        return ended(&rt, &Trouble::Usage);
-    };
-    let stream = match connect(&rt, alloc, task.dir) {
-        Ok(stream) => stream,
-        Err(trouble) => return ended(&rt, &trouble),
-    };
-    match start::<Brand, Brand, _>(&rt, alloc, &stream, task, Blank::new(1), Blank::new(1)) {
+    match obey(rt, alloc, words) {
         Ok(()) => Ok(ExitCode::from(0)),
-        Err(trouble) => ended(&rt, &trouble),
+        Err(trouble) => ended(rt, &trouble),
     }
+}
+
+/// Whether they ask for help, and for nothing else.
+fn ask_for_help(words: &[String]) -> bool {
+    match words {
+        [_, word] => word.as_str() == "--help",
+        _ => false,
+    }
+}
+
+/// Plays the role that the words name, over a connection of its own.
+fn obey<R: Net + Wait + Print>(rt: &R, alloc: Global, words: &[String]) -> Result<(), Trouble> {
+    let task = Task::of(words).ok_or(Trouble::Usage)?;
+    let stream = connect(rt, alloc, task.dir)?;
+    let (reads, writes) = (Blank::new(1), Blank::new(1));
+    let played = start::<Brand, Brand, _>(rt, alloc, &stream, task, reads, writes);
+    drop(stream);
+    played
 }
 
 /// Connects to the first space of a server.
@@ -97,34 +118,69 @@ fn play<I: PortRead, O: PortWrite, R: Wait + Print>(
     client: &mut Client<I, O>,
     task: Task<'_>,
 ) -> Result<(), Trouble> {
-    let Task { role, search, .. } = task;
-    let own = messages::greet(client, role.number())?;
-    match role {
-        Role::KeyValue => {
-            announce(alloc, client, Server::KeyValue, search)?;
-            keyvalue::serve(rt, alloc, client)?;
-        }
-        Role::Gateway => {
-            announce(alloc, client, Server::Gateway, search)?;
-            gateway::serve(rt, alloc, client, search)?;
-        }
+    let own = messages::greet(client, task.role.number())?;
+    perform(rt, alloc, client, own, task)?;
+    client.bye()?;
+    Ok(())
+}
+
+/// Does what a role does between HELLO and BYE.
+fn perform<I: PortRead, O: PortWrite, R: Wait + Print>(
+    rt: &R,
+    alloc: Global,
+    client: &mut Client<I, O>,
+    own: ThreadId,
+    task: Task<'_>,
+) -> Result<(), Trouble> {
+    let search = task.search;
+    match task.role {
+        Role::KeyValue => serve_words(rt, alloc, client, search),
+        Role::Gateway => pass_on(rt, alloc, client, search),
         Role::Put { key, value, server } => {
             let server = calling::thread_of(alloc, client, server, search)?;
-            calling::put(alloc, client, server, key, value)?;
+            calling::put(alloc, client, server, key, value)
         }
         Role::Get { key, server } => {
             let server = calling::thread_of(alloc, client, server, search)?;
-            say_word(rt, calling::get(alloc, client, server, key)?)?;
+            say_word(rt, calling::get(alloc, client, server, key)?)
         }
-        Role::Sleep(micros) => sleeper::sleep(alloc, client, own, micros)?,
-        Role::Names => {
-            say_names(rt, own)?;
-            names::serve(rt, alloc, client)?;
-        }
-        Role::LookUp(name) => say_thread(rt, finding::look_up(alloc, client, name)?)?,
+        Role::Sleep(micros) => sleeper::sleep(alloc, client, own, micros),
+        Role::Names => serve_names(rt, alloc, client, own),
+        Role::LookUp(name) => say_thread(rt, finding::look_up(alloc, client, name)?),
     }
-    client.bye()?;
-    Ok(())
+}
+
+/// The key-value server.
+fn serve_words<I: PortRead, O: PortWrite, R: Wait>(
+    rt: &R,
+    alloc: Global,
+    client: &mut Client<I, O>,
+    search: Search,
+) -> Result<(), Trouble> {
+    announce(alloc, client, Server::KeyValue, search)?;
+    keyvalue::serve(rt, alloc, client)
+}
+
+/// The gateway.
+fn pass_on<I: PortRead, O: PortWrite, R: Wait>(
+    rt: &R,
+    alloc: Global,
+    client: &mut Client<I, O>,
+    search: Search,
+) -> Result<(), Trouble> {
+    announce(alloc, client, Server::Gateway, search)?;
+    gateway::serve(rt, alloc, client, search)
+}
+
+/// The name server.
+fn serve_names<I: PortRead, O: PortWrite, R: Wait + Print>(
+    rt: &R,
+    alloc: Global,
+    client: &mut Client<I, O>,
+    own: ThreadId,
+) -> Result<(), Trouble> {
+    say_names(rt, own)?;
+    names::serve(rt, alloc, client)
 }
 
 /// Registers a server under its name, where servers are looked for by names.

@@ -7,7 +7,7 @@ use ipc_words::ThreadId;
 use std::alloc::Global;
 
 /// A message that was received: at most two of its words.
-#[derive(Clone, Copy, PartialEq, Eq, Debug)]
+#[derive(Clone, Copy)]
 pub struct Received {
     /// Who is shown as its sender.
     pub sender: ThreadId,
@@ -30,22 +30,14 @@ pub fn greet<I: PortRead, O: PortWrite>(
 
 /// The message that a call brought, or the ErrorCode of a call that failed.
 pub fn message_of(answer: Answer) -> Result<Result<Received, u64>, Trouble> {
-    match answer {
-        Answer::Outcome(outcome) if outcome.tag().has_failed() => {
-            Ok(Err(outcome.error().to_word()))
+    let code = code_of(&answer).unwrap_or(0);
+    match next_of(answer)? {
+        Some(message) => {
+            let received = words_of(&message);
+            drop(message);
+            Ok(Ok(received))
         }
-        Answer::Outcome(outcome) => {
-            let words = outcome.words();
-            Ok(Ok(Received {
-                sender: outcome.sender(),
-                label: outcome.tag().label(),
-                words: [
-                    words.first().copied().unwrap_or(0),
-                    words.get(1).copied().unwrap_or(0),
-                ],
-            }))
-        }
-        Answer::Refused(number) => Err(Trouble::Refused(number)),
+        None => Ok(Err(code)),
     }
 }
 
@@ -54,6 +46,15 @@ pub fn code_of(answer: &Answer) -> Option<u64> {
     match answer {
         Answer::Outcome(outcome) if outcome.tag().has_failed() => Some(outcome.error().to_word()),
         _ => None,
+    }
+}
+
+// What these examples look at of a message.
+fn words_of(message: &ipc_client::Received) -> Received {
+    Received {
+        sender: message.sender(),
+        label: message.label(),
+        words: [message.word(0).unwrap_or(0), message.word(1).unwrap_or(0)],
     }
 }
 
@@ -68,5 +69,8 @@ pub fn next_of(answer: Answer) -> Result<Option<ipc_client::Received>, Trouble> 
 
 /// A message of words alone.
 pub fn message(alloc: Global, label: u64, words: &[u64]) -> Result<Message, Trouble> {
-    Ok(Message::of(alloc, label, words, &StringList::new(alloc))?)
+    let strings = StringList::new(alloc);
+    let message = Message::of(alloc, label, words, &strings);
+    drop(strings);
+    Ok(message?)
 }

@@ -1,9 +1,9 @@
 //! A name server: who has a name. docs/NAMES.md has its words.
-use crate::messages::{code_of, next_of};
+use crate::messages::{code_of, message, next_of};
 use crate::naming::{NameError, Reply, Request};
 use crate::table::{MAX_NAME_BYTES, MAX_NAMES, Name, Table};
 use crate::trouble::Trouble;
-use ipc_client::{Buffers, Client, Message, Received, Timeout};
+use ipc_client::{Answer, Buffers, Client, Message, Received, Timeout};
 use ipc_items::StringList;
 use ipc_ports::{PortRead, PortWrite};
 use ipc_words::ThreadId;
@@ -40,17 +40,37 @@ pub fn serve<I: PortRead, O: PortWrite, R: Wait>(
     client: &mut Client<I, O>,
 ) -> Result<(), Trouble> {
     let mut table = Table::new(alloc);
+    let served = serve_from(rt, alloc, client, &mut table);
+    drop(table);
+    served
+}
+
+// The same from a table that is kept.
+fn serve_from<I: PortRead, O: PortWrite, R: Wait>(
+    rt: &R,
+    alloc: Global,
+    client: &mut Client<I, O>,
+    table: &mut Table,
+) -> Result<(), Trouble> {
     let mut waiting = None;
     for _ in rt.forever() {
         waiting = match waiting {
-            Some(request) => turn(alloc, client, &mut table, request)?,
-            None => {
-                let buffers = name_buffer(alloc)?;
-                next_of(client.receive(ThreadId::ANYTHREAD, Timeout::never(), buffers)?)?
-            }
+            Some(request) => turn(alloc, client, table, request)?,
+            None => receive_from(alloc, client, ThreadId::ANYTHREAD, Timeout::never())?,
         };
     }
+    drop(waiting);
     Ok(())
+}
+
+// A request that a sender makes, received within this time.
+fn receive_from<I: PortRead, O: PortWrite>(
+    alloc: Global,
+    client: &mut Client<I, O>,
+    sender: ThreadId,
+    wait: Timeout,
+) -> Result<Option<Received>, Trouble> {
+    next_of(client.receive(sender, wait, name_buffer(alloc)?)?)
 }
 
 /// Answers a request. The next one is that which was taken meanwhile, or the next that comes.
@@ -61,14 +81,58 @@ pub fn turn<I: PortRead, O: PortWrite>(
     request: Received,
 ) -> Result<Option<Received>, Trouble> {
     let sender = request.sender();
-    let Served { reply, next } = serve_request(alloc, client, table, &request)?;
-    let reply = message_of(alloc, &reply)?;
-    if next.is_some() {
-        let _ = next_of(client.send(sender, reply, Timeout::zero())?)?;
-        return Ok(next);
+    let served = serve_request(alloc, client, table, &request);
+    drop(request);
+    let Served { reply, next } = served?;
+    let message = message_of(alloc, &reply);
+    drop(reply);
+    match next {
+        Some(next) => answer_meanwhile(client, sender, message, next),
+        None => answer_and_wait(alloc, client, sender, message?),
     }
-    let buffers = name_buffer(alloc)?;
-    next_of(client.reply_wait(sender, reply, Timeout::never(), buffers)?)
+}
+
+// Answers while the next request is there already, which is given back.
+fn answer_meanwhile<I: PortRead, O: PortWrite>(
+    client: &mut Client<I, O>,
+    sender: ThreadId,
+    message: Result<Message, Trouble>,
+    next: Received,
+) -> Result<Option<Received>, Trouble> {
+    match send_at_once(client, sender, message) {
+        Ok(()) => Ok(Some(next)),
+        Err(trouble) => {
+            drop(next);
+            Err(trouble)
+        }
+    }
+}
+
+// Sends a message to a thread that waits for it. One that does not gets none.
+fn send_at_once<I: PortRead, O: PortWrite>(
+    client: &mut Client<I, O>,
+    to: ThreadId,
+    message: Result<Message, Trouble>,
+) -> Result<(), Trouble> {
+    let answer = client.send(to, message?, Timeout::zero())?;
+    drop(next_of(answer)?);
+    Ok(())
+}
+
+// Answers, and receives the next request.
+fn answer_and_wait<I: PortRead, O: PortWrite>(
+    alloc: Global,
+    client: &mut Client<I, O>,
+    sender: ThreadId,
+    message: Message,
+) -> Result<Option<Received>, Trouble> {
+    match name_buffer(alloc) {
+        Ok(buffers) => next_of(client.reply_wait(sender, message, Timeout::never(), buffers)?),
+        Err(trouble) => {
+            drop(message);
+            Err(trouble)
+        }
+    }
 }
 
 /// One string of the length of a name.
@@ -76,8 +140,8 @@ pub fn name_buffer(alloc: Global) -> Result<Buffers, Trouble> {
     Ok(Buffers::bytes(alloc, MAX_NAME_BYTES as u64)?)
 }
 
-/// Puts a name into the strings of a message.
-pub fn put_name(alloc: Global, strings: &mut StringList, name: &[u8]) -> Result<(), Trouble> {
+// Puts a name into the strings of a message.
+fn put_name(alloc: Global, strings: &mut StringList, name: &[u8]) -> Result<(), Trouble> {
     match strings.push(alloc, name) {
         Ok(true) => Ok(()),
         Ok(false) => Err(Trouble::LongMessage),
@@ -87,11 +151,28 @@ pub fn put_name(alloc: Global, strings: &mut StringList, name: &[u8]) -> Result<
 
 // The message of a reply.
 fn message_of(alloc: Global, reply: &Reply) -> Result<Message, Trouble> {
-    let mut strings = StringList::new(alloc);
-    if let Some(name) = &reply.name {
-        put_name(alloc, &mut strings, name.as_slice())?;
+    let thread = reply.thread.to_word();
+    match &reply.name {
+        Some(name) => message_with_name(alloc, reply.label, &[thread], name.as_slice()),
+        None => message(alloc, reply.label, &[thread]),
     }
-    Ok(Message::of(alloc, reply.label, &[reply.thread.to_word()], &strings)?)
+}
+
+/// A message of words and a name.
+pub fn message_with_name(
+    alloc: Global,
+    label: u64,
+    words: &[u64],
+    name: &[u8],
+) -> Result<Message, Trouble> {
+    let mut strings = StringList::new(alloc);
+    let put = put_name(alloc, &mut strings, name);
+    let message = match put {
+        Ok(()) => Message::of(alloc, label, words, &strings).map_err(Trouble::from),
+        Err(trouble) => Err(trouble),
+    };
+    drop(strings);
+    message
 }
 
 /// Asks the kernel whether a thread is live: a closed receive from it, with zero time.
@@ -102,13 +183,16 @@ pub fn standing_of<I: PortRead, O: PortWrite>(
     client: &mut Client<I, O>,
     thread: ThreadId,
 ) -> Result<Standing, Trouble> {
-    let buffers = name_buffer(alloc)?;
-    let answer = client.receive(thread, Timeout::zero(), buffers)?;
-    if code_of(&answer) == Some(GONE) {
-        return Ok(Standing::Ended);
-    }
+    let answer = client.receive(thread, Timeout::zero(), name_buffer(alloc)?)?;
+    standing_by(answer)
+}
+
+// What the outcome of such a receive says.
+fn standing_by(answer: Answer) -> Result<Standing, Trouble> {
+    let is_gone = code_of(&answer) == Some(GONE);
     match next_of(answer)? {
         Some(request) => Ok(Standing::Asks(request)),
+        None if is_gone => Ok(Standing::Ended),
         None => Ok(Standing::Live),
     }
 }
@@ -122,8 +206,8 @@ fn serve_request<I: PortRead, O: PortWrite>(
 ) -> Result<Served, Trouble> {
     match Request::of(alloc, message) {
         Ok(Request::Register(name)) => register(alloc, client, table, name, message.sender()),
-        Ok(Request::LookUp(name)) => look_up(alloc, client, table, &name),
-        Ok(Request::List(after)) => list(alloc, client, table, after.as_slice()),
+        Ok(Request::LookUp(name)) => look_up(alloc, client, table, name),
+        Ok(Request::List(after)) => list(alloc, client, table, after),
         Err(error) => Ok(refused(error, ThreadId::NILTHREAD, None)),
     }
 }
@@ -151,9 +235,23 @@ fn register<I: PortRead, O: PortWrite>(
     name: Name,
     sender: ThreadId,
 ) -> Result<Served, Trouble> {
-    let Some(place) = table.find(name.as_slice()) else {
-        return add(alloc, client, table, name, sender);
-    };
+    match table.find(name.as_slice()) {
+        Some(place) => {
+            drop(name);
+            take_over(alloc, client, table, place, sender)
+        }
+        None => add(alloc, client, table, name, sender),
+    }
+}
+
+// Gives a name that is there to a sender, unless another live thread has it.
+fn take_over<I: PortRead, O: PortWrite>(
+    alloc: Global,
+    client: &mut Client<I, O>,
+    table: &mut Table,
+    place: usize,
+    sender: ThreadId,
+) -> Result<Served, Trouble> {
     let holder = table.thread_at(place).unwrap_or(sender);
     if holder == sender {
         return Ok(told(sender, None));
@@ -176,16 +274,42 @@ fn add<I: PortRead, O: PortWrite>(
     name: Name,
     sender: ThreadId,
 ) -> Result<Served, Trouble> {
-    if table.is_full() {
-        let next = make_room(alloc, client, table)?;
-        if table.is_full() {
-            return Ok(refused(NameError::Full, ThreadId::NILTHREAD, next));
+    match refusal_where_full(alloc, client, table) {
+        Ok(None) => Ok(put_into(table, name, sender)),
+        Ok(Some(refusal)) => {
+            drop(name);
+            Ok(refusal)
+        }
+        Err(trouble) => {
+            drop(name);
+            Err(trouble)
         }
     }
+}
+
+// Puts a name that is not there into a table that has room.
+fn put_into(table: &mut Table, name: Name, sender: ThreadId) -> Served {
     match table.add(name, sender) {
-        Ok(()) => Ok(told(sender, None)),
-        Err(_) => Ok(refused(NameError::NoMemory, ThreadId::NILTHREAD, None)),
+        Ok(()) => told(sender, None),
+        Err(_) => refused(NameError::NoMemory, ThreadId::NILTHREAD, None),
     }
+}
+
+// The refusal of one more name, where the table is full of names of live threads. Without one there is room.
+fn refusal_where_full<I: PortRead, O: PortWrite>(
+    alloc: Global,
+    client: &mut Client<I, O>,
+    table: &mut Table,
+) -> Result<Option<Served>, Trouble> {
+    if !table.is_full() {
+        return Ok(None);
+    }
+    let next = make_room(alloc, client, table)?;
+    if table.is_full() {
+        return Ok(Some(refused(NameError::Full, ThreadId::NILTHREAD, next)));
+    }
+    drop(next);
+    Ok(None)
 }
 
 // Drops the first name whose thread has ended. The search ends where a request is taken.
@@ -214,11 +338,23 @@ fn look_up<I: PortRead, O: PortWrite>(
     alloc: Global,
     client: &mut Client<I, O>,
     table: &mut Table,
-    name: &Name,
+    name: Name,
 ) -> Result<Served, Trouble> {
-    let Some(place) = table.find(name.as_slice()) else {
-        return Ok(told(ThreadId::NILTHREAD, None));
-    };
+    let found = table.find(name.as_slice());
+    drop(name);
+    match found {
+        Some(place) => tell(alloc, client, table, place),
+        None => Ok(told(ThreadId::NILTHREAD, None)),
+    }
+}
+
+// The thread at a place, if it is live.
+fn tell<I: PortRead, O: PortWrite>(
+    alloc: Global,
+    client: &mut Client<I, O>,
+    table: &mut Table,
+    place: usize,
+) -> Result<Served, Trouble> {
     let thread = table.thread_at(place).unwrap_or(ThreadId::NILTHREAD);
     match standing_of(alloc, client, thread)? {
         Standing::Ended => {
@@ -232,6 +368,17 @@ fn look_up<I: PortRead, O: PortWrite>(
 
 // The first name after these bytes whose thread is live.
 fn list<I: PortRead, O: PortWrite>(
+    alloc: Global,
+    client: &mut Client<I, O>,
+    table: &mut Table,
+    after: Vec<u8>,
+) -> Result<Served, Trouble> {
+    let listed = list_after(alloc, client, table, after.as_slice());
+    drop(after);
+    listed
+}
+
+fn list_after<I: PortRead, O: PortWrite>(
     alloc: Global,
     client: &mut Client<I, O>,
     table: &mut Table,
@@ -258,17 +405,12 @@ fn listed(
     place: usize,
     next: Option<Received>,
 ) -> Result<Served, Trouble> {
-    let mut bytes = Vec::new(alloc);
-    if bytes
-        .extend_from_slice(table.name_at(place).unwrap_or(&[]))
-        .is_err()
-    {
-        return Ok(refused(NameError::NoMemory, ThreadId::NILTHREAD, next));
+    let thread = table.thread_at(place).unwrap_or(ThreadId::NILTHREAD);
+    match table.name_at(place).unwrap_or(&[]).to_vec(alloc) {
+        Ok(name) => Ok(Served {
+            reply: Reply::named(thread, name),
+            next,
+        }),
+        Err(_) => Ok(refused(NameError::NoMemory, ThreadId::NILTHREAD, next)),
     }
-    let reply = Reply {
-        label: 0,
-        thread: table.thread_at(place).unwrap_or(ThreadId::NILTHREAD),
-        name: Some(bytes),
-    };
-    Ok(Served { reply, next })
 }

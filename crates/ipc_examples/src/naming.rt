@@ -18,7 +18,7 @@ pub const LOOK_UP: u64 = 2;
 pub const LIST: u64 = 3;
 
 /// Why a request is not done.
-#[derive(Clone, Copy, PartialEq, Eq, Debug)]
+#[derive(Clone, Copy)]
 pub enum NameError {
     /// It is none of the requests, or has other words or strings.
     BadRequest,
@@ -82,21 +82,42 @@ pub enum Request {
 impl Request {
     /// The request that a message makes.
     pub fn of(alloc: Global, message: &Received) -> Result<Request, NameError> {
-        let Ok(mut strings) = message.strings(alloc) else {
-            return Err(NameError::NoMemory);
-        };
-        let (Some(string), true, 0) = (strings.pop(), strings.is_empty(), message.words().len())
-        else {
-            return Err(NameError::BadRequest);
-        };
+        let string = only_string(alloc, message)?;
         match message.label() {
             REGISTER => Ok(Request::Register(named(string)?)),
             LOOK_UP => Ok(Request::LookUp(named(string)?)),
-            LIST if string.is_empty() => Ok(Request::List(string)),
-            LIST => Ok(Request::List(named(string)?.into_bytes())),
-            _ => Err(NameError::BadRequest),
+            LIST => Ok(Request::List(start_of(string)?)),
+            _ => {
+                drop(string);
+                Err(NameError::BadRequest)
+            }
         }
     }
+}
+
+// The string of a message that has just one, and no words.
+fn only_string(alloc: Global, message: &Received) -> Result<Vec<u8>, NameError> {
+    let Ok(mut strings) = message.strings(alloc) else {
+        return Err(NameError::NoMemory);
+    };
+    let is_alone = strings.len() == 1 && message.words().is_empty();
+    let string = strings.pop();
+    drop(strings);
+    match string {
+        Some(string) if is_alone => Ok(string),
+        string => {
+            drop(string);
+            Err(NameError::BadRequest)
+        }
+    }
+}
+
+// Where a list begins: behind a name, or behind nothing.
+fn start_of(string: Vec<u8>) -> Result<Vec<u8>, NameError> {
+    if string.is_empty() {
+        return Ok(string);
+    }
+    Ok(named(string)?.into_bytes())
 }
 
 // The name of a string.
@@ -122,6 +143,15 @@ impl Reply {
             label: 0,
             thread,
             name: None,
+        }
+    }
+
+    /// A name and its thread.
+    pub fn named(thread: ThreadId, name: Vec<u8>) -> Reply {
+        Reply {
+            label: 0,
+            thread,
+            name: Some(name),
         }
     }
 

@@ -3,7 +3,7 @@ use crate::calling::{Search, Server};
 use crate::naming::NAMES_NUMBER;
 
 /// What a process is, and what it wants. Numbers are decimal.
-#[derive(Clone, Copy, PartialEq, Eq, Debug)]
+#[derive(Clone, Copy)]
 pub enum Role<'a> {
     /// Thread 1: keeps words by words.
     KeyValue,
@@ -34,7 +34,7 @@ pub enum Role<'a> {
 }
 
 /// What a command line asks for.
-#[derive(Clone, Copy, PartialEq, Eq, Debug)]
+#[derive(Clone, Copy)]
 pub struct Task<'a> {
     /// The folder of the server.
     pub dir: &'a str,

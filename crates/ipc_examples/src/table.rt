@@ -17,9 +17,11 @@ pub struct Name {
 impl Name {
     /// The name of these bytes, where they make one.
     pub fn of(bytes: Vec<u8>) -> Option<Name> {
-        let is_name = (1..=MAX_NAME_BYTES).contains(&bytes.len())
-            && bytes.iter().all(|byte| byte.is_ascii_graphic());
-        if is_name { Some(Name { bytes }) } else { None }
+        if is_name(&bytes) {
+            return Some(Name { bytes });
+        }
+        drop(bytes);
+        None
     }
 
     /// Its bytes.
@@ -31,6 +33,11 @@ impl Name {
     pub fn as_slice(&self) -> &[u8] {
         self.bytes.as_slice()
     }
+}
+
+// Whether these bytes make a name.
+fn is_name(bytes: &[u8]) -> bool {
+    (1..=MAX_NAME_BYTES).contains(&bytes.len()) && bytes.iter().all(|byte| byte.is_ascii_graphic())
 }
 
 /// A name and its thread.
@@ -115,7 +122,7 @@ impl Table {
     /// Drops the name at a place.
     pub fn drop_at(&mut self, place: usize) {
         if place < self.entries.len() {
-            let _ = self.entries.remove(place);
+            drop(self.entries.remove(place));
         }
     }
 }

@@ -18,7 +18,7 @@ With --names as the last word a server registers as keyvalue or gateway, and who
 Without it a server is looked for by its thread number.";
 
 /// Why a role ends before its work is done.
-#[derive(Clone, Copy, PartialEq, Eq, Debug)]
+#[derive(Clone, Copy)]
 pub enum Trouble {
     /// The words of the command line name no role.
     Usage,

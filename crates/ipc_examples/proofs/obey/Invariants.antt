@@ -1,4 +1,4 @@
-use Rattle.ipc_examples.proofs.main.Given as goal
+use Rattle.ipc_examples.proofs.obey.Given as goal
 
 abbrev pub ghosts-start-L-Ledger : goal.ghosts-start-L-Ledger
 ghosts-start-L-Ledger g a = record { name = a.reads.name; parts = a.reads.parts }

@@ -7,15 +7,11 @@ mod building;
 mod client;
 mod device;
 mod error;
-#[cfg(test)]
-mod examples;
 mod laws;
 mod message;
 mod message_fault;
 mod reading;
 mod received;
-#[cfg(test)]
-mod tests;
 mod timeout;
 mod writing;
 

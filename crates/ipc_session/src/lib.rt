@@ -13,8 +13,6 @@ mod next;
 mod reading;
 mod serving;
 mod taking;
-#[cfg(test)]
-mod tests;
 mod turned;
 mod working;
 mod writing;

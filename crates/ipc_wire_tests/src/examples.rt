@@ -1,6 +1,7 @@
-// The server and the client of the README, over ports in memory.
-use super::*;
-use crate::tests::{holds, next_call, same};
+// The server and the client of the README of ipc_client, over ports in memory.
+use crate::client::next_call;
+use crate::comparing::{holds, same};
+use ipc_client::{Buffers, Client, Message, Received, Timeout, read_frame};
 use ipc_frame::{Frame, Side};
 use ipc_items::{StringList, Substring};
 use ipc_ports::{MemoryPort, PortRead, PortWrite};

@@ -1,23 +1,13 @@
-use super::*;
+// The client over ports in memory.
+use crate::comparing::{holds, same};
+use ipc_client::{
+    Answer, Buffers, Client, ClientError, Greeting, Message, Registers, Timeout, read_frame,
+};
 use ipc_frame::{CallEnd, Frame, FrameFault, IpcFrame, IpcrFrame, Side, WireVersion};
 use ipc_ports::{MemoryPort, PortRead, PortWrite, Trouble};
 use ipc_words::{Control, MsgTag, Period, ThreadId};
 use std::alloc::Global;
-use std::fmt::Debug;
 use std::process::Abort;
-
-// A test is a row of calls of the small functions here. They say nothing of what they give, so the tests carry no facts of the client,
-// and they fail the test themselves, so no exit opens in the tests.
-
-// Fails the test where the two differ.
-pub(crate) fn same<T: PartialEq + Debug + Drop>(rt: &impl Abort, left: T, right: T) {
-    assert_eq!(*rt; left, right);
-}
-
-// Fails the test where this is not so.
-pub(crate) fn holds(rt: &impl Abort, is_so: bool) {
-    assert!(*rt; is_so);
-}
 
 // HELLO 2
 const HELLO: [u8; 7] = [0, 0, 0, 3, 0x01, 0, 2];

@@ -1,0 +1,11 @@
+//! Tests of what goes over connections: of the client, the exchange and the sessions, alone and together.
+#![tactic(auto)]
+
+#[cfg(test)]
+mod client;
+#[cfg(test)]
+mod comparing;
+#[cfg(test)]
+mod examples;
+#[cfg(test)]
+mod session;

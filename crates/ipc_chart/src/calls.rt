@@ -15,7 +15,7 @@ pub enum Wait {
 }
 
 /// An open call, as far as a chart speaks of it.
-#[derive(Clone, Copy, PartialEq, Eq, Debug)]
+#[derive(Clone, Copy)]
 pub(crate) struct OpenCall {
     /// The place of the entry that enters it, from 0.
     pub(crate) place: usize,

@@ -35,7 +35,7 @@ pub enum Mark {
 }
 
 /// What an entry shows.
-#[derive(Clone, Copy, PartialEq, Eq, Debug)]
+#[derive(Clone, Copy)]
 pub(crate) struct Event {
     /// The mark.
     pub(crate) mark: Mark,
@@ -93,14 +93,14 @@ impl Event {
 }
 
 /// What a thread waits for from then on.
-#[derive(Clone, Copy, PartialEq, Eq, Debug)]
+#[derive(Clone, Copy)]
 pub(crate) struct Change {
     pub(crate) thread: ThreadId,
     pub(crate) wait: Wait,
 }
 
 /// The threads whose waits change by an entry, two at most.
-#[derive(Clone, Copy, PartialEq, Eq, Debug)]
+#[derive(Clone, Copy)]
 pub(crate) struct Changes {
     pub(crate) first: Option<Change>,
     pub(crate) second: Option<Change>,
@@ -114,7 +114,7 @@ impl Changes {
 }
 
 /// What an entry shows, and what its threads wait for behind it.
-#[derive(Clone, Copy, PartialEq, Eq, Debug)]
+#[derive(Clone, Copy)]
 pub(crate) struct Step {
     pub(crate) event: Option<Event>,
     pub(crate) changes: Changes,

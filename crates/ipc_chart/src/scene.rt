@@ -8,6 +8,7 @@ use ipc_history::Entry;
 use ipc_words::ThreadId;
 use std::alloc::{AllocError, Global};
 use std::collections::BTreeMap;
+use std::mem;
 
 /// The column of a thread.
 #[derive(Clone, Copy, PartialEq, Eq, Debug)]
@@ -89,44 +90,10 @@ pub fn scene_of(
     selection: &Selection,
     is_folded: bool,
 ) -> Result<Scene, AllocError> {
-    let mut maker = Maker {
-        columns: Vec::new(alloc),
-        rows: Vec::new(alloc),
-        turns: Vec::new(alloc),
-        places: BTreeMap::new(alloc),
-        pending: BTreeMap::new(alloc),
-        notes: Notes::new(alloc),
-    };
-    for (place, entry) in entries.iter().enumerate() {
-        if !selection.reaches(place) {
-            break;
-        }
-        let is_answered = is_output_at(entries, place.saturating_add(1));
-        maker.add(place, entry, is_answered, selection)?;
-    }
-    let Maker {
-        columns,
-        rows,
-        turns,
-        places,
-        ..
-    } = maker;
-    let order = order_of(alloc, &places, columns.len())?;
-    let columns = in_order(alloc, &columns, &places)?;
-    let rows = moved_rows(alloc, &rows, &order)?;
-    let turns = moved_turns(alloc, &turns, &order)?;
-    let folds = if is_folded {
-        let shapes = shapes_of(alloc, &rows, entries)?;
-        folds_of(alloc, &shapes)?
-    } else {
-        singles(alloc, rows.len())?
-    };
-    Ok(Scene {
-        columns,
-        rows,
-        turns,
-        folds,
-    })
+    let mut maker = Maker::new(alloc);
+    let scene = maker.make(alloc, entries, selection, is_folded);
+    drop(maker);
+    scene
 }
 
 // Whether the rules wrote the entry at a place.
@@ -135,6 +102,66 @@ fn is_output_at(entries: &[Entry], place: usize) -> bool {
 }
 
 impl Maker {
+    fn new(alloc: Global) -> Maker {
+        Maker {
+            columns: Vec::new(alloc),
+            rows: Vec::new(alloc),
+            turns: Vec::new(alloc),
+            places: BTreeMap::new(alloc),
+            pending: BTreeMap::new(alloc),
+            notes: Notes::new(alloc),
+        }
+    }
+
+    fn make(
+        &mut self,
+        alloc: Global,
+        entries: &[Entry],
+        selection: &Selection,
+        is_folded: bool,
+    ) -> Result<Scene, AllocError> {
+        self.add_all(entries, selection)?;
+        self.move_columns(alloc)?;
+        self.scene(alloc, entries, is_folded)
+    }
+
+    // Adds what the chosen entries show.
+    fn add_all(&mut self, entries: &[Entry], selection: &Selection) -> Result<(), AllocError> {
+        for (place, entry) in entries.iter().enumerate() {
+            if !selection.reaches(place) {
+                break;
+            }
+            let is_answered = is_output_at(entries, place.saturating_add(1));
+            self.add(place, entry, is_answered, selection)?;
+        }
+        Ok(())
+    }
+
+    // Moves what was made in the order of the columns to where these go.
+    fn move_columns(&mut self, alloc: Global) -> Result<(), AllocError> {
+        let order = order_of(alloc, &self.places, self.columns.len())?;
+        move_rows(&mut self.rows, &order);
+        move_turns(&mut self.turns, &order);
+        Ok(())
+    }
+
+    // Hands the scene out.
+    fn scene(
+        &mut self,
+        alloc: Global,
+        entries: &[Entry],
+        is_folded: bool,
+    ) -> Result<Scene, AllocError> {
+        let folds = folds_for(alloc, &self.rows, entries, is_folded)?;
+        let columns = in_order(alloc, &self.columns, &self.places)?;
+        Ok(Scene {
+            columns,
+            rows: mem::replace(&mut self.rows, Vec::new(alloc)),
+            turns: mem::replace(&mut self.turns, Vec::new(alloc)),
+            folds,
+        })
+    }
+
     // Adds what an entry shows.
     fn add(
         &mut self,
@@ -211,14 +238,16 @@ impl Maker {
         if self.pending.is_empty() {
             return Ok(());
         }
-        let mut pending = std::mem::replace(
-            &mut self.pending,
-            BTreeMap::new(*self.rows.allocator()),
-        );
-        for change in pending.values() {
+        let pending = mem::replace(&mut self.pending, BTreeMap::new(*self.rows.allocator()));
+        let done = self.turn_all(row, &pending);
+        drop(pending);
+        done
+    }
+
+    fn turn_all(&mut self, row: usize, changes: &BTreeMap<u64, Change>) -> Result<(), AllocError> {
+        for change in changes.values() {
             self.turn(row, true, Some(*change))?;
         }
-        pending.clear();
         Ok(())
     }
 
@@ -228,30 +257,42 @@ impl Maker {
         is_above: bool,
         change: Option<Change>,
     ) -> Result<(), AllocError> {
-        let Some(change) = change else {
-            return Ok(());
-        };
-        match self.places.get(&change.thread.to_word()) {
+        match change {
+            Some(change) => self.turn_thread(row, is_above, change),
+            None => Ok(()),
+        }
+    }
+
+    // What a thread waits for from a row on, or once it has a column.
+    fn turn_thread(
+        &mut self,
+        row: usize,
+        is_above: bool,
+        change: Change,
+    ) -> Result<(), AllocError> {
+        match self.places.get(&change.thread.to_word()).copied() {
             Some(column) => {
                 self.turns.push(Turn {
                     row,
                     is_above,
-                    column: *column,
+                    column,
                     wait: change.wait,
                 })?;
+                Ok(())
             }
-            None => {
-                self.pending.insert(change.thread.to_word(), change)?;
-            }
+            None => self.keep(Some(change)),
         }
-        Ok(())
     }
 
     // The column of a thread, which this entry may open.
     fn column(&mut self, thread: ThreadId, entry: &Entry) -> Result<usize, AllocError> {
-        if let Some(column) = self.places.get(&thread.to_word()) {
-            return Ok(*column);
+        match self.places.get(&thread.to_word()).copied() {
+            Some(column) => Ok(column),
+            None => self.add_column(thread, entry),
         }
+    }
+
+    fn add_column(&mut self, thread: ThreadId, entry: &Entry) -> Result<usize, AllocError> {
         let column = self.columns.len();
         self.columns.push(Column {
             thread,
@@ -261,6 +302,22 @@ impl Maker {
         self.places.insert(thread.to_word(), column)?;
         Ok(column)
     }
+}
+
+// Which rows come again.
+fn folds_for(
+    alloc: Global,
+    rows: &[Row],
+    entries: &[Entry],
+    is_folded: bool,
+) -> Result<Vec<Fold>, AllocError> {
+    if !is_folded {
+        return singles(alloc, rows.len());
+    }
+    let shapes = shapes_of(alloc, rows, entries)?;
+    let folds = folds_of(alloc, &shapes);
+    drop(shapes);
+    folds
 }
 
 // Where the columns go, which stand in the order in which they were made: to that of their threads' numbers.
@@ -273,12 +330,16 @@ fn order_of(
     for _ in 0..columns {
         order.push(0usize)?;
     }
+    put_order(&mut order, places);
+    Ok(order)
+}
+
+fn put_order(order: &mut [usize], places: &BTreeMap<u64, usize>) {
     for (index, place) in places.values().enumerate() {
         if let Some(column) = order.get_mut(*place) {
             *column = index;
         }
     }
-    Ok(order)
 }
 
 fn in_order(
@@ -287,37 +348,36 @@ fn in_order(
     places: &BTreeMap<u64, usize>,
 ) -> Result<Vec<Column>, AllocError> {
     let mut ordered = Vec::new(alloc);
+    put_in_order(&mut ordered, columns, places)?;
+    Ok(ordered)
+}
+
+fn put_in_order(
+    ordered: &mut Vec<Column>,
+    columns: &[Column],
+    places: &BTreeMap<u64, usize>,
+) -> Result<(), AllocError> {
     for place in places.values() {
         if let Some(column) = columns.get(*place) {
             ordered.push(*column)?;
         }
     }
-    Ok(ordered)
+    Ok(())
 }
 
 fn moved(order: &[usize], column: usize) -> usize {
     order.get(column).copied().unwrap_or(column)
 }
 
-fn moved_rows(alloc: Global, rows: &[Row], order: &[usize]) -> Result<Vec<Row>, AllocError> {
-    let mut ordered = Vec::with_capacity(alloc, rows.len())?;
+fn move_rows(rows: &mut [Row], order: &[usize]) {
     for row in rows {
-        ordered.push(Row {
-            from: moved(order, row.from),
-            to: moved(order, row.to),
-            ..*row
-        })?;
+        row.from = moved(order, row.from);
+        row.to = moved(order, row.to);
     }
-    Ok(ordered)
 }
 
-fn moved_turns(alloc: Global, turns: &[Turn], order: &[usize]) -> Result<Vec<Turn>, AllocError> {
-    let mut ordered = Vec::with_capacity(alloc, turns.len())?;
+fn move_turns(turns: &mut [Turn], order: &[usize]) {
     for turn in turns {
-        ordered.push(Turn {
-            column: moved(order, turn.column),
-            ..*turn
-        })?;
+        turn.column = moved(order, turn.column);
     }
-    Ok(ordered)
 }

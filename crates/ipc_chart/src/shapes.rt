@@ -16,20 +16,32 @@ pub(crate) fn shapes_of(
     entries: &[Entry],
 ) -> Result<Vec<u64>, AllocError> {
     let mut known: BTreeMap<Shape, u64> = BTreeMap::new(alloc);
+    let shapes = number_all(alloc, &mut known, rows, entries);
+    drop(known);
+    shapes
+}
+
+fn number_all(
+    alloc: Global,
+    known: &mut BTreeMap<Shape, u64>,
+    rows: &[Row],
+    entries: &[Entry],
+) -> Result<Vec<u64>, AllocError> {
     let mut shapes = Vec::with_capacity(alloc, rows.len())?;
     for row in rows {
-        let shape = shape_of(row, entries);
-        let number = match known.get(&shape) {
-            Some(number) => *number,
-            None => {
-                let number = known.len() as u64;
-                known.insert(shape, number)?;
-                number
-            }
-        };
-        shapes.push(number)?;
+        shapes.push(number_of(known, shape_of(row, entries))?)?;
     }
     Ok(shapes)
+}
+
+// The number of a shape, which may be a new one.
+fn number_of(known: &mut BTreeMap<Shape, u64>, shape: Shape) -> Result<u64, AllocError> {
+    if let Some(number) = known.get(&shape) {
+        return Ok(*number);
+    }
+    let number = known.len() as u64;
+    known.insert(shape, number)?;
+    Ok(number)
 }
 
 fn shape_of(row: &Row, entries: &[Entry]) -> Shape {

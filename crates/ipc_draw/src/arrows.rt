@@ -31,25 +31,22 @@ fn draw_head(ink: &mut Ink, class: &str, from: u64, to: u64, y: u64) {
     } else {
         to.saturating_add(9)
     };
-    let high = y.saturating_sub(4);
-    let low = y.saturating_add(4);
-    let done = write!(
-        ink.text,
-        "<path class=\"{class}\" d=\"M{to} {y}L{back} {high}L{back} {low}Z\"/>\n",
-    );
-    ink.keep(done);
+    ink.begin_path(class);
+    ink.stroke("M", to, y);
+    ink.stroke("L", back, y.saturating_sub(4));
+    ink.stroke("L", back, y.saturating_add(4));
+    ink.end_path("Z");
 }
 
 /// Writes over an arrow as whom it is sent and how long its phases waited, as far as there is room.
 pub(crate) fn draw_over(alloc: Global, ink: &mut Ink, row: &Row, from: u64, to: u64, y: u64) {
     let room = from.max(to).saturating_sub(from.min(to)).saturating_sub(24);
     let class = if row.sent >= row.received { "os" } else { "or" };
-    let (x, high) = (from / 2 + to / 2, y.saturating_sub(3));
     let told = over_words(alloc, row, room);
     ink.keep(told.done);
     let words = told.text.as_str().trim_start();
     if !words.is_empty() {
-        ink.words(class, x, high, words);
+        ink.words(class, from / 2 + to / 2, y.saturating_sub(3), words);
     }
 }
 
@@ -57,20 +54,28 @@ pub(crate) fn draw_over(alloc: Global, ink: &mut Ink, row: &Row, from: u64, to: 
 fn over_words(alloc: Global, row: &Row, room: u64) -> Ink {
     let mut words = Ink::new(alloc);
     put_over(&mut words, row, "waited ");
-    if letters(&words) <= room {
-        return words;
-    }
-    words.text.clear();
-    put_over(&mut words, row, "");
-    if letters(&words) <= room {
-        return words;
-    }
-    words.text.clear();
-    put_wait(&mut words, row, "");
     if letters(&words) > room {
-        words.text.clear();
+        shorten(&mut words, row, room);
     }
     words
+}
+
+// The same in less room: without a word for the time.
+fn shorten(words: &mut Ink, row: &Row, room: u64) {
+    words.text.clear();
+    put_over(words, row, "");
+    if letters(words) > room {
+        leave_time(words, row, room);
+    }
+}
+
+// The same in less room: the time alone, or nothing.
+fn leave_time(words: &mut Ink, row: &Row, room: u64) {
+    words.text.clear();
+    put_wait(words, row, "");
+    if letters(words) > room {
+        words.text.clear();
+    }
 }
 
 fn put_over(words: &mut Ink, row: &Row, waited: &str) {

@@ -9,21 +9,16 @@ use ipc_words::{Period, ThreadId};
 /// What is told of a row where it is pointed at: its entry, its moment, its threads, and of a call the words of its message and its
 /// timeouts, a line each.
 pub(crate) fn put_details(ink: &mut Ink, scene: &Scene, entries: &[Entry], row: &Row) {
-    let number = (row.place as u64).saturating_add(1);
-    let moment = row.moment;
-    let done = write!(ink.text, "entry {number}, at {moment} µs");
-    ink.keep(done);
+    ink.between("entry ", (row.place as u64).saturating_add(1), ", at ");
+    ink.between("", row.moment, " µs");
     put_threads(ink, scene, row);
     if has_waited(row) {
         ink.put("\n");
         put_waits(ink, row);
     }
-    if let Some(place) = row.call {
-        if let Some((number, call)) = call_at(entries, place) {
-            ink.put("\ncall ");
-            ink.number(number);
-            put_call(ink, row, call);
-        }
+    if let Some((number, call)) = row.call.and_then(|place| call_at(entries, place)) {
+        ink.between("\ncall ", number, "");
+        put_call(ink, row, call);
     }
 }
 

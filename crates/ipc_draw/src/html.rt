@@ -21,28 +21,55 @@ pub fn draw_html(
     rows: usize,
 ) -> Result<String, AllocError> {
     let rows = if rows == 0 { ROWS_OF_PAGE } else { rows };
-    let layout = Layout::of(alloc, scene, entries)?;
-    let pages = pages_of(alloc, &scene.folds, rows)?;
-    let mut sheet = Sheet::new(alloc, scene, layout, 0)?;
     let mut ink = Ink::new(alloc);
-    put_top(&mut ink, pages.len());
-    put_legend(alloc, &mut ink, scene, &layout);
-    for (place, page) in pages.iter().enumerate() {
-        sheet.draw(scene, entries, page);
-        let height = sheet.bottom().saturating_add(8);
-        put_page_head(&mut ink, scene, page, place.saturating_add(1), height);
-        put_head(&mut ink, layout.width, height);
-        put_paper(&mut ink);
-        sheet.end_page(&mut ink, 0);
-        ink.put("</svg>\n</section>\n");
-    }
-    ink.put(SCRIPT);
-    ink.put("</body>\n</html>\n");
+    let done = draw_page(alloc, &mut ink, scene, entries, rows);
+    ink.keep(done);
     ink.finish()
 }
 
+fn draw_page(
+    alloc: Global,
+    ink: &mut Ink,
+    scene: &Scene,
+    entries: &[Entry],
+    rows: usize,
+) -> Result<(), AllocError> {
+    let layout = Layout::of(alloc, scene, entries)?;
+    let pages = pages_of(alloc, &scene.folds, rows)?;
+    put_top(ink, pages.len() as u64);
+    put_legend(alloc, ink, scene, &layout);
+    let done = draw_pictures(alloc, ink, scene, entries, layout, &pages);
+    drop(pages);
+    ink.put(SCRIPT);
+    ink.put("</body>\n</html>\n");
+    done
+}
+
+// A picture for each of these pages.
+fn draw_pictures(
+    alloc: Global,
+    ink: &mut Ink,
+    scene: &Scene,
+    entries: &[Entry],
+    layout: Layout,
+    pages: &[Page],
+) -> Result<(), AllocError> {
+    let mut sheet = Sheet::new(alloc, scene, layout, 0)?;
+    for (place, page) in pages.iter().enumerate() {
+        sheet.draw(scene, entries, page);
+        let height = sheet.bottom().saturating_add(8);
+        put_page_head(ink, scene, page, (place as u64).saturating_add(1), height);
+        put_head(ink, layout.width, height);
+        put_paper(ink);
+        sheet.end_page(ink, 0);
+        ink.put("</svg>\n</section>\n");
+    }
+    drop(sheet);
+    Ok(())
+}
+
 // All above the legend.
-fn put_top(ink: &mut Ink, pages: usize) {
+fn put_top(ink: &mut Ink, pages: u64) {
     ink.put("<!DOCTYPE html>\n<html lang=\"en\">\n<head>\n<meta charset=\"utf-8\">\n");
     ink.put("<title>Chart of a trace</title>\n");
     ink.put(STYLE);
@@ -51,11 +78,8 @@ fn put_top(ink: &mut Ink, pages: usize) {
     ink.put("placeholder=\"2.1, timeout, label 5, waited ..\"></label>\n");
     ink.put("<span id=\"told\"></span>\n");
     ink.put("<label>Page <input id=\"page\" type=\"number\" style=\"width: 6em\" ");
-    let done = write!(
-        ink.text,
-        "min=\"1\" max=\"{pages}\" value=\"1\"></label>\n<span>of {pages}</span>\n</header>\n"
-    );
-    ink.keep(done);
+    ink.between("min=\"1\" max=\"", pages, "\" value=\"1\"></label>\n");
+    ink.between("<span>of ", pages, "</span>\n</header>\n");
 }
 
 fn put_legend(alloc: Global, ink: &mut Ink, scene: &Scene, layout: &Layout) {
@@ -67,21 +91,39 @@ fn put_legend(alloc: Global, ink: &mut Ink, scene: &Scene, layout: &Layout) {
 }
 
 // The head of the section of a page, whose picture has this height: which entries it shows.
-fn put_page_head(ink: &mut Ink, scene: &Scene, page: &Page, number: usize, height: u64) {
+fn put_page_head(ink: &mut Ink, scene: &Scene, page: &[Line], number: u64, height: u64) {
+    let (first, last) = entries_on(scene, page);
+    ink.between("<section id=\"page", number, "\"");
+    ink.between(
+        " style=\"contain-intrinsic-height: auto ",
+        height,
+        "px\">\n",
+    );
+    ink.between("<h2>Page ", number, ": entries ");
+    ink.between("", first, " to ");
+    ink.between("", last, "</h2>\n");
+}
+
+// The numbers of the first and the last entry that has a row on a page; 0 where none has.
+fn entries_on(scene: &Scene, page: &[Line]) -> (u64, u64) {
     let mut first = None;
-    let mut last = 0usize;
+    let mut last = 0u64;
     for line in page {
-        if let Line::Row { row, .. } = line {
-            if let Some(found) = scene.rows.get(*row) {
-                last = found.place.saturating_add(1);
-                first = first.or(Some(last));
-            }
+        if let Some(number) = number_on(scene, *line) {
+            last = number;
+            first = first.or(Some(number));
         }
     }
-    let first = first.unwrap_or(last);
-    let done = write!(
-        ink.text,
-        "<section id=\"page{number}\" style=\"contain-intrinsic-height: auto {height}px\">\n<h2>Page {number}: entries {first} to {last}</h2>\n",
-    );
-    ink.keep(done);
+    (first.unwrap_or(last), last)
+}
+
+// The number of the entry whose row a line shows, if any.
+fn number_on(scene: &Scene, line: Line) -> Option<u64> {
+    match line {
+        Line::Row { row, .. } => {
+            let found = scene.rows.get(row)?;
+            Some((found.place as u64).saturating_add(1))
+        }
+        _ => None,
+    }
 }

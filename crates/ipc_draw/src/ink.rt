@@ -1,5 +1,5 @@
 use ipc_chart::Wait;
-use ipc_lines::IdText;
+use ipc_lines::{HexText, IdText};
 use ipc_words::ThreadId;
 use std::alloc::{AllocError, Global};
 
@@ -62,54 +62,118 @@ impl Ink {
         self.keep(done);
     }
 
-    pub(crate) fn line(&mut self, class: &str, from: (u64, u64), to: (u64, u64)) {
-        let (x1, y1) = from;
-        let (x2, y2) = to;
-        let done = write!(
-            self.text,
-            "<line class=\"{class}\" x1=\"{x1}\" y1=\"{y1}\" x2=\"{x2}\" y2=\"{y2}\"/>\n",
-        );
+    pub(crate) fn hex(&mut self, number: u64) {
+        let done = write!(self.text, "{}", HexText(number));
         self.keep(done);
+    }
+
+    /// A number between words.
+    pub(crate) fn between(&mut self, before: &str, number: u64, behind: &str) {
+        self.put(before);
+        self.number(number);
+        self.put(behind);
+    }
+
+    /// As many of the first letters as fit into so many, with a sign that some lack.
+    pub(crate) fn cut(&mut self, words: &str, letters: usize) {
+        for letter in words.chars().take(letters.saturating_sub(1)) {
+            self.letter(letter);
+        }
+        self.put("…");
+    }
+
+    /// Begins an element of a class, behind which its attributes stand.
+    fn begin(&mut self, name: &str, class: &str) {
+        self.put("<");
+        self.put(name);
+        self.put(" class=\"");
+        self.put(class);
+        self.put("\"");
+    }
+
+    /// An attribute of the element that was begun.
+    fn length(&mut self, name: &str, pixels: u64) {
+        self.put(" ");
+        self.put(name);
+        self.put("=\"");
+        self.number(pixels);
+        self.put("\"");
+    }
+
+    pub(crate) fn line(&mut self, class: &str, from: (u64, u64), to: (u64, u64)) {
+        self.begin("line", class);
+        self.length("x1", from.0);
+        self.length("y1", from.1);
+        self.length("x2", to.0);
+        self.length("y2", to.1);
+        self.put("/>\n");
     }
 
     pub(crate) fn rect(&mut self, class: &str, corner: (u64, u64), wide: u64, high: u64) {
-        let (x, y) = corner;
-        let done = write!(
-            self.text,
-            "<rect class=\"{class}\" x=\"{x}\" y=\"{y}\" width=\"{wide}\" height=\"{high}\"/>\n",
-        );
-        self.keep(done);
+        self.begin("rect", class);
+        self.length("x", corner.0);
+        self.length("y", corner.1);
+        self.length("width", wide);
+        self.length("height", high);
+        self.put("/>\n");
     }
 
     pub(crate) fn circle(&mut self, class: &str, x: u64, y: u64, radius: u64) {
-        let done = write!(
-            self.text,
-            "<circle class=\"{class}\" cx=\"{x}\" cy=\"{y}\" r=\"{radius}\"/>\n",
-        );
-        self.keep(done);
+        self.begin("circle", class);
+        self.length("cx", x);
+        self.length("cy", y);
+        self.length("r", radius);
+        self.put("/>\n");
+    }
+
+    /// Begins a path, behind which its strokes stand.
+    pub(crate) fn begin_path(&mut self, class: &str) {
+        self.begin("path", class);
+        self.put(" d=\"");
+    }
+
+    /// A stroke of the path that was begun: its letter, and what stands before the point to which it goes.
+    pub(crate) fn stroke(&mut self, letter: &str, x: u64, y: u64) {
+        self.put(letter);
+        self.number(x);
+        self.put(" ");
+        self.number(y);
+    }
+
+    /// Ends a path by a last stroke without a point, if any.
+    pub(crate) fn end_path(&mut self, stroke: &str) {
+        self.put(stroke);
+        self.put("\"/>\n");
+    }
+
+    /// Begins words at a place; what is put then stands there, up to `end_words`.
+    pub(crate) fn begin_words(&mut self, class: &str, x: u64, y: u64) {
+        self.begin("text", class);
+        self.length("x", x);
+        self.length("y", y);
+        self.put(">");
+    }
+
+    pub(crate) fn end_words(&mut self) {
+        self.put("</text>\n");
     }
 
     pub(crate) fn words(&mut self, class: &str, x: u64, y: u64, words: &str) {
-        let done = write!(
-            self.text,
-            "<text class=\"{class}\" x=\"{x}\" y=\"{y}\">{words}</text>\n",
-        );
-        self.keep(done);
-    }
-
-    /// Words that were written elsewhere.
-    pub(crate) fn told(&mut self, class: &str, x: u64, y: u64, told: &Ink) {
-        self.words(class, x, y, told.text.as_str());
-        self.keep(told.done);
+        self.begin_words(class, x, y);
+        self.put(words);
+        self.end_words();
     }
 
     /// A wait on the life line of a thread.
     pub(crate) fn bar(&mut self, wait: Wait, x: u64, top: u64, bottom: u64) {
-        let class = match wait {
-            Wait::Nothing => return,
-            Wait::Receives => "rw",
-            Wait::Sends => "sw",
-        };
+        match wait {
+            Wait::Nothing => {}
+            Wait::Receives => self.wide_line("rw", x, top, bottom),
+            Wait::Sends => self.wide_line("sw", x, top, bottom),
+        }
+    }
+
+    fn wide_line(&mut self, class: &str, x: u64, top: u64, bottom: u64) {
         let high = bottom.saturating_sub(top);
         self.rect(class, (x.saturating_sub(3), top), 7, high);
     }
@@ -118,10 +182,11 @@ impl Ink {
     pub(crate) fn cross(&mut self, class: &str, x: u64, y: u64) {
         let (left, right) = (x.saturating_sub(5), x.saturating_add(5));
         let (high, low) = (y.saturating_sub(5), y.saturating_add(5));
-        let done = write!(
-            self.text,
-            "<path class=\"{class}\" d=\"M{left} {high}L{right} {low}M{left} {low}L{right} {high}\"/>\n",
-        );
-        self.keep(done);
+        self.begin_path(class);
+        self.stroke("M", left, high);
+        self.stroke("L", right, low);
+        self.stroke("M", left, low);
+        self.stroke("L", right, high);
+        self.end_path("");
     }
 }

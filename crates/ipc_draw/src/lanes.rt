@@ -8,18 +8,38 @@ pub(crate) struct Place {
     pub(crate) is_above: bool,
 }
 
-/// How many of these turns, which stand in their order, happen up to a place.
-pub(crate) fn turns_upto(turns: &[Turn], place: Place) -> usize {
+impl Place {
+    pub(crate) fn above(row: usize) -> Place {
+        Place {
+            row,
+            is_above: true,
+        }
+    }
+
+    pub(crate) fn at(row: usize) -> Place {
+        Place {
+            row,
+            is_above: false,
+        }
+    }
+
+    // Whether a turn happens up to this place.
+    fn has(self, turn: &Turn) -> bool {
+        turn.row < self.row || turn.row == self.row && (turn.is_above || !self.is_above)
+    }
+}
+
+/// Those of the turns from one on, all in their order, that happen up to a place.
+pub(crate) fn turns_upto(turns: &[Turn], next: usize, place: Place) -> &[Turn] {
+    let turns = &turns[next.min(turns.len())..];
     let mut count = 0usize;
     for turn in turns {
-        let is_in = turn.row < place.row
-            || turn.row == place.row && (turn.is_above || !place.is_above);
-        if !is_in {
+        if !place.has(turn) {
             break;
         }
         count = count.saturating_add(1);
     }
-    count
+    &turns[..count.min(turns.len())]
 }
 
 /// What a lane of a chart shows between two rows.
@@ -44,4 +64,20 @@ pub(crate) fn lanes_of(
         })?;
     }
     Ok(lanes)
+}
+
+/// What threads wait for from these turns on.
+pub(crate) fn turn_lanes(lanes: &mut [Lane], turns: &[Turn]) {
+    for turn in turns {
+        if let Some(lane) = lanes.get_mut(turn.column) {
+            lane.wait = turn.wait;
+        }
+    }
+}
+
+/// The thread of a column lives from there on, or does not.
+pub(crate) fn set_alive(lanes: &mut [Lane], column: usize, lives: bool) {
+    if let Some(lane) = lanes.get_mut(column) {
+        lane.lives = lives;
+    }
 }

@@ -1,5 +1,5 @@
 use crate::words::label_of;
-use ipc_chart::Scene;
+use ipc_chart::{Row, Scene};
 use ipc_history::Entry;
 use std::alloc::{AllocError, Global};
 
@@ -39,26 +39,26 @@ impl Layout {
         scene: &Scene,
         entries: &[Entry],
     ) -> Result<Layout, AllocError> {
-        let mut longest = 0usize;
-        for row in scene.rows.iter().take(LOOKED_AT) {
-            let label = label_of(alloc, scene, entries, row).finish()?;
-            longest = longest.max(label.as_str().chars().count());
-        }
-        let wide = (longest as u64)
+        let longest = longest_label(alloc, scene, entries)?;
+        Ok(Layout::for_labels(longest as u64, scene.columns.len() as u64))
+    }
+
+    // The layout for labels of at most so many letters, and so many columns.
+    fn for_labels(longest: u64, columns: u64) -> Layout {
+        let wide = longest
             .saturating_mul(LETTER)
             .max(LEAST_WORDS)
             .min(MOST_WORDS);
-        let columns = scene.columns.len() as u64;
         let lane = lane_width(columns);
         let first = WORDS_LEFT.saturating_add(wide).saturating_add(MARGIN);
         let lanes = columns.saturating_sub(1).saturating_mul(lane);
-        Ok(Layout {
+        Layout {
             words: WORDS_LEFT,
             letters: (wide / LETTER) as usize,
             first,
             lane,
             width: first.saturating_add(lanes).saturating_add(MARGIN),
-        })
+        }
     }
 
     /// The middle of a lane.
@@ -67,6 +67,28 @@ impl Layout {
             .saturating_mul(self.lane)
             .saturating_add(self.first)
     }
+}
+
+// The letters of the longest label among the first rows.
+fn longest_label(alloc: Global, scene: &Scene, entries: &[Entry]) -> Result<usize, AllocError> {
+    let mut longest = 0usize;
+    for row in scene.rows.iter().take(LOOKED_AT) {
+        longest = longest.max(label_letters(alloc, scene, entries, row)?);
+    }
+    Ok(longest)
+}
+
+fn label_letters(
+    alloc: Global,
+    scene: &Scene,
+    entries: &[Entry],
+    row: &Row,
+) -> Result<usize, AllocError> {
+    let label = label_of(alloc, scene, entries, row);
+    let (letters, done) = (label.text.as_str().chars().count(), label.done);
+    drop(label);
+    done?;
+    Ok(letters)
 }
 
 fn lane_width(columns: u64) -> u64 {

@@ -3,8 +3,13 @@ use crate::layout::Layout;
 use crate::marks::draw_sample;
 use ipc_chart::{Mark, Scene, Wait};
 
-/// How marks are told in the legend, and their signs in text.
-const MARKS: [(Mark, &str, &str); 14] = [
+/// A mark, its sign in text, and how it is told.
+type ToldMark = (Mark, &'static str, &'static str);
+
+/// A wait, its sign in text, and how it is told.
+type ToldWait = (Wait, &'static str, &'static str);
+
+const MARKS: [ToldMark; 14] = [
     (Mark::Opened, "O", "thread opens"),
     (Mark::Broke, "X", "thread ends"),
     (Mark::Called, "*", "call"),
@@ -21,8 +26,7 @@ const MARKS: [(Mark, &str, &str); 14] = [
     (Mark::Failed, "!", "fails"),
 ];
 
-/// How waits are told, and their signs in text.
-const WAITS: [(Wait, &str, &str); 2] = [
+const WAITS: [ToldWait; 2] = [
     (Wait::Receives, ":", "waits to receive"),
     (Wait::Sends, "H", "waits to send"),
 ];
@@ -38,18 +42,30 @@ fn has_wait(scene: &Scene, wait: Wait) -> bool {
 /// Appends what the signs of a chart mean that are in it, in lines of at most so many characters; 0: in one line.
 pub(crate) fn put_legend_text(ink: &mut Ink, scene: &Scene, width: usize) {
     ink.put("\n");
-    let mut taken = 0usize;
-    for (mark, sign, words) in MARKS {
-        if has_mark(scene, mark) {
-            taken = put_sign(ink, sign, words, taken, width);
-        }
-    }
-    for (wait, sign, words) in WAITS {
-        if has_wait(scene, wait) {
-            taken = put_sign(ink, sign, words, taken, width);
-        }
-    }
+    let taken = put_marks(ink, scene, &MARKS, width);
+    put_waits(ink, scene, &WAITS, taken, width);
     ink.put("\n");
+}
+
+// Appends the signs of the marks that are in a chart, and answers how many characters the last line has.
+fn put_marks(ink: &mut Ink, scene: &Scene, marks: &[ToldMark], width: usize) -> usize {
+    let mut taken = 0usize;
+    for (mark, sign, words) in marks {
+        if has_mark(scene, *mark) {
+            taken = put_sign(ink, sign, words, taken, width);
+        }
+    }
+    taken
+}
+
+// Appends the signs of the waits, behind so many characters.
+fn put_waits(ink: &mut Ink, scene: &Scene, waits: &[ToldWait], taken: usize, width: usize) {
+    let mut taken = taken;
+    for (wait, sign, words) in waits {
+        if has_wait(scene, *wait) {
+            taken = put_sign(ink, sign, words, taken, width);
+        }
+    }
 }
 
 // Appends a sign to a line of so many characters, or to the next where it has no room, and answers how many that has.
@@ -59,8 +75,10 @@ fn put_sign(ink: &mut Ink, sign: &str, words: &str, taken: usize, width: usize) 
     if is_full {
         ink.put("\n");
     }
-    let done = write!(ink.text, "  {sign} {words}");
-    ink.keep(done);
+    ink.put("  ");
+    ink.put(sign);
+    ink.put(" ");
+    ink.put(words);
     if is_full {
         length
     } else {
@@ -79,28 +97,52 @@ const LINE: u64 = 20;
 
 /// Draws what the marks of a chart mean that are in it, from a height on, and answers the height below it.
 pub(crate) fn draw_legend(ink: &mut Ink, scene: &Scene, layout: &Layout, top: u64) -> u64 {
-    let mut place = (16u64, top);
-    for (mark, _, words) in MARKS {
-        if has_mark(scene, mark) {
-            place = fitting(place, words, layout.width);
-            draw_sample(ink, mark, place.0, place.1);
-            place = behind(ink, place, words);
-        }
-    }
-    for (wait, _, words) in WAITS {
-        if has_wait(scene, wait) {
-            place = fitting(place, words, layout.width);
-            let high = place.1.saturating_sub(7);
-            ink.bar(
-                wait,
-                place.0.saturating_add(12),
-                high,
-                high.saturating_add(14),
-            );
-            place = behind(ink, place, words);
-        }
-    }
+    let place = draw_marks(ink, scene, layout, &MARKS, (16, top));
+    let place = draw_waits(ink, scene, layout, &WAITS, place);
     place.1.saturating_add(LINE)
+}
+
+fn draw_marks(
+    ink: &mut Ink,
+    scene: &Scene,
+    layout: &Layout,
+    marks: &[ToldMark],
+    place: (u64, u64),
+) -> (u64, u64) {
+    let mut place = place;
+    for (mark, _, words) in marks {
+        if has_mark(scene, *mark) {
+            place = fitting(place, words, layout.width);
+            draw_sample(ink, *mark, place.0, place.1);
+            place = behind(ink, place, words);
+        }
+    }
+    place
+}
+
+fn draw_waits(
+    ink: &mut Ink,
+    scene: &Scene,
+    layout: &Layout,
+    waits: &[ToldWait],
+    place: (u64, u64),
+) -> (u64, u64) {
+    let mut place = place;
+    for (wait, _, words) in waits {
+        if has_wait(scene, *wait) {
+            place = fitting(place, words, layout.width);
+            draw_bar(ink, *wait, place);
+            place = behind(ink, place, words);
+        }
+    }
+    place
+}
+
+// A wait as it stands in a legend.
+fn draw_bar(ink: &mut Ink, wait: Wait, place: (u64, u64)) {
+    let (x, y) = place;
+    let high = y.saturating_sub(7);
+    ink.bar(wait, x.saturating_add(12), high, high.saturating_add(14));
 }
 
 fn length(words: &str) -> u64 {

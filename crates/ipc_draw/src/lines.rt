@@ -78,6 +78,17 @@ fn put_line(page: &mut Page, line: Line) -> Result<(), AllocError>
     Ok(())
 }
 
+// Puts a row on a page, below the names of the threads where they are to stand there.
+fn put_row(page: &mut Page, row: usize, copies: usize, is_named: bool) -> Result<(), AllocError>
+    ensures rows { OnOk result (rows_in page.new.items ≡ rows_in page.old.items ++ row ∷ []) }
+    ensures same { OnErr result (rows_in page.new.items ≡ rows_in page.old.items) }
+{
+    if is_named {
+        put_line(page, Line::Names)?;
+    }
+    put_line(page, Line::Row { row, copies })
+}
+
 impl Pages {
     /// No row, and pages of so many at most.
     fn new(alloc: Global, most: usize) -> Pages
@@ -116,13 +127,14 @@ impl Pages {
             self.pages.push(page)?;
             self.rows = 0;
         }
-        if self.rows == 0 || self.since >= ROWS_BETWEEN_NAMES {
-            put_line(&mut self.page, Line::Names)?;
-            self.since = 0;
-        }
-        put_line(&mut self.page, Line::Row { row, copies })?;
+        let is_named = self.rows == 0 || self.since >= ROWS_BETWEEN_NAMES;
+        put_row(&mut self.page, row, copies, is_named)?;
+        self.since = if is_named {
+            1
+        } else {
+            self.since.saturating_add(1)
+        };
         self.rows += 1;
-        self.since = self.since.saturating_add(1);
         Ok(())
     }
 

@@ -32,23 +32,19 @@ pub(crate) fn draw_sample(ink: &mut Ink, mark: Mark, x: u64, y: u64) {
 // A face of a clock.
 fn draw_clock(ink: &mut Ink, x: u64, y: u64) {
     ink.circle("late", x, y, 6);
-    let (high, right) = (y.saturating_sub(4), x.saturating_add(3));
-    let done = write!(
-        ink.text,
-        "<path class=\"late\" d=\"M{x} {high}L{x} {y}L{right} {y}\"/>\n",
-    );
-    ink.keep(done);
+    ink.begin_path("late");
+    ink.stroke("M", x, y.saturating_sub(4));
+    ink.stroke("L", x, y);
+    ink.stroke("L", x.saturating_add(3), y);
+    ink.end_path("");
 }
 
 // Three quarters of a circle, with a head.
 fn draw_turn(ink: &mut Ink, x: u64, y: u64) {
-    let left = x.saturating_sub(6);
-    let top = y.saturating_sub(6);
-    let done = write!(
-        ink.text,
-        "<path class=\"turn\" d=\"M{left} {y}A6 6 0 1 0 {x} {top}m5 -4l-5 4l5 4\"/>\n",
-    );
-    ink.keep(done);
+    ink.begin_path("turn");
+    ink.stroke("M", x.saturating_sub(6), y);
+    ink.stroke("A6 6 0 1 0 ", x, y.saturating_sub(6));
+    ink.end_path("m5 -4l-5 4l5 4");
 }
 
 // A square with a cross.

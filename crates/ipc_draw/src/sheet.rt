@@ -6,10 +6,10 @@ use crate::lanes::{Place, turns_upto};
 use crate::layout::Layout;
 use crate::lines::Line;
 use crate::marks::draw_mark;
-use crate::strands::{Strand, strands_of};
+use crate::strands::{Strand, end_strands, mark_strand, strands_of, turn_strands};
 use crate::text::{end_of, last_row, moment_behind, put_copies};
 use crate::words::label_of;
-use ipc_chart::{Column, Fold, Mark, Row, Scene};
+use ipc_chart::{Column, Fold, Row, Scene};
 use ipc_history::Entry;
 use std::alloc::{AllocError, Global};
 
@@ -52,12 +52,13 @@ impl Sheet {
         layout: Layout,
         top: u64,
     ) -> Result<Sheet, AllocError> {
+        let strands = strands_of(alloc, &scene.columns, top)?;
         Ok(Sheet {
             alloc,
             layout,
             under: Ink::new(alloc),
             over: Ink::new(alloc),
-            strands: strands_of(alloc, &scene.columns, top)?,
+            strands,
             next: 0,
             y: top,
             moment: scene.rows.first().map_or(0, |row| row.moment),
@@ -74,16 +75,15 @@ impl Sheet {
         }
     }
 
-    /// Ends the page: appends what was drawn to a text, and answers the height of the page. The next page begins at a height.
+    /// Ends the page: appends what was drawn to a text. The next page begins at a height.
     pub(crate) fn end_page(&mut self, ink: &mut Ink, top: u64) {
-        let bottom = self.y;
-        for column in 0..self.strands.len() {
-            let x = self.layout.middle(column);
-            if let Some(strand) = self.strands.get_mut(column) {
-                strand.draw(&mut self.under, x, bottom);
-                strand.restart(top);
-            }
-        }
+        end_strands(
+            &mut self.under,
+            &mut self.strands,
+            &self.layout,
+            self.y,
+            top,
+        );
         ink.add(&self.under);
         ink.add(&self.over);
         self.under.text.clear();
@@ -105,9 +105,7 @@ impl Sheet {
             }
             Line::Row { row, copies } => {
                 if let Some(found) = scene.rows.get(row) {
-                    if copies > 1 && self.pattern.is_none() {
-                        self.pattern = Some(self.y);
-                    }
+                    self.begin_pattern(copies);
                     self.row(scene, entries, row, found);
                 }
             }
@@ -119,83 +117,60 @@ impl Sheet {
         }
     }
 
+    // A pattern that comes more than once begins with this row, if none has begun.
+    fn begin_pattern(&mut self, copies: usize) {
+        if copies > 1 && self.pattern.is_none() {
+            self.pattern = Some(self.y);
+        }
+    }
+
     // The names and the spaces of the threads, and the moment of the row behind.
     fn names(&mut self, scene: &Scene, moment: u64) {
         let top = self.y;
-        let width = self.layout.width;
-        self.over.rect("names", (0, top), width, NAMES);
-        let mut told = Ink::new(self.alloc);
-        put_time(&mut told, moment);
-        self.over.told("m", MOMENT, top.saturating_add(17), &told);
+        self.over.rect("names", (0, top), self.layout.width, NAMES);
+        draw_time(&mut self.over, "", moment, top.saturating_add(17));
         for (place, column) in scene.columns.iter().enumerate() {
-            let x = self.layout.middle(place);
-            self.name(column, x, top);
+            draw_name(&mut self.over, column, self.layout.middle(place), top);
         }
         self.y = top.saturating_add(NAMES);
-    }
-
-    // The name of a thread, and its space.
-    fn name(&mut self, column: &Column, x: u64, top: u64) {
-        let mut told = Ink::new(self.alloc);
-        told.id(column.thread);
-        self.over.told("name", x, top.saturating_add(17), &told);
-        if let Some(space) = column.space {
-            told.text.clear();
-            told.put("space ");
-            told.number(space);
-            self.over.told("space", x, top.saturating_add(30), &told);
-        }
     }
 
     // The number of an entry, its moment, what it says, and its mark.
     fn row(&mut self, scene: &Scene, entries: &[Entry], place: usize, row: &Row) {
         let top = self.y;
         let middle = top.saturating_add(ROW / 2);
-        self.turn(
-            scene,
-            Place {
-                row: place,
-                is_above: true,
-            },
-            top,
-        );
+        self.turn(scene, Place::above(place), top);
         self.begin_row(scene, entries, row);
-        self.gutter(row, middle);
-        let label = label_of(self.alloc, scene, entries, row);
-        self.over.keep(label.done);
-        self.label(label.text.as_str(), middle);
+        self.gutter(row, middle.saturating_add(4));
+        self.label(scene, entries, row, middle.saturating_add(4));
         self.mark(row, middle);
         self.over.put("</g>\n");
         self.live(row, middle);
-        self.turn(
-            scene,
-            Place {
-                row: place,
-                is_above: false,
-            },
-            middle,
-        );
+        self.turn(scene, Place::at(place), middle);
         self.y = top.saturating_add(ROW);
     }
 
     // The group of a row, what is told where it is pointed at, and every second time a stripe below it.
     fn begin_row(&mut self, scene: &Scene, entries: &[Entry], row: &Row) {
-        let width = self.layout.width;
-        if self.rows % 2 == 1 {
-            self.under.rect("stripe", (0, self.y), width, ROW);
-        }
-        self.rows = self.rows.saturating_add(1);
+        self.stripe();
         self.over.put("<g class=\"row\"><title>");
         put_details(&mut self.over, scene, entries, row);
         self.over.put("</title>\n");
-        self.over.rect("band", (0, self.y), width, ROW);
+        self.over.rect("band", (0, self.y), self.layout.width, ROW);
     }
 
-    fn gutter(&mut self, row: &Row, middle: u64) {
-        let low = middle.saturating_add(4);
-        let mut told = Ink::new(self.alloc);
-        told.number((row.place as u64).saturating_add(1));
-        self.over.told("n", NUMBER, low, &told);
+    fn stripe(&mut self) {
+        if self.rows % 2 == 1 {
+            self.under
+                .rect("stripe", (0, self.y), self.layout.width, ROW);
+        }
+        self.rows = self.rows.saturating_add(1);
+    }
+
+    fn gutter(&mut self, row: &Row, low: u64) {
+        self.over.begin_words("n", NUMBER, low);
+        self.over.number((row.place as u64).saturating_add(1));
+        self.over.end_words();
         self.later(row.moment, low);
     }
 
@@ -204,27 +179,15 @@ impl Sheet {
         let later = moment.saturating_sub(self.moment);
         self.moment = moment;
         if later > 0 {
-            let mut told = Ink::new(self.alloc);
-            told.put("+");
-            put_time(&mut told, later);
-            self.over.told("m", MOMENT, low, &told);
+            draw_time(&mut self.over, "+", later, low);
         }
     }
 
     // What a row says, cut where there is no room.
-    fn label(&mut self, label: &str, middle: u64) {
-        let low = middle.saturating_add(4);
-        let letters = self.layout.letters;
-        if label.chars().count() <= letters {
-            self.over.words("w", self.layout.words, low, label);
-            return;
-        }
-        let mut cut = Ink::new(self.alloc);
-        for letter in label.chars().take(letters.saturating_sub(1)) {
-            cut.letter(letter);
-        }
-        cut.put("…");
-        self.over.told("w", self.layout.words, low, &cut);
+    fn label(&mut self, scene: &Scene, entries: &[Entry], row: &Row, low: u64) {
+        let label = label_of(self.alloc, scene, entries, row);
+        self.over.keep(label.done);
+        draw_label(&mut self.over, &self.layout, label.text.as_str(), low);
     }
 
     fn mark(&mut self, row: &Row, middle: u64) {
@@ -240,34 +203,34 @@ impl Sheet {
 
     // A thread begins to live, or ends.
     fn live(&mut self, row: &Row, middle: u64) {
-        let x = self.layout.middle(row.from);
-        let Some(strand) = self.strands.get_mut(row.from) else {
-            return;
-        };
-        match row.mark {
-            Mark::Opened => strand.lives = Some(middle),
-            Mark::Broke => {
-                strand.draw(&mut self.under, x, middle);
-                strand.lives = None;
-            }
-            _ => {}
-        }
+        mark_strand(
+            &mut self.under,
+            &mut self.strands,
+            &self.layout,
+            row.from,
+            row.mark,
+            middle,
+        );
     }
 
     // How often the rows above it come, and a line beside them.
     fn copies(&mut self, scene: &Scene, fold: &Fold) {
-        let bottom = self.y;
-        let middle = bottom.saturating_add(ROW / 2);
+        let middle = self.y.saturating_add(ROW / 2);
         let low = middle.saturating_add(4);
         let last = last_row(fold);
-        self.turn(
-            scene,
-            Place {
-                row: last,
-                is_above: false,
-            },
-            middle,
-        );
+        self.turn(scene, Place::at(last), middle);
+        self.end_pattern(middle);
+        self.count(fold.count, low);
+        let (number, moment) = end_of(scene, last, self.moment);
+        self.later(moment, low);
+        self.over.begin_words("again", self.layout.words, low);
+        put_copies(&mut self.over, fold.period, number);
+        self.over.end_words();
+        self.y = self.y.saturating_add(ROW);
+    }
+
+    // A line beside the rows of the pattern that was begun, if any.
+    fn end_pattern(&mut self, middle: u64) {
         if let Some(top) = self.pattern {
             self.under.line(
                 "pattern",
@@ -276,29 +239,50 @@ impl Sheet {
             );
         }
         self.pattern = None;
-        let mut count = Ink::new(self.alloc);
-        count.put("x ");
-        put_count(self.alloc, &mut count, fold.count as u64);
-        self.over.told("copies", 12, low, &count);
-        let (number, moment) = end_of(scene, last, self.moment);
-        self.later(moment, low);
-        let mut told = Ink::new(self.alloc);
-        put_copies(&mut told, fold.period, number);
-        self.over.told("again", self.layout.words, low, &told);
-        self.y = bottom.saturating_add(ROW);
+    }
+
+    fn count(&mut self, count: usize, low: u64) {
+        self.over.begin_words("copies", 12, low);
+        self.over.put("x ");
+        put_count(self.alloc, &mut self.over, count as u64);
+        self.over.end_words();
     }
 
     // What threads wait for behind a place, from a height on.
     fn turn(&mut self, scene: &Scene, place: Place, y: u64) {
-        let next = self.next.min(scene.turns.len());
-        let turns = &scene.turns[next..];
-        let count = turns_upto(turns, place);
-        for turn in turns.iter().take(count) {
-            let x = self.layout.middle(turn.column);
-            if let Some(strand) = self.strands.get_mut(turn.column) {
-                strand.turn(&mut self.under, x, y, turn.wait);
-            }
-        }
-        self.next = next.saturating_add(count);
+        let turns = turns_upto(&scene.turns, self.next, place);
+        turn_strands(&mut self.under, &mut self.strands, &self.layout, turns, y);
+        self.next = self.next.saturating_add(turns.len());
     }
+}
+
+// The name of a thread, and its space.
+fn draw_name(ink: &mut Ink, column: &Column, x: u64, top: u64) {
+    ink.begin_words("name", x, top.saturating_add(17));
+    ink.id(column.thread);
+    ink.end_words();
+    if let Some(space) = column.space {
+        ink.begin_words("space", x, top.saturating_add(30));
+        ink.between("space ", space, "");
+        ink.end_words();
+    }
+}
+
+// A time among the moments, behind a sign.
+fn draw_time(ink: &mut Ink, sign: &str, time: u64, low: u64) {
+    ink.begin_words("m", MOMENT, low);
+    ink.put(sign);
+    put_time(ink, time);
+    ink.end_words();
+}
+
+// What a row says, cut where there is no room.
+fn draw_label(ink: &mut Ink, layout: &Layout, label: &str, low: u64) {
+    ink.begin_words("w", layout.words, low);
+    if label.chars().count() <= layout.letters {
+        ink.put(label);
+    } else {
+        ink.cut(label, layout.letters);
+    }
+    ink.end_words();
 }

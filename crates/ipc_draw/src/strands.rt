@@ -1,5 +1,6 @@
 use crate::ink::Ink;
-use ipc_chart::{Column, Wait};
+use crate::layout::Layout;
+use ipc_chart::{Column, Mark, Turn, Wait};
 use std::alloc::{AllocError, Global};
 
 /// The life line of a thread, as far as it is not drawn yet.
@@ -30,9 +31,54 @@ pub(crate) fn strands_of(
     Ok(strands)
 }
 
+/// What threads wait for from these turns on, at a height.
+pub(crate) fn turn_strands(
+    ink: &mut Ink,
+    strands: &mut [Strand],
+    layout: &Layout,
+    turns: &[Turn],
+    y: u64,
+) {
+    for turn in turns {
+        if let Some(strand) = strands.get_mut(turn.column) {
+            strand.turn(ink, layout.middle(turn.column), y, turn.wait);
+        }
+    }
+}
+
+/// Draws all down to a height; the rest is drawn from another one on.
+pub(crate) fn end_strands(
+    ink: &mut Ink,
+    strands: &mut [Strand],
+    layout: &Layout,
+    bottom: u64,
+    top: u64,
+) {
+    for column in 0..strands.len() {
+        if let Some(strand) = strands.get_mut(column) {
+            strand.draw(ink, layout.middle(column), bottom);
+            strand.restart(top);
+        }
+    }
+}
+
+/// The thread of a column has this mark at a height: it may begin to live, or end.
+pub(crate) fn mark_strand(
+    ink: &mut Ink,
+    strands: &mut [Strand],
+    layout: &Layout,
+    column: usize,
+    mark: Mark,
+    y: u64,
+) {
+    if let Some(strand) = strands.get_mut(column) {
+        strand.live(ink, mark, layout.middle(column), y);
+    }
+}
+
 impl Strand {
-    /// Draws it down to a height, from which on the rest is to be drawn.
-    pub(crate) fn draw(&mut self, ink: &mut Ink, x: u64, bottom: u64) {
+    // Draws it down to a height, from which on the rest is to be drawn.
+    fn draw(&mut self, ink: &mut Ink, x: u64, bottom: u64) {
         if let Some(top) = self.lives {
             ink.line("life", (x, top), (x, bottom));
             self.lives = Some(bottom);
@@ -40,8 +86,20 @@ impl Strand {
         self.draw_wait(ink, x, bottom);
     }
 
-    /// From this height on it waits for something else.
-    pub(crate) fn turn(&mut self, ink: &mut Ink, x: u64, y: u64, wait: Wait) {
+    // The thread begins to live at a height, or ends there, where the mark says so.
+    fn live(&mut self, ink: &mut Ink, mark: Mark, x: u64, y: u64) {
+        match mark {
+            Mark::Opened => self.lives = Some(y),
+            Mark::Broke => {
+                self.draw(ink, x, y);
+                self.lives = None;
+            }
+            _ => {}
+        }
+    }
+
+    // From this height on it waits for something else.
+    fn turn(&mut self, ink: &mut Ink, x: u64, y: u64, wait: Wait) {
         if wait != self.wait {
             self.draw_wait(ink, x, y);
             self.wait = wait;
@@ -49,8 +107,8 @@ impl Strand {
         }
     }
 
-    /// The rest is drawn from this height on.
-    pub(crate) fn restart(&mut self, top: u64) {
+    // The rest is drawn from this height on.
+    fn restart(&mut self, top: u64) {
         self.lives = self.lives.map(|_| top);
         self.since = top;
     }

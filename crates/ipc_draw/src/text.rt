@@ -1,12 +1,11 @@
 use crate::amounts::{put_count, put_time};
 use crate::ink::Ink;
-use crate::lanes::{Lane, Place, lanes_of, turns_upto};
+use crate::lanes::{Lane, Place, lanes_of, set_alive, turn_lanes, turns_upto};
 use crate::legend::put_legend_text;
 use crate::lines::{Line, pages_of};
 use crate::words::{has_waited, put_label, put_waits};
 use ipc_chart::{Column, Fold, Mark, Row, Scene, Wait};
 use ipc_history::Entry;
-use ipc_lines::IdText;
 use ipc_words::ThreadId;
 use std::alloc::{AllocError, Global};
 
@@ -25,7 +24,6 @@ const LEAST_WORDS: usize = 40;
 #[derive(Drop)]
 struct Drawing {
     alloc: Global,
-    ink: Ink,
     lanes: Vec<Lane>,
     // the next turn
     next: usize,
@@ -44,21 +42,49 @@ pub fn draw_text(
     entries: &[Entry],
     width: usize,
 ) -> Result<String, AllocError> {
-    let pages = pages_of(alloc, &scene.folds, 0)?;
+    let mut ink = Ink::new(alloc);
+    let done = draw_lines(alloc, &mut ink, scene, entries, width);
+    ink.keep(done);
+    put_legend_text(&mut ink, scene, width);
+    ink.finish()
+}
+
+fn draw_lines(
+    alloc: Global,
+    ink: &mut Ink,
+    scene: &Scene,
+    entries: &[Entry],
+    width: usize,
+) -> Result<(), AllocError> {
+    let lane = lane_width(alloc, &scene.columns, width)?;
+    let lanes = lanes_of(alloc, &scene.columns)?;
     let mut drawing = Drawing {
         alloc,
-        ink: Ink::new(alloc),
-        lanes: lanes_of(alloc, &scene.columns)?,
+        lanes,
         next: 0,
-        lane: lane_width(alloc, &scene.columns, width)?,
+        lane,
         width,
         moment: first_moment(scene),
     };
+    let done = draw_rows(alloc, ink, &mut drawing, scene, entries);
+    drop(drawing);
+    done
+}
+
+// Draws all rows, on one page.
+fn draw_rows(
+    alloc: Global,
+    ink: &mut Ink,
+    drawing: &mut Drawing,
+    scene: &Scene,
+    entries: &[Entry],
+) -> Result<(), AllocError> {
+    let pages = pages_of(alloc, &scene.folds, 0)?;
     for page in &pages {
-        drawing.page(scene, entries, page);
+        drawing.page(ink, scene, entries, page);
     }
-    put_legend_text(&mut drawing.ink, scene, width);
-    drawing.ink.finish()
+    drop(pages);
+    Ok(())
 }
 
 fn first_moment(scene: &Scene) -> u64 {
@@ -69,195 +95,134 @@ fn first_moment(scene: &Scene) -> u64 {
 fn lane_width(alloc: Global, columns: &[Column], width: usize) -> Result<usize, AllocError> {
     let mut longest = 0usize;
     for column in columns {
-        let name = format!(in alloc; "{}", IdText(column.thread))?;
-        longest = longest.max(name.len());
+        longest = longest.max(name_length(alloc, column.thread)?);
     }
-    let usual = if columns.len() <= 6 {
-        WIDE_LANE
-    } else {
-        NARROW_LANE
-    };
-    let fitting = if width == 0 || columns.is_empty() {
-        usual
-    } else {
-        let room = width.saturating_sub(NUMBERS + MOMENTS + 2 + LEAST_WORDS);
-        usual.min(room / columns.len().max(1)).max(4)
-    };
-    Ok(fitting.max(longest.saturating_add(2)))
+    Ok(fitting_lane(columns.len(), width).max(longest.saturating_add(2)))
+}
+
+fn name_length(alloc: Global, thread: ThreadId) -> Result<usize, AllocError> {
+    let mut name = Ink::new(alloc);
+    name.id(thread);
+    let (length, done) = (name.text.len(), name.done);
+    drop(name);
+    done?;
+    Ok(length)
+}
+
+// The width of one of so many lanes beside words, where lines have that width.
+fn fitting_lane(columns: usize, width: usize) -> usize {
+    let usual = if columns <= 6 { WIDE_LANE } else { NARROW_LANE };
+    if width == 0 || columns == 0 {
+        return usual;
+    }
+    let room = width.saturating_sub(NUMBERS + MOMENTS + 2 + LEAST_WORDS);
+    usual.min(room / columns).max(4)
 }
 
 impl Drawing {
-    fn page(&mut self, scene: &Scene, entries: &[Entry], page: &[Line]) {
+    fn page(&mut self, ink: &mut Ink, scene: &Scene, entries: &[Entry], page: &[Line]) {
         for (place, line) in page.iter().enumerate() {
             let behind = page.get(place.saturating_add(1));
-            self.line(scene, entries, *line, behind);
+            self.line(ink, scene, entries, *line, behind);
         }
     }
 
-    fn line(&mut self, scene: &Scene, entries: &[Entry], line: Line, behind: Option<&Line>) {
+    fn line(
+        &mut self,
+        ink: &mut Ink,
+        scene: &Scene,
+        entries: &[Entry],
+        line: Line,
+        behind: Option<&Line>,
+    ) {
         match line {
             Line::Names => {
                 let moment = moment_behind(scene, behind, self.moment);
-                self.names(scene, moment);
+                self.names(ink, scene, moment);
             }
             Line::Row { row, .. } => {
                 if let Some(found) = scene.rows.get(row) {
-                    self.row(scene, entries, row, found);
+                    self.row(ink, scene, entries, row, found);
                 }
             }
             Line::Copies { fold } => {
                 if let Some(found) = scene.folds.get(fold) {
-                    self.copies(scene, found);
+                    self.copies(ink, scene, found);
                 }
             }
         }
     }
 
     // The names of the threads over their lanes, and the moment of the row behind.
-    fn names(&mut self, scene: &Scene, moment: u64) {
+    fn names(&self, ink: &mut Ink, scene: &Scene, moment: u64) {
         let mut line = Ink::new(self.alloc);
         put_spaces(&mut line, NUMBERS);
-        let mut told = Ink::new(self.alloc);
-        put_time(&mut told, moment);
-        put_right(&mut line, &told, MOMENTS);
-        line.put("  ");
+        put_time_right(self.alloc, &mut line, "", moment);
         for column in &scene.columns {
-            self.name(&mut line, column.thread);
+            put_name(self.alloc, &mut line, self.lane, column.thread);
         }
-        self.end_line(&line);
-    }
-
-    // The name of a thread over its lane.
-    fn name(&self, line: &mut Ink, thread: ThreadId) {
-        let mut name = Ink::new(self.alloc);
-        name.id(thread);
-        let length = name.text.len();
-        let before = (self.lane / 2).saturating_sub(length / 2);
-        put_spaces(line, before);
-        line.add(&name);
-        let taken = before.saturating_add(length);
-        put_spaces(line, self.lane.saturating_sub(taken));
+        end_line(ink, &line, self.width);
     }
 
     // The number of an entry, its moment, the lanes with its mark, and what it says.
-    fn row(&mut self, scene: &Scene, entries: &[Entry], place: usize, row: &Row) {
-        self.turn(
-            scene,
-            Place {
-                row: place,
-                is_above: true,
-            },
-        );
+    fn row(&mut self, ink: &mut Ink, scene: &Scene, entries: &[Entry], place: usize, row: &Row) {
+        self.turn(scene, Place::above(place));
         if row.mark == Mark::Opened {
-            self.set_alive(row.from, true);
+            set_alive(&mut self.lanes, row.from, true);
         }
         let mut line = Ink::new(self.alloc);
-        let mut number = Ink::new(self.alloc);
-        number.number((row.place as u64).saturating_add(1));
-        put_right(&mut line, &number, NUMBERS);
+        put_entry_number(self.alloc, &mut line, row);
         self.put_moment(&mut line, row.moment);
         self.put_signs(&mut line, Some(row));
-        put_label(&mut line, scene, entries, row);
-        if has_waited(row) {
-            line.put("; ");
-            put_waits(&mut line, row);
-        }
-        self.turn(
-            scene,
-            Place {
-                row: place,
-                is_above: false,
-            },
-        );
+        put_words(&mut line, scene, entries, row);
+        end_line(ink, &line, self.width);
+        drop(line);
+        self.turn(scene, Place::at(place));
         if row.mark == Mark::Broke {
-            self.set_alive(row.from, false);
+            set_alive(&mut self.lanes, row.from, false);
         }
-        self.end_line(&line);
     }
 
     // How often the rows above it come.
-    fn copies(&mut self, scene: &Scene, fold: &Fold) {
+    fn copies(&mut self, ink: &mut Ink, scene: &Scene, fold: &Fold) {
         let last = last_row(fold);
-        self.turn(
-            scene,
-            Place {
-                row: last,
-                is_above: false,
-            },
-        );
-        let mut line = Ink::new(self.alloc);
-        let mut count = Ink::new(self.alloc);
-        count.put("x ");
-        put_count(self.alloc, &mut count, fold.count as u64);
-        put_right(&mut line, &count, NUMBERS);
+        self.turn(scene, Place::at(last));
         let (number, moment) = end_of(scene, last, self.moment);
+        let mut line = Ink::new(self.alloc);
+        put_times(self.alloc, &mut line, fold.count);
         self.put_moment(&mut line, moment);
         self.put_signs(&mut line, None);
         put_copies(&mut line, fold.period, number);
-        self.end_line(&line);
+        end_line(ink, &line, self.width);
     }
 
     // How long after the row before a row comes.
     fn put_moment(&mut self, line: &mut Ink, moment: u64) {
         let later = moment.saturating_sub(self.moment);
         self.moment = moment;
-        let mut told = Ink::new(self.alloc);
         if later > 0 {
-            told.put("+");
-            put_time(&mut told, later);
+            put_time_right(self.alloc, line, "+", later);
+        } else {
+            put_spaces(line, MOMENTS + 2);
         }
-        put_right(line, &told, MOMENTS);
-        line.put("  ");
     }
 
     // The lanes, with the mark of a row among them.
     fn put_signs(&self, line: &mut Ink, marked: Option<&Row>) {
-        match self.signs() {
-            Ok(mut signs) => {
-                if let Some(row) = marked {
-                    self.put_mark(&mut signs, row);
-                }
-                for sign in &signs {
-                    line.put(sign);
-                }
-            }
-            Err(lost) => line.keep(Err(lost)),
+        let mut signs = Vec::new(self.alloc);
+        let done = put_lanes(&mut signs, &self.lanes, self.lane);
+        line.keep(done);
+        if let Some(row) = marked {
+            self.put_mark(&mut signs, row);
         }
+        put_all(line, &signs);
     }
 
     // What threads wait for behind a place.
     fn turn(&mut self, scene: &Scene, place: Place) {
-        let next = self.next.min(scene.turns.len());
-        let turns = &scene.turns[next..];
-        let count = turns_upto(turns, place);
-        for turn in turns.iter().take(count) {
-            if let Some(lane) = self.lanes.get_mut(turn.column) {
-                lane.wait = turn.wait;
-            }
-        }
-        self.next = next.saturating_add(count);
-    }
-
-    fn set_alive(&mut self, column: usize, lives: bool) {
-        if let Some(lane) = self.lanes.get_mut(column) {
-            lane.lives = lives;
-        }
-    }
-
-    // The lanes between two marks.
-    fn signs(&self) -> Result<Vec<&'static str>, AllocError> {
-        let mut signs = Vec::new(self.alloc);
-        for lane in &self.lanes {
-            let middle = self.lane / 2;
-            for place in 0..self.lane {
-                signs.push(if place == middle {
-                    lane_sign(*lane)
-                } else {
-                    " "
-                })?;
-            }
-        }
-        Ok(signs)
+        let turns = turns_upto(&scene.turns, self.next, place);
+        turn_lanes(&mut self.lanes, turns);
+        self.next = self.next.saturating_add(turns.len());
     }
 
     fn middle(&self, column: usize) -> usize {
@@ -276,21 +241,93 @@ impl Drawing {
             put_arrow(signs, row.mark, from, to);
         }
     }
+}
 
-    // A line, cut where it is too long.
-    fn end_line(&mut self, line: &Ink) {
-        self.ink.keep(line.done);
-        let line = line.text.as_str();
-        if self.width > 0 && line.chars().count() > self.width {
-            for letter in line.chars().take(self.width.saturating_sub(1)) {
-                self.ink.letter(letter);
-            }
-            self.ink.put("…\n");
-        } else {
-            self.ink.put(line.trim_end());
-            self.ink.put("\n");
-        }
+// The name of a thread over its lane.
+fn put_name(alloc: Global, line: &mut Ink, lane: usize, thread: ThreadId) {
+    let mut name = Ink::new(alloc);
+    name.id(thread);
+    let length = name.text.len();
+    let before = (lane / 2).saturating_sub(length / 2);
+    put_spaces(line, before);
+    line.add(&name);
+    put_spaces(line, lane.saturating_sub(before.saturating_add(length)));
+}
+
+// The number of the entry of a row.
+fn put_entry_number(alloc: Global, line: &mut Ink, row: &Row) {
+    let mut number = Ink::new(alloc);
+    number.number((row.place as u64).saturating_add(1));
+    put_right(line, &number, NUMBERS);
+}
+
+// How many times a pattern comes.
+fn put_times(alloc: Global, line: &mut Ink, count: usize) {
+    let mut times = Ink::new(alloc);
+    times.put("x ");
+    put_count(alloc, &mut times, count as u64);
+    put_right(line, &times, NUMBERS);
+}
+
+// A time among the moments, behind a sign.
+fn put_time_right(alloc: Global, line: &mut Ink, sign: &str, time: u64) {
+    let mut told = Ink::new(alloc);
+    told.put(sign);
+    put_time(&mut told, time);
+    put_right(line, &told, MOMENTS);
+    line.put("  ");
+}
+
+// What a row says, and how long phases waited that meet there.
+fn put_words(line: &mut Ink, scene: &Scene, entries: &[Entry], row: &Row) {
+    put_label(line, scene, entries, row);
+    if has_waited(row) {
+        line.put("; ");
+        put_waits(line, row);
     }
+}
+
+// The lanes between two marks.
+fn put_lanes(
+    signs: &mut Vec<&'static str>,
+    lanes: &[Lane],
+    width: usize,
+) -> Result<(), AllocError> {
+    for lane in lanes {
+        put_lane(signs, lane_sign(*lane), width)?;
+    }
+    Ok(())
+}
+
+// A lane of a width, with a sign in its middle.
+fn put_lane(
+    signs: &mut Vec<&'static str>,
+    sign: &'static str,
+    width: usize,
+) -> Result<(), AllocError> {
+    for place in 0..width {
+        let is_middle = place == width / 2;
+        signs.push(if is_middle { sign } else { " " })?;
+    }
+    Ok(())
+}
+
+fn put_all(line: &mut Ink, signs: &[&'static str]) {
+    for sign in signs {
+        line.put(sign);
+    }
+}
+
+// A line, cut where it has more characters than the width; 0: it is not.
+fn end_line(ink: &mut Ink, line: &Ink, width: usize) {
+    ink.keep(line.done);
+    let words = line.text.as_str();
+    if width > 0 && words.chars().count() > width {
+        ink.cut(words, width);
+    } else {
+        ink.put(words.trim_end());
+    }
+    ink.put("\n");
 }
 
 /// The moment of the row that a line shows, if one is behind; else the moment that is given.
@@ -311,12 +348,12 @@ pub(crate) fn end_of(scene: &Scene, row: usize, moment: u64) -> (u64, u64) {
 
 /// Appends that so many rows above come again, up to the entry of this number.
 pub(crate) fn put_copies(ink: &mut Ink, period: usize, number: u64) {
-    let done = if period == 1 {
-        write!(ink.text, "the row above, up to entry {number}")
+    if period == 1 {
+        ink.put("the row above");
     } else {
-        write!(ink.text, "the {period} rows above, up to entry {number}")
-    };
-    ink.keep(done);
+        ink.between("the ", period as u64, " rows above");
+    }
+    ink.between(", up to entry ", number, "");
 }
 
 /// The last row of the last copy of a pattern.
@@ -346,20 +383,24 @@ fn put(signs: &mut [&'static str], place: usize, sign: &'static str) {
 // An arrow from one lane to another.
 fn put_arrow(signs: &mut [&'static str], mark: Mark, from: usize, to: usize) {
     for place in from.min(to).saturating_add(1)..from.max(to) {
-        let shaft = match mark {
-            Mark::Began => ".",
-            Mark::Stopped => "~",
-            Mark::Missed if place % 2 == 0 => " ",
-            Mark::Missed => "~",
-            _ => "-",
-        };
-        put(signs, place, shaft);
+        put(signs, place, shaft_of(mark, place));
     }
     put(signs, from, "o");
     let head = if from < to { ">" } else { "<" };
     put(signs, to, head);
     if mark == Mark::Overflowed || mark == Mark::Aborted {
         put(signs, from / 2 + to / 2, "x");
+    }
+}
+
+// The sign of the shaft of an arrow at a place.
+fn shaft_of(mark: Mark, place: usize) -> &'static str {
+    match mark {
+        Mark::Began => ".",
+        Mark::Stopped => "~",
+        Mark::Missed if place % 2 == 0 => " ",
+        Mark::Missed => "~",
+        _ => "-",
     }
 }
 

@@ -52,42 +52,50 @@ pub(crate) fn has_waited(row: &Row) -> bool {
 }
 
 fn put_input(ink: &mut Ink, row: &Row, input: &Input) {
-    let done = match input {
-        Input::At(moment) => write!(ink.text, " {moment} µs"),
-        Input::Opened(_, space) => write!(ink.text, " opens in space {space}"),
-        Input::Broke(_) => ink.text.push_str(" ends"),
-        Input::Called(number, _, call) => return put_call(ink, row, *number, call.call()),
-        Input::Exreg(_, other, control) => return put_stop(ink, row, *other, *control),
-        Input::Moved(number, count) => {
-            write!(ink.text, ": {count} bytes copied (call {number})")
-        }
-    };
-    ink.keep(done);
+    match input {
+        Input::At(moment) => ink.between(" ", *moment, " µs"),
+        Input::Opened(_, space) => ink.between(" opens in space ", *space, ""),
+        Input::Broke(_) => ink.put(" ends"),
+        Input::Called(number, _, call) => put_call(ink, row, *number, call.call()),
+        Input::Exreg(_, other, control) => put_stop(ink, row, *other, *control),
+        Input::Moved(number, count) => put_moved(ink, *number, *count),
+    }
+}
+
+fn put_moved(ink: &mut Ink, number: u64, count: u64) {
+    ink.between(": ", count, " bytes copied");
+    ink.between(" (call ", number, ")");
 }
 
 // The number of a call, its phases and its message.
 fn put_call(ink: &mut Ink, row: &Row, number: u64, call: &Call) {
-    let done = write!(ink.text, " call {number}:");
-    ink.keep(done);
-    let sends = call.to() != ThreadId::NILTHREAD;
-    let receives = call.from() != ThreadId::NILTHREAD;
-    if sends {
-        ink.put(" send to ");
-        ink.id(call.to());
-        put_shown(ink, row);
-        ink.put(", ");
-        put_message(ink, call);
+    ink.between(" call ", number, ":");
+    match (
+        call.to() != ThreadId::NILTHREAD,
+        call.from() != ThreadId::NILTHREAD,
+    ) {
+        (true, true) => {
+            put_send(ink, row, call);
+            ink.put(";");
+            put_receive(ink, call);
+        }
+        (true, false) => put_send(ink, row, call),
+        (false, true) => put_receive(ink, call),
+        (false, false) => ink.put(" of no phase"),
     }
-    if sends && receives {
-        ink.put(";");
-    }
-    if receives {
-        ink.put(" receive from ");
-        ink.id(call.from());
-    }
-    if !sends && !receives {
-        ink.put(" of no phase");
-    }
+}
+
+fn put_send(ink: &mut Ink, row: &Row, call: &Call) {
+    ink.put(" send to ");
+    ink.id(call.to());
+    put_shown(ink, row);
+    ink.put(", ");
+    put_message(ink, call);
+}
+
+fn put_receive(ink: &mut Ink, call: &Call) {
+    ink.put(" receive from ");
+    ink.id(call.from());
 }
 
 /// Appends the originator that is shown in place of the sender, as ` as 1.1`.
@@ -99,19 +107,27 @@ pub(crate) fn put_shown(ink: &mut Ink, row: &Row) {
 }
 
 fn put_stop(ink: &mut Ink, row: &Row, other: ThreadId, control: MaskedControl) {
-    let what = match (control.stops_receive(), control.stops_send()) {
+    if row.mark == Mark::Missed {
+        put_stopped(ink, " would stop ", other, control);
+        ink.put(": no effect");
+    } else {
+        put_stopped(ink, " stops ", other, control);
+    }
+}
+
+fn put_stopped(ink: &mut Ink, stops: &str, other: ThreadId, control: MaskedControl) {
+    ink.put(stops);
+    ink.put(phases_of(control));
+    ink.put(" of ");
+    ink.id(other);
+}
+
+fn phases_of(control: MaskedControl) -> &'static str {
+    match (control.stops_receive(), control.stops_send()) {
         (true, true) => "receive and send",
         (true, false) => "receive",
         (false, true) => "send",
         (false, false) => "no phase",
-    };
-    let is_missed = row.mark == Mark::Missed;
-    ink.put(if is_missed { " would stop " } else { " stops " });
-    ink.put(what);
-    ink.put(" of ");
-    ink.id(other);
-    if is_missed {
-        ink.put(": no effect");
     }
 }
 
@@ -129,19 +145,18 @@ fn put_output(ink: &mut Ink, scene: &Scene, entries: &[Entry], row: &Row, output
         }
         Output::Overflowed(sending, receiving, bytes) => {
             put_receiver(ink, scene, row);
-            put_end(ink, ": overflow at ", bytes);
+            ink.between(": overflow at ", bytes, "");
             put_numbers(ink, sending, receiving);
         }
         Output::Aborted(sending, receiving, bytes) => {
             put_receiver(ink, scene, row);
-            put_end(ink, ": aborted at ", bytes);
+            ink.between(": aborted at ", bytes, "");
             put_numbers(ink, sending, receiving);
         }
         Output::Turned(number, thread) => {
             ink.put(" now waits for ");
             ink.id(thread);
-            put_end(ink, " (call ", number);
-            ink.put(")");
+            ink.between(" (call ", number, ")");
         }
         Output::Failed(number, error) => put_failure(ink, row, number, error),
     }
@@ -153,16 +168,10 @@ fn put_receiver(ink: &mut Ink, scene: &Scene, row: &Row) {
     put_shown(ink, row);
 }
 
-// Words, and a number behind them.
-fn put_end(ink: &mut Ink, words: &str, number: u64) {
-    ink.put(words);
-    ink.number(number);
-}
-
 // The numbers of the calls that meet.
 fn put_numbers(ink: &mut Ink, sending: u64, receiving: u64) {
-    let done = write!(ink.text, " ({sending} to {receiving})");
-    ink.keep(done);
+    ink.between(" (", sending, " to ");
+    ink.between("", receiving, ")");
 }
 
 fn put_message_of(ink: &mut Ink, entries: &[Entry], row: &Row) {
@@ -176,25 +185,26 @@ fn put_message_of(ink: &mut Ink, entries: &[Entry], row: &Row) {
 }
 
 fn put_failure(ink: &mut Ink, row: &Row, number: u64, error: IpcError) {
-    let phase = match error.phase() {
+    ink.put(match error.phase() {
         Phase::Send => ": send ",
         Phase::Receive => ": receive ",
-    };
-    let what = match error.kind() {
+    });
+    ink.put(cause_of(error));
+    let waited = row.sent.max(row.received);
+    if waited > 0 {
+        ink.put(" after ");
+        put_time(ink, waited);
+    }
+    ink.between(" (call ", number, ")");
+}
+
+fn cause_of(error: IpcError) -> &'static str {
+    match error.kind() {
         Some(ErrorKind::Timeout) => "timeout",
         Some(ErrorKind::Cancelled) => "cancelled",
         Some(ErrorKind::NonExistingPartner) => "no partner",
         Some(ErrorKind::MessageOverflow) => "overflow",
         Some(ErrorKind::Aborted) => "aborted",
         None => "failed",
-    };
-    ink.put(phase);
-    ink.put(what);
-    let waited = row.sent.max(row.received);
-    if waited > 0 {
-        ink.put(" after ");
-        put_time(ink, waited);
     }
-    put_end(ink, " (call ", number);
-    ink.put(")");
 }

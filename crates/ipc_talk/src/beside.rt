@@ -1,3 +1,4 @@
+use crate::spelling::put_word;
 use ipc_explain::{meaning_of, tell_tag};
 use ipc_lines::read_hex;
 use ipc_words::{ErrorKind, IpcError, MsgTag, Phase};
@@ -6,23 +7,57 @@ use std::alloc::{AllocError, Global};
 /// Words beside the answer line of a command, which stands here without its newline. None where the line
 /// says all.
 pub fn words_beside(alloc: Global, answer: &[u8]) -> Result<Option<String>, AllocError> {
-    let mut fields: Vec<&[u8]> = Vec::new(alloc);
-    for field in answer.split(|byte| *byte == b' ') {
+    let mut fields = Vec::new(alloc);
+    put_fields(&mut fields, answer)?;
+    let words = words_of_fields(alloc, &fields);
+    drop(fields);
+    words
+}
+
+// Puts the fields of a line, with a space between each two, behind others.
+fn put_fields<'a>(fields: &mut Vec<&'a [u8]>, line: &'a [u8]) -> Result<(), AllocError> {
+    for field in line.split(|byte| *byte == b' ') {
         fields.push(field)?;
     }
-    match fields.as_slice() {
-        [b"!", number] => match meaning_of(number) {
-            Some(meaning) => Ok(Some(String::from_str(alloc, meaning)?)),
-            None => Ok(None),
-        },
-        [b"=", b"none"] => Ok(Some(String::from_str(
-            alloc,
-            "the call is still open, or there is none whose outcome was not taken",
-        )?)),
-        [b"=", b"idle"] => Ok(Some(String::from_str(alloc, "nothing is left to copy")?)),
-        [b"=", b"moved"] => Ok(Some(String::from_str(alloc, "a block was copied")?)),
-        [b"=", _, tag, sender, _, error, _, _] => outcome_words(alloc, tag, sender, error),
+    Ok(())
+}
+
+fn words_of_fields(alloc: Global, fields: &[&[u8]]) -> Result<Option<String>, AllocError> {
+    match fields {
+        [mark, word] => words_of_one(alloc, mark, word),
+        [mark, _, tag, sender, _, error, _, _] if is_done(mark) => {
+            outcome_words(alloc, tag, sender, error)
+        }
         _ => Ok(None),
+    }
+}
+
+fn is_done(mark: &[u8]) -> bool {
+    mark == b"=".as_slice()
+}
+
+// An answer of one word behind its mark.
+fn words_of_one(alloc: Global, mark: &[u8], word: &[u8]) -> Result<Option<String>, AllocError> {
+    match meaning_of_one(mark, word) {
+        Some(meaning) => Ok(Some(String::from_str(alloc, meaning)?)),
+        None => Ok(None),
+    }
+}
+
+fn meaning_of_one(mark: &[u8], word: &[u8]) -> Option<&'static str> {
+    match mark {
+        b"!" => meaning_of(word),
+        b"=" => meaning_of_done(word),
+        _ => None,
+    }
+}
+
+fn meaning_of_done(word: &[u8]) -> Option<&'static str> {
+    match word {
+        b"none" => Some("the call is still open, or there is none whose outcome was not taken"),
+        b"idle" => Some("nothing is left to copy"),
+        b"moved" => Some("a block was copied"),
+        _ => None,
     }
 }
 
@@ -37,19 +72,25 @@ fn outcome_words(
         return Ok(None);
     };
     let mut text = String::new(alloc);
-    if error != 0 {
-        tell_error(&mut text, IpcError::from_word(error))?;
-    } else if sender == b"nil".as_slice() {
-        text.push_str("it was sent")?;
-    } else {
-        text.push_str("a message from ")?;
-        for byte in sender {
-            text.push(char::from(*byte))?;
-        }
-        text.push_str(": ")?;
-        tell_tag(&mut text, MsgTag::from_word(tag))?;
-    }
+    tell_outcome(&mut text, tag, sender, error)?;
     Ok(Some(text))
+}
+
+fn tell_outcome(text: &mut String, tag: u64, sender: &[u8], error: u64) -> Result<(), AllocError> {
+    if error != 0 {
+        tell_error(text, IpcError::from_word(error))
+    } else if sender == b"nil".as_slice() {
+        text.push_str("it was sent")
+    } else {
+        tell_message(text, tag, sender)
+    }
+}
+
+fn tell_message(text: &mut String, tag: u64, sender: &[u8]) -> Result<(), AllocError> {
+    text.push_str("a message from ")?;
+    put_word(text, sender)?;
+    text.push_str(": ")?;
+    tell_tag(text, MsgTag::from_word(tag))
 }
 
 /// Which phase failed, and why.

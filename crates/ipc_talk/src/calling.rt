@@ -1,7 +1,7 @@
 use crate::spelling::{put_numbers, put_string, read_number, read_period, read_thread};
 use ipc_explain::TagRequest;
 use ipc_lines::{HexText, IdText};
-use ipc_words::{Period, ThreadId};
+use ipc_words::{MsgTag, Period, ThreadId};
 use std::alloc::{AllocError, Global};
 
 /// Where the first buffer that is typed by its size alone begins, and how far apart they are.
@@ -23,6 +23,47 @@ struct Asked {
     buffers: String,
 }
 
+/// The name of a field, which stands before its `=`.
+#[derive(Clone, Copy)]
+enum Name {
+    To,
+    From,
+    Send,
+    Receive,
+    Label,
+    As,
+    Words,
+    Buffers,
+}
+
+/// The names, as they are typed.
+const NAMES: [(&[u8], Name); 8] = [
+    (b"to", Name::To),
+    (b"from", Name::From),
+    (b"send", Name::Send),
+    (b"receive", Name::Receive),
+    (b"label", Name::Label),
+    (b"as", Name::As),
+    (b"words", Name::Words),
+    (b"buffers", Name::Buffers),
+];
+
+fn name_of(word: &[u8]) -> Option<Name> {
+    for (text, name) in NAMES {
+        if text == word {
+            return Some(name);
+        }
+    }
+    None
+}
+
+// The name of a field and what stands behind its `=`. None where it is no field with a name.
+fn named(word: &[u8]) -> Option<(Name, &[u8])> {
+    let end = word.iter().position(|byte| *byte == b'=')?;
+    let (name, behind) = word.split_at(end);
+    Some((name_of(name)?, behind.strip_prefix(b"=")?))
+}
+
 /// The line of a call that is typed as its caller and then `to=`, `from=`, `send=`, `receive=`, `label=`,
 /// `words=`, `as=`, `buffers=` and texts between quotation marks, in any order. An `Err` inside is the word
 /// that is none of these, by its place.
@@ -30,57 +71,84 @@ pub(crate) fn call_line(
     alloc: Global,
     words: &[Vec<u8>],
 ) -> Result<Result<String, usize>, AllocError> {
-    let mut asked = Asked {
-        to: ThreadId::NILTHREAD,
-        from: ThreadId::NILTHREAD,
-        send: Period::NEVER,
-        receive: Period::NEVER,
-        label: 0,
-        originator: None,
-        words: String::new(alloc),
-        word_count: 0,
-        strings: String::new(alloc),
-        string_count: 0,
-        buffers: String::new(alloc),
-    };
-    let Some(caller) = words.get(1) else {
+    let Some(caller) = caller_of(words) else {
         return Ok(Err(1));
     };
-    let Some(caller) = read_thread(caller) else {
-        return Ok(Err(1));
-    };
-    for (place, word) in words.iter().enumerate() {
-        if place >= 2 && !asked.read(word)? {
-            return Ok(Err(place));
-        }
-    }
-    match asked.line(alloc, caller)? {
-        Some(line) => Ok(Ok(line)),
-        None => Ok(Err(0)),
-    }
+    let mut asked = Asked::new(alloc);
+    let line = asked.call(alloc, caller, words);
+    drop(asked);
+    line
+}
+
+fn caller_of(words: &[Vec<u8>]) -> Option<ThreadId> {
+    read_thread(words.get(1)?)
 }
 
 impl Asked {
+    // Of a call without a field.
+    fn new(alloc: Global) -> Asked {
+        Asked {
+            to: ThreadId::NILTHREAD,
+            from: ThreadId::NILTHREAD,
+            send: Period::NEVER,
+            receive: Period::NEVER,
+            label: 0,
+            originator: None,
+            words: String::new(alloc),
+            word_count: 0,
+            strings: String::new(alloc),
+            string_count: 0,
+            buffers: String::new(alloc),
+        }
+    }
+
+    // The line of a caller with these words. An `Err` inside is as in `call_line`.
+    fn call(
+        &mut self,
+        alloc: Global,
+        caller: ThreadId,
+        words: &[Vec<u8>],
+    ) -> Result<Result<String, usize>, AllocError> {
+        if let Some(place) = self.read_all(words)? {
+            return Ok(Err(place));
+        }
+        match self.line(alloc, caller)? {
+            Some(line) => Ok(Ok(line)),
+            None => Ok(Err(0)),
+        }
+    }
+
+    // Takes the words behind the caller, up to the first that is none, and answers its place.
+    fn read_all(&mut self, words: &[Vec<u8>]) -> Result<Option<usize>, AllocError> {
+        for (place, word) in words.iter().enumerate() {
+            if place >= 2 && !self.read(word)? {
+                return Ok(Some(place));
+            }
+        }
+        Ok(None)
+    }
+
     // Takes one word. False where it is none.
     fn read(&mut self, word: &[u8]) -> Result<bool, AllocError> {
-        match word {
-            [b'"', text @ ..] => {
-                self.read_string(text)?;
-                Ok(true)
-            }
-            [b't', b'o', b'=', id @ ..] => Ok(self.read_to(id)),
-            [b'f', b'r', b'o', b'm', b'=', id @ ..] => Ok(self.read_from(id)),
-            [b's', b'e', b'n', b'd', b'=', time @ ..] => Ok(self.read_send(time)),
-            [b'r', b'e', b'c', b'e', b'i', b'v', b'e', b'=', time @ ..] => {
-                Ok(self.read_receive(time))
-            }
-            [b'l', b'a', b'b', b'e', b'l', b'=', number @ ..] => Ok(self.read_label(number)),
-            [b'a', b's', b'=', id @ ..] => Ok(self.read_originator(id)),
-            [b'w', b'o', b'r', b'd', b's', b'=', list @ ..] => self.read_words(list),
-            [b'b', b'u', b'f', b'f', b'e', b'r', b's', b'=', list @ ..] => {
-                self.read_buffers(list)
-            }
-            _ => Ok(false),
+        if let [b'"', text @ ..] = word {
+            return self.read_string(text);
+        }
+        match named(word) {
+            Some((name, value)) => self.read_field(name, value),
+            None => Ok(false),
+        }
+    }
+
+    fn read_field(&mut self, name: Name, value: &[u8]) -> Result<bool, AllocError> {
+        match name {
+            Name::To => Ok(self.read_to(value)),
+            Name::From => Ok(self.read_from(value)),
+            Name::Send => Ok(self.read_send(value)),
+            Name::Receive => Ok(self.read_receive(value)),
+            Name::Label => Ok(self.read_label(value)),
+            Name::As => Ok(self.read_originator(value)),
+            Name::Words => self.read_words(value),
+            Name::Buffers => self.read_buffers(value),
         }
     }
 
@@ -149,12 +217,13 @@ impl Asked {
         put_numbers(&mut self.words, list)
     }
 
-    fn read_string(&mut self, text: &[u8]) -> Result<(), AllocError> {
+    fn read_string(&mut self, text: &[u8]) -> Result<bool, AllocError> {
         if self.string_count > 0 {
             self.strings.push_str(",")?;
         }
         self.string_count = self.string_count.saturating_add(1);
-        put_string(&mut self.strings, text)
+        put_string(&mut self.strings, text)?;
+        Ok(true)
     }
 
     // Sizes with commas between them, each a buffer of its own at an address of its own.
@@ -164,10 +233,7 @@ impl Asked {
             let Some(size) = read_number(size) else {
                 return Ok(false);
             };
-            if address > BUFFER_STEP {
-                self.buffers.push_str(",")?;
-            }
-            write!(self.buffers, "{size}@{}", HexText(address))?;
+            put_buffer(&mut self.buffers, size, address)?;
             address = address.saturating_add(BUFFER_STEP);
         }
         Ok(true)
@@ -175,24 +241,32 @@ impl Asked {
 
     // The line. None where the fields of the tag are past their widths.
     fn line(&self, alloc: Global, caller: ThreadId) -> Result<Option<String>, AllocError> {
-        let (Ok(words), Ok(strings)) = (
-            u8::try_from(self.word_count),
-            u8::try_from(self.string_count),
-        ) else {
-            return Ok(None);
-        };
+        match self.tag() {
+            Some(tag) => {
+                let mut line = String::new(alloc);
+                self.put_call(&mut line, caller, tag)?;
+                self.put_lists(&mut line)?;
+                Ok(Some(line))
+            }
+            None => Ok(None),
+        }
+    }
+
+    // The tag. None where its fields are past their widths.
+    fn tag(&self) -> Option<MsgTag> {
         let request = TagRequest {
             label: self.label,
-            words,
-            strings,
+            words: u8::try_from(self.word_count).ok()?,
+            strings: u8::try_from(self.string_count).ok()?,
             is_propagated: self.originator.is_some(),
         };
-        let Some(tag) = request.tag() else {
-            return Ok(None);
-        };
-        let originator = self.originator.unwrap_or(ThreadId::NILTHREAD);
-        let mut line = String::new(alloc);
+        request.tag()
+    }
+
+    // The fields up to the lists.
+    fn put_call(&self, line: &mut String, caller: ThreadId, tag: MsgTag) -> Result<(), AllocError> {
         let timeouts = u64::from(self.send_word()) * 0x1_0000 + u64::from(self.receive_word());
+        let originator = self.originator.unwrap_or(ThreadId::NILTHREAD);
         write!(
             line,
             "call {} {} {} {} {} {} ",
@@ -202,13 +276,15 @@ impl Asked {
             HexText(timeouts),
             HexText(tag.to_word()),
             IdText(originator)
-        )?;
-        put_or_dash(&mut line, self.words.as_str())?;
+        )
+    }
+
+    fn put_lists(&self, line: &mut String) -> Result<(), AllocError> {
+        put_or_dash(line, self.words.as_str())?;
         line.push_str(" ")?;
-        put_or_dash(&mut line, self.strings.as_str())?;
+        put_or_dash(line, self.strings.as_str())?;
         line.push_str(" ")?;
-        put_or_dash(&mut line, self.buffers.as_str())?;
-        Ok(Some(line))
+        put_or_dash(line, self.buffers.as_str())
     }
 
     // The period of a phase that is not there is not set.
@@ -227,6 +303,14 @@ impl Asked {
             self.receive.to_word()
         }
     }
+}
+
+// A buffer of a size at an address, behind a comma where it is not the first.
+fn put_buffer(buffers: &mut String, size: u64, address: u64) -> Result<(), AllocError> {
+    if address > BUFFER_STEP {
+        buffers.push_str(",")?;
+    }
+    write!(buffers, "{size}@{}", HexText(address))
 }
 
 fn put_or_dash(text: &mut String, field: &str) -> Result<(), AllocError> {

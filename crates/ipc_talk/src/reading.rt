@@ -1,6 +1,6 @@
 use crate::calling::call_line;
 use crate::quoting::words_of;
-use crate::spelling::{read_control, read_number, read_thread, read_time};
+use crate::spelling::{put_word, read_control, read_number, read_thread, read_time};
 use ipc_lines::{HexText, IdText};
 use ipc_reasons::{Grammar, reason_of, reason_text};
 use std::alloc::{AllocError, Global};
@@ -20,6 +20,8 @@ advance                        copies the next block of a message
 help, quit                     and # begins a comment. The lines of scripts are taken, too
 ";
 
+const WANTED_TO_OPEN: &str = "wanted are the numbers of a thread and a space, as open 1 1";
+
 /// What a typed line stands for.
 #[derive(Drop)]
 pub enum Typed {
@@ -37,37 +39,61 @@ pub enum Typed {
 
 /// What a line that was typed, without its newline, stands for. A line of a script stands for itself.
 pub fn read_typed(alloc: Global, typed: &[u8]) -> Result<Typed, AllocError> {
-    if let Some(line) = exact(alloc, typed)? {
-        return Ok(Typed::Line(line));
+    match exact(alloc, typed)? {
+        Some(line) => Ok(Typed::Line(line)),
+        None => read_words_of(alloc, typed),
     }
-    let Some(words) = words_of(alloc, typed)? else {
-        return mistake(alloc, "a quotation mark is missing");
-    };
-    let Some(name) = words.first() else {
-        return Ok(Typed::Nothing);
-    };
-    match name.as_slice() {
+}
+
+// A line that is none of a script.
+fn read_words_of(alloc: Global, typed: &[u8]) -> Result<Typed, AllocError> {
+    match words_of(alloc, typed)? {
+        Some(words) => {
+            let read = read_words(alloc, &words);
+            drop(words);
+            read
+        }
+        None => mistake(alloc, "a quotation mark is missing"),
+    }
+}
+
+fn read_words(alloc: Global, words: &[Vec<u8>]) -> Result<Typed, AllocError> {
+    match words.first() {
+        Some(name) => read_command(alloc, name, words),
+        None => Ok(Typed::Nothing),
+    }
+}
+
+fn read_command(alloc: Global, name: &[u8], words: &[Vec<u8>]) -> Result<Typed, AllocError> {
+    match name {
         b"help" | b"?" => Ok(Typed::Help),
         b"quit" | b"exit" => Ok(Typed::Quit),
-        b"open" => read_open(alloc, &words),
-        b"call" => read_call(alloc, &words),
-        b"take" => read_one(alloc, "take", &words),
-        b"broke" => read_one(alloc, "broke", &words),
-        b"exreg" => read_exreg(alloc, &words),
-        b"at" => read_at(alloc, &words),
-        _ => judged(alloc, joined(alloc, &words)?),
+        b"open" => read_open(alloc, words),
+        b"call" => read_call(alloc, words),
+        b"take" => read_one(alloc, "take", words),
+        b"broke" => read_one(alloc, "broke", words),
+        b"exreg" => read_exreg(alloc, words),
+        b"at" => read_at(alloc, words),
+        _ => judged(alloc, joined(alloc, words)?),
     }
 }
 
 // The line itself, where it is well formed.
 fn exact(alloc: Global, typed: &[u8]) -> Result<Option<String>, AllocError> {
-    let Ok(line) = String::from_utf8(typed.to_vec(alloc)?) else {
-        return Ok(None);
-    };
-    if reason_of(alloc, Grammar::Script, line.as_bytes())?.is_some() {
-        return Ok(None);
+    match String::from_utf8(typed.to_vec(alloc)?) {
+        Ok(line) => where_well_formed(alloc, line),
+        Err(_) => Ok(None),
     }
-    Ok(Some(line))
+}
+
+fn where_well_formed(alloc: Global, line: String) -> Result<Option<String>, AllocError> {
+    let is_well_formed = is_well_formed(alloc, line.as_bytes())?;
+    Ok(if is_well_formed { Some(line) } else { None })
+}
+
+fn is_well_formed(alloc: Global, line: &[u8]) -> Result<bool, AllocError> {
+    let reason = reason_of(alloc, Grammar::Script, line)?;
+    Ok(reason.is_none())
 }
 
 fn mistake(alloc: Global, reason: &str) -> Result<Typed, AllocError> {
@@ -89,35 +115,27 @@ fn joined(alloc: Global, words: &[Vec<u8>]) -> Result<String, AllocError> {
         if !line.is_empty() {
             line.push_str(" ")?;
         }
-        for byte in word {
-            line.push(char::from(*byte))?;
-        }
+        put_word(&mut line, word)?;
     }
     Ok(line)
 }
 
 fn read_open(alloc: Global, words: &[Vec<u8>]) -> Result<Typed, AllocError> {
     match words {
-        [_, number] => {
-            let Some(number) = read_number(number) else {
-                return mistake(alloc, "wanted is the number of a thread, as open 1");
-            };
-            Ok(Typed::Line(format!(in alloc; "open {number} 1")?))
-        }
-        [_, number, space] => {
-            let (Some(number), Some(space)) = (read_number(number), read_number(space)) else {
-                return mistake(
-                    alloc,
-                    "wanted are the numbers of a thread and a space, as open 1 1",
-                );
-            };
-            Ok(Typed::Line(format!(in alloc; "open {number} {space}")?))
-        }
-        _ => mistake(
-            alloc,
-            "wanted are the numbers of a thread and a space, as open 1 1",
-        ),
+        [_, number] => match read_number(number) {
+            Some(number) => open_line(alloc, number, 1),
+            None => mistake(alloc, "wanted is the number of a thread, as open 1"),
+        },
+        [_, number, space] => match (read_number(number), read_number(space)) {
+            (Some(number), Some(space)) => open_line(alloc, number, space),
+            _ => mistake(alloc, WANTED_TO_OPEN),
+        },
+        _ => mistake(alloc, WANTED_TO_OPEN),
     }
+}
+
+fn open_line(alloc: Global, number: u64, space: u64) -> Result<Typed, AllocError> {
+    Ok(Typed::Line(format!(in alloc; "open {number} {space}")?))
 }
 
 // A command of one thread.
@@ -185,11 +203,7 @@ fn call_mistake(alloc: Global, words: &[Vec<u8>], place: usize) -> Result<Typed,
         "wanted is call ID to=ID from=ID send=TIME receive=TIME label=N words=N,N as=ID buffers=N \"text\"; not ",
     )?;
     match words.get(place) {
-        Some(word) => {
-            for byte in word {
-                text.push(char::from(*byte))?;
-            }
-        }
+        Some(word) => put_word(&mut text, word)?,
         None => text.push_str("nothing")?,
     }
     Ok(Typed::Mistake(text))

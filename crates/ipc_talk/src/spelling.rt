@@ -137,6 +137,14 @@ pub(crate) fn put_numbers(text: &mut String, list: &[u8]) -> Result<bool, AllocE
     Ok(true)
 }
 
+/// Appends a word as it was typed.
+pub(crate) fn put_word(text: &mut String, word: &[u8]) -> Result<(), AllocError> {
+    for byte in word {
+        text.push(char::from(*byte))?;
+    }
+    Ok(())
+}
+
 /// Appends a string as a script has it: `x` and its bytes in hexadecimal.
 pub(crate) fn put_string(text: &mut String, bytes: &[u8]) -> Result<(), AllocError> {
     text.push_str("x")?;

@@ -1,9 +1,6 @@
 ghost use Rattle.std.specs.Prelude.{◌≡◌, ◌≢◌, ◌+◌, ◌<◌, take};
 ghost use Rattle.ipc_shell.specs.Looking.{ChartsTrace, IsDrawnOf, MayDraw};
 
-#[cfg(test)]
-mod tests;
-
 use crate::exit::{ChartFault, Exit};
 use crate::looking::{front, illegal_at};
 use crate::output::put;

@@ -4,11 +4,6 @@ ghost use Rattle.ipc_check.specs.Faults.{IfNo};
 ghost use Rattle.ipc_trace.specs.Versions.{header_lines};
 ghost use Rattle.ipc_shell.specs.Checking.{ChecksTrace, PrintsVerdict, expected_text, verdict_text};
 
-#[cfg(test)]
-mod compacted_tests;
-#[cfg(test)]
-mod tests;
-
 use crate::exit::Exit;
 use crate::output::put;
 use ipc_check::{Verdict, check};

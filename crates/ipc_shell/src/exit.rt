@@ -1,7 +1,7 @@
 use std::fmt;
 
 /// How a run ended.
-#[derive(Clone, Copy, PartialEq, Eq, Debug)]
+#[derive(Clone, Copy)]
 pub enum Exit {
     /// At the end of the script, or with a legal trace: status 0.
     Done,
@@ -27,7 +27,7 @@ pub enum Exit {
 }
 
 /// Why nothing is drawn.
-#[derive(Clone, Copy, PartialEq, Eq, Debug)]
+#[derive(Clone, Copy)]
 pub enum ChartFault {
     /// The first entry that was asked for is behind the last.
     Reversed,

@@ -1,8 +1,5 @@
 ghost use Rattle.std.specs.Prelude.{◌≡◌, ◌≢◌, ◌+◌, ◌<◌, IsSome, Some};
 
-#[cfg(test)]
-mod tests;
-
 use crate::exit::Exit;
 use crate::output::put;
 use ipc_follow::{Follower, Selection, read_label, read_threads};

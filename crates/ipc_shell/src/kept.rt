@@ -1,6 +1,3 @@
-#[cfg(test)]
-mod tests;
-
 use ipc_ports::{PortFault, PortRead, line_end};
 use ipc_words::limits::MAX_LINE_BYTES;
 use std::alloc::Global;

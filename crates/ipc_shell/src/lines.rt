@@ -7,7 +7,7 @@ use ipc_ports::{PieceBuffer, PortRead, line_end};
 use ipc_words::limits::MAX_LINE_BYTES;
 
 /// What was read next.
-#[derive(Clone, Copy, PartialEq, Eq, Debug)]
+#[derive(Clone, Copy)]
 pub enum NextLine {
     /// A line, without its newline.
     Line,
@@ -22,7 +22,7 @@ pub enum NextLine {
 }
 
 /// What one read gave.
-#[derive(Clone, Copy, PartialEq, Eq, Debug)]
+#[derive(Clone, Copy)]
 enum Piece {
     /// A part of a line.
     Part,

@@ -4,9 +4,6 @@ ghost use Rattle.std.specs.String.{string_bytes};
 ghost use Rattle.ipc_trace.specs.Versions.{header_lines};
 ghost use Rattle.ipc_shell.specs.Looking.{IsSaidOf, LooksAt, MayEnd, shown_of};
 
-#[cfg(test)]
-mod tests;
-
 use crate::exit::Exit;
 use crate::output::put;
 use ipc_check::{Verdict, check};
@@ -19,7 +16,7 @@ use ipc_trace::{TraceEnd, TraceRead, TraceVersion, read_trace};
 use std::alloc::{AllocError, Global};
 
 /// What is asked of a trace.
-#[derive(Clone, Copy, PartialEq, Eq, Debug)]
+#[derive(Clone, Copy)]
 pub enum Look {
     /// The commands whose history it is.
     Script,

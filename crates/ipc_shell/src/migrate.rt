@@ -1,9 +1,6 @@
 ghost use Rattle.std.specs.Prelude.{◌≡◌, ◌≢◌, ◌+◌, ◌<◌, ◌⊎◌, true};
 ghost use Rattle.ipc_shell.specs.Migrating.{MigratesTrace, TellsTorn, WritesMigrated};
 
-#[cfg(test)]
-mod tests;
-
 use crate::exit::Exit;
 use crate::output::put;
 use ipc_history::Entry;

@@ -5,15 +5,7 @@ ghost use Rattle.ipc_shell.specs.Failing.{HasFailed};
 ghost use Rattle.ipc_shell.specs.Running.{compact_line, first_kernel, EndsLine, IsCompacted, IsNoCommand, RunsLine, RunsScript};
 
 mod answering;
-#[cfg(test)]
-mod command_tests;
 mod commands;
-#[cfg(test)]
-mod row_tests;
-#[cfg(test)]
-pub(crate) mod tests;
-#[cfg(test)]
-mod transcripts;
 
 use crate::exit::Exit;
 use crate::lines::{NextLine, next_line};

@@ -1,9 +1,6 @@
 ghost use Rattle.std.specs.Prelude.{◌≡◌, ◌≢◌, ◌+◌, ◌<◌, IfSome, Some};
 ghost use Rattle.ipc_shell.specs.Talking.{MayEndTalk};
 
-#[cfg(test)]
-mod tests;
-
 use crate::exit::Exit;
 use crate::output::put;
 use crate::run::{answer, read_command};

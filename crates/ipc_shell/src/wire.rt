@@ -12,8 +12,6 @@ ghost use Rattle.ipc_shell.specs.Wiring.{connect_text, ended_text, ends_here, fi
 ghost use Rattle.ipc_shell.specs.Wiring.{progress_if, said_text};
 
 mod commands;
-#[cfg(test)]
-mod tests;
 
 use crate::exit::Exit;
 use crate::lines::{NextLine, next_line};
@@ -28,7 +26,7 @@ use std::alloc::{AllocError, Global};
 const PIECE: usize = 8192;
 
 /// What became of a command.
-#[derive(Clone, Copy, PartialEq, Eq, Debug)]
+#[derive(Clone, Copy)]
 enum Obeyed {
     /// A connection came, and has this number.
     Connected(usize),

@@ -48,8 +48,3 @@ pub use outcomes::outcome_line;
 pub use readable::{call_is_readable, entry_is_readable};
 pub use reading::{LineFault, read_entry};
 pub use scalars::{HexText, IdText};
-
-#[cfg(test)]
-mod reading_tests;
-#[cfg(test)]
-mod tests;

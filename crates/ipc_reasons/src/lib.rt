@@ -19,6 +19,3 @@ pub use laws::{good_trace_lines_are_entries, rules_are_the_normal_form};
 pub use reasons::{BadField, Reason, Wanted, reason_of, reason_text};
 pub use rules::CallRule;
 pub use whole::LineFault;
-
-#[cfg(test)]
-mod tests;

@@ -20,6 +20,3 @@ pub use tag_fields::TagFields;
 pub use thread_id::{ThreadId, ThreadIdKind};
 pub use timeouts::Timeouts;
 pub use version::next_version;
-
-#[cfg(test)]
-mod tests;

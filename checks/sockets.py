@@ -4,10 +4,10 @@
 checks/sockets.py PROGRAM          runs PROGRAM (l4d) in a folder of its own
 checks/sockets.py --at PATH        asks the server that listens on PATH, but for what needs its number of threads and files
 
-Exit 0 where every answer was right: half frames, refusals, 1,023 live threads and one more, a reconnection, ExchangeRegisters over connections,
-100 processes in pairs and 100 in a star with each answer checked, and processes that are killed at random moments. At the end
-the server has as many threads and files as before, and its memory is told. The server writes a trace meanwhile, of which
-l4sh, which is built first where it is missing, says that it is a legal history.
+Exit 0 where every answer was right: a receive that is held until another connection sends, half frames, refusals, 1,023 live threads and one
+more, a reconnection, ExchangeRegisters over connections, 100 processes in pairs and 100 in a star with each answer checked, and processes that
+are killed at random moments. At the end the server has as many threads and files as before, and its memory is told. The server writes a trace
+meanwhile, of which l4sh, which is built first where it is missing, says that it is a legal history.
 """
 import os, random, resource, signal, socket, struct, subprocess, sys, tempfile, time
 
@@ -24,6 +24,27 @@ KILLING = 6
 LAST = 1023
 # so many descriptors does a process need that has a connection for each of them; the server needs about as many
 DESCRIPTORS = LAST + 200
+
+# HELLO 1, and a call that receives from anythread
+RECEIVER = bytes.fromhex(
+    "00000003 01 0001"
+    "0000002e 02 0000000000000000 ffffffffffffffff 00000000 0000000000000000 0000000000000000 0000000000000000 00"
+)
+# HELLO 2
+SENDER = bytes.fromhex("00000003 01 0002")
+# a call that sends the word 7 to 1.1
+SEND = bytes.fromhex(
+    "00000036 02 0000000100000001 0000000000000000 00000000 0000000000000000 0000000000000001 0000000000000000 00 0000000000000007"
+)
+# WELCOME 1.1
+GREETED = bytes.fromhex("00000009 81 0000000100000001")
+# an IPCR with the word 7 from 2.1
+TOLD = bytes.fromhex("0000002a 82 0000000000000001 0000000200000001 0000000000000000 0000000000000000 0000000000000007 00")
+# WELCOME 2.1, and an empty IPCR
+SENT = bytes.fromhex(
+    "00000009 81 0000000200000001"
+    "00000022 82 0000000000000000 0000000000000000 0000000000000000 0000000000000000 00"
+)
 
 
 class Client:
@@ -62,6 +83,12 @@ class Client:
         assert kind == 0x82, (hex(kind), body.hex())
         tag, sender = struct.unpack(">QQ", body[:16])
         return tag, sender, body
+
+    def ends_its_input(self):
+        """Sends nothing more, and gets nothing more."""
+        self.line.shutdown(socket.SHUT_WR)
+        assert self.line.recv(1) == b"", "something was told behind the end of the input"
+        self.line.close()
 
     def bye(self):
         self.line.sendall(frame(4))
@@ -329,6 +356,7 @@ def main():
         sys.exit("sockets: the system gives a process %d descriptors, and %d threads need %d" % (most, LAST, DESCRIPTORS))
     # the server has the same limit
     resource.setrlimit(resource.RLIMIT_NOFILE, (DESCRIPTORS, most))
+    held_receive(sys.argv[1])
     traces(sys.argv[1])
     folder = tempfile.mkdtemp()
     trace = folder + "/trace"
@@ -405,6 +433,30 @@ def seen_soon(path, trace):
     assert text.endswith("opened 200.1 1\n"), text
     client.bye()
     wait_free(path, 200)
+
+
+def held_receive(program):
+    """One connection receives, and sends nothing more before its message came: another one, beside it, is welcomed, sends, and is answered. All that
+    both are told is checked, byte for byte, to the end of the server. One that serves connections one after the other never welcomes the other."""
+    folder = tempfile.mkdtemp()
+    words = [program, "--dir", folder, "--spaces", "1", "--connections", "2"]
+    server = subprocess.Popen(words, stdout=subprocess.PIPE, stderr=subprocess.PIPE)
+    try:
+        assert server.stdout.readline() == b"listening 1\n"
+        receiver, sender = Client(folder + "/space1"), Client(folder + "/space1")
+        receiver.line.sendall(RECEIVER)
+        sender.line.sendall(SENDER)
+        assert receiver.exactly(len(GREETED)) == GREETED
+        sender.line.sendall(SEND)
+        assert receiver.exactly(len(TOLD)) == TOLD
+        receiver.ends_its_input()
+        assert sender.exactly(len(SENT)) == SENT
+        sender.ends_its_input()
+        assert server.communicate(timeout=20) == (b"closed\n", b"") and server.returncode == 0
+    finally:
+        server.kill()
+    os.rmdir(folder)
+    print("a receive is held until another connection sends; what both are told, byte for byte")
 
 
 def refusals(program):

@@ -13,8 +13,6 @@ mod server;
 mod serving;
 mod shared_blocks;
 mod socket;
-#[cfg(test)]
-mod tests;
 mod tracing;
 mod working;
 

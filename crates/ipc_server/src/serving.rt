@@ -99,34 +99,6 @@ where
     server.shared.release(server.rt, posts);
 }
 
-/// Serves two connections beside each other, each by two workers, and joins them all. Where no thread can be made
-/// they are served one after the other.
-pub fn serve_ports<C, T, P, R, I, G>(
-    server: &Server<'_, C, T, P, R>,
-    first: Ports<P, I, G>,
-    second: Ports<P, I, G>,
-)
-where
-    C: Ledger + Send,
-    T: Ledger + Send,
-    P: PenPort + Drop + Send,
-    R: Threads + Wait + Clock + Sync,
-    I: PortRead + Drop + Send,
-    G: Gate + Link + Drop + Send,
-    requires first { BeginsEmpty (P.written first.writer) }
-    requires second { BeginsEmpty (P.written second.writer) }
-{
-    let _ = thread::join(
-        server.rt,
-        move ||
-            requires { BeginsEmpty (P.written first.writer) }
-        { serve_connection(server, first) },
-        move ||
-            requires { BeginsEmpty (P.written second.writer) }
-        { serve_connection(server, second) },
-    );
-}
-
 /// Reads what the client sends, and then stops reading.
 fn read_to_the_end<C, T, P, R, I, G>(
     server: &Server<'_, C, T, P, R>,

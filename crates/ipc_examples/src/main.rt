@@ -13,8 +13,6 @@ mod naming;
 mod role;
 mod sleeper;
 mod table;
-#[cfg(test)]
-mod tests;
 mod trouble;
 
 use calling::{Search, Server};

@@ -13,8 +13,6 @@ mod pending;
 mod progress;
 mod running;
 mod service;
-#[cfg(test)]
-mod tests;
 
 pub use event::{Event, Reply};
 pub use exchange::Exchange;

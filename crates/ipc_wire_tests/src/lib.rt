@@ -8,4 +8,8 @@ mod comparing;
 #[cfg(test)]
 mod examples;
 #[cfg(test)]
+mod exchange;
+#[cfg(test)]
+mod served;
+#[cfg(test)]
 mod session;

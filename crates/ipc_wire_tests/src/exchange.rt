@@ -1,16 +1,9 @@
-use super::*;
+// The exchange over pieces of bytes.
+use crate::comparing::same;
 use ipc_core::{Limits, MAX_CALLS, MAX_ENTRIES};
+use ipc_exchange::{ConnectRefused, Event, Exchange, Progress, Reply};
 use std::alloc::Global;
-use std::fmt::Debug;
 use std::process::Abort;
-
-// A test is a row of calls of the small functions here. They say nothing of what they give, so the tests carry no facts of the exchange,
-// and they fail the test themselves, so no exit opens in the tests.
-
-// Fails the test where the two differ.
-fn same<T: PartialEq + Debug + Drop>(rt: &impl Abort, left: T, right: T) {
-    assert_eq!(*rt; left, right);
-}
 
 const LIMITS: Limits = Limits {
     entries: MAX_ENTRIES,

@@ -1,5 +1,6 @@
 // Each call of a client, asked of the server in memory: a client writes its frame, the exchange is
 // given it, and the same call then reads what the exchange puts out.
+use crate::comparing::{holds, same};
 use ipc_client::{
     Answer, Buffers, Client, ClientError, Failure, Greeting, Message, Received, Registers, Timeout,
 };
@@ -11,7 +12,6 @@ use ipc_words::limits::{MAX_CALLS, MAX_ENTRIES};
 use ipc_words::{Control, IpcError, MsgTag, ThreadId};
 use std::alloc::Global;
 use std::process::Abort;
-use std::test::Fail;
 
 const ONE: u64 = 0x1_0000_0001;
 
@@ -389,103 +389,198 @@ fn timeout(wait: Wait) -> Timeout {
     }
 }
 
-fn message(alloc: Global, text: Text) -> Result<Message, Fail> {
-    let mut strings = StringList::new(alloc);
-    for string in text.strings() {
-        strings.push(alloc, string)?;
-    }
-    Ok(Message::of(alloc, text.label(), text.words(), &strings)?)
+fn push_string(rt: &impl Abort, alloc: Global, strings: &mut StringList, string: &[u8]) {
+    holds(rt, strings.push(alloc, string).expect(rt, "memory"));
 }
 
-fn buffers(alloc: Global, room: Room) -> Result<Buffers, Fail> {
-    let mut words = Vec::new(alloc);
-    match room {
-        Room::None => return Ok(Buffers::none(alloc)),
-        Room::Threes(count) => {
-            let three = Substring {
-                length: 3,
-                pointer: 0x1000,
-            };
-            let parts = vec![in alloc; three; count]?;
-            return Ok(Buffers::of(alloc, &parts)?);
-        }
-        Room::Parts => words.extend_from_slice(&PARTS)?,
-        Room::Bytes => words.extend_from_slice(&BYTES)?,
+fn strings(rt: &impl Abort, alloc: Global, text: Text) -> StringList {
+    let mut strings = StringList::new(alloc);
+    for string in text.strings() {
+        push_string(rt, alloc, &mut strings, string);
     }
-    Ok(Buffers { acceptor: 1, words })
+    strings
+}
+
+fn message(rt: &impl Abort, alloc: Global, text: Text) -> Message {
+    let strings = strings(rt, alloc, text);
+    let message = Message::of(alloc, text.label(), text.words(), &strings);
+    drop(strings);
+    message.expect(rt, "a message")
+}
+
+// The message of a text in the name of a sender.
+fn propagated(rt: &impl Abort, alloc: Global, sender: u64, text: Text) -> Message {
+    let mut message = message(rt, alloc, text);
+    message.tag = MsgTag::from_word(message.tag.to_word() | PROPAGATED);
+    message.sender = ThreadId::from_word(sender);
+    message
+}
+
+// So many buffer strings of three bytes.
+fn threes(rt: &impl Abort, alloc: Global, count: usize) -> Buffers {
+    let three = Substring {
+        length: 3,
+        pointer: 0x1000,
+    };
+    let parts = vec![in alloc; three; count].expect(rt, "memory");
+    let buffers = Buffers::of(alloc, &parts);
+    drop(parts);
+    buffers.expect(rt, "buffers")
+}
+
+// Buffer registers of these words.
+fn registers(rt: &impl Abort, alloc: Global, words: &[u64]) -> Buffers {
+    Buffers {
+        acceptor: 1,
+        words: words.to_vec(alloc).expect(rt, "memory"),
+    }
+}
+
+fn buffers(rt: &impl Abort, alloc: Global, room: Room) -> Buffers {
+    match room {
+        Room::None => Buffers::none(alloc),
+        Room::Threes(count) => threes(rt, alloc, count),
+        Room::Parts => registers(rt, alloc, &PARTS),
+        Room::Bytes => registers(rt, alloc, &BYTES),
+    }
+}
+
+// The calls of a client. They say nothing of what they give.
+
+fn hello<R: PortRead, W: PortWrite>(
+    client: &mut Client<R, W>,
+    number: u16,
+) -> Result<Came, ClientError> {
+    Ok(Came::Greeting(client.hello(number)?))
+}
+
+fn exchange<R: PortRead, W: PortWrite>(
+    client: &mut Client<R, W>,
+    dest: ThreadId,
+    control: Control,
+) -> Result<Came, ClientError> {
+    Ok(Came::Registers(client.exchange_registers(dest, control)?))
+}
+
+fn bye<R: PortRead, W: PortWrite>(client: &mut Client<R, W>) -> Result<Came, ClientError> {
+    client.bye()?;
+    Ok(Came::Parted)
+}
+
+fn send<R: PortRead, W: PortWrite>(
+    client: &mut Client<R, W>,
+    to: ThreadId,
+    message: Message,
+    wait: Timeout,
+) -> Result<Came, ClientError> {
+    Ok(Came::Answer(client.send(to, message, wait)?))
+}
+
+fn receive<R: PortRead, W: PortWrite>(
+    client: &mut Client<R, W>,
+    from: ThreadId,
+    wait: Timeout,
+    buffers: Buffers,
+) -> Result<Came, ClientError> {
+    Ok(Came::Answer(client.receive(from, wait, buffers)?))
+}
+
+fn call<R: PortRead, W: PortWrite>(
+    client: &mut Client<R, W>,
+    to: ThreadId,
+    message: Message,
+    buffers: Buffers,
+) -> Result<Came, ClientError> {
+    let never = Timeout::never();
+    Ok(Came::Answer(client.call(to, message, never, never, buffers)?))
+}
+
+fn reply_wait<R: PortRead, W: PortWrite>(
+    client: &mut Client<R, W>,
+    to: ThreadId,
+    message: Message,
+    buffers: Buffers,
+) -> Result<Came, ClientError> {
+    let never = Timeout::never();
+    Ok(Came::Answer(client.reply_wait(to, message, never, buffers)?))
 }
 
 // Makes the call of a row.
 fn make_call<R: PortRead, W: PortWrite>(
+    rt: &impl Abort,
     alloc: Global,
     client: &mut Client<R, W>,
     said: Say,
-) -> Result<Result<Came, ClientError>, Fail> {
-    let never = Timeout::never();
+) -> Result<Came, ClientError> {
     let id = ThreadId::from_word;
-    let answer = match said {
-        Say::Hello(number) => return Ok(client.hello(number).map(Came::Greeting)),
-        Say::Exchange(dest, control) => {
-            let answer = client.exchange_registers(id(dest), Control::from_word(control));
-            return Ok(answer.map(Came::Registers));
+    match said {
+        Say::Hello(number) => hello(client, number),
+        Say::Send(to, text, wait) => {
+            send(client, id(to), message(rt, alloc, text), timeout(wait))
         }
-        Say::Bye => return Ok(client.bye().map(|_| Came::Parted)),
-        Say::Send(to, text, wait) => client.send(id(to), message(alloc, text)?, timeout(wait)),
         Say::Receive(from, room, wait) => {
-            client.receive(id(from), timeout(wait), buffers(alloc, room)?)
+            receive(client, id(from), timeout(wait), buffers(rt, alloc, room))
         }
         Say::Call(to, text, room) => {
-            let buffers = buffers(alloc, room)?;
-            client.call(id(to), message(alloc, text)?, never, never, buffers)
+            call(
+                client,
+                id(to),
+                message(rt, alloc, text),
+                buffers(rt, alloc, room),
+            )
         }
         Say::ReplyWait(to, text, room) => {
-            let buffers = buffers(alloc, room)?;
-            client.reply_wait(id(to), message(alloc, text)?, never, buffers)
+            reply_wait(
+                client,
+                id(to),
+                message(rt, alloc, text),
+                buffers(rt, alloc, room),
+            )
         }
         Say::Propagate(to, sender, text) => {
-            let mut message = message(alloc, text)?;
-            message.tag = MsgTag::from_word(message.tag.to_word() | PROPAGATED);
-            message.sender = id(sender);
-            client.send(id(to), message, never)
+            send(
+                client,
+                id(to),
+                propagated(rt, alloc, sender, text),
+                Timeout::never(),
+            )
         }
-    };
-    Ok(answer.map(Came::Answer))
-}
-
-// What the call writes, and what comes of it where these bytes are answered. All of them are read.
-fn spoken(
-    rt: &impl Abort,
-    alloc: Global,
-    said: Say,
-    answered: &[u8],
-) -> Result<(Vec<u8>, Result<Came, ClientError>), Fail> {
-    let mut rest = answered;
-    let mut writer = MemoryPort::new(alloc, &[]);
-    let mut client = Client::new(alloc, &mut rest, &mut writer);
-    let came = make_call(alloc, &mut client, said)?;
-    let mut written = Vec::new(alloc);
-    written.extend_from_slice(writer.output().ok_or("what was written")?)?;
-    assert!(rt; rest.is_empty());
-    Ok((written, came))
-}
-
-// The message has the words and the strings of the text.
-fn assert_message(
-    rt: &impl Abort,
-    alloc: Global,
-    received: &Received,
-    text: Text,
-) -> Result<(), Fail> {
-    assert_eq!(rt;
-        (received.label(), received.words()),
-        (text.label(), text.words())
-    );
-    let strings = received.strings(alloc)?;
-    assert_eq!(rt; strings.len(), text.strings().len());
-    for (string, sent) in strings.iter().zip(text.strings()) {
-        assert_eq!(rt; string.as_slice(), *sent);
+        Say::Exchange(dest, control) => exchange(client, id(dest), Control::from_word(control)),
+        Say::Bye => bye(client),
     }
-    Ok(())
+}
+
+// Makes it over these ports.
+fn call_over(
+    rt: &impl Abort,
+    alloc: Global,
+    reader: &mut &[u8],
+    writer: &mut MemoryPort<'_>,
+    said: Say,
+) -> Result<Came, ClientError> {
+    let mut client = Client::new(alloc, reader, writer);
+    make_call(rt, alloc, &mut client, said)
+}
+
+// What the call writes.
+fn asked(rt: &impl Abort, alloc: Global, said: Say) -> Vec<u8> {
+    let mut reader: &[u8] = &[];
+    let mut writer = MemoryPort::new(alloc, &[]);
+    drop(call_over(rt, alloc, &mut reader, &mut writer, said));
+    let written = writer.output().expect(rt, "what was written");
+    let written = written.to_vec(alloc);
+    drop(writer);
+    written.expect(rt, "memory")
+}
+
+// What comes of the call where these bytes are answered. All of them are read.
+fn answered(rt: &impl Abort, alloc: Global, said: Say, bytes: &[u8]) -> Came {
+    let mut rest = bytes;
+    let mut writer = MemoryPort::new(alloc, &[]);
+    let came = call_over(rt, alloc, &mut rest, &mut writer, said);
+    drop(writer);
+    holds(rt, rest.is_empty());
+    came.expect(rt, "an answer")
 }
 
 fn greeting_of(came: &Came) -> Option<Greeting> {
@@ -502,103 +597,180 @@ fn registers_of(came: &Came) -> Option<Registers> {
     }
 }
 
-fn outcome_of(came: Came) -> Option<Result<Received, Failure>> {
+fn answer_of(came: Came) -> Option<Answer> {
     match came {
-        Came::Answer(answer) => Some(answer.message()),
+        Came::Answer(answer) => Some(answer),
         _ => None,
     }
 }
 
-fn received_of(came: Came) -> Option<Received> {
-    outcome_of(came)?.ok()
+// The message that came, or the failure.
+fn outcome_of(rt: &impl Abort, came: Came) -> Result<Received, Failure> {
+    answer_of(came).expect(rt, "an answer of a call").message()
 }
 
-fn failure_of(came: Came) -> Option<Failure> {
-    outcome_of(came)?.err()
+// This text was received from this sender.
+fn assert_message(rt: &impl Abort, received: &Received, sender: u64, text: Text) {
+    same(rt, received.sender().to_word(), sender);
+    same(rt, received.label(), text.label());
+    same(rt, received.words(), text.words());
 }
 
-// What came is what the row says.
-fn assert_heard(rt: &impl Abort, alloc: Global, came: Came, hear: Hear) -> Result<(), Fail> {
-    match hear {
-        Hear::Welcome(word) => {
-            let greeting = Greeting::Welcome(ThreadId::from_word(word));
-            assert_eq!(rt; greeting_of(&came), Some(greeting));
-        }
-        Hear::Exchanged(id, word) => {
-            let registers = Registers::Exchanged {
-                result: ThreadId::from_word(id),
-                control: Control::from_word(word),
-                code: 0,
-                moment: None,
-            };
-            assert_eq!(rt; registers_of(&came), Some(registers));
-        }
-        Hear::Failed(word) => {
-            let failure = Failure::Failed(IpcError::from_word(word));
-            assert_eq!(rt; failure_of(came), Some(failure));
-        }
-        Hear::Message(sender, text) => {
-            let received = received_of(came).ok_or("a message")?;
-            assert_eq!(rt; received.sender().to_word(), sender);
-            assert_message(rt, alloc, &received, text)?;
-        }
-        Hear::Done => {
-            let received = received_of(came).ok_or("an end")?;
-            assert_eq!(rt;
-                (received.sender().to_word(), received.words().len()),
-                (0, 0)
-            );
-        }
-        Hear::Nothing => return Err(Fail::new("more than nothing")),
+// Its strings are those of the text.
+fn assert_strings(rt: &impl Abort, strings: &[Vec<u8>], text: Text) {
+    same(rt, strings.len(), text.strings().len());
+    for (string, sent) in strings.iter().zip(text.strings()) {
+        same(rt, string.as_slice(), *sent);
     }
-    Ok(())
 }
 
-// What the exchange has for a connection.
-fn put_out(alloc: Global, exchange: &mut Exchange, connection: usize) -> Result<Vec<u8>, Fail> {
-    let mut bytes = Vec::new(alloc);
-    let mut piece = [0u8; 4096];
-    let count = exchange.output(connection, &mut piece);
-    bytes.extend_from_slice(piece.get(..count).ok_or("a piece")?)?;
-    Ok(bytes)
+fn heard_message(rt: &impl Abort, alloc: Global, came: Came, sender: u64, text: Text) {
+    let received = outcome_of(rt, came).expect(rt, "a message");
+    assert_message(rt, &received, sender, text);
+    let strings = received.strings(alloc).expect(rt, "memory");
+    drop(received);
+    assert_strings(rt, &strings, text);
+    drop(strings);
 }
 
-#[test]
-fn each_call_is_answered_by_the_server(rt: HostRuntime) -> Result<(), Fail> {
-    let alloc = rt.alloc();
+fn heard_end(rt: &impl Abort, came: Came) {
+    let received = outcome_of(rt, came).expect(rt, "an end");
+    same(rt, received.sender().to_word(), 0);
+    same(rt, received.words().len(), 0);
+    drop(received);
+}
+
+fn heard_failure(rt: &impl Abort, came: Came, word: u64) {
+    let failure = outcome_of(rt, came).err();
+    same(
+        rt,
+        failure,
+        Some(Failure::Failed(IpcError::from_word(word))),
+    );
+}
+
+fn heard_welcome(rt: &impl Abort, came: Came, word: u64) {
+    let greeting = greeting_of(&came);
+    drop(came);
+    same(
+        rt,
+        greeting,
+        Some(Greeting::Welcome(ThreadId::from_word(word))),
+    );
+}
+
+// What an ExchangeRegisters answers in version 1.
+fn exchanged(id: u64, word: u64) -> Registers {
+    Registers::Exchanged {
+        result: ThreadId::from_word(id),
+        control: Control::from_word(word),
+        code: 0,
+        moment: None,
+    }
+}
+
+fn heard_registers(rt: &impl Abort, came: Came, id: u64, word: u64) {
+    let registers = registers_of(&came);
+    drop(came);
+    same(rt, registers, Some(exchanged(id, word)));
+}
+
+// The bytes that a connection is answered are what the row says, as the answer to what was said on it last.
+fn assert_heard(rt: &impl Abort, alloc: Global, said: Say, bytes: &[u8], hear: Hear) {
+    match hear {
+        Hear::Nothing => holds(rt, bytes.is_empty()),
+        Hear::Welcome(word) => heard_welcome(rt, answered(rt, alloc, said, bytes), word),
+        Hear::Message(sender, text) => {
+            heard_message(rt, alloc, answered(rt, alloc, said, bytes), sender, text)
+        }
+        Hear::Done => heard_end(rt, answered(rt, alloc, said, bytes)),
+        Hear::Failed(word) => heard_failure(rt, answered(rt, alloc, said, bytes), word),
+        Hear::Exchanged(id, word) => {
+            heard_registers(rt, answered(rt, alloc, said, bytes), id, word)
+        }
+    }
+}
+
+// The exchange, with the connections of these tests. What follows says nothing of what it gives.
+fn connected(rt: &impl Abort, alloc: Global) -> Exchange {
     let limits = Limits {
         entries: MAX_ENTRIES,
         calls: MAX_CALLS,
     };
-    let mut exchange = Exchange::new(alloc, limits)?;
-    let mut last = [Say::Bye; LINES];
+    let mut exchange = Exchange::new(alloc, limits).expect(rt, "memory");
     for _ in 0..LINES {
-        exchange.connect(1).ok().ok_or("a connection")?;
+        connect(rt, &mut exchange);
     }
+    exchange
+}
+
+fn connect(rt: &impl Abort, exchange: &mut Exchange) {
+    holds(rt, exchange.connect(1).is_ok());
+}
+
+// A piece comes, what it began is moved, and the clock is read.
+fn feed(exchange: &mut Exchange, connection: usize, piece: &[u8], now: u64) {
+    let _ = exchange.feed(connection, piece);
+    for _ in 0..4 {
+        advance(exchange);
+    }
+    exchange.at(now);
+}
+
+fn advance(exchange: &mut Exchange) {
+    exchange.advance();
+}
+
+fn output(exchange: &mut Exchange, connection: usize, out: &mut [u8]) -> usize {
+    exchange.output(connection, out)
+}
+
+// What a connection hears now is this.
+fn assert_line(
+    rt: &impl Abort,
+    alloc: Global,
+    exchange: &mut Exchange,
+    connection: usize,
+    said: Say,
+    hear: Hear,
+) {
+    let mut piece = [0u8; 4096];
+    let count = output(exchange, connection, &mut piece);
+    let bytes = piece.get(..count).expect(rt, "a piece");
+    assert_heard(rt, alloc, said, bytes, hear);
+}
+
+// What a row says is said, and is heard as it says. What each connection said last is kept.
+fn play(
+    rt: &impl Abort,
+    alloc: Global,
+    exchange: &mut Exchange,
+    last: &mut [Say; LINES],
+    row: &Row,
+) {
+    let bytes = asked(rt, alloc, row.say);
+    feed(exchange, row.who, &bytes, row.now);
+    drop(bytes);
+    let said = last.get_mut(row.who.saturating_sub(1));
+    *said.expect(rt, "a connection") = row.say;
+    for (place, (said, hear)) in last.iter().zip(&row.hear).enumerate() {
+        assert_line(rt, alloc, exchange, place.saturating_add(1), *said, *hear);
+    }
+}
+
+fn progress(exchange: &Exchange, connection: usize) -> Progress {
+    exchange.progress(connection)
+}
+
+#[test]
+fn each_call_is_answered_by_the_server(rt: HostRuntime) {
+    let mut exchange = connected(&rt, rt.alloc());
+    let mut last = [Say::Bye; LINES];
     for row in &ROWS {
-        let (asked, _) = spoken(&rt, alloc, row.say, &[])?;
-        exchange.feed(row.who, &asked);
-        for _ in 0..4 {
-            exchange.advance();
-        }
-        exchange.at(row.now);
-        for (place, said) in last.iter_mut().enumerate() {
-            let connection = place.saturating_add(1);
-            if connection == row.who {
-                *said = row.say;
-            }
-            let answered = put_out(alloc, &mut exchange, connection)?;
-            let hear = *row.hear.get(place).ok_or("a line")?;
-            if matches!(&hear, Hear::Nothing) {
-                assert!(rt; answered.is_empty());
-                continue;
-            }
-            let (_, came) = spoken(&rt, alloc, *said, &answered)?;
-            assert_heard(&rt, alloc, came.ok().ok_or("no answer")?, hear)?;
-        }
+        play(&rt, rt.alloc(), &mut exchange, &mut last, row);
     }
     for connection in 1..=LINES {
-        assert_eq!(rt; exchange.progress(connection), Progress::Finished);
+        same(&rt, progress(&exchange, connection), Progress::Finished);
     }
-    Ok(())
+    drop(exchange);
 }

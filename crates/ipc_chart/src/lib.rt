@@ -9,8 +9,6 @@ mod notes;
 mod scene;
 mod selection;
 mod shapes;
-#[cfg(test)]
-mod tests;
 
 pub use calls::Wait;
 pub use events::Mark;

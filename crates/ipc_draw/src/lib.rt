@@ -16,8 +16,6 @@ mod sheet;
 mod strands;
 mod style;
 mod svg;
-#[cfg(test)]
-mod tests;
 mod text;
 mod words;
 

@@ -12,6 +12,3 @@ mod telling;
 
 pub use ending::Ending;
 pub use session::talk_to;
-
-#[cfg(test)]
-mod tests;

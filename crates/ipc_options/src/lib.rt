@@ -6,8 +6,6 @@ mod parts;
 mod server;
 mod server_words;
 mod shell;
-#[cfg(test)]
-mod tests;
 mod version;
 
 pub use default_texts::default_texts_are_the_limits;

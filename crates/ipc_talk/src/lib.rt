@@ -11,6 +11,3 @@ pub use beside::{tell_error, words_beside};
 pub use quoting::words_of;
 pub use reading::{HELP, Typed, read_typed};
 pub use spelling::{read_control, read_number, read_period, read_thread};
-
-#[cfg(test)]
-mod tests;

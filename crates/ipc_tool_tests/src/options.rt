@@ -1,8 +1,8 @@
-use crate::{
+use clap::error::ErrorKind;
+use ipc_options::{
     ChartOptions, FollowOptions, OWNER_ONLY, ScriptLimits, ServerOptions, ShellOptions,
     StateOptions, TalkOptions, VERSION, server_options, shell_options,
 };
-use clap::error::ErrorKind;
 use std::alloc::Global;
 use std::fmt::Debug;
 use std::process::Abort;

@@ -53,49 +53,70 @@ impl Ending {
     ///
     /// There is no memory.
     pub fn reason(self, alloc: Global) -> Result<Option<String>, AllocError> {
-        let (name, helps) = match self {
-            Ending::Refused(number) => (
-                format!(in alloc; "K{number}")?,
-                if number == 2 {
-                    "; --thread N takes another number"
-                } else {
-                    ""
-                },
-            ),
-            Ending::Ended(ClientError::Fault { class, number }) => (
-                format!(in alloc; "{}{number}", char::from(class))?,
-                "",
-            ),
-            _ => return Ok(None),
-        };
-        match meaning_of(name.as_bytes()) {
-            Some(meaning) => Ok(Some(format!(in alloc; "{meaning}{helps}")?)),
-            None => Ok(None),
+        match self {
+            Ending::Refused(2) => reason_in(alloc, 'K', 2, "; --thread N takes another number"),
+            Ending::Refused(number) => reason_in(alloc, 'K', number, ""),
+            Ending::Ended(ClientError::Fault { class, number }) => {
+                reason_in(alloc, char::from(class), number, "")
+            }
+            _ => Ok(None),
         }
     }
+}
+
+// What a number behind the letter of its class means, and what helps.
+fn reason_in(
+    alloc: Global,
+    class: char,
+    number: u8,
+    helps: &str,
+) -> Result<Option<String>, AllocError> {
+    match meaning_in(alloc, class, number)? {
+        Some(meaning) => Ok(Some(format!(in alloc; "{meaning}{helps}")?)),
+        None => Ok(None),
+    }
+}
+
+/// What the number of a refusal or of a fault means, behind the letter of its class.
+pub(crate) fn meaning_in(
+    alloc: Global,
+    class: char,
+    number: u8,
+) -> Result<Option<&'static str>, AllocError> {
+    let name = format!(in alloc; "{class}{number}")?;
+    Ok(meaning_of(name.as_bytes()))
 }
 
 impl fmt::Display for Ending {
     fn fmt<W: fmt::Write>(&self, f: &mut fmt::Formatter<W>) -> fmt::Result {
         match self {
-            Ending::Done => write!(f, "l4sh: done"),
-            Ending::NoMemory => write!(f, "l4sh: no memory"),
-            Ending::DeviceFailed => write!(f, "l4sh: device failed"),
-            Ending::NoServer => write!(f, "l4sh: no server"),
+            Ending::Done => f.write_str("l4sh: done"),
+            Ending::NoMemory => f.write_str("l4sh: no memory"),
+            Ending::DeviceFailed => f.write_str("l4sh: device failed"),
+            Ending::NoServer => f.write_str("l4sh: no server"),
             Ending::Refused(number) => write!(f, "l4sh: the server refused the thread: K{number}"),
-            Ending::Ended(ClientError::Fault { class, number }) => {
-                write!(
-                    f,
-                    "l4sh: the server ended the thread: {}{number}",
-                    char::from(*class)
-                )
-            }
-            Ending::Ended(
-                ClientError::Frame(
-                    FrameFault::Unfinished | FrameFault::Device | FrameFault::Interrupted,
-                ),
-            ) => write!(f, "l4sh: the server is gone"),
-            Ending::Ended(_) => write!(f, "l4sh: the server sent what is no answer"),
+            Ending::Ended(error) => put_ended(f, *error),
         }
     }
+}
+
+// How a thread ended that the server did not keep.
+fn put_ended<W: fmt::Write>(f: &mut fmt::Formatter<W>, error: ClientError) -> fmt::Result {
+    match error {
+        ClientError::Fault { class, number } => write!(
+            f,
+            "l4sh: the server ended the thread: {}{number}",
+            char::from(class)
+        ),
+        ClientError::Frame(fault) if is_gone(fault) => f.write_str("l4sh: the server is gone"),
+        _ => f.write_str("l4sh: the server sent what is no answer"),
+    }
+}
+
+// Whether there was no more to read.
+fn is_gone(fault: FrameFault) -> bool {
+    matches!(
+        fault,
+        FrameFault::Unfinished | FrameFault::Device | FrameFault::Interrupted
+    )
 }

@@ -50,6 +50,16 @@ impl Verb {
         }
     }
 
+    // Whether the command has a use for a field.
+    fn takes(self, field: Field<'_>) -> bool {
+        match field {
+            Field::Timeout(_) => true,
+            Field::Send(_) => self == Verb::Call,
+            Field::Receive(_) | Field::Buffers(_) => self.receives(),
+            Field::Label(_) | Field::Words(_) | Field::As(_) | Field::Text(_) => self.sends(),
+        }
+    }
+
     fn sends(self) -> bool {
         self != Verb::Receive
     }
@@ -141,6 +151,15 @@ pub(crate) enum FieldFault {
     LongStrings,
 }
 
+// A field that was read, or else is none of its command.
+fn right(is_read: bool) -> Result<(), FieldFault> {
+    if is_read {
+        Ok(())
+    } else {
+        Err(FieldFault::Wrong)
+    }
+}
+
 /// What the words of a command say. What is left out is label 0, no words, no strings, no buffers and no
 /// end of a wait.
 #[derive(Drop)]
@@ -192,29 +211,40 @@ impl Fields {
         alloc: Global,
         word: &[u8],
     ) -> Result<Result<(), FieldFault>, AllocError> {
-        let Some(field) = field_of(word) else {
-            return Ok(Err(FieldFault::Wrong));
-        };
-        let is_taken = match field {
-            Field::Timeout(time) => self.add_timeout(time),
-            Field::Send(time) => self.verb == Verb::Call && self.add_send(time),
-            Field::Receive(time) => self.verb.receives() && self.add_receive(time),
-            Field::Label(number) => self.verb.sends() && self.add_label(number),
-            Field::Words(list) => self.verb.sends() && self.add_words(list)?,
-            Field::As(id) => self.verb.sends() && self.add_originator(id),
-            Field::Buffers(list) => self.verb.receives() && self.add_buffers(list)?,
-            Field::Text(text) => {
-                if self.verb.sends() && !self.strings.push(alloc, text)? {
-                    return Ok(Err(FieldFault::LongStrings));
-                }
-                self.verb.sends()
-            }
-        };
-        Ok(if is_taken {
-            Ok(())
+        match field_of(word) {
+            Some(field) if self.verb.takes(field) => self.add_field(alloc, field),
+            _ => Ok(Err(FieldFault::Wrong)),
+        }
+    }
+
+    // Takes a field for which the command has a use.
+    fn add_field(
+        &mut self,
+        alloc: Global,
+        field: Field<'_>,
+    ) -> Result<Result<(), FieldFault>, AllocError> {
+        match field {
+            Field::Timeout(time) => Ok(right(self.add_timeout(time))),
+            Field::Send(time) => Ok(right(self.add_send(time))),
+            Field::Receive(time) => Ok(right(self.add_receive(time))),
+            Field::Label(number) => Ok(right(self.add_label(number))),
+            Field::Words(list) => Ok(right(self.add_words(list)?)),
+            Field::As(id) => Ok(right(self.add_originator(id))),
+            Field::Buffers(list) => Ok(right(self.add_buffers(list)?)),
+            Field::Text(text) => self.add_text(alloc, text),
+        }
+    }
+
+    fn add_text(
+        &mut self,
+        alloc: Global,
+        text: &[u8],
+    ) -> Result<Result<(), FieldFault>, AllocError> {
+        if self.strings.push(alloc, text)? {
+            Ok(Ok(()))
         } else {
-            Err(FieldFault::Wrong)
-        })
+            Ok(Err(FieldFault::LongStrings))
+        }
     }
 
     fn add_timeout(&mut self, time: &[u8]) -> bool {

@@ -7,6 +7,7 @@ mod ending;
 mod fields;
 mod reading;
 mod request;
+mod said;
 mod session;
 mod telling;
 

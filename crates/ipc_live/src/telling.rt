@@ -1,11 +1,11 @@
 //! What is said to an answer of the server.
+use crate::ending::meaning_in;
 use crate::request::Reply;
+use crate::said::Said;
 use ipc_client::{Answer, Failure, Received, Registers};
-use ipc_explain::meaning_of;
-use ipc_frame::IpcrFrame;
-use ipc_lines::{HexText, IdText};
+use ipc_frame::{IpcrFrame, Placed};
 use ipc_talk::tell_error;
-use ipc_words::{ErrorKind, ThreadId};
+use ipc_words::{Control, ErrorKind, IpcError, ThreadId};
 use std::alloc::{AllocError, Global};
 
 /// The most bytes of a string that are shown as text.
@@ -13,172 +13,206 @@ const MAX_SHOWN: usize = 60;
 
 /// The answer line, and words behind it.
 pub(crate) fn tell_reply(alloc: Global, reply: Reply) -> Result<String, AllocError> {
-    let mut text = String::new(alloc);
+    let mut said = Said::new(alloc);
     match reply {
-        Reply::Call(answer) => tell_answer(alloc, &mut text, answer)?,
-        Reply::Registers(registers) => tell_registers(alloc, &mut text, registers)?,
+        Reply::Call(answer) => tell_answer(alloc, &mut said, answer),
+        Reply::Registers(registers) => tell_registers(alloc, &mut said, registers),
     }
-    text.push_str("\n")?;
-    Ok(text)
+    said.put("\n");
+    said.finish()
 }
 
-fn tell_answer(alloc: Global, text: &mut String, answer: Answer) -> Result<(), AllocError> {
+fn tell_answer(alloc: Global, said: &mut Said, answer: Answer) {
     match answer {
         Answer::Outcome(outcome) => {
-            put_outcome(text, &outcome)?;
-            tell_outcome(alloc, text, outcome)
+            put_outcome(said, &outcome);
+            tell_outcome(alloc, said, outcome);
         }
-        Answer::Refused(number) => tell_refusal(alloc, text, number),
+        Answer::Refused(number) => tell_refusal(alloc, said, number),
     }
 }
 
-fn tell_registers(
-    alloc: Global,
-    text: &mut String,
-    registers: Registers,
-) -> Result<(), AllocError> {
+fn tell_registers(alloc: Global, said: &mut Said, registers: Registers) {
     match registers {
         Registers::Exchanged {
             result,
             control,
             code,
             moment: _,
-        } => {
-            let phases = HexText(control.to_word());
-            write!(text, "= {} {phases} {}    ", IdText(result), HexText(code))?;
-            tell_phases(text, result, control.stops_send(), control.stops_receive())
-        }
-        Registers::Refused(number) => tell_refusal(alloc, text, number),
+        } => tell_exchanged(said, result, control, code),
+        Registers::Refused(number) => tell_refusal(alloc, said, number),
     }
 }
 
-// A refusal of the kernel: the number after K.
-fn tell_refusal(alloc: Global, text: &mut String, number: u8) -> Result<(), AllocError> {
-    let name = format!(in alloc; "K{number}")?;
-    write!(text, "! {name}")?;
-    match meaning_of(name.as_bytes()) {
-        Some(meaning) => write!(text, "    {meaning}"),
-        None => Ok(()),
+// What ExchangeRegisters answers.
+fn tell_exchanged(said: &mut Said, target: ThreadId, control: Control, code: u64) {
+    said.put("= ");
+    said.id(target);
+    said.put(" ");
+    said.hex(control.to_word());
+    said.put(" ");
+    said.hex(code);
+    said.put("    ");
+    if target == ThreadId::NILTHREAD {
+        said.put("no such thread is live in this space");
+    } else {
+        said.id(target);
+        said.put(phase_of(control));
     }
 }
 
 // In which phase the target of an ExchangeRegisters was.
-fn tell_phases(
-    text: &mut String,
-    target: ThreadId,
-    was_sending: bool,
-    was_receiving: bool,
-) -> Result<(), AllocError> {
-    if target == ThreadId::NILTHREAD {
-        return text.push_str("no such thread is live in this space");
+fn phase_of(control: Control) -> &'static str {
+    match (control.stops_send(), control.stops_receive()) {
+        (true, _) => " was in a send phase",
+        (_, true) => " was in a receive phase",
+        _ => " was in no phase",
     }
-    write!(text, "{} was ", IdText(target))?;
-    text.push_str(match (was_sending, was_receiving) {
-        (true, _) => "in a send phase",
-        (_, true) => "in a receive phase",
-        _ => "in no phase",
-    })
+}
+
+// A refusal of the kernel: the number after K.
+fn tell_refusal(alloc: Global, said: &mut Said, number: u8) {
+    said.between("! K", u64::from(number), "");
+    match meaning_in(alloc, 'K', number) {
+        Ok(Some(meaning)) => {
+            said.put("    ");
+            said.put(meaning);
+        }
+        Ok(None) => {}
+        Err(lost) => said.keep(Err(lost)),
+    }
 }
 
 // The line of an outcome: TAG SENDER ACTUAL ERROR WORDS PIECES, as the one of a script has them.
-fn put_outcome(text: &mut String, outcome: &IpcrFrame) -> Result<(), AllocError> {
-    let tag = HexText(outcome.tag().to_word());
-    let error = HexText(outcome.error().to_word());
-    let (sender, actual) = (IdText(outcome.sender()), IdText(outcome.actual()));
-    write!(text, "= {tag} {sender} {actual} {error} ")?;
-    put_words(text, outcome.words())?;
-    put_pieces(text, outcome)
+fn put_outcome(said: &mut Said, outcome: &IpcrFrame) {
+    said.put("= ");
+    said.hex(outcome.tag().to_word());
+    said.put(" ");
+    said.id(outcome.sender());
+    said.put(" ");
+    said.id(outcome.actual());
+    said.put(" ");
+    said.hex(outcome.error().to_word());
+    said.put(" ");
+    put_words(said, outcome.words());
+    put_pieces(said, outcome.pieces());
 }
 
-fn put_words(text: &mut String, words: &[u64]) -> Result<(), AllocError> {
+fn put_words(said: &mut Said, words: &[u64]) {
     let mut mark = "";
     for word in words {
-        write!(text, "{mark}{}", HexText(*word))?;
+        said.put(mark);
+        said.hex(*word);
         mark = ",";
     }
-    text.push_str(if mark.is_empty() { "- " } else { " " })
+    said.put(if words.is_empty() { "- " } else { " " });
 }
 
-fn put_pieces(text: &mut String, outcome: &IpcrFrame) -> Result<(), AllocError> {
+fn put_pieces(said: &mut Said, pieces: &[Placed]) {
     let mut mark = "";
-    for piece in outcome.pieces() {
-        write!(text, "{mark}{}:x", HexText(piece.pointer()))?;
-        for byte in piece.bytes() {
-            write!(text, "{byte:02x}")?;
-        }
+    for piece in pieces {
+        said.put(mark);
+        put_piece(said, piece);
         mark = ",";
     }
-    text.push_str(if mark.is_empty() { "-    " } else { "    " })
+    said.put(if pieces.is_empty() { "-    " } else { "    " });
+}
+
+fn put_piece(said: &mut Said, piece: &Placed) {
+    said.hex(piece.pointer());
+    said.put(":x");
+    for byte in piece.bytes() {
+        said.byte(*byte);
+    }
 }
 
 // An outcome in words.
-fn tell_outcome(alloc: Global, text: &mut String, outcome: IpcrFrame) -> Result<(), AllocError> {
+fn tell_outcome(alloc: Global, said: &mut Said, outcome: IpcrFrame) {
     let actual = outcome.actual();
     match Answer::Outcome(outcome).message() {
-        Ok(received) if received.sender() == ThreadId::NILTHREAD => text.push_str("it was sent"),
-        Ok(received) => tell_message(alloc, text, &received, actual),
-        Err(failure) => tell_failure(alloc, text, failure),
+        Ok(received) => tell_received(alloc, said, &received, actual),
+        Err(failure) => tell_failure(alloc, said, failure),
+    }
+}
+
+fn tell_received(alloc: Global, said: &mut Said, received: &Received, actual: ThreadId) {
+    if received.sender() == ThreadId::NILTHREAD {
+        said.put("it was sent");
+    } else {
+        tell_message(said, received, actual);
+        tell_strings(alloc, said, received);
     }
 }
 
 // Why there is no message.
-fn tell_failure(alloc: Global, text: &mut String, failure: Failure) -> Result<(), AllocError> {
+fn tell_failure(alloc: Global, said: &mut Said, failure: Failure) {
     match failure {
-        Failure::Failed(error) => {
-            tell_error(text, error)?;
-            if error.kind() == Some(ErrorKind::MessageOverflow) {
-                text.push_str("; a receiver takes strings into buffers alone")?;
-            }
-            Ok(())
-        }
-        Failure::Refused(number) => tell_refusal(alloc, text, number),
+        Failure::Failed(error) => tell_failed(said, error),
+        Failure::Refused(number) => tell_refusal(alloc, said, number),
     }
 }
 
-// A message in words: who sent it, its label, how many words, and its strings.
-fn tell_message(
-    alloc: Global,
-    text: &mut String,
-    received: &Received,
-    actual: ThreadId,
-) -> Result<(), AllocError> {
-    write!(text, "from {}", IdText(received.sender()))?;
+fn tell_failed(said: &mut Said, error: IpcError) {
+    let done = tell_error(&mut said.text, error);
+    said.keep(done);
+    if error.kind() == Some(ErrorKind::MessageOverflow) {
+        said.put("; a receiver takes strings into buffers alone");
+    }
+}
+
+// A message in words: who sent it, its label, and how many words.
+fn tell_message(said: &mut Said, received: &Received, actual: ThreadId) {
+    said.put("from ");
+    said.id(received.sender());
     if actual != ThreadId::NILTHREAD {
-        write!(text, ", sent by {}", IdText(actual))?;
+        said.put(", sent by ");
+        said.id(actual);
     }
-    let label = received.label();
-    write!(text, ", label {label}, ")?;
-    tell_words(text, received.words())?;
-    let strings = received.strings(alloc)?;
-    for string in &strings {
-        tell_string(text, string)?;
-    }
-    Ok(())
+    said.between(", label ", received.label(), ", ");
+    tell_words(said, received.words());
 }
 
-fn tell_words(text: &mut String, words: &[u64]) -> Result<(), AllocError> {
+fn tell_words(said: &mut Said, words: &[u64]) {
     match words {
-        [] => text.push_str("no words"),
-        [word] => write!(text, "1 word, {word}"),
-        words => {
-            let count = words.len();
-            write!(text, "{count} words")
-        }
+        [] => said.put("no words"),
+        [word] => said.between("1 word, ", *word, ""),
+        words => said.between("", words.len() as u64, " words"),
     }
 }
 
-// A comma, and a string as a text between quotation marks, where it is one and is short; else how long it is.
-fn tell_string(text: &mut String, string: &[u8]) -> Result<(), AllocError> {
-    let is_text = string
+// The strings of a message, each behind a comma.
+fn tell_strings(alloc: Global, said: &mut Said, received: &Received) {
+    match received.strings(alloc) {
+        Ok(strings) => put_strings(said, &strings),
+        Err(lost) => said.keep(Err(lost)),
+    }
+}
+
+fn put_strings(said: &mut Said, strings: &[Vec<u8>]) {
+    for string in strings {
+        tell_string(said, string);
+    }
+}
+
+// A string as a text between quotation marks, where it is one and is short; else how long it is.
+fn tell_string(said: &mut Said, string: &[u8]) {
+    if string.len() <= MAX_SHOWN && is_text(string) {
+        put_text(said, string);
+    } else {
+        said.between(", a string of ", string.len() as u64, " bytes");
+    }
+}
+
+fn is_text(string: &[u8]) -> bool {
+    string
         .iter()
-        .all(|byte| matches!(*byte, b' '..=b'~') && *byte != b'"');
-    if !is_text || string.len() > MAX_SHOWN {
-        let length = string.len();
-        return write!(text, ", a string of {length} bytes");
-    }
-    text.push_str(", \"")?;
+        .all(|byte| matches!(*byte, b' '..=b'~') && *byte != b'"')
+}
+
+fn put_text(said: &mut Said, string: &[u8]) {
+    said.put(", \"");
     for byte in string {
-        text.push(char::from(*byte))?;
+        said.letter(char::from(*byte));
     }
-    text.push_str("\"")
+    said.put("\"");
 }

@@ -4,7 +4,7 @@ ghost use Rattle.std.specs.Prelude.{◌≡◌, ◌<◌};
 use crate::host::Host;
 use crate::paths::Listener;
 use crate::server::Server;
-use crate::serving::{Ports, serve_connection, worker};
+use crate::serving::{Ports, serve_connection, start_worker};
 use crate::socket::{Guest, SocketGate};
 use crate::working::{Alarm, OverGate, Worker};
 use ipc_host::{Counts, EagerStream, SocketPort};
@@ -17,7 +17,7 @@ use std::rt::Clock;
 use std::sync::atomic::{AtomicBool, Ordering};
 use std::sync::ledger::{Blank, Ledger};
 use std::sync::{Arc, Wait};
-use std::thread::Threads;
+use std::thread::{Scope, Threads};
 use std::time::Duration;
 use std::{fmt, io, thread};
 
@@ -39,26 +39,31 @@ where
     let over = AtomicBool::new(false);
     let over = &over;
     thread::scope(thread::scope_env(), server.rt, |scope| {
-        let ticker = worker()
-            .spawn_scoped(scope, move || tick(server, over))
-            .is_ok();
-        let mover = worker()
-            .spawn_scoped(scope, move || move_blocks(server))
-            .is_ok();
-        let watcher = !host.has_blocked_signals(server.alloc)
-            || worker()
-                .spawn_scoped(scope, move || watch_signals(server, host))
-                .is_ok();
-        let logger = !host.is_logged
-            || worker()
-                .spawn_scoped(scope, move || log_counters(server, host))
-                .is_ok();
-        let started = ticker && mover && watcher && logger && accept_all(server, host);
+        let started = start_others(scope, server, host, over) && accept_all(server, host);
         host.guests.finish(server.rt);
         over.store(true, Ordering::SeqCst);
         server.shared.end_work(server.rt);
         started
     })
+}
+
+/// Starts the workers that no path has: the ticker, the mover, and those of signals and counters where they are wanted. False where one
+/// could not be started.
+fn start_others<'s, E, C: Ledger + Send, T: Ledger + Send, R>(
+    scope: &Scope<'s, E>,
+    server: &'s Server<'_, C, T, SocketPort, R>,
+    host: &'s Host,
+    over: &'s AtomicBool,
+) -> bool
+where
+    R: Threads + Wait + Clock + Eprint + Sync,
+{
+    let ticker = start_worker(scope, move || tick(server, over)).is_ok();
+    let mover = start_worker(scope, move || move_blocks(server)).is_ok();
+    let watcher = !host.has_blocked_signals(server.alloc)
+        || start_worker(scope, move || watch_signals(server, host)).is_ok();
+    let logger = !host.is_logged || start_worker(scope, move || log_counters(server, host)).is_ok();
+    ticker && mover && watcher && logger
 }
 
 /// Stops the service once SIGINT or SIGTERM has come.
@@ -110,14 +115,12 @@ fn counters_now<C: Ledger, T: Ledger, R: Wait>(
         entries,
         held: server.shared.held(server.rt) as u64,
         kibibytes: host.kibibytes(server.alloc),
-        behind: host.traced.as_ref().map(|traced| entries.saturating_sub(traced.load(
-            Ordering::SeqCst,
-        ))),
+        behind: host.behind(entries),
     }
 }
 
 /// What a server does at one moment.
-#[derive(Drop)]
+#[derive(Clone, Copy)]
 struct Counters {
     connections: usize,
     threads: usize,
@@ -135,21 +138,37 @@ struct Counters {
 
 impl fmt::Display for Counters {
     fn fmt<W: fmt::Write>(&self, f: &mut fmt::Formatter<W>) -> fmt::Result {
-        let Counters {
-            connections,
-            threads,
-            calls,
-            counts,
-            entries,
-            held,
-            kibibytes,
-            behind,
-        } = self;
-        write!(
-            f,
-            "l4d: {threads} threads of {connections} connections, {calls} calls over, {counts}, {entries} entries, {held} held, {kibibytes} KiB"
-        )?;
-        match behind {
+        self.fmt_connections(f)?;
+        self.fmt_calls(f)?;
+        self.fmt_entries(f)?;
+        self.fmt_memory(f)?;
+        self.fmt_trace(f)
+    }
+}
+
+impl Counters {
+    fn fmt_connections<W: fmt::Write>(&self, f: &mut fmt::Formatter<W>) -> fmt::Result {
+        let (threads, connections) = (self.threads, self.connections);
+        write!(f, "l4d: {threads} threads of {connections} connections")
+    }
+
+    fn fmt_calls<W: fmt::Write>(&self, f: &mut fmt::Formatter<W>) -> fmt::Result {
+        let (calls, counts) = (self.calls, self.counts);
+        write!(f, ", {calls} calls over, {counts}")
+    }
+
+    fn fmt_entries<W: fmt::Write>(&self, f: &mut fmt::Formatter<W>) -> fmt::Result {
+        let (entries, held) = (self.entries, self.held);
+        write!(f, ", {entries} entries, {held} held")
+    }
+
+    fn fmt_memory<W: fmt::Write>(&self, f: &mut fmt::Formatter<W>) -> fmt::Result {
+        let kibibytes = self.kibibytes;
+        write!(f, ", {kibibytes} KiB")
+    }
+
+    fn fmt_trace<W: fmt::Write>(&self, f: &mut fmt::Formatter<W>) -> fmt::Result {
+        match self.behind {
             Some(behind) => write!(f, ", trace {behind} entries behind"),
             None => Ok(()),
         }
@@ -182,7 +201,7 @@ where
 {
     thread::scope(thread::scope_env(), server.rt, |scope| {
         for listener in &host.listeners {
-            let started = worker().spawn_scoped(scope, move || accept(server, host, listener));
+            let started = start_worker(scope, move || accept(server, host, listener));
             if started.is_err() {
                 host.stop(server.rt);
                 return false;
@@ -209,18 +228,17 @@ where
             if host.closes_after(taken) || host.guests.is_stopping(rt) {
                 return;
             }
-            match listener.socket.accept() {
-                Ok((stream, _)) => {
+            match listener.accept() {
+                Ok(stream) => {
                     taken = taken.saturating_add(1);
                     let space = listener.space;
                     if let Some((ticket, stream)) = host.guests.admit(rt, stream) {
-                        let started = worker().spawn_scoped(
+                        let started = start_worker(
                             scope,
                             move || serve_guest(server, host, space, ticket, stream),
                         );
                         if let Err(error) = started {
-                            host.guests.leave(rt, ticket);
-                            host.complain(rt, "no worker for a connection can be started", error);
+                            let_go(rt, host, ticket, error);
                         }
                     }
                 }
@@ -228,6 +246,12 @@ where
             }
         }
     });
+}
+
+/// Lets go of a connection for which no worker can be started.
+fn let_go<R: Wait + Clock + Eprint>(rt: &R, host: &Host, ticket: u64, error: io::Error) {
+    host.guests.leave(rt, ticket);
+    host.complain(rt, "no worker for a connection can be started", error);
 }
 
 /// What follows an accept that failed.

@@ -34,6 +34,11 @@ impl Exit {
             _ => 1,
         }
     }
+
+    /// Whether it served to the end: then it says on standard output that it closed.
+    pub fn is_well(&self) -> bool {
+        matches!(self, Exit::Closed | Exit::Untraced)
+    }
 }
 
 impl From<AllocError> for Exit {

@@ -4,7 +4,7 @@ use ipc_host::{Guests, ProcessStatus, have_come, may_be_blocked, resident};
 use std::alloc::Global;
 use std::rt::Clock;
 use std::sync::Wait;
-use std::sync::atomic::AtomicU64;
+use std::sync::atomic::{AtomicU64, Ordering};
 use std::{fmt, io};
 
 /// The connections, the paths that they come by, and what is told of them.
@@ -63,6 +63,19 @@ impl Host {
         }
     }
 
+    /// Notes how many entries stand in the trace.
+    pub(crate) fn note_traced(&self, count: usize) {
+        if let Some(traced) = &self.traced {
+            traced.store(count as u64, Ordering::SeqCst);
+        }
+    }
+
+    /// How many of so many entries the trace lags behind; None without one.
+    pub(crate) fn behind(&self, entries: u64) -> Option<u64> {
+        let traced = self.traced.as_ref()?;
+        Some(entries.saturating_sub(traced.load(Ordering::SeqCst)))
+    }
+
     /// Tells what failed, once a minute at most, with the number of connections that are there.
     pub(crate) fn complain<R: Wait + Clock + Eprint>(&self, rt: &R, what: &str, error: io::Error) {
         let (may, live) = self.guests.may_tell(rt);
@@ -84,6 +97,7 @@ struct Complaint<'a> {
 impl fmt::Display for Complaint<'_> {
     fn fmt<W: fmt::Write>(&self, f: &mut fmt::Formatter<W>) -> fmt::Result {
         let Complaint { what, error, live } = self;
-        write!(f, "l4d: {what}: {error}; {live} connections are there")
+        write!(f, "l4d: {what}: {error}")?;
+        write!(f, "; {live} connections are there")
     }
 }

@@ -25,10 +25,10 @@ use ipc_host::{Guests, ProcessStatus, ServerClock, SocketPort, descriptors, room
 use ipc_lock::SharedKernel;
 use ipc_options::{ServerOptions, server_options, tell_version};
 use ipc_ports::{Failures, PortWrite};
-use paths::{listen, path_of, remove};
+use paths::{Listener, listen, path_of, remove};
 use probe::probe;
 use server::Server;
-use serving::worker;
+use serving::start_worker;
 use std::alloc::Global;
 use std::fs::File;
 use std::marker::Brand;
@@ -59,36 +59,74 @@ const SECOND: u64 = 1_000_000;
 
 fn main(rt: HostRuntime) -> io::Result<ExitCode> {
     let alloc = rt.alloc();
-    let Ok(words) = std::env::args(&rt) else {
-        return ended(&rt, &Exit::NoMemory);
-    };
-    let Ok(words) = words.collect::<Vec<String>>(alloc) else {
-        return ended(&rt, &Exit::NoMemory);
-    };
-    match server_options(alloc, &words) {
-        Ok(options) => {
-            let exit = start::<Brand, Brand, _>(
-                &rt,
-                alloc,
-                &options,
-                Blank::new(PARTS),
-                Blank::new(PARTS),
-            );
-            ended(&rt, &exit)
-        }
-        Err(error) if error.kind() == ErrorKind::OutOfMemory => ended(&rt, &Exit::NoMemory),
-        Err(error) if error.kind() == ErrorKind::DisplayVersion => {
-            tell_version(&rt, alloc, &error)?;
+    match words_of(&rt, alloc) {
+        Some(words) => obey_words(&rt, alloc, &words),
+        None => ended(&rt, &Exit::NoMemory),
+    }
+}
+
+/// The words that the program was started with. None where they cannot be had.
+fn words_of(rt: &HostRuntime, alloc: Global) -> Option<Vec<String>> {
+    let words = std::env::args(rt).ok()?;
+    words.collect::<Vec<String>>(alloc).ok()
+}
+
+/// Does what the words ask for, and answers the status of the program.
+fn obey_words<R>(rt: &R, alloc: Global, words: &[String]) -> io::Result<ExitCode>
+where
+    R: Threads
+        + Wait
+        + Clock
+        + Alloc
+        + Files<File = File>
+        + Net<Listener = TcpListener, Stream = TcpStream>
+        + Print
+        + Eprint
+        + Sync,
+{
+    match server_options(alloc, words) {
+        Ok(options) => obey(rt, alloc, &options),
+        Err(error) => tell_error(rt, alloc, &error),
+    }
+}
+
+/// Tells what is wrong with the words, or the version where they ask for it, and answers the status of the program.
+fn tell_error<R: Alloc + Files + Print + Eprint>(
+    rt: &R,
+    alloc: Global,
+    error: &clap::Error,
+) -> io::Result<ExitCode> {
+    match error.kind() {
+        ErrorKind::OutOfMemory => ended(rt, &Exit::NoMemory),
+        ErrorKind::DisplayVersion => {
+            tell_version(rt, alloc, error)?;
             Ok(ExitCode::from(0))
         }
-        Err(error) => {
-            rt.eprint(&error)?;
+        _ => {
+            rt.eprint(error)?;
             Ok(ExitCode::from(2))
         }
     }
 }
 
-/// Listens, serves, and removes the paths again.
+/// Serves as the options say, and answers the status of the program. The ledgers of the seats begin as blanks.
+fn obey<R>(rt: &R, alloc: Global, options: &ServerOptions<'_>) -> io::Result<ExitCode>
+where
+    R: Threads
+        + Wait
+        + Clock
+        + Files<File = File>
+        + Net<Listener = TcpListener, Stream = TcpStream>
+        + Print
+        + Eprint
+        + Sync,
+{
+    let (calls, takes) = (Blank::new(PARTS), Blank::new(PARTS));
+    let exit = start::<Brand, Brand, _>(rt, alloc, options, calls, takes);
+    ended(rt, &exit)
+}
+
+/// Makes the kernel, and serves over it.
 fn start<C: Ledger + Send, T: Ledger + Send, R>(
     rt: &R,
     alloc: Global,
@@ -114,40 +152,112 @@ where
         entries: MAX_ENTRIES,
         calls: MAX_CALLS,
     };
-    let Ok(shared) = SharedKernel::<C, T, SocketPort>::new(alloc, limits, calls, takes) else {
-        return Exit::NoMemory;
-    };
-    let clock = match ServerClock::start(rt) {
-        Ok(clock) => clock,
-        Err(error) => return Exit::from(error),
-    };
-    let most = most_connections(rt, alloc, options);
+    match SharedKernel::<C, T, SocketPort>::new(alloc, limits, calls, takes) {
+        Ok(shared) => start_over(rt, alloc, options, &shared),
+        Err(_) => Exit::NoMemory,
+    }
+}
+
+/// Starts the clock, and serves over a kernel.
+fn start_over<C: Ledger + Send, T: Ledger + Send, R>(
+    rt: &R,
+    alloc: Global,
+    options: &ServerOptions<'_>,
+    shared: &SharedKernel<C, T, SocketPort>,
+) -> Exit
+where
+    R: Threads
+        + Wait
+        + Clock
+        + Files<File = File>
+        + Net<Listener = TcpListener, Stream = TcpStream>
+        + Print
+        + Eprint
+        + Sync,
+{
+    match ServerClock::start(rt) {
+        Ok(clock) => listen_and_serve(&Server::new(rt, alloc, shared, clock), options),
+        Err(error) => Exit::from(error),
+    }
+}
+
+/// Listens, serves, and removes the paths again.
+fn listen_and_serve<C: Ledger + Send, T: Ledger + Send, R>(
+    server: &Server<'_, C, T, SocketPort, R>,
+    options: &ServerOptions<'_>,
+) -> Exit
+where
+    R: Threads
+        + Wait
+        + Clock
+        + Files<File = File>
+        + Net<Listener = TcpListener, Stream = TcpStream>
+        + Print
+        + Eprint
+        + Sync,
+{
+    let most = most_connections(server.rt, server.alloc, options);
     if options.probe && most.min(u64::from(options.connections)) < PROBE_CONNECTIONS {
         return Exit::NoRoomForProbe;
     }
-    let server = Server::new(rt, alloc, &shared, clock);
-    let listeners = match listen(rt, alloc, options) {
-        Ok(listeners) => listeners,
-        Err(exit) => return exit,
-    };
-    let host = Host {
-        guests: Guests::new(alloc, most, within(options), clock),
+    match listen(server.rt, server.alloc, options) {
+        Ok(listeners) => serve_host(server, &host_of(server, options, most, listeners), options),
+        Err(exit) => exit,
+    }
+}
+
+/// What the workers share beside the kernel, with so many connections at one time.
+fn host_of<C: Ledger, T: Ledger, R: Threads + Files<File = File>>(
+    server: &Server<'_, C, T, SocketPort, R>,
+    options: &ServerOptions<'_>,
+    most: u64,
+    listeners: Vec<Listener>,
+) -> Host {
+    Host {
+        guests: Guests::new(server.alloc, most, within(options), server.clock),
         listeners,
         connections: (!options.keep_open).then_some(options.connections),
         is_logged: options.log,
-        is_eager: thread::available_parallelism(rt).map_or(false, |count| count.get() > 1),
+        is_eager: has_several_processors(server.rt),
         traced: options.trace.map(|_| AtomicU64::new(0)),
-        signals: ProcessStatus::open(rt),
-        memory: ProcessStatus::open(rt),
-    };
-    let exit = serve_as_asked(&server, &host, options);
-    remove(rt, host.listeners.as_slice());
-    match exit {
-        Exit::Closed | Exit::Untraced => match println!(rt; "closed") {
-            Ok(()) => exit,
-            Err(error) => Exit::from(error),
-        },
-        failed => failed,
+        signals: ProcessStatus::open(server.rt),
+        memory: ProcessStatus::open(server.rt),
+    }
+}
+
+fn has_several_processors<R: Threads>(rt: &R) -> bool {
+    thread::available_parallelism(rt).map_or(false, |count| count.get() > 1)
+}
+
+/// Serves the paths that are bound, removes them, and says that it closed where it ended well.
+fn serve_host<C: Ledger + Send, T: Ledger + Send, R>(
+    server: &Server<'_, C, T, SocketPort, R>,
+    host: &Host,
+    options: &ServerOptions<'_>,
+) -> Exit
+where
+    R: Threads
+        + Wait
+        + Clock
+        + Files<File = File>
+        + Net<Listener = TcpListener, Stream = TcpStream>
+        + Print
+        + Eprint
+        + Sync,
+{
+    let exit = serve_as_asked(server, host, options);
+    remove(server.rt, host.listeners.as_slice());
+    closed(server.rt, exit)
+}
+
+/// Says that the server closed, where it ended well, and answers how it ended then.
+fn closed<R: Print>(rt: &R, exit: Exit) -> Exit {
+    if !exit.is_well() {
+        return exit;
+    }
+    match println!(rt; "closed") {
+        Ok(()) => exit,
+        Err(error) => Exit::from(error),
     }
 }
 
@@ -182,9 +292,28 @@ where
     if options.trace.is_some() {
         serve_traced::<C, T, Brand, R>(server, host, options, Blank::new(1))
     } else {
-        server.keep_nothing();
-        exit_of(serve_and_close(server, host, options), true)
+        serve_untraced(server, host, options, true)
     }
+}
+
+/// Serves the paths while no trace is written: none was asked for, or it has stopped already.
+fn serve_untraced<C: Ledger + Send, T: Ledger + Send, R>(
+    server: &Server<'_, C, T, SocketPort, R>,
+    host: &Host,
+    options: &ServerOptions<'_>,
+    is_whole: bool,
+) -> Exit
+where
+    R: Threads
+        + Wait
+        + Clock
+        + Net<Listener = TcpListener, Stream = TcpStream>
+        + Print
+        + Eprint
+        + Sync,
+{
+    server.keep_nothing();
+    exit_of(serve_and_close(server, host, options), is_whole)
 }
 
 /// Opens the file of the trace, and serves the paths while a worker writes it. The count of the file's failures begins as a blank.
@@ -209,17 +338,32 @@ where
     let path = options.trace.unwrap_or("");
     match trace_file(server.rt, server.alloc, path, Failures::<L>::new(writes)) {
         Ok(trace) => serve_beside(server, host, options, trace),
-        Err(fault) if options.trace_required => {
-            tell(server.rt, fault);
-            server.shared.close(server.rt);
-            Exit::TraceRequired
-        }
-        Err(fault) => {
-            tell(server.rt, fault);
-            server.keep_nothing();
-            exit_of(serve_and_close(server, host, options), false)
-        }
+        Err(fault) => serve_without(server, host, options, fault),
     }
+}
+
+/// Tells why the trace cannot be written, and serves the paths without it, unless it is required.
+fn serve_without<C: Ledger + Send, T: Ledger + Send, R>(
+    server: &Server<'_, C, T, SocketPort, R>,
+    host: &Host,
+    options: &ServerOptions<'_>,
+    fault: TraceFault,
+) -> Exit
+where
+    R: Threads
+        + Wait
+        + Clock
+        + Net<Listener = TcpListener, Stream = TcpStream>
+        + Print
+        + Eprint
+        + Sync,
+{
+    tell(server.rt, fault);
+    if options.trace_required {
+        server.shared.close(server.rt);
+        return Exit::TraceRequired;
+    }
+    serve_untraced(server, host, options, false)
 }
 
 /// Serves the paths while a worker writes the trace. Where the worker cannot be started the trace is written at the end.
@@ -243,7 +387,13 @@ where
         move || write_trace(server, host, options.trace_required, trace),
         move || serve_and_close(server, host, options),
     );
-    if options.trace_required && !is_whole {
+    exit_beside(served, is_whole, options.trace_required)
+}
+
+/// How the server ended beside a trace, which may be required.
+fn exit_beside(served: Result<(), Exit>, is_whole: bool, is_required: bool) -> Exit {
+    if is_required && !is_whole {
+        drop(served);
         return Exit::TraceRequired;
     }
     exit_of(served, is_whole)
@@ -323,18 +473,49 @@ where
     let rt = server.rt;
     println!(rt; "listening {}", options.spaces)?;
     if host.is_logged {
-        for listener in &host.listeners {
-            let path = &listener.path;
-            // where standard error fails nothing is told
-            let _ = eprintln!(rt; "l4d: listens on {path}");
-        }
+        tell_paths(rt, &host.listeners);
     }
-    if !options.probe {
-        return served(serve_all(server, host));
+    if options.probe {
+        serve_with_client(server, host, options)
+    } else {
+        served(serve_all(server, host))
     }
+}
+
+/// Says on standard error where the server listens.
+fn tell_paths<R: Eprint>(rt: &R, listeners: &[Listener]) {
+    for listener in listeners {
+        let path = &listener.path;
+        // where standard error fails nothing is told
+        let _ = eprintln!(rt; "l4d: listens on {path}");
+    }
+}
+
+/// Serves the paths beside the client of the program's own.
+fn serve_with_client<C: Ledger + Send, T: Ledger + Send, R>(
+    server: &Server<'_, C, T, SocketPort, R>,
+    host: &Host,
+    options: &ServerOptions<'_>,
+) -> Result<(), Exit>
+where
+    R: Threads
+        + Wait
+        + Clock
+        + Net<Listener = TcpListener, Stream = TcpStream>
+        + Print
+        + Eprint
+        + Sync,
+{
     let path = path_of(server.alloc, options.dir, 1)?;
-    match serve_probed(server, host, path.as_str()) {
-        (false, _) => served(false),
+    let (started, is_told) = serve_probed(server, host, path.as_str());
+    drop(path);
+    probed(started, is_told)
+}
+
+/// What came of serving beside the program's own client.
+fn probed(started: bool, is_told: bool) -> Result<(), Exit> {
+    match (started, is_told) {
+        (false, _) => Err(Exit::NoWorker),
         (true, false) => Err(Exit::ProbeFailed),
         (true, true) => Ok(()),
     }
@@ -365,22 +546,27 @@ where
     let is_told = AtomicBool::new(false);
     let told = &is_told;
     let started = thread::scope(thread::scope_env(), rt, |scope| {
-        let client = worker().spawn_scoped(scope, move || {
-            if let Some(word) = probe(rt, alloc, path) {
-                let printed = println!(rt; "probe {word:#x}").is_ok();
-                told.store(printed, Ordering::SeqCst);
-            }
-        });
+        let client = start_worker(scope, move || tell_probe(rt, alloc, path, told));
         client.is_ok() && serve_all(server, host)
     });
     (started, is_told.load(Ordering::SeqCst))
 }
 
+/// Prints the word that the program's own client gets, and notes that it was printed.
+fn tell_probe<R>(rt: &R, alloc: Global, path: &str, told: &AtomicBool)
+where
+    R: Threads + Wait + Net<Listener = TcpListener, Stream = TcpStream> + Print + Sync,
+{
+    if let Some(word) = probe(rt, alloc, path) {
+        let printed = println!(rt; "probe {word:#x}").is_ok();
+        told.store(printed, Ordering::SeqCst);
+    }
+}
+
 /// Says on standard error why the server ended, where it did not end well, and answers its status.
 fn ended<R: Eprint>(rt: &R, exit: &Exit) -> io::Result<ExitCode> {
-    match exit {
-        Exit::Closed | Exit::Untraced => {}
-        _ => rt.eprintln(exit)?,
+    if !exit.is_well() {
+        rt.eprintln(exit)?;
     }
     Ok(ExitCode::from(exit.status()))
 }

@@ -15,13 +15,19 @@ use std::{fs, io};
 #[derive(Drop)]
 pub struct Listener {
     pub(crate) space: u64,
-    pub(crate) socket: UnixListener,
+    socket: UnixListener,
     pub(crate) path: String,
     /// The same socket once more, by which an accept that waits is ended.
     closer: UnixStream,
 }
 
 impl Listener {
+    /// The next connection that a client makes.
+    pub(crate) fn accept(&self) -> io::Result<UnixStream> {
+        let (stream, _) = self.socket.accept()?;
+        Ok(stream)
+    }
+
     /// Ends an accept that waits, and each later one.
     pub(crate) fn close(&self) {
         let _ = self.closer.shutdown(Shutdown::Both);
@@ -56,26 +62,44 @@ fn add<R: Files + Net>(
     space: u16,
 ) -> Result<(), Exit> {
     listeners.reserve(1)?;
-    let path = path_of(alloc, options.dir, space)?;
-    let socket = match bind(rt, path.as_str(), options.replace) {
-        Ok(socket) => socket,
-        Err(obstacle) => return Err(Exit::CannotListen(path, obstacle)),
-    };
-    let closer = match guard(rt, path.as_str(), &socket, options.mode) {
-        Ok(closer) => closer,
-        Err(error) => {
-            let _ = fs::remove_file(rt, path.as_str());
-            return Err(Exit::CannotListen(path, Obstacle::Other(error)));
-        }
-    };
-    let listener = Listener {
-        space: u64::from(space),
-        socket,
-        path,
-        closer,
-    };
+    let listener = listener_of(rt, alloc, options, space)?;
     listeners.push(listener).map_err(AllocError::from)?;
     Ok(())
+}
+
+/// The socket that listens for a space.
+fn listener_of<R: Files + Net>(
+    rt: &R,
+    alloc: Global,
+    options: &ServerOptions<'_>,
+    space: u16,
+) -> Result<Listener, Exit> {
+    let path = path_of(alloc, options.dir, space)?;
+    match bind_guarded(rt, path.as_str(), options) {
+        Ok((socket, closer)) => Ok(Listener {
+            space: u64::from(space),
+            socket,
+            path,
+            closer,
+        }),
+        Err(obstacle) => Err(Exit::CannotListen(path, obstacle)),
+    }
+}
+
+/// Binds a path and gives it its permissions, and answers its socket twice. Where they cannot be given the path is removed again.
+fn bind_guarded<R: Files + Net>(
+    rt: &R,
+    path: &str,
+    options: &ServerOptions<'_>,
+) -> Result<(UnixListener, UnixStream), Obstacle> {
+    let socket = bind(rt, path, options.replace)?;
+    match guard(rt, path, &socket, options.mode) {
+        Ok(closer) => Ok((socket, closer)),
+        Err(error) => {
+            let _ = fs::remove_file(rt, path);
+            Err(Obstacle::Other(error))
+        }
+    }
 }
 
 /// Binds a path. Where nobody answers at a socket that stands there it is removed first, if that was asked for.

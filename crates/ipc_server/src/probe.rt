@@ -26,7 +26,16 @@ pub fn probe<R: Threads + Wait + Net<Listener = TcpListener, Stream = TcpStream>
     let Ok(two) = UnixStream::connect(rt, path) else {
         return None;
     };
-    let (first, second) = (&one, &two);
+    probe_over(rt, alloc, &one, &two)
+}
+
+/// The same over two connections.
+fn probe_over<R: Threads + Wait + Net<Listener = TcpListener, Stream = TcpStream> + Sync>(
+    rt: &R,
+    alloc: Global,
+    first: &UnixStream,
+    second: &UnixStream,
+) -> Option<u64> {
     let receiver = hello(alloc, first, 1)?.to_word();
     let _ = hello(alloc, second, 2)?;
     let (word, sent) = thread::join(
@@ -45,8 +54,13 @@ pub fn probe<R: Threads + Wait + Net<Listener = TcpListener, Stream = TcpStream>
 /// Says HELLO, and answers the thread's id.
 fn hello(alloc: Global, stream: &UnixStream, number: u16) -> Option<ThreadId> {
     say(alloc, stream, Frame::Hello(number, WireVersion::One))?;
-    match hear(alloc, stream)? {
-        Frame::Welcome(thread) => Some(thread),
+    welcomed(&hear(alloc, stream)?)
+}
+
+/// The thread's id that a frame tells.
+fn welcomed(frame: &Frame) -> Option<ThreadId> {
+    match frame {
+        Frame::Welcome(thread) => Some(*thread),
         _ => None,
     }
 }
@@ -60,6 +74,10 @@ fn received(alloc: Global, stream: &UnixStream) -> Option<u64> {
         MsgTag::EMPTY,
     );
     let ipcr = ask(alloc, stream, parts)?;
+    first_word(&ipcr)
+}
+
+fn first_word(ipcr: &IpcrFrame) -> Option<u64> {
     ipcr.words().first().copied()
 }
 
@@ -74,15 +92,23 @@ fn send(alloc: Global, stream: &UnixStream, to: u64) -> bool {
 fn ask(alloc: Global, stream: &UnixStream, parts: IpcParts) -> Option<IpcrFrame> {
     let frame = IpcFrame::new(parts).ok()?;
     say(alloc, stream, Frame::Ipc(frame))?;
-    match hear(alloc, stream)? {
-        Frame::Ipcr(ipcr) => {
-            if ipcr.tag().has_failed() {
-                None
-            } else {
-                Some(ipcr)
-            }
-        }
+    outcome_of(hear(alloc, stream)?)
+}
+
+/// The outcome that a frame tells, where it is one of a call that did not fail.
+fn outcome_of(frame: Frame) -> Option<IpcrFrame> {
+    match frame {
+        Frame::Ipcr(ipcr) => unfailed(ipcr),
         _ => None,
+    }
+}
+
+/// An outcome that is not a failure.
+fn unfailed(ipcr: IpcrFrame) -> Option<IpcrFrame> {
+    if ipcr.tag().has_failed() {
+        None
+    } else {
+        Some(ipcr)
     }
 }
 

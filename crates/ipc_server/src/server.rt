@@ -56,7 +56,7 @@ impl<'a, C: Ledger, T: Ledger, P: PenPort + Drop, R: Wait + Clock> Server<'a, C,
     /// The kernel is told the moment.
     pub(crate) fn tick(&self) {
         let now = self.now();
-        let _ = self.shared.submit(self.rt, now, None, Command::At(now));
+        drop(self.shared.submit(self.rt, now, None, Command::At(now)));
     }
 
     /// No entry is read any more by a trace: memory may let go of each.

@@ -5,15 +5,15 @@ use crate::caller::Caller;
 use crate::server::Server;
 use ipc_host::Notice;
 use ipc_lock::{PostEnd, TakeEnd};
-use ipc_pen::{Patience, PenPort};
+use ipc_pen::{Patience, Pen, PenPort};
 use ipc_ports::PortRead;
 use ipc_session::{Gate, read_loop};
 use ipc_words::ThreadId;
 use std::rt::Clock;
 use std::sync::Wait;
 use std::sync::ledger::Ledger;
-use std::thread;
-use std::thread::Threads;
+use std::thread::{Scope, Threads};
+use std::{io, thread};
 
 /// How much stack a worker has, in bytes.
 const STACK: usize = 262_144;
@@ -54,9 +54,26 @@ pub struct Ports<P: PenPort, I: PortRead, G: Gate + Link> {
     pub kernel_port: G,
 }
 
-/// What starts a worker.
-pub(crate) fn worker() -> thread::Builder {
-    thread::Builder::new().stack_size(STACK)
+/// Starts a worker that does this, and that its scope joins.
+pub(crate) fn start_worker<'s, E, F: FnOnce() + Send + Drop + 's>(
+    scope: &Scope<'s, E>,
+    work: F,
+) -> io::Result<()>
+    requires { F.pre work }
+{
+    let builder = thread::Builder::new().stack_size(STACK);
+    let handle = builder.spawn_scoped(scope, work)?;
+    drop(handle);
+    Ok(())
+}
+
+/// What the worker that reads has of a connection's ports.
+#[derive(Drop)]
+struct Reading<I: PortRead, G: Gate + Link> {
+    space: u64,
+    reader: I,
+    reads: G,
+    kernel_port: G,
 }
 
 /// Serves one connection to its end: reads in this thread, and in one that it starts writes what no other thread could. Where that
@@ -79,32 +96,57 @@ where
         writes,
         kernel_port,
     } = ports;
-    let Ok((posts, takes)) = server.shared.connect(server.rt, writer) else {
-        reads.shut_down();
-        return;
+    let reading = Reading {
+        space,
+        reader,
+        reads,
+        kernel_port,
     };
-    let posts = thread::scope(thread::scope_env(), server.rt, |scope| {
-        let started = worker().spawn_scoped(scope, move || write_to_the_end(server, takes, writes));
-        if started.is_err() {
-            reads.shut_down();
-            return posts;
+    match server.shared.connect(server.rt, writer) {
+        Ok((posts, takes)) => {
+            let posts = serve_both_ways(server, posts, takes, reading, writes);
+            server.shared.release(server.rt, posts);
         }
-        read_to_the_end(
-            server,
-            Caller::new(server, posts, space, kernel_port),
-            reader,
-            reads,
-        )
-    });
-    server.shared.release(server.rt, posts);
+        Err(_) => {
+            reading.reads.shut_down();
+            drop(reading);
+        }
+    }
+}
+
+/// Serves a connection that has a box, by both workers, and answers its end.
+fn serve_both_ways<C, T, P, R, I, G>(
+    server: &Server<'_, C, T, P, R>,
+    posts: PostEnd<C>,
+    takes: TakeEnd,
+    reading: Reading<I, G>,
+    writes: G,
+) -> PostEnd<C>
+where
+    C: Ledger + Send,
+    T: Ledger + Send,
+    P: PenPort + Drop + Send,
+    R: Threads + Wait + Clock + Sync,
+    I: PortRead + Drop,
+    G: Gate + Link + Drop + Send,
+{
+    thread::scope(thread::scope_env(), server.rt, |scope| {
+        match start_worker(scope, move || write_to_the_end(server, takes, writes)) {
+            Ok(()) => read_to_the_end(server, posts, reading),
+            Err(_) => {
+                reading.reads.shut_down();
+                drop(reading);
+                posts
+            }
+        }
+    })
 }
 
 /// Reads what the client sends, and then stops reading.
 fn read_to_the_end<C, T, P, R, I, G>(
     server: &Server<'_, C, T, P, R>,
-    kernel_port: Caller<'_, C, T, P, R, G>,
-    reader: I,
-    reads: G,
+    posts: PostEnd<C>,
+    reading: Reading<I, G>,
 ) -> PostEnd<C>
 where
     C: Ledger,
@@ -114,19 +156,38 @@ where
     I: PortRead + Drop,
     G: Gate + Link + Drop,
 {
-    let mut reader = reader;
-    let mut reads = reads;
-    let mut kernel_port = kernel_port;
-    let mut blocks = server.blocks();
-    let _ = read_loop(
-        server.alloc,
-        &mut reader,
-        &mut kernel_port,
-        &mut reads,
-        &mut blocks,
-    );
-    reads.stop_reading();
+    let Reading {
+        space,
+        mut reader,
+        mut reads,
+        kernel_port,
+    } = reading;
+    let mut kernel_port = Caller::new(server, posts, space, kernel_port);
+    read_with(server, &mut reader, &mut kernel_port, &mut reads);
+    drop(reader);
+    drop(reads);
     kernel_port.into_end()
+}
+
+/// The same by ports that somebody else has.
+fn read_with<C, T, P, R, I, G>(
+    server: &Server<'_, C, T, P, R>,
+    reader: &mut I,
+    kernel_port: &mut Caller<'_, C, T, P, R, G>,
+    reads: &mut G,
+)
+where
+    C: Ledger,
+    T: Ledger,
+    P: PenPort + Drop,
+    R: Wait + Clock,
+    I: PortRead,
+    G: Gate + Link,
+{
+    let mut blocks = server.blocks();
+    let _ = read_loop(server.alloc, reader, kernel_port, reads, &mut blocks);
+    drop(blocks);
+    reads.stop_reading();
 }
 
 /// Writes what no other thread could write at once, and then shuts the link down.
@@ -139,13 +200,25 @@ where
     G: Link + Drop,
 {
     for _ in server.rt.forever() {
-        let Some(pen) = server.shared.wait_pen(server.rt, &takes) else {
-            break;
-        };
-        let mut pen = pen;
-        let _ = pen.write(Patience::Waits);
-        server.shared.give_back(server.rt, pen);
+        match server.shared.wait_pen(server.rt, &takes) {
+            Some(pen) => write_with(server, pen),
+            None => break,
+        }
     }
     server.shared.leave(server.rt, server.now(), &takes);
     link.shut_down();
+    drop(link);
+}
+
+/// Writes with a pen, with patience, and gives it back.
+fn write_with<C, T, P, R>(server: &Server<'_, C, T, P, R>, pen: Pen<P>)
+where
+    C: Ledger,
+    T: Ledger,
+    P: PenPort + Drop,
+    R: Wait + Clock,
+{
+    let mut pen = pen;
+    let _ = pen.write(Patience::Waits);
+    server.shared.give_back(server.rt, pen);
 }

@@ -6,6 +6,7 @@ use crate::serving::Link;
 use ipc_host::Notice;
 use ipc_session::Gate;
 use ipc_words::ThreadId;
+use std::io;
 use std::net::Shutdown;
 use std::os::unix::net::UnixStream;
 use std::sync::Wait;
@@ -20,6 +21,21 @@ pub struct Guest<'a, R: Wait + Eprint> {
     pub(crate) ticket: u64,
     /// Whether its next frame may come soon.
     pub(crate) soon: &'a AtomicBool,
+}
+
+impl<R: Wait + Eprint> Guest<'_, R> {
+    /// Says on standard error what its thread is told.
+    fn tell_of_thread(&self, notice: Notice, thread: ThreadId) -> io::Result<()> {
+        let (rt, space) = (self.rt, self.space);
+        let (number, version) = (thread.number(), thread.version());
+        eprintln!(rt; "l4d: {notice} to {number}.{version} of space {space}")
+    }
+
+    /// Says on standard error what it is told that is no thread.
+    fn tell_of_connection(&self, notice: Notice) -> io::Result<()> {
+        let (rt, space) = (self.rt, self.space);
+        eprintln!(rt; "l4d: {notice} to a connection of space {space}")
+    }
 }
 
 /// A socket as the link of its ports, and as the gate of a loop over it. It says stop after 2^64 - 1 turns, which no run has.
@@ -85,16 +101,11 @@ impl<R: Wait + Eprint> Link for SocketGate<'_, R> {
             return;
         }
         self.guest.host.guests.count(self.guest.rt, notice);
-        let rt = self.guest.rt;
-        let space = self.guest.space;
         // where standard error fails the line is lost
         let _ = match (notice, thread) {
-            (Notice::Fault(_, _), Some(thread)) => {
-                let (number, version) = (thread.number(), thread.version());
-                eprintln!(rt; "l4d: {notice} to {number}.{version} of space {space}")
-            }
+            (Notice::Fault(_, _), Some(thread)) => self.guest.tell_of_thread(notice, thread),
             (Notice::Fault(_, _) | Notice::Refused(_), None) => {
-                eprintln!(rt; "l4d: {notice} to a connection of space {space}")
+                self.guest.tell_of_connection(notice)
             }
             _ => Ok(()),
         };

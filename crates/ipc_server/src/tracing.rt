@@ -4,6 +4,7 @@ ghost use Rattle.std.specs.Prelude.{◌≡◌, ◌<◌};
 use crate::host::Host;
 use crate::server::Server;
 use ipc_core::MAX_ENTRIES;
+use ipc_history::Entry;
 use ipc_host::SocketPort;
 use ipc_ports::{Failures, PortWrite, WritePort};
 use ipc_trace::{PutFault, TraceWriter};
@@ -13,7 +14,6 @@ use std::io::BufWriter;
 use std::os::unix::fs::OpenOptionsExt;
 use std::rt::{Clock, Files};
 use std::sync::Wait;
-use std::sync::atomic::Ordering;
 use std::sync::ledger::{Blank, Ledger};
 use std::time::Duration;
 use std::{fmt, io, thread};
@@ -92,15 +92,21 @@ pub fn trace_file<R: Files<File = File>, L: Ledger>(
     path: &str,
     failures: Failures<L>,
 ) -> Result<Trace<WritePort<BufWriter<File>, L>>, TraceFault> {
-    let file = match made(rt, path) {
-        Ok(file) => file,
-        Err(error) => {
-            return Err(TraceFault {
-                fault: PutFault::DeviceFailed,
-                reason: Some(error),
-            });
-        }
-    };
+    match made(rt, path) {
+        Ok(file) => begun(alloc, file, failures),
+        Err(error) => Err(TraceFault {
+            fault: PutFault::DeviceFailed,
+            reason: Some(error),
+        }),
+    }
+}
+
+/// The trace of a file that was made anew, with the line of the version.
+fn begun<L: Ledger>(
+    alloc: Global,
+    file: File,
+    failures: Failures<L>,
+) -> Result<Trace<WritePort<BufWriter<File>, L>>, TraceFault> {
     let Ok(file) = BufWriter::with_capacity(alloc, BUFFER, file) else {
         return Err(TraceFault::from(PutFault::NoMemory));
     };
@@ -151,15 +157,20 @@ impl<P: PortWrite> Trace<P> {
         P: Drop,
     {
         let mut trace = self;
+        trace.put_all(server, host)
+    }
+
+    // The same, by a trace that somebody else has.
+    fn put_all<C: Ledger, T: Ledger, R: Wait + Clock + Eprint>(
+        &mut self,
+        server: &Server<'_, C, T, SocketPort, R>,
+        host: &Host,
+    ) -> Result<(), TraceFault> {
         for _ in server.rt.forever() {
-            match trace.put_group(server) {
-                Ok(0) => return Ok(()),
-                Ok(_) => {}
-                Err(fault) => return Err(TraceFault::from(fault)),
+            if self.put_group(server)? == 0 {
+                return Ok(());
             }
-            if let Some(traced) = &host.traced {
-                traced.store(trace.count as u64, Ordering::SeqCst);
-            }
+            host.note_traced(self.count);
         }
         Ok(())
     }
@@ -169,10 +180,19 @@ impl<P: PortWrite> Trace<P> {
         &mut self,
         server: &Server<'_, C, T, SocketPort, R>,
     ) -> Result<usize, PutFault> {
-        let Ok(group) = server.shared.wait_entries(server.rt, self.count) else {
-            return Err(PutFault::NoMemory);
-        };
-        for entry in &group {
+        match server.shared.wait_entries(server.rt, self.count) {
+            Ok(group) => self.put_entries(server, &group),
+            Err(_) => Err(PutFault::NoMemory),
+        }
+    }
+
+    // Puts these entries, and answers how many they are.
+    fn put_entries<C: Ledger, T: Ledger, R: Wait + Clock + Eprint>(
+        &mut self,
+        server: &Server<'_, C, T, SocketPort, R>,
+        group: &[Entry],
+    ) -> Result<usize, PutFault> {
+        for entry in group {
             self.writer.put(entry)?;
         }
         self.count = self.count.saturating_add(group.len());

@@ -1,4 +1,4 @@
-use Rattle.ipc_server.proofs.main.Given as goal
+use Rattle.ipc_server.proofs.obey.Given as goal
 
 abbrev pub ghosts-start-C-Ledger : goal.ghosts-start-C-Ledger
 ghosts-start-C-Ledger g a = record { name = a.calls.name; parts = a.calls.parts }

@@ -11,8 +11,6 @@ mod post_box;
 mod rest;
 mod seated;
 mod shared_kernel;
-#[cfg(test)]
-mod tests;
 mod upkeep;
 
 pub use ends::{PostEnd, TakeEnd};

@@ -1,4 +1,4 @@
-use Rattle.ipc_lock.proofs.tests.the_clock_fails_a_receive_and_then_a_send.Given as goal
+use Rattle.ipc_lock_tests.proofs.seats.the_clock_fails_a_receive_and_then_a_send.Given as goal
 
 abbrev pub ghosts-timeouts-C-Ledger : goal.ghosts-timeouts-C-Ledger
 ghosts-timeouts-C-Ledger g a = record { name = a.calls.name; parts = a.calls.parts }

@@ -1,4 +1,4 @@
-use Rattle.ipc_lock.proofs.tests.a_seat_is_stale_once_its_number_was_opened_again.Given as goal
+use Rattle.ipc_lock_tests.proofs.seats.a_seat_is_stale_once_its_number_was_opened_again.Given as goal
 
 abbrev pub ghosts-stale_seats-C-Ledger : goal.ghosts-stale_seats-C-Ledger
 ghosts-stale_seats-C-Ledger g a = record { name = a.calls.name; parts = a.calls.parts }

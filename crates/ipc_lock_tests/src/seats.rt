@@ -1,12 +1,14 @@
 ghost use Rattle.std.specs.Prelude.{◌≡◌, ◌^◌, None, Some};
 
-use super::*;
 use ipc_connection::{Request, Told};
 use ipc_core::{Advance, Answer, Command, Limits, Refusal};
 use ipc_frame::{Frame, WireVersion, encode};
 use ipc_history::{Call, CallFields};
 use ipc_items::{BufferList, StringList, Substring};
 use ipc_lines::{entry_line, outcome_line};
+use ipc_lock::{
+    Answered, CallSeat, Entered, Locked, NotGiven, PostEnd, SharedKernel, TakeEnd, TakeSeat, Taken,
+};
 use ipc_pen::{Patience, Pen, PenPort, Turn};
 use ipc_ports::PortFault;
 use ipc_words::limits::{MAX_CALLS, MAX_ENTRIES};

@@ -1,4 +1,4 @@
-use Rattle.ipc_lock.proofs.tests.a_pen_writes_outcomes_before_answers_and_ends_when_its_box_is_shut.Given as goal
+use Rattle.ipc_lock_tests.proofs.seats.a_pen_writes_outcomes_before_answers_and_ends_when_its_box_is_shut.Given as goal
 
 abbrev pub ghosts-boxes-C-Ledger : goal.ghosts-boxes-C-Ledger
 ghosts-boxes-C-Ledger g a = record { name = a.calls.name; parts = a.calls.parts }

@@ -1,4 +1,4 @@
-use Rattle.ipc_lock.proofs.tests.a_transfer_is_stopped_and_its_partner_breaks.Given as goal
+use Rattle.ipc_lock_tests.proofs.seats.a_transfer_is_stopped_and_its_partner_breaks.Given as goal
 
 abbrev pub ghosts-stopped_transfers-C-Ledger : goal.ghosts-stopped_transfers-C-Ledger
 ghosts-stopped_transfers-C-Ledger g a = record { name = a.calls.name; parts = a.calls.parts }

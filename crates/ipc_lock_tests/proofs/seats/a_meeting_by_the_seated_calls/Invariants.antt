@@ -1,4 +1,4 @@
-use Rattle.ipc_lock.proofs.tests.a_meeting_by_the_seated_calls.Given as goal
+use Rattle.ipc_lock_tests.proofs.seats.a_meeting_by_the_seated_calls.Given as goal
 
 abbrev pub ghosts-seated_meeting-C-Ledger : goal.ghosts-seated_meeting-C-Ledger
 ghosts-seated_meeting-C-Ledger g a = record { name = a.calls.name; parts = a.calls.parts }

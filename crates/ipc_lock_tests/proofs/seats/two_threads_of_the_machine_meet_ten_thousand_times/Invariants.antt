@@ -1,4 +1,4 @@
-use Rattle.ipc_lock.proofs.tests.two_threads_of_the_machine_meet_ten_thousand_times.Given as goal
+use Rattle.ipc_lock_tests.proofs.seats.two_threads_of_the_machine_meet_ten_thousand_times.Given as goal
 
 abbrev pub ghosts-meetings-C-Ledger : goal.ghosts-meetings-C-Ledger
 ghosts-meetings-C-Ledger g a = record { name = a.calls.name; parts = a.calls.parts }

@@ -4,9 +4,9 @@
     checks/made_traces.py [--seed N] SCRIPT..
 
 Takes the traces of the scripts and of scripts made at random, of which both say `yes`. Of each it makes others: an entry
-is left out, doubled, moved to another place, or changed in one field. They are written in both versions in turn. Of each `l4sh check` has to say what the rules say:
-`yes`, or the first line that does not follow and what was expected there. It builds l4sh first by running it; the seed makes
-it repeat a run."""
+is left out, doubled, moved to another place, or changed in one field. They are written in both versions in turn, and in version 2 alone where a number above
+255 is opened. Of each `l4sh check` has to say what the rules say: `yes`, or the first line that does not follow and what was expected
+there. It builds l4sh first by running it; the seed makes it repeat a run."""
 import os
 import random
 import subprocess
@@ -14,6 +14,7 @@ import sys
 import tempfile
 
 import rules
+from scripts import version_line
 
 ROOT = os.path.dirname(os.path.dirname(os.path.abspath(__file__)))
 PROGRAM = f"{ROOT}/crates/ipc_shell/out/l4sh"
@@ -241,8 +242,8 @@ def main(words):
                 outputs[line.split(" ")[0]] = outputs.get(line.split(" ")[0], 0) + 1
             for kind, good, made in [("whole", 0, lines), *made_traces(some, lines)]:
                 kinds[kind] += 1
-                # both versions in turn
-                header = ["l4trace 2"] if sum(kinds.values()) % 2 else []
+                needs_2 = version_line("".join(f"{line}\n" for line in made).encode())
+                header = ["l4trace 2"] if needs_2 or sum(kinds.values()) % 2 else []
                 said, right = told(header, made, path), wanted(header, made, good)
                 yes += right[0] == 0
                 if said != right or kind == "whole" and right[0] != 0:

@@ -4,27 +4,32 @@ use std::fmt::{Debug, Display};
 use std::process::Abort;
 
 // Fails the test where the two differ.
-pub fn same<T: PartialEq + Debug + Drop>(rt: &impl Abort, left: T, right: T) {
+pub(crate) fn same<T: PartialEq + Debug + Drop>(rt: &impl Abort, left: T, right: T) {
     assert_eq!(*rt; left, right);
 }
 
 // The same, and says where.
-pub fn same_at<T: PartialEq + Debug + Drop>(rt: &impl Abort, at: &impl Display, left: T, right: T) {
+pub(crate) fn same_at<T: PartialEq + Debug + Drop>(
+    rt: &impl Abort,
+    at: &impl Display,
+    left: T,
+    right: T,
+) {
     assert_eq!(*rt; left, right, "{at}");
 }
 
 // Fails the test where this is not so.
-pub fn holds(rt: &impl Abort, is_so: bool) {
+pub(crate) fn holds(rt: &impl Abort, is_so: bool) {
     assert!(*rt; is_so);
 }
 
 // The same, and says where.
-pub fn holds_at(rt: &impl Abort, at: &impl Display, is_so: bool) {
+pub(crate) fn holds_at(rt: &impl Abort, at: &impl Display, is_so: bool) {
     assert!(*rt; is_so, "{at}");
 }
 
 // Fails the test where a text is not the one that is wanted, or is there where none is wanted.
-pub fn same_text(rt: &impl Abort, at: &str, found: &Option<String>, wanted: Option<&str>) {
+pub(crate) fn same_text(rt: &impl Abort, at: &str, found: &Option<String>, wanted: Option<&str>) {
     match found {
         Some(found) => same_at(rt, &at, Some(found.as_str()), wanted),
         None => same_at(rt, &at, None, wanted),

@@ -5,7 +5,7 @@ use ipc_lines::read_entry;
 use std::alloc::{AllocError, Global};
 
 // The entries of the lines; a line that spells none is left out.
-pub fn entries_of(alloc: Global, text: &str) -> Result<Vec<Entry>, AllocError> {
+pub(crate) fn entries_of(alloc: Global, text: &str) -> Result<Vec<Entry>, AllocError> {
     let mut entries = Vec::new(alloc);
     for line in text.split('\n') {
         put_entry(alloc, &mut entries, line)?;
@@ -23,7 +23,7 @@ fn put_entry(alloc: Global, entries: &mut Vec<Entry>, line: &str) -> Result<(), 
     }
 }
 
-pub fn everything() -> Selection {
+pub(crate) fn everything() -> Selection {
     Selection {
         first: 1,
         last: u64::MAX,
@@ -32,12 +32,12 @@ pub fn everything() -> Selection {
 }
 
 // The scene of all entries of these lines.
-pub fn scene_for(alloc: Global, text: &str, is_folded: bool) -> Result<Scene, AllocError> {
+pub(crate) fn scene_for(alloc: Global, text: &str, is_folded: bool) -> Result<Scene, AllocError> {
     chosen_scene(alloc, text, &everything(), is_folded)
 }
 
 // The scene of the chosen entries of these lines.
-pub fn chosen_scene(
+pub(crate) fn chosen_scene(
     alloc: Global,
     text: &str,
     selection: &Selection,

@@ -297,3 +297,19 @@ goes_on_with turned a b bytes input decoder stage is h = subst (λ (t : Turned).
 
 pub ends_with : (turned : Turned) (a b : Log) (bytes : List ℕ) (input : Option (List ℕ)) (decoder : Decoding) (e : Ending) → turned ≡ Over e → Leaves turned a b bytes input decoder → EndsSo e a b bytes input []
 ends_with turned a b bytes input decoder e is h = subst (λ (t : Turned). Leaves t a b bytes input decoder) is h
+
+-- what a turn answers is one of the two, and says how the reader ends
+pub over_is : (a b : Ending) → Over a ≡ Over b → a ≡ b
+over_is a b is = cc
+
+pub over_not_on : (e : Ending) (stage : Stage) → Over e ≡ On stage → ⊥
+over_not_on e stage is = cc
+
+pub on_not_over : (stage : Stage) (e : Ending) → On stage ≡ Over e → ⊥
+on_not_over stage e is = cc
+
+pub device_not_end : Over ending.Device ≡ Over ending.EndOfInput → ⊥
+device_not_end is = cc
+
+pub device_not_stopped : Over ending.Device ≡ Over ending.Stopped → ⊥
+device_not_stopped is = cc

@@ -56,10 +56,31 @@ fn read_all<P: PortRead, K: KernelPort, G: Gate, B: Blocks>(
     ensures ended { result ≡ Ending.EndOfInput → IsAtEnd (P.remaining port.new) }
 {
     let mut decoder = CallDecoder::new(alloc);
+    let ending = read_turns(port, kernel_port, &mut decoder, gate, blocks);
+    drop(decoder);
+    ending
+}
+
+/// The same through a decoder that holds nothing yet.
+fn read_turns<P: PortRead, K: KernelPort, G: Gate, B: Blocks>(
+    port: &mut P,
+    kernel_port: &mut K,
+    decoder: &mut CallDecoder,
+    gate: &mut G,
+    blocks: &mut B,
+) -> Ending
+    requires { Holds decoder.old [] }
+    ensures calls { (bytes : List ℕ) × Consumes (P.remaining port.old) (P.remaining port.new) bytes
+        × EndsSo result (K.log kernel_port.old) (K.log kernel_port.new) bytes
+        (P.remaining port.new) [] }
+    ensures device { result ≡ Ending.Device → P.failures port.old < P.failures port.new }
+    ensures stopped { result ≡ Ending.Stopped → G.stopped gate.new ≡ true }
+    ensures ended { result ≡ Ending.EndOfInput → IsAtEnd (P.remaining port.new) }
+{
     let mut stage = Stage::Greeting;
     let mut is_long = false;
     'turns: while gate.turn() {
-        let (turned, was_much) = read_next(port, kernel_port, &mut decoder, stage, is_long, blocks);
+        let (turned, was_much) = read_next(port, kernel_port, decoder, stage, is_long, blocks);
         match turned {
             Turned::On(next) => stage = next,
             Turned::Over(ending) => return ending,

@@ -43,26 +43,27 @@ fn write_piece<P: PortWrite>(
 /// Writes the bytes of an encoder, in as few writes as they need.
 fn write_encoder<P: PortWrite>(
     port: &mut P,
-    encoder: Encoder,
+    encoder: &mut Encoder,
     buffer: &mut [u8],
 ) -> Result<(), PortFault>
     requires { 0 < length buffer.old }
-    ensures whole { OnOk result (Appends (P.written port.old) (P.written port.new) encoder) }
-    ensures part { OnErr result (AppendsPart (P.written port.old) (P.written port.new) encoder) }
+    ensures whole { OnOk result (Appends (P.written port.old) (P.written port.new) encoder.old) }
+    ensures part { OnErr result (AppendsPart (P.written port.old)
+        (P.written port.new) encoder.old) }
     ensures failed { OnErr result (P.failures port.old < P.failures port.new) }
     ensures kept { OnOk result (P.failures port.new ≡ P.failures port.old) }
 {
-    let mut encoder = encoder;
-    'pieces: while write_piece(port, &mut encoder, buffer)? {}
+    'pieces: while write_piece(port, encoder, buffer)? {}
     Ok(())
 }
 
 /// Writes the bytes of an encoder in long pieces. Their buffer stands on the stack of this function
 /// alone, which is never inlined. So a connection that is told little never touches it.
 #[inline(never)]
-fn write_long<P: PortWrite>(port: &mut P, encoder: Encoder) -> Result<(), PortFault>
-    ensures whole { OnOk result (Appends (P.written port.old) (P.written port.new) encoder) }
-    ensures part { OnErr result (AppendsPart (P.written port.old) (P.written port.new) encoder) }
+fn write_long<P: PortWrite>(port: &mut P, encoder: &mut Encoder) -> Result<(), PortFault>
+    ensures whole { OnOk result (Appends (P.written port.old) (P.written port.new) encoder.old) }
+    ensures part { OnErr result (AppendsPart (P.written port.old)
+        (P.written port.new) encoder.old) }
     ensures failed { OnErr result (P.failures port.old < P.failures port.new) }
     ensures kept { OnOk result (P.failures port.new ≡ P.failures port.old) }
 {
@@ -70,9 +71,14 @@ fn write_long<P: PortWrite>(port: &mut P, encoder: Encoder) -> Result<(), PortFa
 }
 
 /// Writes the bytes of an encoder, in long pieces or in short ones.
-fn write_frame<P: PortWrite>(port: &mut P, encoder: Encoder, is_long: bool) -> Result<(), PortFault>
-    ensures whole { OnOk result (Appends (P.written port.old) (P.written port.new) encoder) }
-    ensures part { OnErr result (AppendsPart (P.written port.old) (P.written port.new) encoder) }
+fn write_rest<P: PortWrite>(
+    port: &mut P,
+    encoder: &mut Encoder,
+    is_long: bool,
+) -> Result<(), PortFault>
+    ensures whole { OnOk result (Appends (P.written port.old) (P.written port.new) encoder.old) }
+    ensures part { OnErr result (AppendsPart (P.written port.old)
+        (P.written port.new) encoder.old) }
     ensures failed { OnErr result (P.failures port.old < P.failures port.new) }
     ensures kept { OnOk result (P.failures port.new ≡ P.failures port.old) }
 {
@@ -81,6 +87,19 @@ fn write_frame<P: PortWrite>(port: &mut P, encoder: Encoder, is_long: bool) -> R
     } else {
         write_encoder(port, encoder, &mut [0u8; SHORT])
     }
+}
+
+/// The same of an encoder that is given away.
+fn write_frame<P: PortWrite>(port: &mut P, encoder: Encoder, is_long: bool) -> Result<(), PortFault>
+    ensures whole { OnOk result (Appends (P.written port.old) (P.written port.new) encoder) }
+    ensures part { OnErr result (AppendsPart (P.written port.old) (P.written port.new) encoder) }
+    ensures failed { OnErr result (P.failures port.old < P.failures port.new) }
+    ensures kept { OnOk result (P.failures port.new ≡ P.failures port.old) }
+{
+    let mut encoder = encoder;
+    let written = write_rest(port, &mut encoder, is_long);
+    drop(encoder);
+    written
 }
 
 /// Whether the frame of what is given is better written in long pieces.

@@ -5,7 +5,7 @@ use Rattle.ipc_connection.specs.ReadOn.{Fails, TakesMore, TakesOn}
 use Rattle.ipc_ports.specs.declared.fault.PortFault.{PortFault}
 use Rattle.ipc_connection.specs.Taking.{Decoding, Holds}
 use Rattle.ipc_connection.specs.declared.stage.Stage.{Stage}
-use Rattle.ipc_session.proofs.ReadLemmas.{begin, leaves_piece, stop}
+use Rattle.ipc_session.proofs.ReadLemmas.{begin, leaves_piece, on_not_over, over_is, over_not_on, stop}
 use Rattle.ipc_session.proofs.TakeLemmas.{took_none}
 use Rattle.ipc_session.specs.Reading.{HasRead, Log, ServesPiece}
 use Rattle.ipc_session.specs.declared.turned.Turned.TheVariants.{On}
@@ -35,10 +35,10 @@ returns-in-Some-Ok-eq0 g c = λ start first bytes left consumed holds served.
       bytes = bytes ++ more.more;
       consumed = Consumes-trans _ _ _ bytes _ consumed more.consumed;
       leaves = c.end_input.ensures.calls _ (bytes ++ more.more) all.0 _ all.2 all.1 at_end;
-      device = λ is. absurd (c.end_input.ensures.only (cc));
-      kept = λ stage is. absurd (cc);
+      device = λ is. absurd (c.end_input.ensures.only (over_is _ _ is));
+      kept = λ stage is. absurd (over_not_on _ stage is);
       ended = λ is. at_end;
-      not_stopped = λ is. absurd (c.end_input.ensures.never (cc));
+      not_stopped = λ is. absurd (c.end_input.ensures.never (over_is _ _ is));
     }
 
 pub returns-in-Some-Ok : goal.returns-in-Some-Ok
@@ -48,10 +48,10 @@ returns-in-Some-Ok g c = λ start first bytes left consumed holds served.
       bytes = bytes ++ more.more;
       consumed = Consumes-trans _ _ _ bytes _ consumed more.consumed;
       leaves = leaves_piece _ _ _ _ bytes left _ (g.P.PortRead.remaining c.read_on.new.port) c.read_on.new.self (On c.args.stage) served piece;
-      device = λ is. absurd (cc);
+      device = λ is. absurd (on_not_over c.args.stage _ is);
       kept = λ stage is. not_failed (g.P.PortRead.remaining c.args.port.now) (g.P.PortRead.remaining c.read_on.new.port) (g.P.PortRead.failures c.args.port.now) (g.P.PortRead.failures c.read_on.new.port) c.in-Some-Ok.field-0 c.in-Some-Ok.field-0-0 c.in-Some-Ok.field-0-is c.in-Some-Ok.ensures.fails;
-      ended = λ is. absurd (cc);
-      not_stopped = λ is. absurd (cc);
+      ended = λ is. absurd (on_not_over c.args.stage _ is);
+      not_stopped = λ is. absurd (on_not_over c.args.stage _ is);
     }
 
 pub returns-in-None : goal.returns-in-None

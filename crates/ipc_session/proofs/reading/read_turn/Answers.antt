@@ -1,6 +1,6 @@
 use Rattle.std.proofs.Common.{◌++◌, ◌<◌, length, refl, rules}
 use Rattle.std.proofs.KnownBytes.{Consumes-trans}
-use Rattle.ipc_session.proofs.ReadLemmas.{consumes_none, leaves_piece, not_at_end, not_by_piece, not_device, not_stopped}
+use Rattle.ipc_session.proofs.ReadLemmas.{consumes_none, device_not_end, device_not_stopped, leaves_piece, not_at_end, not_by_piece, not_device, not_stopped, over_is, over_not_on}
 use Rattle.ipc_session.proofs.reading.read_turn.Goals as goal
 
 pub returns-in-Err : goal.returns-in-Err
@@ -9,9 +9,9 @@ returns-in-Err g c = λ start first bytes left consumed holds served. record {
   consumed = search rules;
   leaves = (left, c.args.stage, served);
   device = λ is. c.in-Err.ensures.failed;
-  kept = λ stage is. absurd (cc);
-  ended = λ is. absurd (cc);
-  not_stopped = λ is. absurd (cc);
+  kept = λ stage is. absurd (over_not_on _ stage is);
+  ended = λ is. absurd (device_not_end is);
+  not_stopped = λ is. absurd (device_not_stopped is);
 }
 
 pub returns-then-count-eq0 : goal.returns-then-count-eq0
@@ -23,10 +23,10 @@ returns-then-count-eq0 g c = λ start first bytes left consumed holds served.
       bytes = bytes;
       consumed = consumes_none _ _ _ bytes _ _ consumed read.0 c.if-count-eq0.true;
       leaves = c.end_input-ending.ensures.calls _ bytes left _ holds served at_end;
-      device = λ is. absurd (c.end_input-ending.ensures.only (cc));
-      kept = λ stage is. absurd (cc);
+      device = λ is. absurd (c.end_input-ending.ensures.only (over_is _ _ is));
+      kept = λ stage is. absurd (over_not_on _ stage is);
       ended = λ is. at_end;
-      not_stopped = λ is. absurd (c.end_input-ending.ensures.never (cc));
+      not_stopped = λ is. absurd (c.end_input-ending.ensures.never (over_is _ _ is));
     }
 
 pub returns : goal.returns

@@ -3,14 +3,14 @@ use Rattle.std.proofs.KnownBytes.{Consumes-nil}
 use Rattle.ipc_connection.specs.declared.stage.Stage.TheVariants.{Greeting}
 use Rattle.ipc_session.proofs.ReadLemmas.{ends_with, goes_on, goes_on_with, served_none}
 use Rattle.ipc_session.specs.declared.turned.Turned.TheVariants.{Over}
-use Rattle.ipc_session.proofs.reading.read_all.Goals as goal
+use Rattle.ipc_session.proofs.reading.read_turns.Goals as goal
 
 pub turns-init : goal.turns-init
 turns-init g c = record {
   bytes = [];
   left = [];
   consumed = Consumes-nil _;
-  holds = c.new-decoder.ensures;
+  holds = c.requires;
   served = served_none _ Greeting;
   kept = refl;
 }

@@ -4,7 +4,7 @@ use Rattle.std.specs.Io.KnownBytes.{Consumes}
 use Rattle.ipc_connection.specs.Taking.{Holds}
 use Rattle.ipc_connection.specs.declared.stage.Stage.TheVariants.{Greeting}
 use Rattle.ipc_session.specs.Reading.{HasServed}
-use Rattle.ipc_session.proofs.reading.read_all.Given as goal
+use Rattle.ipc_session.proofs.reading.read_turns.Given as goal
 
 abbrev pub invariant-turns : goal.invariant-turns
 invariant-turns g l = record {

@@ -1,10 +1,11 @@
 //! A client of the server.
-ghost use Rattle.std.specs.Prelude.{◌≡◌, Bool, true, false, Err, OnOk, OnErr, IfOk, IfErr, ◌⊎◌};
+ghost use Rattle.std.specs.Prelude.{◌≡◌, Bool, true, false, Some, None, Err, OnOk, OnErr, IfOk, IfErr, ◌⊎◌};
 ghost use Rattle.ipc_words.specs.ThreadId.{anythread};
 ghost use Rattle.ipc_words.specs.Timeouts.{timeouts_of};
 ghost use Rattle.ipc_frame.specs.declared.frame.Frame.{Frame as AnyFrame};
 ghost use Rattle.std.specs.Io.KnownBytes.{Appends};
 ghost use Rattle.ipc_frame.specs.Frames.{spelling};
+ghost use Rattle.ipc_frame.specs.Making.{ipc_fault};
 ghost use Rattle.ipc_client.specs.Asking.{Answers, Exchanges, Fails, FailsBy, FailsCall, FailsToRead};
 ghost use Rattle.ipc_client.specs.Asking.{FailsToSend, FailsBye, IsWithheld, SaysBye};
 ghost use Rattle.ipc_client.specs.Asking.{answer_frame, answers_call, answers_exchange, error_at};
@@ -52,6 +53,32 @@ impl<R: PortRead, W: PortWrite> Model for Client<R, W> {
       version = client.version;
       is_closed = client.is_closed;
     } };
+}
+
+// The frame of a call, or F4, F3 or F1.
+fn frame_of(
+    to: ThreadId,
+    from: ThreadId,
+    timeouts: Timeouts,
+    message: Message,
+    buffers: Buffers,
+) -> Result<IpcFrame, FrameFault>
+    ensures frame { IfOk result (λ frame. frame ≡ ipc_of to from timeouts message buffers) }
+    ensures fits { OnOk result (ipc_fault (ipc_of to from timeouts message buffers) ≡ None) }
+    ensures fault { IfErr result (λ fault.
+        ipc_fault (ipc_of to from timeouts message buffers) ≡ Some fault) }
+{
+    IpcFrame::new(IpcParts {
+        to,
+        from,
+        timeouts,
+        originator: message.sender,
+        tag: message.tag,
+        acceptor: buffers.acceptor,
+        words: message.words,
+        buffer_words: buffers.words,
+        payload: message.payload,
+    })
 }
 
 impl<R: PortRead, W: PortWrite> Client<R, W> {
@@ -285,18 +312,7 @@ impl<R: PortRead, W: PortWrite> Client<R, W> {
         if self.is_closed {
             return Err(ClientError::Closed);
         }
-        let made = IpcFrame::new(IpcParts {
-            to,
-            from,
-            timeouts,
-            originator: message.sender,
-            tag: message.tag,
-            acceptor: buffers.acceptor,
-            words: message.words,
-            buffer_words: buffers.words,
-            payload: message.payload,
-        });
-        match made {
+        match frame_of(to, from, timeouts, message, buffers) {
             Ok(frame) => self.ipc(frame),
             Err(fault) => {
                 self.is_closed = true;

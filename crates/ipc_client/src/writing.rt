@@ -39,16 +39,35 @@ fn write_piece<P: PortWrite>(
 }
 
 // Writes the bytes of an encoder, in as few writes as they need.
-fn write_encoder<P: PortWrite>(port: &mut P, encoder: Encoder) -> Result<(), PortFault>
-    ensures whole { OnOk result (Appends (P.written port.old) (P.written port.new) encoder) }
-    ensures part { OnErr result (AppendsPart (P.written port.old) (P.written port.new) encoder) }
+fn write_encoder<P: PortWrite>(port: &mut P, encoder: &mut Encoder) -> Result<(), PortFault>
+    ensures whole { OnOk result (Appends (P.written port.old) (P.written port.new) encoder.old) }
+    ensures part { OnErr result (AppendsPart (P.written port.old)
+        (P.written port.new) encoder.old) }
     ensures failed { OnErr result (P.failures port.old < P.failures port.new) }
     ensures kept { OnOk result (P.failures port.new ≡ P.failures port.old) }
 {
     let mut piece = [0u8; PIECE];
-    let mut encoder = encoder;
-    'pieces: while write_piece(port, &mut encoder, &mut piece)? {}
+    'pieces: while write_piece(port, encoder, &mut piece)? {}
     Ok(())
+}
+
+// Writes the bytes of an encoder, and flushes the port.
+fn write_through<P: PortWrite>(port: &mut P, encoder: &mut Encoder) -> Result<(), FrameFault>
+    ensures whole { OnOk result (Appends (P.written port.old) (P.written port.new) encoder.old) }
+    ensures flushed { OnOk result (P.flushed port.new ≡ true) }
+    ensures front { OnErr result (AppendsFront (P.written port.old)
+        (P.written port.new) encoder.old) }
+    ensures device { IfErr result (λ fault. IsDeviceFault fault) }
+    ensures failed { OnErr result (P.failures port.old < P.failures port.new) }
+    ensures kept { OnOk result (P.failures port.new ≡ P.failures port.old) }
+{
+    if let Err(fault) = write_encoder(port, encoder) {
+        return Err(device_fault(fault));
+    }
+    match port.flush() {
+        Ok(()) => Ok(()),
+        Err(fault) => Err(device_fault(fault)),
+    }
 }
 
 /// Writes a frame, without memory, and flushes the port. No byte goes out twice.
@@ -66,11 +85,6 @@ pub fn write_frame<P: PortWrite>(port: &mut P, frame: Frame) -> Result<(), Frame
     ensures failed { OnErr result (P.failures port.old < P.failures port.new) }
     ensures kept { OnOk result (P.failures port.new ≡ P.failures port.old) }
 {
-    if let Err(fault) = write_encoder(port, Encoder::new(frame)) {
-        return Err(device_fault(fault));
-    }
-    match port.flush() {
-        Ok(()) => Ok(()),
-        Err(fault) => Err(device_fault(fault)),
-    }
+    let mut encoder = Encoder::new(frame);
+    write_through(port, &mut encoder)
 }

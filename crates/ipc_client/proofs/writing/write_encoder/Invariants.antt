@@ -5,7 +5,7 @@ use Rattle.ipc_client.proofs.writing.write_encoder.Given as goal
 
 abbrev pub invariant-pieces : goal.invariant-pieces
 invariant-pieces g l = record {
-  wrote : Writes (g.P.PortWrite.written l.fn.port) (g.P.PortWrite.written l.port) l.initial.encoder l.encoder;
+  wrote : Writes (g.P.PortWrite.written l.fn.port) (g.P.PortWrite.written l.port) l.fn.encoder l.encoder;
   kept : g.P.PortWrite.failures l.port ≡ g.P.PortWrite.failures l.fn.port;
 }
 

@@ -61,10 +61,7 @@ impl MemoryKernelPort {
         ensures { TellsMore (calls_of self.old.is_complete self.old.deeds.items)
             (calls_of self.new.is_complete self.new.deeds.items) (call_of deed ∷ []) }
     {
-        let pushed = self.deeds.push(deed);
-        let is_kept = pushed.is_ok();
-        drop(pushed);
-        if !is_kept {
+        if self.deeds.push(deed).is_err() {
             self.is_complete = false;
         }
     }

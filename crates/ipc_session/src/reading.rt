@@ -56,9 +56,7 @@ fn read_all<P: PortRead, K: KernelPort, G: Gate, B: Blocks>(
     ensures ended { result ≡ Ending.EndOfInput → IsAtEnd (P.remaining port.new) }
 {
     let mut decoder = CallDecoder::new(alloc);
-    let ending = read_turns(port, kernel_port, &mut decoder, gate, blocks);
-    drop(decoder);
-    ending
+    read_turns(port, kernel_port, &mut decoder, gate, blocks)
 }
 
 /// The same through a decoder that holds nothing yet.

@@ -97,9 +97,7 @@ fn write_frame<P: PortWrite>(port: &mut P, encoder: Encoder, is_long: bool) -> R
     ensures kept { OnOk result (P.failures port.new ≡ P.failures port.old) }
 {
     let mut encoder = encoder;
-    let written = write_rest(port, &mut encoder, is_long);
-    drop(encoder);
-    written
+    write_rest(port, &mut encoder, is_long)
 }
 
 /// Whether the frame of what is given is better written in long pieces.

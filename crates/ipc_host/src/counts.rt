@@ -38,19 +38,21 @@ impl Counts {
     }
 }
 
+/// The refusals of a number, where there are any.
+fn put_refusals<W: fmt::Write>(f: &mut fmt::Formatter<W>, number: u8, count: u64) -> fmt::Result {
+    if count > 0 {
+        write!(f, ", {count} refusals K{number}")
+    } else {
+        Ok(())
+    }
+}
+
 impl fmt::Display for Counts {
     fn fmt<W: fmt::Write>(&self, f: &mut fmt::Formatter<W>) -> fmt::Result {
-        let Counts {
-            exchanges,
-            faults,
-            refusals,
-        } = *self;
-        write!(f, "{exchanges} exchanges, {faults} faults")?;
+        write!(f, "{} exchanges, {} faults", self.exchanges, self.faults)?;
         let mut number = 0u8;
-        for count in refusals {
-            if count > 0 {
-                write!(f, ", {count} refusals K{number}")?;
-            }
+        for count in self.refusals {
+            put_refusals(f, number, count)?;
             number = number.saturating_add(1);
         }
         Ok(())

@@ -8,7 +8,7 @@ use std::alloc::Global;
 use std::net::Shutdown;
 use std::os::unix::net::UnixStream;
 use std::rt::Clock;
-use std::sync::{Arc, Condvar, CondvarTimeouts, Mutex, Wait};
+use std::sync::{Arc, Condvar, CondvarTimeouts, Mutex, MutexGuard, Wait};
 use std::time::Duration;
 
 /// How long is waited in one turn where there is no room, in milliseconds.
@@ -28,7 +28,7 @@ struct Guest {
 }
 
 /// Where a server stands.
-#[derive(Clone, Copy, PartialEq, Eq, Debug)]
+#[derive(Clone, Copy, PartialEq, Eq)]
 enum Stage {
     Serving,
     /// No connection is taken any more, and those that are there were shut down.
@@ -68,14 +68,33 @@ pub fn is_overdue(since: u64, now: u64, within: u64) -> bool
     }
 }
 
+impl Guest {
+    /// Whether it has had its time for a HELLO and is no thread, and was not yet shut down.
+    fn is_overdue(&self, now: u64, within: u64) -> bool {
+        !self.has_thread && !self.is_closing && is_overdue(self.since, now, within)
+    }
+
+    /// Shuts it down.
+    fn shut_down(&self) {
+        let _ = self.stream.shutdown(Shutdown::Both);
+    }
+
+    /// Shuts it down once it has had its time for a HELLO and is no thread, and says whether it did.
+    fn close_overdue(&mut self, now: u64, within: u64) -> bool {
+        let is_overdue = self.is_overdue(now, within);
+        if is_overdue {
+            self.is_closing = true;
+            self.shut_down();
+        }
+        is_overdue
+    }
+}
+
 impl Table {
     /// Shuts down the oldest connection that has had its time for a HELLO and is no thread.
     fn close_overdue(&mut self, now: u64, within: u64) {
         for guest in self.guests.iter_mut() {
-            let is_silent = !guest.has_thread && !guest.is_closing;
-            if is_silent && is_overdue(guest.since, now, within) {
-                guest.is_closing = true;
-                let _ = guest.stream.shutdown(Shutdown::Both);
+            if guest.close_overdue(now, within) {
                 return;
             }
         }
@@ -83,6 +102,95 @@ impl Table {
 
     fn place(&self, ticket: u64) -> Option<usize> {
         self.guests.iter().position(|guest| guest.ticket == ticket)
+    }
+
+    /// Whether no connection is taken any more.
+    fn is_stopping(&self) -> bool {
+        self.stage != Stage::Serving
+    }
+
+    /// Whether all connections have ended.
+    fn is_finished(&self) -> bool {
+        self.stage == Stage::Finished
+    }
+
+    /// Whether there is room for one more connection. Where there is none, the oldest one that has had its time is shut down.
+    fn make_room(&mut self, most: u64, now: u64, within: u64) -> bool {
+        let has_room = (self.guests.len() as u64) < most;
+        if !has_room {
+            self.close_overdue(now, within);
+        }
+        has_room
+    }
+
+    /// Takes a connection in, and answers its ticket. None: there is no memory.
+    fn take_in(&mut self, since: u64, stream: Arc<UnixStream>) -> Option<u64> {
+        let ticket = self.next;
+        let guest = Guest {
+            ticket,
+            since,
+            has_thread: false,
+            is_closing: false,
+            stream,
+        };
+        self.guests.push(guest).ok()?;
+        self.next = ticket.saturating_add(1);
+        Some(ticket)
+    }
+
+    /// The connection is a thread from here on.
+    fn greet(&mut self, ticket: u64) {
+        if let Some(place) = self.place(ticket) {
+            if let Some(guest) = self.guests.get_mut(place) {
+                guest.has_thread = true;
+            }
+        }
+    }
+
+    /// The connection has ended.
+    fn leave(&mut self, ticket: u64) {
+        if let Some(place) = self.place(ticket) {
+            if place < self.guests.len() {
+                drop(self.guests.remove(place));
+            }
+        }
+    }
+
+    /// No connection is taken any more, and each that is there is shut down.
+    fn stop(&mut self) {
+        if self.stage == Stage::Serving {
+            self.stage = Stage::Stopping;
+        }
+        for guest in &self.guests {
+            guest.shut_down();
+        }
+    }
+
+    /// How many of the connections are threads.
+    fn threads(&self) -> usize {
+        self.guests.iter().filter(|guest| guest.has_thread).count()
+    }
+
+    /// How many connections are there, how many of them are threads, and what was told so far.
+    fn state(&self) -> (usize, usize, Counts) {
+        (self.guests.len(), self.threads(), self.counts)
+    }
+
+    /// Whether something that is told once a minute at most may be told now.
+    fn is_quiet(&self, now: u64) -> bool {
+        match self.told {
+            Some(last) => is_overdue(last, now, QUIET),
+            None => true,
+        }
+    }
+
+    /// The same; it then counts as told. How many connections are there beside it.
+    fn may_tell(&mut self, now: u64) -> (bool, usize) {
+        let may = self.is_quiet(now);
+        if may {
+            self.told = Some(now);
+        }
+        (may, self.guests.len())
     }
 }
 
@@ -115,52 +223,62 @@ impl Guests {
         stream: UnixStream,
     ) -> Option<(u64, Arc<UnixStream>)> {
         let stream = Arc::new(self.alloc, stream).ok()?;
+        let ticket = self.enter(rt, &stream)?;
+        Some((ticket, stream))
+    }
+
+    /// The same of a connection that is lent.
+    fn enter<R: Wait + Clock>(&self, rt: &R, stream: &Arc<UnixStream>) -> Option<u64> {
+        let stream = Arc::try_clone(stream).ok()?;
+        let mut table = self.wait_room(rt);
+        let ticket = if table.is_stopping() {
+            None
+        } else {
+            table.take_in(self.clock.now(rt), stream)
+        };
+        drop(table);
+        ticket
+    }
+
+    /// Waits until there is room for one more connection, or the server stops.
+    fn wait_room<R: Wait + Clock>(&self, rt: &R) -> MutexGuard<'_, Table> {
         let mut table = self.table.lock(rt);
         for _ in rt.forever() {
-            if table.stage != Stage::Serving {
-                return None;
-            }
-            if (table.guests.len() as u64) < self.most {
+            if self.ends_wait(rt, &mut table) {
                 break;
             }
-            table.close_overdue(self.clock.now(rt), self.within);
-            let (next, _) = self
-                .ended
-                .wait_timeout(rt, table, Duration::from_millis(TURN));
-            table = next;
+            table = self.wait(rt, table, Duration::from_millis(TURN));
         }
-        let ticket = table.next;
-        let guest = Guest {
-            ticket,
-            since: self.clock.now(rt),
-            has_thread: false,
-            is_closing: false,
-            stream: Arc::try_clone(&stream).ok()?,
-        };
-        table.guests.push(guest).ok()?;
-        table.next = ticket.saturating_add(1);
-        Some((ticket, stream))
+        table
+    }
+
+    /// Whether there is room for one more connection, or the server stops.
+    fn ends_wait<R: Clock>(&self, rt: &R, table: &mut Table) -> bool {
+        table.is_stopping() || table.make_room(self.most, self.clock.now(rt), self.within)
+    }
+
+    /// Waits until a connection has ended, at most this long.
+    fn wait<'a, R: Wait + Clock>(
+        &self,
+        rt: &R,
+        table: MutexGuard<'a, Table>,
+        time: Duration,
+    ) -> MutexGuard<'a, Table> {
+        let (table, _) = self.ended.wait_timeout(rt, table, time);
+        table
     }
 
     /// The connection is a thread from here on.
     pub fn greet<R: Wait>(&self, rt: &R, ticket: u64) {
         let mut table = self.table.lock(rt);
-        let table = &mut *table;
-        if let Some(place) = table.place(ticket) {
-            if let Some(guest) = table.guests.get_mut(place) {
-                guest.has_thread = true;
-            }
-        }
+        table.greet(ticket);
+        drop(table);
     }
 
     /// The connection has ended.
     pub fn leave<R: Wait>(&self, rt: &R, ticket: u64) {
         let mut table = self.table.lock(rt);
-        if let Some(place) = table.place(ticket) {
-            if place < table.guests.len() {
-                let _ = table.guests.remove(place);
-            }
-        }
+        table.leave(ticket);
         drop(table);
         self.ended.notify_all();
     }
@@ -168,12 +286,7 @@ impl Guests {
     /// No connection is taken any more, and each that is there is shut down.
     pub fn stop<R: Wait>(&self, rt: &R) {
         let mut table = self.table.lock(rt);
-        if table.stage == Stage::Serving {
-            table.stage = Stage::Stopping;
-        }
-        for guest in &table.guests {
-            let _ = guest.stream.shutdown(Shutdown::Both);
-        }
+        table.stop();
         drop(table);
         self.ended.notify_all();
     }
@@ -188,53 +301,53 @@ impl Guests {
 
     /// Whether no connection is taken any more.
     pub fn is_stopping<R: Wait>(&self, rt: &R) -> bool {
-        self.table.lock(rt).stage != Stage::Serving
+        let table = self.table.lock(rt);
+        let is_stopping = table.is_stopping();
+        drop(table);
+        is_stopping
     }
 
     /// Waits until a connection has ended, at most 10 milliseconds.
     pub fn wait_turn<R: Wait + Clock>(&self, rt: &R) {
         let table = self.table.lock(rt);
-        let (table, _) = self
-            .ended
-            .wait_timeout(rt, table, Duration::from_millis(TURN));
-        drop(table);
+        drop(self.wait(rt, table, Duration::from_millis(TURN)));
     }
 
     /// Waits until all connections have ended, at most this long. True: they have.
     pub fn wait_finished<R: Wait + Clock>(&self, rt: &R, time: Duration) -> bool {
-        let end = self
-            .clock
-            .now(rt)
-            .saturating_add(u64::try_from(time.as_micros()).unwrap_or(u64::MAX));
+        let end = self.moment_in(rt, time);
         let mut table = self.table.lock(rt);
         for _ in rt.forever() {
-            if table.stage == Stage::Finished {
-                return true;
-            }
             let left = end.saturating_sub(self.clock.now(rt));
-            if left == 0 {
-                return false;
+            if left == 0 || table.is_finished() {
+                break;
             }
-            let (next, _) = self
-                .ended
-                .wait_timeout(rt, table, Duration::from_micros(left));
-            table = next;
+            table = self.wait(rt, table, Duration::from_micros(left));
         }
-        false
+        let is_finished = table.is_finished();
+        drop(table);
+        is_finished
+    }
+
+    /// The moment at the end of a time that begins now, in microseconds.
+    fn moment_in<R: Clock>(&self, rt: &R, time: Duration) -> u64 {
+        let micros = u64::try_from(time.as_micros()).unwrap_or(u64::MAX);
+        self.clock.now(rt).saturating_add(micros)
     }
 
     /// Counts what was told to a client.
     pub fn count<R: Wait>(&self, rt: &R, notice: Notice) {
         let mut table = self.table.lock(rt);
-        let table = &mut *table;
         table.counts.add(notice);
+        drop(table);
     }
 
     /// How many connections are there, how many of them are threads, and what was told so far.
     pub fn state<R: Wait>(&self, rt: &R) -> (usize, usize, Counts) {
         let table = self.table.lock(rt);
-        let threads = table.guests.iter().filter(|guest| guest.has_thread).count();
-        (table.guests.len(), threads, table.counts)
+        let state = table.state();
+        drop(table);
+        state
     }
 
     /// Whether something that is told once a minute at most may be told now; it then counts as told. How many connections are
@@ -242,13 +355,8 @@ impl Guests {
     pub fn may_tell<R: Wait + Clock>(&self, rt: &R) -> (bool, usize) {
         let now = self.clock.now(rt);
         let mut table = self.table.lock(rt);
-        let may = match table.told {
-            Some(last) => is_overdue(last, now, QUIET),
-            None => true,
-        };
-        if may {
-            table.told = Some(now);
-        }
-        (may, table.guests.len())
+        let answer = table.may_tell(now);
+        drop(table);
+        answer
     }
 }

@@ -1,7 +1,7 @@
 //! How many connections there may be at one time.
 ghost use Rattle.std.specs.Prelude.{◌≤◌, ◌<◌, ◌+◌, ◌^◌};
 
-use crate::status::{field, text_of};
+use crate::status::{field, first_word, text_of};
 use std::alloc::Global;
 use std::rt::Files;
 
@@ -27,15 +27,24 @@ pub fn room(asked: u64, descriptors: u64, used: u64) -> u64
 /// The limit of descriptors of this process.
 pub fn descriptors<R: Files>(rt: &R, alloc: Global) -> u64 {
     match text_of(rt, alloc, "/proc/self/limits") {
-        Some(text) => descriptors_in(text.as_str()).unwrap_or(USUAL),
+        Some(text) => {
+            let found = descriptors_in(text.as_str());
+            drop(text);
+            found.unwrap_or(USUAL)
+        }
         None => USUAL,
     }
 }
 
 fn descriptors_in(limits: &str) -> Option<u64> {
-    let soft = field(limits, "Max open files")?.split_whitespace().next()?;
+    limit_of(first_word(field(limits, "Max open files")?)?)
+}
+
+/// The number of a limit.
+fn limit_of(soft: &str) -> Option<u64> {
     if soft == "unlimited" {
-        return Some(u64::MAX);
+        Some(u64::MAX)
+    } else {
+        soft.parse().ok()
     }
-    soft.parse().ok()
 }

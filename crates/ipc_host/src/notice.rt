@@ -2,7 +2,7 @@
 use std::fmt;
 
 /// What a client was told.
-#[derive(Clone, Copy, PartialEq, Eq, Debug)]
+#[derive(Clone, Copy)]
 pub enum Notice {
     /// EXREGR: an ExchangeRegisters was done.
     Exchanged,

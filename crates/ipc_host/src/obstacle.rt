@@ -32,33 +32,34 @@ pub enum Obstacle {
     Other(Error),
 }
 
+impl Obstacle {
+    /// The sentence, where it is not the system's.
+    fn sentence(&self) -> &'static str {
+        match self {
+            Obstacle::TooLong => "the path is too long: a socket's path has at most 107 bytes",
+            Obstacle::NoFolder => "no such folder: make it, of mode 0700, or name another by --dir",
+            Obstacle::NotAFolder => "not a folder: name one by --dir",
+            Obstacle::Denied => "denied: this user may not make a path there",
+            Obstacle::Guarded => {
+                "a socket stands there to which this user may not connect: name another folder by --dir"
+            }
+            Obstacle::InUse => {
+                "in use: a server answers there; end it, or name another folder by --dir"
+            }
+            Obstacle::Stale => "stale: nobody answers there; --replace removes it",
+            Obstacle::NoSocket => {
+                "something stands there that is no socket: remove it, or name another folder by --dir"
+            }
+            Obstacle::Other(_) => "",
+        }
+    }
+}
+
 impl fmt::Display for Obstacle {
     fn fmt<W: fmt::Write>(&self, f: &mut fmt::Formatter<W>) -> fmt::Result {
         match self {
-            Obstacle::TooLong => write!(
-                f,
-                "the path is too long: a socket's path has at most 107 bytes"
-            ),
-            Obstacle::NoFolder => write!(
-                f,
-                "no such folder: make it, of mode 0700, or name another by --dir"
-            ),
-            Obstacle::NotAFolder => write!(f, "not a folder: name one by --dir"),
-            Obstacle::Denied => write!(f, "denied: this user may not make a path there"),
-            Obstacle::Guarded => write!(
-                f,
-                "a socket stands there to which this user may not connect: name another folder by --dir"
-            ),
-            Obstacle::InUse => write!(
-                f,
-                "in use: a server answers there; end it, or name another folder by --dir"
-            ),
-            Obstacle::Stale => write!(f, "stale: nobody answers there; --replace removes it"),
-            Obstacle::NoSocket => write!(
-                f,
-                "something stands there that is no socket: remove it, or name another folder by --dir"
-            ),
             Obstacle::Other(error) => write!(f, "{error}"),
+            other => f.write_str(other.sentence()),
         }
     }
 }
@@ -81,19 +82,30 @@ pub fn obstacle_at<R: Files + Net>(rt: &R, path: &str, error: Error) -> Obstacle
 fn occupant<R: Files + Net>(rt: &R, path: &str) -> Obstacle {
     match fs::symlink_metadata(rt, path) {
         Ok(found) => {
-            if !found.file_type().is_socket() {
-                return Obstacle::NoSocket;
+            if found.file_type().is_socket() {
+                listener(rt, path)
+            } else {
+                Obstacle::NoSocket
             }
         }
-        Err(error) => return Obstacle::Other(error),
+        Err(error) => Obstacle::Other(error),
     }
+}
+
+/// Who listens at the path of a socket.
+fn listener<R: Net>(rt: &R, path: &str) -> Obstacle {
     match UnixStream::connect(rt, path) {
         Ok(_) => Obstacle::InUse,
-        Err(error) => match error.kind() {
-            ErrorKind::ConnectionRefused => Obstacle::Stale,
-            ErrorKind::PermissionDenied => Obstacle::Guarded,
-            ErrorKind::WouldBlock => Obstacle::InUse,
-            _ => Obstacle::Other(error),
-        },
+        Err(error) => unanswered(error),
+    }
+}
+
+/// Why nobody answered at the path of a socket.
+fn unanswered(error: Error) -> Obstacle {
+    match error.kind() {
+        ErrorKind::ConnectionRefused => Obstacle::Stale,
+        ErrorKind::PermissionDenied => Obstacle::Guarded,
+        ErrorKind::WouldBlock => Obstacle::InUse,
+        _ => Obstacle::Other(error),
     }
 }

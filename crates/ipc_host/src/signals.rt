@@ -22,5 +22,11 @@ pub fn have_come(status: &ProcessStatus, alloc: Global) -> bool {
 /// A mask of signals, where it can be read.
 fn mask(status: &ProcessStatus, alloc: Global, name: &str) -> Option<u64> {
     let text = status.text(alloc)?;
-    u64::from_str_radix(field(text.as_str(), name)?, 16).ok()
+    let mask = mask_in(text.as_str(), name);
+    drop(text);
+    mask
+}
+
+fn mask_in(text: &str, name: &str) -> Option<u64> {
+    u64::from_str_radix(field(text, name)?, 16).ok()
 }

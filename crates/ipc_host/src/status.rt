@@ -14,11 +14,17 @@ pub(crate) fn text_of<R: Files>(rt: &R, alloc: Global, path: &str) -> Option<Str
 /// What stands behind a name, in the first line that begins with it.
 pub fn field<'a>(text: &'a str, name: &str) -> Option<&'a str> {
     for line in text.lines() {
-        if let Some(rest) = line.strip_prefix(name) {
-            return Some(rest.trim());
+        if let Some(held) = behind(line, name) {
+            return Some(held);
         }
     }
     None
+}
+
+/// What stands behind a name in a line that begins with it.
+fn behind<'a>(line: &'a str, name: &str) -> Option<&'a str> {
+    let rest = line.strip_prefix(name)?;
+    Some(rest.trim())
 }
 
 /// What the system tells of this process, read anew each time. A reading moves the place in the file, so each thread has one of its own.
@@ -45,6 +51,16 @@ impl ProcessStatus {
 /// How many KiB of memory this process holds, where the system tells it.
 pub fn resident(status: &ProcessStatus, alloc: Global) -> Option<u64> {
     let text = status.text(alloc)?;
-    let held = field(text.as_str(), "VmRSS:")?;
-    held.split_whitespace().next()?.parse().ok()
+    let held = resident_in(text.as_str());
+    drop(text);
+    held
+}
+
+fn resident_in(text: &str) -> Option<u64> {
+    first_word(field(text, "VmRSS:")?)?.parse().ok()
+}
+
+/// The first of the words that stand in a text.
+pub(crate) fn first_word(text: &str) -> Option<&str> {
+    text.split_whitespace().next()
 }

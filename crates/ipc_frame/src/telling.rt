@@ -1,4 +1,4 @@
-ghost use Rattle.std.specs.Prelude.{◌≡◌, ◌≤◌, ◌^◌, length};
+ghost use Rattle.std.specs.Prelude.{◌≡◌, ◌≤◌, ◌<◌, ◌+◌, ◌-◌, ◌^◌, [], if◌then◌else◌, nat_lt, drop, length};
 ghost use Rattle.ipc_words.specs.Limits.{max_frame_body};
 ghost use Rattle.ipc_frame.specs.Parts.{pieces_text, ipcr_size};
 ghost use Rattle.ipc_history.specs.Outcomes.{OutcomeParts};
@@ -127,21 +127,29 @@ pub(crate) fn put_reply(
     put_reply_parts(window, out, version, outcome);
 }
 
+// From a place in the text of a piece on, the rest of its bytes; none where that is in its pointer or its length.
+fn lend_bytes(bytes: &[u8], place: usize) -> &[u8]
+    requires { place < 12 + length bytes.now }
+    ensures { result.now ≡ (if nat_lt place 12 then [] else drop (place - 12) bytes.now) }
+{
+    if place < 12 {
+        &[]
+    } else {
+        &bytes[place - 12..]
+    }
+}
+
 // From a place in the text of the pieces on, the rest of the string's bytes that it is in.
 fn lend_piece(outcome: &Outcome, place: usize) -> &[u8]
     ensures { result.now ≡ lent_piece place (pieces_told outcome.now) }
 {
     let mut place = place;
     for piece in Scattered::new(&outcome.buffers, &outcome.strings) {
-        // the place is in its pointer or its length
-        if place < 12 {
-            return &[];
+        let size = 12 + piece.bytes.len();
+        if place < size {
+            return lend_bytes(piece.bytes, place);
         }
-        place -= 12;
-        if place < piece.bytes.len() {
-            return &piece.bytes[place..];
-        }
-        place -= piece.bytes.len();
+        place -= size;
     }
     &[]
 }

@@ -30,7 +30,7 @@ pub struct Substring {
 ///
 /// Each has a substring, and there are at most [`MAX_SUBSTRINGS`] together, each of a length below
 /// [`SUBSTRING_LENGTH_LIMIT`].
-#[derive(Debug, Drop)]
+#[derive(Drop)]
 pub struct BufferList {
     rows: Rows<Substring>,
 }

@@ -19,7 +19,7 @@ const LOOKS: u32 = 4;
 /// Lists of strings whose memory is used again once nobody else has them, the oldest first; seen as these lists.
 ///
 /// There are at most [`MAX_FREE_BLOCKS`], of at most [`MAX_FREE_BYTES`] together.
-#[derive(Debug, Drop)]
+#[derive(Drop)]
 pub struct FreeBlocks {
     lists: VecDeque<StringList>,
     // How many bytes all lists have.

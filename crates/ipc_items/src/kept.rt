@@ -8,14 +8,14 @@ use std::marker::Model;
 use std::sync::Arc;
 
 /// Who has the rows.
-#[derive(Debug, Drop)]
+#[derive(Drop)]
 enum Owned<T> {
     Sole(Rows<T>),
     Shared(Arc<Rows<T>>),
 }
 
 /// Rows of one owner, or of several; seen as the list of them.
-#[derive(Debug, Drop)]
+#[derive(Drop)]
 pub(crate) struct Kept<T> {
     owned: Owned<T>,
 }

@@ -9,7 +9,7 @@ use std::alloc::AllocError;
 use std::marker::Model;
 
 /// Lists kept end to end in one vector, seen as the list of them.
-#[derive(Debug, Drop)]
+#[derive(Drop)]
 pub(crate) struct Rows<T> {
     items: Vec<T>,
     // Where each row ends in `items`.

@@ -25,7 +25,7 @@ use std::marker::Model;
 /// The strings of a message, seen as the list of their bytes.
 ///
 /// There are at most [`MAX_STRINGS`], of at most [`MAX_STRING_BYTES`] together.
-#[derive(Debug, Drop)]
+#[derive(Drop)]
 pub struct StringList {
     rows: Kept<u8>,
 }

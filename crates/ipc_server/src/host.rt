@@ -36,7 +36,10 @@ impl Host {
 
     /// Whether a path closes that has had so many connections.
     pub(crate) fn closes_after(&self, taken: u16) -> bool {
-        self.connections.map_or(false, |most| taken >= most)
+        match self.connections {
+            Some(most) => taken >= most,
+            None => false,
+        }
     }
 
     /// Whether SIGINT and SIGTERM may have been blocked where the program was started, so that they end the service.

@@ -219,14 +219,25 @@ fn host_of<C: Ledger, T: Ledger, R: Threads + Files<File = File>>(
         connections: (!options.keep_open).then_some(options.connections),
         is_logged: options.log,
         is_eager: has_several_processors(server.rt),
-        traced: options.trace.map(|_| AtomicU64::new(0)),
+        traced: nothing_traced(options),
         signals: ProcessStatus::open(server.rt),
         memory: ProcessStatus::open(server.rt),
     }
 }
 
+/// How many entries stand in the trace at first; None without one.
+fn nothing_traced(options: &ServerOptions<'_>) -> Option<AtomicU64> {
+    match options.trace {
+        Some(_) => Some(AtomicU64::new(0)),
+        None => None,
+    }
+}
+
 fn has_several_processors<R: Threads>(rt: &R) -> bool {
-    thread::available_parallelism(rt).map_or(false, |count| count.get() > 1)
+    match thread::available_parallelism(rt) {
+        Ok(count) => count.get() > 1,
+        Err(_) => false,
+    }
 }
 
 /// Serves the paths that are bound, removes them, and says that it closed where it ended well.

@@ -63,8 +63,10 @@ fn add<R: Files + Net>(
 ) -> Result<(), Exit> {
     listeners.reserve(1)?;
     let listener = listener_of(rt, alloc, options, space)?;
-    listeners.push(listener).map_err(AllocError::from)?;
-    Ok(())
+    match listeners.push(listener) {
+        Ok(()) => Ok(()),
+        Err(full) => Err(Exit::from(AllocError::from(full))),
+    }
 }
 
 /// The socket that listens for a space.

@@ -6,6 +6,7 @@ use Rattle.ipc_history.specs.Threads.{is_live, is_taken, next_version}
 use Rattle.ipc_history.specs.Phases.{open_call}
 use Rattle.ipc_laws.proofs.Tests.{neither_left}
 use Rattle.ipc_core.specs.KernelParts.{KernelParts}
+use Rattle.ipc_core.specs.Ranges.{is_out_of_range}
 use Rattle.ipc_core.specs.Room.{is_full, open_need, exreg_need}
 use Rattle.ipc_core.specs.Refusals.{open_refusal, exreg_refusal}
 use Rattle.ipc_core.specs.Outcomes.{has_untaken, is_busy}
@@ -44,19 +45,15 @@ none_passes false true c d none = (cc, cc, cc, cc)
 none_passes false false true d none = (cc, cc, cc, cc)
 none_passes false false false d none = (refl, refl, refl, none)
 
-range_from : (number space : ℕ) → (nat_lt number 1 || nat_lt max_thread_number number || nat_lt space 1 || nat_lt max_space space) ≡ false → InRange number space
+pub range_from : (number space : ℕ) → is_out_of_range number space ≡ false → InRange number space
 range_from number space tests =
     let each = none_passes (nat_lt number 1) (nat_lt max_thread_number number) (nat_lt space 1) (nat_lt max_space space) tests in
     record { least = ltb-false number 1 each.0; most = ltb-false max_thread_number number each.1; inner = ltb-false space 1 each.2; outer = ltb-false max_space space each.3 }
 
 module _ (kernel : KernelParts) (number space : ℕ) where
-  pub open_bad : (InRange number space → ⊥) → open_refusal kernel number space ≡ Some BadNumber
+  pub open_bad : is_out_of_range number space ≡ true → open_refusal kernel number space ≡ Some BadNumber
   unfolding open_refusal
-  open_bad out = go (nat_lt number 1 || nat_lt max_thread_number number || nat_lt space 1 || nat_lt max_space space) refl
-    where
-      go : (b : Bool) → (nat_lt number 1 || nat_lt max_thread_number number || nat_lt space 1 || nat_lt max_space space) ≡ b → open_refusal kernel number space ≡ Some BadNumber
-      go true tests = rw tests refl
-      go false tests = absurd (out (range_from number space tests))
+  open_bad out = rw out refl
 
   module _ (range : InRange number space) where
     pub open_taken : is_taken kernel.history number ≡ true → open_refusal kernel number space ≡ Some NumberTaken

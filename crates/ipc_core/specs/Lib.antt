@@ -3,6 +3,7 @@ pub mod Steps
 pub mod Outcomes
 pub mod Room
 pub mod CommandRoom
+pub mod Ranges
 pub mod Refusals
 pub mod ExchangeRegisters
 pub mod Invariants

@@ -32,7 +32,7 @@ pub struct EnterRefused {
 }
 
 /// K6: the thread is not live.
-#[derive(Clone, Copy, PartialEq, Eq, Debug)]
+#[derive(Clone, Copy)]
 pub struct NoThread;
 
 /// What a compaction did.

@@ -25,6 +25,7 @@ ghost use Rattle.ipc_core.specs.Laws.{IsSound};
 ghost use Rattle.ipc_core.specs.Obeying.{MayObey, broke_answer, empty_kernel, enter_answer, exreg_result, open_answer, rested};
 ghost use Rattle.ipc_core.specs.Outcomes.{has_untaken, is_among, is_busy, is_finished, made_by, outcome_to_take, taken_by};
 ghost use Rattle.ipc_core.specs.Refusals.{open_refusal, enter_refusal, exreg_refusal};
+ghost use Rattle.ipc_core.specs.Ranges.{is_out_of_range};
 ghost use Rattle.ipc_core.specs.Room.{LacksRoomFor, exreg_need, is_full, open_need};
 ghost use Rattle.ipc_core.specs.Steps.{Advances, Enters, MayRefuse, Opens, at_moment, taken_after};
 ghost use Rattle.ipc_core.specs.declared.command.Answer.TheVariants.{Advanced, Done, Taken};
@@ -47,7 +48,7 @@ use std::alloc::Global;
 use std::marker::Model;
 
 /// How many entries and calls a kernel takes; more than the greatest counts as that.
-#[derive(Clone, Copy, PartialEq, Eq, Debug)]
+#[derive(Clone, Copy)]
 pub struct Limits {
     /// The most entries that the history may hold before a command, with all that is pledged and that the command needs.
     pub entries: u64,
@@ -348,9 +349,7 @@ impl Kernel {
         ensures err { OnErr result (self.new ≡ self.old) }
         ensures ample { M.is_ample → IfErr result (λ refusal. refusal ≢ Refusal.NoMemory) }
     {
-        let most = u64::from(MAX_THREAD_NUMBER);
-        let spaces = u64::from(MAX_SPACE);
-        if number < 1 || number > most || space < 1 || space > spaces {
+        if is_out_of_range(number, space) {
             return Err(Refusal::BadNumber);
         }
         if self.course.is_taken(number as u32) {
@@ -501,6 +500,15 @@ fn room_within(left: u64, live: u64, calls: u128, need: u64) -> Option<usize>
     } else {
         Some((threads + calls as u64 + need) as usize)
     }
+}
+
+/// Whether no thread may have this number in this space.
+fn is_out_of_range(number: u64, space: u64) -> bool
+    ensures { result ≡ is_out_of_range number space }
+{
+    let most = u64::from(MAX_THREAD_NUMBER);
+    let spaces = u64::from(MAX_SPACE);
+    number < 1 || number > most || space < 1 || space > spaces
 }
 
 /// The id of a number and a version.

@@ -184,6 +184,7 @@ impl Kernel {
         if !first.is_history_full() {
             return first;
         }
+        drop(first);
         let _ = self.compact(upto);
         self.obey_open(memory, number, space)
     }
@@ -228,6 +229,7 @@ impl Kernel {
         if !first.is_history_full() {
             return first;
         }
+        drop(first);
         let _ = self.compact(upto);
         self.obey_exreg(memory, thread, target, control)
     }

@@ -5,46 +5,40 @@ use Rattle.ipc_history.specs.Legal.{is_admissible}
 use Rattle.ipc_history.specs.declared.entry.Input.TheVariants.{Opened}
 use Rattle.ipc_core.specs.Room.{LacksRoomFor, open_need}
 use Rattle.ipc_laws.specs.Counting.{pledged}
-use Rattle.ipc_core.proofs.OpeningLemmas.{InRange, may_open_next}
-use Rattle.ipc_core.proofs.RefusalLemmas.{not_since, open_allowed, open_bad, open_full, open_taken, open_worn}
+use Rattle.ipc_core.proofs.OpeningLemmas.{may_open_next}
+use Rattle.ipc_core.proofs.RefusalLemmas.{not_since, open_allowed, open_bad, open_full, open_taken, open_worn, range_from}
 use Rattle.ipc_core.proofs.ReservedLemmas.{kernel_took, reserved, takes_input}
 use Rattle.ipc_core.specs.Books.{AreBooks}
 use Rattle.ipc_core.proofs.NewCalls.{takes_grows}
 use Rattle.ipc_core.proofs.AmpleLemmas.{ample_where, fits_grown, fits_same}
 use Rattle.ipc_core.proofs.BookLemmas.{books_grown}
 use Rattle.ipc_core.proofs.kernel.Kernel.open_thread.Goals as goal
-use Rattle.ipc_core.proofs.kernel.Kernel.open_thread.Goals.{then-number-lt1-via-then-number-lt1, then-number-lt1-via-else-number-lt1+then-number-most, then-number-lt1-via-else-number-lt1+else-number-most+then-space-lt1, then-number-lt1-via-else-number-lt1+else-number-most+else-space-lt1+then-space-spaces}
 
-pub returns-then-number-lt1-clause-cause : goal.returns-then-number-lt1-clause-cause
-returns-then-number-lt1-clause-cause g c = inl (open_bad c.args.self.now c.args.number c.args.space (λ range. elim c.then-number-lt1.branch [
-  | then-number-lt1-via-then-number-lt1 w ↦ omega arith
-  | then-number-lt1-via-else-number-lt1+then-number-most w ↦ omega arith
-  | then-number-lt1-via-else-number-lt1+else-number-most+then-space-lt1 w ↦ omega arith
-  | then-number-lt1-via-else-number-lt1+else-number-most+else-space-lt1+then-space-spaces w ↦ omega arith
-]))
+pub returns-then-is_out_of_range-clause-cause : goal.returns-then-is_out_of_range-clause-cause
+returns-then-is_out_of_range-clause-cause g c = inl (open_bad c.args.self.now c.args.number c.args.space (sym c.is_out_of_range.ensures ∙ c.if-is_out_of_range.true))
 
 pub returns-then-is_taken-clause-cause : goal.returns-then-is_taken-clause-cause
 returns-then-is_taken-clause-cause g c =
     let history : c.self.inside.course.entries ≡ c.args.self.now.history = ap (λ k. k.history) c.self.view_is in
-    let range : InRange c.args.number c.args.space = record { least = omega arith; most = omega arith; inner = omega arith; outer = omega arith } in
+    let range = range_from c.args.number c.args.space (sym c.is_out_of_range.ensures ∙ c.if-is_out_of_range.false) in
     inl (open_taken c.args.self.now c.args.number c.args.space range (cc))
 
 pub returns-in_default-clause-cause : goal.returns-in_default-clause-cause
 returns-in_default-clause-cause g c =
     let history : c.self.inside.course.entries ≡ c.args.self.now.history = ap (λ k. k.history) c.self.view_is in
-    let range : InRange c.args.number c.args.space = record { least = omega arith; most = omega arith; inner = omega arith; outer = omega arith } in
+    let range = range_from c.args.number c.args.space (sym c.is_out_of_range.ensures ∙ c.if-is_out_of_range.false) in
     inl (open_worn c.args.self.now c.args.number c.args.space range (cc) (cc))
 
 pub returns-in_default-room_for-clause-cause : goal.returns-in_default-room_for-clause-cause
 returns-in_default-room_for-clause-cause g c =
     let history : c.self.inside.course.entries ≡ c.args.self.now.history = ap (λ k. k.history) c.self.view_is in
-    let range : InRange c.args.number c.args.space = record { least = omega arith; most = omega arith; inner = omega arith; outer = omega arith } in
+    let range = range_from c.args.number c.args.space (sym c.is_out_of_range.ensures ∙ c.if-is_out_of_range.false) in
     inl (open_full c.args.self.now c.args.number c.args.space range (cc) c.in-Some.version (cc) (c.in_default-room_for.ensures.full.0 refl))
 
 pub returns-in_default-make_room-clause-cause : goal.returns-in_default-make_room-clause-cause
 returns-in_default-make_room-clause-cause g c =
     let history : c.self.inside.course.entries ≡ c.args.self.now.history = ap (λ k. k.history) c.self.view_is in
-    let range : InRange c.args.number c.args.space = record { least = omega arith; most = omega arith; inner = omega arith; outer = omega arith } in
+    let range = range_from c.args.number c.args.space (sym c.is_out_of_range.ensures ∙ c.if-is_out_of_range.false) in
     inr (open_allowed c.args.self.now c.args.number c.args.space range (cc) c.in-Some.version (cc) (not_since _ c.in-Some-room_for.ensures.full.1), refl)
 
 pub returns-in_default-make_room-clause-memory : goal.returns-in_default-make_room-clause-memory
@@ -61,7 +55,7 @@ make_room-requires g c = subst (λ l. pledged l + open_need ≤ c.in-Some-room_f
 pub take_input-requires-clause-admissible : goal.take_input-requires-clause-admissible
 take_input-requires-clause-admissible g c =
     let history : c.self.inside.course.entries ≡ c.args.self.now.history = ap (λ k. k.history) c.self.view_is in
-    let range : InRange c.args.number c.args.space = record { least = omega arith; most = omega arith; inner = omega arith; outer = omega arith } in
+    let range = range_from c.args.number c.args.space (sym c.is_out_of_range.ensures ∙ c.if-is_out_of_range.false) in
     let free : is_taken c.args.self.now.history c.args.number ≡ false = cc in
     let next : next_version c.args.self.now.history c.args.number ≡ Some c.in-Some.version = cc in
     subst (λ l. IsTrue (is_admissible l (Opened c.thread_id-thread.result c.args.space))) (sym (c.make_room.ensures.entries ∙ history)) (may_open_next c.args.self.now.history c.thread_id-thread.result c.args.number c.in-Some.version c.args.space range c.thread_id-thread.ensures.number c.thread_id-thread.ensures.version free next)
@@ -74,7 +68,7 @@ take_input-requires-clause-room g c =
 pub invariant_of-self-2 : goal.invariant_of-self-2
 invariant_of-self-2 g c =
     let history : c.self.inside.course.entries ≡ c.args.self.now.history = ap (λ k. k.history) c.self.view_is in
-    let range : InRange c.args.number c.args.space = record { least = omega arith; most = omega arith; inner = omega arith; outer = omega arith } in
+    let range = range_from c.args.number c.args.space (sym c.is_out_of_range.ensures ∙ c.if-is_out_of_range.false) in
     let free : is_taken c.args.self.now.history c.args.number ≡ false = cc in
     let next : next_version c.args.self.now.history c.args.number ≡ Some c.in-Some.version = cc in
     let admissible = subst (λ l. IsTrue (is_admissible l (Opened c.thread_id-thread.result c.args.space))) (sym (c.make_room.ensures.entries ∙ history)) (may_open_next c.args.self.now.history c.thread_id-thread.result c.args.number c.in-Some.version c.args.space range c.thread_id-thread.ensures.number c.thread_id-thread.ensures.version free next) in
@@ -91,7 +85,7 @@ invariant_of-self-2 g c =
 pub returns-clause-ok : goal.returns-clause-ok
 returns-clause-ok g c =
     let history : c.self.inside.course.entries ≡ c.args.self.now.history = ap (λ k. k.history) c.self.view_is in
-    let range : InRange c.args.number c.args.space = record { least = omega arith; most = omega arith; inner = omega arith; outer = omega arith } in
+    let range = range_from c.args.number c.args.space (sym c.is_out_of_range.ensures ∙ c.if-is_out_of_range.false) in
     let free : is_taken c.args.self.now.history c.args.number ≡ false = cc in
     let next : next_version c.args.self.now.history c.args.number ≡ Some c.in-Some.version = cc in
     let allowed = open_allowed c.args.self.now c.args.number c.args.space range free c.in-Some.version next (not_since _ c.in-Some-room_for.ensures.full.1) in

@@ -18,23 +18,19 @@ use Rattle.ipc_core.proofs.kernel.Kernel.stop_phases.Goals as goal
 
 pub returns-then-not-is_live-clause-cause : goal.returns-then-not-is_live-clause-cause
 returns-then-not-is_live-clause-cause g c =
-    let history : c.self.inside.course.entries ≡ c.args.self.now.history = ap (λ k. k.history) c.self.view_is in
-    inl (exreg_no_thread c.args.self.now c.args.thread (cc))
+    inl (exreg_no_thread c.args.self.now c.args.thread (ap (λ k. is_live k.history c.args.thread) (sym c.self.view_is) ∙ (sym c.is_live.ensures ∙ c.if-not-is_live.true)))
 
 pub returns-then-is_busy-clause-cause : goal.returns-then-is_busy-clause-cause
 returns-then-is_busy-clause-cause g c =
-    let history : c.self.inside.course.entries ≡ c.args.self.now.history = ap (λ k. k.history) c.self.view_is in
-    inl (exreg_busy c.args.self.now c.args.thread (cc) (cc))
+    inl (exreg_busy c.args.self.now c.args.thread (ap (λ k. is_live k.history c.args.thread) (sym c.self.view_is) ∙ (sym c.is_live.ensures ∙ c.if-not-is_live.false)) (sym c.is_busy.ensures ∙ c.if-is_busy.true))
 
 pub returns-in_default-clause-cause : goal.returns-in_default-clause-cause
 returns-in_default-clause-cause g c =
-    let history : c.self.inside.course.entries ≡ c.args.self.now.history = ap (λ k. k.history) c.self.view_is in
-    inl (exreg_full c.args.self.now c.args.thread (cc) (cc) (c.in_default.ensures.full.0 refl))
+    inl (exreg_full c.args.self.now c.args.thread (ap (λ k. is_live k.history c.args.thread) (sym c.self.view_is) ∙ (sym c.is_live.ensures ∙ c.if-not-is_live.false)) (sym c.is_busy.ensures ∙ c.if-is_busy.false) (c.in_default.ensures.full.0 refl))
 
 pub returns-in_default-make_room-clause-cause : goal.returns-in_default-make_room-clause-cause
 returns-in_default-make_room-clause-cause g c =
-    let history : c.self.inside.course.entries ≡ c.args.self.now.history = ap (λ k. k.history) c.self.view_is in
-    inr (exreg_allowed c.args.self.now c.args.thread (cc) (cc) (not_since _ c.in-Some.ensures.full.1), refl)
+    inr (exreg_allowed c.args.self.now c.args.thread (ap (λ k. is_live k.history c.args.thread) (sym c.self.view_is) ∙ (sym c.is_live.ensures ∙ c.if-not-is_live.false)) (sym c.is_busy.ensures ∙ c.if-is_busy.false) (not_since _ c.in-Some.ensures.full.1), refl)
 
 pub returns-in_default-make_room-clause-memory : goal.returns-in_default-make_room-clause-memory
 returns-in_default-make_room-clause-memory g c = λ is. subst (λ k. LacksRoomFor k exreg_need) c.self.view_is c.in_default-make_room.ensures.memory
@@ -50,8 +46,8 @@ make_room-requires g c = subst (λ l. pledged l + exreg_need ≤ c.in-Some.room)
 pub take_input-requires-clause-admissible : goal.take_input-requires-clause-admissible
 take_input-requires-clause-admissible g c =
     let history : c.self.inside.course.entries ≡ c.args.self.now.history = ap (λ k. k.history) c.self.view_is in
-    let live : is_live c.args.self.now.history c.args.thread ≡ true = cc in
-    let idle = idle_no_call c.args.self.now c.args.thread (cc) in
+    let live : is_live c.args.self.now.history c.args.thread ≡ true = ap (λ k. is_live k.history c.args.thread) (sym c.self.view_is) ∙ (sym c.is_live.ensures ∙ c.if-not-is_live.false) in
+    let idle = idle_no_call c.args.self.now c.args.thread (sym c.is_busy.ensures ∙ c.if-is_busy.false) in
     subst (λ l. IsTrue (is_admissible l (Exreg c.args.thread c.args.target c.masked.result))) (sym (c.make_room.ensures.entries ∙ history)) (may_stop c.args.self.now.history c.args.thread c.args.target c.args.control c.masked.result live idle c.masked.ensures)
 
 pub take_input-requires-clause-room : goal.take_input-requires-clause-room
@@ -62,8 +58,8 @@ take_input-requires-clause-room g c =
 pub invariant_of-self-2 : goal.invariant_of-self-2
 invariant_of-self-2 g c =
     let history : c.self.inside.course.entries ≡ c.args.self.now.history = ap (λ k. k.history) c.self.view_is in
-    let live : is_live c.args.self.now.history c.args.thread ≡ true = cc in
-    let idle = idle_no_call c.args.self.now c.args.thread (cc) in
+    let live : is_live c.args.self.now.history c.args.thread ≡ true = ap (λ k. is_live k.history c.args.thread) (sym c.self.view_is) ∙ (sym c.is_live.ensures ∙ c.if-not-is_live.false) in
+    let idle = idle_no_call c.args.self.now c.args.thread (sym c.is_busy.ensures ∙ c.if-is_busy.false) in
     let admissible = subst (λ l. IsTrue (is_admissible l (Exreg c.args.thread c.args.target c.masked.result))) (sym (c.make_room.ensures.entries ∙ history)) (may_stop c.args.self.now.history c.args.thread c.args.target c.args.control c.masked.result live idle c.masked.ensures) in
     let had = reserved _ c.args.self.now c.self.inside.course c.make_room.new.self exreg_need c.self.view_is c.self.invariant.kernel refl c.make_room.ensures.entries c.make_room.ensures.room (not_since _ c.in-Some.ensures.full.1) c.in-Ok.ensures.ok in
     let kernel = kernel_took _ _ _ c.make_room.new.self c.take_input.new.self (Exreg c.args.thread c.args.target c.masked.result) had admissible refl c.take_input.ensures.settled c.take_input.ensures.room c.take_input.ensures.spent in
@@ -78,7 +74,7 @@ invariant_of-self-2 g c =
 pub returns-clause-ok : goal.returns-clause-ok
 returns-clause-ok g c =
     let history : c.self.inside.course.entries ≡ c.args.self.now.history = ap (λ k. k.history) c.self.view_is in
-    let allowed = exreg_allowed c.args.self.now c.args.thread (cc) (cc) (not_since _ c.in-Some.ensures.full.1) in
+    let allowed = exreg_allowed c.args.self.now c.args.thread (ap (λ k. is_live k.history c.args.thread) (sym c.self.view_is) ∙ (sym c.is_live.ensures ∙ c.if-not-is_live.false)) (sym c.is_busy.ensures ∙ c.if-is_busy.false) (not_since _ c.in-Some.ensures.full.1) in
     let same = ap (λ m. Exreg c.args.thread c.args.target m) c.masked.ensures in
     let takes = takes_input _ c.args.self.now _ c.make_room.new.self (Exreg c.args.thread c.args.target c.masked.result) (Exreg c.args.thread c.args.target (masked_of c.args.control)) c.self.view_is c.make_room.ensures.entries same c.take_input.ensures.settled c.take_input.ensures.legal c.take_input.ensures.since refl refl refl (c.take_input.ensures.held ∙ c.make_room.ensures.books.held) (omega (arith, c.make_room.ensures.room, c.take_input.ensures.room)) in
     (allowed, record { answer_is = c.exreg_answer-answer.ensures ∙ ap (λ l. exreg_answer l c.args.thread c.args.target) (c.make_room.ensures.entries ∙ history); takes = takes; taken = c.take_input.ensures.taken ∙ (c.make_room.ensures.books.taken ∙ ap (λ k. k.taken) c.self.view_is) })

@@ -99,7 +99,7 @@ impl Connection {
         ensures free { self.old.free ≡ self.new.free + 1 }
     {
         // it cannot fail
-        let _ = self.queue.push_back(answer);
+        drop(self.queue.push_back(answer));
     }
 
     /// Is told an outcome. There is room for it.
@@ -155,7 +155,9 @@ impl Connection {
             filled += answer.next(&mut out[filled..]);
             if filled == out.len() {
                 // there is room where it was
-                let _ = self.queue.push_front(answer);
+                drop(self.queue.push_front(answer));
+            } else {
+                drop(answer);
             }
         }
         filled

@@ -97,9 +97,12 @@ impl Connections {
             }) × (1 ≤ roomy.free)) }
         ensures err { OnErr result (self.new ≡ self.old) }
     {
-        let connection = Connection::new(alloc, space)?;
         self.connections.reserve(1)?;
-        self.pending.grow()?;
+        let connection = Connection::new(alloc, space)?;
+        let Ok(()) = self.pending.grow() else {
+            drop(connection);
+            return Err(AllocError);
+        };
         self.connections.push_reserved(connection);
         Ok(())
     }

@@ -30,7 +30,10 @@ fn admit(service: &mut Service, place: usize, heard: Heard) -> Result<Heard, Fra
     }
     match service.reserve(place) {
         Ok(()) => Ok(heard),
-        Err(_) => Err(FrameFault::NoMemory),
+        Err(_) => {
+            drop(heard);
+            Err(FrameFault::NoMemory)
+        }
     }
 }
 

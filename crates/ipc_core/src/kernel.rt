@@ -352,10 +352,11 @@ impl Kernel {
         if is_out_of_range(number, space) {
             return Err(Refusal::BadNumber);
         }
-        if self.course.is_taken(number as u32) {
+        let narrowed = number as u32;
+        if self.course.is_taken(narrowed) {
             return Err(Refusal::NumberTaken);
         }
-        let Some(version) = self.course.next_version_of(number as u32) else {
+        let Some(version) = self.course.next_version_of(narrowed) else {
             return Err(Refusal::NumberWorn);
         };
         let Some(room) = self.room_for(NEED_OF_OPEN) else {
@@ -364,7 +365,7 @@ impl Kernel {
         let Ok(()) = self.course.make_room(memory, room, NEED_OF_OPEN) else {
             return Err(Refusal::NoMemory);
         };
-        let thread = thread_id(number as u32, version);
+        let thread = thread_id(narrowed, version);
         self.course
             .take_input(self.moment, Input::Opened(thread, space), None);
         Ok(thread)

@@ -19,27 +19,23 @@ returns-then-is_out_of_range-clause-cause g c = inl (open_bad c.args.self.now c.
 
 pub returns-then-is_taken-clause-cause : goal.returns-then-is_taken-clause-cause
 returns-then-is_taken-clause-cause g c =
-    let history : c.self.inside.course.entries ≡ c.args.self.now.history = ap (λ k. k.history) c.self.view_is in
     let range = range_from c.args.number c.args.space (sym c.is_out_of_range.ensures ∙ c.if-is_out_of_range.false) in
-    inl (open_taken c.args.self.now c.args.number c.args.space range (cc))
+    inl (open_taken c.args.self.now c.args.number c.args.space range (ap (λ k. is_taken k.history c.args.number) (sym c.self.view_is) ∙ (sym c.is_taken.ensures ∙ c.if-is_taken.true)))
 
 pub returns-in_default-clause-cause : goal.returns-in_default-clause-cause
 returns-in_default-clause-cause g c =
-    let history : c.self.inside.course.entries ≡ c.args.self.now.history = ap (λ k. k.history) c.self.view_is in
     let range = range_from c.args.number c.args.space (sym c.is_out_of_range.ensures ∙ c.if-is_out_of_range.false) in
-    inl (open_worn c.args.self.now c.args.number c.args.space range (cc) (cc))
+    inl (open_worn c.args.self.now c.args.number c.args.space range (ap (λ k. is_taken k.history c.args.number) (sym c.self.view_is) ∙ (sym c.is_taken.ensures ∙ c.if-is_taken.false)) (ap (λ k. next_version k.history c.args.number) (sym c.self.view_is) ∙ sym c.in_default.ensures))
 
 pub returns-in_default-room_for-clause-cause : goal.returns-in_default-room_for-clause-cause
 returns-in_default-room_for-clause-cause g c =
-    let history : c.self.inside.course.entries ≡ c.args.self.now.history = ap (λ k. k.history) c.self.view_is in
     let range = range_from c.args.number c.args.space (sym c.is_out_of_range.ensures ∙ c.if-is_out_of_range.false) in
-    inl (open_full c.args.self.now c.args.number c.args.space range (cc) c.in-Some.version (cc) (c.in_default-room_for.ensures.full.0 refl))
+    inl (open_full c.args.self.now c.args.number c.args.space range (ap (λ k. is_taken k.history c.args.number) (sym c.self.view_is) ∙ (sym c.is_taken.ensures ∙ c.if-is_taken.false)) c.in-Some.version (ap (λ k. next_version k.history c.args.number) (sym c.self.view_is) ∙ sym c.in-Some.ensures) (c.in_default-room_for.ensures.full.0 refl))
 
 pub returns-in_default-make_room-clause-cause : goal.returns-in_default-make_room-clause-cause
 returns-in_default-make_room-clause-cause g c =
-    let history : c.self.inside.course.entries ≡ c.args.self.now.history = ap (λ k. k.history) c.self.view_is in
     let range = range_from c.args.number c.args.space (sym c.is_out_of_range.ensures ∙ c.if-is_out_of_range.false) in
-    inr (open_allowed c.args.self.now c.args.number c.args.space range (cc) c.in-Some.version (cc) (not_since _ c.in-Some-room_for.ensures.full.1), refl)
+    inr (open_allowed c.args.self.now c.args.number c.args.space range (ap (λ k. is_taken k.history c.args.number) (sym c.self.view_is) ∙ (sym c.is_taken.ensures ∙ c.if-is_taken.false)) c.in-Some.version (ap (λ k. next_version k.history c.args.number) (sym c.self.view_is) ∙ sym c.in-Some.ensures) (not_since _ c.in-Some-room_for.ensures.full.1), refl)
 
 pub returns-in_default-make_room-clause-memory : goal.returns-in_default-make_room-clause-memory
 returns-in_default-make_room-clause-memory g c = λ is. subst (λ k. LacksRoomFor k open_need) c.self.view_is c.in_default-make_room.ensures.memory
@@ -56,8 +52,8 @@ pub take_input-requires-clause-admissible : goal.take_input-requires-clause-admi
 take_input-requires-clause-admissible g c =
     let history : c.self.inside.course.entries ≡ c.args.self.now.history = ap (λ k. k.history) c.self.view_is in
     let range = range_from c.args.number c.args.space (sym c.is_out_of_range.ensures ∙ c.if-is_out_of_range.false) in
-    let free : is_taken c.args.self.now.history c.args.number ≡ false = cc in
-    let next : next_version c.args.self.now.history c.args.number ≡ Some c.in-Some.version = cc in
+    let free : is_taken c.args.self.now.history c.args.number ≡ false = ap (λ k. is_taken k.history c.args.number) (sym c.self.view_is) ∙ (sym c.is_taken.ensures ∙ c.if-is_taken.false) in
+    let next : next_version c.args.self.now.history c.args.number ≡ Some c.in-Some.version = ap (λ k. next_version k.history c.args.number) (sym c.self.view_is) ∙ sym c.in-Some.ensures in
     subst (λ l. IsTrue (is_admissible l (Opened c.thread_id-thread.result c.args.space))) (sym (c.make_room.ensures.entries ∙ history)) (may_open_next c.args.self.now.history c.thread_id-thread.result c.args.number c.in-Some.version c.args.space range c.thread_id-thread.ensures.number c.thread_id-thread.ensures.version free next)
 
 pub take_input-requires-clause-room : goal.take_input-requires-clause-room
@@ -69,8 +65,8 @@ pub invariant_of-self-2 : goal.invariant_of-self-2
 invariant_of-self-2 g c =
     let history : c.self.inside.course.entries ≡ c.args.self.now.history = ap (λ k. k.history) c.self.view_is in
     let range = range_from c.args.number c.args.space (sym c.is_out_of_range.ensures ∙ c.if-is_out_of_range.false) in
-    let free : is_taken c.args.self.now.history c.args.number ≡ false = cc in
-    let next : next_version c.args.self.now.history c.args.number ≡ Some c.in-Some.version = cc in
+    let free : is_taken c.args.self.now.history c.args.number ≡ false = ap (λ k. is_taken k.history c.args.number) (sym c.self.view_is) ∙ (sym c.is_taken.ensures ∙ c.if-is_taken.false) in
+    let next : next_version c.args.self.now.history c.args.number ≡ Some c.in-Some.version = ap (λ k. next_version k.history c.args.number) (sym c.self.view_is) ∙ sym c.in-Some.ensures in
     let admissible = subst (λ l. IsTrue (is_admissible l (Opened c.thread_id-thread.result c.args.space))) (sym (c.make_room.ensures.entries ∙ history)) (may_open_next c.args.self.now.history c.thread_id-thread.result c.args.number c.in-Some.version c.args.space range c.thread_id-thread.ensures.number c.thread_id-thread.ensures.version free next) in
     let had = reserved _ c.args.self.now c.self.inside.course c.make_room.new.self open_need c.self.view_is c.self.invariant.kernel refl c.make_room.ensures.entries c.make_room.ensures.room (not_since _ c.in-Some-room_for.ensures.full.1) c.in-Ok.ensures.ok in
     let kernel = kernel_took _ _ _ c.make_room.new.self c.take_input.new.self (Opened c.thread_id-thread.result c.args.space) had admissible refl c.take_input.ensures.settled c.take_input.ensures.room c.take_input.ensures.spent in
@@ -84,10 +80,9 @@ invariant_of-self-2 g c =
 
 pub returns-clause-ok : goal.returns-clause-ok
 returns-clause-ok g c =
-    let history : c.self.inside.course.entries ≡ c.args.self.now.history = ap (λ k. k.history) c.self.view_is in
     let range = range_from c.args.number c.args.space (sym c.is_out_of_range.ensures ∙ c.if-is_out_of_range.false) in
-    let free : is_taken c.args.self.now.history c.args.number ≡ false = cc in
-    let next : next_version c.args.self.now.history c.args.number ≡ Some c.in-Some.version = cc in
+    let free : is_taken c.args.self.now.history c.args.number ≡ false = ap (λ k. is_taken k.history c.args.number) (sym c.self.view_is) ∙ (sym c.is_taken.ensures ∙ c.if-is_taken.false) in
+    let next : next_version c.args.self.now.history c.args.number ≡ Some c.in-Some.version = ap (λ k. next_version k.history c.args.number) (sym c.self.view_is) ∙ sym c.in-Some.ensures in
     let allowed = open_allowed c.args.self.now c.args.number c.args.space range free c.in-Some.version next (not_since _ c.in-Some-room_for.ensures.full.1) in
     let takes = takes_input _ c.args.self.now _ c.make_room.new.self (Opened c.thread_id-thread.result c.args.space) (Opened c.thread_id-thread.result c.args.space) c.self.view_is c.make_room.ensures.entries refl c.take_input.ensures.settled c.take_input.ensures.legal c.take_input.ensures.since refl refl refl (c.take_input.ensures.held ∙ c.make_room.ensures.books.held) (omega (arith, c.make_room.ensures.room, c.take_input.ensures.room)) in
     (allowed, record { number_is = c.thread_id-thread.ensures.number; version_is = next ∙ ap Some (sym c.thread_id-thread.ensures.version); takes = takes; taken = c.take_input.ensures.taken ∙ (c.make_room.ensures.books.taken ∙ ap (λ k. k.taken) c.self.view_is) })

@@ -97,12 +97,9 @@ impl Connections {
             }) × (1 ≤ roomy.free)) }
         ensures err { OnErr result (self.new ≡ self.old) }
     {
-        self.connections.reserve(1)?;
         let connection = Connection::new(alloc, space)?;
-        let Ok(()) = self.pending.grow() else {
-            drop(connection);
-            return Err(AllocError);
-        };
+        self.connections.reserve(1)?;
+        self.pending.grow()?;
         self.connections.push_reserved(connection);
         Ok(())
     }

@@ -30,10 +30,7 @@ fn admit(service: &mut Service, place: usize, heard: Heard) -> Result<Heard, Fra
     }
     match service.reserve(place) {
         Ok(()) => Ok(heard),
-        Err(_) => {
-            drop(heard);
-            Err(FrameFault::NoMemory)
-        }
+        Err(_) => Err(FrameFault::NoMemory),
     }
 }
 

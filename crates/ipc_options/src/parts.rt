@@ -1,55 +1,87 @@
-//! What the commands of both programs are made of. A step takes what the step before it gave, and passes want of memory on.
-ghost use Rattle.std.specs.Prelude.{IfOk};
-ghost use Rattle.clap.specs.Words.{App, Rule, new_app, with_rule, with_subcommand};
-ghost use Rattle.ipc_options.specs.Command.{HasRule, IsOfApp, bounded_rule, flag_rule, listed_rule, place_rule};
+//! What the commands of both programs are made of: rows of arguments and of subcommands.
+ghost use Rattle.std.specs.Prelude.{◌≡◌, IfOk};
+ghost use Rattle.clap.specs.Words.{App, rule_of, with_subcommand};
+ghost use Rattle.ipc_options.specs.Command.{HasRule, IsOfApp, app_of_row, rule_of_row, values_rule};
+ghost use Rattle.ipc_options.specs.Command.{with_rules, with_subcommands};
 
 use clap::builder::ValueParser;
 use clap::{Arg, ArgAction, Command};
 use std::alloc::{AllocError, Global};
 
-/// A command of this name.
-pub(crate) fn named<'a>(
+/// What an option takes, and what stands where it is left out.
+#[derive(Clone, Copy)]
+pub(crate) enum Values {
+    /// A text.
+    Text,
+    /// A text, which is set by each use.
+    Set,
+    /// A text, by default this one.
+    Preset(&'static str),
+    /// A number from the first up to the second.
+    Number(u64, u64),
+    /// A number from the first up to the second, by default the one of this text.
+    Count(u64, u64, &'static str),
+}
+
+/// How an argument is given.
+#[derive(Clone, Copy)]
+pub(crate) enum Kind {
+    /// As NAME, by its place.
+    Place(&'static str),
+    /// As the flag `--ID`.
+    Flag,
+    /// As the option `--ID NAME`.
+    Named(&'static str, Values),
+}
+
+/// An argument of a command.
+#[derive(Clone, Copy)]
+pub(crate) struct Argument {
+    /// What it is read back by.
+    pub(crate) id: &'static str,
+    /// How it is given.
+    pub(crate) kind: Kind,
+    /// Whether it has to be there.
+    pub(crate) is_required: bool,
+    /// What help says of it.
+    pub(crate) help: &'static str,
+}
+
+/// A subcommand of a program.
+#[derive(Clone, Copy)]
+pub(crate) struct Subcommand {
+    /// Its name.
+    pub(crate) name: &'static str,
+    /// What help says of it.
+    pub(crate) about: &'static str,
+    /// Its arguments, in order.
+    pub(crate) arguments: &'static [Argument],
+}
+
+/// The command with these subcommands more.
+pub(crate) fn with_subcommands<'a>(
     alloc: Global,
-    name: &'a str,
-    about: &'a str,
+    command: Command<'a>,
+    rows: &[Subcommand],
 ) -> Result<Command<'a>, AllocError>
-    ensures { IfOk result (IsOfApp (new_app name.entry.now)) }
+    ensures { (app : App) → IsOfApp app command.entry
+        → IfOk result (IsOfApp (with_subcommands app rows.now)) }
 {
-    Ok(Command::new(alloc, name).about(about))
-}
-
-/// The command with one argument more.
-pub(crate) fn with<'a>(
-    made: Result<Command<'a>, AllocError>,
-    arg: Arg<'a>,
-) -> Result<Command<'a>, AllocError>
-    ensures { (app : App) (rule : Rule) → IfOk made.entry (IsOfApp app) → HasRule rule arg.entry
-        → IfOk result (IsOfApp (with_rule app rule)) }
-{
-    match made {
-        Ok(command) => command.arg(arg),
-        Err(error) => {
-            drop(arg);
-            Err(error)
-        }
+    let mut made = command;
+    for row in rows {
+        made = with_subcommand(made, command_of(alloc, row))?;
     }
+    Ok(made)
 }
 
-/// The command with one subcommand more.
-pub(crate) fn with_command<'a>(
-    made: Result<Command<'a>, AllocError>,
+/// The command with one subcommand more, or want of memory for it.
+fn with_subcommand<'a>(
+    command: Command<'a>,
     sub: Result<Command<'a>, AllocError>,
 ) -> Result<Command<'a>, AllocError>
-    ensures { (app sub_app : App) → IfOk made.entry (IsOfApp app) → IfOk sub.entry (IsOfApp sub_app)
+    ensures { (app sub_app : App) → IsOfApp app command.entry → IfOk sub.entry (IsOfApp sub_app)
         → IfOk result (IsOfApp (with_subcommand app sub_app.top)) }
 {
-    let command = match made {
-        Ok(command) => command,
-        Err(error) => {
-            drop(sub);
-            return Err(error);
-        }
-    };
     match sub {
         Ok(sub) => command.subcommand(sub),
         Err(error) => {
@@ -59,51 +91,56 @@ pub(crate) fn with_command<'a>(
     }
 }
 
-/// The argument NAME, which has to be there.
-pub(crate) fn place_argument<'a>(
+/// The command of a row.
+fn command_of<'a>(alloc: Global, row: &Subcommand) -> Result<Command<'a>, AllocError>
+    ensures { IfOk result (IsOfApp (app_of_row row.now)) }
+{
+    let command = Command::new(alloc, row.name).about(row.about);
+    with_arguments(alloc, command, row.arguments)
+}
+
+/// The command with these arguments more.
+pub(crate) fn with_arguments<'a>(
     alloc: Global,
-    id: &'a str,
-    name: &'a str,
-    help: &'a str,
-) -> Arg<'a>
-    ensures { HasRule (place_rule id.entry.now) result }
+    command: Command<'a>,
+    rows: &[Argument],
+) -> Result<Command<'a>, AllocError>
+    ensures { (app : App) → IsOfApp app command.entry
+        → IfOk result (IsOfApp (with_rules app rows.now)) }
 {
-    Arg::new(alloc, id)
-        .value_name(name)
-        .required(true)
-        .help(help)
+    let mut made = command;
+    for row in rows {
+        made = made.arg(argument_of(alloc, row))?;
+    }
+    Ok(made)
 }
 
-/// The flag `--ID`.
-pub(crate) fn flag_option<'a>(alloc: Global, id: &'a str, help: &'a str) -> Arg<'a>
-    ensures { HasRule (flag_rule id.entry.now) result }
+/// The argument of a row.
+fn argument_of<'a>(alloc: Global, row: &Argument) -> Arg<'a>
+    ensures { HasRule (rule_of_row row.now) result }
 {
-    Arg::new(alloc, id)
-        .long(id)
-        .action(ArgAction::SetTrue)
-        .help(help)
+    let arg = Arg::new(alloc, row.id)
+        .required(row.is_required)
+        .help(row.help);
+    match row.kind {
+        Kind::Place(name) => arg.value_name(name),
+        Kind::Flag => arg.long(row.id).action(ArgAction::SetTrue),
+        Kind::Named(name, values) => with_values(arg.long(row.id).value_name(name), values),
+    }
 }
 
-/// The option `--ID NAME`.
-pub(crate) fn text_option<'a>(alloc: Global, id: &'a str, name: &'a str, help: &'a str) -> Arg<'a>
-    ensures { HasRule (listed_rule id.entry.now) result }
+/// The option with what it takes.
+fn with_values<'a>(arg: Arg<'a>, values: Values) -> Arg<'a>
+    ensures rule { rule_of result ≡ values_rule values (rule_of arg.entry) }
+    ensures local { result.global ≡ arg.entry.global }
 {
-    Arg::new(alloc, id).long(id).value_name(name).help(help)
-}
-
-/// The option `--ID NAME`, of a number from `least` up to `most`.
-pub(crate) fn number_option<'a>(
-    alloc: Global,
-    id: &'a str,
-    name: &'a str,
-    least: u64,
-    most: u64,
-    default: &'a str,
-    help: &'a str,
-) -> Arg<'a>
-    ensures { HasRule (bounded_rule id.entry.now least most default.entry.now) result }
-{
-    text_option(alloc, id, name, help)
-        .value_parser(ValueParser::unsigned(least, most))
-        .default_value(default)
+    match values {
+        Values::Text => arg,
+        Values::Set => arg.action(ArgAction::Set),
+        Values::Preset(text) => arg.default_value(text),
+        Values::Number(least, most) => arg.value_parser(ValueParser::unsigned(least, most)),
+        Values::Count(least, most, default) => arg
+            .value_parser(ValueParser::unsigned(least, most))
+            .default_value(default),
+    }
 }

@@ -3,23 +3,105 @@ ghost use Rattle.std.specs.Prelude.{◌≡◌, ◌<◌, ◌≤◌, IfErr, IfOk, 
 ghost use Rattle.std.specs.Prelude.{option_map, string_bytes, true};
 ghost use Rattle.std.specs.Str.Parse.{digits_value, without_leading_plus};
 ghost use Rattle.clap.specs.Words.{fault_of, first_of, found_of, one_of, rows_of};
-ghost use Rattle.ipc_options.specs.Command.{HasRule, IsOfApp, connections_rule, dir_rule, hello_rule};
-ghost use Rattle.ipc_options.specs.Command.{listening_app, live_rule, mode_rule};
-ghost use Rattle.ipc_options.specs.Command.{named_app, server_app, serving_app, spaces_rule};
+ghost use Rattle.ipc_options.specs.Command.{IsOfApp, named_app, server_app};
 ghost use Rattle.ipc_options.specs.Server.{AreWithinLimits, HasCountsIn, HasOptionsIn, HasOptionsOf};
 ghost use Rattle.ipc_options.specs.Shell.{number_in};
 ghost use Rattle.ipc_words.specs.Limits.{max_connections};
 
 use crate::default_texts::{HELLO_WITHIN_TEXT, MAX_CONNECTIONS_TEXT};
-use crate::parts::{flag_option, number_option, text_option, with};
+use crate::parts::{Argument, Kind, Values, with_arguments};
 use crate::server::{MAX_SPACES, ServerOptions};
 use crate::version::VERSION;
-use clap::builder::ValueParser;
 use clap::error::ErrorKind;
-use clap::{Arg, ArgAction, ArgMatches, Command, Error};
+use clap::{ArgMatches, Command, Error};
 use ipc_words::limits::{MAX_CONNECTIONS, MAX_SPACE};
 use std::alloc::{AllocError, Global};
 use std::fmt;
+
+/// The arguments of `l4d`, in the order of its help.
+const ARGUMENTS: [Argument; 12] = [
+    Argument {
+        id: "dir",
+        kind: Kind::Named("DIR", Values::Set),
+        is_required: true,
+        help: "The folder of the paths space1 to spaceN",
+    },
+    Argument {
+        id: "spaces",
+        kind: Kind::Named("N", Values::Number(1, MAX_SPACE as u64)),
+        is_required: true,
+        help: "How many spaces, 1 to 64",
+    },
+    Argument {
+        id: "mode",
+        kind: Kind::Named("OCTAL", Values::Preset("600")),
+        is_required: false,
+        help: "The permissions of each path, as chmod has them",
+    },
+    Argument {
+        id: "replace",
+        kind: Kind::Flag,
+        is_required: false,
+        help: "Removes a path first where nobody answers",
+    },
+    Argument {
+        id: "connections",
+        kind: Kind::Named(
+            "M",
+            Values::Count(1, MAX_CONNECTIONS as u64, MAX_CONNECTIONS_TEXT),
+        ),
+        is_required: false,
+        help: "How many connections each path takes, 1 to 65535",
+    },
+    Argument {
+        id: "keep-open",
+        kind: Kind::Flag,
+        is_required: false,
+        help: "Takes connections without end: only a signal ends it",
+    },
+    Argument {
+        id: "live",
+        kind: Kind::Named(
+            "N",
+            Values::Count(1, MAX_CONNECTIONS as u64, MAX_CONNECTIONS_TEXT),
+        ),
+        is_required: false,
+        help: "How many connections there may be at one time, 1 to 65535",
+    },
+    Argument {
+        id: "hello-within",
+        kind: Kind::Named(
+            "SECONDS",
+            Values::Count(1, u16::MAX as u64, HELLO_WITHIN_TEXT),
+        ),
+        is_required: false,
+        help: "After how long a connection without HELLO may be closed for a newer one",
+    },
+    Argument {
+        id: "probe",
+        kind: Kind::Flag,
+        is_required: false,
+        help: "Sends one message by two connections of its own",
+    },
+    Argument {
+        id: "trace",
+        kind: Kind::Named("FILE", Values::Text),
+        is_required: false,
+        help: "Writes each entry of the history to this file, which is made anew",
+    },
+    Argument {
+        id: "trace-required",
+        kind: Kind::Flag,
+        is_required: false,
+        help: "Ends before it serves anybody where the trace cannot be written",
+    },
+    Argument {
+        id: "log",
+        kind: Kind::Flag,
+        is_required: false,
+        help: "Tells paths, refusals, faults and counters on standard error",
+    },
+];
 
 /// The command line of `l4d`. The first word is the program's name. An `Err` is a mistake in the
 /// words, a request for help, or want of memory (the kind `OutOfMemory`), and its `Display` is the
@@ -78,37 +160,7 @@ fn refusal(
 fn server_command<'a>(alloc: Global) -> Result<Command<'a>, AllocError>
     ensures { IfOk result (IsOfApp server_app) }
 {
-    let made = serving_command(alloc);
-    let probe = "Sends one message by two connections of its own";
-    let made = with(made, flag_option(alloc, "probe", probe));
-    let trace = "Writes each entry of the history to this file, which is made anew";
-    let made = with(made, text_option(alloc, "trace", "FILE", trace));
-    let required = "Ends before it serves anybody where the trace cannot be written";
-    let made = with(made, flag_option(alloc, "trace-required", required));
-    let log = "Tells paths, refusals, faults and counters on standard error";
-    with(made, flag_option(alloc, "log", log))
-}
-
-/// `l4d` with whom it serves.
-fn serving_command<'a>(alloc: Global) -> Result<Command<'a>, AllocError>
-    ensures { IfOk result (IsOfApp serving_app) }
-{
-    let made = with(listening_command(alloc), connections_option(alloc));
-    let keep_open = "Takes connections without end: only a signal ends it";
-    let made = with(made, flag_option(alloc, "keep-open", keep_open));
-    let made = with(made, live_option(alloc));
-    with(made, hello_option(alloc))
-}
-
-/// `l4d` with where it listens.
-fn listening_command<'a>(alloc: Global) -> Result<Command<'a>, AllocError>
-    ensures { IfOk result (IsOfApp listening_app) }
-{
-    let made = with(Ok(named_command(alloc)), dir_option(alloc));
-    let made = with(made, spaces_option(alloc));
-    let made = with(made, mode_option(alloc));
-    let replace = "Removes a path first where nobody answers";
-    with(made, flag_option(alloc, "replace", replace))
+    with_arguments(alloc, named_command(alloc), &ARGUMENTS)
 }
 
 fn named_command<'a>(alloc: Global) -> Command<'a>
@@ -117,70 +169,6 @@ fn named_command<'a>(alloc: Global) -> Command<'a>
     Command::new(alloc, "l4d")
         .about("A server of synchronous IPC between processes, over Unix sockets")
         .version(VERSION)
-}
-
-fn dir_option<'a>(alloc: Global) -> Arg<'a>
-    ensures { HasRule dir_rule result }
-{
-    let help = "The folder of the paths space1 to spaceN";
-    text_option(alloc, "dir", "DIR", help)
-        .required(true)
-        .action(ArgAction::Set)
-}
-
-fn spaces_option<'a>(alloc: Global) -> Arg<'a>
-    ensures { HasRule spaces_rule result }
-{
-    text_option(alloc, "spaces", "N", "How many spaces, 1 to 64")
-        .required(true)
-        .value_parser(ValueParser::unsigned(1, u64::from(MAX_SPACE)))
-}
-
-fn mode_option<'a>(alloc: Global) -> Arg<'a>
-    ensures { HasRule mode_rule result }
-{
-    let help = "The permissions of each path, as chmod has them";
-    text_option(alloc, "mode", "OCTAL", help).default_value("600")
-}
-
-fn connections_option<'a>(alloc: Global) -> Arg<'a>
-    ensures { HasRule connections_rule result }
-{
-    let help = "How many connections each path takes, 1 to 65535";
-    let most = u64::from(MAX_CONNECTIONS);
-    number_option(
-        alloc,
-        "connections",
-        "M",
-        1,
-        most,
-        MAX_CONNECTIONS_TEXT,
-        help,
-    )
-}
-
-fn live_option<'a>(alloc: Global) -> Arg<'a>
-    ensures { HasRule live_rule result }
-{
-    let help = "How many connections there may be at one time, 1 to 65535";
-    let most = u64::from(MAX_CONNECTIONS);
-    number_option(alloc, "live", "N", 1, most, MAX_CONNECTIONS_TEXT, help)
-}
-
-fn hello_option<'a>(alloc: Global) -> Arg<'a>
-    ensures { HasRule hello_rule result }
-{
-    let help = "After how long a connection without HELLO may be closed for a newer one";
-    let most = u64::from(u16::MAX);
-    number_option(
-        alloc,
-        "hello-within",
-        "SECONDS",
-        1,
-        most,
-        HELLO_WITHIN_TEXT,
-        help,
-    )
 }
 
 /// A value that `clap` takes and `l4d` does not.

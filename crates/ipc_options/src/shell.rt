@@ -1,26 +1,20 @@
 //! The options of `l4sh`, read from its words.
 ghost use Rattle.std.specs.Prelude.{◌≡◌, IfErr, IfOk, IfSome, IsErrAnd, IsSome, IsSomeAnd, Some, [], codes, false, option_map};
 ghost use Rattle.std.specs.Prelude.{map, string_bytes};
-ghost use Rattle.clap.specs.Words.{IsUnsignedIn, fault_of, first_of, found_of, kind_of, new_app, one_of, rows_of, with_rule};
+ghost use Rattle.clap.specs.Words.{IsUnsignedIn, fault_of, first_of, found_of, kind_of, one_of, rows_of};
 ghost use Rattle.clap.specs.Words.{subcommand_rows_of};
-ghost use Rattle.ipc_options.specs.Command.{HasRule, IsOfApp, chart_app, chart_forms_app, chart_places_app, drawing_app};
-ghost use Rattle.ipc_options.specs.Command.{count_app, counting_app, follow_app, talk_app};
-ghost use Rattle.ipc_options.specs.Command.{file_rule, number_rule, proving_app, run_app, shell_named_app};
-ghost use Rattle.ipc_options.specs.Command.{shell_app, state_app, threads_rule, tracing_app, word_app};
+ghost use Rattle.ipc_options.specs.Command.{IsOfApp, shell_app, shell_named_app};
 ghost use Rattle.ipc_options.specs.Shell.{AreWithinLimits, AsksVersion, HasLimitsIn, HasMatchesIn, IsAskedBy, IsFlagIn};
 ghost use Rattle.ipc_options.specs.Shell.{IsTaken, IsWithinLimits, Reads, ReadsAsChart, ReadsAsCheck, ReadsAsRun};
 ghost use Rattle.ipc_options.specs.Shell.{ReadsAsState, ReadsAsWord, TakesWord, TellsVersion, number_in};
-ghost use Rattle.ipc_options.specs.Command.{first_rule, folder_rule, migrate_app};
 ghost use Rattle.ipc_options.specs.Shell.{IsCountIn, ReadsAsMigrate, ReadsAsTalk, ReadsOneUpTo};
 ghost use Rattle.ipc_words.specs.Limits.{max_space, max_thread_number};
 
 use crate::default_texts::{MAX_CALLS_TEXT, MAX_CHART_ENTRY_TEXT, MAX_ENTRIES_TEXT};
-use crate::parts::{
-    flag_option, named, number_option, place_argument, text_option, with, with_command,
-};
+use crate::parts::{Argument, Kind, Subcommand, Values, with_subcommands};
 use crate::version::VERSION;
 use clap::error::ErrorKind;
-use clap::{Arg, ArgMatches, Command, Error};
+use clap::{ArgMatches, Command, Error};
 use ipc_words::limits::{MAX_CALLS, MAX_CHART_ENTRY, MAX_ENTRIES, MAX_SPACE, MAX_THREAD_NUMBER};
 use std::alloc::{AllocError, Global};
 
@@ -122,6 +116,259 @@ pub struct TalkOptions<'a> {
     pub space: u32,
 }
 
+/// FILE.
+const FILE: Argument = Argument {
+    id: "file",
+    kind: Kind::Place("FILE"),
+    is_required: true,
+    help: "A trace: the lines of the entries of a history",
+};
+
+/// DIR.
+const SERVER_FOLDER: Argument = Argument {
+    id: "dir",
+    kind: Kind::Place("DIR"),
+    is_required: false,
+    help: "The folder of a live l4d, as whose thread to talk; without it a kernel of its own",
+};
+
+/// `--entries N`.
+const ENTRIES: Argument = Argument {
+    id: "entries",
+    kind: Kind::Named("N", Values::Count(0, MAX_ENTRIES, MAX_ENTRIES_TEXT)),
+    is_required: false,
+    help: "The most entries that the history may hold, 0 to 1048576",
+};
+
+/// `--calls N`.
+const CALLS: Argument = Argument {
+    id: "calls",
+    kind: Kind::Named("N", Values::Count(0, MAX_CALLS, MAX_CALLS_TEXT)),
+    is_required: false,
+    help: "The most calls that may be made, 0 to 4294967295",
+};
+
+/// `--from N`.
+const FROM: Argument = Argument {
+    id: "from",
+    kind: Kind::Named("N", Values::Count(0, MAX_CHART_ENTRY, "1")),
+    is_required: false,
+    help: "The first entry that is shown, counted from 1",
+};
+
+/// `--to N`.
+const TO: Argument = Argument {
+    id: "to",
+    kind: Kind::Named("N", Values::Count(0, MAX_CHART_ENTRY, MAX_CHART_ENTRY_TEXT)),
+    is_required: false,
+    help: "The last entry that is shown",
+};
+
+/// `--threads LIST`.
+const THREADS: Argument = Argument {
+    id: "threads",
+    kind: Kind::Named("LIST", Values::Text),
+    is_required: false,
+    help: "The threads that are shown, as 1.1,2.1; without it all",
+};
+
+/// `--text`.
+const TEXT: Argument = Argument {
+    id: "text",
+    kind: Kind::Flag,
+    is_required: false,
+    help: "Draws it as text, for a terminal",
+};
+
+/// `--html`.
+const HTML: Argument = Argument {
+    id: "html",
+    kind: Kind::Flag,
+    is_required: false,
+    help: "Draws it as an HTML page with a field that finds rows",
+};
+
+/// `--unfolded`.
+const UNFOLDED: Argument = Argument {
+    id: "unfolded",
+    kind: Kind::Flag,
+    is_required: false,
+    help: "Shows rows that come again each time, and not once with their number",
+};
+
+/// `--page N`.
+const PAGE: Argument = Argument {
+    id: "page",
+    kind: Kind::Named("N", Values::Count(0, MAX_CHART_ENTRY, "0")),
+    is_required: false,
+    help: "Draws an HTML page with so many rows in a picture; 0: no pages",
+};
+
+/// `--width N`.
+const WIDTH: Argument = Argument {
+    id: "width",
+    kind: Kind::Named("N", Values::Count(0, MAX_CHART_ENTRY, "0")),
+    is_required: false,
+    help: "The most characters of a line of text; 0: as many as it needs",
+};
+
+/// `--at N`.
+const AT: Argument = Argument {
+    id: "at",
+    kind: Kind::Named("N", Values::Count(0, MAX_CHART_ENTRY, MAX_CHART_ENTRY_TEXT)),
+    is_required: false,
+    help: "The entry after which it is, counted from 1; 0: before the first; without it the last",
+};
+
+/// `--json`.
+const JSON: Argument = Argument {
+    id: "json",
+    kind: Kind::Flag,
+    is_required: false,
+    help: "Answers in JSON, for programs",
+};
+
+/// `--label LABEL`.
+const LABEL: Argument = Argument {
+    id: "label",
+    kind: Kind::Named("LABEL", Values::Text),
+    is_required: false,
+    help: "The label of the messages that are told of, as 3 or 0x3; without it any",
+};
+
+/// `--failures`.
+const FAILURES: Argument = Argument {
+    id: "failures",
+    kind: Kind::Flag,
+    is_required: false,
+    help: "Tells of failures alone",
+};
+
+/// `--thread N`.
+const THREAD: Argument = Argument {
+    id: "thread",
+    kind: Kind::Named("N", Values::Count(1, MAX_THREAD_NUMBER as u64, "1")),
+    is_required: false,
+    help: "The number of the server's thread",
+};
+
+/// `--space N`.
+const SPACE: Argument = Argument {
+    id: "space",
+    kind: Kind::Named("N", Values::Count(1, MAX_SPACE as u64, "1")),
+    is_required: false,
+    help: "The space of that thread, 1 to 64",
+};
+
+/// OLD.
+const OLD: Argument = Argument {
+    id: "old",
+    kind: Kind::Place("OLD"),
+    is_required: true,
+    help: "The trace that is read, of version 1 or 2",
+};
+
+/// NEW.
+const NEW: Argument = Argument {
+    id: "new",
+    kind: Kind::Place("NEW"),
+    is_required: true,
+    help: "The file that is written, which is made anew",
+};
+
+/// WORD of `explain`.
+const EXPLAINED: Argument = Argument {
+    id: "word",
+    kind: Kind::Place("WORD"),
+    is_required: true,
+    help: "A number as K6, F4 or TR3, a word in hexadecimal, or an id",
+};
+
+/// WORD of `tag`.
+const FIELDS: Argument = Argument {
+    id: "word",
+    kind: Kind::Place("WORD"),
+    is_required: true,
+    help: "Fields as label=3,words=1,strings=1,p, or a tag in hexadecimal",
+};
+
+/// WORD of `period`.
+const TIME: Argument = Argument {
+    id: "word",
+    kind: Kind::Place("WORD"),
+    is_required: true,
+    help: "A time as 20us, 2ms or 1s, never, or a period in hexadecimal",
+};
+
+/// The subcommands of `l4sh`, in the order of its help.
+const SUBCOMMANDS: [Subcommand; 13] = [
+    Subcommand {
+        name: "run",
+        about: "Runs the script that it reads from standard input",
+        arguments: &[ENTRIES, CALLS],
+    },
+    Subcommand {
+        name: "check",
+        about: "Says whether a trace is a legal history",
+        arguments: &[FILE],
+    },
+    Subcommand {
+        name: "chart",
+        about: "Draws a trace as a sequence chart, in SVG on standard output",
+        arguments: &[FILE, FROM, TO, THREADS, TEXT, HTML, UNFOLDED, PAGE, WIDTH],
+    },
+    Subcommand {
+        name: "wire",
+        about: "Serves connections whose bytes a script on standard input gives",
+        arguments: &[],
+    },
+    Subcommand {
+        name: "script",
+        about: "Writes the script for run whose history a trace is",
+        arguments: &[FILE],
+    },
+    Subcommand {
+        name: "state",
+        about: "Says what each thread does after an entry of a trace, and each deadlock",
+        arguments: &[FILE, AT],
+    },
+    Subcommand {
+        name: "explain",
+        about: "Says what a number of a refusal, a word or an id means",
+        arguments: &[EXPLAINED],
+    },
+    Subcommand {
+        name: "tag",
+        about: "Makes a tag of its fields, or says the fields of a tag",
+        arguments: &[FIELDS],
+    },
+    Subcommand {
+        name: "period",
+        about: "Makes a period of a time, or says what a period is worth",
+        arguments: &[TIME],
+    },
+    Subcommand {
+        name: "count",
+        about: "Counts the calls, messages and failures of a trace, and how long they waited",
+        arguments: &[FILE, JSON],
+    },
+    Subcommand {
+        name: "follow",
+        about: "Tells a trace in words as it comes; FILE may be - for standard input",
+        arguments: &[FILE, THREADS, LABEL, FAILURES],
+    },
+    Subcommand {
+        name: "talk",
+        about: "Runs commands as people type them, and goes on after mistakes",
+        arguments: &[SERVER_FOLDER, THREAD, SPACE],
+    },
+    Subcommand {
+        name: "migrate",
+        about: "Writes a trace anew, as one of version 2",
+        arguments: &[OLD, NEW],
+    },
+];
+
 /// The command line of `l4sh`. The first word is the program's name. An `Err` is a mistake in the
 /// words, a request for help or for the version (the kind `DisplayVersion`), or want of memory (the
 /// kind `OutOfMemory`), and its `Display` is the text for the user.
@@ -173,50 +420,7 @@ fn options_by<'a>(command: &mut Command<'a>, words: &'a [String]) -> Result<Shel
 fn shell_command<'a>(alloc: Global) -> Result<Command<'a>, AllocError>
     ensures { IfOk result (IsOfApp shell_app) }
 {
-    let made = counting_command(alloc);
-    let made = with_command(made, follow_command(alloc));
-    let made = with_command(made, talk_command(alloc));
-    with_command(made, migrate_command(alloc))
-}
-
-/// `l4sh` with what it makes and counts.
-fn counting_command<'a>(alloc: Global) -> Result<Command<'a>, AllocError>
-    ensures { IfOk result (IsOfApp counting_app) }
-{
-    let made = tracing_command(alloc);
-    let made = with_command(made, explain_command(alloc));
-    let made = with_command(made, tag_command(alloc));
-    let made = with_command(made, period_command(alloc));
-    with_command(made, count_command(alloc))
-}
-
-/// `l4sh` with what it tells of a trace: its script and its states.
-fn tracing_command<'a>(alloc: Global) -> Result<Command<'a>, AllocError>
-    ensures { IfOk result (IsOfApp tracing_app) }
-{
-    let made = drawing_command(alloc);
-    let script = "Writes the script for run whose history a trace is";
-    let made = with_command(made, trace_command(alloc, "script", script));
-    with_command(made, state_command(alloc))
-}
-
-/// `l4sh` with what it draws and serves.
-fn drawing_command<'a>(alloc: Global) -> Result<Command<'a>, AllocError>
-    ensures { IfOk result (IsOfApp drawing_app) }
-{
-    let made = proving_command(alloc);
-    let made = with_command(made, chart_command(alloc));
-    let wire = "Serves connections whose bytes a script on standard input gives";
-    with_command(made, named(alloc, "wire", wire))
-}
-
-/// `l4sh` with what it proves: runs and checks.
-fn proving_command<'a>(alloc: Global) -> Result<Command<'a>, AllocError>
-    ensures { IfOk result (IsOfApp proving_app) }
-{
-    let made = with_command(Ok(shell_named(alloc)), run_command(alloc));
-    let check = "Says whether a trace is a legal history";
-    with_command(made, trace_command(alloc, "check", check))
+    with_subcommands(alloc, shell_named(alloc), &SUBCOMMANDS)
 }
 
 fn shell_named<'a>(alloc: Global) -> Command<'a>
@@ -226,223 +430,6 @@ fn shell_named<'a>(alloc: Global) -> Command<'a>
         .about("A shell for synchronous IPC between threads")
         .version(VERSION)
         .subcommand_required(true)
-}
-
-fn run_command<'a>(alloc: Global) -> Result<Command<'a>, AllocError>
-    ensures { IfOk result (IsOfApp run_app) }
-{
-    let made = named(
-        alloc,
-        "run",
-        "Runs the script that it reads from standard input",
-    );
-    let made = with(
-        made,
-        up_to(
-            alloc,
-            "entries",
-            MAX_ENTRIES,
-            MAX_ENTRIES_TEXT,
-            "The most entries that the history may hold, 0 to 1048576",
-        ),
-    );
-    with(
-        made,
-        up_to(
-            alloc,
-            "calls",
-            MAX_CALLS,
-            MAX_CALLS_TEXT,
-            "The most calls that may be made, 0 to 4294967295",
-        ),
-    )
-}
-
-fn chart_command<'a>(alloc: Global) -> Result<Command<'a>, AllocError>
-    ensures { IfOk result (IsOfApp chart_app) }
-{
-    let made = chart_forms_command(alloc);
-    let page = "Draws an HTML page with so many rows in a picture; 0: no pages";
-    let made = with(made, up_to(alloc, "page", MAX_CHART_ENTRY, "0", page));
-    let width = "The most characters of a line of text; 0: as many as it needs";
-    with(made, up_to(alloc, "width", MAX_CHART_ENTRY, "0", width))
-}
-
-/// `chart` with its file, the entries that it shows, and how it draws them.
-fn chart_forms_command<'a>(alloc: Global) -> Result<Command<'a>, AllocError>
-    ensures { IfOk result (IsOfApp chart_forms_app) }
-{
-    let made = with(chart_places_command(alloc), threads_option(alloc));
-    let text = "Draws it as text, for a terminal";
-    let made = with(made, flag_option(alloc, "text", text));
-    let html = "Draws it as an HTML page with a field that finds rows";
-    let made = with(made, flag_option(alloc, "html", html));
-    let unfolded = "Shows rows that come again each time, and not once with their number";
-    with(made, flag_option(alloc, "unfolded", unfolded))
-}
-
-/// `chart` with its file, and the entries that it shows.
-fn chart_places_command<'a>(alloc: Global) -> Result<Command<'a>, AllocError>
-    ensures { IfOk result (IsOfApp chart_places_app) }
-{
-    let about = "Draws a trace as a sequence chart, in SVG on standard output";
-    let made = trace_command(alloc, "chart", about);
-    let from = "The first entry that is shown, counted from 1";
-    let made = with(made, up_to(alloc, "from", MAX_CHART_ENTRY, "1", from));
-    let to = "The last entry that is shown";
-    with(
-        made,
-        up_to(alloc, "to", MAX_CHART_ENTRY, MAX_CHART_ENTRY_TEXT, to),
-    )
-}
-
-fn state_command<'a>(alloc: Global) -> Result<Command<'a>, AllocError>
-    ensures { IfOk result (IsOfApp state_app) }
-{
-    let about = "Says what each thread does after an entry of a trace, and each deadlock";
-    let at =
-        "The entry after which it is, counted from 1; 0: before the first; without it the last";
-    with(
-        trace_command(alloc, "state", about),
-        up_to(alloc, "at", MAX_CHART_ENTRY, MAX_CHART_ENTRY_TEXT, at),
-    )
-}
-
-fn explain_command<'a>(alloc: Global) -> Result<Command<'a>, AllocError>
-    ensures { IfOk result (IsOfApp (word_app (codes "explain"))) }
-{
-    let about = "Says what a number of a refusal, a word or an id means";
-    let help = "A number as K6, F4 or TR3, a word in hexadecimal, or an id";
-    word_command(alloc, "explain", about, help)
-}
-
-fn tag_command<'a>(alloc: Global) -> Result<Command<'a>, AllocError>
-    ensures { IfOk result (IsOfApp (word_app (codes "tag"))) }
-{
-    let about = "Makes a tag of its fields, or says the fields of a tag";
-    let help = "Fields as label=3,words=1,strings=1,p, or a tag in hexadecimal";
-    word_command(alloc, "tag", about, help)
-}
-
-fn period_command<'a>(alloc: Global) -> Result<Command<'a>, AllocError>
-    ensures { IfOk result (IsOfApp (word_app (codes "period"))) }
-{
-    let about = "Makes a period of a time, or says what a period is worth";
-    let help = "A time as 20us, 2ms or 1s, never, or a period in hexadecimal";
-    word_command(alloc, "period", about, help)
-}
-
-fn count_command<'a>(alloc: Global) -> Result<Command<'a>, AllocError>
-    ensures { IfOk result (IsOfApp count_app) }
-{
-    let about = "Counts the calls, messages and failures of a trace, and how long they waited";
-    let json = "Answers in JSON, for programs";
-    with(
-        trace_command(alloc, "count", about),
-        flag_option(alloc, "json", json),
-    )
-}
-
-fn follow_command<'a>(alloc: Global) -> Result<Command<'a>, AllocError>
-    ensures { IfOk result (IsOfApp follow_app) }
-{
-    let about = "Tells a trace in words as it comes; FILE may be - for standard input";
-    let made = trace_command(alloc, "follow", about);
-    let made = with(made, threads_option(alloc));
-    let label = "The label of the messages that are told of, as 3 or 0x3; without it any";
-    let made = with(made, text_option(alloc, "label", "LABEL", label));
-    with(
-        made,
-        flag_option(alloc, "failures", "Tells of failures alone"),
-    )
-}
-
-fn talk_command<'a>(alloc: Global) -> Result<Command<'a>, AllocError>
-    ensures { IfOk result (IsOfApp talk_app) }
-{
-    let about = "Runs commands as people type them, and goes on after mistakes";
-    let made = with(named(alloc, "talk", about), server_folder(alloc));
-    let thread = "The number of the server's thread";
-    let made = with(
-        made,
-        first_option(alloc, "thread", MAX_THREAD_NUMBER, thread),
-    );
-    let space = "The space of that thread, 1 to 64";
-    with(made, first_option(alloc, "space", MAX_SPACE, space))
-}
-
-fn migrate_command<'a>(alloc: Global) -> Result<Command<'a>, AllocError>
-    ensures { IfOk result (IsOfApp migrate_app) }
-{
-    let about = "Writes a trace anew, as one of version 2";
-    let old = "The trace that is read, of version 1 or 2";
-    let new = "The file that is written, which is made anew";
-    let made = with(
-        named(alloc, "migrate", about),
-        place_argument(alloc, "old", "OLD", old),
-    );
-    with(made, place_argument(alloc, "new", "NEW", new))
-}
-
-/// A subcommand of one word.
-fn word_command<'a>(
-    alloc: Global,
-    name: &'a str,
-    about: &'a str,
-    help: &'a str,
-) -> Result<Command<'a>, AllocError>
-    ensures { IfOk result (IsOfApp (word_app name.entry.now)) }
-{
-    with(
-        named(alloc, name, about),
-        place_argument(alloc, "word", "WORD", help),
-    )
-}
-
-/// A subcommand of a trace, FILE.
-fn trace_command<'a>(
-    alloc: Global,
-    name: &'a str,
-    about: &'a str,
-) -> Result<Command<'a>, AllocError>
-    ensures { IfOk result (IsOfApp (with_rule (new_app name.entry.now) file_rule)) }
-{
-    let help = "A trace: the lines of the entries of a history";
-    with(
-        named(alloc, name, about),
-        place_argument(alloc, "file", "FILE", help),
-    )
-}
-
-/// DIR.
-fn server_folder<'a>(alloc: Global) -> Arg<'a>
-    ensures { HasRule folder_rule result }
-{
-    Arg::new(alloc, "dir").value_name("DIR").help(
-        "The folder of a live l4d, as whose thread to talk; without it a kernel of its own",
-    )
-}
-
-/// The option `--threads LIST`.
-fn threads_option<'a>(alloc: Global) -> Arg<'a>
-    ensures { HasRule threads_rule result }
-{
-    let help = "The threads that are shown, as 1.1,2.1; without it all";
-    text_option(alloc, "threads", "LIST", help)
-}
-
-/// The option `--ID N`, of a number up to `most`.
-fn up_to<'a>(alloc: Global, id: &'a str, most: u64, default: &'a str, help: &'a str) -> Arg<'a>
-    ensures { HasRule (number_rule id.entry.now most default.entry.now) result }
-{
-    number_option(alloc, id, "N", 0, most, default, help)
-}
-
-/// The option `--ID N`, of a number from 1 up to `most`, by default 1.
-fn first_option<'a>(alloc: Global, id: &'a str, most: u32, help: &'a str) -> Arg<'a>
-    ensures { HasRule (first_rule id.entry.now most) result }
-{
-    number_option(alloc, id, "N", 1, u64::from(most), "1", help)
 }
 
 /// The options of the subcommand that was entered.

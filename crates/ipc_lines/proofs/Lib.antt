@@ -8,6 +8,7 @@ pub mod High
 pub mod Ids
 pub mod Limits
 pub mod ListTexts
+pub mod Names
 pub mod Naming
 pub mod Numerals
 pub mod OneSpelling

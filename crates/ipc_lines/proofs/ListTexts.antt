@@ -98,12 +98,28 @@ field_at (f ∷ fs) [] i e = cc
 field_at (f ∷ fs) (t ∷ ts) zero e = cc
 field_at (f ∷ fs) (t ∷ ts) (suc i) e = let rest : map (λ b. b.now) fs ≡ ts = cc in field_at fs ts i rest
 
+pub two_of : (fields : List (Bor (List ℕ))) → 2 ≤ length fields → length fields < 3 → map (λ b. b.now) fields ≡ (get_or fields 0 unread).now ∷ (get_or fields 1 unread).now ∷ []
+two_of [] low high = absurd (omega arith)
+two_of (a ∷ []) low high = absurd (omega arith)
+two_of (a ∷ b ∷ []) low high = refl
+two_of (a ∷ b ∷ x ∷ xs) low high = absurd (omega arith)
+
 pub three_of : (fields : List (Bor (List ℕ))) → 3 ≤ length fields → length fields < 4 → map (λ b. b.now) fields ≡ (get_or fields 0 unread).now ∷ (get_or fields 1 unread).now ∷ (get_or fields 2 unread).now ∷ []
 three_of [] low high = absurd (omega arith)
 three_of (a ∷ []) low high = absurd (omega arith)
 three_of (a ∷ b ∷ []) low high = absurd (omega arith)
 three_of (a ∷ b ∷ d ∷ []) low high = refl
 three_of (a ∷ b ∷ d ∷ x ∷ xs) low high = absurd (omega arith)
+
+pub six_of : (fields : List (Bor (List ℕ))) → 6 ≤ length fields → length fields < 7 → map (λ b. b.now) fields ≡ (get_or fields 0 unread).now ∷ (get_or fields 1 unread).now ∷ (get_or fields 2 unread).now ∷ (get_or fields 3 unread).now ∷ (get_or fields 4 unread).now ∷ (get_or fields 5 unread).now ∷ []
+six_of [] low high = absurd (omega arith)
+six_of (a ∷ []) low high = absurd (omega arith)
+six_of (a ∷ b ∷ []) low high = absurd (omega arith)
+six_of (a ∷ b ∷ d ∷ []) low high = absurd (omega arith)
+six_of (a ∷ b ∷ d ∷ g ∷ []) low high = absurd (omega arith)
+six_of (a ∷ b ∷ d ∷ g ∷ h ∷ []) low high = absurd (omega arith)
+six_of (a ∷ b ∷ d ∷ g ∷ h ∷ k ∷ []) low high = refl
+six_of (a ∷ b ∷ d ∷ g ∷ h ∷ k ∷ x ∷ xs) low high = absurd (omega arith)
 
 pub map_take : {A B : Type 0} (f : A → B) (n : ℕ) (xs : List A) → map f (take n xs) ≡ take n (map f xs)
 map_take f zero xs = refl

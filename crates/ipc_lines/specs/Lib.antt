@@ -5,3 +5,4 @@ pub mod Reading
 pub mod Names
 pub mod Spelling
 pub mod Limit
+pub mod Told

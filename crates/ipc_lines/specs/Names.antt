@@ -1,5 +1,6 @@
 -- The names that entries begin with.
-use Rattle.std.specs.Prelude.{ℕ, List, codes}
+use Rattle.std.specs.Prelude.{ℕ, List, [], ◌∷◌, Option, codes, find}
+use Rattle.std.specs.Str.{bytes_eq}
 use Rattle.ipc_lines.specs.declared.reading.EntryName.{EntryName}
 use Rattle.ipc_lines.specs.declared.reading.EntryName.TheVariants.{At, Opened, Called, Exreg, Broke, Moved}
 use Rattle.ipc_lines.specs.declared.reading.EntryName.TheVariants.{Began, Turned, Ended, Overflowed, Aborted, Failed}
@@ -17,3 +18,12 @@ entry_name Ended = codes "ended"
 entry_name Overflowed = codes "overflowed"
 entry_name Aborted = codes "aborted"
 entry_name Failed = codes "failed"
+
+-- all of them
+abbrev pub entry_names : List EntryName
+entry_names =
+    At ∷ Opened ∷ Called ∷ Exreg ∷ Broke ∷ Moved ∷ Began ∷ Turned ∷ Ended ∷ Overflowed ∷ Aborted ∷ Failed ∷ []
+
+-- the kind of entry of a name
+abbrev pub name_in : List ℕ → Option EntryName
+name_in text = find (λ name. bytes_eq text (entry_name name)) entry_names

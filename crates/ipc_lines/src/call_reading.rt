@@ -33,8 +33,9 @@ struct Lists {
     buffers: Option<BufferList>,
 }
 
-// The send period and the receive period of a word of timeouts; `None` where one is a time point.
-fn read_timeouts(bytes: &[u8]) -> Option<(Period, Period)>
+/// The send period and the receive period of a word of timeouts; `None` where one is a time point, and for any bytes that
+/// are no HEX of 32 bits.
+pub fn read_timeouts(bytes: &[u8]) -> Option<(Period, Period)>
     ensures found { IfSome result (λ periods.
         bytes.now ≡ hex_text (periods.0 * 2 ^ 16 + periods.1)) }
     ensures only { (send receive : ℕ) → send < 2 ^ 15 → receive < 2 ^ 15

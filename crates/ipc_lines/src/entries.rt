@@ -1,15 +1,78 @@
-ghost use Rattle.std.specs.Prelude.{◌≡◌, ◌≤◌, ◌++◌, OnOk, IfOk, length};
+ghost use Rattle.std.specs.Prelude.{◌≡◌, ◌≤◌, ◌++◌, ◌∷◌, [], OnOk, IfOk, length};
+ghost use Rattle.std.specs.Fmt.{decimal};
 ghost use Rattle.std.specs.String.{string_bytes};
 ghost use Rattle.ipc_history.specs.declared.entry.Entry.TheVariants.{Given, Written};
+ghost use Rattle.ipc_history.specs.declared.entry.Input.TheVariants.{Opened, Called, Exreg};
+ghost use Rattle.ipc_history.specs.declared.entry.Output.TheVariants.{Turned, Failed};
 ghost use Rattle.ipc_lines.specs.Limit.{most_bytes};
-ghost use Rattle.ipc_lines.specs.Lines.{entry_text};
+ghost use Rattle.ipc_lines.specs.Lines.{entry_text, spaced};
 ghost use Rattle.ipc_lines.specs.Reading.{IsReadable};
 
 use crate::calls::write_call;
 use crate::readable::entry_is_readable;
 use crate::scalars::{HexText, IdText};
-use ipc_history::{Entry, Input, Output};
+use ipc_history::{Call, Entry, Input, Output};
+use ipc_words::{IpcError, MaskedControl, ThreadId};
 use std::alloc::{AllocError, Global};
+
+// Appends a name and two numbers.
+fn write_pair(out: &mut String, name: &str, first: u64, second: u64) -> Result<(), AllocError>
+    ensures { OnOk result (string_bytes out.new
+        ≡ string_bytes out.old ++ spaced (name.now ∷ decimal first ∷ decimal second ∷ [])) }
+{
+    write!(out, "{name} {first} {second}")
+}
+
+// Appends a name and three numbers.
+fn write_triple(
+    out: &mut String,
+    name: &str,
+    first: u64,
+    second: u64,
+    third: u64,
+) -> Result<(), AllocError>
+    ensures { OnOk result (string_bytes out.new ≡ string_bytes out.old
+        ++ spaced (name.now ∷ decimal first ∷ decimal second ∷ decimal third ∷ [])) }
+{
+    write!(out, "{name} {first} {second} {third}")
+}
+
+// Appends the line of a thread that is opened.
+fn write_opened(out: &mut String, thread: ThreadId, space: u64) -> Result<(), AllocError>
+    ensures { OnOk result (string_bytes out.new
+        ≡ string_bytes out.old ++ entry_text (Given (Opened thread space))) }
+{
+    write!(out, "opened {} {space}", IdText(thread))
+}
+
+// Appends the line of a call.
+fn write_called(
+    alloc: Global,
+    out: &mut String,
+    number: u64,
+    caller: ThreadId,
+    call: &Call,
+) -> Result<(), AllocError>
+    ensures { OnOk result (string_bytes out.new
+        ≡ string_bytes out.old ++ entry_text (Given (Called number caller call.now))) }
+{
+    write!(out, "called {number} ")?;
+    write_call(alloc, out, caller, call)
+}
+
+// Appends the line of an ExchangeRegisters.
+fn write_exreg(
+    out: &mut String,
+    thread: ThreadId,
+    dest: ThreadId,
+    control: MaskedControl,
+) -> Result<(), AllocError>
+    ensures { OnOk result (string_bytes out.new
+        ≡ string_bytes out.old ++ entry_text (Given (Exreg thread dest control))) }
+{
+    let control = HexText(control.to_word());
+    write!(out, "exreg {} {} {control}", IdText(thread), IdText(dest))
+}
 
 // Appends the line of an input.
 fn write_input(alloc: Global, out: &mut String, input: &Input) -> Result<(), AllocError>
@@ -18,36 +81,48 @@ fn write_input(alloc: Global, out: &mut String, input: &Input) -> Result<(), All
 {
     match input {
         Input::At(moment) => write!(out, "at {moment}"),
-        Input::Opened(thread, space) => write!(out, "opened {} {space}", IdText(*thread)),
+        Input::Opened(thread, space) => write_opened(out, *thread, *space),
         Input::Called(number, caller, call) => {
-            write!(out, "called {number} ")?;
-            write_call(alloc, out, *caller, call.call())
+            write_called(alloc, out, *number, *caller, call.call())
         }
-        Input::Exreg(thread, dest, control) => {
-            let control = HexText(control.to_word());
-            write!(out, "exreg {} {} {control}", IdText(*thread), IdText(*dest))
-        }
+        Input::Exreg(thread, dest, control) => write_exreg(out, *thread, *dest, *control),
         Input::Broke(thread) => write!(out, "broke {}", IdText(*thread)),
-        Input::Moved(number, count) => write!(out, "moved {number} {count}"),
+        Input::Moved(number, count) => write_pair(out, "moved", *number, *count),
     }
 }
 
-// Appends the line of an output.
-fn write_output(out: &mut String, output: &Output) -> Result<(), AllocError>
+// Appends the line of a call that waits for another thread.
+fn write_turned(out: &mut String, receiving: u64, thread: ThreadId) -> Result<(), AllocError>
     ensures { OnOk result (string_bytes out.new
-        ≡ string_bytes out.old ++ entry_text (Written output.now)) }
+        ≡ string_bytes out.old ++ entry_text (Written (Turned receiving thread))) }
 {
-    match *output {
-        Output::Began(sending, receiving) => write!(out, "began {sending} {receiving}"),
-        Output::Turned(receiving, thread) => write!(out, "turned {receiving} {}", IdText(thread)),
-        Output::Ended(sending, receiving) => write!(out, "ended {sending} {receiving}"),
+    write!(out, "turned {receiving} {}", IdText(thread))
+}
+
+// Appends the line of a call that failed.
+fn write_failed(out: &mut String, number: u64, code: IpcError) -> Result<(), AllocError>
+    ensures { OnOk result (string_bytes out.new
+        ≡ string_bytes out.old ++ entry_text (Written (Failed number code))) }
+{
+    write!(out, "failed {number} {}", HexText(code.to_word()))
+}
+
+// Appends the line of an output.
+fn write_output(out: &mut String, output: Output) -> Result<(), AllocError>
+    ensures { OnOk result (string_bytes out.new
+        ≡ string_bytes out.old ++ entry_text (Written output)) }
+{
+    match output {
+        Output::Began(sending, receiving) => write_pair(out, "began", sending, receiving),
+        Output::Turned(receiving, thread) => write_turned(out, receiving, thread),
+        Output::Ended(sending, receiving) => write_pair(out, "ended", sending, receiving),
         Output::Overflowed(sending, receiving, offset) => {
-            write!(out, "overflowed {sending} {receiving} {offset}")
+            write_triple(out, "overflowed", sending, receiving, offset)
         }
         Output::Aborted(sending, receiving, count) => {
-            write!(out, "aborted {sending} {receiving} {count}")
+            write_triple(out, "aborted", sending, receiving, count)
         }
-        Output::Failed(number, code) => write!(out, "failed {number} {}", HexText(code.to_word())),
+        Output::Failed(number, code) => write_failed(out, number, code),
     }
 }
 
@@ -58,7 +133,7 @@ fn line_of(alloc: Global, entry: &Entry) -> Result<String, AllocError>
     let mut line = String::new(alloc);
     match entry {
         Entry::Given(input) => write_input(alloc, &mut line, input)?,
-        Entry::Written(output) => write_output(&mut line, output)?,
+        Entry::Written(output) => write_output(&mut line, *output)?,
     }
     Ok(line)
 }

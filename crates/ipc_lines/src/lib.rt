@@ -34,7 +34,7 @@ mod readable;
 mod reading;
 mod scalars;
 
-pub use call_reading::read_call;
+pub use call_reading::{read_call, read_timeouts};
 pub use calls::call_text;
 pub use entries::entry_line;
 pub use fields::line_fields;
@@ -45,6 +45,6 @@ pub use laws::{
 };
 pub use numbers::{read_decimal, read_hex, read_id};
 pub use outcomes::outcome_line;
-pub use readable::{call_is_readable, entry_is_readable};
+pub use readable::{are_buffers, are_strings, are_words, call_is_readable, entry_is_readable};
 pub use reading::{LineFault, read_entry};
 pub use scalars::{HexText, IdText};

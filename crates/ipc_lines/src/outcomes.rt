@@ -4,7 +4,8 @@ ghost use Rattle.std.specs.List.{flat_map};
 ghost use Rattle.ipc_items.specs.Pieces.{pieces_of_all};
 ghost use Rattle.ipc_items.specs.Placed.{placed};
 ghost use Rattle.ipc_lines.specs.Texts.{pieces_text, piece_text};
-ghost use Rattle.ipc_lines.specs.Lines.{outcome_text};
+ghost use Rattle.ipc_lines.specs.Lines.{outcome_text, placed_in, spaced};
+ghost use Rattle.ipc_lines.specs.Told.{received_fields, told_fields};
 
 use crate::lists::{separate, write_bytes, write_words};
 use crate::scalars::{HexText, IdText};
@@ -36,6 +37,50 @@ fn write_pieces(alloc: Global, out: &mut String, pieces: &[Piece<'_>]) -> Result
     Ok(())
 }
 
+// Appends the five fields of an outcome that are one word each.
+fn write_scalars(out: &mut String, outcome: &Outcome) -> Result<(), AllocError>
+    ensures { OnOk result (string_bytes out.new
+        ≡ string_bytes out.old ++ spaced (told_fields outcome.now)) }
+{
+    let number = outcome.call;
+    let tag = HexText(outcome.tag.to_word());
+    let sender = IdText(outcome.sender);
+    let actual = IdText(outcome.actual);
+    let error = HexText(outcome.error.to_word());
+    write!(out, "{number} {tag} {sender} {actual} {error}")
+}
+
+// Appends the pieces of the strings that an outcome received.
+fn write_received(alloc: Global, out: &mut String, outcome: &Outcome) -> Result<(), AllocError>
+    ensures { OnOk result (string_bytes out.new
+        ≡ string_bytes out.old ++ pieces_text (placed_in outcome.now)) }
+{
+    let pieces = scatter_all(alloc, &outcome.buffers, &outcome.strings)?;
+    let written = write_pieces(alloc, out, &pieces);
+    drop(pieces);
+    written
+}
+
+// Appends the words of an outcome, and what it received.
+fn write_lists(alloc: Global, out: &mut String, outcome: &Outcome) -> Result<(), AllocError>
+    ensures { OnOk result (string_bytes out.new
+        ≡ string_bytes out.old ++ spaced (received_fields outcome.now)) }
+{
+    write_words(out, &outcome.words)?;
+    out.push_str(" ")?;
+    write_received(alloc, out, outcome)
+}
+
+// Appends the seven fields of an outcome.
+fn write_outcome(alloc: Global, out: &mut String, outcome: &Outcome) -> Result<(), AllocError>
+    ensures { OnOk result (string_bytes out.new
+        ≡ string_bytes out.old ++ outcome_text outcome.now) }
+{
+    write_scalars(out, outcome)?;
+    out.push_str(" ")?;
+    write_lists(alloc, out, outcome)
+}
+
 /// The line of an outcome, without its newline: `N TAG SENDER ACTUAL ERROR WORDS PIECES`.
 ///
 /// TAG and ERROR are HEX, SENDER and ACTUAL are ids. WORDS are all of MR1 on, as in [`crate::call_text`].
@@ -46,14 +91,6 @@ pub fn outcome_line(alloc: Global, outcome: &Outcome) -> Result<String, AllocErr
     ensures { IfOk result (λ line. string_bytes line ≡ outcome_text outcome.now) }
 {
     let mut line = String::new(alloc);
-    let number = outcome.call;
-    let tag = HexText(outcome.tag.to_word());
-    let error = HexText(outcome.error.to_word());
-    write!(line, "{number} {tag} {} ", IdText(outcome.sender))?;
-    write!(line, "{} {error} ", IdText(outcome.actual))?;
-    write_words(&mut line, &outcome.words)?;
-    line.push_str(" ")?;
-    let pieces = scatter_all(alloc, &outcome.buffers, &outcome.strings)?;
-    write_pieces(alloc, &mut line, &pieces)?;
+    write_outcome(alloc, &mut line, outcome)?;
     Ok(line)
 }

@@ -22,8 +22,8 @@ fn id_is_word(id: ThreadId)
     is_word(id.to_word());
 }
 
-// The untyped words of a call are words.
-fn are_words(words: &[u64])
+/// The untyped words of a call are words.
+pub fn are_words(words: &[u64])
     ensures { AreWords words.now }
 {
     let _ = words.len();
@@ -53,8 +53,8 @@ fn are_substrings(parts: &[Substring])
     }
 }
 
-// The strings of a message are byte strings within its limits.
-fn are_strings(strings: &StringList)
+/// The strings of a message are byte strings within its limits.
+pub fn are_strings(strings: &StringList)
     ensures { IsStringList strings.now }
 {
     for place in 0..strings.len() {
@@ -65,8 +65,8 @@ fn are_strings(strings: &StringList)
     }
 }
 
-// The buffer strings of a call are within its limits.
-fn are_buffers(buffers: &BufferList)
+/// The buffer strings of a call are within its limits.
+pub fn are_buffers(buffers: &BufferList)
     ensures { IsBufferList buffers.now }
 {
     for place in 0..buffers.len() {

@@ -1,6 +1,7 @@
 ghost use Rattle.std.specs.Prelude.{◌≡◌, ◌<◌, ℕ, [], ◌∷◌, ◌⊎◌};
 ghost use Rattle.std.specs.Prelude.{codes, length, Some, Ok, Err, IfOk, IfSome, IsTrue};
 ghost use Rattle.std.specs.Fmt.{decimal};
+ghost use Rattle.std.specs.Str.{bytes_eq};
 ghost use Rattle.ipc_history.specs.CallParts.{CallParts};
 ghost use Rattle.ipc_history.specs.declared.entry.Entry.{Entry};
 ghost use Rattle.ipc_history.specs.declared.entry.Entry.TheVariants.{Given, Written};
@@ -11,7 +12,7 @@ ghost use Rattle.ipc_lines.specs.Texts.{hex_text, id_text};
 ghost use Rattle.ipc_lines.specs.Limit.{most_bytes};
 ghost use Rattle.ipc_lines.specs.Lines.{call_fields, entry_fields, entry_text};
 ghost use Rattle.ipc_lines.specs.Reading.{IsWord, IsCall, IsReadable, texts_of};
-ghost use Rattle.ipc_lines.specs.Names.{entry_name};
+ghost use Rattle.ipc_lines.specs.Names.{entry_name, name_in};
 
 use crate::call_reading::read_call;
 use crate::fields::line_fields;
@@ -41,26 +42,54 @@ enum EntryName {
     Failed,
 }
 
+/// All of them.
+const NAMES: [EntryName; 12] = [
+    EntryName::At,
+    EntryName::Opened,
+    EntryName::Called,
+    EntryName::Exreg,
+    EntryName::Broke,
+    EntryName::Moved,
+    EntryName::Began,
+    EntryName::Turned,
+    EntryName::Ended,
+    EntryName::Overflowed,
+    EntryName::Aborted,
+    EntryName::Failed,
+];
+
+// The text of a name.
+fn text_of(name: EntryName) -> &'static [u8]
+    ensures { result.now ≡ entry_name name }
+{
+    match name {
+        EntryName::At => b"at",
+        EntryName::Opened => b"opened",
+        EntryName::Called => b"called",
+        EntryName::Exreg => b"exreg",
+        EntryName::Broke => b"broke",
+        EntryName::Moved => b"moved",
+        EntryName::Began => b"began",
+        EntryName::Turned => b"turned",
+        EntryName::Ended => b"ended",
+        EntryName::Overflowed => b"overflowed",
+        EntryName::Aborted => b"aborted",
+        EntryName::Failed => b"failed",
+    }
+}
+
+// Whether a text is this name.
+fn is_name(text: &[u8], name: EntryName) -> bool
+    ensures { result ≡ bytes_eq text.now (entry_name name) }
+{
+    text == text_of(name)
+}
+
 // The kind of entry of a name.
 fn name_of(text: &[u8]) -> Option<EntryName>
-    ensures found { IfSome result (λ name. text.now ≡ entry_name name) }
-    ensures only { (name : EntryName) → text.now ≡ entry_name name → result ≡ Some name }
+    ensures { result ≡ name_in text.now }
 {
-    match text {
-        b"at" => Some(EntryName::At),
-        b"opened" => Some(EntryName::Opened),
-        b"called" => Some(EntryName::Called),
-        b"exreg" => Some(EntryName::Exreg),
-        b"broke" => Some(EntryName::Broke),
-        b"moved" => Some(EntryName::Moved),
-        b"began" => Some(EntryName::Began),
-        b"turned" => Some(EntryName::Turned),
-        b"ended" => Some(EntryName::Ended),
-        b"overflowed" => Some(EntryName::Overflowed),
-        b"aborted" => Some(EntryName::Aborted),
-        b"failed" => Some(EntryName::Failed),
-        _ => None,
-    }
+    NAMES.iter().copied().find(|name| is_name(text, *name))
 }
 
 // One number.
@@ -382,7 +411,7 @@ fn entry_in(alloc: Global, line: &[u8]) -> Result<Option<Entry>, AllocError>
 }
 
 /// Why a line was not read.
-#[derive(Clone, Copy, PartialEq, Eq, Debug)]
+#[derive(Clone, Copy)]
 pub enum LineFault {
     /// TR4: no entry has this spelling.
     Bad,

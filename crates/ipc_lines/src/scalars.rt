@@ -2,7 +2,7 @@ use ipc_words::ThreadId;
 use std::fmt;
 
 /// A word as HEX: `0x` and its lower-case digits without leading zeros; 0 is `0x0`.
-#[derive(Clone, Copy, PartialEq, Eq, Debug)]
+#[derive(Clone, Copy)]
 pub struct HexText(pub u64);
 
 impl fmt::Display for HexText {
@@ -18,7 +18,7 @@ impl fmt::Display for HexText {
 }
 
 /// A thread id: `nil`, `any` or `local`; `number.version` in decimal where the low six bits are not all zero; else HEX.
-#[derive(Clone, Copy, PartialEq, Eq, Debug)]
+#[derive(Clone, Copy)]
 pub struct IdText(pub ThreadId);
 
 impl fmt::Display for IdText {

@@ -5,6 +5,7 @@ use Rattle.ipc_lines.specs.Lines.{entry_fields}
 use Rattle.ipc_lines.specs.Names.{entry_name}
 use Rattle.ipc_lines.proofs.Spacing.{entry_parts, entry_count}
 use Rattle.ipc_lines.proofs.EntryNaming.{entry_named}
+use Rattle.ipc_lines.proofs.Names.{name_found, name_only}
 use Rattle.ipc_lines.proofs.ListTexts.{spaced_found}
 use Rattle.ipc_lines.proofs.Options.{IfSome-weaker}
 use Rattle.ipc_lines.proofs.reading.entry_in.Goals as goal
@@ -14,7 +15,7 @@ returns-in-Some-name_of-clause-found c =
     let parts = rw c.in-Some.is at c.in_ok-fields.ensures in
     let texts : texts_of c.deref.result.now ≡ parts_at 32 c.args.line.now = ap texts_of c.deref.ensures.value ∙ parts.0 in
     let first = ap texts_of c.in-Some-split_first.ensures.cases.0 in
-    let name = c.in-Some-name_of.ensures.found in
+    let name = name_found c.in-Some-split_first.name.now.now c.in-Some-name_of.name (sym c.in-Some-name_of.ensures) in
     let all : parts_at 32 c.args.line.now ≡ entry_name c.in-Some-name_of.name ∷ texts_of c.in-Some-split_first.rest.now = sym texts ∙ first ∙ ap (λ n. n ∷ texts_of c.in-Some-split_first.rest.now) name in
     IfOk-weaker c.entry_of.result _ _ (λ o. IfSome-weaker o _ _ (λ entry e. spaced_found c.args.line.now (entry_fields entry) (all ∙ e))) c.entry_of.ensures.found
 
@@ -29,7 +30,7 @@ returns-in-Some-name_of-clause-only c entry is e =
     let parts = rw c.in-Some.is at c.in_ok-fields.ensures in
     let texts : texts_of c.deref.result.now ≡ parts_at 32 c.args.line.now = ap texts_of c.deref.ensures.value ∙ parts.0 in
     let first = ap texts_of c.in-Some-split_first.ensures.cases.0 in
-    let name = c.in-Some-name_of.ensures.found in
+    let name = name_found c.in-Some-split_first.name.now.now c.in-Some-name_of.name (sym c.in-Some-name_of.ensures) in
     let all : parts_at 32 c.args.line.now ≡ entry_name c.in-Some-name_of.name ∷ texts_of c.in-Some-split_first.rest.now = sym texts ∙ first ∙ ap (λ n. n ∷ texts_of c.in-Some-split_first.rest.now) name in
     c.entry_of.ensures.only entry is (sym all ∙ entry_parts c.args.line.now entry is e)
 
@@ -39,5 +40,6 @@ returns-clause-only c entry is e =
     let texts : texts_of c.deref.result.now ≡ parts_at 32 c.args.line.now = ap texts_of c.deref.ensures.value ∙ parts.0 in
     let first = ap texts_of c.in-Some-split_first.ensures.cases.0 in
     let named = entry_named entry (c.in-Some-split_first.name.now.now) (texts_of c.in-Some-split_first.rest.now) (sym first ∙ texts ∙ entry_parts c.args.line.now entry is e) in
-    let some = c.in-None.ensures.only named.0 named.1 in
-    absurd (cc (some))
+    let none = c.in-None.ensures in
+    let some = name_only c.in-Some-split_first.name.now.now named.0 named.1 in
+    absurd (cc (none, some))

@@ -1,5 +1,6 @@
 -- Our choice (docs/FORMATS.md): the names that lines begin with, and the fields behind each, from left to right.
-use Rattle.std.specs.Prelude.{ℕ, Bool, true, false, List, [], ◌∷◌, codes}
+use Rattle.std.specs.Prelude.{ℕ, Bool, true, false, List, [], ◌∷◌, Option, codes, find}
+use Rattle.std.specs.Str.{bytes_eq}
 use Rattle.ipc_reasons.specs.declared.grammars.Grammar.{Grammar}
 use Rattle.ipc_reasons.specs.declared.grammars.Grammar.TheVariants.{Script, Wire, Trace}
 use Rattle.ipc_reasons.specs.declared.grammars.LineName.{LineName}
@@ -30,6 +31,16 @@ name_text Ended = codes "ended"
 name_text Overflowed = codes "overflowed"
 name_text Aborted = codes "aborted"
 name_text Failed = codes "failed"
+
+-- the names of all grammars
+abbrev pub all_names : List LineName
+all_names =
+    Open ∷ Call ∷ Take ∷ Exreg ∷ Broke ∷ At ∷ Advance ∷ Connect ∷ Feed ∷ End ∷ Opened ∷ Called ∷ Moved
+    ∷ Began ∷ Turned ∷ Ended ∷ Overflowed ∷ Aborted ∷ Failed ∷ []
+
+-- the name that a text is, of any grammar
+abbrev pub any_name : List ℕ → Option LineName
+any_name text = find (λ name. bytes_eq text (name_text name)) all_names
 
 -- the commands of a script
 abbrev pub is_command : LineName → Bool

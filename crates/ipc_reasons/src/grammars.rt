@@ -1,9 +1,10 @@
 ghost use Rattle.std.specs.Prelude.{◌≡◌, IfSome, IsTrue, Some};
-ghost use Rattle.ipc_reasons.specs.Grammars.{is_of, name_text, fields_of, kind_of, call_fields};
+ghost use Rattle.std.specs.Str.{bytes_eq};
+ghost use Rattle.ipc_reasons.specs.Grammars.{any_name, is_of, name_text, fields_of, kind_of, call_fields};
 ghost use Rattle.ipc_reasons.specs.declared.grammars.LineName.{LineName};
 
 /// Of what a line is.
-#[derive(Clone, Copy, PartialEq, Eq, Debug)]
+#[derive(Clone, Copy, PartialEq, Eq)]
 pub enum Grammar {
     /// A script of `l4sh run`.
     Script,
@@ -14,7 +15,7 @@ pub enum Grammar {
 }
 
 /// What a line begins with.
-#[derive(Clone, Copy, PartialEq, Eq, Debug)]
+#[derive(Clone, Copy)]
 pub enum LineName {
     Open,
     Call,
@@ -38,7 +39,7 @@ pub enum LineName {
 }
 
 /// A field behind the name of a line.
-#[derive(Clone, Copy, PartialEq, Eq, Debug)]
+#[derive(Clone, Copy)]
 pub enum Field {
     /// The number of a thread.
     Number,
@@ -87,7 +88,7 @@ pub enum Field {
 }
 
 /// How a field is spelled.
-#[derive(Clone, Copy, PartialEq, Eq, Debug)]
+#[derive(Clone, Copy)]
 pub enum FieldKind {
     /// A decimal of 64 bits.
     Decimal,
@@ -136,33 +137,68 @@ const NUMBERED_CALL: [Field; 10] = [
     Field::Buffers,
 ];
 
+// The names of all grammars.
+const NAMES: [LineName; 19] = [
+    LineName::Open,
+    LineName::Call,
+    LineName::Take,
+    LineName::Exreg,
+    LineName::Broke,
+    LineName::At,
+    LineName::Advance,
+    LineName::Connect,
+    LineName::Feed,
+    LineName::End,
+    LineName::Opened,
+    LineName::Called,
+    LineName::Moved,
+    LineName::Began,
+    LineName::Turned,
+    LineName::Ended,
+    LineName::Overflowed,
+    LineName::Aborted,
+    LineName::Failed,
+];
+
+// The text of a name.
+fn text_of(name: LineName) -> &'static [u8]
+    ensures { result.now ≡ name_text name }
+{
+    match name {
+        LineName::Open => b"open",
+        LineName::Call => b"call",
+        LineName::Take => b"take",
+        LineName::Exreg => b"exreg",
+        LineName::Broke => b"broke",
+        LineName::At => b"at",
+        LineName::Advance => b"advance",
+        LineName::Connect => b"connect",
+        LineName::Feed => b"feed",
+        LineName::End => b"end",
+        LineName::Opened => b"opened",
+        LineName::Called => b"called",
+        LineName::Moved => b"moved",
+        LineName::Began => b"began",
+        LineName::Turned => b"turned",
+        LineName::Ended => b"ended",
+        LineName::Overflowed => b"overflowed",
+        LineName::Aborted => b"aborted",
+        LineName::Failed => b"failed",
+    }
+}
+
+// Whether a text is this name.
+fn is_name(text: &[u8], name: LineName) -> bool
+    ensures { result ≡ bytes_eq text.now (name_text name) }
+{
+    text == text_of(name)
+}
+
 // The name that this text is, of any grammar.
 fn any_name(text: &[u8]) -> Option<LineName>
-    ensures found { IfSome result (λ name. text.now ≡ name_text name) }
-    ensures only { (name : LineName) → text.now ≡ name_text name → result ≡ Some name }
+    ensures { result ≡ any_name text.now }
 {
-    match text {
-        b"open" => Some(LineName::Open),
-        b"call" => Some(LineName::Call),
-        b"take" => Some(LineName::Take),
-        b"exreg" => Some(LineName::Exreg),
-        b"broke" => Some(LineName::Broke),
-        b"at" => Some(LineName::At),
-        b"advance" => Some(LineName::Advance),
-        b"connect" => Some(LineName::Connect),
-        b"feed" => Some(LineName::Feed),
-        b"end" => Some(LineName::End),
-        b"opened" => Some(LineName::Opened),
-        b"called" => Some(LineName::Called),
-        b"moved" => Some(LineName::Moved),
-        b"began" => Some(LineName::Began),
-        b"turned" => Some(LineName::Turned),
-        b"ended" => Some(LineName::Ended),
-        b"overflowed" => Some(LineName::Overflowed),
-        b"aborted" => Some(LineName::Aborted),
-        b"failed" => Some(LineName::Failed),
-        _ => None,
-    }
+    NAMES.iter().copied().find(|name| is_name(text, *name))
 }
 
 impl Grammar {

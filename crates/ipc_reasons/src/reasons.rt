@@ -13,7 +13,7 @@ use crate::whole::{LineFault, line_fault};
 use std::alloc::{AllocError, Global};
 
 /// What is wanted of a field.
-#[derive(Clone, Copy, PartialEq, Eq, Debug)]
+#[derive(Clone, Copy)]
 pub enum Wanted {
     /// A text of this kind.
     Spelling(FieldKind),
@@ -22,7 +22,7 @@ pub enum Wanted {
 }
 
 /// A field at fault.
-#[derive(Clone, Copy, Debug)]
+#[derive(Clone, Copy)]
 pub struct BadField<'a> {
     /// Its number in the line, counted from 1; the name is the first field.
     pub number: usize,
@@ -35,7 +35,7 @@ pub struct BadField<'a> {
 }
 
 /// Why a line is bad: its first fault.
-#[derive(Clone, Copy, Debug)]
+#[derive(Clone, Copy)]
 pub enum Reason<'a> {
     /// The line as a whole.
     Line(LineFault),

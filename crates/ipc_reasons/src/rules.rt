@@ -6,7 +6,7 @@ use ipc_words::limits::MAX_MESSAGE_WORDS;
 use ipc_words::{MsgTag, Period, ThreadId};
 
 /// A rule of the normal form of a call.
-#[derive(Clone, Copy, PartialEq, Eq, Debug)]
+#[derive(Clone, Copy)]
 pub enum CallRule {
     /// Without a receive phase there is no receive period.
     NoReceivePeriod,
@@ -31,7 +31,7 @@ pub enum CallRule {
 }
 
 /// What the rules look at of a call.
-#[derive(Clone, Copy, PartialEq, Eq, Debug)]
+#[derive(Clone, Copy)]
 pub(crate) struct CallShape {
     pub to: ThreadId,
     pub from: ThreadId,
@@ -43,7 +43,7 @@ pub(crate) struct CallShape {
 }
 
 /// What the rules look at of its lists.
-#[derive(Clone, Copy, PartialEq, Eq, Debug)]
+#[derive(Clone, Copy)]
 pub(crate) struct ListCounts {
     /// How many untyped words.
     pub words: usize,

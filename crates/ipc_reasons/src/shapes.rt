@@ -6,8 +6,7 @@ ghost use Rattle.ipc_lines.specs.Reading.{texts_of};
 ghost use Rattle.ipc_reasons.specs.Rules.{IsWellFormed, counts_of, shape_of};
 
 use crate::rules::{CallShape, ListCounts};
-use crate::spellings::periods_of;
-use ipc_lines::{read_buffers, read_hex, read_id, read_strings, read_words};
+use ipc_lines::{read_buffers, read_hex, read_id, read_strings, read_timeouts, read_words};
 use ipc_words::MsgTag;
 use std::alloc::{AllocError, Global};
 
@@ -54,7 +53,7 @@ fn shape_with(
         → originator.now ≡ id_text call.originator → lists ≡ counts_of call
         → result ≡ Some (shape_of call) }
 {
-    let (send_period, receive_period) = periods_of(timeouts)?;
+    let (send_period, receive_period) = read_timeouts(timeouts)?;
     Some(CallShape {
         to: read_id(to)?,
         from: read_id(from)?,

@@ -1,15 +1,13 @@
-ghost use Rattle.std.specs.Prelude.{◌≡◌, ℕ, ◌+◌, ◌*◌, ◌^◌, ◌<◌, ◌↔◌, IsTrue, IfOk, IfSome, Some};
-ghost use Rattle.ipc_lines.specs.Texts.{hex_text};
-ghost use Rattle.ipc_lines.specs.Reading.{AreWords, IsStringList, IsSubstring, IsBufferList};
-ghost use Rattle.std.specs.List.{All, list_all};
-ghost use Rattle.hex.specs.Hex.{IsBytes};
+ghost use Rattle.std.specs.Prelude.{◌≡◌, ◌↔◌, IsTrue, IfOk};
+ghost use Rattle.std.specs.List.{list_all};
 ghost use Rattle.ipc_reasons.specs.Spellings.{IsDecimal, IsId, IsHex, IsMasked, IsTimeouts, IsWords, IsStrings, IsBuffers, is_digit, are_digits, Spells};
 
 use crate::grammars::{Field, FieldKind};
-use ipc_items::{BufferList, StringList, Substring};
-use ipc_lines::{read_buffers, read_decimal, read_hex, read_id, read_strings, read_words};
+use ipc_lines::{
+    read_buffers, read_decimal, read_hex, read_id, read_strings, read_timeouts, read_words,
+};
+use ipc_words::MaskedControl;
 use ipc_words::limits::MAX_MESSAGE_WORDS;
-use ipc_words::{MaskedControl, Period};
 use std::alloc::{AllocError, Global};
 
 fn is_decimal(text: &[u8]) -> bool
@@ -39,24 +37,10 @@ fn is_masked(text: &[u8]) -> bool
     }
 }
 
-/// The send period and the receive period of a word of timeouts; `None` where one is a time point, and for any text that
-/// is no HEX of 32 bits.
-pub(crate) fn periods_of(text: &[u8]) -> Option<(Period, Period)>
-    ensures found { IfSome result (λ periods.
-        text.now ≡ hex_text (periods.0 * 2 ^ 16 + periods.1)) }
-    ensures only { (send receive : ℕ) → send < 2 ^ 15 → receive < 2 ^ 15
-        → text.now ≡ hex_text (send * 2 ^ 16 + receive) → result ≡ Some (send, receive) }
-{
-    let word = read_hex(text)?;
-    let send = Period::from_word(u16::try_from(word / 0x1_0000).ok()?)?;
-    let receive = Period::from_word((word % 0x1_0000) as u16)?;
-    Some((send, receive))
-}
-
 fn is_timeouts(text: &[u8]) -> bool
     ensures { IsTrue result ↔ IsTimeouts text.now }
 {
-    match periods_of(text) {
+    match read_timeouts(text) {
         Some((send, receive)) => {
             let _ = (send.to_word(), receive.to_word());
             true
@@ -65,41 +49,15 @@ fn is_timeouts(text: &[u8]) -> bool
     }
 }
 
-// Untyped words are words.
-fn within_words(words: &[u64])
-    ensures { AreWords words.now }
-{
-    let _ = words.len();
-}
-
 fn are_words(alloc: Global, text: &[u8]) -> Result<bool, AllocError>
     ensures { IfOk result (λ answer. IsTrue answer ↔ IsWords text.now) }
 {
     match read_words(alloc, text)? {
         Some(words) => {
-            within_words(&words);
+            ipc_lines::are_words(&words);
             Ok(words.len() <= MAX_MESSAGE_WORDS)
         }
         None => Ok(false),
-    }
-}
-
-// The bytes of a string are bytes.
-fn are_bytes(bytes: &[u8])
-    ensures { IsBytes bytes.now }
-{
-    let _ = bytes.len();
-}
-
-// The strings of a message are byte strings within its limits.
-fn within_strings(strings: &StringList)
-    ensures { IsStringList strings.now }
-{
-    for place in 0..strings.len() {
-        let Some(bytes) = strings.get(place) else {
-            break;
-        };
-        are_bytes(bytes);
     }
 }
 
@@ -108,37 +66,10 @@ fn are_strings(alloc: Global, text: &[u8]) -> Result<bool, AllocError>
 {
     match read_strings(alloc, text)? {
         Some(strings) => {
-            within_strings(&strings);
+            ipc_lines::are_strings(&strings);
             Ok(true)
         }
         None => Ok(false),
-    }
-}
-
-// The length and the pointer of a substring are words.
-fn within_substring(part: Substring)
-    ensures { IsSubstring part }
-{
-    let _ = (part.length, part.pointer);
-}
-
-fn within_substrings(parts: &[Substring])
-    ensures { All IsSubstring parts.now }
-{
-    for place in 0..parts.len() {
-        within_substring(parts[place]);
-    }
-}
-
-// The buffer strings of a call are within its limits.
-fn within_buffers(buffers: &BufferList)
-    ensures { IsBufferList buffers.now }
-{
-    for place in 0..buffers.len() {
-        let Some(parts) = buffers.get(place) else {
-            break;
-        };
-        within_substrings(parts);
     }
 }
 
@@ -147,7 +78,7 @@ fn are_buffers(alloc: Global, text: &[u8]) -> Result<bool, AllocError>
 {
     match read_buffers(alloc, text)? {
         Some(Some(buffers)) => {
-            within_buffers(&buffers);
+            ipc_lines::are_buffers(&buffers);
             Ok(true)
         }
         Some(None) => Ok(true),

@@ -22,7 +22,7 @@ impl fmt::Display for LineFault {
             LineFault::TwoSpaces => "two spaces in a row: fields have one space between each two",
             LineFault::Tab => "a tab: fields have one space between each two",
         };
-        write!(f, "{text}")
+        f.write_str(text)
     }
 }
 
@@ -50,7 +50,7 @@ impl fmt::Display for Field {
             Field::ReceivingCall => "receiving call",
             Field::Code => "code",
         };
-        write!(f, "{text}")
+        f.write_str(text)
     }
 }
 
@@ -76,7 +76,7 @@ impl fmt::Display for CallRule {
             }
             CallRule::NoBuffers => "'-': without a receive phase there are no buffers",
         };
-        write!(f, "{text}")
+        f.write_str(text)
     }
 }
 
@@ -155,14 +155,14 @@ impl fmt::Display for Shown<'_> {
         if bytes.is_empty() || bytes.len() > 40 {
             return Ok(());
         }
-        write!(f, "; not ")?;
+        f.write_str("; not ")?;
         for byte in bytes {
             let sign = if (b' '..=b'~').contains(byte) {
                 char::from(*byte)
             } else {
                 '?'
             };
-            write!(f, "{sign}")?;
+            f.write_char(sign)?;
         }
         Ok(())
     }
@@ -176,12 +176,21 @@ impl fmt::Display for BadField<'_> {
             wanted,
             text,
         } = *self;
-        write!(f, "field {number}, {field}: wanted is ")?;
         match wanted {
-            Wanted::Spelling(kind) => write!(f, "{}", wanted_of(kind, text))?,
-            Wanted::Rule(rule) => write!(f, "{rule}")?,
+            Wanted::Spelling(kind) => {
+                let words = wanted_of(kind, text);
+                write!(
+                    f,
+                    "field {number}, {field}: wanted is {words}{}",
+                    Shown(text)
+                )
+            }
+            Wanted::Rule(rule) => write!(
+                f,
+                "field {number}, {field}: wanted is {rule}{}",
+                Shown(text)
+            ),
         }
-        write!(f, "{}", Shown(text))
     }
 }
 

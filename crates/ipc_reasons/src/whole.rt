@@ -4,7 +4,7 @@ ghost use Rattle.ipc_reasons.specs.Whole.{has_tab, has_two_spaces, shows, line_f
 use crate::grammars::Grammar;
 
 /// What is at fault with a line as a whole.
-#[derive(Clone, Copy, PartialEq, Eq, Debug)]
+#[derive(Clone, Copy)]
 pub enum LineFault {
     /// It begins with `#`.
     Comment,

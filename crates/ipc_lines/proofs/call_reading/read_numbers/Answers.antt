@@ -1,7 +1,7 @@
-use Rattle.std.proofs.Common.{◌≡◌, [], ◌∷◌, Some, ap, sym, ◌∙◌}
+use Rattle.std.proofs.Common.{◌≡◌, [], ◌∷◌, Some, ap, sym, ◌∙◌, None, refl}
 use Rattle.ipc_lines.specs.Texts.{hex_text}
 use Rattle.ipc_lines.proofs.ListTexts.{field_at, six_of}
-use Rattle.ipc_lines.proofs.Options.{some_same}
+use Rattle.ipc_lines.proofs.Options.{none_not_some, some_same}
 use Rattle.ipc_lines.proofs.call_reading.read_numbers.Goals as goal
 
 pub returns-clause-only : goal.returns-clause-only
@@ -31,29 +31,29 @@ returns-clause-found c =
 pub returns-in_err-read_id-clause-only : goal.returns-in_err-read_id-clause-only
 returns-in_err-read_id-clause-only c thread call is e =
     let none = c.in_err-read_id.ensures.only thread is.thread_word (field_at c.args.fields.now _ 0 e) in
-    absurd (cc none)
+    absurd (none_not_some None _ refl none)
 
 pub returns-in_err-read_id-2-clause-only : goal.returns-in_err-read_id-2-clause-only
 returns-in_err-read_id-2-clause-only c thread call is e =
     let none = c.in_err-read_id-2.ensures.only call.to is.to (field_at c.args.fields.now _ 1 e) in
-    absurd (cc none)
+    absurd (none_not_some None _ refl none)
 
 pub returns-in_err-read_id-3-clause-only : goal.returns-in_err-read_id-3-clause-only
 returns-in_err-read_id-3-clause-only c thread call is e =
     let none = c.in_err-read_id-3.ensures.only call.from is.from (field_at c.args.fields.now _ 2 e) in
-    absurd (cc none)
+    absurd (none_not_some None _ refl none)
 
 pub returns-in_err-read_hex-clause-only : goal.returns-in_err-read_hex-clause-only
 returns-in_err-read_hex-clause-only c thread call is e =
     let none = c.in_err-read_hex.ensures.only call.tag is.tag (field_at c.args.fields.now _ 4 e) in
-    absurd (cc none)
+    absurd (none_not_some None _ refl none)
 
 pub returns-in_err-read_id-4-clause-only : goal.returns-in_err-read_id-4-clause-only
 returns-in_err-read_id-4-clause-only c thread call is e =
     let none = c.in_err-read_id-4.ensures.only call.originator is.originator (field_at c.args.fields.now _ 5 e) in
-    absurd (cc none)
+    absurd (none_not_some None _ refl none)
 
 pub returns-in_err-send_period-clause-only : goal.returns-in_err-send_period-clause-only
 returns-in_err-send_period-clause-only c thread call is e =
     let none = c.in_err-send_period.ensures.only call.send_period call.receive_period is.send_period is.receive_period (field_at c.args.fields.now _ 3 e) in
-    absurd (cc none)
+    absurd (none_not_some None _ refl none)

@@ -1,6 +1,6 @@
-use Rattle.std.proofs.Common.{◌≡◌, [], ◌∷◌, Some, ◌∙◌}
+use Rattle.std.proofs.Common.{◌≡◌, [], ◌∷◌, Some, ◌∙◌, None, refl}
 use Rattle.ipc_lines.proofs.ListTexts.{field_at, two_of}
-use Rattle.ipc_lines.proofs.Options.{some_same}
+use Rattle.ipc_lines.proofs.Options.{none_not_some, some_same}
 use Rattle.ipc_lines.proofs.reading.read_number_and_thread.Goals as goal
 
 pub returns-clause-found : goal.returns-clause-found
@@ -10,12 +10,12 @@ returns-clause-found c =
 pub returns-in_err-read_decimal-clause-only : goal.returns-in_err-read_decimal-clause-only
 returns-in_err-read_decimal-clause-only c receiving thread is_receiving is_thread e =
     let none = c.in_err-read_decimal.ensures.only receiving is_receiving (field_at c.args.fields.now _ 0 e) in
-    absurd (cc none)
+    absurd (none_not_some None _ refl none)
 
 pub returns-in_err-read_id-clause-only : goal.returns-in_err-read_id-clause-only
 returns-in_err-read_id-clause-only c receiving thread is_receiving is_thread e =
     let none = c.in_err-read_id.ensures.only thread is_thread (field_at c.args.fields.now _ 1 e) in
-    absurd (cc none)
+    absurd (none_not_some None _ refl none)
 
 pub returns-clause-only : goal.returns-clause-only
 returns-clause-only c receiving thread is_receiving is_thread e =

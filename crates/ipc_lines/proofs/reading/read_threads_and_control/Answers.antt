@@ -1,6 +1,6 @@
-use Rattle.std.proofs.Common.{◌≡◌, [], ◌∷◌, Some, ◌∙◌}
+use Rattle.std.proofs.Common.{◌≡◌, [], ◌∷◌, Some, ◌∙◌, None, refl}
 use Rattle.ipc_lines.proofs.ListTexts.{field_at, three_of}
-use Rattle.ipc_lines.proofs.Options.{some_same}
+use Rattle.ipc_lines.proofs.Options.{none_not_some, some_same}
 use Rattle.ipc_lines.proofs.reading.read_threads_and_control.Goals as goal
 
 pub returns-clause-only : goal.returns-clause-only
@@ -18,14 +18,14 @@ returns-clause-found c =
 pub returns-in_err-thread-clause-only : goal.returns-in_err-thread-clause-only
 returns-in_err-thread-clause-only c thread dest control is_thread is_dest masked e =
     let none = c.in_err-thread.ensures.only thread is_thread (field_at c.args.fields.now _ 0 e) in
-    absurd (cc none)
+    absurd (none_not_some None _ refl none)
 
 pub returns-in_err-dest-clause-only : goal.returns-in_err-dest-clause-only
 returns-in_err-dest-clause-only c thread dest control is_thread is_dest masked e =
     let none = c.in_err-dest.ensures.only dest is_dest (field_at c.args.fields.now _ 1 e) in
-    absurd (cc none)
+    absurd (none_not_some None _ refl none)
 
 pub returns-in_err-read_control-clause-only : goal.returns-in_err-read_control-clause-only
 returns-in_err-read_control-clause-only c thread dest control is_thread is_dest masked e =
     let none = c.in_err-read_control.ensures.only control masked (field_at c.args.fields.now _ 2 e) in
-    absurd (cc none)
+    absurd (none_not_some None _ refl none)

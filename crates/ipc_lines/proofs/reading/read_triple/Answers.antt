@@ -1,6 +1,6 @@
-use Rattle.std.proofs.Common.{◌≡◌, [], ◌∷◌, Some, ◌∙◌}
+use Rattle.std.proofs.Common.{◌≡◌, [], ◌∷◌, Some, ◌∙◌, None, refl}
 use Rattle.ipc_lines.proofs.ListTexts.{field_at, three_of}
-use Rattle.ipc_lines.proofs.Options.{some_same}
+use Rattle.ipc_lines.proofs.Options.{none_not_some, some_same}
 use Rattle.ipc_lines.proofs.reading.read_triple.Goals as goal
 
 pub returns-clause-found : goal.returns-clause-found
@@ -11,17 +11,17 @@ returns-clause-found c =
 pub returns-in_err-first-clause-only : goal.returns-in_err-first-clause-only
 returns-in_err-first-clause-only c first second third is_first is_second is_third e =
     let none = c.in_err-first.ensures.only first is_first (field_at c.args.fields.now _ 0 e) in
-    absurd (cc none)
+    absurd (none_not_some None _ refl none)
 
 pub returns-in_err-second-clause-only : goal.returns-in_err-second-clause-only
 returns-in_err-second-clause-only c first second third is_first is_second is_third e =
     let none = c.in_err-second.ensures.only second is_second (field_at c.args.fields.now _ 1 e) in
-    absurd (cc none)
+    absurd (none_not_some None _ refl none)
 
 pub returns-in_err-read_decimal-clause-only : goal.returns-in_err-read_decimal-clause-only
 returns-in_err-read_decimal-clause-only c first second third is_first is_second is_third e =
     let none = c.in_err-read_decimal.ensures.only third is_third (field_at c.args.fields.now _ 2 e) in
-    absurd (cc none)
+    absurd (none_not_some None _ refl none)
 
 pub returns-clause-only : goal.returns-clause-only
 returns-clause-only c first second third is_first is_second is_third e =

@@ -184,3 +184,23 @@ input_is_no_newline is = cc
 
 pub input_is_not_no_memory : line_end.Input ≢ line_end.NoMemory
 input_is_not_no_memory is = cc
+
+pub input_is_no_failure : line_end.Input ≢ line_end.Failed
+input_is_no_failure is = cc
+
+pub no_memory_is_no_failure : line_end.NoMemory ≢ line_end.Failed
+no_memory_is_no_failure is = cc
+
+pub failed_is_no_newline : line_end.Failed ≢ line_end.Newline
+failed_is_no_newline is = cc
+
+pub failed_is_not_no_memory : line_end.Failed ≢ line_end.NoMemory
+failed_is_not_no_memory is = cc
+
+-- a line that is taken is no failure of the device
+pub taken_is_no_failure : (before after : Option TraceVersion) (entries more : List Entry) (line : List ℕ) (at : TraceEnd) → TakesEntry before after entries more line (Some at)
+    → at ≢ end.DeviceFailed
+taken_is_no_failure before after entries more line at (same, inl (ends, read)) is = cc (ends, is)
+taken_is_no_failure before after entries more line at (same, inr (fault.Bad, reads, ends)) is = cc (ends, is)
+taken_is_no_failure before after entries more line at (same, inr (fault.UnknownVersion, reads, ends)) is = cc (ends, is)
+taken_is_no_failure before after entries more line at (same, inr (fault.NoMemory, reads, ends)) is = cc (ends, is)

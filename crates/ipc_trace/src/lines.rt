@@ -11,7 +11,7 @@ use ipc_words::limits::MAX_LINE_BYTES;
 use std::alloc::AllocError;
 
 /// What ends a line.
-#[derive(Clone, Copy, PartialEq, Eq, Debug)]
+#[derive(Clone, Copy)]
 pub enum LineEnd {
     /// Its newline.
     Newline,

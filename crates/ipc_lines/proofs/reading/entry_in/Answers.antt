@@ -7,7 +7,7 @@ use Rattle.ipc_lines.proofs.Spacing.{entry_parts, entry_count}
 use Rattle.ipc_lines.proofs.EntryNaming.{entry_named}
 use Rattle.ipc_lines.proofs.Names.{name_found, name_only}
 use Rattle.ipc_lines.proofs.ListTexts.{spaced_found}
-use Rattle.ipc_lines.proofs.Options.{IfSome-weaker}
+use Rattle.ipc_lines.proofs.Options.{IfSome-weaker, none_not_some}
 use Rattle.ipc_lines.proofs.reading.entry_in.Goals as goal
 
 pub returns-in-Some-name_of-clause-found : goal.returns-in-Some-name_of-clause-found
@@ -42,4 +42,4 @@ returns-clause-only c entry is e =
     let named = entry_named entry (c.in-Some-split_first.name.now.now) (texts_of c.in-Some-split_first.rest.now) (sym first ∙ texts ∙ entry_parts c.args.line.now entry is e) in
     let none = c.in-None.ensures in
     let some = name_only c.in-Some-split_first.name.now.now named.0 named.1 in
-    absurd (cc (none, some))
+    absurd (none_not_some _ _ (sym none) some)

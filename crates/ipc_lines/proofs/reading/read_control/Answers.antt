@@ -1,13 +1,13 @@
-use Rattle.std.proofs.Common.{Some, IsTrue, ap, sym, subst, ◌∙◌}
+use Rattle.std.proofs.Common.{Some, IsTrue, ap, sym, subst, ◌∙◌, None, refl}
 use Rattle.ipc_words.specs.Control.{is_masked}
 use Rattle.ipc_lines.proofs.Limits.{masked_word}
-use Rattle.ipc_lines.proofs.Options.{some_same, some_value}
+use Rattle.ipc_lines.proofs.Options.{none_not_some, some_same, some_value}
 use Rattle.ipc_lines.proofs.reading.read_control.Goals as goal
 
 pub returns-in_err-read_hex-clause-only : goal.returns-in_err-read_hex-clause-only
 returns-in_err-read_hex-clause-only c control masked e =
     let other = c.in_err-read_hex.ensures.only control (masked_word control masked) e in
-    absurd (cc other)
+    absurd (none_not_some None _ refl other)
 
 pub returns-clause-only : goal.returns-clause-only
 returns-clause-only c control masked e =

@@ -1,7 +1,7 @@
 use Rattle.std.proofs.Common.{[], ◌∷◌, sym, ◌∙◌}
 use Rattle.ipc_lines.proofs.Limits.{normal_words}
 use Rattle.ipc_lines.proofs.ListTexts.{field_at, three_of}
-use Rattle.ipc_lines.proofs.Options.{none_of, is_some_and}
+use Rattle.ipc_lines.proofs.Options.{none_of, is_some_and, none_not_some}
 use Rattle.ipc_lines.proofs.call_reading.read_lists.Goals as goal
 
 pub returns-in_default-2-clause-only : goal.returns-in_default-2-clause-only
@@ -21,3 +21,11 @@ returns-clause-only c thread call is e =
     let strings = sym c.in-Some-2.is ∙ c.in_ok-strings.ensures.only call.strings is.strings (field_at c.args.fields.now _ 1 e) in
     let buffers = sym c.in-Some-3.is ∙ c.in_ok-buffers.ensures.only call.buffers is.buffers (field_at c.args.fields.now _ 2 e) in
     (words, cc (strings), cc (buffers))
+
+pub returns-in_default-3-clause-only : goal.returns-in_default-3-clause-only
+returns-in_default-3-clause-only c thread call is e =
+    absurd (none_not_some c.in_ok-strings.field-0 call.strings c.in_default-3.is (c.in_ok-strings.ensures.only call.strings is.strings (field_at c.args.fields.now _ 1 e)))
+
+pub returns-in_default-4-clause-only : goal.returns-in_default-4-clause-only
+returns-in_default-4-clause-only c thread call is e =
+    absurd (none_not_some c.in_ok-buffers.field-0 call.buffers c.in_default-4.is (c.in_ok-buffers.ensures.only call.buffers is.buffers (field_at c.args.fields.now _ 2 e)))

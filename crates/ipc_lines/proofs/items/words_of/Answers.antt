@@ -1,23 +1,25 @@
-use Rattle.std.proofs.Common.{◌≡◌, ◌∷◌, [], ◌++◌, ◌∙◌, arith}
+use Rattle.std.proofs.Common.{◌≡◌, ◌∷◌, [], ◌++◌, ◌∙◌, None, map, ap, refl, sym}
 use Rattle.ipc_lines.specs.Texts.{hex_text}
 use Rattle.ipc_lines.specs.Reading.{IsWord}
-use Rattle.ipc_lines.proofs.ListTexts.{item_at}
-use Rattle.std.proofs.lemmas.Grind.{common_steps}
+use Rattle.ipc_lines.proofs.ListTexts.{found_more, item_at}
+use Rattle.ipc_lines.proofs.Options.{none_not_some, some_same}
 use Rattle.ipc_lines.proofs.items.words_of.Goals as goal
 
 pub returns-in_default-clause-only : goal.returns-in_default-clause-only
 returns-in_default-clause-only c list words e =
     let at = item_at hex_text IsWord c.args.texts.now list c.loop-text.text-index e words c.loop-text-test.true in
     let other = c.in_default.ensures.only at.item at.holds at.text_is in
-    cc other
+    absurd (none_not_some None _ refl other)
 
 pub loop-text-preserved : goal.loop-text-preserved
 loop-text-preserved c = record {
-  found = let h = c.loop-text.invariant.found in grind (arith, common_steps);
+  found =
+      found_more hex_text c.args.texts.now c.loop-text.words.items c.loop-text.text-index c.in-Some.word c.loop-text.invariant.found c.loop-text-test.true c.in-Some.ensures.found
+      ∙ ap (map hex_text) (sym c.in_ok-push.ensures.items);
   only = λ list words e.
       let at = item_at hex_text IsWord c.args.texts.now list c.loop-text.text-index e words c.loop-text-test.true in
       let same = c.in-Some.ensures.only at.item at.holds at.text_is in
-      let value : c.in-Some.word ≡ at.item = cc same in
+      let value : c.in-Some.word ≡ at.item = some_same _ _ same in
       let push = c.in_ok-push.ensures.items in
       push ∙ (λ i. c.loop-text.invariant.only list words e i ++ value i ∷ []) ∙ at.take_is;
 }

@@ -176,21 +176,12 @@ impl fmt::Display for BadField<'_> {
             wanted,
             text,
         } = *self;
+        write!(f, "field {number}, {field}: wanted is ")?;
         match wanted {
-            Wanted::Spelling(kind) => {
-                let words = wanted_of(kind, text);
-                write!(
-                    f,
-                    "field {number}, {field}: wanted is {words}{}",
-                    Shown(text)
-                )
-            }
-            Wanted::Rule(rule) => write!(
-                f,
-                "field {number}, {field}: wanted is {rule}{}",
-                Shown(text)
-            ),
+            Wanted::Spelling(kind) => write!(f, "{}", wanted_of(kind, text))?,
+            Wanted::Rule(rule) => write!(f, "{rule}")?,
         }
+        write!(f, "{}", Shown(text))
     }
 }
 

@@ -1,6 +1,5 @@
 use Rattle.std.proofs.Common.{◌≡◌, rules, sym, ◌∙◌}
-use Rattle.ipc_lines.proofs.Options.{some_same}
-use Rattle.ipc_reasons.specs.declared.grammars.LineName.{LineName}
+use Rattle.ipc_lines.proofs.Options.{none_not_some, some_same}
 use Rattle.ipc_reasons.proofs.Names.{name_found, name_only}
 use Rattle.ipc_reasons.proofs.grammars.Grammar.name.Goals as goal
 
@@ -8,7 +7,7 @@ pub returns-in_err-name-clause-only : goal.returns-in_err-name-clause-only
 returns-in_err-name-clause-only c name of e =
     let none = c.in_err-name.ensures in
     let some = name_only c.args.text.now name e in
-    absurd (cc (none, some))
+    absurd (none_not_some _ _ (sym none) some)
 
 pub returns-then-has-clause-found : goal.returns-then-has-clause-found
 returns-then-has-clause-found c =

@@ -1,3 +1,4 @@
 pub mod Commands
 pub mod Numbers
 pub mod Versions
+pub mod Subcommands

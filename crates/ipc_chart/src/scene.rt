@@ -11,7 +11,7 @@ use std::collections::BTreeMap;
 use std::mem;
 
 /// The column of a thread.
-#[derive(Clone, Copy, PartialEq, Eq, Debug)]
+#[derive(Clone, Copy)]
 pub struct Column {
     /// The thread.
     pub thread: ThreadId,
@@ -22,7 +22,7 @@ pub struct Column {
 }
 
 /// A row of a chart.
-#[derive(Clone, Copy, PartialEq, Eq, Debug)]
+#[derive(Clone, Copy)]
 pub struct Row {
     /// The place of its entry, from 0. The number of the entry is one more.
     pub place: usize,
@@ -45,7 +45,7 @@ pub struct Row {
 }
 
 /// What the thread of a column waits for from a row on.
-#[derive(Clone, Copy, PartialEq, Eq, Debug)]
+#[derive(Clone, Copy)]
 pub struct Turn {
     /// The row.
     pub row: usize,

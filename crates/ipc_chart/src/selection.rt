@@ -16,7 +16,7 @@ pub struct Selection {
 }
 
 /// Why a chart would have no row.
-#[derive(Clone, Copy, PartialEq, Eq, Debug)]
+#[derive(Clone, Copy)]
 pub enum Emptiness {
     /// The first entry is behind the last.
     Reversed,

@@ -1,10 +1,9 @@
 //! A gateway before the key-value server: passes each request on in the name of who asked, so that the server answers them itself.
 use crate::calling::{Search, Server, thread_of};
-use crate::messages::{Received, message, message_of};
+use crate::messages::{Received, message, message_of, receive_any};
 use crate::trouble::Trouble;
-use ipc_client::{Buffers, Client, Message, Timeout};
+use ipc_client::{Client, Message, Timeout};
 use ipc_ports::{PortRead, PortWrite};
-use ipc_words::ThreadId;
 use std::alloc::Global;
 use std::sync::Wait;
 
@@ -19,13 +18,21 @@ pub fn serve<I: PortRead, O: PortWrite, R: Wait>(
     search: Search,
 ) -> Result<(), Trouble> {
     for _ in rt.forever() {
-        let never = Timeout::never();
-        let next = client.receive(ThreadId::ANYTHREAD, never, Buffers::none(alloc))?;
-        if let Ok(request) = message_of(next)? {
-            pass(alloc, client, search, in_name_of_sender(alloc, request)?)?;
-        }
+        serve_next(alloc, client, search)?;
     }
     Ok(())
+}
+
+// Receives a request, and passes it on.
+fn serve_next<I: PortRead, O: PortWrite>(
+    alloc: Global,
+    client: &mut Client<I, O>,
+    search: Search,
+) -> Result<(), Trouble> {
+    match message_of(receive_any(alloc, client)?)? {
+        Ok(request) => pass(alloc, client, search, in_name_of_sender(alloc, request)?),
+        Err(_) => Ok(()),
+    }
 }
 
 // The message of a request in the name of who asked.
@@ -34,6 +41,14 @@ fn in_name_of_sender(alloc: Global, request: Received) -> Result<Message, Troubl
     passed.tag = passed.tag.with_propagated(true);
     passed.sender = request.sender;
     Ok(passed)
+}
+
+// A trouble that is not only that there is no such server.
+fn unless_gone(trouble: Trouble) -> Result<(), Trouble> {
+    match trouble {
+        Trouble::NoThread => Ok(()),
+        _ => Err(trouble),
+    }
 }
 
 // Passes a message on to the key-value server. One that nobody takes is dropped.
@@ -50,10 +65,7 @@ fn pass<I: PortRead, O: PortWrite>(
         }
         Err(trouble) => {
             drop(message);
-            match trouble {
-                Trouble::NoThread => Ok(()),
-                _ => Err(trouble),
-            }
+            unless_gone(trouble)
         }
     }
 }

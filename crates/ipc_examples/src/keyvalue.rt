@@ -1,9 +1,8 @@
 //! A server that keeps words by words.
-use crate::messages::{Received, message, message_of};
+use crate::messages::{Received, message, message_of, receive_any};
 use crate::trouble::Trouble;
 use ipc_client::{Answer, Buffers, Client, Message, Timeout};
 use ipc_ports::{PortRead, PortWrite};
-use ipc_words::ThreadId;
 use std::alloc::Global;
 use std::collections::BTreeMap;
 use std::sync::Wait;
@@ -41,13 +40,23 @@ fn serve_from<I: PortRead, O: PortWrite, R: Wait>(
 ) -> Result<(), Trouble> {
     let mut waiting = None;
     for _ in rt.forever() {
-        let next = match waiting {
-            Some(request) => answer_and_wait(alloc, client, table, request)?,
-            None => client.receive(ThreadId::ANYTHREAD, Timeout::never(), Buffers::none(alloc))?,
-        };
-        waiting = message_of(next)?.ok();
+        waiting = next_request(alloc, client, table, waiting)?;
     }
     Ok(())
+}
+
+/// Answers the request that waits, if any, and receives the next one.
+fn next_request<I: PortRead, O: PortWrite>(
+    alloc: Global,
+    client: &mut Client<I, O>,
+    table: &mut BTreeMap<u64, u64>,
+    waiting: Option<Received>,
+) -> Result<Option<Received>, Trouble> {
+    let next = match waiting {
+        Some(request) => answer_and_wait(alloc, client, table, request),
+        None => receive_any(alloc, client),
+    };
+    Ok(message_of(next?)?.ok())
 }
 
 /// Answers a request, and receives the next one.
@@ -68,15 +77,26 @@ fn answer(
     table: &mut BTreeMap<u64, u64>,
     request: Received,
 ) -> Result<Message, Trouble> {
-    let [key, value] = request.words;
-    if request.label == PUT {
-        return match table.insert(key, value) {
-            Ok(_) => message(alloc, FOUND, &[value]),
-            Err(_) => message(alloc, NOTHING, &[]),
-        };
+    match answered(table, request) {
+        Some(value) => message(alloc, FOUND, &[value]),
+        None => message(alloc, NOTHING, &[]),
     }
-    match table.get(&key) {
-        Some(value) if request.label == GET => message(alloc, FOUND, &[*value]),
-        _ => message(alloc, NOTHING, &[]),
+}
+
+/// The value that is answered to a request, if any.
+fn answered(table: &mut BTreeMap<u64, u64>, request: Received) -> Option<u64> {
+    let [key, value] = request.words;
+    match request.label {
+        PUT => put(table, key, value),
+        GET => table.get(&key).copied(),
+        _ => None,
+    }
+}
+
+/// Puts a value under a key, and answers it.
+fn put(table: &mut BTreeMap<u64, u64>, key: u64, value: u64) -> Option<u64> {
+    match table.insert(key, value) {
+        Ok(_) => Some(value),
+        Err(_) => None,
     }
 }

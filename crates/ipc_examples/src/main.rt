@@ -106,7 +106,9 @@ fn start<L: Ledger, M: Ledger, R: Wait + Print>(
     let reader = ReadPort::new(stream, Failures::<L>::new(reads));
     let writer = WritePort::new(stream, Failures::<M>::new(writes));
     let mut client = Client::new(alloc, reader, writer);
-    play(rt, alloc, &mut client, task)
+    let played = play(rt, alloc, &mut client, task);
+    drop(client);
+    played
 }
 
 /// Says HELLO as the thread of the role, plays it, and says BYE.
@@ -134,18 +136,48 @@ fn perform<I: PortRead, O: PortWrite, R: Wait + Print>(
     match task.role {
         Role::KeyValue => serve_words(rt, alloc, client, search),
         Role::Gateway => pass_on(rt, alloc, client, search),
-        Role::Put { key, value, server } => {
-            let server = calling::thread_of(alloc, client, server, search)?;
-            calling::put(alloc, client, server, key, value)
-        }
-        Role::Get { key, server } => {
-            let server = calling::thread_of(alloc, client, server, search)?;
-            say_word(rt, calling::get(alloc, client, server, key)?)
-        }
+        Role::Put { key, value, server } => put(alloc, client, server, search, key, value),
+        Role::Get { key, server } => get(rt, alloc, client, server, search, key),
         Role::Sleep(micros) => sleeper::sleep(alloc, client, own, micros),
         Role::Names => serve_names(rt, alloc, client, own),
-        Role::LookUp(name) => say_thread(rt, finding::look_up(alloc, client, name)?),
+        Role::LookUp(name) => look_up(rt, alloc, client, name),
     }
+}
+
+/// Puts a value under a key of a server.
+fn put<I: PortRead, O: PortWrite>(
+    alloc: Global,
+    client: &mut Client<I, O>,
+    server: Server,
+    search: Search,
+    key: u64,
+    value: u64,
+) -> Result<(), Trouble> {
+    let server = calling::thread_of(alloc, client, server, search)?;
+    calling::put(alloc, client, server, key, value)
+}
+
+/// Prints the value under a key of a server.
+fn get<I: PortRead, O: PortWrite, R: Print>(
+    rt: &R,
+    alloc: Global,
+    client: &mut Client<I, O>,
+    server: Server,
+    search: Search,
+    key: u64,
+) -> Result<(), Trouble> {
+    let server = calling::thread_of(alloc, client, server, search)?;
+    say_word(rt, calling::get(alloc, client, server, key)?)
+}
+
+/// Prints the live thread of a name.
+fn look_up<I: PortRead, O: PortWrite, R: Print>(
+    rt: &R,
+    alloc: Global,
+    client: &mut Client<I, O>,
+    name: &str,
+) -> Result<(), Trouble> {
+    say_thread(rt, finding::look_up(alloc, client, name)?)
 }
 
 /// The key-value server.

@@ -1,6 +1,6 @@
 //! What comes back from the server.
 use crate::trouble::Trouble;
-use ipc_client::{Answer, Client, Failure, Greeting, Message};
+use ipc_client::{Answer, Buffers, Client, Failure, Greeting, Message, Timeout};
 use ipc_items::StringList;
 use ipc_ports::{PortRead, PortWrite};
 use ipc_words::ThreadId;
@@ -26,6 +26,14 @@ pub fn greet<I: PortRead, O: PortWrite>(
         Greeting::Welcome(thread) => Ok(thread),
         Greeting::Refused(number) => Err(Trouble::Refused(number)),
     }
+}
+
+/// Receives the next message of any thread. Strings are not taken.
+pub fn receive_any<I: PortRead, O: PortWrite>(
+    alloc: Global,
+    client: &mut Client<I, O>,
+) -> Result<Answer, Trouble> {
+    Ok(client.receive(ThreadId::ANYTHREAD, Timeout::never(), Buffers::none(alloc))?)
 }
 
 /// The message that a call brought, or the ErrorCode of a call that failed.

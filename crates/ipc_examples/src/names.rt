@@ -18,10 +18,8 @@ const GONE: u64 = 0x5;
 pub enum Standing {
     /// It has ended.
     Ended,
-    /// It is live.
-    Live,
-    /// It is live, and this request of it was taken meanwhile.
-    Asks(Received),
+    /// It is live, and this request of it was taken meanwhile, if any.
+    Live(Option<Received>),
 }
 
 /// An answer, and the next request where one was taken meanwhile.
@@ -54,13 +52,23 @@ fn serve_from<I: PortRead, O: PortWrite, R: Wait>(
 ) -> Result<(), Trouble> {
     let mut waiting = None;
     for _ in rt.forever() {
-        waiting = match waiting {
-            Some(request) => turn(alloc, client, table, request)?,
-            None => receive_from(alloc, client, ThreadId::ANYTHREAD, Timeout::never())?,
-        };
+        waiting = serve_next(alloc, client, table, waiting)?;
     }
     drop(waiting);
     Ok(())
+}
+
+// Answers the request that waits, or receives one where none does.
+fn serve_next<I: PortRead, O: PortWrite>(
+    alloc: Global,
+    client: &mut Client<I, O>,
+    table: &mut Table,
+    waiting: Option<Received>,
+) -> Result<Option<Received>, Trouble> {
+    match waiting {
+        Some(request) => turn(alloc, client, table, request),
+        None => receive_from(alloc, client, ThreadId::ANYTHREAD, Timeout::never()),
+    }
 }
 
 // A request that a sender makes, received within this time.
@@ -83,12 +91,39 @@ pub fn turn<I: PortRead, O: PortWrite>(
     let sender = request.sender();
     let served = serve_request(alloc, client, table, &request);
     drop(request);
-    let Served { reply, next } = served?;
+    answer(alloc, client, sender, served?)
+}
+
+// Sends what is answered, and has the next request.
+fn answer<I: PortRead, O: PortWrite>(
+    alloc: Global,
+    client: &mut Client<I, O>,
+    sender: ThreadId,
+    served: Served,
+) -> Result<Option<Received>, Trouble> {
+    let Served { reply, next } = served;
     let message = message_of(alloc, &reply);
     drop(reply);
+    match message {
+        Ok(message) => send_answer(alloc, client, sender, message, next),
+        Err(trouble) => {
+            drop(next);
+            Err(trouble)
+        }
+    }
+}
+
+// Sends the message of an answer, and has the next request: the one that is there already, or the next that comes.
+fn send_answer<I: PortRead, O: PortWrite>(
+    alloc: Global,
+    client: &mut Client<I, O>,
+    sender: ThreadId,
+    message: Message,
+    next: Option<Received>,
+) -> Result<Option<Received>, Trouble> {
     match next {
         Some(next) => answer_meanwhile(client, sender, message, next),
-        None => answer_and_wait(alloc, client, sender, message?),
+        None => answer_and_wait(alloc, client, sender, message),
     }
 }
 
@@ -96,7 +131,7 @@ pub fn turn<I: PortRead, O: PortWrite>(
 fn answer_meanwhile<I: PortRead, O: PortWrite>(
     client: &mut Client<I, O>,
     sender: ThreadId,
-    message: Result<Message, Trouble>,
+    message: Message,
     next: Received,
 ) -> Result<Option<Received>, Trouble> {
     match send_at_once(client, sender, message) {
@@ -112,9 +147,9 @@ fn answer_meanwhile<I: PortRead, O: PortWrite>(
 fn send_at_once<I: PortRead, O: PortWrite>(
     client: &mut Client<I, O>,
     to: ThreadId,
-    message: Result<Message, Trouble>,
+    message: Message,
 ) -> Result<(), Trouble> {
-    let answer = client.send(to, message?, Timeout::zero())?;
+    let answer = client.send(to, message, Timeout::zero())?;
     drop(next_of(answer)?);
     Ok(())
 }
@@ -190,11 +225,12 @@ pub fn standing_of<I: PortRead, O: PortWrite>(
 // What the outcome of such a receive says.
 fn standing_by(answer: Answer) -> Result<Standing, Trouble> {
     let is_gone = code_of(&answer) == Some(GONE);
-    match next_of(answer)? {
-        Some(request) => Ok(Standing::Asks(request)),
-        None if is_gone => Ok(Standing::Ended),
-        None => Ok(Standing::Live),
+    let next = next_of(answer)?;
+    if is_gone {
+        drop(next);
+        return Ok(Standing::Ended);
     }
+    Ok(Standing::Live(next))
 }
 
 // What is answered to a request.
@@ -205,10 +241,23 @@ fn serve_request<I: PortRead, O: PortWrite>(
     message: &Received,
 ) -> Result<Served, Trouble> {
     match Request::of(alloc, message) {
-        Ok(Request::Register(name)) => register(alloc, client, table, name, message.sender()),
-        Ok(Request::LookUp(name)) => look_up(alloc, client, table, name),
-        Ok(Request::List(after)) => list(alloc, client, table, after),
+        Ok(request) => serve_one(alloc, client, table, request, message.sender()),
         Err(error) => Ok(refused(error, ThreadId::NILTHREAD, None)),
+    }
+}
+
+// What is answered to a request of a sender.
+fn serve_one<I: PortRead, O: PortWrite>(
+    alloc: Global,
+    client: &mut Client<I, O>,
+    table: &mut Table,
+    request: Request,
+    sender: ThreadId,
+) -> Result<Served, Trouble> {
+    match request {
+        Request::Register(name) => register(alloc, client, table, name, sender),
+        Request::LookUp(name) => look_up(alloc, client, table, name),
+        Request::List(after) => list(alloc, client, table, after),
     }
 }
 
@@ -261,8 +310,7 @@ fn take_over<I: PortRead, O: PortWrite>(
             table.give(place, sender);
             Ok(told(sender, None))
         }
-        Standing::Live => Ok(refused(NameError::Taken, holder, None)),
-        Standing::Asks(next) => Ok(refused(NameError::Taken, holder, Some(next))),
+        Standing::Live(next) => Ok(refused(NameError::Taken, holder, next)),
     }
 }
 
@@ -319,19 +367,30 @@ fn make_room<I: PortRead, O: PortWrite>(
     table: &mut Table,
 ) -> Result<Option<Received>, Trouble> {
     for place in 0..table.len() {
-        let Some(thread) = table.thread_at(place) else {
-            return Ok(None);
-        };
-        match standing_of(alloc, client, thread)? {
-            Standing::Ended => {
-                table.drop_at(place);
-                return Ok(None);
-            }
-            Standing::Live => {}
-            Standing::Asks(next) => return Ok(Some(next)),
+        if let Some(next) = drop_ended(alloc, client, table, place)? {
+            return Ok(next);
         }
     }
     Ok(None)
+}
+
+// Drops the name at a place where its thread has ended. None where the next place is to be looked at; else the request that was taken,
+// if any.
+fn drop_ended<I: PortRead, O: PortWrite>(
+    alloc: Global,
+    client: &mut Client<I, O>,
+    table: &mut Table,
+    place: usize,
+) -> Result<Option<Option<Received>>, Trouble> {
+    let thread = table.thread_at(place).unwrap_or(ThreadId::NILTHREAD);
+    match standing_of(alloc, client, thread)? {
+        Standing::Ended => {
+            table.drop_at(place);
+            Ok(Some(None))
+        }
+        Standing::Live(None) => Ok(None),
+        Standing::Live(next) => Ok(Some(next)),
+    }
 }
 
 fn look_up<I: PortRead, O: PortWrite>(
@@ -361,8 +420,7 @@ fn tell<I: PortRead, O: PortWrite>(
             table.drop_at(place);
             Ok(told(ThreadId::NILTHREAD, None))
         }
-        Standing::Live => Ok(told(thread, None)),
-        Standing::Asks(next) => Ok(told(thread, Some(next))),
+        Standing::Live(next) => Ok(told(thread, next)),
     }
 }
 
@@ -385,32 +443,51 @@ fn list_after<I: PortRead, O: PortWrite>(
     after: &[u8],
 ) -> Result<Served, Trouble> {
     for _ in 0..MAX_NAMES {
-        let Some(place) = table.after(after) else {
-            return Ok(told(ThreadId::NILTHREAD, None));
-        };
-        let thread = table.thread_at(place).unwrap_or(ThreadId::NILTHREAD);
-        match standing_of(alloc, client, thread)? {
-            Standing::Ended => table.drop_at(place),
-            Standing::Live => return listed(alloc, table, place, None),
-            Standing::Asks(next) => return listed(alloc, table, place, Some(next)),
+        if let Some(served) = list_next(alloc, client, table, after)? {
+            return Ok(served);
         }
     }
     Ok(told(ThreadId::NILTHREAD, None))
 }
 
-// The name at a place and its thread.
-fn listed(
+// The first name after these bytes, if its thread is live. None where it has ended, and the name was dropped.
+fn list_next<I: PortRead, O: PortWrite>(
     alloc: Global,
-    table: &Table,
+    client: &mut Client<I, O>,
+    table: &mut Table,
+    after: &[u8],
+) -> Result<Option<Served>, Trouble> {
+    match table.after(after) {
+        Some(place) => list_at(alloc, client, table, place),
+        None => Ok(Some(told(ThreadId::NILTHREAD, None))),
+    }
+}
+
+// The name at a place, in the same way.
+fn list_at<I: PortRead, O: PortWrite>(
+    alloc: Global,
+    client: &mut Client<I, O>,
+    table: &mut Table,
     place: usize,
-    next: Option<Received>,
-) -> Result<Served, Trouble> {
+) -> Result<Option<Served>, Trouble> {
+    let thread = table.thread_at(place).unwrap_or(ThreadId::NILTHREAD);
+    match standing_of(alloc, client, thread)? {
+        Standing::Ended => {
+            table.drop_at(place);
+            Ok(None)
+        }
+        Standing::Live(next) => Ok(Some(listed(alloc, table, place, next))),
+    }
+}
+
+// The name at a place and its thread.
+fn listed(alloc: Global, table: &Table, place: usize, next: Option<Received>) -> Served {
     let thread = table.thread_at(place).unwrap_or(ThreadId::NILTHREAD);
     match table.name_at(place).unwrap_or(&[]).to_vec(alloc) {
-        Ok(name) => Ok(Served {
+        Ok(name) => Served {
             reply: Reply::named(thread, name),
             next,
-        }),
-        Err(_) => Ok(refused(NameError::NoMemory, ThreadId::NILTHREAD, next)),
+        },
+        Err(_) => refused(NameError::NoMemory, ThreadId::NILTHREAD, next),
     }
 }

@@ -44,6 +44,17 @@ impl NameError {
         }
     }
 
+    // It in words.
+    fn words(self) -> &'static str {
+        match self {
+            NameError::BadRequest => "bad request",
+            NameError::BadName => "bad name",
+            NameError::Taken => "taken",
+            NameError::Full => "full",
+            NameError::NoMemory => "no memory",
+        }
+    }
+
     /// The error of an answer that is not done. An answer with another number is no answer of a name server.
     pub fn of_number(number: u64) -> NameError {
         match number {
@@ -58,13 +69,7 @@ impl NameError {
 
 impl fmt::Display for NameError {
     fn fmt<W: fmt::Write>(&self, f: &mut fmt::Formatter<W>) -> fmt::Result {
-        match self {
-            NameError::BadRequest => write!(f, "bad request"),
-            NameError::BadName => write!(f, "bad name"),
-            NameError::Taken => write!(f, "taken"),
-            NameError::Full => write!(f, "full"),
-            NameError::NoMemory => write!(f, "no memory"),
-        }
+        f.write_str(self.words())
     }
 }
 
@@ -84,9 +89,9 @@ impl Request {
     pub fn of(alloc: Global, message: &Received) -> Result<Request, NameError> {
         let string = only_string(alloc, message)?;
         match message.label() {
-            REGISTER => Ok(Request::Register(named(string)?)),
-            LOOK_UP => Ok(Request::LookUp(named(string)?)),
-            LIST => Ok(Request::List(start_of(string)?)),
+            REGISTER => registering(string),
+            LOOK_UP => looking_up(string),
+            LIST => listing(string),
             _ => {
                 drop(string);
                 Err(NameError::BadRequest)
@@ -95,21 +100,36 @@ impl Request {
     }
 }
 
+fn registering(string: Vec<u8>) -> Result<Request, NameError> {
+    Ok(Request::Register(named(string)?))
+}
+
+fn looking_up(string: Vec<u8>) -> Result<Request, NameError> {
+    Ok(Request::LookUp(named(string)?))
+}
+
+fn listing(string: Vec<u8>) -> Result<Request, NameError> {
+    Ok(Request::List(start_of(string)?))
+}
+
 // The string of a message that has just one, and no words.
 fn only_string(alloc: Global, message: &Received) -> Result<Vec<u8>, NameError> {
-    let Ok(mut strings) = message.strings(alloc) else {
-        return Err(NameError::NoMemory);
-    };
-    let is_alone = strings.len() == 1 && message.words().is_empty();
-    let string = strings.pop();
-    drop(strings);
-    match string {
-        Some(string) if is_alone => Ok(string),
-        string => {
-            drop(string);
-            Err(NameError::BadRequest)
+    match message.strings(alloc) {
+        Ok(mut strings) => {
+            let string = taken_alone(&mut strings, message.words());
+            drop(strings);
+            string.ok_or(NameError::BadRequest)
         }
+        Err(_) => Err(NameError::NoMemory),
     }
+}
+
+// The one string of these, where there are no words beside it.
+fn taken_alone(strings: &mut Vec<Vec<u8>>, words: &[u64]) -> Option<Vec<u8>> {
+    if strings.len() != 1 || !words.is_empty() {
+        return None;
+    }
+    strings.pop()
 }
 
 // Where a list begins: behind a name, or behind nothing.

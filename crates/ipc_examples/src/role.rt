@@ -47,18 +47,29 @@ pub struct Task<'a> {
 impl<'a> Task<'a> {
     /// The task that the words of a command line name, the program's own name first.
     pub fn of(words: &'a [String]) -> Option<Task<'a>> {
-        let (dir, rest) = match words {
-            [_, dir, rest @ ..] => (dir.as_str(), rest),
-            _ => return None,
-        };
-        let (rest, search) = match rest {
-            [front @ .., last] if last.as_str() == "--names" && !names_a_name(front) => {
-                (front, Search::Name)
-            }
-            _ => (rest, Search::Number),
-        };
-        let role = Role::of_rest(rest)?;
-        Some(Task { dir, role, search })
+        match words {
+            [_, dir, rest @ ..] => Task::in_folder(dir.as_str(), rest),
+            _ => None,
+        }
+    }
+
+    fn in_folder(dir: &'a str, words: &'a [String]) -> Option<Task<'a>> {
+        let (rest, search) = search_in(words);
+        Some(Task {
+            dir,
+            role: Role::of_rest(rest)?,
+            search,
+        })
+    }
+}
+
+// How servers are looked for, by the last word, and the words before it.
+fn search_in(words: &[String]) -> (&[String], Search) {
+    match words {
+        [front @ .., last] if last.as_str() == "--names" && !names_a_name(front) => {
+            (front, Search::Name)
+        }
+        _ => (words, Search::Number),
     }
 }
 
@@ -71,17 +82,8 @@ impl<'a> Role<'a> {
     fn of_rest(words: &'a [String]) -> Option<Role<'a>> {
         match words {
             [role] => Role::of_server(role.as_str()),
-            [verb, name] if verb.as_str() == "lookup" => Some(Role::LookUp(name.as_str())),
-            [verb, word] if verb.as_str() == "sleep" => Some(Role::Sleep(number(word)?)),
-            [verb, key] if verb.as_str() == "get" => Role::get(key, Server::KeyValue),
-            [verb, key, value] if verb.as_str() == "put" => Role::put(key, value, Server::KeyValue),
-            [verb, key, last] if verb.as_str() == "get" && last.as_str() == "gateway" => {
-                Role::get(key, Server::Gateway)
-            }
-            [verb, key, value, last] if verb.as_str() == "put" && last.as_str() == "gateway" => {
-                Role::put(key, value, Server::Gateway)
-            }
-            _ => None,
+            [verb, rest @ ..] => Role::of_verb(verb.as_str(), rest),
+            [] => None,
         }
     }
 
@@ -94,19 +96,50 @@ impl<'a> Role<'a> {
         }
     }
 
-    fn get(key: &String, server: Server) -> Option<Role<'a>> {
-        Some(Role::Get {
-            key: number(key)?,
-            server,
-        })
+    // The role of a verb and the words behind it.
+    fn of_verb(verb: &str, words: &'a [String]) -> Option<Role<'a>> {
+        match verb {
+            "lookup" => Role::look_up(words),
+            "sleep" => Role::sleep(words),
+            "get" => Role::get(words),
+            "put" => Role::put(words),
+            _ => None,
+        }
     }
 
-    fn put(key: &String, value: &String, server: Server) -> Option<Role<'a>> {
-        Some(Role::Put {
-            key: number(key)?,
-            value: number(value)?,
-            server,
-        })
+    fn look_up(words: &'a [String]) -> Option<Role<'a>> {
+        match words {
+            [name] => Some(Role::LookUp(name.as_str())),
+            _ => None,
+        }
+    }
+
+    fn sleep(words: &'a [String]) -> Option<Role<'a>> {
+        match words {
+            [word] => Some(Role::Sleep(number(word)?)),
+            _ => None,
+        }
+    }
+
+    fn get(words: &'a [String]) -> Option<Role<'a>> {
+        match words {
+            [key, rest @ ..] => Some(Role::Get {
+                key: number(key)?,
+                server: server_in(rest)?,
+            }),
+            [] => None,
+        }
+    }
+
+    fn put(words: &'a [String]) -> Option<Role<'a>> {
+        match words {
+            [key, value, rest @ ..] => Some(Role::Put {
+                key: number(key)?,
+                value: number(value)?,
+                server: server_in(rest)?,
+            }),
+            _ => None,
+        }
     }
 
     /// The thread number that it asks for.
@@ -118,6 +151,15 @@ impl<'a> Role<'a> {
             Role::Sleep(_) => 4,
             Role::Names => NAMES_NUMBER,
         }
+    }
+}
+
+// Who is asked, by the words behind a request.
+fn server_in(words: &[String]) -> Option<Server> {
+    match words {
+        [] => Some(Server::KeyValue),
+        [word] if word.as_str() == "gateway" => Some(Server::Gateway),
+        _ => None,
     }
 }
 

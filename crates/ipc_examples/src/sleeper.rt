@@ -22,13 +22,18 @@ pub fn sleep<I: PortRead, O: PortWrite>(
     own: ThreadId,
     micros: u64,
 ) -> Result<(), Trouble> {
-    let timeout = match Period::from_word(period(micros)) {
-        Some(period) => Timeout::of(period),
-        None => Timeout::never(),
-    };
-    match message_of(client.receive(own, timeout, Buffers::none(alloc))?)? {
+    let answer = client.receive(own, timeout_of(micros), Buffers::none(alloc))?;
+    match message_of(answer)? {
         Err(TIMEOUT) | Ok(_) => Ok(()),
         Err(code) => Err(Trouble::Failed(code)),
+    }
+}
+
+/// The timeout of so many microseconds.
+fn timeout_of(micros: u64) -> Timeout {
+    match Period::from_word(period(micros)) {
+        Some(period) => Timeout::of(period),
+        None => Timeout::never(),
     }
 }
 

@@ -45,6 +45,19 @@ pub enum Trouble {
 }
 
 impl Trouble {
+    // What is said of one that has neither a number nor an error of its own.
+    fn words(self) -> &'static str {
+        match self {
+            Trouble::Usage => USAGE,
+            Trouble::NoMemory => "no memory",
+            Trouble::NoServer => "nobody listens on space1 of this folder",
+            Trouble::NoOutput => "standard output failed",
+            Trouble::LongMessage => "the message is past its limits",
+            Trouble::NoNames => "there is no name server",
+            _ => "there is no such server",
+        }
+    }
+
     /// The exit status: 2 for bad words, else 1.
     pub fn status(self) -> u8 {
         match self {
@@ -81,17 +94,11 @@ impl From<BufferFault> for Trouble {
 impl fmt::Display for Trouble {
     fn fmt<W: fmt::Write>(&self, f: &mut fmt::Formatter<W>) -> fmt::Result {
         match self {
-            Trouble::Usage => write!(f, "{USAGE}"),
-            Trouble::NoMemory => write!(f, "no memory"),
-            Trouble::NoServer => write!(f, "nobody listens on space1 of this folder"),
-            Trouble::NoOutput => write!(f, "standard output failed"),
             Trouble::Client(error) => write!(f, "{error}"),
-            Trouble::LongMessage => write!(f, "the message is past its limits"),
             Trouble::Refused(number) => write!(f, "refused: K{number}"),
             Trouble::Failed(code) => write!(f, "the call failed: error {code:#x}"),
-            Trouble::NoNames => write!(f, "there is no name server"),
-            Trouble::NoThread => write!(f, "there is no such server"),
             Trouble::Name(error) => write!(f, "the name server answered: {error}"),
+            other => f.write_str(other.words()),
         }
     }
 }

@@ -8,7 +8,7 @@ use ipc_words::{MsgTag, TagFields};
 use std::alloc::{AllocError, Global};
 
 /// What is asked of a tag that is made: all that a sender sets.
-#[derive(Clone, Copy, PartialEq, Eq, Debug)]
+#[derive(Clone, Copy)]
 pub struct TagRequest {
     /// The label, 48 bits.
     pub label: u64,

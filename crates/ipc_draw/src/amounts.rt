@@ -7,6 +7,7 @@ pub(crate) fn put_count(alloc: Global, ink: &mut Ink, count: u64) {
     digits.number(count);
     put_by_threes(ink, digits.text.as_str());
     ink.keep(digits.done);
+    drop(digits);
 }
 
 fn put_by_threes(ink: &mut Ink, digits: &str) {
@@ -22,27 +23,23 @@ fn put_by_threes(ink: &mut Ink, digits: &str) {
 /// Appends a time of so many microseconds, exactly: in µs below a millisecond, in ms below a second, else in s.
 pub(crate) fn put_time(ink: &mut Ink, micros: u64) {
     if micros < 1_000 {
-        ink.number(micros);
-        ink.put(" µs");
+        ink.between("", micros, " µs");
     } else if micros < 1_000_000 {
-        put_decimal(ink, micros / 1_000, micros % 1_000);
-        ink.put(" ms");
+        put_decimal(ink, micros / 1_000, micros % 1_000, " ms");
     } else if micros % 1_000 == 0 {
-        put_decimal(ink, micros / 1_000_000, micros / 1_000 % 1_000);
-        ink.put(" s");
+        put_decimal(ink, micros / 1_000_000, micros / 1_000 % 1_000, " s");
     } else {
-        ink.number(micros / 1_000_000);
-        put_millionths(ink, micros % 1_000_000);
-        ink.put(" s");
+        put_seconds(ink, micros / 1_000_000, micros % 1_000_000);
     }
 }
 
-// A number with thousandths, without zeros at its end.
-fn put_decimal(ink: &mut Ink, whole: u64, thousandths: u64) {
+// A number with thousandths, without zeros at its end, and its unit.
+fn put_decimal(ink: &mut Ink, whole: u64, thousandths: u64, unit: &str) {
     ink.number(whole);
     if thousandths != 0 {
         put_thousandths(ink, thousandths);
     }
+    ink.put(unit);
 }
 
 fn put_thousandths(ink: &mut Ink, thousandths: u64) {
@@ -61,7 +58,7 @@ fn put_hundredths(ink: &mut Ink, part: u64) {
     ink.keep(done);
 }
 
-fn put_millionths(ink: &mut Ink, part: u64) {
-    let done = write!(ink.text, ".{part:06}");
+fn put_seconds(ink: &mut Ink, whole: u64, millionths: u64) {
+    let done = write!(ink.text, "{whole}.{millionths:06} s");
     ink.keep(done);
 }

@@ -1,6 +1,5 @@
-use crate::amounts::put_time;
 use crate::ink::Ink;
-use crate::words::put_shown;
+use crate::words::{put_shown, put_wait};
 use ipc_chart::{Mark, Row};
 use std::alloc::Global;
 
@@ -31,11 +30,12 @@ fn draw_head(ink: &mut Ink, class: &str, from: u64, to: u64, y: u64) {
     } else {
         to.saturating_add(9)
     };
-    ink.begin_path(class);
-    ink.stroke("M", to, y);
-    ink.stroke("L", back, y.saturating_sub(4));
-    ink.stroke("L", back, y.saturating_add(4));
-    ink.end_path("Z");
+    let strokes = [
+        ("M", to, y),
+        ("L", back, y.saturating_sub(4)),
+        ("L", back, y.saturating_add(4)),
+    ];
+    ink.path(class, &strokes, "Z");
 }
 
 /// Writes over an arrow as whom it is sent and how long its phases waited, as far as there is room.
@@ -48,6 +48,7 @@ pub(crate) fn draw_over(alloc: Global, ink: &mut Ink, row: &Row, from: u64, to: 
     if !words.is_empty() {
         ink.words(class, from / 2 + to / 2, y.saturating_sub(3), words);
     }
+    drop(told);
 }
 
 // As whom a message is sent, and how long its phases waited, as far as there is room.
@@ -72,7 +73,7 @@ fn shorten(words: &mut Ink, row: &Row, room: u64) {
 // The same in less room: the time alone, or nothing.
 fn leave_time(words: &mut Ink, row: &Row, room: u64) {
     words.text.clear();
-    put_wait(words, row, "");
+    put_wait(words, "", row.sent.max(row.received));
     if letters(words) > room {
         words.text.clear();
     }
@@ -80,19 +81,11 @@ fn leave_time(words: &mut Ink, row: &Row, room: u64) {
 
 fn put_over(words: &mut Ink, row: &Row, waited: &str) {
     put_shown(words, row);
-    if row.shown.is_some() && row.sent.max(row.received) > 0 {
+    let longest = row.sent.max(row.received);
+    if row.shown.is_some() && longest > 0 {
         words.put(", ");
     }
-    put_wait(words, row, waited);
-}
-
-// The longest time that a phase waited; nothing where none did.
-fn put_wait(words: &mut Ink, row: &Row, waited: &str) {
-    let longest = row.sent.max(row.received);
-    if longest > 0 {
-        words.put(waited);
-        put_time(words, longest);
-    }
+    put_wait(words, waited, longest);
 }
 
 // The pixels that words over an arrow take.

@@ -1,8 +1,8 @@
 use crate::amounts::put_time;
 use crate::ink::Ink;
 use crate::messages::put_contents;
-use crate::words::{has_waited, put_shown, put_waits, thread_at};
-use ipc_chart::{Mark, Row, Scene, call_at};
+use crate::words::{call_of, put_receiver, put_shown, put_waits_after, thread_at};
+use ipc_chart::{Mark, Row, Scene};
 use ipc_history::{Call, Entry};
 use ipc_words::{Period, ThreadId};
 
@@ -12,11 +12,8 @@ pub(crate) fn put_details(ink: &mut Ink, scene: &Scene, entries: &[Entry], row: 
     ink.between("entry ", (row.place as u64).saturating_add(1), ", at ");
     ink.between("", row.moment, " µs");
     put_threads(ink, scene, row);
-    if has_waited(row) {
-        ink.put("\n");
-        put_waits(ink, row);
-    }
-    if let Some((number, call)) = row.call.and_then(|place| call_at(entries, place)) {
+    put_waits_after(ink, "\n", row);
+    if let Some((number, call)) = call_of(entries, row) {
         ink.between("\ncall ", number, "");
         put_call(ink, row, call);
     }
@@ -26,10 +23,10 @@ fn put_threads(ink: &mut Ink, scene: &Scene, row: &Row) {
     ink.put("\n");
     ink.id(thread_at(scene, row.from));
     if row.from != row.to {
-        ink.put(" to ");
-        ink.id(thread_at(scene, row.to));
+        put_receiver(ink, scene, row);
+    } else {
+        put_shown(ink, row);
     }
-    put_shown(ink, row);
 }
 
 fn put_call(ink: &mut Ink, row: &Row, call: &Call) {
@@ -50,9 +47,7 @@ fn put_timeout(ink: &mut Ink, phase: &str, partner: ThreadId, period: Period) {
     if partner == ThreadId::NILTHREAD {
         return;
     }
-    ink.put("\n");
-    ink.put(phase);
-    ink.put(" timeout ");
+    ink.put_all(&["\n", phase, " timeout "]);
     match period.micros() {
         Some(micros) => put_time(ink, micros),
         None => ink.put("never"),

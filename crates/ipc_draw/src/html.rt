@@ -12,6 +12,16 @@ use std::alloc::{AllocError, Global};
 /// So many rows are on a page where it is not said.
 const ROWS_OF_PAGE: usize = 200;
 
+/// How a page begins, up to its style.
+const HEAD: &str = "<!DOCTYPE html>\n<html lang=\"en\">\n<head>\n<meta charset=\"utf-8\">\n\
+    <title>Chart of a trace</title>\n";
+
+/// What stands behind its style, up to the number of pages.
+const FIELDS: &str = "</head>\n<body>\n<header>\n<label>Find <input id=\"field\" type=\"search\" \
+    placeholder=\"2.1, timeout, label 5, waited ..\"></label>\n\
+    <span id=\"told\"></span>\n\
+    <label>Page <input id=\"page\" type=\"number\" style=\"width: 6em\" ";
+
 /// Draws a scene of these entries as an HTML page that needs nothing else: a field that finds rows, a legend, and a picture for each so
 /// many rows; 0: 200.
 pub fn draw_html(
@@ -70,14 +80,7 @@ fn draw_pictures(
 
 // All above the legend.
 fn put_top(ink: &mut Ink, pages: u64) {
-    ink.put("<!DOCTYPE html>\n<html lang=\"en\">\n<head>\n<meta charset=\"utf-8\">\n");
-    ink.put("<title>Chart of a trace</title>\n");
-    ink.put(STYLE);
-    ink.put(PAGE_STYLE);
-    ink.put("</head>\n<body>\n<header>\n<label>Find <input id=\"field\" type=\"search\" ");
-    ink.put("placeholder=\"2.1, timeout, label 5, waited ..\"></label>\n");
-    ink.put("<span id=\"told\"></span>\n");
-    ink.put("<label>Page <input id=\"page\" type=\"number\" style=\"width: 6em\" ");
+    ink.put_all(&[HEAD, STYLE, PAGE_STYLE, FIELDS]);
     ink.between("min=\"1\" max=\"", pages, "\" value=\"1\"></label>\n");
     ink.between("<span>of ", pages, "</span>\n</header>\n");
 }
@@ -87,6 +90,7 @@ fn put_legend(alloc: Global, ink: &mut Ink, scene: &Scene, layout: &Layout) {
     let height = draw_legend(&mut legend, scene, layout, 16);
     put_head(ink, layout.width, height);
     ink.add(&legend);
+    drop(legend);
     ink.put("</svg>\n");
 }
 

@@ -3,6 +3,12 @@ use ipc_lines::{HexText, IdText};
 use ipc_words::ThreadId;
 use std::alloc::{AllocError, Global};
 
+/// A length of an element: its name, and how many pixels.
+pub(crate) type Length = (&'static str, u64);
+
+/// A stroke of a path: its letter, and the point to which it goes.
+pub(crate) type Stroke = (&'static str, u64, u64);
+
 /// Text that is being written, and elements of SVG in it. Lengths are in pixels, and a class names a line of the style. Where memory is wanting
 /// it goes on without, and says so at its end: a step that passes no error on is proved in half the time.
 #[derive(Drop)]
@@ -82,76 +88,52 @@ impl Ink {
         self.put("…");
     }
 
-    /// Begins an element of a class, behind which its attributes stand.
-    fn begin(&mut self, name: &str, class: &str) {
-        self.put("<");
-        self.put(name);
-        self.put(" class=\"");
-        self.put(class);
-        self.put("\"");
+    /// Texts one behind the other.
+    pub(crate) fn put_all(&mut self, texts: &[&str]) {
+        for text in texts {
+            self.put(text);
+        }
     }
 
-    /// An attribute of the element that was begun.
-    fn length(&mut self, name: &str, pixels: u64) {
-        self.put(" ");
-        self.put(name);
-        self.put("=\"");
-        self.number(pixels);
-        self.put("\"");
+    /// The begin of an element of a class, with its lengths, up to this end.
+    fn element(&mut self, name: &str, class: &str, lengths: &[Length], end: &str) {
+        self.put_all(&["<", name, " class=\"", class, "\""]);
+        for (name, pixels) in lengths {
+            self.put_all(&[" ", name]);
+            self.between("=\"", *pixels, "\"");
+        }
+        self.put(end);
     }
 
     pub(crate) fn line(&mut self, class: &str, from: (u64, u64), to: (u64, u64)) {
-        self.begin("line", class);
-        self.length("x1", from.0);
-        self.length("y1", from.1);
-        self.length("x2", to.0);
-        self.length("y2", to.1);
-        self.put("/>\n");
+        let lengths = [("x1", from.0), ("y1", from.1), ("x2", to.0), ("y2", to.1)];
+        self.element("line", class, &lengths, "/>\n");
     }
 
     pub(crate) fn rect(&mut self, class: &str, corner: (u64, u64), wide: u64, high: u64) {
-        self.begin("rect", class);
-        self.length("x", corner.0);
-        self.length("y", corner.1);
-        self.length("width", wide);
-        self.length("height", high);
-        self.put("/>\n");
+        let (x, y) = corner;
+        let lengths = [("x", x), ("y", y), ("width", wide), ("height", high)];
+        self.element("rect", class, &lengths, "/>\n");
     }
 
     pub(crate) fn circle(&mut self, class: &str, x: u64, y: u64, radius: u64) {
-        self.begin("circle", class);
-        self.length("cx", x);
-        self.length("cy", y);
-        self.length("r", radius);
-        self.put("/>\n");
+        let lengths = [("cx", x), ("cy", y), ("r", radius)];
+        self.element("circle", class, &lengths, "/>\n");
     }
 
-    /// Begins a path, behind which its strokes stand.
-    pub(crate) fn begin_path(&mut self, class: &str) {
-        self.begin("path", class);
-        self.put(" d=\"");
-    }
-
-    /// A stroke of the path that was begun: its letter, and what stands before the point to which it goes.
-    pub(crate) fn stroke(&mut self, letter: &str, x: u64, y: u64) {
-        self.put(letter);
-        self.number(x);
-        self.put(" ");
-        self.number(y);
-    }
-
-    /// Ends a path by a last stroke without a point, if any.
-    pub(crate) fn end_path(&mut self, stroke: &str) {
-        self.put(stroke);
-        self.put("\"/>\n");
+    /// A path of strokes, and a last one without a point, if any.
+    pub(crate) fn path(&mut self, class: &str, strokes: &[Stroke], last: &str) {
+        self.put_all(&["<path class=\"", class, "\" d=\""]);
+        for (letter, x, y) in strokes {
+            self.between(letter, *x, " ");
+            self.number(*y);
+        }
+        self.put_all(&[last, "\"/>\n"]);
     }
 
     /// Begins words at a place; what is put then stands there, up to `end_words`.
     pub(crate) fn begin_words(&mut self, class: &str, x: u64, y: u64) {
-        self.begin("text", class);
-        self.length("x", x);
-        self.length("y", y);
-        self.put(">");
+        self.element("text", class, &[("x", x), ("y", y)], ">");
     }
 
     pub(crate) fn end_words(&mut self) {
@@ -182,11 +164,12 @@ impl Ink {
     pub(crate) fn cross(&mut self, class: &str, x: u64, y: u64) {
         let (left, right) = (x.saturating_sub(5), x.saturating_add(5));
         let (high, low) = (y.saturating_sub(5), y.saturating_add(5));
-        self.begin_path(class);
-        self.stroke("M", left, high);
-        self.stroke("L", right, low);
-        self.stroke("M", left, low);
-        self.stroke("L", right, high);
-        self.end_path("");
+        let strokes = [
+            ("M", left, high),
+            ("L", right, low),
+            ("M", left, low),
+            ("L", right, high),
+        ];
+        self.path(class, &strokes, "");
     }
 }

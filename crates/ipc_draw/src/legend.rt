@@ -32,11 +32,21 @@ const WAITS: [ToldWait; 2] = [
 ];
 
 fn has_mark(scene: &Scene, mark: Mark) -> bool {
-    scene.rows.iter().any(|row| row.mark == mark)
+    for row in &scene.rows {
+        if row.mark == mark {
+            return true;
+        }
+    }
+    false
 }
 
 fn has_wait(scene: &Scene, wait: Wait) -> bool {
-    scene.turns.iter().any(|turn| turn.wait == wait)
+    for turn in &scene.turns {
+        if turn.wait == wait {
+            return true;
+        }
+    }
+    false
 }
 
 /// Appends what the signs of a chart mean that are in it, in lines of at most so many characters; 0: in one line.
@@ -72,13 +82,7 @@ fn put_waits(ink: &mut Ink, scene: &Scene, waits: &[ToldWait], taken: usize, wid
 fn put_sign(ink: &mut Ink, sign: &str, words: &str, taken: usize, width: usize) -> usize {
     let length = sign.len().saturating_add(words.len()).saturating_add(3);
     let is_full = width > 0 && taken > 0 && taken.saturating_add(length) > width;
-    if is_full {
-        ink.put("\n");
-    }
-    ink.put("  ");
-    ink.put(sign);
-    ink.put(" ");
-    ink.put(words);
+    ink.put_all(&[if is_full { "\n  " } else { "  " }, sign, " ", words]);
     if is_full {
         length
     } else {

@@ -89,6 +89,39 @@ fn put_row(page: &mut Page, row: usize, copies: usize, is_named: bool) -> Result
     put_line(page, Line::Row { row, copies })
 }
 
+// Begins the next page where this one has as many rows as it may, and answers how many the page has.
+fn make_room(
+    alloc: Global,
+    pages: &mut Vec<Page>,
+    page: &mut Page,
+    rows: usize,
+    most: usize,
+) -> Result<usize, AllocError>
+    requires { 0 < most }
+    ensures shown { OnOk result (flat_map (λ page. rows_in page.items) pages.new.items
+        ++ rows_in page.new.items ≡ flat_map (λ page. rows_in page.items) pages.old.items
+        ++ rows_in page.old.items) }
+    ensures few { length (rows_in page.old.items) ≤ most
+        → All (λ page. length (rows_in page.items) ≤ most) pages.old.items
+        → All (λ page. length (rows_in page.items) ≤ most) pages.new.items }
+    ensures shorter { length (rows_in page.new.items) ≤ length (rows_in page.old.items) }
+    ensures room { IfOk result (λ count. count < most) }
+    ensures counted { length (rows_in page.old.items) ≤ rows
+        → IfOk result (λ count. length (rows_in page.new.items) ≤ count) }
+{
+    if rows < most {
+        return Ok(rows);
+    }
+    let full = mem::replace(page, Vec::new(alloc));
+    pages.push(full)?;
+    Ok(0)
+}
+
+// How many rows there are since the threads were named, with one more.
+fn rows_since(is_named: bool, since: usize) -> usize {
+    if is_named { 1 } else { since.saturating_add(1) }
+}
+
 impl Pages {
     /// No row, and pages of so many at most.
     fn new(alloc: Global, most: usize) -> Pages
@@ -122,18 +155,16 @@ impl Pages {
     fn add_row(&mut self, row: usize, copies: usize) -> Result<(), AllocError>
         ensures { OnOk result (self.new ≡ with_rows (row ∷ []) self.old) }
     {
-        if self.rows >= self.most {
-            let page = mem::replace(&mut self.page, Vec::new(self.alloc));
-            self.pages.push(page)?;
-            self.rows = 0;
-        }
+        self.rows = make_room(
+            self.alloc,
+            &mut self.pages,
+            &mut self.page,
+            self.rows,
+            self.most,
+        )?;
         let is_named = self.rows == 0 || self.since >= ROWS_BETWEEN_NAMES;
         put_row(&mut self.page, row, copies, is_named)?;
-        self.since = if is_named {
-            1
-        } else {
-            self.since.saturating_add(1)
-        };
+        self.since = rows_since(is_named, self.since);
         self.rows += 1;
         Ok(())
     }

@@ -32,19 +32,21 @@ pub(crate) fn draw_sample(ink: &mut Ink, mark: Mark, x: u64, y: u64) {
 // A face of a clock.
 fn draw_clock(ink: &mut Ink, x: u64, y: u64) {
     ink.circle("late", x, y, 6);
-    ink.begin_path("late");
-    ink.stroke("M", x, y.saturating_sub(4));
-    ink.stroke("L", x, y);
-    ink.stroke("L", x.saturating_add(3), y);
-    ink.end_path("");
+    let hands = [
+        ("M", x, y.saturating_sub(4)),
+        ("L", x, y),
+        ("L", x.saturating_add(3), y),
+    ];
+    ink.path("late", &hands, "");
 }
 
 // Three quarters of a circle, with a head.
 fn draw_turn(ink: &mut Ink, x: u64, y: u64) {
-    ink.begin_path("turn");
-    ink.stroke("M", x.saturating_sub(6), y);
-    ink.stroke("A6 6 0 1 0 ", x, y.saturating_sub(6));
-    ink.end_path("m5 -4l-5 4l5 4");
+    let strokes = [
+        ("M", x.saturating_sub(6), y),
+        ("A6 6 0 1 0 ", x, y.saturating_sub(6)),
+    ];
+    ink.path("turn", &strokes, "m5 -4l-5 4l5 4");
 }
 
 // A square with a cross.

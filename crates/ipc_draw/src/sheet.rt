@@ -7,7 +7,7 @@ use crate::layout::Layout;
 use crate::lines::Line;
 use crate::marks::draw_mark;
 use crate::strands::{Strand, end_strands, mark_strand, strands_of, turn_strands};
-use crate::text::{end_of, last_row, moment_behind, put_copies};
+use crate::text::{end_of, first_moment, last_row, moment_behind, put_copies};
 use crate::words::label_of;
 use ipc_chart::{Column, Fold, Row, Scene};
 use ipc_history::Entry;
@@ -61,7 +61,7 @@ impl Sheet {
             strands,
             next: 0,
             y: top,
-            moment: scene.rows.first().map_or(0, |row| row.moment),
+            moment: first_moment(scene),
             pattern: None,
             rows: 0,
         })
@@ -88,7 +88,9 @@ impl Sheet {
         ink.add(&self.over);
         self.under.text.clear();
         self.over.text.clear();
-        self.pattern = self.pattern.map(|_| top);
+        if self.pattern.is_some() {
+            self.pattern = Some(top);
+        }
         self.y = top;
     }
 
@@ -188,6 +190,7 @@ impl Sheet {
         let label = label_of(self.alloc, scene, entries, row);
         self.over.keep(label.done);
         draw_label(&mut self.over, &self.layout, label.text.as_str(), low);
+        drop(label);
     }
 
     fn mark(&mut self, row: &Row, middle: u64) {

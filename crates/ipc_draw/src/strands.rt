@@ -109,7 +109,9 @@ impl Strand {
 
     // The rest is drawn from this height on.
     fn restart(&mut self, top: u64) {
-        self.lives = self.lives.map(|_| top);
+        if self.lives.is_some() {
+            self.lives = Some(top);
+        }
         self.since = top;
     }
 

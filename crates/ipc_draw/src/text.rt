@@ -3,7 +3,7 @@ use crate::ink::Ink;
 use crate::lanes::{Lane, Place, lanes_of, set_alive, turn_lanes, turns_upto};
 use crate::legend::put_legend_text;
 use crate::lines::{Line, pages_of};
-use crate::words::{has_waited, put_label, put_waits};
+use crate::words::{put_label, put_waits_after};
 use ipc_chart::{Column, Fold, Mark, Row, Scene, Wait};
 use ipc_history::Entry;
 use ipc_words::ThreadId;
@@ -87,8 +87,16 @@ fn draw_rows(
     Ok(())
 }
 
-fn first_moment(scene: &Scene) -> u64 {
-    scene.rows.first().map_or(0, |row| row.moment)
+/// The moment of the first row; 0 where there is none.
+pub(crate) fn first_moment(scene: &Scene) -> u64 {
+    moment_of(scene.rows.first())
+}
+
+fn moment_of(row: Option<&Row>) -> u64 {
+    match row {
+        Some(row) => row.moment,
+        None => 0,
+    }
 }
 
 // The width of a lane: room for the names, and where lines are cut for words too.
@@ -162,6 +170,7 @@ impl Drawing {
             put_name(self.alloc, &mut line, self.lane, column.thread);
         }
         end_line(ink, &line, self.width);
+        drop(line);
     }
 
     // The number of an entry, its moment, the lanes with its mark, and what it says.
@@ -194,6 +203,7 @@ impl Drawing {
         self.put_signs(&mut line, None);
         put_copies(&mut line, fold.period, number);
         end_line(ink, &line, self.width);
+        drop(line);
     }
 
     // How long after the row before a row comes.
@@ -215,7 +225,7 @@ impl Drawing {
         if let Some(row) = marked {
             self.put_mark(&mut signs, row);
         }
-        put_all(line, &signs);
+        line.put_all(&signs);
     }
 
     // What threads wait for behind a place.
@@ -251,6 +261,7 @@ fn put_name(alloc: Global, line: &mut Ink, lane: usize, thread: ThreadId) {
     let before = (lane / 2).saturating_sub(length / 2);
     put_spaces(line, before);
     line.add(&name);
+    drop(name);
     put_spaces(line, lane.saturating_sub(before.saturating_add(length)));
 }
 
@@ -259,6 +270,7 @@ fn put_entry_number(alloc: Global, line: &mut Ink, row: &Row) {
     let mut number = Ink::new(alloc);
     number.number((row.place as u64).saturating_add(1));
     put_right(line, &number, NUMBERS);
+    drop(number);
 }
 
 // How many times a pattern comes.
@@ -267,6 +279,7 @@ fn put_times(alloc: Global, line: &mut Ink, count: usize) {
     times.put("x ");
     put_count(alloc, &mut times, count as u64);
     put_right(line, &times, NUMBERS);
+    drop(times);
 }
 
 // A time among the moments, behind a sign.
@@ -275,16 +288,14 @@ fn put_time_right(alloc: Global, line: &mut Ink, sign: &str, time: u64) {
     told.put(sign);
     put_time(&mut told, time);
     put_right(line, &told, MOMENTS);
+    drop(told);
     line.put("  ");
 }
 
 // What a row says, and how long phases waited that meet there.
 fn put_words(line: &mut Ink, scene: &Scene, entries: &[Entry], row: &Row) {
     put_label(line, scene, entries, row);
-    if has_waited(row) {
-        line.put("; ");
-        put_waits(line, row);
-    }
+    put_waits_after(line, "; ", row);
 }
 
 // The lanes between two marks.
@@ -312,12 +323,6 @@ fn put_lane(
     Ok(())
 }
 
-fn put_all(line: &mut Ink, signs: &[&'static str]) {
-    for sign in signs {
-        line.put(sign);
-    }
-}
-
 // A line, cut where it has more characters than the width; 0: it is not.
 fn end_line(ink: &mut Ink, line: &Ink, width: usize) {
     ink.keep(line.done);
@@ -333,7 +338,7 @@ fn end_line(ink: &mut Ink, line: &Ink, width: usize) {
 /// The moment of the row that a line shows, if one is behind; else the moment that is given.
 pub(crate) fn moment_behind(scene: &Scene, behind: Option<&Line>, moment: u64) -> u64 {
     match behind {
-        Some(Line::Row { row, .. }) => scene.rows.get(*row).map_or(0, |row| row.moment),
+        Some(Line::Row { row, .. }) => moment_of(scene.rows.get(*row)),
         _ => moment,
     }
 }

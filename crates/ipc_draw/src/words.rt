@@ -31,23 +31,33 @@ pub(crate) fn thread_at(scene: &Scene, column: usize) -> ThreadId {
     }
 }
 
-/// Appends how long phases waited that meet, as `send waited 12 µs`, where they did.
-pub(crate) fn put_waits(ink: &mut Ink, row: &Row) {
-    if row.sent > 0 {
-        ink.put("send waited ");
-        put_time(ink, row.sent);
-    }
+// How long phases waited that meet, as `send waited 12 µs`, where they did.
+fn put_waits(ink: &mut Ink, row: &Row) {
+    put_wait(ink, "send waited ", row.sent);
     if row.sent > 0 && row.received > 0 {
         ink.put(", ");
     }
-    if row.received > 0 {
-        ink.put("receive waited ");
-        put_time(ink, row.received);
+    put_wait(ink, "receive waited ", row.received);
+}
+
+/// Appends a time behind words; nothing where it is none.
+pub(crate) fn put_wait(ink: &mut Ink, words: &str, time: u64) {
+    if time > 0 {
+        ink.put(words);
+        put_time(ink, time);
     }
 }
 
-/// Whether phases meet at a row of which one waited.
-pub(crate) fn has_waited(row: &Row) -> bool {
+/// Appends behind words how long phases waited that meet, as `send waited 12 µs`; nothing where none did.
+pub(crate) fn put_waits_after(ink: &mut Ink, words: &str, row: &Row) {
+    if has_waited(row) {
+        ink.put(words);
+        put_waits(ink, row);
+    }
+}
+
+// Whether phases meet at a row of which one waited.
+fn has_waited(row: &Row) -> bool {
     row.from != row.to && (row.sent > 0 || row.received > 0)
 }
 
@@ -162,7 +172,8 @@ fn put_output(ink: &mut Ink, scene: &Scene, entries: &[Entry], row: &Row, output
     }
 }
 
-fn put_receiver(ink: &mut Ink, scene: &Scene, row: &Row) {
+/// Appends who gets a message, and as whom it is sent.
+pub(crate) fn put_receiver(ink: &mut Ink, scene: &Scene, row: &Row) {
     ink.put(" to ");
     ink.id(thread_at(scene, row.to));
     put_shown(ink, row);
@@ -174,27 +185,25 @@ fn put_numbers(ink: &mut Ink, sending: u64, receiving: u64) {
     ink.between("", receiving, ")");
 }
 
+/// The call of a row and its number, if it has one.
+pub(crate) fn call_of<'a>(entries: &'a [Entry], row: &Row) -> Option<(u64, &'a Call)> {
+    call_at(entries, row.call?)
+}
+
 fn put_message_of(ink: &mut Ink, entries: &[Entry], row: &Row) {
-    let Some(place) = row.call else {
-        return;
-    };
-    if let Some((_, call)) = call_at(entries, place) {
+    if let Some((_, call)) = call_of(entries, row) {
         ink.put(": ");
         put_message(ink, call);
     }
 }
 
 fn put_failure(ink: &mut Ink, row: &Row, number: u64, error: IpcError) {
-    ink.put(match error.phase() {
+    let phase = match error.phase() {
         Phase::Send => ": send ",
         Phase::Receive => ": receive ",
-    });
-    ink.put(cause_of(error));
-    let waited = row.sent.max(row.received);
-    if waited > 0 {
-        ink.put(" after ");
-        put_time(ink, waited);
-    }
+    };
+    ink.put_all(&[phase, cause_of(error)]);
+    put_wait(ink, " after ", row.sent.max(row.received));
     ink.between(" (call ", number, ")");
 }
 

@@ -3,7 +3,7 @@ use ipc_words::ThreadId;
 use std::alloc::{AllocError, Global};
 
 /// What is kept of the last call of a thread.
-#[derive(Clone, Copy, PartialEq, Eq, Debug)]
+#[derive(Clone, Copy)]
 pub(crate) struct Note {
     pub(crate) number: u64,
     pub(crate) caller: ThreadId,
@@ -67,8 +67,11 @@ impl Notes {
 
     /// Lets go of the call of a thread.
     pub(crate) fn leave(&mut self, caller: ThreadId) {
-        if let Some(place) = self.notes.iter().position(|note| note.caller == caller) {
-            let _ = self.notes.remove(place);
+        for place in 0..self.notes.len() {
+            if self.notes[place].caller == caller {
+                let _ = self.notes.remove(place);
+                return;
+            }
         }
     }
 
@@ -83,9 +86,11 @@ impl Notes {
 
     /// The call of a number, where it is kept.
     pub(crate) fn get(&self, number: u64) -> Option<Note> {
-        self.notes
-            .iter()
-            .find(|note| note.number == number)
-            .copied()
+        for note in &self.notes {
+            if note.number == number {
+                return Some(*note);
+            }
+        }
+        None
     }
 }

@@ -18,7 +18,7 @@ pub struct Selection {
 }
 
 /// What an entry is about.
-#[derive(Clone, Copy, PartialEq, Eq, Debug)]
+#[derive(Clone, Copy)]
 pub(crate) struct Subject {
     /// A thread that it names.
     pub(crate) thread: ThreadId,

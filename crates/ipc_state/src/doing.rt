@@ -5,7 +5,7 @@ use ipc_slots::{Live, Phase, Standing};
 use ipc_words::{Period, ThreadId};
 
 /// What a live thread does.
-#[derive(Clone, Copy, PartialEq, Eq, Debug)]
+#[derive(Clone, Copy)]
 pub enum Doing {
     /// It has no open call.
     Free,

@@ -11,7 +11,7 @@ use ipc_slots::{Slots, Standing};
 use ipc_words::{IpcError, Phase, ThreadId};
 
 /// What an entry adds to the counts of a pair of threads.
-#[derive(Clone, Copy, PartialEq, Eq, Debug)]
+#[derive(Clone, Copy, Debug)]
 pub struct Event {
     /// The thread that sends; of a receive phase alone its FromSpecifier.
     pub from: ThreadId,
@@ -22,7 +22,7 @@ pub struct Event {
 }
 
 /// What happened between a pair of threads.
-#[derive(Clone, Copy, PartialEq, Eq, Debug)]
+#[derive(Clone, Copy, Debug)]
 pub enum Happening {
     /// A call was entered.
     Call,

@@ -8,6 +8,17 @@ use std::alloc::{AllocError, Global};
 // How many places the cells of a line take, but for the last one.
 const WIDTHS: [usize; 7] = [8, 8, 8, 10, 12, 10, 20];
 
+// The heads of these columns.
+const HEADS: [(&str, usize); 7] = [
+    ("from", WIDTHS[0]),
+    ("to", WIDTHS[1]),
+    ("calls", WIDTHS[2]),
+    ("messages", WIDTHS[3]),
+    ("bytes", WIDTHS[4]),
+    ("failures", WIDTHS[5]),
+    ("sends took", WIDTHS[6]),
+];
+
 /// The counts in words: what the times are, a line of heads, a line for each pair of threads in the order
 /// of their words, and one for all together. Times are in microseconds.
 pub fn tell_counts(alloc: Global, groups: &Groups, events: &[Event]) -> Result<String, AllocError> {
@@ -27,18 +38,9 @@ pub fn tell_counts(alloc: Global, groups: &Groups, events: &[Event]) -> Result<S
 
 // The heads of the columns.
 fn tell_heads(text: &mut String) -> Result<(), AllocError> {
-    let heads = [
-        "from",
-        "to",
-        "calls",
-        "messages",
-        "bytes",
-        "failures",
-        "sends took",
-    ];
     text.push_str("took: median, 99 of 100 and longest, in µs\n")?;
-    for (head, width) in heads.iter().zip(WIDTHS) {
-        tell_cell(text, head, width)?;
+    for (head, width) in &HEADS {
+        tell_cell(text, head, *width)?;
     }
     text.push_str("receives took\n")
 }
@@ -53,19 +55,25 @@ fn tell_row(
 ) -> Result<(), AllocError> {
     tell_cell(text, from, WIDTHS[0])?;
     tell_cell(text, to, WIDTHS[1])?;
-    let numbers = [row.calls, row.messages, row.bytes, row.failures];
-    for (number, width) in numbers
-        .iter()
-        .zip([WIDTHS[2], WIDTHS[3], WIDTHS[4], WIDTHS[5]])
-    {
-        let number = format!(in alloc; "{number}")?;
-        tell_cell(text, number.as_str(), width)?;
-    }
+    tell_number(alloc, text, row.calls, WIDTHS[2])?;
+    tell_number(alloc, text, row.messages, WIDTHS[3])?;
+    tell_number(alloc, text, row.bytes, WIDTHS[4])?;
+    tell_number(alloc, text, row.failures, WIDTHS[5])?;
     let sent = waits_text(alloc, &row.sent)?;
     tell_cell(text, sent.as_str(), WIDTHS[6])?;
     let received = waits_text(alloc, &row.received)?;
     text.push_str(received.as_str())?;
     text.push_str("\n")
+}
+
+fn tell_number(
+    alloc: Global,
+    text: &mut String,
+    number: u64,
+    width: usize,
+) -> Result<(), AllocError> {
+    let number = format!(in alloc; "{number}")?;
+    tell_cell(text, number.as_str(), width)
 }
 
 // Median, 99 of 100 and longest.

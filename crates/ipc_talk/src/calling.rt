@@ -1,4 +1,4 @@
-use crate::spelling::{put_numbers, put_string, read_number, read_period, read_thread};
+use crate::spelling::{is_comma, put_numbers, put_string, read_number, read_period, read_thread};
 use ipc_explain::TagRequest;
 use ipc_lines::{HexText, IdText};
 use ipc_words::{MsgTag, Period, ThreadId};
@@ -48,10 +48,10 @@ const NAMES: [(&[u8], Name); 8] = [
     (b"buffers", Name::Buffers),
 ];
 
-fn name_of(word: &[u8]) -> Option<Name> {
-    for (text, name) in NAMES {
-        if text == word {
-            return Some(name);
+fn name_of(names: &[(&'static [u8], Name)], word: &[u8]) -> Option<Name> {
+    for (text, name) in names {
+        if *text == word {
+            return Some(*name);
         }
     }
     None
@@ -61,7 +61,7 @@ fn name_of(word: &[u8]) -> Option<Name> {
 fn named(word: &[u8]) -> Option<(Name, &[u8])> {
     let end = word.iter().position(|byte| *byte == b'=')?;
     let (name, behind) = word.split_at(end);
-    Some((name_of(name)?, behind.strip_prefix(b"=")?))
+    Some((name_of(&NAMES, name)?, behind.strip_prefix(b"=")?))
 }
 
 /// The line of a call that is typed as its caller and then `to=`, `from=`, `send=`, `receive=`, `label=`,
@@ -141,64 +141,14 @@ impl Asked {
 
     fn read_field(&mut self, name: Name, value: &[u8]) -> Result<bool, AllocError> {
         match name {
-            Name::To => Ok(self.read_to(value)),
-            Name::From => Ok(self.read_from(value)),
-            Name::Send => Ok(self.read_send(value)),
-            Name::Receive => Ok(self.read_receive(value)),
-            Name::Label => Ok(self.read_label(value)),
+            Name::To => Ok(set(&mut self.to, read_thread(value))),
+            Name::From => Ok(set(&mut self.from, read_thread(value))),
+            Name::Send => Ok(set(&mut self.send, read_period(value))),
+            Name::Receive => Ok(set(&mut self.receive, read_period(value))),
+            Name::Label => Ok(set(&mut self.label, read_number(value))),
             Name::As => Ok(self.read_originator(value)),
             Name::Words => self.read_words(value),
             Name::Buffers => self.read_buffers(value),
-        }
-    }
-
-    fn read_to(&mut self, id: &[u8]) -> bool {
-        match read_thread(id) {
-            Some(id) => {
-                self.to = id;
-                true
-            }
-            None => false,
-        }
-    }
-
-    fn read_from(&mut self, id: &[u8]) -> bool {
-        match read_thread(id) {
-            Some(id) => {
-                self.from = id;
-                true
-            }
-            None => false,
-        }
-    }
-
-    fn read_send(&mut self, time: &[u8]) -> bool {
-        match read_period(time) {
-            Some(period) => {
-                self.send = period;
-                true
-            }
-            None => false,
-        }
-    }
-
-    fn read_receive(&mut self, time: &[u8]) -> bool {
-        match read_period(time) {
-            Some(period) => {
-                self.receive = period;
-                true
-            }
-            None => false,
-        }
-    }
-
-    fn read_label(&mut self, number: &[u8]) -> bool {
-        match read_number(number) {
-            Some(label) => {
-                self.label = label;
-                true
-            }
-            None => false,
         }
     }
 
@@ -213,7 +163,7 @@ impl Asked {
         }
         self.word_count = self
             .word_count
-            .saturating_add(list.split(|byte| *byte == b',').count() as u64);
+            .saturating_add(list.split(is_comma).count() as u64);
         put_numbers(&mut self.words, list)
     }
 
@@ -229,7 +179,7 @@ impl Asked {
     // Sizes with commas between them, each a buffer of its own at an address of its own.
     fn read_buffers(&mut self, list: &[u8]) -> Result<bool, AllocError> {
         let mut address = BUFFER_STEP;
-        for size in list.split(|byte| *byte == b',') {
+        for size in list.split(is_comma) {
             let Some(size) = read_number(size) else {
                 return Ok(false);
             };
@@ -302,6 +252,17 @@ impl Asked {
         } else {
             self.receive.to_word()
         }
+    }
+}
+
+// Sets a field to what was read for it. False where that is none.
+fn set<T: Copy>(field: &mut T, read: Option<T>) -> bool {
+    match read {
+        Some(value) => {
+            *field = value;
+            true
+        }
+        None => false,
     }
 }
 

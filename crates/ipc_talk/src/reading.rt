@@ -180,10 +180,7 @@ fn read_at(alloc: Global, words: &[Vec<u8>]) -> Result<Typed, AllocError> {
 
 // A call. One that is typed with the nine fields of a script is judged by these.
 fn read_call(alloc: Global, words: &[Vec<u8>]) -> Result<Typed, AllocError> {
-    let is_named = words
-        .iter()
-        .any(|word| word.starts_with(b"\"") || word.contains(&b'='));
-    if !is_named && words.len() > 2 {
+    if words.len() > 2 && !has_named(words) {
         return judged(alloc, joined(alloc, words)?);
     }
     match call_line(alloc, words)? {
@@ -194,6 +191,16 @@ fn read_call(alloc: Global, words: &[Vec<u8>]) -> Result<Typed, AllocError> {
         ),
         Err(place) => call_mistake(alloc, words, place),
     }
+}
+
+// Whether one of the words is a text, or a field with its name.
+fn has_named(words: &[Vec<u8>]) -> bool {
+    for word in words {
+        if word.starts_with(b"\"") || word.contains(&b'=') {
+            return true;
+        }
+    }
+    false
 }
 
 // The word of a call that is none of its fields.

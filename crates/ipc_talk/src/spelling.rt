@@ -20,7 +20,7 @@ pub fn read_number(word: &[u8]) -> Option<u64> {
 }
 
 /// A unit of time.
-#[derive(Clone, Copy, PartialEq, Eq, Debug)]
+#[derive(Clone, Copy)]
 pub(crate) enum TimeUnit {
     Micro,
     Milli,
@@ -73,7 +73,7 @@ pub fn read_period(word: &[u8]) -> Option<Period> {
 }
 
 /// The phases that an ExchangeRegisters stops.
-#[derive(Clone, Copy, PartialEq, Eq, Debug)]
+#[derive(Clone, Copy)]
 pub(crate) enum Stop {
     Nothing,
     Receive,
@@ -121,10 +121,15 @@ pub fn read_control(word: &[u8]) -> Option<u64> {
     }
 }
 
+/// Whether a byte stands between two values of a list.
+pub(crate) fn is_comma(byte: &u8) -> bool {
+    *byte == b','
+}
+
 /// Appends numbers that are typed with commas between them, in HEX. False where one is none.
 pub(crate) fn put_numbers(text: &mut String, list: &[u8]) -> Result<bool, AllocError> {
     let mut is_first = true;
-    for word in list.split(|byte| *byte == b',') {
+    for word in list.split(is_comma) {
         let Some(number) = read_number(word) else {
             return Ok(false);
         };

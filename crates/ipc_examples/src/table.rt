@@ -37,7 +37,15 @@ impl Name {
 
 // Whether these bytes make a name.
 fn is_name(bytes: &[u8]) -> bool {
-    (1..=MAX_NAME_BYTES).contains(&bytes.len()) && bytes.iter().all(|byte| byte.is_ascii_graphic())
+    if bytes.is_empty() || bytes.len() > MAX_NAME_BYTES {
+        return false;
+    }
+    for byte in bytes {
+        if !byte.is_ascii_graphic() {
+            return false;
+        }
+    }
+    true
 }
 
 /// A name and its thread.
@@ -73,21 +81,27 @@ impl Table {
 
     /// The place of a name.
     pub fn find(&self, name: &[u8]) -> Option<usize> {
-        self.entries
-            .iter()
-            .position(|entry| entry.name.as_slice() == name)
+        for place in 0..self.entries.len() {
+            if self.entries[place].name.as_slice() == name {
+                return Some(place);
+            }
+        }
+        None
     }
 
     /// The place of the first name after this one, which need not be there.
     pub fn after(&self, name: &[u8]) -> Option<usize> {
-        self.entries
-            .iter()
-            .position(|entry| entry.name.as_slice() > name)
+        for place in 0..self.entries.len() {
+            if self.entries[place].name.as_slice() > name {
+                return Some(place);
+            }
+        }
+        None
     }
 
     /// The thread at a place.
     pub fn thread_at(&self, place: usize) -> Option<ThreadId> {
-        self.entries.get(place).map(|entry| entry.thread)
+        Some(self.entries.get(place)?.thread)
     }
 
     /// The bytes of the name at a place.

@@ -108,8 +108,15 @@ fn put_ended<W: fmt::Write>(f: &mut fmt::Formatter<W>, error: ClientError) -> fm
             "l4sh: the server ended the thread: {}{number}",
             char::from(class)
         ),
-        ClientError::Frame(fault) if is_gone(fault) => f.write_str("l4sh: the server is gone"),
-        _ => f.write_str("l4sh: the server sent what is no answer"),
+        other => f.write_str(words_of(other)),
+    }
+}
+
+// What is said of an error that has no number.
+fn words_of(error: ClientError) -> &'static str {
+    match error {
+        ClientError::Frame(fault) if is_gone(fault) => "l4sh: the server is gone",
+        _ => "l4sh: the server sent what is no answer",
     }
 }
 

@@ -1,4 +1,6 @@
 //! The fields of a command: what is sent, how long each phase may take, and where strings go.
+ghost use Rattle.std.specs.Prelude.{◌≤◌, length};
+
 use ipc_client::{BufferFault, Buffers, Message, MessageFault, Timeout};
 use ipc_items::{StringList, Substring};
 use ipc_talk::{read_number, read_period, read_thread};
@@ -9,7 +11,7 @@ use std::alloc::{AllocError, Global};
 const BUFFER_STEP: u64 = 0x10_0000;
 
 /// A command that makes a call.
-#[derive(Clone, Copy, PartialEq, Eq, Debug)]
+#[derive(Clone, Copy)]
 pub(crate) enum Verb {
     Send,
     Receive,
@@ -50,56 +52,47 @@ impl Verb {
         }
     }
 
-    // Whether the command has a use for a field.
-    fn takes(self, field: Field<'_>) -> bool {
-        match field {
-            Field::Timeout(_) => true,
-            Field::Send(_) => self == Verb::Call,
-            Field::Receive(_) | Field::Buffers(_) => self.receives(),
-            Field::Label(_) | Field::Words(_) | Field::As(_) | Field::Text(_) => self.sends(),
+    // Whether the command has a use for a field of this name.
+    fn takes(self, name: Name) -> bool {
+        match name {
+            Name::Timeout => true,
+            Name::Send => matches!(self, Verb::Call),
+            Name::Receive | Name::Buffers => self.receives(),
+            Name::Label | Name::Words | Name::As | Name::Text => self.sends(),
         }
     }
 
     fn sends(self) -> bool {
-        self != Verb::Receive
+        !matches!(self, Verb::Receive)
     }
 
     fn receives(self) -> bool {
-        self != Verb::Send
+        !matches!(self, Verb::Send)
     }
 }
 
-/// A word of a command, by what stands before its `=`.
-#[derive(Clone, Copy)]
-enum Field<'a> {
-    /// How long each phase may take that waits.
-    Timeout(&'a [u8]),
-    /// How long the send phase may take.
-    Send(&'a [u8]),
-    /// How long the receive phase may take.
-    Receive(&'a [u8]),
-    Label(&'a [u8]),
-    /// Untyped words, with commas between them.
-    Words(&'a [u8]),
-    /// In the name of which thread.
-    As(&'a [u8]),
-    /// Sizes of buffers, with commas between them.
-    Buffers(&'a [u8]),
-    /// The bytes of a string.
-    Text(&'a [u8]),
-}
-
-/// What stands before the `=` of a word.
+/// What a word of a command says: what stands before its `=`, or that it is a text.
 #[derive(Clone, Copy)]
 enum Name {
+    /// How long each phase may take that waits.
     Timeout,
+    /// How long the send phase may take.
     Send,
+    /// How long the receive phase may take.
     Receive,
     Label,
+    /// Untyped words, with commas between them.
     Words,
+    /// In the name of which thread.
     As,
+    /// Sizes of buffers, with commas between them.
     Buffers,
+    /// The bytes of a string.
+    Text,
 }
+
+/// A word of a command: its name, and what stands behind it.
+type Field<'a> = (Name, &'a [u8]);
 
 /// The names, as they are typed.
 const NAMES: [(&[u8], Name); 7] = [
@@ -112,10 +105,10 @@ const NAMES: [(&[u8], Name); 7] = [
     (b"buffers", Name::Buffers),
 ];
 
-fn name_of(word: &[u8]) -> Option<Name> {
-    for (text, name) in NAMES {
-        if text == word {
-            return Some(name);
+fn name_of(names: &[(&'static [u8], Name)], word: &[u8]) -> Option<Name> {
+    for (text, name) in names {
+        if *text == word {
+            return Some(*name);
         }
     }
     None
@@ -124,22 +117,25 @@ fn name_of(word: &[u8]) -> Option<Name> {
 // The field of a word. A word without a name is an untyped word of the message.
 fn field_of(word: &[u8]) -> Option<Field<'_>> {
     if let [b'"', text @ ..] = word {
-        return Some(Field::Text(text));
+        return Some((Name::Text, text));
     }
-    let Some(end) = word.iter().position(|byte| *byte == b'=') else {
-        return Some(Field::Words(word));
-    };
+    match word.iter().position(|byte| *byte == b'=') {
+        Some(end) => field_at(word, end),
+        None => Some((Name::Words, word)),
+    }
+}
+
+// The field of a word with its `=` at a place.
+fn field_at(word: &[u8], end: usize) -> Option<Field<'_>>
+    requires { end ≤ length word.now }
+{
     let (name, behind) = word.split_at(end);
-    let value = behind.strip_prefix(b"=")?;
-    Some(match name_of(name)? {
-        Name::Timeout => Field::Timeout(value),
-        Name::Send => Field::Send(value),
-        Name::Receive => Field::Receive(value),
-        Name::Label => Field::Label(value),
-        Name::Words => Field::Words(value),
-        Name::As => Field::As(value),
-        Name::Buffers => Field::Buffers(value),
-    })
+    Some((name_of(&NAMES, name)?, behind.strip_prefix(b"=")?))
+}
+
+// Whether a byte stands between two values of a list.
+fn is_comma(byte: &u8) -> bool {
+    *byte == b','
 }
 
 /// Why a word is no field of its command.
@@ -158,6 +154,21 @@ fn right(is_read: bool) -> Result<(), FieldFault> {
     } else {
         Err(FieldFault::Wrong)
     }
+}
+
+// Sets a field to what was read for it. False where that is none.
+fn set<T: Copy>(field: &mut T, read: Option<T>) -> bool {
+    match read {
+        Some(value) => {
+            *field = value;
+            true
+        }
+        None => false,
+    }
+}
+
+fn read_timeout(time: &[u8]) -> Option<Timeout> {
+    Some(Timeout::of(read_period(time)?))
 }
 
 /// What the words of a command say. What is left out is label 0, no words, no strings, no buffers and no
@@ -212,7 +223,7 @@ impl Fields {
         word: &[u8],
     ) -> Result<Result<(), FieldFault>, AllocError> {
         match field_of(word) {
-            Some(field) if self.verb.takes(field) => self.add_field(alloc, field),
+            Some((name, value)) if self.verb.takes(name) => self.add_field(alloc, name, value),
             _ => Ok(Err(FieldFault::Wrong)),
         }
     }
@@ -221,17 +232,18 @@ impl Fields {
     fn add_field(
         &mut self,
         alloc: Global,
-        field: Field<'_>,
+        name: Name,
+        value: &[u8],
     ) -> Result<Result<(), FieldFault>, AllocError> {
-        match field {
-            Field::Timeout(time) => Ok(right(self.add_timeout(time))),
-            Field::Send(time) => Ok(right(self.add_send(time))),
-            Field::Receive(time) => Ok(right(self.add_receive(time))),
-            Field::Label(number) => Ok(right(self.add_label(number))),
-            Field::Words(list) => Ok(right(self.add_words(list)?)),
-            Field::As(id) => Ok(right(self.add_originator(id))),
-            Field::Buffers(list) => Ok(right(self.add_buffers(list)?)),
-            Field::Text(text) => self.add_text(alloc, text),
+        match name {
+            Name::Timeout => Ok(right(self.add_timeout(value))),
+            Name::Send => Ok(right(set(&mut self.send, read_timeout(value)))),
+            Name::Receive => Ok(right(set(&mut self.receive, read_timeout(value)))),
+            Name::Label => Ok(right(set(&mut self.label, read_number(value)))),
+            Name::Words => Ok(right(self.add_words(value)?)),
+            Name::As => Ok(right(self.add_originator(value))),
+            Name::Buffers => Ok(right(self.add_buffers(value)?)),
+            Name::Text => self.add_text(alloc, value),
         }
     }
 
@@ -248,37 +260,7 @@ impl Fields {
     }
 
     fn add_timeout(&mut self, time: &[u8]) -> bool {
-        self.add_send(time) && self.add_receive(time)
-    }
-
-    fn add_send(&mut self, time: &[u8]) -> bool {
-        match read_period(time) {
-            Some(period) => {
-                self.send = Timeout::of(period);
-                true
-            }
-            None => false,
-        }
-    }
-
-    fn add_receive(&mut self, time: &[u8]) -> bool {
-        match read_period(time) {
-            Some(period) => {
-                self.receive = Timeout::of(period);
-                true
-            }
-            None => false,
-        }
-    }
-
-    fn add_label(&mut self, number: &[u8]) -> bool {
-        match read_number(number) {
-            Some(label) => {
-                self.label = label;
-                true
-            }
-            None => false,
-        }
+        set(&mut self.send, read_timeout(time)) && set(&mut self.receive, read_timeout(time))
     }
 
     fn add_originator(&mut self, id: &[u8]) -> bool {
@@ -287,7 +269,7 @@ impl Fields {
     }
 
     fn add_words(&mut self, list: &[u8]) -> Result<bool, AllocError> {
-        for word in list.split(|byte| *byte == b',') {
+        for word in list.split(is_comma) {
             let Some(word) = read_number(word) else {
                 return Ok(false);
             };
@@ -298,7 +280,7 @@ impl Fields {
 
     // Each size is a buffer of its own, at an address of its own.
     fn add_buffers(&mut self, list: &[u8]) -> Result<bool, AllocError> {
-        for size in list.split(|byte| *byte == b',') {
+        for size in list.split(is_comma) {
             let Some(length) = read_number(size) else {
                 return Ok(false);
             };

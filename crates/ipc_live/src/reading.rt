@@ -4,6 +4,7 @@ ghost use Rattle.ipc_live.specs.Verbs.{verb_request};
 
 use crate::fields::{FieldFault, Fields, Verb};
 use crate::request::Request;
+use crate::said::Said;
 use ipc_client::{BufferFault, Buffers, Message, MessageFault};
 use ipc_talk::{read_control, read_thread, words_of};
 use ipc_words::limits::{MAX_LINE_BYTES, MAX_STRING_BYTES};
@@ -45,8 +46,7 @@ pub(crate) enum Heard {
 /// What a line that was typed, without its newline, stands for.
 pub(crate) fn hear(alloc: Global, line: &[u8]) -> Result<Heard, AllocError> {
     if line.len() > MAX_LINE_BYTES {
-        let text = format!(in alloc; "a line of more than {MAX_LINE_BYTES} bytes")?;
-        return Ok(Heard::Mistake(text));
+        return told(format!(in alloc; "a line of more than {MAX_LINE_BYTES} bytes"));
     }
     match words_of(alloc, line)? {
         Some(words) => hear_words(alloc, &words),
@@ -75,17 +75,24 @@ fn hear_words(alloc: Global, words: &[Vec<u8>]) -> Result<Heard, AllocError> {
     }
 }
 
+// A mistake, and why it is one.
+fn told(reason: Result<String, AllocError>) -> Result<Heard, AllocError> {
+    match reason {
+        Ok(reason) => Ok(Heard::Mistake(reason)),
+        Err(lost) => Err(lost),
+    }
+}
+
 fn mistake(alloc: Global, reason: &str) -> Result<Heard, AllocError> {
-    Ok(Heard::Mistake(String::from_str(alloc, reason)?))
+    told(String::from_str(alloc, reason))
 }
 
 // A mistake with the word that it is.
 fn mistake_at(alloc: Global, reason: &str, word: &[u8]) -> Result<Heard, AllocError> {
-    let mut text = String::from_str(alloc, reason)?;
-    for byte in word {
-        text.push(char::from(*byte))?;
-    }
-    Ok(Heard::Mistake(text))
+    let mut said = Said::new(alloc);
+    said.put(reason);
+    said.bytes(word);
+    told(said.finish())
 }
 
 // A command whose first word is a thread.
@@ -143,10 +150,9 @@ fn take_words(
 }
 
 fn long_strings(alloc: Global) -> Result<Heard, AllocError> {
-    let text = format!(in alloc;
+    told(format!(in alloc;
         "a message has 31 strings at most, of {MAX_STRING_BYTES} bytes together"
-    )?;
-    Ok(Heard::Mistake(text))
+    ))
 }
 
 // The buffers, and then the request.
@@ -165,8 +171,12 @@ fn with_buffers(
 }
 
 fn wrong_field(alloc: Global, verb: Verb, word: &[u8]) -> Result<Heard, AllocError> {
-    let text = format!(in alloc; "wanted is {}; not ", verb.usage())?;
-    mistake_at(alloc, &text, word)
+    let mut said = Said::new(alloc);
+    said.put("wanted is ");
+    said.put(verb.usage());
+    said.put("; not ");
+    said.bytes(word);
+    told(said.finish())
 }
 
 // The message, where one is sent, and then the request.

@@ -45,6 +45,13 @@ impl Said {
         self.keep(done);
     }
 
+    /// Bytes as they were typed.
+    pub(crate) fn bytes(&mut self, bytes: &[u8]) {
+        for byte in bytes {
+            self.letter(char::from(*byte));
+        }
+    }
+
     pub(crate) fn number(&mut self, number: u64) {
         let done = write!(self.text, "{number}");
         self.keep(done);

@@ -69,7 +69,9 @@ fn talk_as<R: PortRead, W: PortWrite, I: PortRead, O: PortWrite>(
     let Ok(welcome) = welcome_text(alloc, thread) else {
         return Ending::NoMemory;
     };
-    if put(writer, welcome.as_bytes()).is_err() {
+    let said = put(writer, welcome.as_bytes());
+    drop(welcome);
+    if said.is_err() {
         return Ending::DeviceFailed;
     }
     if let Some(ending) = obey_lines(alloc, client, reader, writer) {

@@ -204,15 +204,16 @@ fn tell_string(said: &mut Said, string: &[u8]) {
 }
 
 fn is_text(string: &[u8]) -> bool {
-    string
-        .iter()
-        .all(|byte| matches!(*byte, b' '..=b'~') && *byte != b'"')
+    for byte in string {
+        if !matches!(*byte, b' '..=b'~') || *byte == b'"' {
+            return false;
+        }
+    }
+    true
 }
 
 fn put_text(said: &mut Said, string: &[u8]) {
     said.put(", \"");
-    for byte in string {
-        said.letter(char::from(*byte));
-    }
+    said.bytes(string);
     said.put("\"");
 }

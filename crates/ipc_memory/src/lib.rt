@@ -1,9 +1,6 @@
 //! Memory as a bound: contracts can say what a function does where no growth is refused.
 #![tactic(auto)]
 
-#[cfg(test)]
-mod tests;
-
 ghost use Rattle.std.specs.Prelude.{◌≡◌, ◌+◌, ◌<◌, ◌≤◌, vec_len, vec_capacity, [], ◌∷◌, ◌++◌, length, if◌then◌else◌, is_ok};
 ghost use Rattle.std.specs.Prelude.{IfOk, IfErr, IsOk, OnOk, OnErr};
 ghost use Rattle.ipc_memory.specs.Memory.{ample_items};

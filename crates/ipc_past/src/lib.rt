@@ -3,7 +3,5 @@
 
 mod log;
 mod past;
-#[cfg(test)]
-mod tests;
 
 pub use past::Past;

@@ -9,8 +9,6 @@ mod newline;
 mod piece;
 mod port;
 mod reading;
-#[cfg(test)]
-mod tests;
 mod turns;
 mod whole;
 mod writing;

@@ -1,26 +1,16 @@
 ghost use Rattle.std.specs.Prelude.{◌≡◌, ◌<◌};
 
-use super::{
+use crate::comparing::same;
+use ipc_ports::{
     Failures, MemoryPort, PieceBuffer, PortFault, PortRead, PortWrite, ReadPort, Trouble,
     WritePort, write_all,
 };
-use std::alloc::{AllocError, Global};
-use std::fmt::Debug;
+use std::alloc::Global;
 use std::io;
 use std::io::{ErrorKind, Read, Write};
 use std::marker::Brand;
 use std::process::Abort;
 use std::sync::ledger::{Blank, Ledger};
-
-// Fails the test where the two differ. A call of it is proved much faster than the macro in its place.
-fn same<T: PartialEq + Debug + Drop>(rt: &impl Abort, left: T, right: T) {
-    assert_eq!(*rt; left, right);
-}
-
-// Fails the test where this is not so.
-fn holds(rt: &impl Abort, is_so: bool) {
-    assert!(*rt; is_so);
-}
 
 // Each turn takes one byte, after so many that are interrupted; a device without room takes none.
 #[derive(Drop)]
@@ -111,36 +101,48 @@ fn write_and_flush<L: Ledger>(
     (written, port.flush())
 }
 
+// The first read of a device is answered so, and the second.
+fn assert_reads(
+    rt: &impl Abort,
+    interrupted: u32,
+    room: usize,
+    first: Result<usize, PortFault>,
+    second: Result<usize, PortFault>,
+) {
+    let answers = two_reads::<Brand>(Blank::new(1), interrupted, room);
+    same(rt, answers, (first, second));
+}
+
+const INTERRUPTED: PortFault = PortFault::Interrupted;
+
+const FAILED: PortFault = PortFault::DeviceFailed;
+
 #[test]
 fn only_a_thousand_interrupted_turns_in_a_row_are_a_fault(rt: HostRuntime) {
-    let interrupted = Err(PortFault::Interrupted);
-    let failed = Err(PortFault::DeviceFailed);
-    let cases = [
-        (0, 2, Ok(1), Ok(1)),
-        (999, 1, Ok(1), failed),
-        (1000, 2, interrupted, Ok(1)),
-        (0, 0, failed, failed),
-    ];
-    for (turns, room, first, second) in cases {
-        let answers = two_reads::<Brand>(Blank::new(1), turns, room);
-        same(&rt, answers, (first, second));
-    }
+    assert_reads(&rt, 0, 2, Ok(1), Ok(1));
+    assert_reads(&rt, 999, 1, Ok(1), Err(FAILED));
+    assert_reads(&rt, 1000, 2, Err(INTERRUPTED), Ok(1));
+    assert_reads(&rt, 0, 0, Err(FAILED), Err(FAILED));
+}
+
+// A write of three bytes to a device is answered so, and a flush after it.
+fn assert_writes(
+    rt: &impl Abort,
+    interrupted: u32,
+    room: usize,
+    written: Result<(), PortFault>,
+    flushed: Result<(), PortFault>,
+) {
+    let answers = write_and_flush::<Brand>(Blank::new(1), interrupted, room);
+    same(rt, answers, (written, flushed));
 }
 
 #[test]
 fn a_write_of_no_bytes_is_a_fault(rt: HostRuntime) {
-    let interrupted = Err(PortFault::Interrupted);
-    let failed = Err(PortFault::DeviceFailed);
-    let cases = [
-        (0, 3, Ok(()), Ok(())),
-        (999, 3, Ok(()), Ok(())),
-        (1000, 3, interrupted, Ok(())),
-        (0, 2, failed, Ok(())),
-    ];
-    for (turns, room, written, flushed) in cases {
-        let answers = write_and_flush::<Brand>(Blank::new(1), turns, room);
-        same(&rt, answers, (written, flushed));
-    }
+    assert_writes(&rt, 0, 3, Ok(()), Ok(()));
+    assert_writes(&rt, 999, 3, Ok(()), Ok(()));
+    assert_writes(&rt, 1000, 3, Err(INTERRUPTED), Ok(()));
+    assert_writes(&rt, 0, 2, Err(FAILED), Ok(()));
 }
 
 // Copies the bytes of a port, two at most at a time, and answers how that ended.
@@ -171,51 +173,53 @@ fn assert_copied(
     same(rt, port.output(), Some(text.as_bytes()));
 }
 
+// A call of a memory port, what it meets, how the copying ends, and what was written then.
+const TROUBLES: [(u64, Trouble, Result<(), PortFault>, &str); 6] = [
+    (0, Trouble::Fails, Err(FAILED), ""),
+    (1, Trouble::Interrupted(1000), Err(INTERRUPTED), ""),
+    (2, Trouble::Fails, Err(FAILED), "a"),
+    (2, Trouble::Interrupted(999), Ok(()), "abc"),
+    (7, Trouble::Fails, Err(FAILED), "abc"),
+    (8, Trouble::Fails, Ok(()), "abc"),
+];
+
 #[test]
 fn one_call_of_a_memory_port_meets_trouble(rt: HostRuntime) {
-    let cases = [
-        (0, Trouble::Fails, Err(PortFault::DeviceFailed), ""),
-        (
-            1,
-            Trouble::Interrupted(1000),
-            Err(PortFault::Interrupted),
-            "",
-        ),
-        (2, Trouble::Fails, Err(PortFault::DeviceFailed), "a"),
-        (2, Trouble::Interrupted(999), Ok(()), "abc"),
-        (7, Trouble::Fails, Err(PortFault::DeviceFailed), "abc"),
-        (8, Trouble::Fails, Ok(()), "abc"),
-    ];
-    for (call, trouble, end, text) in cases {
+    for (call, trouble, end, text) in TROUBLES {
         assert_copied(&rt, rt.alloc(), call, trouble, end, text);
     }
 }
 
-#[test]
-fn a_piece_holds_what_is_left_of_a_read(rt: HostRuntime) -> Result<(), PortFault> {
-    let mut port: &[u8] = b"abcde";
-    let mut piece = PieceBuffer::new();
-    piece.fill(&mut port)?;
-    let count = piece.bytes().len().min(3);
+fn fill(rt: &impl Abort, piece: &mut PieceBuffer, port: &mut &[u8]) {
+    piece.fill(port).expect(rt, "a read");
+}
+
+// Uses so many bytes at most.
+fn consume(piece: &mut PieceBuffer, most: usize) {
+    let count = piece.bytes().len().min(most);
     piece.consume(count);
-    piece.fill(&mut port)?;
-    same(&rt, piece.bytes(), b"de".as_slice());
-    let count = piece.bytes().len();
-    piece.consume(count);
-    piece.fill(&mut port)?;
-    holds(&rt, piece.bytes().is_empty());
-    Ok(())
+}
+
+fn assert_left(rt: &impl Abort, piece: &PieceBuffer, bytes: &[u8]) {
+    same(rt, piece.bytes(), bytes);
 }
 
 #[test]
-fn a_fault_has_a_number_and_a_text(rt: HostRuntime) -> Result<(), AllocError> {
-    let fault = PortFault::Interrupted;
-    same(
-        &rt,
-        (fault.number(), PortFault::DeviceFailed.number()),
-        (11, 10),
-    );
-    let text = format!(in rt.alloc(); "{fault}")?;
+fn a_piece_holds_what_is_left_of_a_read(rt: HostRuntime) {
+    let mut port: &[u8] = b"abcde";
+    let mut piece = PieceBuffer::new();
+    fill(&rt, &mut piece, &mut port);
+    consume(&mut piece, 3);
+    fill(&rt, &mut piece, &mut port);
+    assert_left(&rt, &piece, b"de");
+    consume(&mut piece, 2);
+    fill(&rt, &mut piece, &mut port);
+    assert_left(&rt, &piece, b"");
+}
+
+#[test]
+fn a_fault_has_a_number_and_a_text(rt: HostRuntime) {
+    same(&rt, (INTERRUPTED.number(), FAILED.number()), (11, 10));
+    let text = format!(in rt.alloc(); "{}", INTERRUPTED).expect(&rt, "memory");
     same(&rt, text.as_str(), "1,000 interrupted turns in a row");
-    Ok(())
 }

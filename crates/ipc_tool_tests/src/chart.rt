@@ -2,9 +2,8 @@ use crate::comparing::{holds, holds_at, same, same_at};
 use crate::traces::{chosen_scene, everything, scene_for};
 use ipc_chart::{Fold, Mark, Row, Scene, Selection, Turn, Wait, read_threads};
 use ipc_words::ThreadId;
-use std::alloc::{AllocError, Global};
+use std::alloc::Global;
 use std::process::Abort;
-use std::test::Fail;
 
 // A string that is copied in part, a receive that turns to another thread, a timeout, and a partner that is not there.
 const STRINGS: &str = "opened 2.1 1
@@ -75,10 +74,10 @@ const TURNS: [(usize, usize, Wait); 4] = [
 ];
 
 #[test]
-fn each_kind_of_entry_has_its_mark(rt: HostRuntime) -> Result<(), Fail> {
-    let scene = scene_for(rt.alloc(), STRINGS, true)?;
+fn each_kind_of_entry_has_its_mark(rt: HostRuntime) {
+    let scene = scene_for(&rt, rt.alloc(), STRINGS, true);
     have_marks(&rt, &scene.rows);
-    Ok(())
+    drop(scene);
 }
 
 fn have_marks(rt: &impl Abort, rows: &[Row]) {
@@ -95,22 +94,36 @@ fn has_mark(rt: &impl Abort, row: &Row, (place, mark, from, to): (usize, Mark, u
 }
 
 #[test]
-fn phases_wait_and_originators_are_shown(rt: HostRuntime) -> Result<(), Fail> {
-    let scene = scene_for(rt.alloc(), SHOWN, true)?;
+fn phases_wait_and_originators_are_shown(rt: HostRuntime) {
+    let scene = scene_for(&rt, rt.alloc(), SHOWN, true);
     have_waited(&rt, &scene.rows);
     have_turned(&rt, &scene.turns);
-    Ok(())
+    drop(scene);
 }
 
 fn have_waited(rt: &impl Abort, rows: &[Row]) {
-    for (place, is_shown, sent, received) in WAITED {
-        for row in rows.iter().filter(|row| row.place == place) {
-            same_at(rt, &place, row.shown, originator(is_shown));
-            same_at(rt, &place, row.sent, sent);
-            same_at(rt, &place, row.received, received);
-        }
+    for waited in &WAITED {
+        has_waited(rt, rows, *waited);
     }
     same(rt, rows.len(), 10);
+}
+
+fn has_waited(rt: &impl Abort, rows: &[Row], waited: (usize, bool, u64, u64)) {
+    for row in rows {
+        if row.place == waited.0 {
+            assert_waited(rt, row, waited);
+        }
+    }
+}
+
+fn assert_waited(
+    rt: &impl Abort,
+    row: &Row,
+    (place, is_shown, sent, received): (usize, bool, u64, u64),
+) {
+    same_at(rt, &place, row.shown, originator(is_shown));
+    same_at(rt, &place, row.sent, sent);
+    same_at(rt, &place, row.received, received);
 }
 
 // The originator of a propagated call.
@@ -123,95 +136,99 @@ fn originator(is_propagated: bool) -> Option<ThreadId> {
 }
 
 fn have_turned(rt: &impl Abort, turns: &[Turn]) {
-    for (turn, (row, column, wait)) in turns.iter().zip(TURNS) {
-        same(rt, turn.row, row);
-        same(rt, turn.column, column);
-        same(rt, turn.wait, wait);
+    for (turn, wanted) in turns.iter().zip(&TURNS) {
+        same(rt, (turn.row, turn.column, turn.wait), *wanted);
         holds(rt, !turn.is_above);
     }
 }
 
 #[test]
-fn only_what_was_chosen_is_shown(rt: HostRuntime) -> Result<(), Fail> {
-    let alloc = rt.alloc();
-    let threads = read_threads(alloc, "3.1")?;
+fn only_what_was_chosen_is_shown(rt: HostRuntime) {
+    let threads = threads_of(&rt, rt.alloc(), "3.1");
     holds(&rt, threads.is_some());
     let chosen = Selection {
         first: 5,
         last: 10,
         threads,
     };
-    let scene = chosen_scene(alloc, SHOWN, &chosen, false);
+    let scene = chosen_scene(&rt, rt.alloc(), SHOWN, &chosen, false);
     drop(chosen);
-    shows_what_was_chosen(&rt, &scene?);
-    Ok(())
+    shows_what_was_chosen(&rt, &scene);
+    drop(scene);
+}
+
+// The threads of a list.
+fn threads_of(rt: &impl Abort, alloc: Global, list: &str) -> Option<Vec<ThreadId>> {
+    read_threads(alloc, list).expect(rt, "memory")
 }
 
 fn shows_what_was_chosen(rt: &impl Abort, scene: &Scene) {
     same(rt, scene.rows.len(), 2);
-    for (row, place) in scene.rows.iter().zip([7, 9]) {
-        same(rt, row.place, place);
+    for (row, place) in scene.rows.iter().zip(&[7, 9]) {
+        same(rt, row.place, *place);
     }
     // what 3.1 waits for since an entry that is not shown
-    let first = scene.turns.first().copied();
-    same(
-        rt,
-        first.map(|turn| (turn.row, turn.wait)),
-        Some((0, Wait::Sends)),
-    );
-    holds(rt, first.is_some_and(|turn| turn.is_above));
+    let first = scene.turns.first().expect(rt, "a turn");
+    same(rt, (first.row, first.wait), (0, Wait::Sends));
+    holds(rt, first.is_above);
 }
 
 #[test]
-fn exchanges_that_come_again_are_folded(rt: HostRuntime) -> Result<(), Fail> {
-    let alloc = rt.alloc();
-    let text = exchanges(alloc)?;
-    let folded = scene_for(alloc, text.as_str(), true);
-    let unfolded = scene_for(alloc, text.as_str(), false);
+fn exchanges_that_come_again_are_folded(rt: HostRuntime) {
+    let text = exchanges(&rt, rt.alloc());
+    let folded = scene_for(&rt, rt.alloc(), text.as_str(), true);
+    are_folded(&rt, &folded.folds);
+    drop(folded);
+    let unfolded = scene_for(&rt, rt.alloc(), text.as_str(), false);
+    same(&rt, unfolded.folds.len(), 33);
+    drop(unfolded);
     drop(text);
-    are_folded(&rt, &folded?.folds);
-    same(&rt, unfolded?.folds.len(), 33);
-    Ok(())
+}
+
+fn put(rt: &impl Abort, text: &mut String, words: &str) {
+    text.push_str(words).expect(rt, "memory");
 }
 
 // Ten exchanges of the same message between two threads, of which one then ends.
-fn exchanges(alloc: Global) -> Result<String, AllocError> {
-    let mut text = String::from_str(alloc, "opened 1.1 1\nopened 2.1 1\n")?;
+fn exchanges(rt: &impl Abort, alloc: Global) -> String {
+    let mut text = String::new(alloc);
+    put(rt, &mut text, "opened 1.1 1\nopened 2.1 1\n");
     for number in 0u64..10 {
-        put_exchange(&mut text, number * 2 + 1, number * 2 + 2)?;
+        put_exchange(rt, &mut text, number * 2 + 1, number * 2 + 2);
     }
-    text.push_str("broke 1.1")?;
-    Ok(text)
+    put(rt, &mut text, "broke 1.1");
+    text
 }
 
-fn put_exchange(text: &mut String, receive: u64, send: u64) -> Result<(), AllocError> {
-    write!(text, "called {receive} 1.1 nil any 0x0 0x0 nil - - -\n")?;
-    write!(text, "called {send} 2.1 1.1 nil 0x0 0x1 nil 0x7 - -\n")?;
-    write!(text, "ended {send} {receive}\n")
+fn put_exchange(rt: &impl Abort, text: &mut String, receive: u64, send: u64) {
+    let written = write!(
+        text,
+        "called {receive} 1.1 nil any 0x0 0x0 nil - - -\ncalled {send} 2.1 1.1 nil 0x0 0x1 nil 0x7 - -\nended {send} {receive}\n"
+    );
+    written.expect(rt, "memory");
 }
 
 fn are_folded(rt: &impl Abort, folds: &[Fold]) {
     let expected = [(0, 1, 1), (1, 1, 1), (2, 3, 10), (32, 1, 1)];
     same(rt, folds.len(), expected.len());
-    for (fold, (first, period, count)) in folds.iter().zip(expected) {
-        let wanted = Fold {
-            first,
-            period,
-            count,
-        };
-        same(rt, *fold, wanted);
+    for (fold, wanted) in folds.iter().zip(&expected) {
+        same(rt, (fold.first, fold.period, fold.count), *wanted);
     }
 }
 
 #[test]
-fn a_list_of_threads_is_ids_with_commas_between_them(rt: HostRuntime) -> Result<(), Fail> {
-    let alloc = rt.alloc();
-    let threads = read_threads(alloc, "1.1,20.3")?.unwrap_or(Vec::new(alloc));
+fn a_list_of_threads_is_ids_with_commas_between_them(rt: HostRuntime) {
+    let threads = threads_of(&rt, rt.alloc(), "1.1,20.3").expect(&rt, "threads");
     are_these(&rt, &threads);
+    drop(threads);
     for list in ["", "1.1,", "1.1 2.1", "one"] {
-        holds_at(&rt, &list, read_threads(alloc, list)?.is_none());
+        assert_no_threads(&rt, rt.alloc(), list);
     }
-    Ok(())
+}
+
+// A word is no list of threads.
+fn assert_no_threads(rt: &impl Abort, alloc: Global, list: &str) {
+    holds_at(rt, &list, threads_of(rt, alloc, list).is_none());
 }
 
 fn are_these(rt: &impl Abort, threads: &[ThreadId]) {

@@ -5,7 +5,6 @@ use ipc_draw::{draw_html, draw_svg, draw_text};
 use ipc_history::Entry;
 use std::alloc::{AllocError, Global};
 use std::process::Abort;
-use std::test::Fail;
 
 // A message with a word, a receive that is cancelled, and three sends that fail in the same way.
 const MEETING: &str = "opened 1.1 1
@@ -81,23 +80,24 @@ enum Drawn {
 }
 
 // The meeting, drawn so.
-fn meeting(alloc: Global, is_folded: bool, drawn: Drawn) -> Result<String, AllocError> {
-    let entries = entries_of(alloc, MEETING)?;
-    let text = draw_entries(alloc, &entries, is_folded, drawn);
+fn meeting(rt: &impl Abort, alloc: Global, is_folded: bool, drawn: Drawn) -> String {
+    let entries = entries_of(rt, alloc, MEETING);
+    let text = draw_entries(rt, alloc, &entries, is_folded, drawn);
     drop(entries);
     text
 }
 
 fn draw_entries(
+    rt: &impl Abort,
     alloc: Global,
     entries: &[Entry],
     is_folded: bool,
     drawn: Drawn,
-) -> Result<String, AllocError> {
-    let scene = scene_of(alloc, entries, &everything(), is_folded)?;
+) -> String {
+    let scene = scene_of(alloc, entries, &everything(), is_folded).expect(rt, "memory");
     let text = draw(alloc, &scene, entries, drawn);
     drop(scene);
-    text
+    text.expect(rt, "memory")
 }
 
 fn draw(
@@ -120,10 +120,10 @@ fn has_parts(rt: &impl Abort, text: &str, parts: &[&str]) {
 }
 
 #[test]
-fn a_meeting_is_drawn_as_text(rt: HostRuntime) -> Result<(), Fail> {
-    let text = meeting(rt.alloc(), true, Drawn::Text(0))?;
+fn a_meeting_is_drawn_as_text(rt: HostRuntime) {
+    let text = meeting(&rt, rt.alloc(), true, Drawn::Text(0));
     has_lines(&rt, text.as_str(), &TEXT);
-    Ok(())
+    drop(text);
 }
 
 fn has_lines(rt: &impl Abort, text: &str, lines: &[&str]) {
@@ -134,11 +134,11 @@ fn has_lines(rt: &impl Abort, text: &str, lines: &[&str]) {
 }
 
 #[test]
-fn no_line_of_text_is_wider_than_was_asked_for(rt: HostRuntime) -> Result<(), Fail> {
-    let text = meeting(rt.alloc(), true, Drawn::Text(60))?;
+fn no_line_of_text_is_wider_than_was_asked_for(rt: HostRuntime) {
+    let text = meeting(&rt, rt.alloc(), true, Drawn::Text(60));
     has_width(&rt, text.as_str(), 60);
     has_parts(&rt, text.as_str(), &["2.1 call 2: send to 1.1, lab…\n"]);
-    Ok(())
+    drop(text);
 }
 
 fn has_width(rt: &impl Abort, text: &str, width: usize) {
@@ -148,20 +148,21 @@ fn has_width(rt: &impl Abort, text: &str, width: usize) {
 }
 
 #[test]
-fn a_picture_has_lines_bars_arrows_and_words(rt: HostRuntime) -> Result<(), Fail> {
-    let picture = meeting(rt.alloc(), true, Drawn::Picture)?;
+fn a_picture_has_lines_bars_arrows_and_words(rt: HostRuntime) {
+    let picture = meeting(&rt, rt.alloc(), true, Drawn::Picture);
     has_parts(&rt, picture.as_str(), &PARTS);
-    Ok(())
+    drop(picture);
 }
 
 #[test]
-fn a_page_has_a_picture_for_so_many_rows(rt: HostRuntime) -> Result<(), Fail> {
-    let alloc = rt.alloc();
-    same(&rt, scene_for(alloc, MEETING, false)?.rows.len(), 15);
-    let page = meeting(alloc, false, Drawn::Page(6))?;
+fn a_page_has_a_picture_for_so_many_rows(rt: HostRuntime) {
+    let scene = scene_for(&rt, rt.alloc(), MEETING, false);
+    same(&rt, scene.rows.len(), 15);
+    drop(scene);
+    let page = meeting(&rt, rt.alloc(), false, Drawn::Page(6));
     has_parts(&rt, page.as_str(), &PARTS_OF_PAGE);
     has_three_pictures(&rt, page.as_str());
-    Ok(())
+    drop(page);
 }
 
 fn has_three_pictures(rt: &impl Abort, page: &str) {

@@ -3,9 +3,8 @@ use ipc_client::{Client, ClientError};
 use ipc_frame::FrameFault;
 use ipc_live::{Ending, talk_to};
 use ipc_ports::{MemoryPort, Trouble};
-use std::alloc::{AllocError, Global};
+use std::alloc::Global;
 use std::process::Abort;
-use std::test::Fail;
 
 // The frames of these names as docs/FORMATS.md has them.
 const HELLO: &str = "00000003 01 0002";
@@ -151,14 +150,13 @@ const CASES: [Case; 6] = [
 ];
 
 // Appends the bytes of hexadecimal digits with spaces between them.
-fn put_bytes(bytes: &mut Vec<u8>, digits: &str) -> Result<(), AllocError> {
+fn put_bytes(rt: &impl Abort, bytes: &mut Vec<u8>, digits: &str) {
     let mut high: Option<u8> = None;
     for digit in digits.as_bytes() {
         if let Some(value) = value_of(*digit) {
-            high = put_digit(bytes, high, value)?;
+            high = put_digit(rt, bytes, high, value);
         }
     }
-    Ok(())
 }
 
 // The value of a digit; None of a space.
@@ -171,22 +169,23 @@ fn value_of(digit: u8) -> Option<u8> {
 }
 
 // Appends the byte of a high digit and this one; the digit is the high one of the next byte where there is none.
-fn put_digit(bytes: &mut Vec<u8>, high: Option<u8>, value: u8) -> Result<Option<u8>, AllocError> {
+fn put_digit(rt: &impl Abort, bytes: &mut Vec<u8>, high: Option<u8>, value: u8) -> Option<u8> {
     match high {
         Some(high) => {
-            bytes.push(high.wrapping_mul(16).wrapping_add(value))?;
-            Ok(None)
+            let byte = high.wrapping_mul(16).wrapping_add(value);
+            bytes.push(byte).expect(rt, "memory");
+            None
         }
-        None => Ok(Some(value)),
+        None => Some(value),
     }
 }
 
-fn bytes_of(alloc: Global, frames: &[&str]) -> Result<Vec<u8>, AllocError> {
+fn bytes_of(rt: &impl Abort, alloc: Global, frames: &[&str]) -> Vec<u8> {
     let mut bytes = Vec::new(alloc);
     for frame in frames {
-        put_bytes(&mut bytes, frame)?;
+        put_bytes(rt, &mut bytes, frame);
     }
-    Ok(bytes)
+    bytes
 }
 
 // Talks as thread 2 with a server on the other side of these two ports.
@@ -210,7 +209,10 @@ fn talk_with(
 ) -> Ending {
     let mut from_server = MemoryPort::new(alloc, answers);
     let mut to_server = MemoryPort::new(alloc, &[]);
-    talk_over(alloc, &mut from_server, &mut to_server, reader, writer)
+    let ending = talk_over(alloc, &mut from_server, &mut to_server, reader, writer);
+    drop(to_server);
+    drop(from_server);
+    ending
 }
 
 // A talk of all rows: what is typed and said, and what goes to the server and comes from it.
@@ -233,21 +235,27 @@ impl Talk {
     }
 
     // HELLO, the rows, and BYE.
-    fn fill(&mut self) -> Result<(), AllocError> {
-        self.said.push_str(GREETING)?;
-        self.exchange(HELLO, WELCOME)?;
-        for (line, asked, answered, words) in ROWS {
-            write!(self.typed, "{line}\n")?;
-            self.said.push_str(words)?;
-            self.exchange(asked, answered)?;
+    fn fill(&mut self, rt: &impl Abort) {
+        put_text(rt, &mut self.said, GREETING);
+        self.exchange(rt, HELLO, WELCOME);
+        for row in &ROWS {
+            self.ask(rt, *row);
         }
-        self.typed.push_str("quit\nsend 1\n")?;
-        self.exchange(BYE, "")
+        put_text(rt, &mut self.typed, "quit\nsend 1\n");
+        self.exchange(rt, BYE, "");
     }
 
-    fn exchange(&mut self, asked: &str, answered: &str) -> Result<(), AllocError> {
-        put_bytes(&mut self.sent, asked)?;
-        put_bytes(&mut self.answers, answered)
+    // A row is typed, asked, answered and said.
+    fn ask(&mut self, rt: &impl Abort, (line, asked, answered, words): (&str, &str, &str, &str)) {
+        put_text(rt, &mut self.typed, line);
+        put_text(rt, &mut self.typed, "\n");
+        put_text(rt, &mut self.said, words);
+        self.exchange(rt, asked, answered);
+    }
+
+    fn exchange(&mut self, rt: &impl Abort, asked: &str, answered: &str) {
+        put_bytes(rt, &mut self.sent, asked);
+        put_bytes(rt, &mut self.answers, answered);
     }
 
     // Fails the test where it goes otherwise.
@@ -263,67 +271,91 @@ impl Talk {
             &mut reader,
             &mut writer,
         );
+        drop(from_server);
+        drop(reader);
         same(rt, ending, Ending::Done);
         same(rt, writer.output(), Some(self.said.as_bytes()));
+        drop(writer);
         same(rt, to_server.output(), Some(self.sent.as_slice()));
+        drop(to_server);
     }
 }
 
-#[test]
-fn each_request_is_one_frame_and_a_mistake_is_none(rt: HostRuntime) -> Result<(), Fail> {
-    let alloc = rt.alloc();
-    let mut talk = Talk::new(alloc);
-    talk.fill()?;
-    talk.goes_so(&rt, alloc);
-    Ok(())
+fn put_text(rt: &impl Abort, text: &mut String, words: &str) {
+    text.push_str(words).expect(rt, "memory");
 }
 
 #[test]
-fn a_talk_ends_as_the_server_says(rt: HostRuntime) -> Result<(), Fail> {
+fn each_request_is_one_frame_and_a_mistake_is_none(rt: HostRuntime) {
+    let mut talk = Talk::new(rt.alloc());
+    talk.fill(&rt);
+    talk.goes_so(&rt, rt.alloc());
+    drop(talk);
+}
+
+#[test]
+fn a_talk_ends_as_the_server_says(rt: HostRuntime) {
     for case in &CASES {
-        ends_so(&rt, rt.alloc(), case)?;
+        ends_so(&rt, rt.alloc(), case);
     }
-    Ok(())
 }
 
-fn ends_so(rt: &impl Abort, alloc: Global, case: &Case) -> Result<(), AllocError> {
-    let ending = ending_of(alloc, case.frames)?;
+fn ends_so(rt: &impl Abort, alloc: Global, case: &Case) {
+    let ending = ending_of(rt, alloc, case.frames);
     same(rt, ending, case.ending);
     same(rt, ending.status(), case.status);
-    let (text, reason) = (ending.to_string(alloc)?, ending.reason(alloc)?);
-    same(rt, text.as_str(), case.text);
-    same_text(rt, case.text, &reason, case.reason);
-    Ok(())
+    assert_text(rt, alloc, ending, case.text);
+    assert_reason(rt, alloc, ending, case.reason);
+}
+
+fn assert_text(rt: &impl Abort, alloc: Global, ending: Ending, wanted: &str) {
+    let text = ending.to_string(alloc).expect(rt, "memory");
+    same(rt, text.as_str(), wanted);
+    drop(text);
+}
+
+fn assert_reason(rt: &impl Abort, alloc: Global, ending: Ending, wanted: Option<&str>) {
+    let reason = ending.reason(alloc).expect(rt, "memory");
+    same_text(rt, "the reason", &reason, wanted);
+    drop(reason);
 }
 
 // How a talk with two lines typed ends, where the server sends these frames.
-fn ending_of(alloc: Global, frames: &[&str]) -> Result<Ending, AllocError> {
-    let answers = bytes_of(alloc, frames)?;
+fn ending_of(rt: &impl Abort, alloc: Global, frames: &[&str]) -> Ending {
+    let answers = bytes_of(rt, alloc, frames);
     let mut reader = MemoryPort::new(alloc, b"receive\nsend 1");
     let mut writer = MemoryPort::new(alloc, &[]);
-    Ok(talk_with(alloc, &answers, &mut reader, &mut writer))
+    let ending = talk_with(alloc, &answers, &mut reader, &mut writer);
+    drop(writer);
+    drop(reader);
+    drop(answers);
+    ending
 }
 
 #[test]
-fn a_device_that_fails_ends_it(rt: HostRuntime) -> Result<(), Fail> {
-    let alloc = rt.alloc();
-    let answers = bytes_of(alloc, &[WELCOME, SENT])?;
-    let failed_reader = with_failing_reader(alloc, &answers);
-    let failed_writer = with_failing_writer(alloc, &answers);
+fn a_device_that_fails_ends_it(rt: HostRuntime) {
+    let answers = bytes_of(&rt, rt.alloc(), &[WELCOME, SENT]);
+    let failed_reader = with_failing_reader(rt.alloc(), &answers);
+    let failed_writer = with_failing_writer(rt.alloc(), &answers);
     drop(answers);
     same(&rt, failed_reader, Ending::DeviceFailed);
     same(&rt, failed_writer, Ending::DeviceFailed);
-    Ok(())
 }
 
 fn with_failing_reader(alloc: Global, answers: &[u8]) -> Ending {
     let mut reader = MemoryPort::new(alloc, b"send 1\n").with_trouble(1, Trouble::Fails);
     let mut writer = MemoryPort::new(alloc, &[]);
-    talk_with(alloc, answers, &mut reader, &mut writer)
+    let ending = talk_with(alloc, answers, &mut reader, &mut writer);
+    drop(writer);
+    drop(reader);
+    ending
 }
 
 fn with_failing_writer(alloc: Global, answers: &[u8]) -> Ending {
     let mut reader = MemoryPort::new(alloc, b"send 1\n");
     let mut writer = MemoryPort::new(alloc, &[]).with_trouble(2, Trouble::Fails);
-    talk_with(alloc, answers, &mut reader, &mut writer)
+    let ending = talk_with(alloc, answers, &mut reader, &mut writer);
+    drop(writer);
+    drop(reader);
+    ending
 }

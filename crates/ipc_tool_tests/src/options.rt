@@ -7,14 +7,8 @@ use std::alloc::Global;
 use std::fmt::Debug;
 use std::process::Abort;
 
-/// What a program is asked for: its command, and what the options have of each kind, in the order of their fields.
-#[derive(Clone, Copy, PartialEq, Debug)]
-struct Asked<'a> {
-    command: &'a str,
-    texts: [Option<&'a str>; 3],
-    numbers: [u32; 5],
-    flags: [bool; 5],
-}
+/// What a program is asked for: its command, and what the options have of each kind, texts, numbers and flags, in the order of their fields.
+type Asked<'a> = (&'a str, [Option<&'a str>; 3], [u32; 5], [bool; 5]);
 
 /// Words, and what they ask `l4sh` for or the kind of their fault.
 type Row<'a> = (&'a [&'a str], Result<ShellOptions<'a>, ErrorKind>);
@@ -412,12 +406,12 @@ const PROGRAM: [Row<'static>; 7] = [
 const SERVER: [(&[&str], Result<Asked<'static>, ErrorKind>); 19] = [
     (
         &["l4d", "--dir", "here", "--spaces", "64"],
-        Ok(Asked {
-            command: "l4d",
-            texts: [Some("here"), None, None],
-            numbers: [64, 65_535, OWNER_ONLY, 65_535, 10],
-            flags: [false, false, false, false, false],
-        }),
+        Ok((
+            "l4d",
+            [Some("here"), None, None],
+            [64, 65_535, OWNER_ONLY, 65_535, 10],
+            [false, false, false, false, false],
+        )),
     ),
     (
         &[
@@ -436,21 +430,21 @@ const SERVER: [(&[&str], Result<Asked<'static>, ErrorKind>); 19] = [
             "--log",
             "--trace-required",
         ],
-        Ok(Asked {
-            command: "l4d",
-            texts: [Some("."), Some("meetings"), None],
-            numbers: [1, 2, 0o660, 300, 65_535],
-            flags: [false, true, true, true, true],
-        }),
+        Ok((
+            "l4d",
+            [Some("."), Some("meetings"), None],
+            [1, 2, 0o660, 300, 65_535],
+            [false, true, true, true, true],
+        )),
     ),
     (
         &["l4d", "--dir=.", "--spaces=1", "--keep-open"],
-        Ok(Asked {
-            command: "l4d",
-            texts: [Some("."), None, None],
-            numbers: [1, 65_535, OWNER_ONLY, 65_535, 10],
-            flags: [true, false, false, false, false],
-        }),
+        Ok((
+            "l4d",
+            [Some("."), None, None],
+            [1, 65_535, OWNER_ONLY, 65_535, 10],
+            [true, false, false, false, false],
+        )),
     ),
     (
         &["l4d", "--dir", ".", "--spaces", "1", "--trace"],
@@ -534,10 +528,14 @@ fn same<T: PartialEq + Debug + Drop>(rt: &impl Abort, words: &[&str], left: T, r
 fn strings_of(rt: &impl Abort, alloc: Global, words: &[&str]) -> Vec<String> {
     let mut strings = Vec::new(alloc);
     for word in words {
-        let string = String::from_str(alloc, word).expect(rt, "memory");
-        strings.push(string).expect(rt, "memory");
+        push_word(rt, alloc, &mut strings, word);
     }
     strings
+}
+
+fn push_word(rt: &impl Abort, alloc: Global, strings: &mut Vec<String>, word: &str) {
+    let string = String::from_str(alloc, word).expect(rt, "memory");
+    strings.push(string).expect(rt, "memory");
 }
 
 // What words ask `l4sh` for, or the kind of their fault.
@@ -556,101 +554,101 @@ fn server_asked<'a>(alloc: Global, words: &'a [String]) -> Result<Asked<'a>, Err
     }
 }
 
+// A command of these texts.
+fn of_texts<'a>(command: &'a str, first: Option<&'a str>, second: Option<&'a str>) -> Asked<'a> {
+    (command, [first, second, None], [0; 5], [false; 5])
+}
+
 // A command without an option.
 fn bare(command: &str) -> Asked<'_> {
-    Asked {
-        command,
-        texts: [None; 3],
-        numbers: [0; 5],
-        flags: [false; 5],
-    }
+    of_texts(command, None, None)
 }
 
 // A command of one text.
 fn of_text<'a>(command: &'a str, text: &'a str) -> Asked<'a> {
-    Asked {
-        texts: [Some(text), None, None],
-        ..bare(command)
-    }
+    of_texts(command, Some(text), None)
+}
+
+// A command of at most one text and two numbers, and of at most one flag.
+fn of_numbers<'a>(
+    command: &'a str,
+    text: Option<&'a str>,
+    first: u32,
+    second: u32,
+    flag: bool,
+) -> Asked<'a> {
+    let numbers = [first, second, 0, 0, 0];
+    let flags = [flag, false, false, false, false];
+    (command, [text, None, None], numbers, flags)
 }
 
 fn asked_of_shell(options: ShellOptions<'_>) -> Asked<'_> {
     match options {
-        ShellOptions::Run(limits) => Asked {
-            numbers: [limits.entries, limits.calls, 0, 0, 0],
-            ..bare("run")
-        },
+        ShellOptions::Run(limits) => {
+            of_numbers("run", None, limits.entries, limits.calls, false)
+        }
         ShellOptions::Wire => bare("wire"),
         ShellOptions::Check { file } => of_text("check", file),
         ShellOptions::Chart(chart) => asked_of_chart(chart),
-        ShellOptions::State(state) => Asked {
-            numbers: [state.at, 0, 0, 0, 0],
-            ..of_text("state", state.file)
-        },
+        ShellOptions::State(state) => { of_numbers("state", Some(state.file), state.at, 0, false) }
         ShellOptions::Script { file } => of_text("script", file),
         ShellOptions::Explain { word } => of_text("explain", word),
         ShellOptions::Tag { word } => of_text("tag", word),
         ShellOptions::Period { word } => of_text("period", word),
-        ShellOptions::Count { file, is_json } => Asked {
-            flags: [is_json, false, false, false, false],
-            ..of_text("count", file)
-        },
+        ShellOptions::Count { file, is_json } => { of_numbers("count", Some(file), 0, 0, is_json) }
         ShellOptions::Follow(follow) => asked_of_follow(follow),
         ShellOptions::Talk => bare("talk"),
-        ShellOptions::TalkTo(talk) => Asked {
-            numbers: [u32::from(talk.thread), talk.space, 0, 0, 0],
-            ..of_text("talk to", talk.dir)
-        },
-        ShellOptions::Migrate { old, new } => Asked {
-            texts: [Some(old), Some(new), None],
-            ..bare("migrate")
-        },
+        ShellOptions::TalkTo(talk) => {
+            let thread = u32::from(talk.thread);
+            of_numbers("talk to", Some(talk.dir), thread, talk.space, false)
+        }
+        ShellOptions::Migrate { old, new } => of_texts("migrate", Some(old), Some(new)),
     }
 }
 
 fn asked_of_chart(chart: ChartOptions<'_>) -> Asked<'_> {
-    Asked {
-        command: "chart",
-        texts: [Some(chart.file), chart.threads, None],
-        numbers: [chart.from, chart.to, chart.page, chart.width, 0],
-        flags: [
+    (
+        "chart",
+        [Some(chart.file), chart.threads, None],
+        [chart.from, chart.to, chart.page, chart.width, 0],
+        [
             chart.is_text,
             chart.is_html,
             chart.is_unfolded,
             false,
             false,
         ],
-    }
+    )
 }
 
 fn asked_of_follow(follow: FollowOptions<'_>) -> Asked<'_> {
-    Asked {
-        command: "follow",
-        texts: [Some(follow.file), follow.threads, follow.label],
-        numbers: [0; 5],
-        flags: [follow.failures, false, false, false, false],
-    }
+    (
+        "follow",
+        [Some(follow.file), follow.threads, follow.label],
+        [0; 5],
+        [follow.failures, false, false, false, false],
+    )
 }
 
 fn asked_of_server<'a>(options: &ServerOptions<'a>) -> Asked<'a> {
-    Asked {
-        command: "l4d",
-        texts: [Some(options.dir), options.trace, None],
-        numbers: [
+    (
+        "l4d",
+        [Some(options.dir), options.trace, None],
+        [
             u32::from(options.spaces),
             u32::from(options.connections),
             options.mode,
             u32::from(options.live),
             u32::from(options.hello_within),
         ],
-        flags: [
+        [
             options.keep_open,
             options.replace,
             options.probe,
             options.trace_required,
             options.log,
         ],
-    }
+    )
 }
 
 // These words ask `l4sh` for this, or have this fault.
@@ -743,4 +741,5 @@ fn assert_told(rt: &impl Abort, alloc: Global, words: &[&str], wanted: &str) {
 fn the_version_is_that_of_the_program(rt: HostRuntime) {
     let version = format!(in rt.alloc(); "l4sh {VERSION}\n").expect(&rt, "memory");
     assert_told(&rt, rt.alloc(), &["l4sh", "--version"], version.as_str());
+    drop(version);
 }

@@ -1,8 +1,7 @@
 use crate::comparing::{same_at, same_text};
 use ipc_talk::{Typed, read_typed, words_beside};
-use std::alloc::{AllocError, Global};
+use std::alloc::Global;
 use std::process::Abort;
-use std::test::Fail;
 
 // The lines of scripts.
 const SCRIPT: [&str; 7] = [
@@ -88,25 +87,22 @@ enum Kind {
 }
 
 // What is typed stands for that, with this text.
-fn stands_for(
-    rt: &impl Abort,
-    alloc: Global,
-    typed: &str,
-    kind: Kind,
-    text: &str,
-) -> Result<(), AllocError> {
-    let (found, told) = parts_of(alloc, read_typed(alloc, typed.as_bytes())?);
+fn stands_for(rt: &impl Abort, alloc: Global, typed: &str, kind: Kind, text: &str) {
+    let (found, told) = parts_of(alloc, typed_as(rt, alloc, typed));
     same_at(rt, &typed, found, kind);
     same_at(rt, &typed, told.as_str(), text);
-    Ok(())
+    drop(told);
+}
+
+fn typed_as(rt: &impl Abort, alloc: Global, typed: &str) -> Typed {
+    read_typed(alloc, typed.as_bytes()).expect(rt, "memory")
 }
 
 // What is typed stands for that, whatever its text.
-fn is_of(rt: &impl Abort, alloc: Global, typed: &str, kind: Kind) -> Result<(), AllocError> {
-    let (found, told) = parts_of(alloc, read_typed(alloc, typed.as_bytes())?);
+fn is_of(rt: &impl Abort, alloc: Global, typed: &str, kind: Kind) {
+    let (found, told) = parts_of(alloc, typed_as(rt, alloc, typed));
     drop(told);
     same_at(rt, &typed, found, kind);
-    Ok(())
 }
 
 // A typed line by its kind and its text, which is empty where it has none.
@@ -121,34 +117,31 @@ fn parts_of(alloc: Global, read: Typed) -> (Kind, String) {
 }
 
 #[test]
-fn the_lines_of_scripts_stand_for_themselves(rt: HostRuntime) -> Result<(), Fail> {
+fn the_lines_of_scripts_stand_for_themselves(rt: HostRuntime) {
     for line in SCRIPT {
-        stands_for(&rt, rt.alloc(), line, Kind::Line, line)?;
+        stands_for(&rt, rt.alloc(), line, Kind::Line, line);
     }
-    Ok(())
 }
 
 #[test]
-fn what_people_type_stands_for_an_exact_line(rt: HostRuntime) -> Result<(), Fail> {
+fn what_people_type_stands_for_an_exact_line(rt: HostRuntime) {
     for (typed, line) in LINES {
-        stands_for(&rt, rt.alloc(), typed, Kind::Line, line)?;
+        stands_for(&rt, rt.alloc(), typed, Kind::Line, line);
     }
-    Ok(())
 }
 
 #[test]
-fn a_mistake_is_told_with_what_is_wanted(rt: HostRuntime) -> Result<(), Fail> {
+fn a_mistake_is_told_with_what_is_wanted(rt: HostRuntime) {
     for (typed, reason) in MISTAKES {
-        stands_for(&rt, rt.alloc(), typed, Kind::Mistake, reason)?;
+        stands_for(&rt, rt.alloc(), typed, Kind::Mistake, reason);
     }
     for typed in ["walk", "call 1 to=here", "call", "call 1.1 nil any"] {
-        is_of(&rt, rt.alloc(), typed, Kind::Mistake)?;
+        is_of(&rt, rt.alloc(), typed, Kind::Mistake);
     }
-    Ok(())
 }
 
 #[test]
-fn help_is_asked_for_and_comments_are_nothing(rt: HostRuntime) -> Result<(), Fail> {
+fn help_is_asked_for_and_comments_are_nothing(rt: HostRuntime) {
     for (typed, kind) in [
         ("", Kind::Nothing),
         ("   ", Kind::Nothing),
@@ -159,26 +152,19 @@ fn help_is_asked_for_and_comments_are_nothing(rt: HostRuntime) -> Result<(), Fai
         (" help # me", Kind::Help),
         ("quit", Kind::Quit),
     ] {
-        is_of(&rt, rt.alloc(), typed, kind)?;
+        is_of(&rt, rt.alloc(), typed, kind);
     }
-    Ok(())
 }
 
 #[test]
-fn an_answer_has_words_beside_it(rt: HostRuntime) -> Result<(), Fail> {
+fn an_answer_has_words_beside_it(rt: HostRuntime) {
     for (answer, words) in ANSWERS {
-        has_words(&rt, rt.alloc(), answer, words)?;
+        has_words(&rt, rt.alloc(), answer, words);
     }
-    Ok(())
 }
 
-fn has_words(
-    rt: &impl Abort,
-    alloc: Global,
-    answer: &str,
-    words: Option<&str>,
-) -> Result<(), AllocError> {
-    let found = words_beside(alloc, answer.as_bytes())?;
+fn has_words(rt: &impl Abort, alloc: Global, answer: &str, words: Option<&str>) {
+    let found = words_beside(alloc, answer.as_bytes()).expect(rt, "memory");
     same_text(rt, answer, &found, words);
-    Ok(())
+    drop(found);
 }

@@ -14,6 +14,3 @@ pub use json::json_of;
 pub use row::{Row, Waits, row_of};
 pub use telling::tell_counts;
 pub use walk::{CountFault, events_of};
-
-#[cfg(test)]
-mod tests;

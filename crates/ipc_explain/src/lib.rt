@@ -10,6 +10,3 @@ pub use meanings::meaning_of;
 pub use periods::{answer_period, period_of, tell_period};
 pub use tags::{TagRequest, answer_tag, read_tag_request, tell_tag};
 pub use words::explain;
-
-#[cfg(test)]
-mod tests;

@@ -8,6 +8,3 @@ mod telling;
 
 pub use follower::Follower;
 pub use selection::{Selection, read_label, read_threads};
-
-#[cfg(test)]
-mod tests;

@@ -11,8 +11,6 @@ mod obstacle;
 mod signals;
 mod socket;
 mod status;
-#[cfg(test)]
-mod tests;
 
 pub use clock::ServerClock;
 pub use counts::Counts;

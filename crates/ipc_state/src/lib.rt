@@ -13,6 +13,3 @@ pub use doing::{Doing, doing_of};
 pub use state::{State, state_of};
 pub use telling::tell_state;
 pub use waits::{course_of, waits_of};
-
-#[cfg(test)]
-mod tests;

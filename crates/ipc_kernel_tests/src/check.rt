@@ -13,13 +13,15 @@ fn is_judged(rt: &impl Abort, entries: &[Entry], verdict: Verdict) {
     assert_eq!(*rt; check(entries), verdict);
 }
 
-fn is_legal(rt: &impl Abort, entries: &[Entry]) {
-    is_judged(rt, entries, Verdict::Yes);
+fn is_legal(rt: &impl Abort, entries: Vec<Entry>) {
+    is_judged(rt, &entries, Verdict::Yes);
+    drop(entries);
 }
 
 // The entry of this place does not follow, and this output is to stand there.
-fn is_refused(rt: &impl Abort, entries: &[Entry], index: usize, expected: Option<Output>) {
-    is_judged(rt, entries, Verdict::No { index, expected });
+fn is_refused(rt: &impl Abort, entries: Vec<Entry>, index: usize, expected: Option<Output>) {
+    is_judged(rt, &entries, Verdict::No { index, expected });
+    drop(entries);
 }
 
 // The thread of a number and version 1.
@@ -93,10 +95,15 @@ fn propagation(rt: &impl Abort, alloc: Global, left_out: usize) -> Vec<Entry> {
     let mut entries = Vec::new(alloc);
     push_asking(rt, alloc, &mut entries);
     push_answering(rt, alloc, &mut entries);
-    if left_out < entries.len() {
-        let _ = entries.remove(left_out);
-    }
+    leave_out(&mut entries, left_out);
     entries
+}
+
+// Takes the entry of a place away, where there is one.
+fn leave_out(entries: &mut Vec<Entry>, place: usize) {
+    if place < entries.len() {
+        drop(entries.remove(place));
+    }
 }
 
 // Two servers wait, and the client asks the first one.
@@ -159,18 +166,18 @@ fn string_to(rt: &impl Abort, alloc: Global, room: u64) -> Vec<Entry> {
 
 #[test]
 fn nothing_is_legal(rt: HostRuntime) {
-    is_legal(&rt, &[]);
+    is_judged(&rt, &[], Verdict::Yes);
 }
 
 #[test]
 fn a_propagated_answer_is_legal(rt: HostRuntime) {
-    is_legal(&rt, &propagation(&rt, rt.alloc(), 15));
+    is_legal(&rt, propagation(&rt, rt.alloc(), 15));
 }
 
 // Where the output of this place is missing, it is named.
 fn is_named(rt: &impl Abort, alloc: Global, index: usize, output: Output) {
     let entries = propagation(rt, alloc, index);
-    is_refused(rt, &entries, index, Some(output));
+    is_refused(rt, entries, index, Some(output));
 }
 
 #[test]
@@ -189,7 +196,7 @@ fn a_version_is_not_opened_twice(rt: HostRuntime) {
     push_opened(&rt, &mut entries, 1);
     push(&rt, &mut entries, Entry::Given(Input::Broke(first(1))));
     push_opened(&rt, &mut entries, 1);
-    is_refused(&rt, &entries, 2, None);
+    is_refused(&rt, entries, 2, None);
 }
 
 #[test]
@@ -197,20 +204,20 @@ fn a_string_that_fits_is_copied(rt: HostRuntime) {
     let mut entries = string_to(&rt, rt.alloc(), 3);
     push(&rt, &mut entries, Entry::Given(Input::Moved(2, 3)));
     push_written(&rt, &mut entries, Output::Ended(2, 1));
-    is_legal(&rt, &entries);
+    is_legal(&rt, entries);
 }
 
 #[test]
 fn a_copy_of_other_bytes_is_not_legal(rt: HostRuntime) {
     let mut entries = string_to(&rt, rt.alloc(), 3);
     push(&rt, &mut entries, Entry::Given(Input::Moved(2, 2)));
-    is_refused(&rt, &entries, 5, None);
+    is_refused(&rt, entries, 5, None);
 }
 
 #[test]
 fn a_string_past_its_buffer_overflows(rt: HostRuntime) {
     let entries = string_to(&rt, rt.alloc(), 2);
-    is_refused(&rt, &entries, 4, Some(Output::Overflowed(2, 1, 0)));
+    is_refused(&rt, entries, 4, Some(Output::Overflowed(2, 1, 0)));
 }
 
 #[test]
@@ -219,7 +226,7 @@ fn the_survivor_of_a_transfer_fails(rt: HostRuntime) {
     push(&rt, &mut entries, Entry::Given(Input::Broke(first(2))));
     let failed = Output::Failed(2, IpcError::from_word(0xe));
     push_written(&rt, &mut entries, failed);
-    is_legal(&rt, &entries);
+    is_legal(&rt, entries);
 }
 
 #[test]
@@ -231,5 +238,5 @@ fn a_wait_of_no_time_fails_at_once(rt: HostRuntime) {
     push_called(&rt, rt.alloc(), &mut entries, 1, 1, polls);
     push_opened(&rt, &mut entries, 2);
     let failed = Output::Failed(1, IpcError::from_word(0x3));
-    is_refused(&rt, &entries, 2, Some(failed));
+    is_refused(&rt, entries, 2, Some(failed));
 }

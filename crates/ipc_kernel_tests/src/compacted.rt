@@ -77,6 +77,20 @@ fn is_judged(rt: &impl Abort, alloc: Global, kernel: &Kernel, entries: &[Entry],
     );
 }
 
+// The same of entries that are used no more.
+fn are_judged(
+    rt: &impl Abort,
+    alloc: Global,
+    kernel: &Kernel,
+    entries: Vec<Entry>,
+    verdict: Verdict,
+)
+    requires { held_of (history_of kernel.now) ≡ kept_of kernel.now.history kernel.now.taken }
+{
+    is_judged(rt, alloc, kernel, &entries, verdict);
+    drop(entries);
+}
+
 fn room(rt: &impl Abort, alloc: Global) -> BaseRoom {
     BaseRoom::new(alloc).ok().expect(rt, "memory for a base")
 }
@@ -173,6 +187,15 @@ fn after_two_messages(rt: &impl Abort, alloc: Global) -> Kernel {
     kernel
 }
 
+// The same, compacted up to its end.
+fn compacted(rt: &impl Abort, alloc: Global) -> Kernel
+    ensures { held_of (history_of result) ≡ kept_of result.history result.taken }
+{
+    let mut kernel = after_two_messages(rt, alloc);
+    compact_whole(&mut kernel);
+    kernel
+}
+
 fn push(rt: &impl Abort, entries: &mut Vec<Entry>, entry: Entry) {
     entries.push(entry).expect(rt, "memory");
 }
@@ -210,37 +233,46 @@ fn sends_and(rt: &impl Abort, alloc: Global, outputs: &[Output]) -> Vec<Entry> {
 
 #[test]
 fn entries_behind_a_compaction_are_checked(rt: HostRuntime) {
-    let alloc = rt.alloc();
-    let mut kernel = after_two_messages(&rt, alloc);
-    same(&rt, held(&kernel), 14);
-    compact_whole(&mut kernel);
+    assert_held(&rt, after_two_messages(&rt, rt.alloc()), 14);
+    let kernel = compacted(&rt, rt.alloc());
+    judge_openings(&rt, rt.alloc(), &kernel);
     // the first message was let go, and the thread that ended
-    same(&rt, held(&kernel), 8);
-    is_judged(&rt, alloc, &kernel, &[], Verdict::Yes);
+    assert_held(&rt, kernel, 8);
+}
+
+// So many entries of it are held.
+fn assert_held(rt: &impl Abort, kernel: Kernel, count: usize) {
+    same(rt, held(&kernel), count);
+    drop(kernel);
+}
+
+fn judge_openings(rt: &impl Abort, alloc: Global, kernel: &Kernel)
+    requires { held_of (history_of kernel.now) ≡ kept_of kernel.now.history kernel.now.taken }
+{
+    is_judged(rt, alloc, kernel, &[], Verdict::Yes);
     // the number of the thread that ended has its next version
-    is_judged(
-        &rt,
-        alloc,
-        &kernel,
-        &opens_third(&rt, alloc, 2),
-        Verdict::Yes,
-    );
+    are_judged(rt, alloc, kernel, opens_third(rt, alloc, 2), Verdict::Yes);
     let expected = None;
     let again = Verdict::No { index: 0, expected };
-    is_judged(&rt, alloc, &kernel, &opens_third(&rt, alloc, 1), again);
+    are_judged(rt, alloc, kernel, opens_third(rt, alloc, 1), again);
 }
 
 #[test]
 fn a_call_behind_a_compaction_meets_the_open_one(rt: HostRuntime) {
-    let alloc = rt.alloc();
-    let mut kernel = after_two_messages(&rt, alloc);
-    compact_whole(&mut kernel);
+    let kernel = compacted(&rt, rt.alloc());
+    judge_calls(&rt, rt.alloc(), &kernel);
+    drop(kernel);
+}
+
+fn judge_calls(rt: &impl Abort, alloc: Global, kernel: &Kernel)
+    requires { held_of (history_of kernel.now) ≡ kept_of kernel.now.history kernel.now.taken }
+{
     let expected = Some(Output::Began(6, 5));
     let missing = Verdict::No { index: 1, expected };
-    let cut = sends_and(&rt, alloc, &[Output::Ended(6, 5)]);
-    is_judged(&rt, alloc, &kernel, &cut, missing);
-    let whole = sends_and(&rt, alloc, &[Output::Began(6, 5), Output::Ended(6, 5)]);
-    is_judged(&rt, alloc, &kernel, &whole, Verdict::Yes);
+    let cut = sends_and(rt, alloc, &[Output::Ended(6, 5)]);
+    are_judged(rt, alloc, kernel, cut, missing);
+    let whole = sends_and(rt, alloc, &[Output::Began(6, 5), Output::Ended(6, 5)]);
+    are_judged(rt, alloc, kernel, whole, Verdict::Yes);
 }
 
 // What a kernel that had the same commands goes on to write is judged as legal behind this one.
@@ -255,16 +287,21 @@ fn goes_on(rt: &impl Abort, alloc: Global, kernel: &Kernel, other: &Kernel)
 
 #[test]
 fn what_a_kernel_goes_on_to_write_is_checked(rt: HostRuntime) {
-    let alloc = rt.alloc();
-    let mut kernel = after_two_messages(&rt, alloc);
-    compact_whole(&mut kernel);
-    // the same commands, and more
-    let mut other = after_two_messages(&rt, alloc);
-    take(&rt, &mut other, 2);
-    enter(&mut other, 2, send(&rt, alloc));
-    open(&mut other, 3, 2);
-    at(&mut other, 9);
-    goes_on(&rt, alloc, &kernel, &other);
+    let kernel = compacted(&rt, rt.alloc());
+    let other = after_more(&rt, rt.alloc());
+    goes_on(&rt, rt.alloc(), &kernel, &other);
+    drop(other);
+    drop(kernel);
+}
+
+// A kernel that had the same commands, and more.
+fn after_more(rt: &impl Abort, alloc: Global) -> Kernel {
+    let mut kernel = after_two_messages(rt, alloc);
+    take(rt, &mut kernel, 2);
+    enter(&mut kernel, 2, send(rt, alloc));
+    open(&mut kernel, 3, 2);
+    at(&mut kernel, 9);
+    kernel
 }
 
 // The room of the base of a kernel, which is room for another one.
@@ -277,9 +314,8 @@ fn room_again(rt: &impl Abort, alloc: Global, kernel: &Kernel) -> BaseRoom
 
 #[test]
 fn the_room_of_a_base_is_room_for_another_one(rt: HostRuntime) {
-    let alloc = rt.alloc();
-    let mut kernel = after_two_messages(&rt, alloc);
-    compact_whole(&mut kernel);
-    let room = room_again(&rt, alloc, &kernel);
+    let kernel = compacted(&rt, rt.alloc());
+    let room = room_again(&rt, rt.alloc(), &kernel);
     same_verdict(&rt, verdict_behind(&kernel, room, &[]), Verdict::Yes);
+    drop(kernel);
 }

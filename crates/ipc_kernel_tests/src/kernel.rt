@@ -109,6 +109,7 @@ pub(crate) fn enter(kernel: &mut Kernel, thread: ThreadId, call: Call) -> Option
         Ok(_) => None,
         Err(refused) => {
             let refusal = refused.refusal;
+            drop(refused);
             Some(refusal)
         }
     }
@@ -144,6 +145,11 @@ fn held(kernel: &Kernel) -> usize {
 
 fn open_calls(kernel: &Kernel) -> usize {
     kernel.open_calls()
+}
+
+// How many threads have a call that became over.
+fn finished(kernel: &Kernel) -> usize {
+    kernel.finished().len()
 }
 
 fn now(kernel: &Kernel) -> u64 {
@@ -269,6 +275,7 @@ fn assert_take(
     same(rt, outcome.moment, moment);
     same(rt, outcome.error, IpcError::from_word(error));
     same(rt, outcome.words.first().copied(), word);
+    drop(outcome);
 }
 
 fn assert_compact(rt: &impl Abort, done: Compacted, dropped: usize, left: usize) {
@@ -330,6 +337,7 @@ fn play(rt: &impl Abort, alloc: Global, entries: u64, calls: u64, steps: &[Step]
     for step in steps {
         take_step(rt, alloc, &mut kernel, *step);
     }
+    drop(kernel);
 }
 
 // The same with the greatest limits.
@@ -527,7 +535,10 @@ fn run(rt: &impl Abort, alloc: Global, commands: Vec<Command>) -> (usize, usize)
         calls: MAX_CALLS,
     };
     let (kernel, answers) = Kernel::run(alloc, limits, commands).expect(rt, "a run");
-    (answers.len(), total(&kernel))
+    let counts = (answers.len(), total(&kernel));
+    drop(answers);
+    drop(kernel);
+    counts
 }
 
 // A kernel with all threads, of which all but the first send it their number.
@@ -559,6 +570,7 @@ fn waiting_senders_are_received_in_turn(rt: HostRuntime) {
         receive_from(&rt, rt.alloc(), &mut kernel, number);
     }
     same(&rt, total(&kernel), 5111);
+    drop(kernel);
 }
 
 // The first thread receives from this one, whose turn it is.
@@ -567,6 +579,7 @@ fn receive_from(rt: &impl Abort, alloc: Global, kernel: &mut Kernel, number: u32
     let outcome = take(kernel, first(1)).expect(rt, "an outcome");
     same(rt, outcome.call, 1021 + u64::from(number));
     same(rt, outcome.sender, first(number));
+    drop(outcome);
 }
 
 #[test]
@@ -579,8 +592,10 @@ fn deadlines_come_together(rt: HostRuntime) {
     same(&rt, total(&kernel), 3068);
     let outputs = outputs(&rt, rt.alloc(), &kernel);
     all_failed(&rt, &outputs);
-    same(&rt, kernel.finished().len(), 1022);
+    drop(outputs);
+    same(&rt, finished(&kernel), 1022);
     same(&rt, open_calls(&kernel), 0);
+    drop(kernel);
 }
 
 // The calls of all threads but one failed by their send timeouts.
@@ -632,12 +647,15 @@ fn a_kernel_that_is_compacted_is_never_full(rt: HostRuntime) {
     // two opens, and two calls, began and ended of each message
     same(&rt, total(&kernel), 402);
     same(&rt, held(&kernel), 2);
+    drop(kernel);
 }
 
 fn message_and_compact(rt: &impl Abort, alloc: Global, kernel: &mut Kernel, word: u64) {
     let (received, sent) = message(rt, alloc, kernel, word);
     same(rt, received.words.first(), Some(&word));
+    drop(received);
     same(rt, sent.call, word.saturating_mul(2).saturating_add(2));
+    drop(sent);
     let done = compact(kernel, usize::MAX);
     // the opens of the two threads
     same(rt, done.left, 2);
@@ -750,6 +768,7 @@ fn a_command_that_finds_no_room_is_obeyed_once_more(rt: HostRuntime) {
     let mut kernel = kernel(&rt, rt.alloc(), 16, MAX_CALLS);
     find_no_room(&rt, &mut kernel);
     same(&rt, total(&kernel), 114);
+    drop(kernel);
 }
 
 fn find_no_room(rt: &impl Abort, kernel: &mut Kernel) {
@@ -770,6 +789,7 @@ fn where_no_entry_may_go_a_command_stays_refused(rt: HostRuntime) {
     let mut kernel = kernel(&rt, rt.alloc(), 10, MAX_CALLS);
     find_none_to_let_go(&rt, rt.alloc(), &mut kernel);
     same(&rt, total(&kernel), 2);
+    drop(kernel);
 }
 
 fn find_none_to_let_go(rt: &impl Abort, alloc: Global, kernel: &mut Kernel) {

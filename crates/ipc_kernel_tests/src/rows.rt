@@ -109,7 +109,7 @@ fn with_buffer(rt: &impl Abort, alloc: Global) -> CallFields {
 
 fn enter_call(rt: &impl Abort, kernel: &mut Kernel, caller: u32, fields: CallFields) {
     // the outcome of its last call makes no thread busy
-    let _ = take(kernel, thread(caller));
+    drop(take(kernel, thread(caller)));
     same(rt, enter(kernel, thread(caller), call_of(rt, fields)), None);
 }
 
@@ -156,12 +156,20 @@ fn run(rt: &impl Abort, alloc: Global, steps: &[Step]) -> Vec<Output> {
     for step in steps {
         take_step(rt, alloc, &mut kernel, *step);
     }
-    outputs(rt, alloc, &kernel)
+    let outputs = outputs(rt, alloc, &kernel);
+    drop(kernel);
+    outputs
 }
 
 fn assert_row(rt: &impl Abort, alloc: Global, row: Row<'_>) {
     let outputs = run(rt, alloc, row.steps);
-    assert_eq!(*rt; outputs.as_slice(), row.outputs, "{}", row.name);
+    same_at(rt, row.name, outputs.as_slice(), row.outputs);
+    drop(outputs);
+}
+
+// Fails the test where the outputs differ, and says of which row.
+fn same_at(rt: &impl Abort, name: &str, left: &[Output], right: &[Output]) {
+    assert_eq!(*rt; left, right, "{name}");
 }
 
 pub(crate) fn failed(number: u64, code: u64) -> Output {

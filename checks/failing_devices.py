@@ -17,16 +17,24 @@ With --every N only each N-th script of `run` and `wire` is taken.
 
 For the trace of `l4d` the same is so of its writes and of its open: `l4d: trace TR1` is told once, the server serves on and ends
 with status 1, and what stands in the file is a front of a legal history. Where l4d cannot write to standard output it ends with
-`l4d: device failed`, or `l4d: probe failed` where the line of the probe is lost. Anything else is told, and the status is then 1.
+`l4d: device failed`, or `l4d: probe failed` where the line of the probe is lost.
+
+A talk with a server ends as `l4sh: device failed` where its standard input or output fails. And what a server tells its clients goes out whole and once,
+also where its sockets take one byte at a time, and none for a while. Where one fails, exactly the bytes before it have come, and the connection ends.
+Anything else is told, and the status is then 1.
 It needs a C compiler (cc). The last line is `N runs, M failed`.
 """
 
 import errno
 import glob
 import os
+import struct
 import subprocess
 import sys
 import tempfile
+
+from frames import ANY, BYE, exreg, frame, hello, ipc
+from serving import Client, Server
 
 ROOT = os.path.dirname(os.path.dirname(os.path.abspath(__file__)))
 FAILED = b"l4sh: device failed\n"
@@ -45,10 +53,13 @@ class Shim:
         self.room, self.path = room, f"{room}/failing_calls.so"
         subprocess.run(["cc", "-shared", "-fPIC", "-O1", "-o", self.path, f"{ROOT}/checks/failing_calls.c", "-ldl"], check=True)
 
+    def env(self, **wishes):
+        """The environment of a run with calls that fail as `wishes` says."""
+        return {**os.environ, "LD_PRELOAD": self.path, **{name.upper(): str(value) for name, value in wishes.items()}}
+
     def run(self, words, given=b"", **wishes):
-        """Status, standard output and standard error of a run with calls that fail as `wishes` says."""
-        env = {**os.environ, "LD_PRELOAD": self.path, **{name.upper(): str(value) for name, value in wishes.items()}}
-        ran = subprocess.run(words, input=given, capture_output=True, env=env, check=False, timeout=SECONDS)
+        """Status, standard output and standard error of such a run."""
+        ran = subprocess.run(words, input=given, capture_output=True, env=self.env(**wishes), check=False, timeout=SECONDS)
         return ran.returncode, ran.stdout, ran.stderr
 
     def count(self, words, given, **wishes):
@@ -162,6 +173,91 @@ def trace_wrongs(shim, l4sh, l4d):
         yield f"line {place} of standard output fails", wrong or (None if is_so else f"{status}, {out}, {told}")
 
 
+def talk_wrongs(shim, l4sh, l4d):
+    """What was tried of talks with a server, each of a thread of its own, and what is wrong with them."""
+    with Server(l4d) as server:
+        numbers = iter(range(1, 1000))
+
+        def talk(number, **wishes):
+            return shim.run([l4sh, "talk", server.folder, "--thread", str(number)], b"send 1023 7\nexreg 1023 both\n", **wishes)
+
+        usual = talk(next(numbers))
+        yield "nothing fails", None if usual[0] == 0 and usual[1].count(b"\n") == 3 else f"{usual}"
+        for kind, on in (("read", 0), ("write", 1)):
+            wishes = {"fail_kind": kind, "fail_on": on, "one_byte": int(kind == "read")}
+            talk(next(numbers), count_to=f"{shim.room}/count", **wishes)
+            with open(f"{shim.room}/count", encoding="ascii") as file:
+                count = int(file.read())
+            for place in range(1, count + 1):
+                number = next(numbers)
+                expected = (usual[0], usual[1].replace(b"= 1.1 ", f"= {number}.1 ".encode()), usual[2])
+                yield f"{kind} {place} of {count} fails", is_as_failed(talk(number, fail_at=place, **wishes), expected, "talk")
+
+
+NEVER_LIVE = 77 << 32 | 1
+# What a server tells 1.1 and 2.1, of which 1.1 gets a string of 20,000 bytes.
+SIZE = 20_000
+LONG = bytes(n % 251 for n in range(SIZE))
+WELCOMES = [frame(0x81, struct.pack(">II", number, 1)) for number in (1, 2)]
+GOT = frame(0x82, struct.pack(">6QBQI", 0x80, 2 << 32 | 1, 0, 0, SIZE << 10, 0x1000, 1, 0x1000, SIZE) + LONG)
+SENT = frame(0x82, struct.pack(">4QB", 0, 0, 0, 0, 0))
+STOPPED = frame(0x83, struct.pack(">3Q", 0, 0, 2))
+
+
+def told_to_clients(server):
+    """All bytes that a server tells two clients that meet, and then ask for a thread that is not there."""
+    one, two = Client(server.path), Client(server.path)
+    came = {one: b"", two: b""}
+
+    def hears(client, count):
+        while count and (piece := client.line.recv(count)):
+            came[client] += piece
+            count -= len(piece)
+
+    for client, sent, wanted in ((one, hello(1), WELCOMES[0]), (two, hello(2), WELCOMES[1]), (one, ipc(0, ANY, buffers=(SIZE << 10, 0x1000)), b""),
+                                 (two, ipc(1 << 32 | 1, 0, (SIZE << 10, 0), tag=0x80, payload=LONG), SENT), (one, b"", GOT), (one, exreg(NEVER_LIVE, 6), STOPPED),
+                                 (two, exreg(NEVER_LIVE, 6), STOPPED), (one, BYE, b""), (two, BYE, b"")):
+        try:
+            client.line.sendall(sent)
+        except OSError:
+            pass  # its connection has ended
+        hears(client, len(wanted))
+    for client in came:
+        came[client] += client.to_the_end()
+        client.line.close()
+    return came[one], came[two]
+
+
+def socket_wrongs(shim, l4d):
+    """What was tried of the sockets of a server, and what is wrong with what its clients were told."""
+
+    def serve(**wishes):
+        with Server(l4d, env=shim.env(fail_kind="write", fail_on="socket", **wishes)) as server:
+            return told_to_clients(server)
+
+    whole = WELCOMES[0] + GOT + STOPPED, WELCOMES[1] + SENT + STOPPED
+    yield "nothing fails", None if serve() == whole else "other bytes came"
+    yield "each write of a socket moves one byte", None if serve(one_byte=1) == whole else "other bytes came"
+    for place in (1, 2, 13, 14, 100, 1500):
+        for times in (1, 7):
+            wishes = {"one_byte": 1, "fail_at": place, "fail_errno": errno.EAGAIN, "fail_times": times}
+            yield f"from byte {place} on there is {times} times no room", None if serve(**wishes) == whole else "other bytes came"
+    told = WELCOMES[0] + STOPPED
+    for place in (1, 2, 12, 13, 14, 15, len(told)):
+        with Server(l4d, env=shim.env(fail_kind="write", fail_on="socket", one_byte=1, fail_at=place)) as server:
+            client = Client(server.path)
+            client.line.sendall(hello(1))
+            came = b""
+            while len(came) < len(WELCOMES[0]) and (piece := client.line.recv(1)):
+                came += piece
+            if came == WELCOMES[0]:
+                client.line.sendall(exreg(NEVER_LIVE, 6))
+            came += client.to_the_end()
+            beside = Client(server.path, 2).exreg(NEVER_LIVE, 6)
+            is_so = came == told[: place - 1] and beside == (None, 0, 0, 2)
+            yield f"byte {place} of a socket fails", None if is_so else f"{came.hex()}, and beside it {beside}"
+
+
 def migration_wrongs(shim, l4sh, trace, new):
     """What was tried of the migration of a torn trace, and what is wrong with it or with the new trace."""
     words = [l4sh, "migrate", trace, new]
@@ -244,7 +340,8 @@ def main(words):
         looks = [(name, wrongs_of(shim, *more)) for name, *more in commands(l4sh, every, room)]
         looks += [("byte by byte", bytewise_wrongs(shim, l4sh, legal_trace(room)))]
         looks += [("migrate", migration_wrongs(shim, l4sh, torn_trace(l4sh, room), f"{room}/new"))]
-        looks += [("l4d", trace_wrongs(shim, l4sh, l4d)) for l4d in others]
+        for l4d in others:
+            looks += [("l4d", trace_wrongs(shim, l4sh, l4d)), ("talk DIR", talk_wrongs(shim, l4sh, l4d)), ("sockets of l4d", socket_wrongs(shim, l4d))]
         for name, tried in looks:
             for what, wrong in tried:
                 runs += 1

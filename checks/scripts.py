@@ -3,38 +3,55 @@
 
 Each stands in checks/scripts, below the command that reads it. `run`, `wire` and `talk` read it from standard input; `check`, `chart`, `state`, `script`,
 `count` and `follow` are given it as a file, and then `-` and the same on standard input; `explain`, `tag` and `period` are asked each of its lines as a
-word. NAME.in is what is read, NAME.out what is printed, NAME.args further words, and NAME.end the exit status and all of standard error where they are not 0 and nothing. A word that is asked has to end so alone.
+word, and so are `threads` and `label`, which are options of `follow`. NAME.in is what is read, NAME.out what is printed, NAME.args further words, and NAME.end the exit status and all of standard error where they are not 0 and nothing. A word that is asked has to end so alone.
 They were worked out by hand from the rules. A long run of one byte stands as `{61*65537}`: its two digits, and how often. Those of the name
 `mistake_..` are what people type first, and end with the reason.
 
 What is read from standard input and is not long is read again with one byte in each read, and with eight: it makes no difference how the bytes are cut.
 
 `migrate` is given NAME.in as a file, and then on standard input. NAME.new is what then stands in the new file; where there is none, no file was made. In `bad_lines`
-each line of COMMAND.in is read alone, without a newline, and ends as bad line 1, with that line of COMMAND.out as its reason; nothing is printed.
+each line of COMMAND.in is read alone, and ends as bad line 1, with that line of COMMAND.out as its reason; nothing is printed. Only a line of a trace has its newline.
+
+In `live` NAME.in is typed into `l4sh talk DIR`, where a server listens that NAME.frames writes down: what it hears, to the byte, and what it says then, line by line.
+Behind the last line it says nothing more, and hears nothing. What it says comes whole, and then byte by byte.
 
 Then each example of examples/ prints what is stored beside it. And the script that `l4sh script` makes of a trace gives the trace back when it is run:
 of each example, and of each script in checks/scripts/run.
 
-And what no script shows: `--version`, a folder in place of a trace, that `l4sh follow -` tells an entry before the next one comes, and that of a line that is too long
-no more is kept than has to be. The last line is `N passed, M failed`."""
+What is too long to be stored is made here: 1,022 threads that send to one, which receives from each in turn, or none before they are all due; a hundred messages with a
+compaction behind each, where there is room for few; and messages that took each time up to some longest one, whose counts are told.
+
+And what no script shows: `--version`, a folder in place of a trace, that `l4sh follow -` tells an entry before the next one comes, that of a line that is too long
+no more is kept than has to be, and that `l4sh wire` has 65,535 connections and no more. The last line is `N passed, M failed`."""
 
 import glob
+import json
 import os
 import re
 import socket
 import subprocess
 import sys
 import tempfile
+import threading
 
 HERE = os.path.dirname(os.path.abspath(__file__))
 EXAMPLES = os.path.join(HERE, "..", "examples")
 OF_A_FILE = ("check", "chart", "state", "script", "count", "follow")
 OF_A_WORD = ("explain", "tag", "period")
+OF_AN_OPTION = ("threads", "label")
 OF_INPUT = ("run", "wire", "talk")
 # What has more bytes is not read in small pieces.
 SHORT = 4096
+# So many connections does `l4sh wire` have.
+CONNECTIONS = 65535
+# So long does a server wait for a frame.
+SECONDS = 20
 # Of two lines that are too long, of so many bytes, the longer one takes at most so much more memory.
 LONG_LINES, MORE = (3 << 20, 24 << 20), 8 << 20
+# The numbers of the threads that send to the first one.
+SENDERS = range(2, 1024)
+# Of so many messages, which took each time from 1 on, the median, the time that 99 of 100 do not pass, and the longest.
+TIMES = {1: (1, 1, 1), 2: (1, 2, 2), 3: (2, 3, 3), 99: (50, 99, 99), 100: (50, 99, 100), 200: (100, 198, 200), 201: (101, 199, 201)}
 VERSION = re.compile(rb"l4sh \d+\.\d+ \(rattle-kit-\w+ logic [0-9a-f]{16}\)\n(commit .*\n)?")
 RUN = re.compile(rb"\{([0-9a-f]{2})\*(\d+)\}")
 
@@ -96,6 +113,8 @@ def found(l4sh, base):
         return of_file([l4sh, command], given, options)
     if command in OF_A_WORD:
         return of_words([l4sh, command, *options], given.removesuffix(b"\n").split(b"\n"))
+    if command in OF_AN_OPTION:
+        return of_words([l4sh, "follow", "-"], [f"--{command}=".encode() + word for word in given.removesuffix(b"\n").split(b"\n")])
     return ended([l4sh, command, *options], given)
 
 
@@ -151,14 +170,84 @@ def faults_of_migrated(l4sh, base):
 
 
 def faults_of_bad_lines(l4sh, base):
+    command = os.path.basename(base)
+    words, newline = ([l4sh, command, "-"], b"\n") if command in OF_A_FILE else ([l4sh, command], b"")
     lines = stored(f"{base}.in").removesuffix(b"\n").split(b"\n")
     reasons = stored(f"{base}.out").removesuffix(b"\n").split(b"\n")
     if len(lines) != len(reasons):
         yield f"there are {len(lines)} lines, and {len(reasons)} reasons"
     for line, reason in zip(lines, reasons):
-        there = ended([l4sh, os.path.basename(base)], line)
+        there = ended(words, line + newline)
         if there != (b"", 2, b"l4sh: bad line 1\n" + reason + b"\n"):
             yield f"{line} ends so: {there}"
+
+
+class Written:
+    """A server on space 1 of a folder, of one connection, which goes as it is written down."""
+
+    def __init__(self, folder, lines, size):
+        self.lines, self.size, self.fault = lines, size, None
+        self.listener = socket.socket(socket.AF_UNIX)
+        self.listener.settimeout(SECONDS)
+        self.listener.bind(f"{folder}/space1")
+        self.listener.listen()
+        self.worker = threading.Thread(target=self.serve)
+        self.worker.start()
+
+    def serve(self):
+        try:
+            line, _ = self.listener.accept()
+            with line:
+                line.settimeout(SECONDS)
+                for text in self.lines:
+                    word, _, digits = text.partition(" ")
+                    (self.say if word == "says" else self.hear)(line, bytes.fromhex(digits))
+                line.shutdown(socket.SHUT_WR)
+                self.hear(line, b"")
+        except OSError as error:
+            self.fault = self.fault or f"{error}"
+
+    def say(self, line, data):
+        try:
+            for place in range(0, len(data), self.size):
+                line.sendall(data[place : place + self.size])
+        except (BrokenPipeError, ConnectionResetError):
+            pass  # it ended before it heard all of it
+
+    def hear(self, line, data):
+        """Hears these bytes, or where there are none the end."""
+        try:
+            there = line.recv(len(data) or SHORT, socket.MSG_WAITALL if data else 0)
+        except ConnectionResetError:
+            there = b""  # it ended before it heard all
+        if there != data:
+            self.fault = self.fault or f"it says {there.hex()} and not {data.hex()}"
+
+    def end(self):
+        self.worker.join()
+        self.listener.close()
+        return self.fault
+
+
+def faults_of_live(l4sh, base):
+    lines = stored(f"{base}.frames").decode().splitlines()
+    for size in (SHORT, 1):
+        with tempfile.TemporaryDirectory() as folder:
+            server = Written(folder, lines, size)
+            there = ended([l4sh, "talk", folder, *stored(f"{base}.args").decode().split()], stored(f"{base}.in"))
+            fault = server.end()
+        if fault or there != wanted(base):
+            yield f"in pieces of {size}: {fault or 'it says all'}; {there} is not {wanted(base)}"
+
+
+def faults_of_connections(l4sh, _):
+    lines = [b"connect 1\n"] * (CONNECTIONS + 1) + [b"end %d\n" % CONNECTIONS]
+    answers = [b"= %d\n" % number for number in range(1, CONNECTIONS + 1)] + [b"! S4\n", b"ended %d\n" % CONNECTIONS]
+    one_more = b"feed %d 00\n" % (CONNECTIONS + 1)
+    told = b"l4sh: bad line %d\nfield 2, connection: no connection has come with this number\n" % (len(lines) + 1)
+    there = ended([l4sh, "wire"], b"".join([*lines, one_more]))
+    if there != (b"".join(answers), 2, told):
+        yield f"it ends by {there[1:]}, behind {there[0][-100:]}"
 
 
 def faults_of_example(l4sh, path):
@@ -228,7 +317,91 @@ def faults_of_long_lines(l4sh, _):
             yield f"{command} takes {peaks} bytes for lines of {LONG_LINES}"
 
 
-FAULTS_OF = {"migrate": faults_of_migrated, "bad_lines": faults_of_bad_lines}
+def crowd(timeouts):
+    """A script of all threads, of which all but the first send it their numbers, and what is printed."""
+    script = [f"open {number} 1" for number in (1, *SENDERS)]
+    printed = [line for number in (1, *SENDERS) for line in (f"opened {number}.1 1", f"= {number}.1")]
+    for call, number in enumerate(SENDERS, 1):
+        fields = f"{number}.1 1.1 nil {timeouts} 0x1 nil {number:#x} - -"
+        script.append(f"call {fields}")
+        printed += [f"called {call} {fields}", f"= {call}"]
+    return script, printed
+
+
+def received_in_turn():
+    script, printed = crowd("0x0")
+    for call, number in enumerate(SENDERS, 1):
+        own, fields = len(SENDERS) + call, "1.1 nil any 0x0 0x0 nil - - -"
+        script += [f"call {fields}", "take 1.1"]
+        printed += [f"called {own} {fields}", f"began {call} {own}", f"ended {call} {own}", f"= {own}", f"= {own} 0x1 {number}.1 nil 0x0 {number:#x} -"]
+    return script, printed
+
+
+def due_together():
+    script, printed = crowd("0x50000")
+    script += ["at 3", "at 4", "at 5", *(f"take {number}.1" for number in SENDERS)]
+    calls = range(1, len(SENDERS) + 1)
+    printed += ["= ok", "= ok", "at 5", *(f"failed {call} 0x2" for call in calls), "= ok", *(f"= {call} 0x8000 nil nil 0x2 - -" for call in calls)]
+    return script, printed
+
+
+def never_full():
+    script, printed = ["open 1 1", "open 2 1"], ["opened 1.1 1", "= 1.1", "opened 2.1 1", "= 2.1"]
+    for word in range(100):
+        own, fields, sent = 2 * word + 1, "1.1 nil any 0x0 0x0 nil - - -", f"2.1 1.1 nil 0x0 0x1 nil {word:#x} - -"
+        script += [f"call {fields}", f"call {sent}", "take 1.1", "take 2.1", "compact"]
+        printed += [f"called {own} {fields}", f"= {own}", f"called {own + 1} {sent}", f"began {own + 1} {own}", f"ended {own + 1} {own}", f"= {own + 1}"]
+        # the opens of the two threads are left
+        printed += [f"= {own} 0x1 2.1 nil 0x0 {word:#x} -", f"= {own + 1} 0x0 nil nil 0x0 - -", "= 4 2"]
+    return script, printed
+
+
+# What is made, and the options of its run.
+MADE = {"received in turn": (received_in_turn,), "due together": (due_together,), "never full": (never_full, "--entries", "64")}
+
+
+def faults_of_made(l4sh, name):
+    make, *options = MADE[name]
+    script, printed = ("".join(f"{line}\n" for line in lines).encode() for lines in make())
+    there = ended([l4sh, "run", *options], script)
+    if there != (printed, 0, b""):
+        yield f"it prints {there}"
+
+
+def trace_of_times():
+    """A trace of two threads for each number of messages. Each message has 7 bytes. Its send phase takes a time, and its receive phase twice that."""
+    threads = [f"{number}.1" for number in range(1, 2 * len(TIMES) + 1)]
+    yield from (f"opened {thread} 1" for thread in threads)
+    call = moment = 0
+    for sender, receiver, messages in zip(threads[::2], threads[1::2], TIMES):
+        for time in range(messages, 0, -1):
+            yield f"called {call + 1} {receiver} nil any 0x0 0x0 nil - - 7@0x0"
+            yield f"at {moment + time}"
+            yield f"called {call + 2} {sender} {receiver} nil 0x0 0x80 nil - x61626364656667 -"
+            yield f"began {call + 2} {call + 1}"
+            yield f"at {moment + 2 * time}"
+            yield f"moved {call + 2} 7"
+            yield f"ended {call + 2} {call + 1}"
+            call, moment = call + 2, moment + 2 * time
+
+
+def faults_of_times(l4sh, _):
+    there = ended([l4sh, "count", "--json", "-"], "".join(f"{line}\n" for line in trace_of_times()).encode())
+    if there[1:] != (0, b""):
+        yield f"it ends so: {there}"
+        return
+    told = [pair for pair in json.loads(there[0])["pairs"] if pair["from"] != "any"]
+    for place, (messages, times) in enumerate(TIMES.items()):
+        names = ("median", "99_of_100", "longest")
+        pair = {"from": f"{2 * place + 1}.1", "to": f"{2 * place + 2}.1", "calls": messages, "messages": messages, "bytes": 7 * messages, "failures": 0,
+                "sends_took": dict(zip(names, times)), "receives_took": dict(zip(names, (2 * time for time in times)))}
+        if told[place : place + 1] != [pair]:
+            yield f"it counts {told[place : place + 1]} and not {pair}"
+    if len(told) != len(TIMES):
+        yield f"it counts {len(told)} pairs"
+
+
+FAULTS_OF = {"migrate": faults_of_migrated, "bad_lines": faults_of_bad_lines, "live": faults_of_live}
 
 
 def main():
@@ -239,7 +412,8 @@ def main():
              for path in sorted(glob.glob(f"{HERE}/scripts/*/*.in"))]
     looks += [(path, faults_of_example) for path in examples]
     looks += [(path, faults_of_script) for path in [*examples, *scripts]]
-    looks += [("--version", faults_of_version), (HERE, faults_of_folder), ("follow -", faults_of_following), ("long lines", faults_of_long_lines)]
+    looks += [(name, faults_of_made) for name in MADE] + [("times", faults_of_times)]
+    looks += [("--version", faults_of_version), (HERE, faults_of_folder), ("follow -", faults_of_following), ("long lines", faults_of_long_lines), ("many connections", faults_of_connections)]
     failed = 0
     for path, faults_of in looks:
         faults = list(faults_of(l4sh, path))

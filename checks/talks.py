@@ -5,6 +5,9 @@ Each talk is a process of its own, which is given one line after the other and s
 time out, are cancelled, and end by `quit`, by the end of their input, by a signal, and by a server that refuses, faults or is killed. At the end
 `l4sh check` judges the trace, and the calls that were typed stand in it as they were meant.
 
+Then comes a server that sends stored frames: each line that asks for something goes out as the one frame of FORMATS, and a mistake as none, however the
+lines are cut.
+
 Its last line is `N checked, M failed`; the status is 0 where M is 0.
 """
 
@@ -17,8 +20,51 @@ import sys
 import tempfile
 import threading
 
+from scripts import ended, ended_in_pieces
+
 L4D, L4SH = sys.argv[1:3]
-WELCOME = bytes.fromhex("00000009810000000700000001")
+# Frames: HELLO 2, WELCOME 2.1, BYE, and the IPCR of a send that was successful.
+HELLO, WELCOME, BYE = "00000003 01 0002", "00000009 81 0000000200000001", "00000001 04"
+SENT = "00000022 82 0000000000000000 0000000000000000 0000000000000000 0000000000000000 00"
+GREETING = "= 2.1    this thread; help lists what it can do\n"
+# What is typed, the frame that goes out for it, the one that comes back, and what is said.
+EXCHANGES = [
+    ("# nothing is asked for", "", "", ""),
+    ("  send 1 7  # one word",
+     "00000036 02 0000000100000001 0000000000000000 00000000 0000000000000000 0000000000000001 0000000000000000 00 0000000000000007",
+     SENT, "= 0x0 nil nil 0x0 - -    it was sent\n"),
+    ("receive buffers=4",
+     "0000003e 02 0000000000000000 ffffffffffffffff 00000000 0000000000000000 0000000000000000 0000000000000001 02 0000000000001000 0000000000100000",
+     "00000041 82 0000000000000080 0000000200000001 0000000000000000 0000000000000000 0000000000000c00 0000000000001000 01 0000000000001000 00000003 616263",
+     '= 0x80 2.1 nil 0x0 0xc00,0x1000 0x1000:x616263    from 2.1, label 0, no words, "abc"\n'),
+    ('call 1.1 "abc" timeout=5us',
+     "00000041 02 0000000100000001 0000000100000001 00050005 0000000000000000 0000000000000080 0000000000000000 00 0000000000000c00 0000000000000000 616263",
+     "00000022 82 0000000000008000 0000000000000000 0000000000000000 0000000000000003 00",
+     "= 0x8000 nil nil 0x3 - -    the receive phase failed: it took longer than its timeout\n"),
+    ("exreg 2 send", "00000011 03 0000000200000001 0000000000000004", "00000019 83 0000000200000001 0000000000000004 0000000000000000",
+     "= 2.1 0x4 0x0    2.1 was in a send phase\n"),
+    ("reply_wait 2 label=3 as=3 words=7",
+     "00000036 02 0000000200000001 ffffffffffffffff 04000000 0000000300000001 0000000000031001 0000000000000000 00 0000000000000007",
+     "00000002 84 08", "! K8    the number of the call would pass the limit\n"),
+    ("walk", "", "", "? wanted is send, receive, call, reply_wait, exreg, help or quit; not walk\n"),
+    ("send nil", "", "", "? wanted is a thread, as 1.1, or 1 for 1.1; not nil\n"),
+    ("wait label=3", "", "", "? wanted is receive ID timeout=TIME buffers=N,N; not label=3\n"),
+    ('send 1 "hi', "", "", "? a quotation mark is missing\n"),
+    ("exreg 2 all", "", "", "? wanted is exreg ID send, receive, both or nothing\n"),
+    ("send 1 label=0x1000000000000", "", "", "? a label has 48 bits at most\n"),
+    ("quit", BYE, "", ""),
+]
+# The frames of a server, of which the last one may be cut, and how a talk of two lines ends with them: its status, and what is told.
+ENDINGS = [
+    ([WELCOME, SENT, SENT], 0, ""),
+    (["00000002 84 02"], 4, "l4sh: the server refused the thread: K2\na thread of that number is live; --thread N takes another number\n"),
+    ([WELCOME, "00000003 85 53 03"], 4, "l4sh: the server ended the thread: S3\nthe server stops\n"),
+    ([WELCOME, "00000003 85 4b 07"], 4, "l4sh: the server ended the thread: K7\nthe thread has an open call, or an outcome that it has not yet taken\n"),
+    ([], 4, "l4sh: the server is gone\n"),
+    ([WELCOME, SENT, "000000"], 4, "l4sh: the server is gone\n"),
+    ([WELCOME, "0000"], 4, "l4sh: the server is gone\n"),
+    ([WELCOME, WELCOME], 4, "l4sh: the server sent what is no answer\n"),
+]
 checked = failed = 0
 
 
@@ -116,6 +162,7 @@ def meetings(server):
     one.type("quit")
     one.ends("quit")
     two.ends("the end of the input without a newline", typed="# nothing more")
+    Talk(server.folder, "--space=2", "--thread=1023", thread="1023.1").ends("the last thread, of the second space")
 
 
 def propagation(server):
@@ -159,7 +206,9 @@ def judged(server):
     ran = subprocess.run([L4SH, "check", server.trace], capture_output=True, text=True)
     same("the trace", (ran.returncode, ran.stdout), (0, "yes\n"))
     with open(server.trace) as file:
-        calls = [line.split(" ", 2)[2].rstrip("\n") for line in file if line.startswith("called ")]
+        lines = file.readlines()
+    calls = [line.split(" ", 2)[2].rstrip("\n") for line in lines if line.startswith("called ")]
+    same("spaces stand in the trace", ("opened 1.1 1\n" in lines, "opened 1023.1 2\n" in lines), (True, True))
     for call in ("1.1 nil any 0x0 0x0 nil - - 100@0x100000", "2.1 1.1 nil 0x0 0x50081 nil 0x7 x68656c6c6f -",
                  f"2.1 1.1 1.1 {timeouts('10s')} 0x2 nil 0x28,0x2 - -", "1.1 2.1 any 0x4000000 0x1 nil 0x2a - -",
                  "12.1 13.1 nil 0x0 0x1001 11.1 0x5 - -"):
@@ -182,28 +231,40 @@ def lost_servers():
         idle.ends("a server that was killed before", 4, "l4sh: the server is gone\n", typed="receive\n")
 
 
-def answers_with(answer, typed, told):
-    """A talk with a server that welcomes it, and then sends this."""
-    folder = tempfile.mkdtemp(prefix="talks-")
-    try:
-        with socket.socket(socket.AF_UNIX) as listener:
-            listener.bind(f"{folder}/space1")
-            listener.listen()
+def beside_frames(frames, talk):
+    """What a talk comes to whose server sends these frames and then no more, and all bytes that the server got."""
+    with tempfile.TemporaryDirectory(prefix="talks-") as folder, socket.socket(socket.AF_UNIX) as listener:
+        listener.bind(f"{folder}/space1")
+        listener.listen()
+        got = []
 
-            def serve():
-                line, _ = listener.accept()
-                with line:
-                    line.recv(100)
-                    line.sendall(WELCOME)
-                    line.recv(100)
-                    line.sendall(answer)
+        def serve():
+            line, _ = listener.accept()
+            with line:
+                line.sendall(bytes.fromhex("".join(frames)))
+                line.shutdown(socket.SHUT_WR)
+                while piece := line.recv(65536):
+                    got.append(piece)
 
-            server = threading.Thread(target=serve, daemon=True)
-            server.start()
-            Talk(folder, thread="7.1").ends(told, 4, told, typed=typed)
-            server.join(20)
-    finally:
-        shutil.rmtree(folder)
+        server = threading.Thread(target=serve, daemon=True)
+        server.start()
+        came = talk([L4SH, "talk", folder, "--thread", "2"])
+        server.join(20)
+        return came, b"".join(got)
+
+
+def stored_frames():
+    """Each line that asks for something is one frame, and what ends a talk is told."""
+    # what is typed behind `quit` is not read
+    typed = "".join(f"{line}\n" for line, *_ in EXCHANGES).encode() + b"send 1\n"
+    said = (GREETING + "".join(said for *_, said in EXCHANGES)).encode()
+    sent = bytes.fromhex(HELLO + "".join(sent for _, sent, _, _ in EXCHANGES))
+    answers = [WELCOME, *(answer for _, _, answer, _ in EXCHANGES)]
+    for what, talk in (("lines", lambda words: ended(words, typed)), ("lines byte by byte", lambda words: ended_in_pieces(words, typed, 1))):
+        same(f"{what} and their frames", beside_frames(answers, talk), ((said, 0, b""), sent))
+    for frames, status, told in ENDINGS:
+        (_, *end), _ = beside_frames(frames, lambda words: ended(words, b"receive\nsend 1"))
+        same(f"a server that sends {frames}", end, [status, told.encode()])
 
 
 def main():
@@ -215,10 +276,7 @@ def main():
         refusals(server)
         judged(server)
     lost_servers()
-    answers_with(bytes.fromhex("00000003854b07"), "receive\nreceive\n", "l4sh: the server ended the thread: K7\n"
-                 "the thread has an open call, or an outcome that it has not yet taken\n")
-    answers_with(WELCOME, "receive\nreceive\n", "l4sh: the server sent what is no answer\n")
-    answers_with(b"\0\0", "receive\n", "l4sh: the server is gone\n")
+    stored_frames()
     ran = subprocess.run([L4SH, "talk", "/nowhere"], input="", capture_output=True, text=True)
     same("no folder", (ran.returncode, ran.stdout, ran.stderr),
          (4, "", "l4sh: no server\n/nowhere/space1: No such file or directory (os error 2)\n"))

@@ -1,4 +1,4 @@
-use std::fmt::{Debug, Display};
+use std::fmt::Debug;
 use std::process::Abort;
 
 // A test is a row of calls of small functions. These fail the test themselves, so no way out opens in it.
@@ -8,22 +8,7 @@ pub(crate) fn same<T: PartialEq + Debug + Drop>(rt: &impl Abort, left: T, right:
     assert_eq!(*rt; left, right);
 }
 
-// Fails the test where the two differ, and says where.
-pub(crate) fn same_at<T: PartialEq + Debug + Drop>(
-    rt: &impl Abort,
-    at: &impl Display,
-    left: T,
-    right: T,
-) {
-    assert_eq!(*rt; left, right, "{at}");
-}
-
 // Fails the test where this is not so.
 pub(crate) fn holds(rt: &impl Abort, is_so: bool) {
     assert!(*rt; is_so);
-}
-
-// Fails the test where this is not so, and says where.
-pub(crate) fn holds_at(rt: &impl Abort, at: &impl Display, is_so: bool) {
-    assert!(*rt; is_so, "{at}");
 }

@@ -1,11 +1,9 @@
 use crate::comparing::{holds, same};
 use ipc_items::{
-    BufferList, Fit, FreeBlocks, ItemFault, MAX_FREE_BLOCKS, MAX_FREE_BYTES, Piece, StringList,
-    Substring, fit, pieces_join_to_strings, scatter, spelled_strings_are_read,
+    BufferList, Fit, FreeBlocks, ItemFault, MAX_FREE_BLOCKS, MAX_FREE_BYTES, StringList, Substring,
+    fit, pieces_join_to_strings, spelled_strings_are_read,
 };
-use ipc_words::limits::{
-    MAX_BUFFER_WORDS, MAX_MESSAGE_WORDS, MAX_STRING_BYTES, SUBSTRING_LENGTH_LIMIT,
-};
+use ipc_words::limits::{MAX_MESSAGE_WORDS, MAX_STRING_BYTES, SUBSTRING_LENGTH_LIMIT};
 use std::alloc::Global;
 use std::process::Abort;
 
@@ -53,14 +51,6 @@ fn two_strings(rt: &impl Abort, alloc: Global) -> StringList {
     string_list(rt, alloc, &[b"abc", b"hello"])
 }
 
-#[test]
-fn strings_are_kept(rt: HostRuntime) {
-    let list = two_strings(&rt, rt.alloc());
-    assert_strings(&rt, &list, &[b"abc", b"hello"]);
-    same(&rt, list.size(), 8);
-    same(&rt, list.get(2), None);
-}
-
 // Whether a list takes as many strings of so many bytes each.
 fn takes_strings(rt: &impl Abort, alloc: Global, count: usize, size: usize) -> bool {
     let strings = vec![in alloc; bytes(rt, alloc, size); count].expect(rt, "memory");
@@ -98,11 +88,6 @@ fn assert_read(rt: &impl Abort, alloc: Global, words: &[u64], texts: &[&[u8]]) {
     assert_strings(rt, &list, texts);
 }
 
-fn assert_cut(rt: &impl Abort, alloc: Global, words: &[u64], texts: &[&[u8]]) {
-    let list = cut(rt, alloc, words).ok().expect(rt, "strings");
-    assert_strings(rt, &list, texts);
-}
-
 const SPELLED: [(&[u64], &[&[u8]]); 10] = [
     (&[], &[]),
     // end to end, in two strings, with another last bit, in one string
@@ -119,10 +104,9 @@ const SPELLED: [(&[u64], &[&[u8]]); 10] = [
 ];
 
 #[test]
-fn string_items_are_read_and_cut(rt: HostRuntime) {
+fn string_items_are_read(rt: HostRuntime) {
     for (words, texts) in SPELLED {
         assert_read(&rt, rt.alloc(), words, texts);
-        assert_cut(&rt, rt.alloc(), words, texts);
     }
 }
 
@@ -151,7 +135,6 @@ const FAULTS: [(&[u64], u8); 7] = [
 fn first_fault_decides(rt: HostRuntime) {
     for (words, number) in FAULTS {
         same(&rt, fault_number(read(&rt, rt.alloc(), words)), number);
-        same(&rt, fault_number(cut(&rt, rt.alloc(), words)), number);
     }
 }
 
@@ -200,40 +183,6 @@ fn laws_hold() {
     spelled_strings_are_read();
 }
 
-fn read_buffers(rt: &impl Abort, alloc: Global, words: &[u64]) -> Result<BufferList, ItemFault> {
-    assert!(*rt; words.len() <= MAX_BUFFER_WORDS);
-    BufferList::read(alloc, words)
-}
-
-fn buffer_fault(rt: &impl Abort, alloc: Global, words: &[u64]) -> Option<ItemFault> {
-    read_buffers(rt, alloc, words).err()
-}
-
-// Fails the test where buffer string k has other substrings.
-fn assert_buffer(rt: &impl Abort, list: &BufferList, k: usize, parts: &[Substring]) {
-    same(rt, list.get(k), Some(parts));
-}
-
-#[test]
-fn buffer_items_are_read(rt: HostRuntime) {
-    let words = [0xc00, 0x1000, 0xa00, 0x2000, 0xc00, u64::MAX];
-    let list = read_buffers(&rt, rt.alloc(), &words)
-        .ok()
-        .expect(&rt, "buffers");
-    same(&rt, list.len(), 2);
-    same(&rt, list.capacity(0), 3);
-    assert_buffer(&rt, &list, 1, &[part(2, 0x2000), part(3, u64::MAX)]);
-    same(&rt, list.iter().count(), 2);
-}
-
-#[test]
-fn faults_of_buffer_items_are_found(rt: HostRuntime) {
-    let past = buffer_fault(&rt, rt.alloc(), &[0xe00, 0x0]);
-    same(&rt, past, Some(ItemFault::PastWords));
-    let reserved = buffer_fault(&rt, rt.alloc(), &[0x8, 0x0]);
-    same(&rt, reserved, Some(ItemFault::ReservedBit));
-}
-
 fn push_buffer(rt: &impl Abort, alloc: Global, list: &mut BufferList, parts: &[Substring]) -> bool {
     list.push_buffer(alloc, parts).expect(rt, "memory")
 }
@@ -257,13 +206,6 @@ fn parts_of(rt: &impl Abort, alloc: Global, lengths: &[u64]) -> Vec<Substring> {
     parts
 }
 
-#[test]
-fn a_buffer_has_a_substring(rt: HostRuntime) {
-    let mut list = BufferList::new(rt.alloc());
-    let fits = push_buffer(&rt, rt.alloc(), &mut list, &[]);
-    same(&rt, fits, false);
-}
-
 // The list of one buffer string of these substrings.
 fn list_of_one(rt: &impl Abort, alloc: Global, parts: Vec<Substring>) -> Option<BufferList> {
     let buffers = vec![in alloc; parts].expect(rt, "memory");
@@ -278,31 +220,14 @@ fn buffers_are_taken_whole(rt: HostRuntime) {
     same(&rt, list.first_pointer(0), 0x1000);
 }
 
-// Whether a list takes one buffer string of as many substrings of a length.
-fn takes_equal(rt: &impl Abort, alloc: Global, count: usize, length: u64) -> bool {
-    let parts = vec![in alloc; part(length, 0); count].expect(rt, "memory");
-    list_of_one(rt, alloc, parts).is_some()
-}
-
-#[test]
-fn substrings_are_bounded(rt: HostRuntime) {
-    for (count, length, is_taken) in [
-        (0, 1, false),
-        (31, 1, true),
-        (32, 1, false),
-        (1, SUBSTRING_LENGTH_LIMIT - 1, true),
-        (1, SUBSTRING_LENGTH_LIMIT, false),
-    ] {
-        let takes = takes_equal(&rt, rt.alloc(), count, length);
-        same(&rt, takes, is_taken);
-    }
-}
-
-// Whether a list takes as many buffer strings of one substring each, no two of one length.
-fn takes_unequal(rt: &impl Abort, alloc: Global, count: u64) -> bool {
+// Whether a list takes as many buffer strings of so many substrings each. Those of the first have this length, those of each other one are longer
+// by 1 than those before.
+fn takes(rt: &impl Abort, alloc: Global, count: u64, parts: usize, length: u64) -> bool {
     let mut buffers = Vec::new(alloc);
-    for length in 0..count {
-        let parts = vec![in alloc; part(length, 0)].expect(rt, "memory");
+    for more in 0..count {
+        let parts = vec![in alloc; part(length.saturating_add(more), 0); parts].expect(
+            rt, "memory",
+        );
         buffers.push(parts).expect(rt, "memory");
     }
     let list = BufferList::of(alloc, buffers).expect(rt, "memory");
@@ -310,9 +235,19 @@ fn takes_unequal(rt: &impl Abort, alloc: Global, count: u64) -> bool {
 }
 
 #[test]
-fn substrings_are_counted_over_all_buffers(rt: HostRuntime) {
-    same(&rt, takes_unequal(&rt, rt.alloc(), 31), true);
-    same(&rt, takes_unequal(&rt, rt.alloc(), 32), false);
+fn substrings_are_bounded_and_counted_over_all_buffers(rt: HostRuntime) {
+    for (count, parts, length, is_taken) in [
+        (1, 0, 1, false),
+        (1, 31, 1, true),
+        (1, 32, 1, false),
+        (1, 1, SUBSTRING_LENGTH_LIMIT - 1, true),
+        (1, 1, SUBSTRING_LENGTH_LIMIT, false),
+        (31, 1, 0, true),
+        (32, 1, 0, false),
+    ] {
+        let takes = takes(&rt, rt.alloc(), count, parts, length);
+        same(&rt, takes, is_taken);
+    }
 }
 
 // How abc and hello fit buffer strings of substrings of these lengths.
@@ -343,21 +278,6 @@ fn nothing_fits_where_no_strings_are_taken(rt: HostRuntime) {
     same(&rt, fit(&none, None), Fit::Fits);
 }
 
-fn assert_piece(rt: &impl Abort, piece: Option<Piece<'_>>, pointer: u64, bytes: &[u8]) {
-    let piece = piece.expect(rt, "a piece");
-    same(rt, piece.pointer, pointer);
-    same(rt, piece.bytes, bytes);
-}
-
-#[test]
-fn pieces_come_in_order(rt: HostRuntime) {
-    let parts = [part(2, 0x2000), part(3, 0x3000)];
-    let mut pieces = scatter(&parts, b"hello");
-    assert_piece(&rt, pieces.next(), 0x2000, b"he");
-    assert_piece(&rt, pieces.next(), 0x3000, b"llo");
-    same(&rt, pieces.next().is_none(), true);
-}
-
 fn copy(rt: &impl Abort, alloc: Global, list: &StringList) -> StringList {
     list.copy(alloc).expect(rt, "memory")
 }
@@ -365,6 +285,9 @@ fn copy(rt: &impl Abort, alloc: Global, list: &StringList) -> StringList {
 #[test]
 fn a_copy_stands_apart(rt: HostRuntime) {
     let list = two_strings(&rt, rt.alloc());
+    same(&rt, list.get(2), None);
+    // a list of one owner has no other
+    same(&rt, list.share().is_none(), true);
     let mut other = copy(&rt, rt.alloc(), &list);
     other.clear();
     same(&rt, other.is_empty(), true);
@@ -400,6 +323,9 @@ fn copy_of_buffers(rt: &impl Abort, alloc: Global, list: &BufferList) -> BufferL
 #[test]
 fn a_copy_of_buffers_stands_apart(rt: HostRuntime) {
     let mut list = buffer_list(&rt, rt.alloc(), &[&[2, 3]]);
+    // a buffer has a substring
+    let fits = push_buffer(&rt, rt.alloc(), &mut list, &[]);
+    same(&rt, fits, false);
     let other = copy_of_buffers(&rt, rt.alloc(), &list);
     list.clear();
     same(&rt, list.is_empty(), true);
@@ -434,12 +360,6 @@ fn taken(free: &mut FreeBlocks, wanted: usize) -> usize {
         }
         None => 0,
     }
-}
-
-#[test]
-fn a_list_of_one_owner_has_no_other(rt: HostRuntime) {
-    let list = two_strings(&rt, rt.alloc());
-    same(&rt, list.share().is_none(), true);
 }
 
 #[test]

@@ -1,5 +1,5 @@
-//! The tests of the crates that the others stand on: words, numbers of threads, circles, memory, ports, strings, lines, and the reasons of
-//! bad lines.
+//! The tests of the crates that the others stand on, of what no program shows: words, numbers of threads, circles, memory, ports, strings,
+//! and lines.
 #![tactic(auto)]
 
 #[cfg(test)]
@@ -16,10 +16,6 @@ mod memory;
 mod past;
 #[cfg(test)]
 mod ports;
-#[cfg(test)]
-mod read_lines;
-#[cfg(test)]
-mod reasons;
 #[cfg(test)]
 mod threads;
 #[cfg(test)]

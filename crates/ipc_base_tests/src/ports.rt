@@ -2,8 +2,7 @@ ghost use Rattle.std.specs.Prelude.{◌≡◌, ◌<◌};
 
 use crate::comparing::same;
 use ipc_ports::{
-    Failures, MemoryPort, PieceBuffer, PortFault, PortRead, PortWrite, ReadPort, Trouble,
-    WritePort, write_all,
+    Failures, MemoryPort, PortFault, PortRead, PortWrite, ReadPort, Trouble, WritePort, write_all,
 };
 use std::alloc::Global;
 use std::io;
@@ -188,33 +187,6 @@ fn one_call_of_a_memory_port_meets_trouble(rt: HostRuntime) {
     for (call, trouble, end, text) in TROUBLES {
         assert_copied(&rt, rt.alloc(), call, trouble, end, text);
     }
-}
-
-fn fill(rt: &impl Abort, piece: &mut PieceBuffer, port: &mut &[u8]) {
-    piece.fill(port).expect(rt, "a read");
-}
-
-// Uses so many bytes at most.
-fn consume(piece: &mut PieceBuffer, most: usize) {
-    let count = piece.bytes().len().min(most);
-    piece.consume(count);
-}
-
-fn assert_left(rt: &impl Abort, piece: &PieceBuffer, bytes: &[u8]) {
-    same(rt, piece.bytes(), bytes);
-}
-
-#[test]
-fn a_piece_holds_what_is_left_of_a_read(rt: HostRuntime) {
-    let mut port: &[u8] = b"abcde";
-    let mut piece = PieceBuffer::new();
-    fill(&rt, &mut piece, &mut port);
-    consume(&mut piece, 3);
-    fill(&rt, &mut piece, &mut port);
-    assert_left(&rt, &piece, b"de");
-    consume(&mut piece, 2);
-    fill(&rt, &mut piece, &mut port);
-    assert_left(&rt, &piece, b"");
 }
 
 #[test]

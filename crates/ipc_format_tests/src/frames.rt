@@ -1,13 +1,12 @@
 // Frames: read and written, cut anywhere, and their faults.
-ghost use Rattle.std.specs.Prelude.{◌<◌, ◌≤◌, length};
+ghost use Rattle.std.specs.Prelude.{◌<◌};
 
 use crate::comparing::{change, front, holds, same};
 use crate::vectors::{
-    BYE, EXREG, FAILED, FAILED_TWO, HELLO, IPC, RECEIVED, REFUSED, VECTORS, WELCOME,
+    BYE, EXREG, FAILED, FAILED_TWO, HELLO, HELLO_TWO, IPC, RECEIVED, REFUSED, VECTORS, WELCOME,
 };
 use ipc_frame::{
-    Decoder, Encoder, Frame, FrameFault, IpcFrame, IpcParts, IpcrFrame, Placed, Side, WireVersion,
-    decode, encode,
+    Decoder, Encoder, Frame, FrameFault, IpcFrame, IpcParts, Side, WireVersion, decode, encode,
 };
 use ipc_words::{MsgTag, ThreadId, Timeouts};
 use std::alloc::Global;
@@ -37,32 +36,32 @@ fn each_vector_is_read_and_written(rt: HostRuntime) {
     }
 }
 
-fn is_the_call(rt: &impl Abort, ipc: &IpcFrame) {
-    same(rt, ipc.to().to_word(), 0x1_0000_0001);
-    same(rt, ipc.from().to_word(), 0);
-    same(rt, ipc.tag().to_word(), 1);
-    same(rt, ipc.words(), [7].as_slice());
-    same(rt, ipc.payload().len(), 0);
-}
-
-fn is_the_piece(rt: &impl Abort, piece: &Placed) {
-    same(rt, piece.pointer(), 0x1000);
-    same(rt, piece.bytes(), b"abc".as_slice());
-}
-
-fn is_the_outcome(rt: &impl Abort, ipcr: &IpcrFrame) {
-    same(rt, ipcr.sender().to_word(), 0x2_0000_0001);
-    same(rt, ipcr.words(), [0xc00, 0x1000].as_slice());
-    same(rt, ipcr.pieces().len(), 1);
-    for piece in ipcr.pieces() {
-        is_the_piece(rt, piece);
-    }
-}
-
 fn has_its_parts(rt: &impl Abort, frame: &Frame) {
     match frame {
-        Frame::Ipc(ipc) => is_the_call(rt, ipc),
-        Frame::Ipcr(ipcr) => is_the_outcome(rt, ipcr),
+        Frame::Ipc(ipc) => {
+            let ids = (
+                ipc.to().to_word(),
+                ipc.from().to_word(),
+                ipc.tag().to_word(),
+            );
+            same(rt, ids, (0x1_0000_0001, 0, 1));
+            same(rt, (ipc.words(), ipc.payload().len()), ([7].as_slice(), 0));
+        }
+        Frame::Ipcr(ipcr) => {
+            same(rt, ipcr.sender().to_word(), 0x2_0000_0001);
+            same(
+                rt,
+                (ipcr.words(), ipcr.pieces().len()),
+                ([0xc00, 0x1000].as_slice(), 1),
+            );
+            for piece in ipcr.pieces() {
+                same(
+                    rt,
+                    (piece.pointer(), piece.bytes()),
+                    (0x1000, b"abc".as_slice()),
+                );
+            }
+        }
         _ => holds(rt, false),
     }
 }
@@ -143,31 +142,38 @@ fn a_stream_is_read_however_it_is_cut(rt: HostRuntime) {
     drop(to_server);
 }
 
-// Cut in two, bytes are one frame.
-fn is_a_frame_in_two(rt: &impl Abort, alloc: Global, side: Side, bytes: &[u8], cut: usize)
-    requires { cut ≤ length bytes.now }
-{
-    let (first, second) = bytes.split_at(cut);
+// What is told of two pieces, and of the end behind them, asked twice: the numbers of the faults, 0 where there is none. And how many frames came.
+fn told(alloc: Global, side: Side, first: &[u8], second: &[u8]) -> ([u8; 4], usize) {
     let mut decoder = Decoder::new(alloc, side);
     let mut frames = Vec::new(alloc);
-    same(rt, fed(&mut decoder, first, &mut frames), 0);
-    same(rt, fed(&mut decoder, second, &mut frames), 0);
-    same(rt, finished(&mut decoder), 0);
-    same(rt, frames.len(), 1);
+    let first = fed(&mut decoder, first, &mut frames);
+    let second = fed(&mut decoder, second, &mut frames);
+    let end = finished(&mut decoder);
+    let faults = [first, second, end, finished(&mut decoder)];
+    let count = frames.len();
     drop(frames);
     drop(decoder);
+    (faults, count)
 }
 
-fn is_a_frame_however_cut(rt: &impl Abort, alloc: Global, side: Side, bytes: &[u8]) {
-    for cut in 0..bytes.len() {
-        is_a_frame_in_two(rt, alloc, side, bytes, cut);
+// Wherever bytes are cut in two they are one frame. Without the rest they are unfinished (F9), and the decoder is spent then (F13).
+fn is_a_frame_wherever_cut(rt: &impl Abort, alloc: Global, side: Side, bytes: &[u8]) {
+    same(rt, told(alloc, side, &[], bytes), ([0; 4], 1));
+    for cut in 1..bytes.len() {
+        let rest = bytes.get(cut..).unwrap_or(&[]);
+        same(rt, told(alloc, side, front(bytes, cut), rest), ([0; 4], 1));
+        same(
+            rt,
+            told(alloc, side, front(bytes, cut), &[]),
+            ([0, 0, 9, 13], 0),
+        );
     }
 }
 
 #[test]
 fn every_cut_in_two_of_a_vector_reads_it(rt: HostRuntime) {
     for (side, bytes) in VECTORS {
-        is_a_frame_however_cut(&rt, rt.alloc(), *side, bytes);
+        is_a_frame_wherever_cut(&rt, rt.alloc(), *side, bytes);
     }
 }
 
@@ -182,75 +188,63 @@ fn fault_of(alloc: Global, side: Side, bytes: &[u8]) -> u8 {
     }
 }
 
-// What the server is sent, and the number of the fault.
-const FAULTY: &[(&[u8], u8)] = &[
-    (&[0, 0, 0, 0], 3),
-    (&[0, 0x20, 0, 0, 5], 2),
-    (&[0, 0x20, 0, 0, 2], 9),
-    (&[0, 0x20, 0, 1], 1),
-    (&[0, 0, 0, 9, 0x81], 2),
-    (&[0, 0, 0, 2, 0x01], 3),
-    (&[0, 0, 0, 0x2d, 0x02], 3),
-    // no HELLO has four bytes
-    (&[0, 0, 0, 4, 1], 3),
-];
-
-// Other bytes in some places of the call, how many of its bytes are there, and the number of the fault.
-const CHANGED_CALLS: &[(&[(usize, u8)], usize, u8)] = &[
-    (&[(3, 46)], 49, 9),
-    (&[(3, 46)], 50, 3),
-    (&[(3, 46), (40, 0x7f)], 50, 4),
-    (&[(49, 33)], 50, 4),
-];
-
-fn is_faulty_call(rt: &impl Abort, alloc: Global, changes: &[(usize, u8)], size: usize, fault: u8) {
-    let mut bytes = IPC;
+// The same of the first bytes of a text with other bytes in some places.
+fn fault_of_changed(
+    rt: &impl Abort,
+    alloc: Global,
+    side: Side,
+    text: &[u8],
+    changes: &[(usize, u8)],
+    size: usize,
+) -> u8 {
+    let mut bytes = joined(rt, alloc, &[text]);
     change(&mut bytes, changes);
-    same(
-        rt,
-        fault_of(alloc, Side::Server, front(&bytes, size)),
-        fault,
-    );
+    let fault = fault_of(alloc, side, front(&bytes, size));
+    drop(bytes);
+    fault
 }
+
+// A text, other bytes in some places of it, how many of its bytes are there, and the number of the fault.
+type Faulty = (Side, &'static [u8], &'static [(usize, u8)], usize, u8);
+
+const FAULTY: &[Faulty] = &[
+    (Side::Server, &[0, 0, 0, 0], &[], 4, 3),
+    (Side::Server, &[0, 0x20, 0, 0, 5], &[], 5, 2),
+    (Side::Server, &[0, 0x20, 0, 0, 2], &[], 5, 9),
+    (Side::Server, &[0, 0x20, 0, 1], &[], 4, 1),
+    (Side::Server, &[0, 0, 0, 9, 0x81], &[], 5, 2),
+    (Side::Server, &[0, 0, 0, 2, 0x01], &[], 5, 3),
+    (Side::Server, &[0, 0, 0, 0x2d, 0x02], &[], 5, 3),
+    // no HELLO has four bytes, or six
+    (Side::Server, &[0, 0, 0, 4, 1], &[], 5, 3),
+    (Side::Server, &[0, 0, 0, 6, 1], &[], 5, 3),
+    // a version that is not there is told when its HELLO is whole
+    (Side::Server, &HELLO_TWO, &[(8, 0)], 9, 15),
+    (Side::Server, &HELLO_TWO, &[(8, 1)], 9, 15),
+    (Side::Server, &HELLO_TWO, &[(8, 3)], 9, 15),
+    (Side::Server, &HELLO_TWO, &[(8, 255)], 9, 15),
+    (Side::Server, &HELLO_TWO, &[], 8, 9),
+    // the call
+    (Side::Server, &IPC, &[(3, 46)], 49, 9),
+    (Side::Server, &IPC, &[(3, 46)], 50, 3),
+    (Side::Server, &IPC, &[(3, 46), (40, 0x7f)], 50, 4),
+    (Side::Server, &IPC, &[(49, 33)], 50, 4),
+    // the outcome of version 2: a body that is too short, and a tag of 64 words, at the 49th byte of the body
+    (Side::Client, &FAILED_TWO, &[(3, 0x31)], 5, 3),
+    (Side::Client, &FAILED_TWO, &[(27, 0), (28, 0x7f)], 52, 9),
+    (Side::Client, &FAILED_TWO, &[(27, 0), (28, 0x7f)], 53, 4),
+];
 
 #[test]
 fn faults_are_told_at_their_bytes(rt: HostRuntime) {
-    for (bytes, fault) in FAULTY {
-        same(&rt, fault_of(rt.alloc(), Side::Server, bytes), *fault);
-    }
-    for (changes, size, fault) in CHANGED_CALLS {
-        is_faulty_call(&rt, rt.alloc(), changes, *size, *fault);
+    for (side, text, changes, size, fault) in FAULTY {
+        let told = fault_of_changed(&rt, rt.alloc(), *side, text, changes, *size);
+        same(&rt, told, *fault);
     }
 }
 
-// The number of F9, and that of F13.
-const UNFINISHED: u8 = 9;
-
+// The number of F13.
 const SPENT: u8 = 13;
-
-// A proper front of a frame is unfinished, and the decoder is spent then.
-fn is_unfinished(rt: &impl Abort, alloc: Global, side: Side, bytes: &[u8]) {
-    let mut decoder = Decoder::new(alloc, side);
-    let mut frames = Vec::new(alloc);
-    same(rt, fed(&mut decoder, bytes, &mut frames), 0);
-    same(rt, finished(&mut decoder), UNFINISHED);
-    same(rt, finished(&mut decoder), SPENT);
-    drop(frames);
-    drop(decoder);
-}
-
-fn fronts_are_unfinished(rt: &impl Abort, alloc: Global, side: Side, bytes: &[u8]) {
-    for cut in 1..bytes.len() {
-        is_unfinished(rt, alloc, side, front(bytes, cut));
-    }
-}
-
-#[test]
-fn a_prefix_is_unfinished(rt: HostRuntime) {
-    for (side, bytes) in VECTORS {
-        fronts_are_unfinished(&rt, rt.alloc(), *side, bytes);
-    }
-}
 
 #[test]
 fn a_fault_is_for_good(rt: HostRuntime) {
@@ -265,17 +259,8 @@ fn a_fault_is_for_good(rt: HostRuntime) {
     drop(decoder);
 }
 
-// So many zeros.
-fn words_of(rt: &impl Abort, alloc: Global, count: usize) -> Vec<u64> {
-    vec![in alloc; 0; count].expect(rt, "memory")
-}
-
-fn bytes_of(rt: &impl Abort, alloc: Global, count: usize) -> Vec<u8> {
-    vec![in alloc; 0; count].expect(rt, "memory")
-}
-
-// The parts of a call with a tag, words and bytes.
-fn parts_of(alloc: Global, tag: u64, words: Vec<u64>, payload: Vec<u8>) -> IpcParts {
+// The parts of a call with a tag, so many words and so many bytes.
+fn parts_of(rt: &impl Abort, alloc: Global, tag: u64, words: usize, bytes: usize) -> IpcParts {
     IpcParts {
         to: ThreadId::NILTHREAD,
         from: ThreadId::NILTHREAD,
@@ -283,9 +268,9 @@ fn parts_of(alloc: Global, tag: u64, words: Vec<u64>, payload: Vec<u8>) -> IpcPa
         originator: ThreadId::NILTHREAD,
         tag: MsgTag::from_word(tag),
         acceptor: 0,
-        words,
+        words: vec![in alloc; 0; words].expect(rt, "memory"),
         buffer_words: Vec::new(alloc),
-        payload,
+        payload: vec![in alloc; 0; bytes].expect(rt, "memory"),
     }
 }
 
@@ -310,15 +295,9 @@ const SIZES: &[(u64, usize, usize, u8)] = &[
 
 #[test]
 fn parts_past_the_limits_make_no_frame(rt: HostRuntime) {
-    let alloc = rt.alloc();
     for (tag, words, bytes, fault) in SIZES {
-        let words = words_of(&rt, alloc, *words);
-        let payload = bytes_of(&rt, alloc, *bytes);
-        same(
-            &rt,
-            fault_of_parts(parts_of(alloc, *tag, words, payload)),
-            *fault,
-        );
+        let parts = parts_of(&rt, rt.alloc(), *tag, *words, *bytes);
+        same(&rt, fault_of_parts(parts), *fault);
     }
 }
 
@@ -337,54 +316,4 @@ fn a_hello_is_given_in_turn(rt: HostRuntime) {
     same(&rt, [1, 0, 2, 3], out);
     same(&rt, 0, next(&mut encoder, &mut out));
     drop(encoder);
-}
-
-// A HELLO of this version shows F15 once it is whole, and F9 without its last byte.
-fn is_no_version(rt: &impl Abort, alloc: Global, version: u8) {
-    let hello = [0, 0, 0, 5, 1, 0, 2, 0, version];
-    same(rt, fault_of(alloc, Side::Server, &hello), 15);
-    same(
-        rt,
-        fault_of(alloc, Side::Server, front(&hello, 8)),
-        UNFINISHED,
-    );
-}
-
-#[test]
-fn a_version_that_is_not_there_is_told_when_its_hello_is_whole(rt: HostRuntime) {
-    for version in [0, 1, 3, 255] {
-        is_no_version(&rt, rt.alloc(), version);
-    }
-    // no HELLO has six bytes
-    same(&rt, fault_of(rt.alloc(), Side::Server, &[0, 0, 0, 6, 1]), 3);
-}
-
-// The same of the outcome of version 2: a body that is too short, and a tag of 64 words, at the 49th byte of the body.
-const CHANGED_OUTCOMES: &[(&[(usize, u8)], usize, u8)] = &[
-    (&[(3, 0x31)], 5, 3),
-    (&[(27, 0), (28, 0x7f)], 52, 9),
-    (&[(27, 0), (28, 0x7f)], 53, 4),
-];
-
-fn is_faulty_outcome(
-    rt: &impl Abort,
-    alloc: Global,
-    changes: &[(usize, u8)],
-    size: usize,
-    fault: u8,
-) {
-    let mut bytes = FAILED_TWO;
-    change(&mut bytes, changes);
-    same(
-        rt,
-        fault_of(alloc, Side::Client, front(&bytes, size)),
-        fault,
-    );
-}
-
-#[test]
-fn an_outcome_of_version_2_shows_its_faults_where_it_shows_its_tag(rt: HostRuntime) {
-    for (changes, size, fault) in CHANGED_OUTCOMES {
-        is_faulty_outcome(&rt, rt.alloc(), changes, *size, *fault);
-    }
 }

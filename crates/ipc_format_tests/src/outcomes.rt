@@ -1,7 +1,7 @@
 // Outcomes, as they are put out.
 use crate::comparing::same;
 use crate::frames::next;
-use crate::vectors::{FAILED, FAILED_TWO, RECEIVED, SCATTERED};
+use crate::vectors::{FAILED, FAILED_TWO, SCATTERED};
 use ipc_frame::{Encoder, WireVersion};
 use ipc_history::Outcome;
 use ipc_items::{BufferList, StringList, Substring};
@@ -25,13 +25,6 @@ fn push_buffer(rt: &impl Abort, alloc: Global, buffers: &mut BufferList, parts: 
     let _ = buffers.push_buffer(alloc, parts).expect(rt, "memory");
 }
 
-// One buffer, which the string abc fills.
-fn one_buffer(rt: &impl Abort, alloc: Global) -> BufferList {
-    let mut buffers = BufferList::new(alloc);
-    push_buffer(rt, alloc, &mut buffers, &[part(3, 0x1000)]);
-    buffers
-}
-
 // Two buffers. A substring of the second takes no byte, and its last one has room.
 fn two_buffers(rt: &impl Abort, alloc: Global) -> BufferList {
     let mut buffers = BufferList::new(alloc);
@@ -53,21 +46,6 @@ fn failed(alloc: Global) -> Outcome {
         words: Vec::new(alloc),
         strings: StringList::new(alloc),
         buffers: BufferList::new(alloc),
-    }
-}
-
-// The outcome of RECEIVED.
-fn received(rt: &impl Abort, alloc: Global) -> Outcome {
-    Outcome {
-        call: 1,
-        moment: 0,
-        tag: MsgTag::from_word(0x80),
-        sender: ThreadId::from_word(0x2_0000_0001),
-        actual: ThreadId::NILTHREAD,
-        error: IpcError::from_word(0),
-        words: vec![in alloc; 0xc00, 0x1000].expect(rt, "memory"),
-        strings: strings_of(rt, alloc, &[b"abc"]),
-        buffers: one_buffer(rt, alloc),
     }
 }
 
@@ -123,9 +101,8 @@ fn is_given_as(
 fn an_outcome_is_given_as_its_frame(rt: HostRuntime) {
     let alloc = rt.alloc();
     let (one, two) = (WireVersion::One, WireVersion::Two);
-    for length in [1, 7, 8192] {
+    for length in [1, 7] {
         is_given_as(&rt, alloc, one, failed(alloc), length, &FAILED);
-        is_given_as(&rt, alloc, one, received(&rt, alloc), length, &RECEIVED);
         is_given_as(&rt, alloc, one, scattered(&rt, alloc), length, &SCATTERED);
         is_given_as(&rt, alloc, two, failed(alloc), length, &FAILED_TWO);
     }

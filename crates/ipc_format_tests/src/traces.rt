@@ -2,9 +2,7 @@
 use crate::comparing::{holds, same, same_at};
 use ipc_history::{Entry, Input};
 use ipc_ports::{MemoryPort, Trouble};
-use ipc_trace::{
-    LineFault, PutFault, TraceEnd, TraceLines, TraceVersion, TraceWriter, put_trace, read_trace,
-};
+use ipc_trace::{PutFault, TraceEnd, TraceVersion, TraceWriter, put_trace, read_trace};
 use ipc_words::ThreadId;
 use std::alloc::Global;
 use std::process::Abort;
@@ -106,37 +104,6 @@ fn a_trace_ends_as_its_lines_say(rt: HostRuntime) {
     }
 }
 
-// Reads the next line, and says whether it has an entry; else it tells the version.
-fn has_entry(lines: &mut TraceLines, line: &[u8]) -> Result<bool, LineFault> {
-    let read = lines.read(line);
-    let has = match &read {
-        Ok(entry) => Ok(entry.is_some()),
-        Err(fault) => Err(*fault),
-    };
-    drop(read);
-    has
-}
-
-#[test]
-fn lines_are_read_one_by_one(rt: HostRuntime) {
-    let mut lines = TraceLines::new(rt.alloc());
-    same(&rt, has_entry(&mut lines, b"l4trace 2"), Ok(false));
-    same(&rt, has_entry(&mut lines, b"opened 1.1 1"), Ok(true));
-    let bad = Err(LineFault::Bad);
-    same(&rt, has_entry(&mut lines, b"l4trace 2"), bad);
-    same(&rt, lines.version(), TWO);
-    drop(lines);
-}
-
-#[test]
-fn a_first_line_of_another_version_is_told(rt: HostRuntime) {
-    let mut lines = TraceLines::new(rt.alloc());
-    let unknown = Err(LineFault::UnknownVersion);
-    same(&rt, has_entry(&mut lines, b"l4trace 4"), unknown);
-    same(&rt, lines.version(), ONE);
-    drop(lines);
-}
-
 // The trace of two entries.
 const TRACE: &[u8] = b"l4trace 2\nopened 1.1 1\nopened 1.1 1\n";
 
@@ -161,18 +128,6 @@ fn a_front_of_a_trace_stands_where_a_write_fails(rt: HostRuntime) {
     for (call, written) in [(0, 0), (1, 10), (2, 23), (3, 36)] {
         stops_at(&rt, rt.alloc(), call, written);
     }
-}
-
-#[test]
-fn a_whole_trace_is_put_with_its_version(rt: HostRuntime) {
-    let alloc = rt.alloc();
-    let mut port = MemoryPort::new(alloc, &[]);
-    let mut trace = TraceWriter::new(alloc, &mut port);
-    same(&rt, put_two(&mut trace), Ok(()));
-    drop(trace);
-    same(&rt, port.output(), Some(TRACE));
-    holds(&rt, port.is_flushed());
-    drop(port);
 }
 
 // Where this call of the device fails, so many entries were read.
@@ -255,24 +210,6 @@ fn a_writer_stops_at_a_flush_that_fails(rt: HostRuntime) {
     drop(trace);
     same(&rt, port.output(), Some(b"opened 1.1 1\n".as_slice()));
     drop(port);
-}
-
-// How the reading of a text ends.
-fn end_of(alloc: Global, text: &[u8]) -> TraceEnd {
-    let mut port = text;
-    let read = read_trace(alloc, &mut port);
-    let end = read.end;
-    drop(read);
-    end
-}
-
-#[test]
-fn a_line_past_the_limit_is_bad_only_with_its_newline(rt: HostRuntime) {
-    let mut text = vec![in rt.alloc(); b'a'; 2_105_500].expect(&rt, "memory");
-    same(&rt, end_of(rt.alloc(), &text), TraceEnd::Torn);
-    text.push(b'\n').expect(&rt, "memory");
-    same(&rt, end_of(rt.alloc(), &text), TraceEnd::BadLine(1));
-    drop(text);
 }
 
 #[test]

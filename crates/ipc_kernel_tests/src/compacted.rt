@@ -8,12 +8,11 @@ ghost use Rattle.ipc_check.specs.Faults.{IfNo, IsFirstFaultAfter};
 ghost use Rattle.ipc_check.specs.declared.checker.Verdict.TheVariants.{Yes};
 ghost use Rattle.ipc_core.specs.KernelParts.{history_of};
 
+use crate::steps::{after_two_messages, at, enter, held, open, same, send, take, thread};
 use ipc_check::{Verdict, check_from};
 use ipc_compact::BaseRoom;
-use ipc_core::{Kernel, Limits, MAX_CALLS, MAX_ENTRIES, laws};
-use ipc_history::{Call, CallFields, EnteredCall, Entry, Input, Output};
-use ipc_items::StringList;
-use ipc_words::{MsgTag, Period, ThreadId};
+use ipc_core::{Kernel, laws};
+use ipc_history::{EnteredCall, Entry, Input, Output};
 use std::alloc::Global;
 use std::process::Abort;
 
@@ -55,26 +54,12 @@ fn verdict_after(kernel: &Kernel, room: BaseRoom, entries: &[Entry]) -> Verdict
     check_from(&base, kernel.held_entries(), entries)
 }
 
-// A test is a row of calls of the small functions here. They fail the test themselves, so no exit opens in the tests.
-
-// Fails the test where the two differ.
-fn same(rt: &impl Abort, left: usize, right: usize) {
-    assert_eq!(*rt; left, right);
-}
-
-fn same_verdict(rt: &impl Abort, left: Verdict, right: Verdict) {
-    assert_eq!(*rt; left, right);
-}
-
 // Fails the test where entries behind the history of a kernel that was compacted are judged otherwise.
 fn is_judged(rt: &impl Abort, alloc: Global, kernel: &Kernel, entries: &[Entry], verdict: Verdict)
     requires { held_of (history_of kernel.now) ≡ kept_of kernel.now.history kernel.now.taken }
 {
-    same_verdict(
-        rt,
-        verdict_behind(kernel, room(rt, alloc), entries),
-        verdict,
-    );
+    let room = room(rt, alloc);
+    same(rt, verdict_behind(kernel, room, entries), verdict);
 }
 
 // The same of entries that are used no more.
@@ -95,113 +80,18 @@ fn room(rt: &impl Abort, alloc: Global) -> BaseRoom {
     BaseRoom::new(alloc).ok().expect(rt, "memory for a base")
 }
 
-// The thread of a number, and a version.
-fn thread(number: u32, version: u32) -> ThreadId {
-    ThreadId::from_word(u64::from(number) * 0x1_0000_0000 + u64::from(version))
-}
-
-// A call of these words, with no timeouts.
-fn plain(rt: &impl Abort, alloc: Global, to: ThreadId, from: ThreadId, words: Vec<u64>) -> Call {
-    let tag = MsgTag::from_word(words.len() as u64);
-    let call = Call::new(CallFields {
-        to,
-        from,
-        send_period: Period::NEVER,
-        receive_period: Period::NEVER,
-        tag,
-        originator: ThreadId::NILTHREAD,
-        words,
-        strings: StringList::new(alloc),
-        buffers: None,
-    });
-    call.expect(rt, "a call")
-}
-
-// A receive from any thread.
-fn receive(rt: &impl Abort, alloc: Global) -> Call {
-    plain(
-        rt,
-        alloc,
-        ThreadId::NILTHREAD,
-        ThreadId::ANYTHREAD,
-        Vec::new(alloc),
-    )
-}
-
-// A send of a word to thread 1.
-fn send(rt: &impl Abort, alloc: Global) -> Call {
-    let mut words = Vec::new(alloc);
-    words.push(7).expect(rt, "memory");
-    plain(rt, alloc, thread(1, 1), ThreadId::NILTHREAD, words)
-}
-
-fn open(kernel: &mut Kernel, number: u64, space: u64) {
-    drop(kernel.open(number, space));
-}
-
-fn at(kernel: &mut Kernel, moment: u64) {
-    kernel.at(moment);
-}
-
-// The thread that ended.
-fn end_third(kernel: &mut Kernel) {
-    drop(kernel.broke(thread(3, 1)));
-}
-
-fn enter(kernel: &mut Kernel, number: u32, call: Call) {
-    drop(kernel.enter(thread(number, 1), call));
-}
-
-fn take(rt: &impl Abort, kernel: &mut Kernel, number: u32) {
-    drop(kernel.take(thread(number, 1)).expect(rt, "an outcome"));
-}
-
-// A message of thread 2 to thread 1; the receiver takes its outcome.
-fn message(rt: &impl Abort, alloc: Global, kernel: &mut Kernel) {
-    enter(kernel, 1, receive(rt, alloc));
-    enter(kernel, 2, send(rt, alloc));
-    take(rt, kernel, 1);
-}
-
-fn new_kernel(rt: &impl Abort, alloc: Global) -> Kernel {
-    let limits = Limits {
-        entries: MAX_ENTRIES,
-        calls: MAX_CALLS,
-    };
-    Kernel::new(alloc, limits).ok().expect(rt, "a kernel")
-}
-
-// A kernel after two messages, of which the second one's outcome was not taken by its sender; its receiver waits once more. A third
-// thread ended.
-fn after_two_messages(rt: &impl Abort, alloc: Global) -> Kernel {
-    let mut kernel = new_kernel(rt, alloc);
-    open(&mut kernel, 1, 1);
-    open(&mut kernel, 2, 1);
-    open(&mut kernel, 3, 1);
-    end_third(&mut kernel);
-    at(&mut kernel, 5);
-    message(rt, alloc, &mut kernel);
-    take(rt, &mut kernel, 2);
-    message(rt, alloc, &mut kernel);
-    enter(&mut kernel, 1, receive(rt, alloc));
-    kernel
-}
-
-// The same, compacted up to its end.
+// A kernel after two messages, compacted up to its end.
 fn compacted(rt: &impl Abort, alloc: Global) -> Kernel
     ensures { held_of (history_of result) ≡ kept_of result.history result.taken }
 {
     let mut kernel = after_two_messages(rt, alloc);
+    same(rt, held(&kernel), 14);
     compact_whole(&mut kernel);
     kernel
 }
 
 fn push(rt: &impl Abort, entries: &mut Vec<Entry>, entry: Entry) {
     entries.push(entry).expect(rt, "memory");
-}
-
-fn held(kernel: &Kernel) -> usize {
-    kernel.held()
 }
 
 // The opening of the third thread, once more.
@@ -217,7 +107,7 @@ fn opens_third(rt: &impl Abort, alloc: Global, version: u32) -> Vec<Entry> {
 
 // A send of thread 2 to thread 1, which is call 6, and outputs behind it.
 fn sends_and(rt: &impl Abort, alloc: Global, outputs: &[Output]) -> Vec<Entry> {
-    let call = EnteredCall::new(alloc, send(rt, alloc));
+    let call = EnteredCall::new(alloc, send(rt, alloc, 1));
     let call = call.ok().expect(rt, "memory");
     let mut entries = Vec::new(alloc);
     push(
@@ -233,16 +123,13 @@ fn sends_and(rt: &impl Abort, alloc: Global, outputs: &[Output]) -> Vec<Entry> {
 
 #[test]
 fn entries_behind_a_compaction_are_checked(rt: HostRuntime) {
-    assert_held(&rt, after_two_messages(&rt, rt.alloc()), 14);
     let kernel = compacted(&rt, rt.alloc());
-    judge_openings(&rt, rt.alloc(), &kernel);
     // the first message was let go, and the thread that ended
-    assert_held(&rt, kernel, 8);
-}
-
-// So many entries of it are held.
-fn assert_held(rt: &impl Abort, kernel: Kernel, count: usize) {
-    same(rt, held(&kernel), count);
+    same(&rt, held(&kernel), 8);
+    judge_openings(&rt, rt.alloc(), &kernel);
+    judge_calls(&rt, rt.alloc(), &kernel);
+    judge_more(&rt, rt.alloc(), &kernel);
+    judge_in_room(&rt, rt.alloc(), &kernel);
     drop(kernel);
 }
 
@@ -257,13 +144,7 @@ fn judge_openings(rt: &impl Abort, alloc: Global, kernel: &Kernel)
     are_judged(rt, alloc, kernel, opens_third(rt, alloc, 1), again);
 }
 
-#[test]
-fn a_call_behind_a_compaction_meets_the_open_one(rt: HostRuntime) {
-    let kernel = compacted(&rt, rt.alloc());
-    judge_calls(&rt, rt.alloc(), &kernel);
-    drop(kernel);
-}
-
+// A call behind the compaction meets the open one.
 fn judge_calls(rt: &impl Abort, alloc: Global, kernel: &Kernel)
     requires { held_of (history_of kernel.now) ≡ kept_of kernel.now.history kernel.now.taken }
 {
@@ -276,46 +157,32 @@ fn judge_calls(rt: &impl Abort, alloc: Global, kernel: &Kernel)
 }
 
 // What a kernel that had the same commands goes on to write is judged as legal behind this one.
-fn goes_on(rt: &impl Abort, alloc: Global, kernel: &Kernel, other: &Kernel)
+fn judge_more(rt: &impl Abort, alloc: Global, kernel: &Kernel)
     requires { held_of (history_of kernel.now) ≡ kept_of kernel.now.history kernel.now.taken }
 {
+    let other = after_more(rt, alloc);
     let place = kernel.total().max(other.whole_from());
     let entries = other.entries_from(place);
-    assert!(*rt; !entries.is_empty());
+    same(rt, entries.is_empty(), false);
     is_judged(rt, alloc, kernel, entries, Verdict::Yes);
-}
-
-#[test]
-fn what_a_kernel_goes_on_to_write_is_checked(rt: HostRuntime) {
-    let kernel = compacted(&rt, rt.alloc());
-    let other = after_more(&rt, rt.alloc());
-    goes_on(&rt, rt.alloc(), &kernel, &other);
     drop(other);
-    drop(kernel);
 }
 
 // A kernel that had the same commands, and more.
 fn after_more(rt: &impl Abort, alloc: Global) -> Kernel {
     let mut kernel = after_two_messages(rt, alloc);
-    take(rt, &mut kernel, 2);
-    enter(&mut kernel, 2, send(rt, alloc));
+    let _ = take(rt, &mut kernel, 2);
+    enter(&mut kernel, 2, send(rt, alloc, 1));
     open(&mut kernel, 3, 2);
     at(&mut kernel, 9);
     kernel
 }
 
-// The room of the base of a kernel, which is room for another one.
-fn room_again(rt: &impl Abort, alloc: Global, kernel: &Kernel) -> BaseRoom
+// The room of the base of a kernel is room for another one.
+fn judge_in_room(rt: &impl Abort, alloc: Global, kernel: &Kernel)
     requires { held_of (history_of kernel.now) ≡ kept_of kernel.now.history kernel.now.taken }
 {
     let base = kernel.base(room(rt, alloc));
-    base.into_room().ok().expect(rt, "the room of a base")
-}
-
-#[test]
-fn the_room_of_a_base_is_room_for_another_one(rt: HostRuntime) {
-    let kernel = compacted(&rt, rt.alloc());
-    let room = room_again(&rt, rt.alloc(), &kernel);
-    same_verdict(&rt, verdict_behind(&kernel, room, &[]), Verdict::Yes);
-    drop(kernel);
+    let room = base.into_room().ok().expect(rt, "the room of a base");
+    same(rt, verdict_behind(kernel, room, &[]), Verdict::Yes);
 }

@@ -1,11 +1,9 @@
-//! Tests of the kernel and of the checker of histories.
+//! Tests of what the kernel and the checker of histories give beside what the programs show.
 #![tactic(auto)]
 
-#[cfg(test)]
-mod check;
 #[cfg(test)]
 mod compacted;
 #[cfg(test)]
 mod kernel;
 #[cfg(test)]
-mod rows;
+mod steps;

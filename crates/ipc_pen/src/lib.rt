@@ -5,8 +5,6 @@
 mod given;
 mod pen;
 mod port;
-#[cfg(test)]
-mod tests;
 mod turn;
 mod writing;
 

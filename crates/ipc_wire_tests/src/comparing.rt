@@ -7,8 +7,3 @@ use std::process::Abort;
 pub fn same<T: PartialEq + Debug + Drop>(rt: &impl Abort, left: T, right: T) {
     assert_eq!(*rt; left, right);
 }
-
-// Fails the test where this is not so.
-pub fn holds(rt: &impl Abort, is_so: bool) {
-    assert!(*rt; is_so);
-}

@@ -1,4 +1,4 @@
-//! Tests of what goes over connections: of the client, the exchange and the sessions, alone and together.
+//! Tests of what goes over connections: of the client, the exchange and the sessions, where no program shows it.
 #![tactic(auto)]
 
 #[cfg(test)]
@@ -9,7 +9,5 @@ mod comparing;
 mod examples;
 #[cfg(test)]
 mod exchange;
-#[cfg(test)]
-mod served;
 #[cfg(test)]
 mod session;

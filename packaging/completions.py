@@ -38,15 +38,19 @@ def bash(name, words):
     for kind, made in (("FILE", "-f"), ("DIR", "-d")):
         wanted = sorted({long for each in every for _, long, value, _ in each.options if value == kind})
         if wanted:
-            lines += [f"    case $before in {'|'.join(wanted)})",
+            lines += [f"    case $before in {'|'.join(wanted)})", "        compopt -o filenames 2>/dev/null",
                       f"        COMPREPLY=($(compgen {made} -- \"$word\")); return;;", "    esac"]
+    # of other values nothing is known
+    valued = sorted({long for each in every for _, long, value, _ in each.options if value and value not in PLACES})
+    if valued:
+        lines += [f"    case $before in {'|'.join(valued)}) return;; esac"]
     if words.commands:
         lines += ["    if [ \"$COMP_CWORD\" -eq 1 ]; then",
                   f"        COMPREPLY=($(compgen -W \"{' '.join([*words.commands, *words.long()])}\" -- \"$word\")); return",
                   "    fi", "    case $command in"]
         for command, (_, below) in words.commands.items():
             made = {"file": "-f", "folder": "-d"}.get(below.takes)
-            files = f"; [[ $word == -* ]] || COMPREPLY+=($(compgen {made} -- \"$word\"))" if made else ""
+            files = f"; [[ $word == -* ]] || {{ compopt -o filenames 2>/dev/null; COMPREPLY+=($(compgen {made} -- \"$word\")); }}" if made else ""
             lines += [f"    {command}) COMPREPLY=($(compgen -W \"{' '.join(below.long())}\" -- \"$word\")){files};;"]
         lines += ["    esac"]
     else:

@@ -2,7 +2,7 @@
 
    A client's message has a number that grows, how often it was tried, and now and then a string whose bytes follow from the number.
    The server looks at all of it, and that no message of a client comes twice or late. Where processes are killed others go on with
-   their numbers as threads of the same number. One JSON line tells each interval how it stands. See docs/BENCHMARKS.md. */
+   their numbers as threads of the same number. One JSON line tells each interval how it stands. See bench/README.md. */
 #define _GNU_SOURCE
 #include "../relays/l4_frames.h"
 #include <signal.h>

@@ -1,5 +1,5 @@
 /* Load driver. One process per client and per server, all forked from here.
-   Prints one JSON line. See docs/BENCHMARKS.md. */
+   Prints one JSON line. See bench/README.md. */
 #define _GNU_SOURCE
 #include "ends.h"
 #include <errno.h>

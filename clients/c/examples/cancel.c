@@ -17,23 +17,29 @@ static _Atomic L4_Word_t silent_id, caller_id;
 /* The id that another thread of the process tells, when it is there. */
 static L4_ThreadId_t wait_for(_Atomic L4_Word_t *id)
 {
-	while (atomic_load(id) == 0)
+	while (atomic_load(id) == 0) {
 		L4_Sleep(L4_TimePeriod(1000));
+		/* no time is slept away without a connection */
+		if (L4_IsNilThread(L4_Myself()))
+			fail("wait_for");
+	}
 	return (L4_ThreadId_t) { atomic_load(id) };
 }
 
 static void *be_silent(void *unused)
 {
-	L4_ThreadId_t from;
+	L4_ThreadId_t caller;
 
 	connect_as(dir, 11);
 	atomic_store(&silent_id, L4_Myself().raw);
-	if (L4_IpcFailed(L4_Wait(&from)))
+	caller = wait_for(&caller_id);
+	/* from the caller alone, whoever else is there */
+	if (L4_IpcFailed(L4_Receive(caller)))
 		fail("silent");
-	printf("silent: a request from %llu.%llu, and no answer\n", (unsigned long long) L4_ThreadNo(from),
-	       (unsigned long long) L4_Version(from));
-	/* until the caller has ended: a closed receive fails then */
-	(void) L4_Receive(from);
+	printf("silent: a request from %llu.%llu, and no answer\n", (unsigned long long) L4_ThreadNo(caller),
+	       (unsigned long long) L4_Version(caller));
+	/* until the caller has ended: the receive fails then */
+	(void) L4_Receive(caller);
 	l4_disconnect();
 	return unused;
 }

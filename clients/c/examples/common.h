@@ -1,4 +1,4 @@
-/* What the examples share: an end with a message, and the thread that a word names. */
+/* What the examples share: an end with a message, the thread that a word names, and a server's loop. */
 #ifndef COMMON_H
 #define COMMON_H
 
@@ -45,12 +45,12 @@ static inline void announce(const char *name)
 	fflush(stdout);
 }
 
-/* Why a server's Ipc failed. A failed reply concerns the client alone; a lost connection ends the program. */
-static inline void complain(const char *what)
+/* A server: says who it is, and answers requests by this function until the connection ends. */
+static inline void serve(const char *name, l4_answer_t answer, void *data)
 {
-	if (L4_IsNilThread(L4_Myself()))
-		fail(what);
-	fprintf(stderr, "%s: %s\n", what, l4_error());
+	announce(name);
+	if (l4_serve(answer, NULL, data) < 0)
+		fail(name);
 }
 
 #endif

@@ -1,7 +1,7 @@
 /* Strings are memory: a title and a text go from one process to the other. The text is gathered from several places, and
  * scattered to two.
  *
- *     copy DIR take                           thread 6: receives once, and prints what came
+ *     copy DIR take                           thread 6: prints the first two strings that come
  *     copy DIR give TAKER TITLE WORD..        thread 7: sends; TAKER is taker or an id */
 #include "common.h"
 
@@ -9,43 +9,54 @@
 
 enum { TITLE_BYTES = 64, FRONT_BYTES = 8, REST_BYTES = 4096 };
 
+/* Where the strings go. */
+struct memory {
+	char title[TITLE_BYTES], front[FRONT_BYTES], rest[REST_BYTES];
+};
+
 static void print_bytes(const char *what, const char *bytes, size_t count)
 {
 	printf("%s: %.*s\n", what, (int) count, bytes);
 }
 
-static void take(void)
+/* Prints two strings, and ends the thread then: l4_serve returns. Of what else comes it says so, and waits for the next. */
+static L4_Bool_t print_strings(L4_ThreadId_t from, L4_MsgTag_t tag, void *data)
 {
-	static char title[TITLE_BYTES], front[FRONT_BYTES], rest[REST_BYTES];
-	L4_StringItem_t text = L4_StringItem(FRONT_BYTES, front), item;
-	L4_MsgBuffer_t buffers;
-	L4_ThreadId_t from;
-	L4_MsgTag_t tag;
-	L4_Msg_t msg;
+	const struct memory *memory = data;
+	L4_StringItem_t title, text;
 	L4_Word_t next;
+	L4_Msg_t msg;
 	size_t bytes;
 
-	/* the first string goes to the title, the second fills front and goes on in rest */
-	L4_AddSubstringTo(&text, L4_StringItem(REST_BYTES, rest));
-	L4_MsgBufferClear(&buffers);
-	L4_MsgBufferAppendSimpleRcvString(&buffers, L4_StringItem(TITLE_BYTES, title));
-	L4_MsgBufferAppendRcvString(&buffers, &text);
-	announce("taker");
-	L4_AcceptStrings(L4_StringItemsAcceptor, &buffers);
-	tag = L4_Wait(&from);
-	if (L4_IpcFailed(tag))
-		fail("take");
+	(void) from;
 	L4_MsgStore(tag, &msg);
-	next = L4_MsgGetStringItem(&msg, 0, &item);
+	next = L4_MsgGetStringItem(&msg, 0, &title);
 	if (next == 0 || L4_MsgGetStringItem(&msg, next, &text) == 0) {
 		fprintf(stderr, "take: not two strings\n");
-		exit(1);
+		return false;
 	}
 	/* a string that was received is a simple item of its whole length */
-	print_bytes("title", title, item.raw[0] >> 10);
+	print_bytes("title", memory->title, title.raw[0] >> 10);
 	bytes = text.raw[0] >> 10;
-	print_bytes("front", front, bytes < FRONT_BYTES ? bytes : FRONT_BYTES);
-	print_bytes("rest", rest, bytes < FRONT_BYTES ? 0 : bytes - FRONT_BYTES);
+	print_bytes("front", memory->front, bytes < FRONT_BYTES ? bytes : FRONT_BYTES);
+	print_bytes("rest", memory->rest, bytes < FRONT_BYTES ? 0 : bytes - FRONT_BYTES);
+	l4_disconnect();
+	return false;
+}
+
+static void take(void)
+{
+	static struct memory memory;
+	L4_StringItem_t text = L4_StringItem(FRONT_BYTES, memory.front);
+	L4_MsgBuffer_t buffers;
+
+	/* the first string goes to the title, the second fills front and goes on in rest */
+	L4_AddSubstringTo(&text, L4_StringItem(REST_BYTES, memory.rest));
+	L4_MsgBufferClear(&buffers);
+	L4_MsgBufferAppendSimpleRcvString(&buffers, L4_StringItem(TITLE_BYTES, memory.title));
+	L4_MsgBufferAppendRcvString(&buffers, &text);
+	L4_AcceptStrings(L4_StringItemsAcceptor, &buffers);
+	serve("taker", print_strings, &memory);
 }
 
 static void give(L4_ThreadId_t taker, char *title, char **words, int count)

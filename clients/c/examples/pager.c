@@ -1,5 +1,5 @@
-/* A server's loop as that of a pager: Wait for the first fault, and then ReplyWait, which answers one and waits for the
- * next. No memory is mapped here: the answer is the address of the page and the number of the frame that backs it.
+/* A server as a pager is one: l4_serve answers a fault and waits for the next, by ReplyWait. No memory is mapped here: the
+ * answer is the address of the page and the number of the frame that backs it.
  *
  *     pager DIR serve                     thread 4
  *     pager DIR touch PAGER ADDRESS..     thread 5: tells a fault at each address, and prints the frame; PAGER is pager or an id */
@@ -30,12 +30,14 @@ static size_t frame_of(struct pages *pages, L4_Word_t address)
 }
 
 /* Loads the answer to a fault: the page and its frame, or label 1 alone where the request is no fault or memory is used up. */
-static void answer(struct pages *pages, L4_MsgTag_t tag)
+static L4_Bool_t answer(L4_ThreadId_t from, L4_MsgTag_t tag, void *data)
 {
+	struct pages *pages = data;
 	L4_Word_t address;
 	size_t frame = PAGES;
 	L4_Msg_t msg;
 
+	(void) from;
 	L4_StoreMR(1, &address);
 	if (L4_UntypedWords(tag) == 2 && (L4_Label(tag) & ~(L4_Word_t) 0x7) == FAULT_LABEL)
 		frame = frame_of(pages, address);
@@ -47,26 +49,7 @@ static void answer(struct pages *pages, L4_MsgTag_t tag)
 		L4_MsgAppendWord(&msg, frame);
 	}
 	L4_MsgLoad(&msg);
-}
-
-static void serve(void)
-{
-	static struct pages pages;
-	L4_ThreadId_t from;
-	L4_MsgTag_t tag;
-
-	announce("pager");
-	tag = L4_Wait(&from);
-	for (;;) {
-		if (L4_IpcFailed(tag)) {
-			/* who faulted did not wait for the answer, so there was no receive phase */
-			complain("pager");
-			tag = L4_Wait(&from);
-			continue;
-		}
-		answer(&pages, tag);
-		tag = L4_ReplyWait(from, &from);
-	}
+	return true;
 }
 
 static void touch(L4_ThreadId_t pager, L4_Word_t address)
@@ -93,8 +76,10 @@ static void touch(L4_ThreadId_t pager, L4_Word_t address)
 int main(int argc, char **argv)
 {
 	if (argc == 3 && strcmp(argv[2], "serve") == 0) {
+		static struct pages pages;
+
 		connect_as(argv[1], 4);
-		serve();
+		serve("pager", answer, &pages);
 	} else if (argc >= 5 && strcmp(argv[2], "touch") == 0) {
 		L4_ThreadId_t pager;
 

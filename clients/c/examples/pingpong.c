@@ -9,30 +9,14 @@
 #include <string.h>
 #include <time.h>
 
-enum { ROUNDS = 1000, MOST_WORDS = 60, LAST = 2 };
+enum { ROUNDS = 1000, MOST_WORDS = 60 };
 
-static void pong(void)
+/* The words stand in the message registers, and go back from there; its strings, if it had any, do not. */
+static L4_Bool_t pong(L4_ThreadId_t from, L4_MsgTag_t tag, void *unused)
 {
-	L4_ThreadId_t from;
-	L4_MsgTag_t tag;
-
-	announce("pingpong");
-	tag = L4_Wait(&from);
-	for (;;) {
-		if (L4_IpcFailed(tag)) {
-			complain("pong");
-			tag = L4_Wait(&from);
-			continue;
-		}
-		if (L4_Label(tag) == LAST)
-			break;
-		/* The words stand in the message registers, and go back from there. The tag is made anew: with the flag p of a
-		 * message that a gateway passed on, the answer would be propagated too. */
-		L4_Set_MsgTag(L4_MsgTagAddLabel((L4_MsgTag_t) { L4_UntypedWords(tag) }, L4_Label(tag)));
-		tag = L4_ReplyWait(from, &from);
-	}
-	L4_Set_MsgTag(L4_Niltag);
-	(void) L4_Reply(from);
+	(void) from, (void) unused;
+	L4_Set_MsgTag(L4_MsgTagAddLabel((L4_MsgTag_t) { L4_UntypedWords(tag) }, L4_Label(tag)));
+	return true;
 }
 
 static double microseconds(void)
@@ -71,16 +55,13 @@ static void ping(L4_ThreadId_t to)
 		/* a round is two messages */
 		printf("IPC (%2d MRs): %.2f microseconds\n", words, (microseconds() - began) / (2.0 * ROUNDS));
 	}
-	L4_Set_MsgTag(L4_MsgTagAddLabel(L4_Niltag, LAST));
-	if (L4_IpcFailed(L4_Call(to)))
-		fail("ping");
 }
 
 int main(int argc, char **argv)
 {
 	if (argc == 3 && strcmp(argv[2], "pong") == 0) {
 		connect_as(argv[1], 2);
-		pong();
+		serve("pingpong", pong, NULL);
 	} else if ((argc == 3 || argc == 4) && strcmp(argv[2], "ping") == 0) {
 		connect_as(argv[1], 3);
 		ping(thread_of(argc == 4 ? argv[3] : "pingpong"));

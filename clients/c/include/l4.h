@@ -9,6 +9,7 @@
 #include <l4/message.h>
 #include <l4/names.h>
 #include <l4/schedule.h>
+#include <l4/serve.h>
 #include <l4/thread.h>
 #include <l4/types.h>
 

@@ -1,58 +1,11 @@
 /* Why a call failed, as errno, as ErrorCode and in words. */
 #include "internal.h"
+#include "meanings.h"
 
 #include <errno.h>
+#include <stdarg.h>
 #include <stdio.h>
 #include <string.h>
-
-struct meaning {
-	char class;
-	uint8_t number;
-	int saved_errno;
-	const char *text;
-};
-
-static const struct meaning meanings[] = {
-	{ 'K', 1, EINVAL, "a thread number outside 1 to 1,023, or a space outside 1 to 64" },
-	{ 'K', 2, EADDRINUSE, "a thread of that number is live" },
-	{ 'K', 3, EADDRNOTAVAIL, "the versions of the number are used up" },
-	{ 'K', 4, ENOMEM, "the server has no memory" },
-	{ 'K', 5, ENOSPC, "the server's history has no room" },
-	{ 'K', 6, EPROTO, "the thread is not live" },
-	{ 'K', 7, EPROTO, "a call of the thread is open" },
-	{ 'K', 8, EOVERFLOW, "the number of the call would pass the limit" },
-	{ 'F', 1, EPROTO, "a frame of more than 2,097,152 bytes" },
-	{ 'F', 2, EPROTO, "no kind of frame" },
-	{ 'F', 3, EPROTO, "a frame of a wrong length" },
-	{ 'F', 4, EMSGSIZE, "a message of more than 63 words" },
-	{ 'F', 5, EINVAL, "a string item or buffer runs past its words" },
-	{ 'F', 6, EINVAL, "an item that is no string item" },
-	{ 'F', 7, EPROTO, "a string outside the payload" },
-	{ 'F', 8, EMSGSIZE, "strings of more than 1,048,576 bytes together" },
-	{ 'F', 9, ECONNRESET, "the connection ended" },
-	{ 'F', 10, EIO, "the connection failed" },
-	{ 'F', 11, EIO, "too many interrupted reads" },
-	{ 'F', 12, EINVAL, "a timeout that is no period" },
-	{ 'F', 13, EPROTO, "asked again after a fault" },
-	{ 'F', 14, ENOMEM, "the server has no memory" },
-	{ 'F', 15, EPROTO, "a version of the wire that the server does not have" },
-	{ 'S', 1, EPROTO, "a frame that may not come there" },
-	{ 'C', NOT_CONNECTED, ENOTCONN, "the thread is not connected" },
-	{ 'C', NO_REGISTER, EINVAL, "a register that is not there" },
-	{ 'C', LEFT_OUT_CONTROL, EINVAL, "a control of ExchangeRegisters with other bits than R and S" },
-	{ 'C', NOT_AN_ANSWER, EPROTO, "the server sent what is no answer to the call" },
-	{ 'C', IS_CONNECTED, EISCONN, "the thread is connected already" },
-	{ 'C', NO_PATH, ENAMETOOLONG, "the path of the space is too long for a socket" },
-	{ 'C', NOBODY_THERE, ESRCH, "ExchangeRegisters of what is no live thread of the caller's space" },
-	{ 'C', NO_VERSION, EINVAL, "the wire has versions 1 and 2" },
-	{ 'N', 1, EPROTO, "no request of a name server" },
-	{ 'N', BAD_NAME, EINVAL, "a name has 1 to 64 bytes of printable ASCII without the space" },
-	{ 'N', 3, EADDRINUSE, "another live thread has the name" },
-	{ 'N', 4, ENOSPC, "the name server is full" },
-	{ 'N', 5, ENOMEM, "the name server has no memory" },
-	{ 'N', NO_NAME_SERVER, ESRCH, "there is no name server" },
-	{ 'N', NOBODY_HAS_NAME, ENOENT, "no live thread has the name" },
-};
 
 static const struct meaning *meaning_of(char class, unsigned number)
 {
@@ -77,15 +30,17 @@ static struct failure failure_of(enum source source, char class, unsigned number
 
 static int tell(struct thread *thread, struct failure failure)
 {
+	if (failure.class == 'N' && thread->name[0] != 0)
+		failure.about = thread->name;
 	thread->last = failure;
 	thread->error_code = failure.code;
 	errno = failure.saved_errno;
 	return -1;
 }
 
-int l4_tell_outcome(struct thread *thread, L4_Word_t code)
+int l4_tell_outcome(struct thread *thread, L4_Word_t code, L4_ThreadId_t partner, unsigned string)
 {
-	thread->last = (struct failure) { .source = OUTCOME, .code = code };
+	thread->last = (struct failure) { .source = OUTCOME, .code = code, .partner = partner, .string = string };
 	thread->error_code = code;
 	return -1;
 }
@@ -99,51 +54,88 @@ int l4_lose(struct thread *thread, enum source source, char class, unsigned numb
 {
 	l4_close(thread);
 	thread->lost = failure_of(source, class, number, cause);
+	/* what is at fault is the server of this path; what the library says of an answer is said of the answer */
+	if (source == SERVER_FAULT || class == 'F')
+		thread->lost.about = thread->path;
 	return tell(thread, thread->lost);
 }
 
-static void print_outcome(char *text, size_t room, L4_Word_t code)
-{
-	static const char *const errors[8] = {
-		"no error", "timeout", "non-existing partner", "cancelled by another thread", "message overflow",
-		"timeout of a transfer", "timeout of a transfer", "aborted by another thread",
-	};
+/* Text that is put together piece by piece; what does not fit is cut off. */
+struct text {
+	char *at;
+	size_t room;
+};
 
-	snprintf(text, room, "%s phase: %s (e=%u, offset %llu)", code & 1 ? "receive" : "send", errors[code >> 1 & 7],
-		 (unsigned) (code >> 1 & 7), (unsigned long long) (code >> 4));
+static void append(struct text *text, const char *format, ...)
+{
+	va_list values;
+	int count;
+
+	va_start(values, format);
+	count = vsnprintf(text->at, text->room, format, values);
+	va_end(values);
+	if (count > 0 && (size_t) count < text->room) {
+		text->at += count;
+		text->room -= (size_t) count;
+	} else {
+		text->room = 0;
+	}
 }
 
-static void print_number(char *text, size_t room, const struct failure *failure)
+static void append_partner(struct text *text, bool is_receive, L4_ThreadId_t partner)
+{
+	append(text, is_receive ? "receive phase from " : "send phase to ");
+	if (L4_IsThreadEqual(partner, L4_anythread))
+		append(text, "any thread");
+	else if (L4_IsThreadEqual(partner, L4_anylocalthread))
+		append(text, "any thread of the space");
+	else
+		append(text, "%llu.%llu", (unsigned long long) L4_ThreadNo(partner), (unsigned long long) L4_Version(partner));
+}
+
+static void append_outcome(struct text *text, const struct failure *outcome)
+{
+	bool is_receive = outcome->code & 1;
+	unsigned error = outcome->code >> 1 & 7;
+
+	append_partner(text, is_receive, outcome->partner);
+	append(text, ": %s (e=%u, offset %llu)", errors[error], error, (unsigned long long) (outcome->code >> 4));
+	if (error == E_MESSAGE_OVERFLOW && is_receive)
+		append(text, ", a string did not fit the buffers that were accepted, and nothing was delivered");
+	else if (error == E_MESSAGE_OVERFLOW && outcome->string != 0)
+		append(text, ", string %u did not fit the receiver's buffers, and nothing was delivered", outcome->string);
+}
+
+static void append_number(struct text *text, const struct failure *failure)
 {
 	static const char *const heads[] = {
 		[NOBODY] = "", [OUTCOME] = "", [SERVER_REFUSED] = "REFUSED ", [SERVER_FAULT] = "FAULT ", [FOUND_HERE] = "",
 	};
 	const struct meaning *meaning = meaning_of(failure->class, failure->number);
-	/* what the system said tells more than its number here */
-	bool is_of_system = failure->saved_errno != meaning->saved_errno;
 
-	snprintf(text, room, "%s%c%u: %s%s%s", heads[failure->source], failure->class, failure->number, meaning->text,
-		 is_of_system ? ": " : "", is_of_system ? strerror(failure->saved_errno) : "");
+	append(text, "%s%c%u: %s", heads[failure->source], failure->class, failure->number, meaning->text);
+	/* what the system said tells more than its number here */
+	if (failure->saved_errno != meaning->saved_errno)
+		append(text, ": %s", strerror(failure->saved_errno));
+	if (failure->about != NULL)
+		append(text, " (%s)", failure->about);
 }
 
 const char *l4_error(void)
 {
 	struct thread *thread = &l4_thread;
 	const struct failure *last = &thread->last;
-	char *text = thread->text;
-	size_t length;
+	struct text text = { thread->text, sizeof thread->text };
 
 	if (last->source == NOBODY)
 		return "no error";
 	if (last->source == OUTCOME)
-		print_outcome(text, sizeof thread->text, last->code);
+		append_outcome(&text, last);
 	else
-		print_number(text, sizeof thread->text, last);
-	if (last->class == 'C' && last->number == NOT_CONNECTED && thread->lost.source != NOBODY) {
-		length = strlen(text);
-		snprintf(text + length, sizeof thread->text - length, ", since ");
-		length = strlen(text);
-		print_number(text + length, sizeof thread->text - length, &thread->lost);
+		append_number(&text, last);
+	if (last->class == 'C' && last->number == C_NOT_CONNECTED && thread->lost.source != NOBODY) {
+		append(&text, ", since ");
+		append_number(&text, &thread->lost);
 	}
-	return text;
+	return thread->text;
 }

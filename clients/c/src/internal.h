@@ -2,6 +2,8 @@
 #ifndef L4_INTERNAL_H
 #define L4_INTERNAL_H
 
+#include "protocol.h"
+
 #include <l4/message.h>
 #include <l4/thread.h>
 
@@ -9,31 +11,14 @@
 #include <sys/uio.h>
 
 enum {
-	MESSAGE_REGISTERS = 64,
-	BUFFER_REGISTERS = 33,
-	/* words of a message behind its tag */
-	MESSAGE_WORDS = MESSAGE_REGISTERS - 1,
-	BUFFER_WORDS = BUFFER_REGISTERS - 1,
-	STRING_BYTES = 1048576,
-	/* the longest body of a frame */
-	BODY_BYTES = 2097152,
+	/* MR0 is the tag of a message, BR0 the acceptor */
+	MESSAGE_REGISTERS = MAX_MESSAGE_WORDS + 1,
+	BUFFER_REGISTERS = MAX_BUFFER_WORDS + 1,
 	/* more than any frame without strings has, so that most answers come by one read */
 	INPUT_BYTES = 8192,
-};
-
-enum kind {
-	HELLO = 0x01,
-	IPC = 0x02,
-	EXREG = 0x03,
-	BYE = 0x04,
-	WELCOME = 0x81,
-	IPCR = 0x82,
-	EXREGR = 0x83,
-	REFUSED = 0x84,
-	FAULT = 0x85,
-	/* what version 2 of the wire has in the place of IPCR and EXREGR */
-	IPCR_2 = 0x86,
-	EXREGR_2 = 0x87,
+	/* a frame before its body, and with the kind with which the body begins */
+	LENGTH_BYTES = 4,
+	HEAD_BYTES = LENGTH_BYTES + 1,
 };
 
 /* Bits of tags and descriptors. */
@@ -42,30 +27,16 @@ enum {
 	TAG_REDIRECTED = 0x2000,
 	TAG_CROSSED = 0x4000,
 	TAG_FAILED = 0x8000,
-	/* u and t of a message that was given more than it can have */
+	/* u and t of a message that was given more than it can have, and of one that was given what is no string item */
 	TAG_SPOILT = 0xfff,
+	TAG_SPOILT_BY_ITEM = 0xfbf,
 	ITEM_MORE = 0x1,
 	ITEM_NONE = 0x8,
 	ITEM_GOES_ON = 0x200,
-};
-
-/* What the library itself finds wrong: class C. */
-enum client_fault {
-	NOT_CONNECTED = 1,
-	NO_REGISTER = 2,
-	LEFT_OUT_CONTROL = 3,
-	NOT_AN_ANSWER = 4,
-	IS_CONNECTED = 5,
-	NO_PATH = 6,
-	NOBODY_THERE = 7,
-	NO_VERSION = 8,
-};
-
-/* What the name server answers, and what is found of it: class N. */
-enum name_fault {
-	BAD_NAME = 2,
-	NO_NAME_SERVER = 6,
-	NOBODY_HAS_NAME = 7,
+	/* the first word of buffers that cannot be: one string that goes on behind the last register; the hints say that what is
+	 * no string item made it so */
+	BUFFERS_SPOILT = 0x3f0,
+	BUFFERS_SPOILT_BY_ITEM = 0x3f6,
 };
 
 /* Who says that a call failed. */
@@ -85,6 +56,11 @@ struct failure {
 	uint8_t number;
 	L4_Word_t code;
 	int saved_errno;
+	/* what stands behind the text: a path or a name, or NULL */
+	const char *about;
+	/* of an outcome: the partner of the phase that failed, and which string of the message did not fit, from 1 on, or 0 */
+	L4_ThreadId_t partner;
+	unsigned string;
 };
 
 /* What version 2 tells of the last Ipc or ExchangeRegisters. */
@@ -95,20 +71,38 @@ struct told {
 	L4_Word64_t moment;
 };
 
+/* Which phases a call has, with whom, and how many of BR1 on are its buffers. */
+struct phases {
+	bool sends;
+	bool receives;
+	L4_ThreadId_t to;
+	L4_ThreadId_t from;
+	size_t buffer_words;
+};
+
 /* A thread of the process: its virtual registers and its connection. */
 struct thread {
 	bool is_connected;
+	/* an Ipc or ExchangeRegisters began and is not over: a signal handler calls within it, or one left it by longjmp */
+	volatile bool is_calling;
+	/* that one is of l4_ipc_begin */
+	bool is_begun;
+	struct phases open;
 	/* of the wire, 1 or 2 */
 	unsigned version;
 	/* a register that is not there was used: the next Ipc tells it */
 	bool is_misused;
 	int socket;
+	/* the other connected threads of the process */
+	struct thread *next, **link;
 	L4_ThreadId_t id;
 	L4_Word_t mr[MESSAGE_REGISTERS];
 	L4_Word_t br[BUFFER_REGISTERS];
 	L4_Word_t error_code;
 	/* the manual's one register: VirtualSender before a send, ActualSender after a receive */
 	L4_ThreadId_t virtual_sender;
+	/* L4_Set_VirtualSender was called: l4_serve asks it of its function */
+	bool names_sender;
 	struct told last_call;
 	struct told last_exchange;
 	struct failure last;
@@ -116,7 +110,10 @@ struct thread {
 	struct failure lost;
 	/* L4_nilthread: not looked for yet */
 	L4_ThreadId_t name_server;
-	char text[256];
+	char text[512];
+	/* the path that was connected to, and the name that was asked for */
+	char path[MAX_PATH_BYTES + 1];
+	char name[MAX_NAME_BYTES + 1];
 	/* bytes of the answer that were read and not yet taken: input[at] to input[end - 1] */
 	size_t at;
 	size_t end;
@@ -125,22 +122,38 @@ struct thread {
 	unsigned char input[INPUT_BYTES];
 };
 
-extern _Thread_local struct thread l4_thread;
+#if defined __STDC_VERSION__ && __STDC_VERSION__ >= 201112L
+#define THREAD_LOCAL _Thread_local
+#else
+#define THREAD_LOCAL __thread
+#endif
+
+/* hidden, so that the compiler knows where it is */
+extern THREAD_LOCAL struct thread l4_thread __attribute__((visibility("hidden")));
 
 /* failure.c: each of these answers -1, and all but the first set errno. */
 
 /* The outcome of a call was this ErrorCode. */
-int l4_tell_outcome(struct thread *thread, L4_Word_t code);
+int l4_tell_outcome(struct thread *thread, L4_Word_t code, L4_ThreadId_t partner, unsigned string);
 /* A refusal of the server, or of the library before anything was sent: the connection stays. */
 int l4_refuse(struct thread *thread, enum source source, char class, unsigned number);
 /* A fault told by the server or found by the library: the connection is closed. errno is cause, or if that is 0 the one
  * that goes with the number. */
 int l4_lose(struct thread *thread, enum source source, char class, unsigned number, int cause);
 
-/* connection.c: */
+/* thread.c: */
 
 /* Closes the connection; the thread is none from then on. */
 void l4_close(struct thread *thread);
+
+/* The moment, in milliseconds, at which a time that begins now is over; and whether it is not yet: then a while passed. */
+int64_t l4_end_of(L4_Time_t patience);
+bool l4_pause(int64_t until);
+
+/* schedule.c: what a period is worth; UINT64_MAX for L4_Never. */
+L4_Word64_t l4_microseconds(L4_Time_t time);
+
+/* connection.c: */
 
 /* These answer 0, or -1 with the connection lost. */
 
@@ -155,37 +168,16 @@ int l4_take_to(struct thread *thread, void *memory, size_t count);
 /* What a frame tells that is not the answer that was asked for: REFUSED, FAULT, or nonsense. Always -1. */
 int l4_read_refusal(struct thread *thread, unsigned kind, size_t body);
 
-/* Numbers stand with the most significant byte first; what puts one answers the byte behind it. Written out, so that a
- * compiler sees a store or load of swapped bytes. */
+/* request.c: makes the frame of a call from the registers, and sends it. 0, or -1 where it is refused or the connection lost. */
+int l4_ask(struct thread *thread, struct phases *phases, L4_Word_t timeouts);
 
-static inline unsigned char *put_byte(unsigned char *at, unsigned value)
-{
-	*at = (unsigned char) value;
-	return at + 1;
-}
+/* outcome.c: reads the outcome of a call. 0, with who sent at *from, or -1 where it is an error or the connection is lost. */
+int l4_hear(struct thread *thread, const struct phases *phases, L4_ThreadId_t *from);
 
-static inline unsigned char *put_half(unsigned char *at, uint32_t value)
+/* Begins a frame: its length, of a body of so many bytes, and its kind. */
+static inline unsigned char *put_head(unsigned char *at, size_t body, enum kind kind)
 {
-	at[0] = (unsigned char) (value >> 24);
-	at[1] = (unsigned char) (value >> 16);
-	at[2] = (unsigned char) (value >> 8);
-	at[3] = (unsigned char) value;
-	return at + 4;
-}
-
-static inline unsigned char *put_word(unsigned char *at, L4_Word_t value)
-{
-	return put_half(put_half(at, (uint32_t) (value >> 32)), (uint32_t) value);
-}
-
-static inline uint32_t get_half(const unsigned char *at)
-{
-	return (uint32_t) at[0] << 24 | (uint32_t) at[1] << 16 | (uint32_t) at[2] << 8 | at[3];
-}
-
-static inline L4_Word_t get_word(const unsigned char *at)
-{
-	return (L4_Word_t) get_half(at) << 32 | get_half(at + 4);
+	return put_byte(put_half(at, (uint32_t) body), kind);
 }
 
 /* The fields of a descriptor. */
@@ -214,5 +206,7 @@ static inline L4_Word_t pointer_to(const void *memory)
 
 /* The words of the item that begins at words[at], of which limit are there: 0 where it is none or runs past them. */
 size_t l4_item_words(const L4_Word_t *words, size_t at, size_t limit);
+/* The string of these items, from 1 on, in which the byte of this offset stands, all strings end to end; 0 for none. */
+unsigned l4_string_at(const L4_Word_t *words, size_t count, L4_Word_t offset);
 
 #endif

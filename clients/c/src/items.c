@@ -21,6 +21,20 @@ size_t l4_item_words(const L4_Word_t *words, size_t at, size_t limit)
 	return at - start;
 }
 
+unsigned l4_string_at(const L4_Word_t *words, size_t count, L4_Word_t offset)
+{
+	L4_Word_t end = 0;
+	unsigned string = 1;
+
+	for (size_t at = 0; at < count; at += 1 + item_pointers(words[at])) {
+		end += item_pointers(words[at]) * item_length(words[at]);
+		if (offset < end)
+			return string;
+		string += words[at] & ITEM_GOES_ON ? 0 : 1;
+	}
+	return 0;
+}
+
 /* Where the last descriptor of an item stands. */
 static size_t last_descriptor(const L4_StringItem_t *s)
 {
@@ -119,7 +133,8 @@ void L4_MsgBufferClear(L4_MsgBuffer_t *b)
 /* Marks buffers that cannot be: one item whose string goes on behind the last register. */
 static void spoil_buffers(L4_MsgBuffer_t *b)
 {
-	b->raw[0] = ITEM_GOES_ON | (L4_Word_t) (POINTERS - 1) << 4;
+	if (b->raw[0] != BUFFERS_SPOILT_BY_ITEM)
+		b->raw[0] = BUFFERS_SPOILT;
 }
 
 void L4_MsgBufferAppendRcvString(L4_MsgBuffer_t *b, const L4_StringItem_t *s)
@@ -128,7 +143,7 @@ void L4_MsgBufferAppendRcvString(L4_MsgBuffer_t *b, const L4_StringItem_t *s)
 	bool is_first = (b->raw[0] & ITEM_NONE) != 0;
 
 	while (!is_first) {
-		size_t there = l4_item_words(b->raw, at, BUFFER_WORDS);
+		size_t there = l4_item_words(b->raw, at, MAX_BUFFER_WORDS);
 		if (there == 0) {
 			spoil_buffers(b);
 			return;
@@ -138,7 +153,11 @@ void L4_MsgBufferAppendRcvString(L4_MsgBuffer_t *b, const L4_StringItem_t *s)
 		if (!(b->raw[last] & ITEM_MORE))
 			break;
 	}
-	if (words == 0 || words > BUFFER_WORDS - at) {
+	if (words == 0) {
+		b->raw[0] = BUFFERS_SPOILT_BY_ITEM;
+		return;
+	}
+	if (words > MAX_BUFFER_WORDS - at) {
 		spoil_buffers(b);
 		return;
 	}

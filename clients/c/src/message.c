@@ -3,7 +3,7 @@
 
 #include <string.h>
 
-_Thread_local struct thread l4_thread;
+THREAD_LOCAL struct thread l4_thread;
 
 static size_t untyped_of(const L4_Msg_t *msg)
 {
@@ -21,19 +21,27 @@ static size_t words_of(const L4_Msg_t *msg)
 	return untyped_of(msg) + typed_of(msg);
 }
 
-static void spoil(L4_Msg_t *msg)
+static void count(L4_Msg_t *msg, size_t untyped, size_t typed)
 {
-	msg->raw[0] |= TAG_SPOILT;
+	msg->raw[0] = (msg->raw[0] & ~(L4_Word_t) TAG_SPOILT) | typed << 6 | untyped;
 }
 
 static bool is_spoilt(const L4_Msg_t *msg)
 {
-	return words_of(msg) > MESSAGE_WORDS;
+	return words_of(msg) > MAX_MESSAGE_WORDS;
 }
 
-static void count(L4_Msg_t *msg, size_t untyped, size_t typed)
+/* What spoils a message first is what its Ipc tells. */
+static void spoil(L4_Msg_t *msg)
 {
-	msg->raw[0] = (msg->raw[0] & ~(L4_Word_t) TAG_SPOILT) | typed << 6 | untyped;
+	if (!is_spoilt(msg))
+		msg->raw[0] |= TAG_SPOILT;
+}
+
+static void spoil_by_item(L4_Msg_t *msg)
+{
+	if (!is_spoilt(msg))
+		count(msg, TAG_SPOILT_BY_ITEM & 0x3f, TAG_SPOILT_BY_ITEM >> 6);
 }
 
 void L4_MsgClear(L4_Msg_t *msg)
@@ -45,7 +53,7 @@ void L4_MsgAppendWord(L4_Msg_t *msg, L4_Word_t w)
 {
 	size_t u = untyped_of(msg), t = typed_of(msg);
 
-	if (u + t >= MESSAGE_WORDS) {
+	if (u + t >= MAX_MESSAGE_WORDS) {
 		spoil(msg);
 		return;
 	}
@@ -57,9 +65,13 @@ void L4_MsgAppendWord(L4_Msg_t *msg, L4_Word_t w)
 
 void L4_MsgAppendStringItem(L4_Msg_t *msg, const L4_StringItem_t *s)
 {
-	size_t u = untyped_of(msg), t = typed_of(msg), words = l4_item_words(s->raw, 0, MESSAGE_WORDS);
+	size_t u = untyped_of(msg), t = typed_of(msg), words = l4_item_words(s->raw, 0, MAX_MESSAGE_WORDS);
 
-	if (words == 0 || u + t + words > MESSAGE_WORDS) {
+	if (words == 0) {
+		spoil_by_item(msg);
+		return;
+	}
+	if (u + t + words > MAX_MESSAGE_WORDS) {
 		spoil(msg);
 		return;
 	}
@@ -143,7 +155,7 @@ void L4_MsgStore(L4_MsgTag_t t, L4_Msg_t *msg)
 
 void L4_MsgPutWord(L4_Msg_t *msg, L4_Word_t u, L4_Word_t w)
 {
-	if (u < MESSAGE_WORDS)
+	if (u < MAX_MESSAGE_WORDS)
 		msg->raw[1 + u] = w;
 	else
 		spoil(msg);
@@ -151,9 +163,11 @@ void L4_MsgPutWord(L4_Msg_t *msg, L4_Word_t u, L4_Word_t w)
 
 void L4_MsgPutStringItem(L4_Msg_t *msg, L4_Word_t t, const L4_StringItem_t *s)
 {
-	size_t u = untyped_of(msg), words = l4_item_words(s->raw, 0, MESSAGE_WORDS);
+	size_t u = untyped_of(msg), words = l4_item_words(s->raw, 0, MAX_MESSAGE_WORDS);
 
-	if (words == 0 || t > MESSAGE_WORDS || u + t + words > MESSAGE_WORDS)
+	if (words == 0)
+		spoil_by_item(msg);
+	else if (t > MAX_MESSAGE_WORDS || u + t + words > MAX_MESSAGE_WORDS)
 		spoil(msg);
 	else
 		memcpy(msg->raw + 1 + u + t, s->raw, words * sizeof msg->raw[0]);
@@ -169,7 +183,7 @@ void L4_MsgPutSimpleStringItem(L4_Msg_t *msg, L4_Word_t t, L4_StringItem_t s)
 
 L4_Word_t L4_MsgWord(const L4_Msg_t *msg, L4_Word_t u)
 {
-	return u < MESSAGE_WORDS ? msg->raw[1 + u] : 0;
+	return u < MAX_MESSAGE_WORDS ? msg->raw[1 + u] : 0;
 }
 
 void L4_MsgGetWord(const L4_Msg_t *msg, L4_Word_t u, L4_Word_t *w)
@@ -259,7 +273,7 @@ void L4_Accept(L4_Acceptor_t a)
 void L4_AcceptStrings(L4_Acceptor_t a, const L4_MsgBuffer_t *b)
 {
 	L4_Accept(a);
-	L4_LoadBRs(1, BUFFER_WORDS, b->raw);
+	L4_LoadBRs(1, MAX_BUFFER_WORDS, b->raw);
 }
 
 L4_Acceptor_t L4_Accepted(void)

@@ -18,8 +18,8 @@ enum {
 	/* versions are looked for up to here; after that a server's id has to be given */
 	LAST_VERSION = 63,
 	/* ErrorCode of a send to, and of a receive from, a thread that is not live */
-	NOBODY_TO_SEND_TO = 0x4,
-	NOBODY_TO_RECEIVE_FROM = 0x5,
+	NOBODY_TO_SEND_TO = E_NON_EXISTING_PARTNER << 1,
+	NOBODY_TO_RECEIVE_FROM = E_NON_EXISTING_PARTNER << 1 | 1,
 };
 
 struct answer {
@@ -59,7 +59,7 @@ static int find_server(struct thread *thread, L4_Word_t version)
 			return 0;
 	}
 	thread->name_server = L4_nilthread;
-	return l4_refuse(thread, FOUND_HERE, 'N', NO_NAME_SERVER);
+	return l4_refuse(thread, FOUND_HERE, 'N', N_NO_NAME_SERVER);
 }
 
 /* One call of the server. 0, or -1 as for each failed Ipc. */
@@ -114,8 +114,10 @@ static int ask(enum label label, const char *name, struct answer *answer)
 	L4_MsgBuffer_t buffer;
 	int status;
 
+	thread->name[0] = 0;
 	if (!is_name(name) || (label != LIST && *name == 0))
-		return l4_refuse(thread, FOUND_HERE, 'N', BAD_NAME);
+		return l4_refuse(thread, FOUND_HERE, 'N', N_BAD_NAME);
+	strcpy(thread->name, name);
 	L4_StoreBRs(0, BUFFER_REGISTERS, buffers);
 	L4_MsgBufferClear(&buffer);
 	L4_MsgBufferAppendSimpleRcvString(&buffer, L4_StringItem(L4_NAME_BYTES, answer->name));
@@ -130,11 +132,28 @@ static int ask(enum label label, const char *name, struct answer *answer)
 	return status;
 }
 
+/* Whether a name may be found later, as it was not now. */
+static bool is_not_there_yet(const struct failure *failure)
+{
+	return failure->class == 'N' && (failure->number == N_NO_NAME_SERVER || failure->number == N_NOBODY_HAS_NAME);
+}
+
 int l4_register(const char *name)
 {
 	struct answer answer = { 0 };
 
 	return ask(REGISTER, name, &answer);
+}
+
+L4_ThreadId_t l4_lookup_wait(const char *name, L4_Time_t patience)
+{
+	int64_t until = l4_end_of(patience);
+	L4_ThreadId_t found;
+
+	do
+		found = l4_lookup(name);
+	while (L4_IsNilThread(found) && is_not_there_yet(&l4_thread.last) && l4_pause(until));
+	return found;
 }
 
 L4_ThreadId_t l4_lookup(const char *name)
@@ -144,7 +163,7 @@ L4_ThreadId_t l4_lookup(const char *name)
 	if (ask(LOOK_UP, name, &answer) < 0)
 		return L4_nilthread;
 	if (L4_IsNilThread(answer.thread))
-		(void) l4_refuse(&l4_thread, FOUND_HERE, 'N', NOBODY_HAS_NAME);
+		(void) l4_refuse(&l4_thread, FOUND_HERE, 'N', N_NOBODY_HAS_NAME);
 	return answer.thread;
 }
 

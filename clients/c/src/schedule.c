@@ -1,4 +1,6 @@
 /* Periods of time. */
+#include "internal.h"
+
 #include <l4/schedule.h>
 
 enum {
@@ -9,7 +11,7 @@ enum {
 /* longer than every period */
 static const L4_Word64_t NEVER = UINT64_MAX;
 
-static L4_Word64_t micros_of(L4_Time_t time)
+L4_Word64_t l4_microseconds(L4_Time_t time)
 {
 	if (time.raw == 0)
 		return NEVER;
@@ -44,7 +46,7 @@ static L4_Time_t difference(L4_Word64_t l, L4_Word64_t r)
 
 L4_Time_t L4_TimeAddWord(L4_Time_t l, L4_Word_t r)
 {
-	return sum(micros_of(l), r);
+	return sum(l4_microseconds(l), r);
 }
 
 L4_Time_t *L4_TimeAddWordTo(L4_Time_t *l, L4_Word_t r)
@@ -55,7 +57,7 @@ L4_Time_t *L4_TimeAddWordTo(L4_Time_t *l, L4_Word_t r)
 
 L4_Time_t L4_TimeSubWord(L4_Time_t l, L4_Word_t r)
 {
-	return difference(micros_of(l), r);
+	return difference(l4_microseconds(l), r);
 }
 
 L4_Time_t *L4_TimeSubWordFrom(L4_Time_t *l, L4_Word_t r)
@@ -66,7 +68,7 @@ L4_Time_t *L4_TimeSubWordFrom(L4_Time_t *l, L4_Word_t r)
 
 L4_Time_t L4_TimeAdd(L4_Time_t l, L4_Time_t r)
 {
-	return sum(micros_of(l), micros_of(r));
+	return sum(l4_microseconds(l), l4_microseconds(r));
 }
 
 L4_Time_t *L4_TimeAddTo(L4_Time_t *l, L4_Time_t r)
@@ -77,7 +79,7 @@ L4_Time_t *L4_TimeAddTo(L4_Time_t *l, L4_Time_t r)
 
 L4_Time_t L4_TimeSub(L4_Time_t l, L4_Time_t r)
 {
-	return difference(micros_of(l), micros_of(r));
+	return difference(l4_microseconds(l), l4_microseconds(r));
 }
 
 L4_Time_t *L4_TimeSubFrom(L4_Time_t *l, L4_Time_t r)
@@ -88,30 +90,30 @@ L4_Time_t *L4_TimeSubFrom(L4_Time_t *l, L4_Time_t r)
 
 L4_Bool_t L4_IsTimeLonger(L4_Time_t l, L4_Time_t r)
 {
-	return micros_of(l) > micros_of(r);
+	return l4_microseconds(l) > l4_microseconds(r);
 }
 
 L4_Bool_t L4_IsTimeLongerOrEqual(L4_Time_t l, L4_Time_t r)
 {
-	return micros_of(l) >= micros_of(r);
+	return l4_microseconds(l) >= l4_microseconds(r);
 }
 
 L4_Bool_t L4_IsTimeShorter(L4_Time_t l, L4_Time_t r)
 {
-	return micros_of(l) < micros_of(r);
+	return l4_microseconds(l) < l4_microseconds(r);
 }
 
 L4_Bool_t L4_IsTimeShorterOrEqual(L4_Time_t l, L4_Time_t r)
 {
-	return micros_of(l) <= micros_of(r);
+	return l4_microseconds(l) <= l4_microseconds(r);
 }
 
 L4_Bool_t L4_IsTimeEqual(L4_Time_t l, L4_Time_t r)
 {
-	return micros_of(l) == micros_of(r);
+	return l4_microseconds(l) == l4_microseconds(r);
 }
 
 L4_Bool_t L4_IsTimeNotEqual(L4_Time_t l, L4_Time_t r)
 {
-	return micros_of(l) != micros_of(r);
+	return l4_microseconds(l) != l4_microseconds(r);
 }

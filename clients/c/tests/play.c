@@ -1,4 +1,4 @@
-/* Plays answers to the library, of a server that checks/clients_c.py scripts: right ones, wrong ones, and pieces of them.
+/* Plays answers to the library, of a server that checks/live/c_client/played.py scripts: right ones, wrong ones, and pieces of them.
  *
  *     play DIR < CASES
  *

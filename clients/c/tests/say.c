@@ -1,4 +1,4 @@
-/* Makes the calls that checks/clients_c.py says, one a line, and prints what each of them brought. Words are hexadecimal.
+/* Makes the calls that checks/live/c_client/saying.py says, one a line, and prints what each of them brought. Words are hexadecimal.
  *
  *     connect DIR SPACE NUMBER VERSION
  *     disconnect
@@ -7,6 +7,10 @@
  *     mrs I WORDS, brs I WORDS          loads registers; I is decimal
  *     send TO, wait                     sends, or accepts, what the registers say
  *     register NAME, lookup NAME, list NAME
+ *     begin, readable, end              a wait in two parts, and whether its outcome has begun to come
+ *     connect_wait MICROSECONDS DIR SPACE NUMBER VERSION, lookup_wait MICROSECONDS NAME, call_wait MICROSECONDS TO
+ *     item SIZE, null, nowhere          sends a string of this size, at no address, at one that is not there;
+ *                                       buffer SIZE and null_buffer receive one
  *
  * VIRTUAL is `-` without propagation. Lists are `-` or separated by commas. A string is its substrings, each `x` and bytes,
  * joined by `+`; a buffer is the decimal lengths of its substrings joined by `+`, and BUFFERS is `s` for strings accepted
@@ -16,6 +20,7 @@
 #include <l4.h>
 
 #include <errno.h>
+#include <poll.h>
 #include <stdio.h>
 #include <stdlib.h>
 #include <string.h>
@@ -273,6 +278,52 @@ static void connect_to(char *line)
 	printf("%d %llx", status, (unsigned long long) L4_Myself().raw);
 }
 
+static L4_Time_t period(const char *text)
+{
+	return L4_TimePeriod(strtoull(text, NULL, 10));
+}
+
+static void connect_wait(char *line)
+{
+	L4_Time_t patience = period(part(&line, " "));
+	char *dir = part(&line, " ");
+	unsigned space = (unsigned) atoi(part(&line, " ")), number = (unsigned) atoi(part(&line, " "));
+
+	printf("%d", l4_connect_wait(dir, space, number, (unsigned) atoi(line), patience));
+	printf(" %llx", (unsigned long long) L4_Myself().raw);
+}
+
+static void end_ipc(void)
+{
+	L4_ThreadId_t from;
+	L4_MsgTag_t tag = l4_ipc_end(&from);
+
+	print_outcome(tag, from);
+}
+
+/* Sends one string to nobody, or receives one from nobody. */
+static void send_string(L4_StringItem_t item)
+{
+	L4_Msg_t msg;
+
+	L4_MsgClear(&msg);
+	L4_MsgAppendSimpleStringItem(&msg, item);
+	L4_MsgAppendWord(&msg, 1);
+	L4_MsgLoad(&msg);
+	print_outcome(L4_Send(L4_GlobalId(9, 1)), L4_nilthread);
+}
+
+static void receive_string(L4_StringItem_t item)
+{
+	L4_MsgBuffer_t list;
+
+	L4_MsgBufferClear(&list);
+	L4_MsgBufferAppendSimpleRcvString(&list, item);
+	L4_AcceptStrings(L4_StringItemsAcceptor, &list);
+	print_outcome(L4_Receive(L4_GlobalId(9, 1)), L4_nilthread);
+	L4_Accept(L4_UntypedWordsAcceptor);
+}
+
 static void list(const char *after)
 {
 	char name[L4_NAME_BYTES + 1] = "-";
@@ -309,6 +360,28 @@ static void run(char *line)
 		printf("%llx", (unsigned long long) l4_lookup(line).raw);
 	else if (strcmp(command, "list") == 0)
 		list(line);
+	else if (strcmp(command, "connect_wait") == 0)
+		connect_wait(line);
+	else if (strcmp(command, "lookup_wait") == 0)
+		printf("%llx", (unsigned long long) l4_lookup_wait(strchr(line, ' ') + 1, period(line)).raw);
+	else if (strcmp(command, "call_wait") == 0)
+		print_outcome(l4_call_wait(thread(strchr(line, ' ')), period(line)), L4_nilthread);
+	else if (strcmp(command, "begin") == 0)
+		printf("%d", l4_ipc_begin(L4_nilthread, L4_anythread, L4_Timeouts(L4_Never, L4_Never)));
+	else if (strcmp(command, "end") == 0)
+		end_ipc();
+	else if (strcmp(command, "readable") == 0)
+		printf("%d", poll(&(struct pollfd) { .fd = l4_fd(), .events = POLLIN }, 1, 0));
+	else if (strcmp(command, "item") == 0)
+		send_string(L4_StringItem(atoi(line), memory));
+	else if (strcmp(command, "null") == 0)
+		send_string(L4_StringItem(1, NULL));
+	else if (strcmp(command, "nowhere") == 0)
+		send_string(L4_StringItem(1, (void *) 8));
+	else if (strcmp(command, "buffer") == 0)
+		receive_string(L4_StringItem(atoi(line), memory));
+	else if (strcmp(command, "null_buffer") == 0)
+		receive_string(L4_StringItem(1, NULL));
 	else
 		die(command);
 }

@@ -179,7 +179,10 @@ static void check_spoilt(void)
 	CHECK(L4_MsgTag().raw == 0xfff && L4_MsgGetStringItem(&msg, 0, &got) == 0);
 	L4_MsgClear(&msg);
 	L4_MsgAppendStringItem(&msg, &none);
-	CHECK(msg.raw[0] == 0xfff);
+	CHECK(msg.raw[0] == 0xfbf);
+	/* what spoils a message first stays */
+	L4_MsgPutWord(&msg, 63, 0);
+	CHECK(msg.raw[0] == 0xfbf);
 	L4_MsgClear(&msg);
 	L4_MsgAppendSimpleStringItem(&msg, two);
 	CHECK(msg.raw[0] == 0xfff);

@@ -1,7 +1,7 @@
 #!/usr/bin/env python3
 """A cancel from a third thread: a server that never answers, a caller that waits for it, and who ends that wait.
 
-    cancel.py DIR silent     is thread 50: takes one message, and then sleeps
+    cancel.py DIR silent     is thread 50: takes each message, and answers none
     cancel.py DIR call       is thread 51: calls the silent thread, and prints how that ended
     cancel.py DIR cancel     is thread 52: cancels the receive phase of thread 51
 """
@@ -16,8 +16,7 @@ from l4ipc.names import Names
 def silent(directory):
     with Thread(directory, 50) as thread:
         Names(thread).register("silent")
-        while True:
-            thread.wait()
+        thread.serve(lambda request: None)
 
 
 def call(directory):

@@ -7,25 +7,26 @@
 
 import sys
 
-from l4ipc import IpcError, Message, Thread
+from l4ipc import Message, Thread
 from l4ipc.names import Names
+
+NO_SERVER = 1
 
 
 def serve(directory):
     with Thread(directory, 40) as thread:
         names = Names(thread)
         names.register("gateway")
-        while True:
-            request = thread.wait()
+
+        def pass_on(request):
             server = names.lookup("pingpong")
             if server is None:
-                thread.send(request.sender, Message(1), 0)
-                continue
-            try:
-                # who asked waits for the gateway alone; as the transfer begins that wait is turned to the server
-                thread.send(server, Message(request.label, request.words, originator=request.sender))
-            except IpcError as error:
-                print(f"dropped: {error}", flush=True)
+                return Message(NO_SERVER)
+            # who asked waits for the gateway alone; as the transfer begins that wait is turned to the server
+            thread.send(server, Message(request.label, request.words, originator=request.sender), 1)
+            return None
+
+        thread.serve(pass_on)
 
 
 def ask(directory, word):

@@ -1,5 +1,5 @@
 #!/usr/bin/env python3
-"""A pager-like server: it waits, then answers and waits in one call.
+"""A pager-like server: what it answers depends on what came before.
 
 A page fault is a message as the manual has it: a label of the access that failed, the fault address, and the instruction pointer. This
 pager keeps a table of pages, gives a page the next frame at its first fault, and answers with the page and its frame.
@@ -10,7 +10,7 @@ pager keeps a table of pages, gives a page the next frame at its first fault, an
 
 import sys
 
-from l4ipc import IpcError, Message, Thread
+from l4ipc import Message, Thread
 from l4ipc.names import Names
 
 PAGE_FAULT = -2 << 4 & 0xFFFF_FFFF_FFFF  # the manual's label: -2 in its upper bits, the access in its lowest three
@@ -32,15 +32,7 @@ def serve(directory):
     frames = {}
     with Thread(directory, 20) as thread:
         Names(thread).register("pager")
-        request = None
-        while True:
-            try:
-                if request is None:
-                    request = thread.wait()
-                else:
-                    request = thread.reply_wait(request.sender, answer(frames, request))
-            except IpcError:
-                request = None  # who asked does not wait for the answer, or the receive was cancelled
+        thread.serve(lambda request: answer(frames, request))
 
 
 def fault(directory, addresses):

@@ -8,19 +8,14 @@
 import sys
 import time
 
-from l4ipc import IpcError, Message, Thread
+from l4ipc import Message, Thread
 from l4ipc.names import Names
 
 
 def serve(directory):
     with Thread(directory, 10) as thread:
         Names(thread).register("pingpong")
-        request = thread.wait()
-        while True:
-            try:
-                request = thread.reply_wait(request.sender, Message(request.label, request.words))
-            except IpcError:
-                request = thread.wait()
+        thread.serve(lambda request: Message(request.label, request.words))
 
 
 def ask(directory, count=1000):

@@ -8,7 +8,7 @@
 import hashlib
 import sys
 
-from l4ipc import IpcError, Message, Thread
+from l4ipc import Message, Thread
 from l4ipc.names import Names
 
 ROOM = 1_048_576
@@ -16,20 +16,15 @@ ROOM = 1_048_576
 
 def serve(directory):
     memory = bytearray(ROOM)
+
+    def digest(request):
+        # the bytes stand in the memory now
+        came = sum(len(string) for string in request.strings)
+        return Message(0, [came], [hashlib.sha256(memoryview(memory)[:came]).digest()])
+
     with Thread(directory, 30) as thread:
         Names(thread).register("copy")
-        request = None
-        while True:
-            try:
-                if request is None:
-                    request = thread.wait(buffers=[memory])
-                else:
-                    # the bytes stand in the memory now
-                    came = sum(len(string) for string in request.strings)
-                    digest = hashlib.sha256(memoryview(memory)[:came]).digest()
-                    request = thread.reply_wait(request.sender, Message(0, [came], [digest]), buffers=[memory])
-            except IpcError:
-                request = None
+        thread.serve(digest, buffers=[memory])
 
 
 def send(directory, count):

@@ -164,7 +164,7 @@ class Frames(unittest.TestCase):
         server.close()
 
     def test_kinds_and_lengths_of_what_comes(self):
-        for head, kind in (("00000000", None), ("00200001", None), ("00200000", 0x05), ("00000009", 0x81), ("00000002", 0x81), ("00000021", 0x82)):
+        for head, kind in (("00000000", None), (f"{frames.MAX_BODY + 1:08x}", None), (f"{frames.MAX_BODY:08x}", 0x05), ("00000009", 0x81), ("00000002", 0x81), ("00000021", 0x82)):
             with self.subTest(head=head, kind=kind):
                 if kind is None:
                     with self.assertRaises(frames.BadFrame):

@@ -3,8 +3,8 @@ ghost use Rattle.ipc_history.specs.Legal.{Legal};
 ghost use Rattle.ipc_check.specs.Faults.{IsFirstFault, IfNo};
 ghost use Rattle.ipc_check.specs.declared.checker.Verdict.TheVariants.{Yes};
 
+use ipc_base::Past;
 use ipc_history::{Entries, Entry, Output};
-use ipc_past::Past;
 use ipc_rules::{follows, next_output};
 use ipc_slots::Slots;
 

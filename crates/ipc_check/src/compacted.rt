@@ -5,9 +5,9 @@ ghost use Rattle.ipc_check.specs.Faults.{IsFirstFaultAfter, IfNo};
 ghost use Rattle.ipc_check.specs.declared.checker.Verdict.TheVariants.{Yes};
 
 use crate::checker::Verdict;
+use ipc_base::Past;
 use ipc_compact::Base;
 use ipc_history::{Entries, Entry};
-use ipc_past::Past;
 use ipc_rules::{follows, next_output};
 
 /// Whether entries follow a history that was compacted, which is legal and has no next output: of it this base and these kept entries

@@ -22,7 +22,7 @@ use Rattle.ipc_laws.proofs.OneOpen.{free_parts}
 use Rattle.ipc_laws.proofs.Settling.{legal_push}
 use Rattle.ipc_laws.proofs.ThreadChanges.{is_live_push}
 use Rattle.ipc_laws.proofs.WordLemmas.{last_some_push}
-use Rattle.ipc_slots.proofs.Finds.{find_passes}
+use Rattle.ipc_laws.proofs.Finds.{find_passes}
 use Rattle.ipc_slots.proofs.Overs.{over_not_transferring}
 use Rattle.ipc_compact.specs.Agree.{Agree, SameEnd, SameCompact}
 use Rattle.ipc_compact.proofs.SameCalls as same

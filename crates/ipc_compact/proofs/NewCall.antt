@@ -23,7 +23,7 @@ use Rattle.ipc_laws.proofs.Places.{any_at, any_place}
 use Rattle.ipc_laws.proofs.Settling.{legal_push}
 use Rattle.ipc_laws.proofs.Tests.{not_both}
 use Rattle.ipc_laws.proofs.ThreadChanges.{has_broken_push}
-use Rattle.ipc_slots.proofs.Silent.{Before, unnamed_front}
+use Rattle.ipc_laws.proofs.Silent.{Before, unnamed_front}
 
 bool_cases : (b : Bool) → (b ≡ true) ⊎ (b ≡ false)
 bool_cases true = inl refl

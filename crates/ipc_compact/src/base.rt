@@ -67,6 +67,48 @@ impl Base {
         }
     }
 
+    /// By thread number from 0 on the last version, 0 where there was none.
+    pub fn versions(&self) -> &[u32]
+        ensures { result.now ≡ self.now.versions }
+    {
+        self.versions.as_slice()
+    }
+
+    /// By thread number from 0 on, how many calls of the live thread were dropped.
+    pub fn dropped(&self) -> &[u64]
+        ensures { result.now ≡ self.now.dropped }
+    {
+        self.dropped.as_slice()
+    }
+
+    /// The calls that count as over.
+    pub fn over(&self) -> &[u64]
+        ensures { result.now ≡ self.now.over }
+    {
+        self.over.as_slice()
+    }
+
+    /// The moment.
+    pub fn moment(&self) -> u64
+        ensures { result ≡ self.now.moment }
+    {
+        self.moment
+    }
+
+    /// How many calls were made.
+    pub fn calls(&self) -> u64
+        ensures { result ≡ self.now.calls }
+    {
+        self.calls
+    }
+
+    /// How many outcomes were taken.
+    pub fn takes(&self) -> u64
+        ensures { result ≡ self.now.takes }
+    {
+        self.takes
+    }
+
     /// The room of this base, for another one; the base itself where that is not enough for every base, as it may be where it was read.
     pub fn into_room(self) -> Result<BaseRoom, Base>
         ensures room { IfOk result (λ room. room ≡ nothing_written) }

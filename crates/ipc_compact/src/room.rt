@@ -4,7 +4,7 @@ ghost use Rattle.ipc_compact.specs.BaseRoom.{most_over, nothing_written};
 ghost use Rattle.ipc_compact.specs.BaseTold.{version_before};
 
 use crate::base::Base;
-use ipc_memory::Memory;
+use ipc_base::Memory;
 use ipc_words::limits::TABLE_SLOTS;
 use std::alloc::AllocError;
 use std::marker::Model;

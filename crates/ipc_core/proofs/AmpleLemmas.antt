@@ -1,7 +1,7 @@
 -- How much memory a command wants at most, beside what is held.
 use Rattle.std.proofs.lemmas.List.{append-nil, length-drop}
 use Rattle.std.proofs.Common.{◌≡◌, sym, ap, ◌∙◌, subst, ℕ, ◌+◌, ◌≤◌, List, [], ◌++◌, length, length-append, drop, false, arith}
-use Rattle.ipc_memory.specs.Memory.{ample_items}
+use Rattle.ipc_base.specs.Memory.{ample_items}
 use Rattle.ipc_words.specs.Limits.{max_entries}
 use Rattle.ipc_history.specs.Holding.{held_of}
 use Rattle.ipc_history.specs.HistoryParts.{HeldParts}

@@ -29,7 +29,7 @@ use Rattle.ipc_laws.proofs.OpenCalls.{caller_lives, caller_opened}
 use Rattle.ipc_laws.proofs.OneLive.{opened_once}
 use Rattle.ipc_laws.proofs.Places.{any_place}
 use Rattle.ipc_laws.proofs.Tests.{left, not_both, refuted, right}
-use Rattle.ipc_slots.proofs.Finds.{find_passes}
+use Rattle.ipc_laws.proofs.Finds.{find_passes}
 use Rattle.ipc_laws.specs.Laws.{one_if}
 use Rattle.ipc_core.specs.Effects.{Ticks}
 use Rattle.ipc_core.specs.KernelParts.{KernelParts}
@@ -82,7 +82,7 @@ open_untaken kernel thread n sound e = rw (live, last, fresh) refl
     fresh = false_from_ne_true (is_among n kernel.taken) (λ among. not_both (all_among kernel.history kernel.taken n sound.taken among).over running)
 
 -- a thread is busy where it has a call that was not taken
-busy_is : (kernel : KernelParts) (thread : ℕ) → IsSound kernel → is_busy kernel thread ≡ has_untaken kernel thread
+pub busy_is : (kernel : KernelParts) (thread : ℕ) → IsSound kernel → is_busy kernel thread ≡ has_untaken kernel thread
 unfolding is_busy
 busy_is kernel thread sound = go (open_call kernel.history thread) refl
   where

@@ -26,3 +26,5 @@ pub mod CompactLemmas
 pub mod AgainLaws
 pub mod LeastLemmas
 pub mod AmpleLemmas
+pub mod ExchangeLemmas
+pub mod PassedCourse

@@ -9,19 +9,11 @@ use Rattle.ipc_core.specs.KernelParts.{KernelParts}
 use Rattle.ipc_core.specs.Ranges.{is_out_of_range}
 use Rattle.ipc_core.specs.Room.{is_full, open_need, exreg_need}
 use Rattle.ipc_core.specs.Refusals.{open_refusal, exreg_refusal}
-use Rattle.ipc_core.specs.Outcomes.{has_untaken, is_busy}
+use Rattle.ipc_core.specs.Outcomes.{is_busy}
 use Rattle.ipc_core.specs.declared.refusal.Refusal.TheVariants.{BadNumber, NumberTaken, NumberWorn, HistoryFull, NoThread, Busy}
 use Rattle.ipc_core.proofs.OpeningLemmas.{InRange}
 
 -- Busy
-
-pub busy_by_call : (kernel : KernelParts) (thread : ℕ) → is_some (open_call kernel.history thread) ≡ true → true ≡ is_busy kernel thread
-unfolding is_busy
-busy_by_call kernel thread found = rw found refl
-
-pub busy_by_outcome : (kernel : KernelParts) (thread : ℕ) → is_some (open_call kernel.history thread) ≡ false → has_untaken kernel thread ≡ is_busy kernel thread
-unfolding is_busy
-busy_by_outcome kernel thread none = rw none refl
 
 no_call : (o : Option ℕ) → is_some o ≡ false → o ≡ None
 no_call o none = grind arith

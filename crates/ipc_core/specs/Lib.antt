@@ -16,3 +16,5 @@ pub mod Books
 pub mod Laws
 pub mod Compacting
 pub mod Again
+pub mod Exchanging
+pub mod Passing

@@ -12,8 +12,8 @@ use crate::answers::NoThread;
 use crate::command::{Answer, Command};
 use crate::kernel::{Kernel, Limits};
 use crate::refusal::Refusal;
+use ipc_base::Memory;
 use ipc_history::Call;
-use ipc_memory::Memory;
 use ipc_words::{Control, ThreadId};
 use std::alloc::Global;
 
@@ -302,7 +302,7 @@ impl Kernel {
             if answer.is_no_memory() {
                 return Err(Refusal::NoMemory);
             }
-            let Ok(()) = ipc_memory::push(memory, &mut answers, answer) else {
+            let Ok(()) = ipc_base::push(memory, &mut answers, answer) else {
                 return Err(Refusal::NoMemory);
             };
         }

@@ -11,3 +11,5 @@ pub mod TakenDesks
 pub mod Standings
 pub mod Beginning
 pub mod EndedNotes
+pub mod PassedDesks
+pub mod ExchangeDesks

@@ -1,5 +1,5 @@
 -- The words that a receiver gets of a message, and how many strings it has.
-use Rattle.std.proofs.Common.{◌≡◌, ℕ, zero, suc, ◌+◌, ◌*◌, ◌<◌, ◌≤◌, Bool, true, false, cond, List, [], ◌∷◌, ◌++◌, length, drop, get_or, slice_get, Option, Some, None, refl, sym, ap, ◌∙◌, arith, nat_le, drop-cons, append_assoc}
+use Rattle.std.proofs.Common.{◌≡◌, ℕ, zero, suc, ◌+◌, ◌*◌, ◌<◌, ◌≤◌, ◌==◌, eqb-true, Bool, true, false, cond, List, [], ◌∷◌, ◌++◌, length, drop, get_or, slice_get, Option, Some, None, refl, sym, ap, ◌∙◌, arith, nat_le, drop-cons, append_assoc}
 use Rattle.std.specs.Option.{option_map, option_map_or}
 use Rattle.std.proofs.lemmas.Option.{slice_get-get_or, none-some}
 use Rattle.std.proofs.lemmas.List.Sums.{sum_by-cons}
@@ -23,6 +23,11 @@ simple_items-more buffers strings k n pointer h l e f =
 pub append_two : (words : List ℕ) (first same pointer : ℕ) (rest : List ℕ) → first ≡ same → ((words ++ first ∷ []) ++ pointer ∷ []) ++ rest ≡ words ++ (same ∷ pointer ∷ rest)
 append_two words first same pointer rest e =
     append_assoc (words ++ first ∷ []) (pointer ∷ []) rest ∙ append_assoc words (first ∷ []) (pointer ∷ rest) ∙ ap (λ n. words ++ (n ∷ pointer ∷ rest)) e
+
+-- a list of no strings
+pub no_strings : (strings : List (List ℕ)) → (length strings == 0) ≡ true → strings ≡ []
+no_strings [] h = refl
+no_strings (s ∷ strings) h = absurd (omega (arith, eqb-true (length (s ∷ strings)) 0 h))
 
 -- no string is longer than all together
 pub length-le-size : (strings : List (List ℕ)) (k : ℕ) → option_map_or (λ s. length s) (slice_get strings k) 0 ≤ size_of strings

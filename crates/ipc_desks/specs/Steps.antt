@@ -34,6 +34,10 @@ entered moment n call prepared desk = record desk {
   made = desk.made + 1;
 }
 
+-- a call n was entered, whose message is sent at once
+abbrev pub sent_at_once : ℕ → PreparedParts → Desk → Desk
+sent_at_once n prepared desk = record desk { message = None; told = Waiting n prepared.buffers; made = desk.made + 1 }
+
 -- the buffer strings of a call that is open
 abbrev pub buffers_in : Told → List (List Substring)
 buffers_in (Waiting k buffers) = buffers

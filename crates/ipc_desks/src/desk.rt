@@ -3,7 +3,7 @@ ghost use Rattle.ipc_history.specs.Outcomes.{HasItsWords, failure, nothing, time
 ghost use Rattle.ipc_desks.specs.Desks.{blank_desk};
 ghost use Rattle.ipc_desks.specs.Messages.{MessageParts, delivered};
 ghost use Rattle.ipc_desks.specs.Steps.{finished, emptied, cleared, entered, entered_told, buffers_in};
-ghost use Rattle.ipc_desks.specs.Steps.{outcome_in_told, is_ready, is_nothing, unbuffered, taken_from};
+ghost use Rattle.ipc_desks.specs.Steps.{outcome_in_told, is_ready, is_nothing, sent_at_once, unbuffered, taken_from};
 ghost use Rattle.ipc_desks.specs.declared.desk.Told.TheVariants.{Nothing};
 
 use crate::message::{Message, Prepared};
@@ -101,6 +101,14 @@ impl Desk {
         mem::replace(&mut self.told, Told::Nothing).into_buffers(alloc)
     }
 
+    /// Counts a call.
+    fn count(&mut self)
+        requires { self.old.made + 1 < 2 ^ 64 }
+        ensures { self.new ≡ record self.old { made = self.old.made + 1 } }
+    {
+        self.made += 1;
+    }
+
     /// Keeps the copies of a new call, which is entered at this moment.
     pub(crate) fn enter(
         &mut self,
@@ -122,7 +130,20 @@ impl Desk {
         } else {
             Told::Ready(nothing(alloc, moment, number))
         };
-        self.made += 1;
+        self.count();
+    }
+
+    /// Keeps what a new call wants whose message is sent at once, and hands that out.
+    pub(crate) fn send(&mut self, number: u64, copies: Prepared) -> Message
+        requires { self.old.made + 1 < 2 ^ 64 }
+        ensures message { result ≡ copies.message }
+        ensures desk { self.new ≡ sent_at_once number copies self.old }
+    {
+        let (message, buffers) = copies.into_parts();
+        drop(self.take_message());
+        self.told = Told::Waiting(number, buffers);
+        self.count();
+        message
     }
 
     /// Moves its outcome out, where that is ready.

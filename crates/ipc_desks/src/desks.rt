@@ -16,13 +16,15 @@ ghost use Rattle.ipc_desks.specs.Desks.{Keeps};
 ghost use Rattle.ipc_desks.specs.Finishes.{finishes, is_named};
 ghost use Rattle.ipc_desks.specs.Messages.{prepared};
 
+mod exchange;
+mod passing;
+
 use crate::desk::{failure, nothing};
 use crate::finished::Finished;
 use crate::kept::{KeptDesks, standing};
 use crate::message::Prepared;
+use ipc_base::{Memory, Past};
 use ipc_history::{Call, Entry, Input, Outcome, Output};
-use ipc_memory::Memory;
-use ipc_past::Past;
 use ipc_slots::Slots;
 use ipc_words::{IpcError, Phase as FailedPhase, ThreadId};
 use std::alloc::AllocError;

@@ -11,15 +11,17 @@ ghost use Rattle.ipc_history.specs.declared.entry.Output.TheVariants.{Ended};
 ghost use Rattle.ipc_slots.specs.Standings.{standing_of};
 ghost use Rattle.ipc_desks.specs.Desks.{Keeps, desk_at};
 ghost use Rattle.ipc_desks.specs.Steps.{Changed, Failing, Moved, finished, emptied, entered, left, buffers_in};
-ghost use Rattle.ipc_desks.specs.Steps.{outcome_in_told, unbuffered, taken_from, is_ready};
+ghost use Rattle.ipc_desks.specs.Steps.{outcome_in_told, sent_at_once, unbuffered, taken_from, is_ready};
+
+mod exchange;
+mod passing;
 
 use crate::desk::{Desk, delivered, failure};
 use crate::finished::Finished;
 use crate::message::{Message, Prepared};
+use ipc_base::{Memory, Past};
 use ipc_history::{Call, Outcome};
 use ipc_items::BufferList;
-use ipc_memory::Memory;
-use ipc_past::Past;
 use ipc_slots::{Slots, Standing};
 use ipc_words::IpcError;
 use ipc_words::limits::TABLE_SLOTS;
@@ -117,6 +119,16 @@ impl KeptDesks {
         ensures { Changed place left self.old self.new }
     {
         self.desks[place] = Desk::blank();
+    }
+
+    /// Keeps what a new call wants whose message is sent at once, and hands that out.
+    pub(crate) fn send(&mut self, place: usize, number: u64, copies: Prepared) -> Message
+        requires within { place < length self.old }
+        requires few { (desk_at self.old place).made + 1 < 2 ^ 64 }
+        ensures message { result ≡ copies.message }
+        ensures desks { Changed place (sent_at_once number copies) self.old self.new }
+    {
+        self.desks[place].send(number, copies)
     }
 
     /// Keeps the copies of a new call, which is entered at this moment.

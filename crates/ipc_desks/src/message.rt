@@ -3,9 +3,9 @@ ghost use Rattle.ipc_words.specs.Limits.{max_strings};
 ghost use Rattle.ipc_items.specs.Pieces.{simple_items};
 ghost use Rattle.ipc_desks.specs.Messages.{MessageParts, PreparedParts, message_in, prepared};
 
+use ipc_base::Memory;
 use ipc_history::Call;
 use ipc_items::{BufferList, StringList};
-use ipc_memory::Memory;
 use ipc_words::{MsgTag, ThreadId};
 use std::alloc::AllocError;
 use std::marker::Model;
@@ -47,7 +47,7 @@ impl Message {
             tag: call.tag(),
             originator: call.originator(),
             words,
-            strings: strings.copy(memory)?,
+            strings: strings_of(memory, strings)?,
         })
     }
 
@@ -123,6 +123,18 @@ impl Prepared {
         ensures buffers { result.1 ≡ self.buffers }
     {
         (self.message, self.buffers)
+    }
+}
+
+/// A copy of the strings of a message.
+fn strings_of<M: Memory>(memory: M, strings: &StringList) -> Result<StringList, AllocError>
+    ensures strings { IfOk result (λ list. list ≡ strings.now) }
+    ensures ample { M.is_ample → IsOk result }
+{
+    if strings.is_empty() {
+        Ok(StringList::new(memory))
+    } else {
+        strings.copy(memory)
     }
 }
 

@@ -1,5 +1,5 @@
 -- Our choice (docs/FORMATS.md): the versions of the wire protocol.
-use Rattle.std.specs.Prelude.{ℕ, Bool, true, false, ◌==◌, Option, Some, None, if◌then◌else◌}
+use Rattle.std.specs.Prelude.{ℕ, ◌==◌, Option, Some, None, if◌then◌else◌}
 use Rattle.ipc_frame.specs.declared.version.WireVersion.{WireVersion}
 use Rattle.ipc_frame.specs.declared.version.WireVersion.TheVariants.{One, Two}
 
@@ -10,8 +10,3 @@ version_number Two = 2
 -- the version of a number that a HELLO names; a HELLO of version 1 names none
 abbrev pub version_of : ℕ → Option WireVersion
 version_of number = (if number == 2 then Some Two else None)
-
--- answers tell calls and moments
-abbrev pub has_ends : WireVersion → Bool
-has_ends One = false
-has_ends Two = true

@@ -1,5 +1,5 @@
 ghost use Rattle.std.specs.Prelude.{◌≡◌};
-ghost use Rattle.ipc_frame.specs.Versions.{has_ends, version_number};
+ghost use Rattle.ipc_frame.specs.Versions.{version_number};
 
 /// A version of the wire protocol. The HELLO of a connection decides in which one it is answered.
 #[derive(Clone, Copy, Debug, PartialEq, Eq)]
@@ -20,13 +20,6 @@ impl WireVersion {
             WireVersion::One => 1,
             WireVersion::Two => 2,
         }
-    }
-
-    /// Whether its answers tell calls and moments.
-    pub fn has_ends(self) -> bool
-        ensures { result ≡ has_ends self }
-    {
-        self == WireVersion::Two
     }
 }
 

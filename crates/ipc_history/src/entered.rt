@@ -1,7 +1,7 @@
 ghost use Rattle.std.specs.Prelude.{◌≡◌, IfErr, IfOk, IsOk};
 
 use crate::call::Call;
-use ipc_memory::Memory;
+use ipc_base::Memory;
 use std::marker::Model;
 
 /// A call that was entered, behind one pointer: an entry that has one is moved without it. Seen as the call's parts.

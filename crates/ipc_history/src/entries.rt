@@ -7,7 +7,7 @@ ghost use Rattle.ipc_history.specs.Phases.{is_over};
 
 use crate::call::Call;
 use crate::entry::Entry;
-use ipc_past::Past;
+use ipc_base::Past;
 use ipc_words::ThreadId;
 use std::marker::Model;
 

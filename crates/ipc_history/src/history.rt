@@ -1,5 +1,5 @@
 ghost use Rattle.std.specs.Prelude.{◌≡◌, ◌≤◌, ◌<◌, ◌+◌, ◌^◌, [], ◌∷◌, ◌++◌, ◌==◌, drop, length, option_copied, Contains, IsFalse, IsOk, IsTrue, OnOk, OnErr};
-ghost use Rattle.ipc_memory.specs.Memory.{ample_items};
+ghost use Rattle.ipc_base.specs.Memory.{ample_items};
 ghost use Rattle.ipc_history.specs.Entries.{calls};
 ghost use Rattle.ipc_history.specs.Holding.{compacted, held_entry, held_of, marked_to, reached};
 ghost use Rattle.ipc_history.specs.Phases.{is_over};
@@ -8,8 +8,7 @@ ghost use Rattle.ipc_history.specs.declared.entry.Entry.{Entry};
 use crate::entries::Entries;
 use crate::entry::Entry;
 use crate::keeping::{Keeps, keep_before, number};
-use ipc_memory::Memory;
-use ipc_past::Past;
+use ipc_base::{Memory, Past};
 use std::alloc::{AllocError, Global};
 use std::marker::Model;
 

@@ -1,6 +1,7 @@
 //! The connections that are there.
 ghost use Rattle.std.specs.Prelude.{◌≤◌, ◌+◌, ◌↔◌, IsTrue};
 
+use crate::admission::Admission;
 use crate::clock::ServerClock;
 use crate::counts::Counts;
 use crate::notice::Notice;
@@ -45,6 +46,8 @@ struct Table {
     counts: Counts,
     /// When something was told last of what may be told once a minute.
     told: Option<u64>,
+    /// When it was told last that there is no room.
+    told_full: Option<u64>,
 }
 
 /// The connections of a server, at most so many at one time.
@@ -123,6 +126,20 @@ impl Table {
         has_room
     }
 
+    /// Takes a connection in, where there is room for it.
+    fn admit(&mut self, most: u64, now: u64, within: u64, stream: Arc<UnixStream>) -> Admission {
+        if self.is_stopping() {
+            return Admission::Closed;
+        }
+        if !self.make_room(most, now, within) {
+            return Admission::Full;
+        }
+        match self.take_in(now, stream) {
+            Some(ticket) => Admission::Entered(ticket),
+            None => Admission::Closed,
+        }
+    }
+
     /// Takes a connection in, and answers its ticket. None: there is no memory.
     fn take_in(&mut self, since: u64, stream: Arc<UnixStream>) -> Option<u64> {
         let ticket = self.next;
@@ -176,21 +193,31 @@ impl Table {
         (self.guests.len(), self.threads(), self.counts)
     }
 
-    /// Whether something that is told once a minute at most may be told now.
-    fn is_quiet(&self, now: u64) -> bool {
-        match self.told {
-            Some(last) => is_overdue(last, now, QUIET),
-            None => true,
-        }
-    }
-
-    /// The same; it then counts as told. How many connections are there beside it.
+    /// Whether something that is told once a minute at most may be told now; it then counts as told. How many connections are there
+    /// beside it.
     fn may_tell(&mut self, now: u64) -> (bool, usize) {
-        let may = self.is_quiet(now);
+        let may = is_quiet(self.told, now);
         if may {
             self.told = Some(now);
         }
         (may, self.guests.len())
+    }
+
+    /// The same, of what is told where there is no room.
+    fn may_tell_full(&mut self, now: u64) -> (bool, usize) {
+        let may = is_quiet(self.told_full, now);
+        if may {
+            self.told_full = Some(now);
+        }
+        (may, self.guests.len())
+    }
+}
+
+/// Whether what was told last at a moment, if it was, may be told now.
+fn is_quiet(told: Option<u64>, now: u64) -> bool {
+    match told {
+        Some(last) => is_overdue(last, now, QUIET),
+        None => true,
     }
 }
 
@@ -204,6 +231,7 @@ impl Guests {
             stage: Stage::Serving,
             counts: Counts::new(),
             told: None,
+            told_full: None,
         };
         Guests {
             alloc,
@@ -215,36 +243,28 @@ impl Guests {
         }
     }
 
-    /// Takes a connection in, once there is room for it, and answers its ticket. None: the server stops, or there is no memory; the
-    /// connection is then closed.
+    /// Takes a connection in, once there is room for it; it waits for that at most so long.
     pub fn admit<R: Wait + Clock>(
         &self,
         rt: &R,
-        stream: UnixStream,
-    ) -> Option<(u64, Arc<UnixStream>)> {
-        let stream = Arc::new(self.alloc, stream).ok()?;
-        let ticket = self.enter(rt, &stream)?;
-        Some((ticket, stream))
-    }
-
-    /// The same of a connection that is lent.
-    fn enter<R: Wait + Clock>(&self, rt: &R, stream: &Arc<UnixStream>) -> Option<u64> {
-        let stream = Arc::try_clone(stream).ok()?;
-        let mut table = self.wait_room(rt);
-        let ticket = if table.is_stopping() {
-            None
-        } else {
-            table.take_in(self.clock.now(rt), stream)
+        stream: &Arc<UnixStream>,
+        time: Duration,
+    ) -> Admission {
+        let Ok(stream) = Arc::try_clone(stream) else {
+            return Admission::Closed;
         };
+        let mut table = self.wait_room(rt, time);
+        let admission = table.admit(self.most, self.clock.now(rt), self.within, stream);
         drop(table);
-        ticket
+        admission
     }
 
-    /// Waits until there is room for one more connection, or the server stops.
-    fn wait_room<R: Wait + Clock>(&self, rt: &R) -> MutexGuard<'_, Table> {
+    /// Waits until there is room for one more connection, or the server stops, at most this long.
+    fn wait_room<R: Wait + Clock>(&self, rt: &R, time: Duration) -> MutexGuard<'_, Table> {
+        let end = self.moment_in(rt, time);
         let mut table = self.table.lock(rt);
         for _ in rt.forever() {
-            if self.ends_wait(rt, &mut table) {
+            if self.ends_wait(rt, &mut table) || self.clock.now(rt) >= end {
                 break;
             }
             table = self.wait(rt, table, Duration::from_millis(TURN));
@@ -356,6 +376,16 @@ impl Guests {
         let now = self.clock.now(rt);
         let mut table = self.table.lock(rt);
         let answer = table.may_tell(now);
+        drop(table);
+        answer
+    }
+
+    /// Whether it may be told now that there is no room, which is told once a minute at most; it then counts as told. How many
+    /// connections are there beside it.
+    pub fn may_tell_full<R: Wait + Clock>(&self, rt: &R) -> (bool, usize) {
+        let now = self.clock.now(rt);
+        let mut table = self.table.lock(rt);
+        let answer = table.may_tell_full(now);
         drop(table);
         answer
     }

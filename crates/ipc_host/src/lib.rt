@@ -1,17 +1,21 @@
-//! What `l4d` needs of the system: the port of a socket, a clock, limits, signals, the connections that are there, and why something fails.
+//! What `l4d` needs of the system: the port of a socket, a clock, limits, signals, the connections that are there, whom to tell of them, and why something fails.
 #![tactic(auto)]
 
+mod admission;
 mod clock;
 mod counts;
+mod datagram;
 mod eager;
 mod guests;
 mod limit;
 mod notice;
 mod obstacle;
+mod ready;
 mod signals;
 mod socket;
 mod status;
 
+pub use admission::Admission;
 pub use clock::ServerClock;
 pub use counts::Counts;
 pub use eager::EagerStream;
@@ -19,6 +23,7 @@ pub use guests::{Guests, is_overdue};
 pub use limit::{SPARE, descriptors, room};
 pub use notice::{Notice, class_letter};
 pub use obstacle::{Obstacle, obstacle_at};
+pub use ready::Readiness;
 pub use signals::{have_come, may_be_blocked};
 pub use socket::SocketPort;
 pub use status::{ProcessStatus, field, resident};

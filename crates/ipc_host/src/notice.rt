@@ -6,6 +6,8 @@ use std::fmt;
 pub enum Notice {
     /// EXREGR: an ExchangeRegisters was done.
     Exchanged,
+    /// Nothing yet: there is no room for it.
+    Waits,
     /// REFUSED, with the number of its K.
     Refused(u8),
     /// FAULT, with the letter of its class and its number.
@@ -16,6 +18,7 @@ impl fmt::Display for Notice {
     fn fmt<W: fmt::Write>(&self, f: &mut fmt::Formatter<W>) -> fmt::Result {
         match self {
             Notice::Exchanged => write!(f, "exchanged"),
+            Notice::Waits => write!(f, "no room yet"),
             Notice::Refused(number) => write!(f, "refused K{number}"),
             Notice::Fault(class, number) => write!(f, "fault {class}{number}"),
         }

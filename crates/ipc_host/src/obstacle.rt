@@ -1,8 +1,8 @@
 //! Why a path cannot be listened on, and what helps.
+use crate::datagram::DatagramSocket;
 use std::io::{Error, ErrorKind};
 use std::net::Net;
 use std::os::unix::fs::FileTypeExt;
-use std::os::unix::net::UnixStream;
 use std::rt::Files;
 use std::{fmt, fs};
 
@@ -46,7 +46,7 @@ impl Obstacle {
             Obstacle::InUse => {
                 "in use: a server answers there; end it, or name another folder by --dir"
             }
-            Obstacle::Stale => "stale: nobody answers there; --replace removes it",
+            Obstacle::Stale => "stale: nobody answers there; give --replace, too, which removes it",
             Obstacle::NoSocket => {
                 "something stands there that is no socket: remove it, or name another folder by --dir"
             }
@@ -64,7 +64,11 @@ impl fmt::Display for Obstacle {
     }
 }
 
-/// Why listening on a path failed with this error. Where something stands there, a connection is tried.
+/// What the system says to a datagram socket that wants to connect to a socket of another kind.
+const OTHER_KIND: i32 = 91;
+
+/// Why listening on a path failed with this error. Where a socket stands there, it is found out whether somebody has it open, without a
+/// connection that its server would take.
 pub fn obstacle_at<R: Files + Net>(rt: &R, path: &str, error: Error) -> Obstacle {
     if path.len() > MOST_BYTES {
         return Obstacle::TooLong;
@@ -92,20 +96,23 @@ fn occupant<R: Files + Net>(rt: &R, path: &str) -> Obstacle {
     }
 }
 
-/// Who listens at the path of a socket.
+/// Who has the socket of a path. A datagram socket cannot connect to one that listens, and is told why: so no server takes a connection
+/// for it.
 fn listener<R: Net>(rt: &R, path: &str) -> Obstacle {
-    match UnixStream::connect(rt, path) {
-        Ok(_) => Obstacle::InUse,
-        Err(error) => unanswered(error),
+    match DatagramSocket::new(rt).and_then(|socket| socket.connect(path)) {
+        Ok(()) => Obstacle::InUse,
+        Err(error) => refused(error),
     }
 }
 
-/// Why nobody answered at the path of a socket.
-fn unanswered(error: Error) -> Obstacle {
+/// Why a datagram socket cannot connect to the socket of a path.
+fn refused(error: Error) -> Obstacle {
+    if error.raw_os_error() == Some(OTHER_KIND) {
+        return Obstacle::InUse;
+    }
     match error.kind() {
         ErrorKind::ConnectionRefused => Obstacle::Stale,
         ErrorKind::PermissionDenied => Obstacle::Guarded,
-        ErrorKind::WouldBlock => Obstacle::InUse,
         _ => Obstacle::Other(error),
     }
 }

@@ -1,7 +1,8 @@
 //! The socket of a connection, as the port of its pen.
-ghost use Rattle.std.specs.Prelude.{◌≡◌, None, length};
+ghost use Rattle.std.specs.Prelude.{◌≡◌, ◌≤◌, ℕ, List, [], ◌++◌, Some, length, take};
 ghost use Rattle.libc.specs.Io.{Moved};
 
+use ipc_base::Past;
 use ipc_pen::{Patience, PenPort};
 use ipc_ports::PortFault;
 use libc::net as c;
@@ -9,21 +10,42 @@ use std::os::fd::AsRawFd;
 use std::os::unix::net::UnixStream;
 use std::sync::Arc;
 
-/// The port to a client. It keeps the socket open, beside the connection's reader.
+/// The port to a client. It keeps the socket open, beside the connection's reader. Contracts see the bytes that the system said it took.
 #[derive(Drop)]
 pub struct SocketPort {
     stream: Arc<UnixStream>,
     failures: u64,
+    taken: Past<u8>,
 }
 
 impl SocketPort {
     /// The port of a socket of which no write has failed.
-    pub fn new(stream: Arc<UnixStream>) -> SocketPort {
+    pub fn new(stream: Arc<UnixStream>) -> SocketPort
+        ensures { result.taken ≡ [] }
+    {
         SocketPort {
             stream,
             failures: 0,
+            taken: Past::new(),
         }
     }
+
+    /// The system answered that it took so many of these bytes.
+    fn note(&mut self, buf: &[u8], count: usize)
+        requires { count ≤ length buf.now }
+        ensures taken { self.new.taken ≡ self.old.taken ++ take count buf.now }
+        ensures kept { self.new.failures ≡ self.old.failures }
+    {
+        self.taken = with_more(&self.taken, buf, count);
+    }
+}
+
+/// What was taken so far, and behind it so many of these bytes. Only proofs see them.
+fn with_more(taken: &Past<u8>, buf: &[u8], count: usize) -> Past<u8>
+    ghost bytes: { List ℕ }
+    ensures { result ≡ bytes }
+{
+    Past::told()
 }
 
 /// How many of these bytes the system takes; -1 where it takes none. A client that is gone is told by the answer, and not by a signal.
@@ -49,7 +71,7 @@ fn send_in_time(stream: &UnixStream, buf: &[u8]) -> isize
 }
 
 impl PenPort for SocketPort {
-    ghost written = { λ _. None };
+    ghost written = { λ port. Some port.taken };
 
     ghost failures = { λ port. port.failures };
 
@@ -60,7 +82,9 @@ impl PenPort for SocketPort {
         }
         let sent = send(&self.stream, buf, patience);
         if sent >= 0 {
-            return Ok(sent as usize);
+            let count = sent as usize;
+            self.note(buf, count);
+            return Ok(count);
         }
         let errno = os::errno();
         if errno == libc::EAGAIN || errno == libc::EINTR {

@@ -3,7 +3,7 @@ ghost use Rattle.std.specs.Prelude.{length, sum_by, if◌then◌else◌, IfOk, I
 ghost use Rattle.std.specs.Prelude.{OnErr, slice_get, option_copied};
 ghost use Rattle.std.specs.Option.{SomeIff, option_map_or};
 ghost use Rattle.ipc_words.specs.Limits.{max_buffer_words};
-ghost use Rattle.ipc_memory.specs.Memory.{ample_items};
+ghost use Rattle.ipc_base.specs.Memory.{ample_items};
 ghost use Rattle.ipc_items.specs.Buffers.{buffers_of, capacity, IsBuffer, AreBuffers};
 ghost use Rattle.ipc_items.specs.StringItem.{buffer_reading};
 ghost use Rattle.ipc_items.specs.Pieces.{first_pointer};
@@ -12,7 +12,7 @@ use crate::item_fault::ItemFault;
 use crate::iter::Iter;
 use crate::reading::{buffer_check, buffer_rows};
 use crate::rows::Rows;
-use ipc_memory::Memory;
+use ipc_base::Memory;
 use ipc_words::limits::{MAX_SUBSTRINGS, SUBSTRING_LENGTH_LIMIT};
 use std::alloc::AllocError;
 use std::marker::Model;

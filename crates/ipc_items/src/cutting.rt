@@ -1,6 +1,6 @@
 ghost use Rattle.std.specs.Prelude.{◌≡◌, ◌+◌, ◌<◌, ◌≤◌, ◌∷◌, ◌++◌, [], None, length, true, IfOk, IsOk, OnOk, OnErr};
 ghost use Rattle.std.specs.List.{list_any, slice_range};
-ghost use Rattle.ipc_memory.specs.Memory.{ample_items};
+ghost use Rattle.ipc_base.specs.Memory.{ample_items};
 ghost use Rattle.ipc_items.specs.Rows.{grown, opened};
 ghost use Rattle.ipc_items.specs.ItemWords.{items_of, length_of, strings_by};
 ghost use Rattle.ipc_items.specs.ItemFault.{is_outside, string_fault};
@@ -9,7 +9,7 @@ ghost use Rattle.ipc_items.specs.StringItem.{bytes_of};
 use crate::item::{Item, split_item};
 use crate::reading::string_rows;
 use crate::rows::Rows;
-use ipc_memory::Memory;
+use ipc_base::Memory;
 use std::alloc::AllocError;
 use std::marker::Model;
 

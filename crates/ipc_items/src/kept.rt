@@ -2,7 +2,7 @@ ghost use Rattle.std.specs.Prelude.{◌≡◌, ◌∷◌, ◌++◌, [], length, 
 ghost use Rattle.std.specs.List.{concat};
 
 use crate::rows::Rows;
-use ipc_memory::Memory;
+use ipc_base::Memory;
 use std::alloc::AllocError;
 use std::marker::Model;
 use std::sync::Arc;

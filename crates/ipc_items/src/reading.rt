@@ -1,7 +1,7 @@
 ghost use Rattle.std.specs.Prelude.{◌≡◌, ◌<◌, ◌≤◌, ◌^◌, length, sum_by, false, None, Some, IfOk, IfErr, IsOk, OnOk};
 ghost use Rattle.std.specs.List.{list_any};
 ghost use Rattle.ipc_words.specs.Limits.{max_string_bytes};
-ghost use Rattle.ipc_memory.specs.Memory.{ample_items};
+ghost use Rattle.ipc_base.specs.Memory.{ample_items};
 ghost use Rattle.ipc_items.specs.Rows.{grown};
 ghost use Rattle.ipc_items.specs.ItemWords.{items_of, length_of, strings_by};
 ghost use Rattle.ipc_items.specs.ItemFault.{is_outside, bytes_in, string_fault, buffer_fault};
@@ -11,7 +11,7 @@ use crate::buffer_list::Substring;
 use crate::item::{Item, split_item};
 use crate::item_fault::ItemFault;
 use crate::rows::Rows;
-use ipc_memory::Memory;
+use ipc_base::Memory;
 use std::alloc::AllocError;
 
 // How many bytes the string items of these words name in a payload of a size, or their first fault.

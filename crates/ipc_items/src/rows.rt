@@ -1,10 +1,10 @@
 ghost use Rattle.std.specs.Prelude.{◌≡◌, ℕ, ◌<◌, ◌≤◌, List, [], ◌∷◌, ◌++◌, length, sum_by, IfOk, IsOk};
 ghost use Rattle.std.specs.Prelude.{OnOk, OnErr, slice_get, option_copied};
 ghost use Rattle.std.specs.List.{concat};
-ghost use Rattle.ipc_memory.specs.Memory.{ample_items};
+ghost use Rattle.ipc_base.specs.Memory.{ample_items};
 ghost use Rattle.ipc_items.specs.Rows.{AreEnds, grown, opened, place, rows};
 
-use ipc_memory::Memory;
+use ipc_base::Memory;
 use std::alloc::AllocError;
 use std::marker::Model;
 
@@ -175,8 +175,8 @@ impl<T: Copy> Rows<T> {
         ensures ample { M.is_ample → IsOk result }
     {
         Ok(Rows {
-            items: ipc_memory::from_slice(memory, &self.items)?,
-            ends: ipc_memory::from_slice(memory, &self.ends)?,
+            items: ipc_base::from_slice(memory, &self.items)?,
+            ends: ipc_base::from_slice(memory, &self.ends)?,
         })
     }
 }

@@ -9,7 +9,6 @@ use Rattle.ipc_history.specs.Threads.{has_broken}
 use Rattle.ipc_history.specs.Phases.{moved_bytes}
 use Rattle.ipc_history.specs.Matching.{is_propagated, shown_sender, accepts}
 use Rattle.ipc_history.specs.Legal.{Legal}
-use Rattle.ipc_words.specs.MsgTag.{label_of}
 use Rattle.ipc_items.specs.Pieces.{simple_items}
 use Rattle.ipc_history.specs.Outcomes.{end_moment, outcome_in, received, timed}
 use Rattle.ipc_history.specs.Paired.{IsPair, Delivers, IsWhole, IsPermitted, IsShown}

@@ -1,7 +1,7 @@
 -- When a call was over: the moment of the first entries after which it is.
 use Rattle.std.proofs.lemmas.Bool.{cases_Bool, false≢true, false_from_ne_true}
 use Rattle.std.proofs.lemmas.Option.{none-some, same_Some}
-use Rattle.std.proofs.Common.{◌≡◌, refl, sym, ap, ap₂, ◌∙◌, subst, ℕ, Bool, true, false, not, ◌||◌, ◌&&◌, ◌==◌, if◌then◌else◌, List, [], ◌∷◌, ◌++◌, append-nil, append_assoc, Option, Some, None, inl, inr, arith}
+use Rattle.std.proofs.Common.{◌≡◌, refl, sym, ap, ap₂, ◌∙◌, subst, ℕ, Bool, true, false, not, ◌||◌, ◌&&◌, ◌==◌, if◌then◌else◌, List, [], ◌∷◌, ◌++◌, append-nil, append_assoc, Some, None, inl, inr, arith}
 use Rattle.std.specs.List.{list_any}
 use Rattle.std.specs.Option.{option_or}
 use Rattle.std.specs.Prelude.{unwrap_or}
@@ -15,8 +15,8 @@ use Rattle.ipc_history.specs.Legal.{Legal}
 use Rattle.ipc_history.specs.Outcomes.{OutcomeParts, end_moment, is_last_of, nothing, outcome_in, outcome_of, timed}
 use Rattle.ipc_history.specs.declared.entry.Entry.{Entry}
 use Rattle.ipc_history.specs.declared.entry.Entry.TheVariants.{Given, Written}
-use Rattle.ipc_history.specs.declared.entry.Input.TheVariants.{At, Opened, Called, Exreg, Broke, Moved}
-use Rattle.ipc_history.specs.declared.entry.Output.TheVariants.{Began, Turned, Ended, Overflowed, Aborted, Failed}
+use Rattle.ipc_history.specs.declared.entry.Input.TheVariants.{Called}
+use Rattle.ipc_history.specs.declared.entry.Output.TheVariants.{Ended, Overflowed, Aborted, Failed}
 use Rattle.ipc_laws.specs.Laws.{IsTimed}
 use Rattle.ipc_laws.proofs.Befores.{before_kept, called_any}
 use Rattle.ipc_laws.proofs.Changing.{any_push}

@@ -50,3 +50,12 @@ pub mod EntryTouches
 pub mod EntryLeaves
 pub mod TransferKept
 pub mod Closings
+pub mod Finds
+pub mod Silent
+pub mod Giving
+pub mod Passing
+pub mod Calling
+pub mod Exchanging
+pub mod ExchangeParts
+pub mod Later
+pub mod Unmet

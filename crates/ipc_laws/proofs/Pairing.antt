@@ -72,6 +72,13 @@ unsent_running H h n m pair running = false_from_ne_true (is_sent H n) (λ e.
 pub unsent_unpaired : (H : List Entry) → Legal H → (n : ℕ) → receiver_of H n ≡ None → is_sent H n ≡ false
 unsent_unpaired H h n none = false_from_ne_true (is_sent H n) (λ e. let s = sent_pair H h n e in absurd (none-some s.0 (sym none ∙ s.1)))
 
+pub ended_is_sent : (P : List Entry) (n m : ℕ) → list_any (ends n m) P ≡ true → is_sent P n ≡ true
+unfolding is_sent
+ended_is_sent P n m h = let at = ended_place P n m h in any_at (ends_send n) P _ at (eq-eqb n n refl)
+
+pub unended : (P : List Entry) (n m : ℕ) → is_sent P n ≡ false → list_any (ends n m) P ≡ false
+unended P n m unsent = false_from_ne_true _ (λ ended. not_both (ended_is_sent P n m ended) unsent)
+
 -- Each at most once
 
 ends_send_once : (H : List Entry) → Legal H → (n : ℕ) → Once (ends_send n) H

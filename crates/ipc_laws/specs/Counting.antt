@@ -1,5 +1,5 @@
 -- How many outputs are still to come, and how much room is owed.
-use Rattle.std.specs.Prelude.{◌≡◌, ℕ, ◌+◌, ◌-◌, ◌*◌, ◌/◌, ◌<◌, ◌≤◌, List, [], ◌∷◌, ◌++◌, Bool, true}
+use Rattle.std.specs.Prelude.{◌≡◌, ℕ, ◌+◌, ◌-◌, ◌*◌, ◌<◌, ◌≤◌, List, [], ◌∷◌, ◌++◌, Bool, true}
 use Rattle.std.specs.Prelude.{false, not, ◌||◌, Some, is_none, if◌then◌else◌, ◌==◌, sum_by}
 use Rattle.std.specs.Prelude.{count_by, filter_map, length, map}
 use Rattle.std.specs.Option.{option_map_or}

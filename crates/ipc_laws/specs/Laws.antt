@@ -1,5 +1,5 @@
 -- The laws of histories.
-use Rattle.std.specs.Prelude.{◌≡◌, ℕ, zero, suc, [], ◌∷◌, ◌+◌, ◌*◌, ◌^◌, ◌%◌, length, ◌<◌, ◌≤◌}
+use Rattle.std.specs.Prelude.{◌≡◌, ℕ, zero, suc, [], ◌∷◌, ◌+◌, ◌*◌, ◌%◌, length, ◌<◌, ◌≤◌}
 use Rattle.std.specs.Prelude.{List, ◌++◌, Option, Some, None, IsTrue, IsFalse, ◌⊎◌, filter_map}
 use Rattle.std.specs.Prelude.{count_by, Bool, if◌then◌else◌}
 use Rattle.std.specs.List.{list_any}

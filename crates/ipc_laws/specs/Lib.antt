@@ -3,3 +3,4 @@ pub mod Changes
 pub mod Laws
 pub mod Counting
 pub mod Locality
+pub mod Exchange

@@ -1,6 +1,6 @@
 -- What an entry makes possible: it concerns only the calls that the entry touches.
-use Rattle.std.specs.Prelude.{◌≡◌, ℕ, ◌+◌, ◌*◌, ◌≤◌, List, [], ◌∷◌, ◌++◌, Some, IsTrue, ◌⊎◌}
-use Rattle.std.specs.Prelude.{option_and_then, map, length, if◌then◌else◌}
+use Rattle.std.specs.Prelude.{◌≡◌, ℕ, ◌+◌, ◌≤◌, List, [], ◌∷◌, ◌++◌, Some, IsTrue, ◌⊎◌}
+use Rattle.std.specs.Prelude.{option_and_then, map, length}
 use Rattle.ipc_words.specs.IpcError.{failure_code}
 use Rattle.ipc_words.specs.declared.ipc_error.Phase.TheVariants.{Send, Receive}
 use Rattle.ipc_words.specs.declared.ipc_error.ErrorKind.TheVariants as kind

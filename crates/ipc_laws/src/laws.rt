@@ -11,6 +11,7 @@ ghost use Rattle.ipc_laws.specs.Locality.{NextIsPossible, QuietRests, EntriesTou
 ghost use Rattle.ipc_laws.specs.Locality.{ClosingsOpenNothing, OpenedStaysQuiet, CalledBrings};
 ghost use Rattle.ipc_laws.specs.Locality.{ExregBrings, ExregStops, ExregOnce, BrokeFails};
 ghost use Rattle.ipc_laws.specs.Locality.{BrokeOnlyFails, AtOnlyFails, MovedEnds};
+ghost use Rattle.ipc_laws.specs.Exchange.{BeganEnds, CallExchanges, CallExchangesLater, CallWaits};
 ghost use Rattle.ipc_laws.specs.Counting.{StepsFall, StepsBound, OpenBound, OutputsBound};
 ghost use Rattle.ipc_laws.specs.Counting.{LiveBound, OutputsMost, RoomHolds, InputRoom, AtRoom};
 ghost use Rattle.ipc_laws.specs.Counting.{PledgeCovers, CommandFits};
@@ -122,4 +123,16 @@ pub fn room_is_enough()
     ensures at { AtRoom }
     ensures pledged { PledgeCovers }
     ensures command { CommandFits }
+{}
+
+/// A transfer of words alone ends as soon as it has begun.
+pub fn words_end_at_once()
+    ensures ends { BeganEnds }
+{}
+
+/// What comes of a call of words that meets as soon as it is entered, and of one that meets nobody.
+pub fn calls_of_words()
+    ensures exchanges { CallExchanges }
+    ensures later { CallExchangesLater }
+    ensures waits { CallWaits }
 {}

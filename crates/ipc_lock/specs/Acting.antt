@@ -3,7 +3,7 @@ use Rattle.std.specs.Prelude.{◌≡◌, ℕ, ◌+◌, ◌==◌, ◌&&◌, List,
 use Rattle.ipc_words.specs.ThreadId.{number_of}
 use Rattle.ipc_core.specs.Effects.{Ticks}
 use Rattle.ipc_core.specs.KernelParts.{KernelParts}
-use Rattle.ipc_core.specs.Obeying.{MayObey}
+use Rattle.ipc_core.specs.Again.{MayObeyAgain}
 use Rattle.ipc_core.specs.Outcomes.{made_by}
 use Rattle.ipc_core.specs.declared.answers.Advance.TheVariants as advance
 use Rattle.ipc_core.specs.declared.command.Answer.{Answer}
@@ -70,10 +70,12 @@ has_right history seat (Broke thread) = true
 has_right history seat (At reading) = true
 has_right history seat Advance = true
 
--- what a step does after its clock reading: what the kernel may do and answer to the command; K6 where it has no right to it
+-- what a step does after its clock reading: what the kernel may do and answer to the command, which is obeyed once more where K5 is the first
+-- cause to refuse it, behind a compaction up to the mark; K6 where it has no right to it
 unfoldable pub StepDoes : {C : Type 0} → KernelParts → Option (CallSeat C) → Command → Answer → KernelParts → Type 0
 StepDoes old seat command answer new =
-    MatchBool (has_right old.history seat command) (MayObey old command answer new) ((answer ≡ Refused NoThread) × (new ≡ old))
+    MatchBool (has_right old.history seat command) (MayObeyAgain old.held.mark old command answer new)
+    ((answer ≡ Refused NoThread) × (new ≡ old))
 
 -- a step: the clock reading, and then its command
 pub record Acts {C : Type 0} (old new : KernelParts) (now : ℕ) (seat : Option (CallSeat C)) (command : Command)

@@ -3,5 +3,9 @@ pub mod Opens
 pub mod Seats
 pub mod Acting
 pub mod Boxes
+pub mod Places
 pub mod Alarms
 pub mod Upkeeping
+pub mod Noting
+pub mod Above
+pub mod Parting

@@ -1,10 +1,15 @@
 -- When memory lets go of entries of the history.
-use Rattle.std.specs.Prelude.{◌≡◌, ℕ, ◌+◌, ◌-◌, ◌*◌, ◌^◌, Bool, ◌&&◌, ◌||◌, nat_le, min, max, length, MatchBool}
-use Rattle.ipc_words.specs.Limits.{block_bytes}
+use Rattle.std.specs.Prelude.{◌≡◌, ℕ, ◌+◌, ◌-◌, ◌*◌, ◌^◌, ◌≤◌, List, Bool, ◌&&◌, ◌||◌, nat_le, min, max, length, MatchBool}
+use Rattle.ipc_words.specs.Limits.{block_bytes, max_string_bytes}
 use Rattle.ipc_items.specs.Strings.{size_of}
+use Rattle.ipc_history.specs.CallParts.{CallParts}
 use Rattle.ipc_history.specs.Holding.{held_of}
+use Rattle.ipc_history.specs.Legal.{Legal}
+use Rattle.ipc_history.specs.declared.entry.Entry.{Entry}
+use Rattle.ipc_laws.specs.Counting.{pledged}
 use Rattle.ipc_core.specs.Compacting.{Compacts}
 use Rattle.ipc_core.specs.KernelParts.{KernelParts, history_of}
+use Rattle.ipc_core.specs.Room.{call_need}
 use Rattle.ipc_core.specs.declared.answers.Compacted.{Compacted}
 use Rattle.ipc_core.specs.declared.command.Command.{Command}
 use Rattle.ipc_core.specs.declared.command.Command.TheVariants.{Enter}
@@ -20,7 +25,13 @@ few_bytes = 4 * block_bytes
 
 -- so many entries below the limit it is near
 abbrev pub near_the_limit : ℕ
-near_the_limit = 16384
+near_the_limit = 65536
+
+-- there is room for all that may be pledged, and that the largest call needs
+abbrev pub NearCovers : Type 0
+NearCovers =
+    (H : List Entry) (call : CallParts) → Legal H → size_of call.strings ≤ max_string_bytes
+    → pledged H + call_need call ≤ near_the_limit
 
 -- at first, where so many entries may be held
 abbrev pub first_upkeep : ℕ → Upkeep

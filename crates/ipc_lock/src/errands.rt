@@ -1,13 +1,17 @@
 //! The pens that a step took out.
+ghost use Rattle.std.specs.Prelude.{◌≡◌, ◌&&◌, None, Some, true, IfSome, is_some, not};
+ghost use Rattle.ipc_lock.specs.Places.{OnlyWrites, added, entered_of};
+
 use crate::entered::Entered;
-use ipc_pen::{Patience, Pen, PenPort};
+use crate::post_box::Loaded;
+use ipc_pen::{Patience, PenPort};
 
 /// The pens with which a thread writes what its step told, its own connection's first. At most three: the writers of the others are
 /// woken.
 pub(crate) struct Errands<P: PenPort + Drop> {
-    pub(crate) first: Option<Pen<P>>,
-    pub(crate) second: Option<Pen<P>>,
-    pub(crate) third: Option<Pen<P>>,
+    pub(crate) first: Option<Loaded<P>>,
+    pub(crate) second: Option<Loaded<P>>,
+    pub(crate) third: Option<Loaded<P>>,
 }
 
 // Written out, and not derived, so that a function in which errands end calls this, and does not take three pens apart.
@@ -25,7 +29,11 @@ impl<P: PenPort + Drop> Drop for Errands<P> {
 }
 
 impl<P: PenPort + Drop> Errands<P> {
-    pub(crate) fn none() -> Errands<P> {
+    pub(crate) fn none() -> Errands<P>
+        ensures first { result.first ≡ None }
+        ensures second { result.second ≡ None }
+        ensures third { result.third ≡ None }
+    {
         Errands {
             first: None,
             second: None,
@@ -34,7 +42,11 @@ impl<P: PenPort + Drop> Errands<P> {
     }
 
     /// One pen.
-    pub(crate) fn of(pen: Pen<P>) -> Errands<P> {
+    pub(crate) fn of(pen: Loaded<P>) -> Errands<P>
+        ensures first { result.first ≡ Some pen }
+        ensures second { result.second ≡ None }
+        ensures third { result.third ≡ None }
+    {
         Errands {
             first: Some(pen),
             second: None,
@@ -43,17 +55,24 @@ impl<P: PenPort + Drop> Errands<P> {
     }
 
     /// Whether there is no pen.
-    pub(crate) fn is_empty(&self) -> bool {
+    pub(crate) fn is_empty(&self) -> bool
+        ensures { result ≡ (not (is_some self.now.first) && not (is_some self.now.second)
+            && not (is_some self.now.third)) }
+    {
         self.first.is_none() && self.second.is_none() && self.third.is_none()
     }
 
     /// Whether no more pens have room.
-    pub(crate) fn is_full(&self) -> bool {
+    pub(crate) fn is_full(&self) -> bool
+        ensures { result ≡ is_some self.now.third }
+    {
         self.third.is_some()
     }
 
     /// How far the call is that the connection of this box entered.
-    pub(crate) fn entered(&self, own: usize) -> Entered {
+    pub(crate) fn entered(&self, own: usize) -> Entered
+        ensures { result ≡ entered_of self.now.first own }
+    {
         match &self.first {
             Some(pen) if pen.place() == own => Entered::Over,
             _ => Entered::Open,
@@ -61,29 +80,39 @@ impl<P: PenPort + Drop> Errands<P> {
     }
 
     /// Adds a pen behind the others. Where there is no room it is handed back.
-    pub(crate) fn add(&mut self, pen: Pen<P>) -> Option<Pen<P>> {
-        let slot = if self.first.is_none() {
-            &mut self.first
+    pub(crate) fn add(&mut self, pen: Loaded<P>) -> Option<Loaded<P>>
+        ensures added { self.new ≡ added (Some pen) self.old }
+        ensures full { IfSome result (λ _. is_some self.old.third ≡ true) }
+        ensures back { IfSome result (λ back. back ≡ pen) }
+    {
+        if self.first.is_none() {
+            drop(self.first.replace(pen));
         } else if self.second.is_none() {
-            &mut self.second
+            drop(self.second.replace(pen));
         } else if self.third.is_none() {
-            &mut self.third
+            drop(self.third.replace(pen));
         } else {
             return Some(pen);
-        };
-        drop(slot.replace(pen));
+        }
         None
     }
 
     /// Writes with each, in order, as far as its device has room now.
-    pub(crate) fn write(&mut self) {
+    pub(crate) fn write(&mut self)
+        ensures first { OnlyWrites self.old.first self.new.first }
+        ensures second { OnlyWrites self.old.second self.new.second }
+        ensures third { OnlyWrites self.old.third self.new.third }
+    {
         write_with(&mut self.first);
         write_with(&mut self.second);
         write_with(&mut self.third);
     }
 }
 
-fn write_with<P: PenPort>(pen: &mut Option<Pen<P>>) {
+/// Writes with a pen, which is given nothing.
+fn write_with<P: PenPort>(pen: &mut Option<Loaded<P>>)
+    ensures { OnlyWrites pen.old pen.new }
+{
     if let Some(pen) = pen {
         // how far it came is seen where the pen is laid down
         let _ = pen.write(Patience::AtOnce);

@@ -1,16 +1,18 @@
 //! The box of a connection: what its client is told next, and the pen that writes it.
-ghost use Rattle.std.specs.Prelude.{◌≡◌, ◌≢◌, None, Some, true, false, IfOk, OnOk, OnErr, IfErr, IfSome, IfNone, is_some, ◌||◌, not};
-ghost use Rattle.ipc_connection.specs.declared.replying.Told.TheVariants as told;
-ghost use Rattle.ipc_frame.specs.declared.version.WireVersion.TheVariants.{One};
-ghost use Rattle.ipc_lock.specs.Boxes.{ComesOut, Loads, LooksFirst, NewPen, OnlyTakes, SeatAfter, TellsNothing, is_idle, is_own};
-ghost use Rattle.ipc_pen.specs.Pens.{BeginsEmpty};
+ghost use Rattle.std.specs.Prelude.{◌≡◌, ◌≢◌, None, Some, true, false, IfOk, OnOk, OnErr, IfErr, IfSome, IfNone, is_some, not};
+ghost use Rattle.ipc_lock.specs.Boxes.{Begins, ComesOut, EndsWork, LooksFirst, LooksInto, OnlyTakes, Works, WritesOn, cleared, has_failed, is_full, is_idle, new_box, posted_to, take_parts, thread_of, told_box, welcomed};
+ghost use Rattle.ipc_pen.specs.Pens.{BeginsEmpty, new_page};
+
+mod loaded;
 
 use crate::seated::{Locked, TakeSeat};
 use ipc_connection::{Told, reply};
 use ipc_frame::WireVersion;
 use ipc_pen::{Given, Pen, PenPort};
 use ipc_words::ThreadId;
+pub use loaded::Loaded;
 use std::alloc::{AllocError, Global};
+use std::marker::Model;
 use std::sync::ledger::Ledger;
 use std::sync::{Arc, Condvar};
 
@@ -18,7 +20,7 @@ use std::sync::{Arc, Condvar};
 #[derive(Drop)]
 pub(crate) enum Work<P: PenPort + Drop> {
     /// It writes with the pen.
-    Write(Pen<P>),
+    Write(Loaded<P>),
     /// Nothing more is written: the box is shut and empty, or the device has failed. The pen is gone.
     Over,
 }
@@ -35,7 +37,24 @@ pub(crate) struct PostBox<T: Ledger, P: PenPort + Drop> {
     pen: Option<Pen<P>>,
     bell: Arc<Condvar>,
     emptied: Arc<Condvar>,
-    pub ghost own: { is_own pen place ≡ true },
+}
+
+impl<T: Ledger, P: PenPort + Drop> Model for PostBox<T, P> {
+    ghost use Rattle.std.specs.Prelude.{◌≡◌, true};
+    ghost use Rattle.ipc_lock.specs.Boxes.{BoxParts, is_own, seat_parts};
+
+    ghost Value = { BoxParts };
+
+    ghost view = { λ b. record {
+      place = b.place;
+      version = b.version;
+      posted = b.posted;
+      shut = b.shut;
+      seat = seat_parts b.seat;
+      pen = b.pen;
+    } };
+
+    ghost invariant = { λ b. is_own b.pen b.place ≡ true };
 }
 
 /// A bell for a box's writer, and one for its reader.
@@ -49,9 +68,8 @@ impl<T: Ledger, P: PenPort + Drop> PostBox<T, P> {
     /// An empty box of this number, in which the pen of a port lies.
     pub(crate) fn new(alloc: Global, port: P, place: usize) -> Result<Self, AllocError>
         requires { BeginsEmpty (P.written port) }
-        ensures empty { IfOk result (λ b. (b.posted ≡ None) × (b.shut ≡ false)) }
-        ensures version { IfOk result (λ b. b.version ≡ One) }
-        ensures pen { IfOk result (λ b. NewPen b.pen place) }
+        ensures { IfOk result (λ b. b
+            ≡ new_box place (new_page place (P.written port) (P.failures port))) }
     {
         let (bell, emptied) = two_bells(alloc)?;
         Ok(PostBox {
@@ -69,9 +87,7 @@ impl<T: Ledger, P: PenPort + Drop> PostBox<T, P> {
     /// Makes a box that was given back ready for another connection.
     pub(crate) fn reopen(&mut self, port: P, place: usize)
         requires { BeginsEmpty (P.written port) }
-        ensures empty { (self.new.posted ≡ None) × (self.new.shut ≡ false) }
-        ensures version { self.new.version ≡ One }
-        ensures pen { NewPen self.new.pen place }
+        ensures { self.new ≡ new_box place (new_page place (P.written port) (P.failures port)) }
     {
         self.clear();
         self.place = place;
@@ -83,8 +99,7 @@ impl<T: Ledger, P: PenPort + Drop> PostBox<T, P> {
 
     /// Lets go of what a connection leaves behind.
     pub(crate) fn clear(&mut self)
-        ensures shut { self.new.shut ≡ true }
-        ensures empty { (self.new.posted ≡ None) × (self.new.pen ≡ None) }
+        ensures { self.new ≡ cleared self.old }
     {
         self.shut = true;
         self.posted = None;
@@ -94,14 +109,10 @@ impl<T: Ledger, P: PenPort + Drop> PostBox<T, P> {
 
     /// Leaves what is told. A full or shut box hands it back and stays as it is.
     pub(crate) fn post(&mut self, told: Told) -> Result<(), Told>
-        ensures ok { OnOk result ((self.old.posted ≡ None) × (self.old.shut ≡ false)) }
-        ensures left { OnOk result (self.new.posted ≡ Some told) }
+        ensures posted { self.new ≡ posted_to told self.old }
+        ensures ok { OnOk result (is_full self.old ≡ false) }
+        ensures full { OnErr result (is_full self.old ≡ true) }
         ensures back { IfErr result (λ back. back ≡ told) }
-        ensures full { OnErr result (is_some self.old.posted || self.old.shut ≡ true) }
-        ensures err { OnErr result (self.new.posted ≡ self.old.posted) }
-        ensures version { self.new.version ≡ self.old.version }
-        ensures shut { self.new.shut ≡ self.old.shut }
-        ensures pen { self.new.pen ≡ self.old.pen }
     {
         if self.shut || self.posted.is_some() {
             return Err(told);
@@ -112,11 +123,7 @@ impl<T: Ledger, P: PenPort + Drop> PostBox<T, P> {
 
     /// Leaves that a seat's thread was opened, and keeps the seat. From here on the client is answered in this version.
     pub(crate) fn welcome(&mut self, seat: TakeSeat<T>, version: WireVersion)
-        ensures posted { self.new.posted ≡ Some (told.Opened seat.thread version) }
-        ensures seat { self.new.seat ≡ Some seat }
-        ensures version { self.new.version ≡ version }
-        ensures shut { self.new.shut ≡ self.old.shut }
-        ensures pen { self.new.pen ≡ self.old.pen }
+        ensures { self.new ≡ welcomed (take_parts seat) version self.old }
     {
         self.version = version;
         self.posted = Some(Told::Opened(seat.thread(), version));
@@ -125,10 +132,7 @@ impl<T: Ledger, P: PenPort + Drop> PostBox<T, P> {
 
     /// Nothing more can be posted. What is in it can still be taken.
     pub(crate) fn shut(&mut self)
-        ensures shut { self.new.shut ≡ true }
-        ensures version { self.new.version ≡ self.old.version }
-        ensures posted { self.new.posted ≡ self.old.posted }
-        ensures pen { self.new.pen ≡ self.old.pen }
+        ensures { self.new ≡ record self.old { shut = true } }
     {
         self.shut = true;
         self.bell.notify_one();
@@ -151,9 +155,7 @@ impl<T: Ledger, P: PenPort + Drop> PostBox<T, P> {
 
     /// The thread whose outcomes are told here.
     pub(crate) fn thread(&self) -> Option<ThreadId>
-        ensures some { IfSome result (λ thread. IfSome self.now.seat
-            (λ seat. seat.thread ≡ thread)) }
-        ensures none { IfNone result (self.now.seat ≡ None) }
+        ensures { result ≡ thread_of self.now }
     {
         match &self.seat {
             Some(seat) => Some(seat.thread()),
@@ -162,16 +164,12 @@ impl<T: Ledger, P: PenPort + Drop> PostBox<T, P> {
     }
 
     /// What the client is told next: the outcome of its thread's last call before what was posted.
+    #[tactic(auto, using(crate::proofs::Moves::only_none, crate::proofs::Moves::only_gives, crate::proofs::Moves::only_nothing))]
     fn next<C: Ledger>(&mut self, locked: &mut Locked<C, T>) -> Option<Given>
         ensures first { LooksFirst locked.old.kernel locked.new.kernel self.old.seat result }
         ensures out { ComesOut self.old.version self.old.posted result }
-        ensures version { self.new.version ≡ self.old.version }
+        ensures left { self.new ≡ told_box self.old result }
         ensures only { OnlyTakes locked.old.kernel locked.new.kernel }
-        ensures seat { SeatAfter self.old.seat result self.new.seat }
-        ensures none { IfNone result (self.new.posted ≡ None) }
-        ensures place { self.new.place ≡ self.old.place }
-        ensures shut { self.new.shut ≡ self.old.shut }
-        ensures pen { self.new.pen ≡ self.old.pen }
     {
         if let Some(seat) = &mut self.seat {
             if let Some(taken) = locked.take_seated(seat) {
@@ -199,16 +197,11 @@ impl<T: Ledger, P: PenPort + Drop> PostBox<T, P> {
     }
 
     /// Takes the pen out with what the client is told next. None where the pen is out or not at its end, or nothing is there.
-    pub(crate) fn load<C: Ledger>(&mut self, locked: &mut Locked<C, T>) -> Option<Pen<P>>
-        ensures loads { IfSome result (λ pen.
-            Loads locked.old.kernel locked.new.kernel self.old.seat self.old.version self.old.posted
-            self.old.pen pen) }
-        ensures version { self.new.version ≡ self.old.version }
-        ensures stays { IfNone result (self.new.pen ≡ self.old.pen) }
-        ensures nothing { IfNone result (TellsNothing locked.old.kernel locked.new.kernel
-            self.old.seat self.old.pen self.old.posted self.new.posted) }
+    #[tactic(auto, using(crate::proofs::Moves::only_none))]
+    pub(crate) fn load<C: Ledger>(&mut self, locked: &mut Locked<C, T>) -> Option<Loaded<P>>
+        ensures looks { LooksInto locked.old.kernel locked.new.kernel self.old self.new result }
+        ensures own { IfSome result (λ pen. pen.place ≡ self.old.place) }
         ensures only { OnlyTakes locked.old.kernel locked.new.kernel }
-        ensures shut { self.new.shut ≡ self.old.shut }
     {
         if !self.is_idle() {
             return None;
@@ -216,20 +209,21 @@ impl<T: Ledger, P: PenPort + Drop> PostBox<T, P> {
         let given = self.next(locked)?;
         let mut pen = self.pen.take()?;
         pen.give(given);
-        Some(pen)
+        Some(Loaded::of(pen))
     }
 
-    /// Lays the box's own pen down, and takes it out again where something came meanwhile.
+    /// Lays the box's own pen down, and takes it out again where something came meanwhile. That of another box goes, and all stays.
+    #[tactic(auto, using(crate::proofs::Moves::only_none))]
     pub(crate) fn look_again<C: Ledger>(
         &mut self,
         locked: &mut Locked<C, T>,
-        pen: Pen<P>,
-    ) -> Option<Pen<P>>
-        ensures looks { IfNone result (pen.place ≡ self.old.place → TellsNothing
-            locked.old.kernel locked.new.kernel self.old.seat (Some pen)
-            self.old.posted self.new.posted) }
+        pen: Loaded<P>,
+    ) -> Option<Loaded<P>>
+        ensures own { pen.place ≡ self.old.place → LooksInto locked.old.kernel locked.new.kernel
+            (record self.old { pen = Some pen }) self.new result }
+        ensures other { pen.place ≢ self.old.place → (result ≡ None)
+            × (locked.new.kernel ≡ locked.old.kernel) × (self.new ≡ self.old) }
         ensures only { OnlyTakes locked.old.kernel locked.new.kernel }
-        ensures shut { self.new.shut ≡ self.old.shut }
     {
         match self.lay(pen) {
             // the box is its own
@@ -243,7 +237,9 @@ impl<T: Ledger, P: PenPort + Drop> PostBox<T, P> {
 
     /// What the writer does next: it goes on with a frame that is not at its end, or takes the pen out with what is next. None while
     /// there is nothing to do, or another thread has the pen.
+    #[tactic(auto, using(crate::proofs::Moves::only_none))]
     pub(crate) fn work<C: Ledger>(&mut self, locked: &mut Locked<C, T>) -> Option<Work<P>>
+        ensures works { Works locked.old.kernel locked.new.kernel self.old self.new result }
         ensures only { OnlyTakes locked.old.kernel locked.new.kernel }
     {
         if self.has_failed() {
@@ -257,6 +253,7 @@ impl<T: Ledger, P: PenPort + Drop> PostBox<T, P> {
 
     /// What the writer does with a pen that is at its end: it takes the pen out with what is next, and ends where nothing comes any more.
     fn begin<C: Ledger>(&mut self, locked: &mut Locked<C, T>) -> Option<Work<P>>
+        ensures begins { Begins locked.old.kernel locked.new.kernel self.old self.new result }
         ensures only { OnlyTakes locked.old.kernel locked.new.kernel }
     {
         match self.load(locked) {
@@ -267,7 +264,9 @@ impl<T: Ledger, P: PenPort + Drop> PostBox<T, P> {
     }
 
     /// Whether the pen lies here and its device has failed.
-    fn has_failed(&self) -> bool {
+    fn has_failed(&self) -> bool
+        ensures { result ≡ has_failed self.now.pen }
+    {
         match &self.pen {
             Some(pen) => pen.has_failed(),
             None => false,
@@ -275,32 +274,34 @@ impl<T: Ledger, P: PenPort + Drop> PostBox<T, P> {
     }
 
     /// Writes on with the pen, where it lies here.
-    fn go_on(&mut self) -> Option<Work<P>> {
-        Some(Work::Write(self.pen.take()?))
+    fn go_on(&mut self) -> Option<Work<P>>
+        ensures { WritesOn self.old self.new result }
+    {
+        let pen = self.pen.take()?;
+        Some(Work::Write(Loaded::of(pen)))
     }
 
     /// Nothing more is written, and the pen goes.
-    fn end_work(&mut self) -> Option<Work<P>> {
+    fn end_work(&mut self) -> Option<Work<P>>
+        ensures { EndsWork self.old self.new result }
+    {
         drop(self.pen.take());
         Some(Work::Over)
     }
 
     /// Lays the box's own pen down; that of another box is handed back. Its writer is woken where a frame is not at its end, where the
     /// device failed, and where the box is shut.
-    pub(crate) fn lay(&mut self, pen: Pen<P>) -> Option<Pen<P>>
-        ensures laid { IfNone result ((pen.place ≡ self.old.place) × (self.new.pen ≡ Some pen)) }
-        ensures back { IfSome result (λ back. (back ≡ pen) × (self.new.pen ≡ self.old.pen)) }
+    pub(crate) fn lay(&mut self, pen: Loaded<P>) -> Option<Loaded<P>>
+        ensures laid { IfNone result ((pen.place ≡ self.old.place)
+            × (self.new ≡ record self.old { pen = Some pen })) }
+        ensures back { IfSome result (λ back. (back ≡ pen) × (self.new ≡ self.old)) }
         ensures other { IfSome result (λ _. pen.place ≢ self.old.place) }
-        ensures version { self.new.version ≡ self.old.version }
-        ensures posted { self.new.posted ≡ self.old.posted }
-        ensures shut { self.new.shut ≡ self.old.shut }
-        ensures seat { self.new.seat ≡ self.old.seat }
     {
         if pen.place() != self.place {
             return Some(pen);
         }
         let is_for_writer = self.shut || !pen.is_ready();
-        self.pen = Some(pen);
+        self.pen = Some(pen.into_pen());
         if is_for_writer {
             self.ring();
         }

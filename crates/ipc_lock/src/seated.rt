@@ -1,5 +1,5 @@
 //! What the lock keeps, and the calls that change it. Nobody else makes an [`Answered`] or a [`Taken`].
-ghost use Rattle.std.specs.Prelude.{◌≡◌, ◌+◌, ◌*◌, ◌≤◌, ◌<◌, ◌^◌, [], ◌∷◌, false, None, Some, length, min, slice_get};
+ghost use Rattle.std.specs.Prelude.{◌≡◌, ◌+◌, ◌*◌, ◌≤◌, ◌<◌, ◌^◌, [], ◌∷◌, false, None, Some, length, min, slice_get, vec_capacity, vec_len};
 ghost use Rattle.std.specs.Prelude.{IfOk, IfErr, IfSome, OnOk, OnErr, IfNone};
 ghost use Rattle.ipc_history.specs.Calls.{calls_made};
 ghost use Rattle.ipc_history.specs.Holding.{held_of, marked_to};
@@ -10,6 +10,7 @@ ghost use Rattle.ipc_core.specs.Compacting.{Compacts};
 ghost use Rattle.ipc_core.specs.KernelParts.{history_of};
 ghost use Rattle.ipc_core.specs.Effects.{Breaks, Exchanges, Gives, Ticks};
 ghost use Rattle.ipc_words.specs.Limits.{max_calls, max_command_entries, max_entries};
+ghost use Rattle.ipc_words.specs.ThreadId.{number_of};
 ghost use Rattle.ipc_core.specs.Obeying.{MayObey, broke_answer, empty_kernel, enter_answer, exreg_result};
 ghost use Rattle.ipc_core.specs.Room.{LacksRoomFor, exreg_need, open_need};
 ghost use Rattle.ipc_core.specs.declared.command.Answer.TheVariants as answer;
@@ -19,20 +20,26 @@ ghost use Rattle.ipc_core.specs.Refusals.{enter_refusal, exreg_refusal, open_ref
 ghost use Rattle.ipc_core.specs.Steps.{Enters, MayRefuse, Opens};
 ghost use Rattle.ipc_lock.specs.Acting.{Acts, AnswersStep, GivesSeat, HandsBack, StepDoes, is_idle};
 ghost use Rattle.ipc_lock.specs.Groups.{IsGroupAt};
+ghost use Rattle.ipc_lock.specs.Noting.{Notes, NotesStep, has_begun_since};
 ghost use Rattle.ipc_lock.specs.Opens.{opens};
 ghost use Rattle.ipc_lock.specs.Seats.{SeatObeys, SeatRefuses, TakesNothing};
 ghost use Rattle.ipc_waits.specs.FirstDue.{IsLeastDue};
+ghost use Rattle.l4sh_state.specs.States.{IsStateOf};
 
+mod again;
+mod parting;
 mod seats;
 
 use crate::copying::{copy_entry, copy_group};
 use crate::not_given::NotGiven;
+use crate::noting::has_begun;
 use ipc_core::{
     Advance, Answer, Command, Compacted, EnterRefused, ExregAnswer, Kernel, Limits, NoThread,
     Refusal,
 };
-use ipc_history::{Call, Entries, Entry, Outcome, Output};
+use ipc_history::{Call, Entries, Entry, Outcome};
 use ipc_words::{Control, ThreadId};
+use l4sh_state::{State, state_in};
 pub use seats::{CallSeat, TakeSeat};
 use std::alloc::Global;
 use std::marker::PhantomData;
@@ -128,6 +135,7 @@ impl<C: Ledger, T: Ledger> Locked<C, T> {
     ) -> Result<(ThreadId, CallSeat<C>, TakeSeat<T>), Refusal>
         ensures ok { IfOk result (λ opened. (open_refusal self.old.kernel number space ≡ None)
             × Opens self.old.kernel self.new.kernel number space opened.0) }
+        ensures number { IfOk result (λ opened. number_of opened.0 ≡ number) }
         ensures call_seat { IfOk result (λ opened. (opened.1.thread ≡ opened.0)
             × (opened.1.made ≡ 0)) }
         ensures take_seat { IfOk result (λ opened. (opened.2.thread ≡ opened.0)
@@ -450,13 +458,28 @@ impl<C: Ledger, T: Ledger> Locked<C, T> {
         ensures few { length self.new.kernel.history ≤ length self.old.kernel.history
             + 2 * max_command_entries }
         ensures paired { Paired self.new.kernel.history }
+        ensures legal { Legal self.new.kernel.history }
+        ensures notes { NotesStep self.old.kernel self.new.kernel now finished.old.items
+            finished.new.items (vec_capacity finished.old) }
     {
-        self.tick(now);
-        self.note_finished(finished);
+        self.tick_for(now, finished);
         let answered = self.obey(seat, command);
         self.note_finished(finished);
         let _ = self.history();
         answered
+    }
+
+    /// Sets the clock, and notes whose calls that finished.
+    fn tick_for(&mut self, now: u64, finished: &mut Vec<ThreadId>)
+        ensures ticks { Ticks self.old.kernel self.new.kernel now }
+        ensures few { length self.new.kernel.history ≤ length self.old.kernel.history
+            + max_command_entries }
+        ensures notes { Notes self.new.kernel finished.old.items finished.new.items
+            (vec_capacity finished.old) }
+        ensures capacity { vec_capacity finished.old ≤ vec_capacity finished.new }
+    {
+        self.tick(now);
+        self.note_finished(finished)
     }
 
     #[tactic(auto, unfolding(crate::specs::Acting::StepDoes, crate::specs::Acting::AnswersStep), using(crate::proofs::Steps::still))]
@@ -492,7 +515,7 @@ impl<C: Ledger, T: Ledger> Locked<C, T> {
         ensures few { length self.new.kernel.history ≤ length self.old.kernel.history
             + max_command_entries }
     {
-        match self.open_seated(number, space) {
+        match self.open_again(number, space) {
             Ok((thread, calls, takes)) => Answered {
                 answer: Answer::Opened(thread),
                 calls: Some(calls),
@@ -525,7 +548,7 @@ impl<C: Ledger, T: Ledger> Locked<C, T> {
             return Answered::refused(Refusal::NoThread, Some(seat), call);
         }
         let mut seat = seat;
-        match self.enter_seated(&mut seat, call) {
+        match self.enter_again(&mut seat, call) {
             Ok(number) => Answered::new(Answer::Entered(number), Some(seat)),
             Err(EnterRefused { refusal, call }) => Answered::refused(refusal, Some(seat), call),
         }
@@ -553,7 +576,7 @@ impl<C: Ledger, T: Ledger> Locked<C, T> {
         if seat.thread != thread {
             return Answered::new(Answer::Refused(Refusal::NoThread), Some(seat));
         }
-        match self.exreg_seated(&seat, target, control) {
+        match self.exreg_again(&seat, target, control) {
             Ok(answer) => Answered::new(Answer::Exchanged(answer), Some(seat)),
             Err(refusal) => Answered::new(Answer::Refused(refusal), Some(seat)),
         }
@@ -598,12 +621,14 @@ impl<C: Ledger, T: Ledger> Locked<C, T> {
         Answered::new(Answer::Advanced(self.advance()), seat)
     }
 
-    /// Notes whose calls the last command finished.
-    fn note_finished(&self, finished: &mut Vec<ThreadId>) {
-        for thread in self.kernel.finished() {
-            // its room was made before: without it a writer would be told later
-            let _ = finished.push(*thread);
-        }
+    /// Notes whose calls the last command finished, where there is room for all of them.
+    fn note_finished(&self, finished: &mut Vec<ThreadId>)
+        ensures notes { Notes self.now.kernel finished.old.items finished.new.items
+            (vec_capacity finished.old) }
+        ensures capacity { vec_capacity finished.old ≤ vec_capacity finished.new }
+    {
+        // their room was made before: without it a writer would be told later
+        let _ = finished.extend_from_slice(self.kernel.finished());
     }
 
     /// The history. Each time the lock is held it is legal, and has the promise.
@@ -616,25 +641,29 @@ impl<C: Ledger, T: Ledger> Locked<C, T> {
         self.kernel.history()
     }
 
-    /// Whether a transfer has begun, among the entries behind so many, that has not ended among them.
-    pub(crate) fn has_begun_since(&self, before: usize) -> bool {
-        let mut begun = 0u64;
-        let mut ended = 0u64;
-        let place = before.max(self.kernel.whole_from());
-        for entry in self.kernel.entries_from(place) {
-            match entry {
-                Entry::Written(Output::Began(_, _)) => begun = begun.saturating_add(1),
-                Entry::Written(Output::Ended(_, _)) => ended = ended.saturating_add(1),
-                _ => {}
-            }
-        }
-        begun > ended
+    /// What each thread does, by the history.
+    pub fn state(&self) -> State
+        ensures state { IsStateOf self.now.kernel.history result }
+        ensures legal { Legal self.now.kernel.history }
+    {
+        let _ = self.history();
+        state_in(self.kernel.slots())
+    }
+
+    /// Whether a transfer has begun, among the entries behind so many, that has not ended among them; also where memory let go of some of
+    /// them, so that nobody knows.
+    pub(crate) fn has_begun_since(&self, before: usize) -> bool
+        ensures { result ≡ has_begun_since self.now.kernel before }
+    {
+        before < self.kernel.whole_from() || has_begun(self.kernel.entries_from(before))
     }
 
     /// Whether a thread is live.
     pub(crate) fn is_live(&self, thread: ThreadId) -> bool
-        ensures { result ≡ is_live self.now.kernel.history thread }
+        ensures live { result ≡ is_live self.now.kernel.history thread }
+        ensures legal { Legal self.now.kernel.history }
     {
+        let _ = self.history();
         self.kernel.is_live(thread)
     }
 
@@ -705,8 +734,10 @@ impl<C: Ledger, T: Ledger> Locked<C, T> {
     /// Memory let go of it, or there is none for the copy.
     pub fn entry(&self, alloc: Global, index: usize) -> Result<Option<Entry>, NotGiven>
         ensures entry { IfOk result (λ entry. entry ≡ slice_get self.now.kernel.history index) }
+        ensures legal { Legal self.now.kernel.history }
         ensures gone { result ≡ Err NotGiven.LetGo → index < self.now.kernel.held.whole_from }
     {
+        let _ = self.history();
         if index < self.kernel.whole_from() {
             return Err(NotGiven::LetGo);
         }
@@ -724,8 +755,10 @@ impl<C: Ledger, T: Ledger> Locked<C, T> {
     /// Memory let go of the first one, or there is none for the copies.
     pub fn group(&self, alloc: Global, index: usize) -> Result<Vec<Entry>, NotGiven>
         ensures group { IfOk result (λ group. IsGroupAt self.now.kernel.history index group.items) }
+        ensures legal { Legal self.now.kernel.history }
         ensures gone { result ≡ Err NotGiven.LetGo → index < self.now.kernel.held.whole_from }
     {
+        let _ = self.history();
         if index < self.kernel.whole_from() {
             return Err(NotGiven::LetGo);
         }

@@ -1,21 +1,31 @@
 //! The kernel and the boxes under one lock. Here it is only taken; what is done under it stands in its own files.
-ghost use Rattle.std.specs.Prelude.{◌≡◌, ◌^◌, IfSome, IfNone, IfErr, ◌+◌};
+ghost use Rattle.std.specs.Prelude.{◌≡◌, ◌^◌, List, IfOk, IfSome, IfNone, IfErr, ◌+◌, false, true, slice_get};
+ghost use Rattle.std.specs.Sync.Mutex.{mutex_guard_value};
+ghost use Rattle.ipc_history.specs.declared.entry.Entry.{Entry};
+ghost use Rattle.ipc_history.specs.Legal.{Legal};
+ghost use Rattle.ipc_lock.specs.Above.{ActsSome, AsksOrRefuses, EntryOfSome, GivesSome, GroupOfSome, LeftOfSome};
 ghost use Rattle.ipc_lock.specs.Acting.{AnswersStep, Asked, GivesSeat, HandsBack};
+ghost use Rattle.ipc_lock.specs.Places.{is_empty_in, is_shut_in};
 ghost use Rattle.ipc_pen.specs.Pens.{BeginsEmpty};
+ghost use Rattle.l4sh_state.specs.States.{IsStateOf};
+
+mod parting;
 
 use crate::ends::{PostEnd, TakeEnd};
 use crate::entered::Entered;
 use crate::errands::Errands;
 use crate::inside::{After, Inside};
 use crate::not_given::NotGiven;
-use crate::post_box::Work;
+use crate::post_box::{Loaded, Work};
 use crate::rest::Rest;
-use crate::seated::{Answered, CallSeat, Locked, TakeSeat, Taken};
+use crate::seated::{Answered, CallSeat, TakeSeat, Taken};
 use ipc_connection::{Request, Told};
-use ipc_core::{Advance, Answer, Command, Limits, MAX_ENTRIES, Refusal};
+use ipc_core::{Advance, Answer, Command, Limits, Refusal};
 use ipc_history::Entry;
 use ipc_lines::entry_line;
-use ipc_pen::{Pen, PenPort};
+use ipc_pen::PenPort;
+use ipc_words::limits::{BLOCK_BYTES, MAX_STRING_BYTES};
+use l4sh_state::State;
 use std::alloc::Global;
 use std::hint::spin_loop;
 use std::mem::replace;
@@ -25,8 +35,8 @@ use std::sync::{Condvar, CondvarTimeouts, Mutex, MutexGuard, Wait};
 use std::thread::yield_now;
 use std::time::{Duration, Instant};
 
-/// How many blocks of a transfer the thread copies that began it. The mover copies what is left.
-const MOST_BLOCKS: u32 = 17;
+/// How many blocks of a transfer the thread copies that began it: those of the longest message, and one. The mover copies what is left.
+const MOST_BLOCKS: usize = MAX_STRING_BYTES / BLOCK_BYTES as usize + 1;
 
 /// How often a thread tries to take the lock at once, before it lets others run. The lock is held for a microsecond or two.
 const TRIES: u32 = 16;
@@ -80,11 +90,7 @@ impl<C: Ledger, T: Ledger, P: PenPort + Drop> SharedKernel<C, T, P> {
         requires many_takes { takes.parts ≡ 2 ^ 63 }
         ensures { IfErr result (λ refusal. refusal ≡ Refusal.NoMemory) }
     {
-        let locked = Locked::new(alloc, limits, calls, takes)?;
-        let limit = limits.entries.min(MAX_ENTRIES);
-        let Ok(inside) = Inside::new(alloc, locked, limit) else {
-            return Err(Refusal::NoMemory);
-        };
+        let inside = Inside::new(alloc, limits, calls, takes)?;
         Ok(SharedKernel {
             inside: Mutex::new(inside),
             work: Condvar::new(),
@@ -137,6 +143,7 @@ impl<C: Ledger, T: Ledger, P: PenPort + Drop> SharedKernel<C, T, P> {
         seat: Option<CallSeat<C>>,
         command: Command,
     ) -> Answered<C, T>
+        ensures acts { ActsSome now seat command result.answer }
         ensures answers { AnswersStep seat command result.answer result.calls }
         ensures takes { GivesSeat result.answer result.takes }
         ensures back { HandsBack command result.answer result.back }
@@ -145,6 +152,7 @@ impl<C: Ledger, T: Ledger, P: PenPort + Drop> SharedKernel<C, T, P> {
     }
 
     /// As [`SharedKernel::submit`]. The mover is woken only where it may be needed.
+    #[tactic(auto, using(crate::proofs::Above::acts_some))]
     fn step<R: Wait>(
         &self,
         rt: &R,
@@ -153,6 +161,7 @@ impl<C: Ledger, T: Ledger, P: PenPort + Drop> SharedKernel<C, T, P> {
         command: Command,
         wakes_mover: bool,
     ) -> Answered<C, T>
+        ensures acts { ActsSome now seat command result.answer }
         ensures answers { AnswersStep seat command result.answer result.calls }
         ensures takes { GivesSeat result.answer result.takes }
         ensures back { HandsBack command result.answer result.back }
@@ -170,7 +179,9 @@ impl<C: Ledger, T: Ledger, P: PenPort + Drop> SharedKernel<C, T, P> {
     }
 
     /// Waits for the outcome of the seat's thread's last call. None once the thread is not live.
+    #[tactic(auto, using(crate::proofs::Above::gives_some))]
     pub fn wait_outcome<R: Wait>(&self, rt: &R, seat: &mut TakeSeat<T>) -> Option<Taken<T>>
+        ensures gives { IfSome result (λ taken. GivesSome seat.old.thread taken.outcome) }
         ensures thread { seat.new.thread ≡ seat.old.thread }
         ensures named { IfSome result (λ taken. (taken.thread ≡ seat.old.thread)
             × (taken.amount ≡ seat.new.taken)) }
@@ -214,7 +225,7 @@ impl<C: Ledger, T: Ledger, P: PenPort + Drop> SharedKernel<C, T, P> {
     ///
     /// `Refused`, and the end is then as before: of an open K1, K2, K3, K5, K4; of a call K6, K7, K8, K5, K4; of an ExchangeRegisters K6,
     /// K7, K5, K4. K6 also where the box was shut, and where this is not the end's own thread.
-    #[tactic(auto, unfolding(crate::specs::Acting::Asked), using(crate::proofs::Steps::still))]
+    #[tactic(auto, unfolding(crate::specs::Acting::Asked), using(crate::proofs::Steps::still, crate::proofs::Above::asks_some))]
     pub fn ask<R: Wait>(
         &self,
         rt: &R,
@@ -225,6 +236,7 @@ impl<C: Ledger, T: Ledger, P: PenPort + Drop> SharedKernel<C, T, P> {
     ) -> (Told, Entered)
         ensures place { end.new.place ≡ end.old.place }
         ensures asked { Asked result.0 request end.old.seat end.new.seat }
+        ensures asks { AsksOrRefuses now end.old.seat request space result.0 }
     {
         let Some(mut inside) = self.when_empty(rt, end.place) else {
             return (Told::Refused(Refusal::NoThread), Entered::Open);
@@ -285,7 +297,7 @@ impl<C: Ledger, T: Ledger, P: PenPort + Drop> SharedKernel<C, T, P> {
 
     /// Waits until a box's pen lies there with something to write that nobody else has taken, and takes it out. None once nothing more
     /// comes, or the device has failed.
-    pub fn wait_pen<R: Wait>(&self, rt: &R, end: &TakeEnd) -> Option<Pen<P>> {
+    pub fn wait_pen<R: Wait>(&self, rt: &R, end: &TakeEnd) -> Option<Loaded<P>> {
         let mut inside = self.inside(rt);
         let Some(bell) = inside.bell(end.place) else {
             return None;
@@ -302,7 +314,7 @@ impl<C: Ledger, T: Ledger, P: PenPort + Drop> SharedKernel<C, T, P> {
     }
 
     /// Lays a pen down in its box. What came meanwhile is written first, as far as the device has room.
-    pub fn give_back<R: Wait>(&self, rt: &R, pen: Pen<P>) {
+    pub fn give_back<R: Wait>(&self, rt: &R, pen: Loaded<P>) {
         let mut errands = Errands::of(pen);
         self.inside(rt).take_back(&mut errands);
         self.carry(rt, &mut errands);
@@ -313,7 +325,12 @@ impl<C: Ledger, T: Ledger, P: PenPort + Drop> SharedKernel<C, T, P> {
         &'a self,
         rt: &R,
         place: usize,
-    ) -> Option<MutexGuard<'a, Inside<C, T, P>>> {
+    ) -> Option<MutexGuard<'a, Inside<C, T, P>>>
+        ensures shut { IfSome result (λ inside.
+            is_shut_in (slice_get (mutex_guard_value inside).boxes.items place) ≡ false) }
+        ensures empty { IfSome result (λ inside.
+            is_empty_in (slice_get (mutex_guard_value inside).boxes.items place) ≡ true) }
+    {
         let mut inside = self.inside(rt);
         for _ in rt.forever() {
             if inside.is_shut(place) {
@@ -442,7 +459,10 @@ impl<C: Ledger, T: Ledger, P: PenPort + Drop> SharedKernel<C, T, P> {
         }
     }
 
-    fn wait_entry<R: Wait>(&self, rt: &R, index: usize) -> Result<Option<Entry>, NotGiven> {
+    #[tactic(auto, using(crate::proofs::Above::entry_some))]
+    fn wait_entry<R: Wait>(&self, rt: &R, index: usize) -> Result<Option<Entry>, NotGiven>
+        ensures entry { IfOk result (λ entry. EntryOfSome index entry) }
+    {
         let mut inside = self.inside(rt);
         for _ in rt.forever() {
             let entry = inside.entry(index)?;
@@ -452,7 +472,7 @@ impl<C: Ledger, T: Ledger, P: PenPort + Drop> SharedKernel<C, T, P> {
             inside.await_entry();
             inside = self.trace.wait(rt, inside);
         }
-        Ok(None)
+        inside.entry(index)
     }
 
     /// Waits for the entry of this place of the history, counted from 0, and answers copies of it and of those that
@@ -461,7 +481,10 @@ impl<C: Ledger, T: Ledger, P: PenPort + Drop> SharedKernel<C, T, P> {
     /// # Errors
     ///
     /// TR5: no memory for the copies, or memory let go of the first entry, which was marked.
-    pub fn wait_entries<R: Wait>(&self, rt: &R, index: usize) -> Result<Vec<Entry>, NotGiven> {
+    #[tactic(auto, using(crate::proofs::Above::group_some))]
+    pub fn wait_entries<R: Wait>(&self, rt: &R, index: usize) -> Result<Vec<Entry>, NotGiven>
+        ensures group { IfOk result (λ group. GroupOfSome index group.items) }
+    {
         let mut inside = self.inside(rt);
         for _ in rt.forever() {
             let group = inside.group(index)?;
@@ -471,7 +494,7 @@ impl<C: Ledger, T: Ledger, P: PenPort + Drop> SharedKernel<C, T, P> {
             inside.await_entry();
             inside = self.trace.wait(rt, inside);
         }
-        Ok(Vec::new(self.alloc))
+        inside.group(index)
     }
 
     /// The entries before a place of the history, counted from 0, are not read any more: a later step may let go of them, and of their
@@ -481,10 +504,11 @@ impl<C: Ledger, T: Ledger, P: PenPort + Drop> SharedKernel<C, T, P> {
     }
 
     /// As [`SharedKernel::mark`], and answers how many entries stand at that place and behind it. So a trace takes the lock once for both.
-    pub fn mark_traced<R: Wait>(&self, rt: &R, upto: usize) -> usize {
-        let mut inside = self.inside(rt);
-        inside.mark(upto);
-        inside.entries().saturating_sub(upto)
+    #[tactic(auto, using(crate::proofs::Above::left_some))]
+    pub fn mark_traced<R: Wait>(&self, rt: &R, upto: usize) -> usize
+        ensures left { LeftOfSome upto result }
+    {
+        self.inside(rt).mark_traced(upto)
     }
 
     /// How many entries memory holds, to say when it is near its limit.
@@ -495,6 +519,13 @@ impl<C: Ledger, T: Ledger, P: PenPort + Drop> SharedKernel<C, T, P> {
     /// How many entries the history has, with those that were let go.
     pub fn entries<R: Wait>(&self, rt: &R) -> usize {
         self.inside(rt).entries()
+    }
+
+    /// What each thread does, by a legal history (`state`): the one that stands while the lock is held.
+    pub fn state<R: Wait>(&self, rt: &R) -> State
+        ensures state { (history : List Entry) × Legal history × IsStateOf history result }
+    {
+        self.inside(rt).state()
     }
 
     /// How many outcomes were taken.

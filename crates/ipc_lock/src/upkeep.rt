@@ -11,8 +11,8 @@ const FEW_ENTRIES: usize = 4_096;
 /// So many bytes of strings come before any entry is let go, where the entries are few.
 const FEW_BYTES: usize = 4 * BLOCK_BYTES as usize;
 
-/// What the greatest number of threads may have pledged, and a step may need, with room to spare.
-const NEAR_THE_LIMIT: usize = 16_384;
+/// What the greatest number of threads may have pledged, and a step may need, with room to spare: a law says so.
+const NEAR_THE_LIMIT: usize = 65_536;
 
 /// When entries are let go: where as many are held as were left the last time, and as many again; where four blocks of strings came since;
 /// or near the limit, where many more may be let go than before.

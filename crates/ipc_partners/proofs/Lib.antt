@@ -1,7 +1,9 @@
 pub mod PartnerLemmas
+pub mod ExchangeLemmas
 pub mod MeetingLemmas
 pub mod KeptLemmas
 pub mod OrderLemmas
 pub mod PassingLemmas
 pub mod KeptLaw
 pub mod BaseLemmas
+pub mod PassLemmas

@@ -30,6 +30,11 @@ looked_up x xs order (Err i) h =
     apart : (i k n : ℕ) → (k < i → n < x) → (i ≤ k → x < n) → n ≡ x → ⊥
     apart i k n before behind is = grind arith
 
+-- nor is one that is less than the first
+pub below_all : (x d : ℕ) (xs : List ℕ) → IsNonDecreasing xs → x < get_or xs 0 d → list_any (λ n. x == n) xs ≡ false
+below_all x d [] order less = refl
+below_all x d (n ∷ xs) order less = nowhere x (n ∷ xs) (λ k low is. let rises = order 0 k 0 (omega arith) low in omega (arith, less, rises, is))
+
 -- in another order the same entries pass
 pub same_pass : (old new : KeptParts) → IsPermutation old.calls new.calls → IsPermutation old.partners new.partners → IsPermutation old.threads new.threads → PassesAs new old
 same_pass old new calls partners threads e =

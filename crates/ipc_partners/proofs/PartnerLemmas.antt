@@ -311,6 +311,9 @@ module _ (P : List Entry) (legal : Legal P) (old : List Joined) (knows : Knows P
     unfolding shown_sender is_propagated tag_of originator_of caller_of
     shown_is = rw (call_is, before_it) refl
 
+    pub new_shown : shown_sender N n ≡ (if may_be_shown P t call then call.originator else t)
+    new_shown = shown_is
+
     nobody : (x k : ℕ) → list_any (joins x k) P ≡ true → (is_called P x ≡ true) × (is_called P k ≡ true)
     nobody x k h = joined_called P legal x k h
 

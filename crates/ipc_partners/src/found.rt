@@ -4,8 +4,8 @@ ghost use Rattle.ipc_words.specs.Limits.{table_slots};
 ghost use Rattle.ipc_partners.specs.Kept.{InOrder, KeptParts, kept_upto, nothing_kept, partner_numbers, partner_threads, partners_in, threads_in};
 
 use crate::partners::{Joined, Partner, Partners};
+use ipc_base::Memory;
 use ipc_desks::Desks;
-use ipc_memory::Memory;
 use ipc_slots::Slots;
 use ipc_words::ThreadId;
 use ipc_words::limits::TABLE_SLOTS;

@@ -9,19 +9,22 @@ ghost use Rattle.ipc_partners.specs.Kept.{PassesAs, kept_upto, passes};
 
 use crate::found::Found;
 use crate::partners::Partners;
+use ipc_base::Memory;
 use ipc_desks::Desks;
 use ipc_history::{Entry, Input, Keeps, Output};
-use ipc_memory::Memory;
 use ipc_slots::Slots;
 use ipc_words::ThreadId;
 use std::alloc::AllocError;
 use std::marker::Model;
 
-// Whether numbers in order have this one. Looks by halves.
+// Whether numbers in order have this one. Looks at the least one first, and then by halves.
 fn have(numbers: &[u64], number: u64) -> bool
     requires order { IsNonDecreasing numbers.now }
     ensures { result ≡ list_any (λ n. number == n) numbers.now }
 {
+    if !numbers.is_empty() && number < numbers[0] {
+        return false;
+    }
     numbers.binary_search(&number).is_ok()
 }
 

@@ -10,9 +10,12 @@ ghost use Rattle.ipc_history.specs.declared.entry.Input.TheVariants.{Called};
 ghost use Rattle.ipc_slots.specs.Standings.{may_be_shown};
 ghost use Rattle.ipc_partners.specs.Partners.{Joins, Knows, joined_at, meets_receiver, meets_sender, partner_of};
 
+mod exchange;
+mod passing;
+
 use crate::partners::{Joined, Partner};
+use ipc_base::Memory;
 use ipc_history::{Call, Entry, Input, Output};
-use ipc_memory::Memory;
 use ipc_slots::Slots;
 use ipc_words::ThreadId;
 use ipc_words::limits::TABLE_SLOTS;
@@ -184,7 +187,7 @@ fn known_partner(slots: &Slots, number: u64, place: usize) -> Partner
     ensures { result ≡ partner_of slots.now.past number }
 {
     let _ = slots.kept();
-    let Some(call) = slots.call_at(place) else {
+    let Some(call) = slots.held(place) else {
         unreachable!()
     };
     Partner {

@@ -2,10 +2,12 @@ ghost use Rattle.std.specs.Prelude.{◌≡◌, ◌++◌, ◌∷◌, [], IfOk, Is
 ghost use Rattle.ipc_history.specs.Legal.{Follows};
 ghost use Rattle.ipc_partners.specs.Partners.{Knows};
 
+mod exchange;
+mod passing;
+
 use crate::kept::KeptPartners;
+use ipc_base::{Memory, Past};
 use ipc_history::Entry;
-use ipc_memory::Memory;
-use ipc_past::Past;
 use ipc_slots::Slots;
 use ipc_words::ThreadId;
 use std::alloc::AllocError;

@@ -1,5 +1,5 @@
 -- What a pen was given, and the text of it.
-use Rattle.std.specs.Prelude.{◌≡◌, ℕ, ◌≤◌, List, [], ◌∷◌, ◌++◌, Option, Some, None, Result, MatchResult, Bool, ⊤, take, drop, length}
+use Rattle.std.specs.Prelude.{◌≡◌, ℕ, ◌≤◌, List, [], ◌∷◌, ◌++◌, Option, Some, None, Result, MatchResult, Bool, false, is_some, ◌||◌, not, ⊤, take, drop, length}
 use Rattle.ipc_frame.specs.Frames.{spelling}
 use Rattle.ipc_frame.specs.Replies.{ipcr_of}
 use Rattle.ipc_frame.specs.declared.frame.Frame.{Frame}
@@ -46,10 +46,24 @@ abbrev pub BeginsEmpty : Option (List ℕ) → Type 0
 BeginsEmpty None = ⊤
 BeginsEmpty (Some out) = out ≡ []
 
--- a pen: the number of its box, what went out, what it was given, the rest of that, and whether its device failed
+-- a pen: the number of its box, what went out, how often its device failed, what it was given, the rest of that, and whether a write of
+-- it failed
 pub record Page : Type 0 where
   pub place : ℕ
   pub out : Option (List ℕ)
+  pub failures : ℕ
   pub given : List Given
   pub rest : Option (List ℕ)
   pub failed : Bool
+
+-- a pen of this box, to which nothing was given, over a port that tells this
+abbrev pub new_page : ℕ → Option (List ℕ) → ℕ → Page
+new_page place out failures = record { place = place; out = out; failures = failures; given = []; rest = None; failed = false }
+
+-- a pen that was given this, behind all that it was given before
+abbrev pub given_next : Page → Given → Page
+given_next page next = record page { given = page.given ++ next ∷ []; rest = Some (spelling (frame_of next)) }
+
+-- it can be given more: all that it was given is written, and its device has not failed
+abbrev pub is_ready : Page → Bool
+is_ready page = not (is_some page.rest || page.failed)

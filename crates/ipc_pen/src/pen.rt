@@ -1,14 +1,13 @@
 //! The pen.
-ghost use Rattle.std.specs.Prelude.{◌≡◌, ◌++◌, [], ◌∷◌, Some, None, false, true, is_some, ◌||◌, not};
-ghost use Rattle.ipc_frame.specs.Frames.{spelling};
-ghost use Rattle.ipc_pen.specs.Pens.{BeginsEmpty, Follows, Page, Passes, frame_of, rest_of};
+ghost use Rattle.std.specs.Prelude.{◌≡◌, ◌≢◌, ◌<◌, None, true, false};
+ghost use Rattle.ipc_pen.specs.Pens.{BeginsEmpty, Follows, Page, Passes, given_next, is_ready, new_page, rest_of};
 
 use crate::given::Given;
 use crate::port::{Patience, PenPort};
 use crate::turn::Turn;
 use crate::writing::write_rest;
+use ipc_base::Past;
 use ipc_frame::Encoder;
-use ipc_past::Past;
 use std::marker::Model;
 
 /// The port to a client, and the frame that it was given last, where that is not yet written whole. What went out, and then the rest of
@@ -31,6 +30,7 @@ impl<P: PenPort> Model for Pen<P> {
     ghost view = { λ pen. record {
       place = pen.place;
       out = P.written pen.port;
+      failures = P.failures pen.port;
       given = pen.given;
       rest = pen.rest;
       failed = pen.has_failed;
@@ -44,10 +44,7 @@ impl<P: PenPort> Pen<P> {
     #[tactic(auto, using(crate::proofs::PenLemmas::follows_nothing))]
     pub fn new(port: P, place: usize) -> Pen<P>
         requires { BeginsEmpty (P.written port) }
-        ensures place { result.place ≡ place }
-        ensures given { result.given ≡ [] }
-        ensures rest { result.rest ≡ None }
-        ensures failed { result.failed ≡ false }
+        ensures { result ≡ new_page place (P.written port) (P.failures port) }
     {
         Pen {
             place,
@@ -68,7 +65,7 @@ impl<P: PenPort> Pen<P> {
 
     /// Whether all that was given is written, and the device has not failed: it can be given more.
     pub fn is_ready(&self) -> bool
-        ensures { result ≡ not (is_some self.now.rest || self.now.failed) }
+        ensures { result ≡ is_ready self.now }
     {
         !(self.rest.is_some() || self.has_failed)
     }
@@ -80,8 +77,11 @@ impl<P: PenPort> Pen<P> {
         self.has_failed
     }
 
-    /// Its port, with all that went out.
-    pub fn into_port(self) -> P {
+    /// Its port, with all that went out, and nothing more.
+    pub fn into_port(self) -> P
+        ensures out { P.written result ≡ self.out }
+        ensures failures { P.failures result ≡ self.failures }
+    {
         let Pen { port, .. } = self;
         port
     }
@@ -90,18 +90,15 @@ impl<P: PenPort> Pen<P> {
     #[tactic(auto, using(crate::proofs::PenLemmas::follows_given))]
     pub fn give(&mut self, given: Given)
         requires { self.old.rest ≡ None }
-        ensures given { self.new.given ≡ self.old.given ++ given ∷ [] }
-        ensures rest { self.new.rest ≡ Some (spelling (frame_of given)) }
-        ensures out { self.new.out ≡ self.old.out }
-        ensures place { self.new.place ≡ self.old.place }
-        ensures failed { self.new.failed ≡ self.old.failed }
+        ensures { self.new ≡ given_next self.old given }
     {
         self.given.add(&given);
         self.is_long = given.is_long();
         self.rest = Some(given.into_encoder());
     }
 
-    /// Writes the rest of what was given last, until none is left or the device has no room. After a failure nothing more is written.
+    /// Writes the rest of what was given last, until none is left or the device has no room. It fails exactly where the device failed, now
+    /// or before; after a failure nothing more is written.
     #[tactic(auto, using(crate::proofs::PenLemmas::follows_passes, crate::proofs::PenLemmas::passes_none, crate::proofs::PenLemmas::grows_none))]
     pub fn write(&mut self, patience: Patience) -> Turn
         ensures follows { Follows self.new.out (rest_of self.new.rest) self.new.given }
@@ -109,6 +106,11 @@ impl<P: PenPort> Pen<P> {
             (rest_of self.new.rest) }
         ensures done { result ≡ Turn.Written → self.new.rest ≡ None }
         ensures failed { self.new.failed ≡ true → result ≡ Turn.Failed }
+        ensures noted { result ≡ Turn.Failed → self.new.failed ≡ true }
+        ensures over { self.old.failed ≡ true → self.new ≡ self.old }
+        ensures cause { self.old.failed ≡ false → result ≡ Turn.Failed
+            → self.old.failures < self.new.failures }
+        ensures kept { result ≢ Turn.Failed → self.new.failures ≡ self.old.failures }
         ensures given { self.new.given ≡ self.old.given }
         ensures place { self.new.place ≡ self.old.place }
     {

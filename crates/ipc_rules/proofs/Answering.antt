@@ -19,7 +19,7 @@ use Rattle.ipc_rules.specs.Rules.{first_number, in_receive_by, in_send_by, rule_
 use Rattle.ipc_slots.specs.Standings.{IsStanding, partner_by, standing_of}
 use Rattle.ipc_rules.specs.declared.rules.Rule.TheVariants.{Expires, Copies}
 use Rattle.ipc_slots.specs.declared.slot.Standing.{Standing}
-use Rattle.ipc_slots.proofs.Finds.{find_passes}
+use Rattle.ipc_laws.proofs.Finds.{find_passes}
 use Rattle.ipc_rules.proofs.Stops.{in_receive_is, in_send_is}
 
 -- Timeouts

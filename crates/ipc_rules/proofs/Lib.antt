@@ -6,3 +6,5 @@ pub mod Stops
 pub mod Lasts
 pub mod Answering
 pub mod Concerns
+pub mod Reaching
+pub mod Patience

@@ -22,7 +22,7 @@ use Rattle.ipc_slots.specs.declared.slot.Phase.{Phase}
 use Rattle.ipc_slots.specs.declared.slot.Phase.TheVariants.{Sending, Passing, Receiving, Taking}
 use Rattle.ipc_slots.specs.declared.slot.Standing.{Standing}
 use Rattle.ipc_slots.specs.declared.kept.KeptSlots.{KeptSlots}
-use Rattle.ipc_slots.proofs.Finds.{find_nothing, find_only, find_passes, false_unless}
+use Rattle.ipc_laws.proofs.Finds.{find_nothing, find_only, find_passes, false_unless}
 use Rattle.ipc_slots.proofs.Lookups.{looked_up, none_up, space_found}
 use Rattle.ipc_slots.proofs.PhaseFacts.{Says, phase_says}
 use Rattle.ipc_slots.proofs.Spaces.{shown_space}
@@ -113,7 +113,7 @@ pub awaits_is : (P : List Entry) → Legal P → (n m : ℕ) → is_over P n ≡
 unfolding standing_of accepts
 awaits_is P legal n m on om = rw (waits_receive_is P m (phase_of P m) (phase_says P legal m om), shown_space P legal n (open_is_called P n on)) refl
 
-standing_parts : (P : List Entry) (n : ℕ) → ((standing_of P n).to ≡ to_of P n) × ((standing_of P n).shown ≡ shown_sender P n) × ((standing_of P n).caller ≡ caller_of P n)
+pub standing_parts : (P : List Entry) (n : ℕ) → ((standing_of P n).to ≡ to_of P n) × ((standing_of P n).shown ≡ shown_sender P n) × ((standing_of P n).caller ≡ caller_of P n)
 unfolding standing_of
 standing_parts P n = (refl, refl, refl)
 

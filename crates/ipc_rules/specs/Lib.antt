@@ -1,3 +1,4 @@
 pub mod Rules
 pub mod Least
 pub mod Outputs
+pub mod Resting

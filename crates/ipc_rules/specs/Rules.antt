@@ -1,12 +1,14 @@
 -- The rules of the next output that ask the open calls alone.
-use Rattle.std.specs.Prelude.{ℕ, ◌≤◌, ◌||◌, not, option_map, List, Bool, true, false, Option, Some, None}
+use Rattle.std.specs.Prelude.{ℕ, ◌≤◌, ◌||◌, not, option_map, List, length, Bool, true, false, Option, Some, None}
 use Rattle.std.specs.Prelude.{option_and_then, ◌&&◌, ◌==◌, if◌then◌else◌}
 use Rattle.ipc_words.specs.Limits.{max_string_bytes}
-use Rattle.ipc_words.specs.ThreadId.{anythread, anylocalthread}
+use Rattle.ipc_words.specs.ThreadId.{nilthread, anythread, anylocalthread}
+use Rattle.ipc_words.specs.MsgTag.{propagates}
 use Rattle.ipc_words.specs.IpcError.{failure_code}
 use Rattle.ipc_words.specs.declared.ipc_error.Phase.TheVariants.{Send, Receive}
 use Rattle.ipc_words.specs.declared.ipc_error.ErrorKind.TheVariants as kind
 use Rattle.ipc_slots.specs.Steps.{taken}
+use Rattle.ipc_history.specs.CallParts.{CallParts}
 use Rattle.ipc_history.specs.Calls.{caller_of, to_of}
 use Rattle.ipc_history.specs.Phases.{open_call, is_receiving}
 use Rattle.ipc_history.specs.Matching.{shown_sender, from_specifier}
@@ -95,6 +97,10 @@ abbrev pub awaits_by : ℕ → Bool → Standing → Bool
 awaits_by sender is_local s =
     waits_to_receive s.phase
     && (if s.awaited == anythread then true else (if s.awaited == anylocalthread then is_local else s.awaited == sender))
+
+-- whether it has a send phase with words alone, and is not propagated
+abbrev pub sends_words_by : CallParts → Bool
+sends_words_by call = not (call.to == nilthread) && not (propagates call.tag) && (length call.strings == 0)
 
 -- what ExchangeRegisters stops of it, by S and by R: a waiting phase fails, a transfer is aborted
 abbrev pub stop_by : Bool → Bool → Bool → Standing → Option Output

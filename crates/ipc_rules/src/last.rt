@@ -68,7 +68,7 @@ fn stop_of(slots: &Slots, thread: ThreadId, control: MaskedControl) -> Option<Ou
         (open_call slots.now.past thread) }
 {
     match slots.call_of(thread) {
-        Some(call) => stop_call(slots, &call, control),
+        Some(call) => stop_call(slots, call, control),
         None => None,
     }
 }
@@ -83,7 +83,7 @@ fn turn_of(slots: &Slots, call: &Standing) -> Option<Output>
         return None;
     }
     let waiting = slots.call_of(call.shown)?;
-    turn(&waiting, call.caller, call.to)
+    turn(waiting, call.caller, call.to)
 }
 
 /// What an ExchangeRegisters stops that is the last entry.

@@ -33,7 +33,7 @@ pub fn is_in_send_phase(slots: &Slots, thread: ThreadId) -> bool
 {
     let _ = slots.kept();
     match slots.call_of(thread) {
-        Some(call) => is_sending(&call, slots.is_live(call.partner())),
+        Some(call) => is_sending(call, slots.is_live(call.partner())),
         None => false,
     }
 }
@@ -44,7 +44,7 @@ pub fn is_in_receive_phase(slots: &Slots, thread: ThreadId) -> bool
 {
     let _ = slots.kept();
     match slots.call_of(thread) {
-        Some(call) => is_receiving(&call, slots.is_live(call.partner())),
+        Some(call) => is_receiving(call, slots.is_live(call.partner())),
         None => false,
     }
 }

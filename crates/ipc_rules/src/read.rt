@@ -82,7 +82,7 @@ impl<'a> ReadSlots<'a> {
         ensures { result ≡ meeting_of self.now.past call.now.number }
     {
         match met_by(self.slots(), call) {
-            Some(receiving) => Some(self.meeting(call, &receiving)),
+            Some(receiving) => Some(self.meeting(call, receiving)),
             None => None,
         }
     }

@@ -1,13 +1,15 @@
 //! The workers of a server beside those of its connections and of its trace: one for each path, the ticker and the mover.
-ghost use Rattle.std.specs.Prelude.{◌≡◌, ◌<◌};
+ghost use Rattle.std.specs.Prelude.{◌≡◌, ◌<◌, []};
 
+use crate::control::answer_askers;
+use crate::counters::counters_now;
 use crate::host::Host;
 use crate::paths::Listener;
 use crate::server::Server;
 use crate::serving::{Ports, serve_connection, start_worker};
 use crate::socket::{Guest, SocketGate};
 use crate::working::{Alarm, OverGate, Worker};
-use ipc_host::{Counts, EagerStream, SocketPort};
+use ipc_host::{Admission, EagerStream, Notice, SocketPort};
 use ipc_ports::{Failures, ReadPort};
 use ipc_session::{Open, move_loop, tick_loop};
 use std::io::ErrorKind;
@@ -19,13 +21,16 @@ use std::sync::ledger::{Blank, Ledger};
 use std::sync::{Arc, Wait};
 use std::thread::{Scope, Threads};
 use std::time::Duration;
-use std::{fmt, io, thread};
+use std::{io, thread};
 
 /// How long the worker of signals sleeps in each turn, in milliseconds.
 const SIGNAL_TURN: u64 = 100;
 
 /// How often counters are told, in seconds.
 const LOG_TURN: u64 = 60;
+
+/// After how long a connection that waits for room is told of, in milliseconds.
+const ROOM_TURN: u64 = 100;
 
 /// Serves all paths until each has had its connections and these have ended, or the service was stopped. False where a worker could
 /// not be started.
@@ -40,15 +45,15 @@ where
     let over = &over;
     thread::scope(thread::scope_env(), server.rt, |scope| {
         let started = start_others(scope, server, host, over) && accept_all(server, host);
-        host.guests.finish(server.rt);
+        host.finish(server.rt);
         over.store(true, Ordering::SeqCst);
         server.shared.end_work(server.rt);
         started
     })
 }
 
-/// Starts the workers that no path has: the ticker, the mover, and those of signals and counters where they are wanted. False where one
-/// could not be started.
+/// Starts the workers that no space has: the ticker, the mover, and those of signals, of counters and of who asks, where they are wanted.
+/// False where one could not be started.
 fn start_others<'s, E, C: Ledger + Send, T: Ledger + Send, R>(
     scope: &Scope<'s, E>,
     server: &'s Server<'_, C, T, SocketPort, R>,
@@ -63,7 +68,11 @@ where
     let watcher = !host.has_blocked_signals(server.alloc)
         || start_worker(scope, move || watch_signals(server, host)).is_ok();
     let logger = !host.is_logged || start_worker(scope, move || log_counters(server, host)).is_ok();
-    ticker && mover && watcher && logger
+    let answers = match &host.control {
+        Some(door) => start_worker(scope, move || answer_askers(server, host, door)).is_ok(),
+        None => true,
+    };
+    ticker && mover && watcher && logger && answers
 }
 
 /// Stops the service once SIGINT or SIGTERM has come.
@@ -96,81 +105,6 @@ fn log_counters<C: Ledger, T: Ledger, R: Wait + Clock + Eprint>(
         let _ = server.rt.eprintln(&counters_now(server, host));
         if is_over {
             return;
-        }
-    }
-}
-
-/// The counters of this moment.
-fn counters_now<C: Ledger, T: Ledger, R: Wait>(
-    server: &Server<'_, C, T, SocketPort, R>,
-    host: &Host,
-) -> Counters {
-    let (connections, threads, counts) = host.guests.state(server.rt);
-    let entries = server.shared.entries(server.rt) as u64;
-    Counters {
-        connections,
-        threads,
-        calls: server.shared.takes(server.rt),
-        counts,
-        entries,
-        held: server.shared.held(server.rt) as u64,
-        kibibytes: host.kibibytes(server.alloc),
-        behind: host.behind(entries),
-    }
-}
-
-/// What a server does at one moment.
-#[derive(Clone, Copy)]
-struct Counters {
-    connections: usize,
-    threads: usize,
-    /// How many calls are over whose outcome was taken.
-    calls: u64,
-    counts: Counts,
-    entries: u64,
-    /// How many of them memory holds.
-    held: u64,
-    /// How much memory the process holds.
-    kibibytes: u64,
-    /// How many entries the trace lags behind.
-    behind: Option<u64>,
-}
-
-impl fmt::Display for Counters {
-    fn fmt<W: fmt::Write>(&self, f: &mut fmt::Formatter<W>) -> fmt::Result {
-        self.fmt_connections(f)?;
-        self.fmt_calls(f)?;
-        self.fmt_entries(f)?;
-        self.fmt_memory(f)?;
-        self.fmt_trace(f)
-    }
-}
-
-impl Counters {
-    fn fmt_connections<W: fmt::Write>(&self, f: &mut fmt::Formatter<W>) -> fmt::Result {
-        let (threads, connections) = (self.threads, self.connections);
-        write!(f, "l4d: {threads} threads of {connections} connections")
-    }
-
-    fn fmt_calls<W: fmt::Write>(&self, f: &mut fmt::Formatter<W>) -> fmt::Result {
-        let (calls, counts) = (self.calls, self.counts);
-        write!(f, ", {calls} calls over, {counts}")
-    }
-
-    fn fmt_entries<W: fmt::Write>(&self, f: &mut fmt::Formatter<W>) -> fmt::Result {
-        let (entries, held) = (self.entries, self.held);
-        write!(f, ", {entries} entries, {held} held")
-    }
-
-    fn fmt_memory<W: fmt::Write>(&self, f: &mut fmt::Formatter<W>) -> fmt::Result {
-        let kibibytes = self.kibibytes;
-        write!(f, ", {kibibytes} KiB")
-    }
-
-    fn fmt_trace<W: fmt::Write>(&self, f: &mut fmt::Formatter<W>) -> fmt::Result {
-        match self.behind {
-            Some(behind) => write!(f, ", trace {behind} entries behind"),
-            None => Ok(()),
         }
     }
 }
@@ -228,11 +162,11 @@ where
             if host.closes_after(taken) || host.guests.is_stopping(rt) {
                 return;
             }
-            match listener.accept() {
+            match listener.door.accept() {
                 Ok(stream) => {
                     taken = taken.saturating_add(1);
                     let space = listener.space;
-                    if let Some((ticket, stream)) = host.guests.admit(rt, stream) {
+                    if let Some((ticket, stream)) = admit(server, host, space, stream) {
                         let started = start_worker(
                             scope,
                             move || serve_guest(server, host, space, ticket, stream),
@@ -246,6 +180,54 @@ where
             }
         }
     });
+}
+
+/// Takes a connection in, once there is room for it, and answers its ticket. None: the server stops, or there is no memory; the connection
+/// is then closed.
+fn admit<C: Ledger, T: Ledger, R: Wait + Clock + Eprint>(
+    server: &Server<'_, C, T, SocketPort, R>,
+    host: &Host,
+    space: u64,
+    stream: UnixStream,
+) -> Option<(u64, Arc<UnixStream>)> {
+    let stream = Arc::new(server.alloc, stream).ok()?;
+    let ticket = ticket_of(server.rt, host, space, &stream)?;
+    Some((ticket, stream))
+}
+
+/// Waits for room for a connection, tells it where that takes long, and answers its ticket. None: it is to be closed.
+fn ticket_of<R: Wait + Clock + Eprint>(
+    rt: &R,
+    host: &Host,
+    space: u64,
+    stream: &Arc<UnixStream>,
+) -> Option<u64> {
+    let mut is_told = false;
+    for _ in rt.forever() {
+        match host
+            .guests
+            .admit(rt, stream, Duration::from_millis(ROOM_TURN))
+        {
+            Admission::Entered(ticket) => return Some(ticket),
+            Admission::Closed => return None,
+            Admission::Full => {
+                tell_wait(rt, host, space, is_told);
+                is_told = true;
+            }
+        }
+    }
+    None
+}
+
+/// Tells that a connection waits for room: once a minute that the server is full, and to the log each such connection once.
+fn tell_wait<R: Wait + Clock + Eprint>(rt: &R, host: &Host, space: u64, is_told: bool) {
+    host.tell_full(rt);
+    if is_told || !host.is_logged {
+        return;
+    }
+    host.guests.count(rt, Notice::Waits);
+    // where standard error fails the line is lost
+    let _ = eprintln!(rt; "l4d: {} for a connection of space {space}", Notice::Waits);
 }
 
 /// Lets go of a connection for which no worker can be started.
@@ -310,6 +292,7 @@ where
     C: Ledger + Send,
     T: Ledger + Send,
     R: Threads + Wait + Clock + Eprint + Sync,
+    requires { writer.taken ≡ [] }
 {
     serve_stream::<C, T, Brand, R>(server, guest, stream, writer, Blank::new(1));
 }
@@ -329,6 +312,7 @@ where
     R: Threads + Wait + Clock + Eprint + Sync,
     requires reads_name { reads.name ≡ L.name }
     requires reads_parts { (reads.parts ≡ L.parts) × (0 < reads.parts) }
+    requires empty { writer.taken ≡ [] }
 {
     let eager = EagerStream::new(server.rt, server.clock, stream, guest.soon);
     let ports = Ports {

@@ -20,6 +20,8 @@ pub enum Exit {
     NoMemory,
     /// Standard output or the clock failed: status 1.
     DeviceFailed,
+    /// The descriptor of `--ready-fd` is not open for writing: status 1.
+    NoReadyDescriptor(u16),
     /// There is no room for the two connections of the program's own client: status 1.
     NoRoomForProbe,
     /// The client of the program's own did not get its message: status 1.
@@ -72,6 +74,10 @@ impl fmt::Display for Exit {
             ),
             Exit::NoMemory => write!(f, "l4d: no memory"),
             Exit::DeviceFailed => write!(f, "l4d: device failed"),
+            Exit::NoReadyDescriptor(fd) => write!(
+                f,
+                "l4d: --ready-fd {fd}: who starts it has opened no such descriptor for writing"
+            ),
             Exit::NoRoomForProbe => write!(
                 f,
                 "l4d: --probe makes two connections, and there is room for fewer"

@@ -1,6 +1,8 @@
 //! What the workers of a server share beside the kernel.
-use crate::paths::Listener;
-use ipc_host::{Guests, ProcessStatus, have_come, may_be_blocked, resident};
+use crate::meter::Meter;
+use crate::parts::Parts;
+use crate::paths::{Door, Listener};
+use ipc_host::{Guests, ProcessStatus, Readiness, have_come, may_be_blocked, resident};
 use std::alloc::Global;
 use std::rt::Clock;
 use std::sync::Wait;
@@ -11,7 +13,15 @@ use std::{fmt, io};
 #[derive(Drop)]
 pub struct Host {
     pub(crate) guests: Guests,
+    /// What keeps further connections out where so many are there as may be.
+    pub(crate) bound: Bound,
+    /// Whom to tell that it listens.
+    pub(crate) readiness: Readiness,
     pub(crate) listeners: Vec<Listener>,
+    /// Where those connect who ask what the server does; None where nobody can.
+    pub(crate) control: Option<Door>,
+    /// How many of them are there.
+    pub(crate) askers: AtomicU64,
     /// How many connections each path takes before it closes; None where it never does.
     pub(crate) connections: Option<u16>,
     pub(crate) is_logged: bool,
@@ -19,6 +29,10 @@ pub struct Host {
     pub(crate) is_eager: bool,
     /// How many entries stand in the trace; None without one.
     pub(crate) traced: Option<AtomicU64>,
+    /// How much stands in the trace's file, and where it ends.
+    pub(crate) meter: Meter,
+    /// Where those who ask for a part of a trace get it.
+    pub(crate) parts: Parts,
     /// Where the worker of signals reads which have come.
     pub(crate) signals: Option<ProcessStatus>,
     /// Where the worker of counters reads how much memory there is.
@@ -30,7 +44,20 @@ impl Host {
     pub(crate) fn stop<R: Wait>(&self, rt: &R) {
         self.guests.stop(rt);
         for listener in &self.listeners {
-            listener.close();
+            listener.door.close();
+        }
+        self.close_control();
+    }
+
+    /// All connections have ended, and nobody is answered any more.
+    pub(crate) fn finish<R: Wait>(&self, rt: &R) {
+        self.guests.finish(rt);
+        self.close_control();
+    }
+
+    fn close_control(&self) {
+        if let Some(door) = &self.control {
+            door.close();
         }
     }
 
@@ -73,6 +100,14 @@ impl Host {
         }
     }
 
+    /// Has the trace go on in a further file. False without a trace.
+    pub(crate) fn end_file(&self) -> bool {
+        if self.traced.is_some() {
+            self.meter.ask();
+        }
+        self.traced.is_some()
+    }
+
     /// How many of so many entries the trace lags behind; None without one.
     pub(crate) fn behind(&self, entries: u64) -> Option<u64> {
         let traced = self.traced.as_ref()?;
@@ -85,6 +120,39 @@ impl Host {
         if may {
             // where standard error fails nothing is told
             let _ = rt.eprintln(&Complaint { what, error, live });
+        }
+    }
+
+    /// Tells that there is no room for a connection that waits, once a minute at most, and what helps.
+    pub(crate) fn tell_full<R: Wait + Clock + Eprint>(&self, rt: &R) {
+        let (may, live) = self.guests.may_tell_full(rt);
+        if may {
+            let bound = self.bound;
+            // where standard error fails nothing is told
+            let _ = eprintln!(rt;
+                "l4d: full: {live} connections are there, {bound}; a new one waits until one has ended"
+            );
+        }
+    }
+}
+
+/// What keeps further connections out.
+#[derive(Clone, Copy, PartialEq, Eq)]
+pub enum Bound {
+    /// As many are there as `--live` says.
+    Live,
+    /// As many are there as the limit of descriptors leaves.
+    Descriptors,
+}
+
+impl fmt::Display for Bound {
+    fn fmt<W: fmt::Write>(&self, f: &mut fmt::Formatter<W>) -> fmt::Result {
+        match self {
+            Bound::Live => write!(f, "and --live lets no more in: a greater one helps"),
+            Bound::Descriptors => write!(
+                f,
+                "and the limit of descriptors leaves no more: `ulimit -n 2048` before the start helps, or LimitNOFILE= in a unit"
+            ),
         }
     }
 }

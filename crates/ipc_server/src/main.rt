@@ -1,32 +1,44 @@
 //! The program `l4d`: processes call each other over Unix sockets as L4 threads.
 #![tactic(auto)]
 
-ghost use Rattle.std.specs.Prelude.{◌≡◌, ◌<◌, ◌^◌};
+ghost use Rattle.std.specs.Prelude.{◌≡◌, ◌^◌};
 
 mod accepting;
 mod caller;
+mod control;
+mod counters;
 mod exit;
 mod host;
+mod meter;
+mod part_answer;
+mod parts;
 mod paths;
 mod probe;
+mod ready;
 mod server;
 mod serving;
 mod shared_blocks;
 mod socket;
+mod telling;
+mod trace_disk;
+mod trace_fault;
+mod trace_files;
+mod traced;
 mod tracing;
 mod working;
 
 use accepting::serve_all;
-use clap::error::ErrorKind;
 use exit::Exit;
-use host::Host;
+use host::{Bound, Host};
 use ipc_core::{Limits, MAX_CALLS, MAX_ENTRIES};
-use ipc_host::{Guests, ProcessStatus, ServerClock, SocketPort, descriptors, room};
+use ipc_host::{Guests, ProcessStatus, Readiness, ServerClock, SocketPort, descriptors, room};
 use ipc_lock::SharedKernel;
-use ipc_options::{ServerOptions, server_options, tell_version};
-use ipc_ports::{Failures, PortWrite};
-use paths::{Listener, listen, path_of, remove};
+use l4sh_options::{ServerOptions, server_options};
+use meter::Meter;
+use parts::Parts;
+use paths::{Door, Listener, control, listen, path_of, remove, remove_door};
 use probe::probe;
+use ready::tell_ready;
 use server::Server;
 use serving::start_worker;
 use std::alloc::Global;
@@ -34,13 +46,15 @@ use std::fs::File;
 use std::marker::Brand;
 use std::net::{Net, TcpListener, TcpStream};
 use std::process::ExitCode;
-use std::rt::{Clock, Files};
+use std::rt::{Clock, Env, Files};
 use std::sync::Wait;
 use std::sync::atomic::{AtomicBool, AtomicU64, Ordering};
 use std::sync::ledger::{Blank, Ledger};
 use std::thread::Threads;
 use std::{io, thread};
-use tracing::{Trace, TraceFault, trace_file};
+use telling::{asks_help, tell_error, tell_help};
+use trace_disk::TraceDisk;
+use traced::serve_as_asked;
 
 /// How many parts the ledgers of the seats have.
 const PARTS: u64 = 1 << 63;
@@ -77,35 +91,21 @@ where
     R: Threads
         + Wait
         + Clock
-        + Alloc
+        + Env
+        + Alloc<A = Global>
         + Files<File = File>
+        + TraceDisk
         + Net<Listener = TcpListener, Stream = TcpStream>
         + Print
         + Eprint
         + Sync,
 {
+    if asks_help(words) {
+        return tell_help(rt, alloc);
+    }
     match server_options(alloc, words) {
         Ok(options) => obey(rt, alloc, &options),
         Err(error) => tell_error(rt, alloc, &error),
-    }
-}
-
-/// Tells what is wrong with the words, or the version where they ask for it, and answers the status of the program.
-fn tell_error<R: Alloc + Files + Print + Eprint>(
-    rt: &R,
-    alloc: Global,
-    error: &clap::Error,
-) -> io::Result<ExitCode> {
-    match error.kind() {
-        ErrorKind::OutOfMemory => ended(rt, &Exit::NoMemory),
-        ErrorKind::DisplayVersion => {
-            tell_version(rt, alloc, error)?;
-            Ok(ExitCode::from(0))
-        }
-        _ => {
-            rt.eprint(error)?;
-            Ok(ExitCode::from(2))
-        }
     }
 }
 
@@ -115,14 +115,21 @@ where
     R: Threads
         + Wait
         + Clock
+        + Env
+        + Alloc<A = Global>
         + Files<File = File>
+        + TraceDisk
         + Net<Listener = TcpListener, Stream = TcpStream>
         + Print
         + Eprint
         + Sync,
 {
+    let readiness = Readiness::of(rt, options.ready_fd);
+    if let Some(fd) = readiness.fault() {
+        return ended(rt, &Exit::NoReadyDescriptor(fd));
+    }
     let (calls, takes) = (Blank::new(PARTS), Blank::new(PARTS));
-    let exit = start::<Brand, Brand, _>(rt, alloc, options, calls, takes);
+    let exit = start::<Brand, Brand, _>(rt, alloc, options, readiness, calls, takes);
     ended(rt, &exit)
 }
 
@@ -131,6 +138,7 @@ fn start<C: Ledger + Send, T: Ledger + Send, R>(
     rt: &R,
     alloc: Global,
     options: &ServerOptions<'_>,
+    readiness: Readiness,
     calls: Blank,
     takes: Blank,
 ) -> Exit
@@ -139,6 +147,7 @@ where
         + Wait
         + Clock
         + Files<File = File>
+        + TraceDisk
         + Net<Listener = TcpListener, Stream = TcpStream>
         + Print
         + Eprint
@@ -153,7 +162,7 @@ where
         calls: MAX_CALLS,
     };
     match SharedKernel::<C, T, SocketPort>::new(alloc, limits, calls, takes) {
-        Ok(shared) => start_over(rt, alloc, options, &shared),
+        Ok(shared) => start_over(rt, alloc, options, readiness, &shared),
         Err(_) => Exit::NoMemory,
     }
 }
@@ -163,6 +172,7 @@ fn start_over<C: Ledger + Send, T: Ledger + Send, R>(
     rt: &R,
     alloc: Global,
     options: &ServerOptions<'_>,
+    readiness: Readiness,
     shared: &SharedKernel<C, T, SocketPort>,
 ) -> Exit
 where
@@ -170,13 +180,16 @@ where
         + Wait
         + Clock
         + Files<File = File>
+        + TraceDisk
         + Net<Listener = TcpListener, Stream = TcpStream>
         + Print
         + Eprint
         + Sync,
 {
     match ServerClock::start(rt) {
-        Ok(clock) => listen_and_serve(&Server::new(rt, alloc, shared, clock), options),
+        Ok(clock) => {
+            listen_and_serve(&Server::new(rt, alloc, shared, clock), options, readiness)
+        }
         Err(error) => Exit::from(error),
     }
 }
@@ -185,12 +198,14 @@ where
 fn listen_and_serve<C: Ledger + Send, T: Ledger + Send, R>(
     server: &Server<'_, C, T, SocketPort, R>,
     options: &ServerOptions<'_>,
+    readiness: Readiness,
 ) -> Exit
 where
     R: Threads
         + Wait
         + Clock
         + Files<File = File>
+        + TraceDisk
         + Net<Listener = TcpListener, Stream = TcpStream>
         + Print
         + Eprint
@@ -200,9 +215,31 @@ where
     if options.probe && most.min(u64::from(options.connections)) < PROBE_CONNECTIONS {
         return Exit::NoRoomForProbe;
     }
-    match listen(server.rt, server.alloc, options) {
-        Ok(listeners) => serve_host(server, &host_of(server, options, most, listeners), options),
+    match bind_paths(server, options) {
+        Ok((listeners, door)) => {
+            let host = host_of(server, options, most, listeners, door, readiness);
+            serve_host(server, &host, options)
+        }
         Err(exit) => exit,
+    }
+}
+
+/// Binds the paths of the spaces, and the one for those who ask. Where one cannot be bound the others are removed.
+fn bind_paths<
+    C: Ledger,
+    T: Ledger,
+    R: Files<File = File> + Net<Listener = TcpListener, Stream = TcpStream>,
+>(
+    server: &Server<'_, C, T, SocketPort, R>,
+    options: &ServerOptions<'_>,
+) -> Result<(Vec<Listener>, Option<Door>), Exit> {
+    let listeners = listen(server.rt, server.alloc, options)?;
+    match control(server.rt, server.alloc, options) {
+        Ok(door) => Ok((listeners, door)),
+        Err(exit) => {
+            remove(server.rt, listeners.as_slice());
+            Err(exit)
+        }
     }
 }
 
@@ -212,16 +249,33 @@ fn host_of<C: Ledger, T: Ledger, R: Threads + Files<File = File>>(
     options: &ServerOptions<'_>,
     most: u64,
     listeners: Vec<Listener>,
+    control: Option<Door>,
+    readiness: Readiness,
 ) -> Host {
     Host {
         guests: Guests::new(server.alloc, most, within(options), server.clock),
+        bound: bound_of(options, most),
+        readiness,
         listeners,
+        control,
+        askers: AtomicU64::new(0),
         connections: (!options.keep_open).then_some(options.connections),
         is_logged: options.log,
         is_eager: has_several_processors(server.rt),
         traced: nothing_traced(options),
+        meter: Meter::new(options.trace_size),
+        parts: Parts::new(),
         signals: ProcessStatus::open(server.rt),
         memory: ProcessStatus::open(server.rt),
+    }
+}
+
+/// What keeps further connections out where so many are there.
+fn bound_of(options: &ServerOptions<'_>, most: u64) -> Bound {
+    if most < u64::from(options.live) {
+        Bound::Descriptors
+    } else {
+        Bound::Live
     }
 }
 
@@ -251,6 +305,7 @@ where
         + Wait
         + Clock
         + Files<File = File>
+        + TraceDisk
         + Net<Listener = TcpListener, Stream = TcpStream>
         + Print
         + Eprint
@@ -258,6 +313,9 @@ where
 {
     let exit = serve_as_asked(server, host, options);
     remove(server.rt, host.listeners.as_slice());
+    if let Some(door) = &host.control {
+        remove_door(server.rt, door);
+    }
     closed(server.rt, exit)
 }
 
@@ -284,170 +342,8 @@ fn within(options: &ServerOptions<'_>) -> u64 {
     u64::from(options.hello_within) * SECOND
 }
 
-/// Serves the paths, with a trace where one is asked for.
-fn serve_as_asked<C: Ledger + Send, T: Ledger + Send, R>(
-    server: &Server<'_, C, T, SocketPort, R>,
-    host: &Host,
-    options: &ServerOptions<'_>,
-) -> Exit
-where
-    R: Threads
-        + Wait
-        + Clock
-        + Files<File = File>
-        + Net<Listener = TcpListener, Stream = TcpStream>
-        + Print
-        + Eprint
-        + Sync,
-{
-    if options.trace.is_some() {
-        serve_traced::<C, T, Brand, R>(server, host, options, Blank::new(1))
-    } else {
-        serve_untraced(server, host, options, true)
-    }
-}
-
-/// Serves the paths while no trace is written: none was asked for, or it has stopped already.
-fn serve_untraced<C: Ledger + Send, T: Ledger + Send, R>(
-    server: &Server<'_, C, T, SocketPort, R>,
-    host: &Host,
-    options: &ServerOptions<'_>,
-    is_whole: bool,
-) -> Exit
-where
-    R: Threads
-        + Wait
-        + Clock
-        + Net<Listener = TcpListener, Stream = TcpStream>
-        + Print
-        + Eprint
-        + Sync,
-{
-    server.keep_nothing();
-    exit_of(serve_and_close(server, host, options), is_whole)
-}
-
-/// Opens the file of the trace, and serves the paths while a worker writes it. The count of the file's failures begins as a blank.
-fn serve_traced<C: Ledger + Send, T: Ledger + Send, L: Ledger + Send, R>(
-    server: &Server<'_, C, T, SocketPort, R>,
-    host: &Host,
-    options: &ServerOptions<'_>,
-    writes: Blank,
-) -> Exit
-where
-    R: Threads
-        + Wait
-        + Clock
-        + Files<File = File>
-        + Net<Listener = TcpListener, Stream = TcpStream>
-        + Print
-        + Eprint
-        + Sync,
-    requires writes_name { writes.name ≡ L.name }
-    requires writes_parts { (writes.parts ≡ L.parts) × (0 < writes.parts) }
-{
-    let path = options.trace.unwrap_or("");
-    match trace_file(server.rt, server.alloc, path, Failures::<L>::new(writes)) {
-        Ok(trace) => serve_beside(server, host, options, trace),
-        Err(fault) => serve_without(server, host, options, fault),
-    }
-}
-
-/// Tells why the trace cannot be written, and serves the paths without it, unless it is required.
-fn serve_without<C: Ledger + Send, T: Ledger + Send, R>(
-    server: &Server<'_, C, T, SocketPort, R>,
-    host: &Host,
-    options: &ServerOptions<'_>,
-    fault: TraceFault,
-) -> Exit
-where
-    R: Threads
-        + Wait
-        + Clock
-        + Net<Listener = TcpListener, Stream = TcpStream>
-        + Print
-        + Eprint
-        + Sync,
-{
-    tell(server.rt, fault);
-    if options.trace_required {
-        server.shared.close(server.rt);
-        return Exit::TraceRequired;
-    }
-    serve_untraced(server, host, options, false)
-}
-
-/// Serves the paths while a worker writes the trace. Where the worker cannot be started the trace is written at the end.
-fn serve_beside<C: Ledger + Send, T: Ledger + Send, R, P: PortWrite + Drop + Send>(
-    server: &Server<'_, C, T, SocketPort, R>,
-    host: &Host,
-    options: &ServerOptions<'_>,
-    trace: Trace<P>,
-) -> Exit
-where
-    R: Threads
-        + Wait
-        + Clock
-        + Net<Listener = TcpListener, Stream = TcpStream>
-        + Print
-        + Eprint
-        + Sync,
-{
-    let (is_whole, served) = thread::join(
-        server.rt,
-        move || write_trace(server, host, options.trace_required, trace),
-        move || serve_and_close(server, host, options),
-    );
-    exit_beside(served, is_whole, options.trace_required)
-}
-
-/// How the server ended beside a trace, which may be required.
-fn exit_beside(served: Result<(), Exit>, is_whole: bool, is_required: bool) -> Exit {
-    if is_required && !is_whole {
-        drop(served);
-        return Exit::TraceRequired;
-    }
-    exit_of(served, is_whole)
-}
-
-/// Writes the trace to its end, and tells where it stopped before. False where it did; where the trace is required the service is then
-/// stopped.
-fn write_trace<C: Ledger, T: Ledger, R: Wait + Clock + Eprint, P: PortWrite + Drop>(
-    server: &Server<'_, C, T, SocketPort, R>,
-    host: &Host,
-    is_required: bool,
-    trace: Trace<P>,
-) -> bool {
-    match trace.follow(server, host) {
-        Ok(()) => true,
-        Err(fault) => {
-            tell(server.rt, fault);
-            server.keep_nothing();
-            if is_required {
-                host.stop(server.rt);
-            }
-            false
-        }
-    }
-}
-
-/// Says on standard error why the trace stopped.
-fn tell<R: Eprint>(rt: &R, fault: TraceFault) {
-    // where standard error fails too, the exit status still says it
-    let _ = rt.eprintln(&fault);
-}
-
-/// How the server ended, by what came of serving and whether its trace is whole or was not asked for.
-fn exit_of(served: Result<(), Exit>, is_whole: bool) -> Exit {
-    match served {
-        Ok(()) if is_whole => Exit::Closed,
-        Ok(()) => Exit::Untraced,
-        Err(exit) => exit,
-    }
-}
-
 /// Serves the paths, and closes the kernel once all workers but the trace's were joined.
-fn serve_and_close<C: Ledger + Send, T: Ledger + Send, R>(
+pub(crate) fn serve_and_close<C: Ledger + Send, T: Ledger + Send, R>(
     server: &Server<'_, C, T, SocketPort, R>,
     host: &Host,
     options: &ServerOptions<'_>,
@@ -483,6 +379,7 @@ where
 {
     let rt = server.rt;
     println!(rt; "listening {}", options.spaces)?;
+    tell_ready(rt, server.alloc, host, options.spaces);
     if host.is_logged {
         tell_paths(rt, &host.listeners);
     }
@@ -496,7 +393,7 @@ where
 /// Says on standard error where the server listens.
 fn tell_paths<R: Eprint>(rt: &R, listeners: &[Listener]) {
     for listener in listeners {
-        let path = &listener.path;
+        let path = &listener.door.path;
         // where standard error fails nothing is told
         let _ = eprintln!(rt; "l4d: listens on {path}");
     }
@@ -575,7 +472,7 @@ where
 }
 
 /// Says on standard error why the server ended, where it did not end well, and answers its status.
-fn ended<R: Eprint>(rt: &R, exit: &Exit) -> io::Result<ExitCode> {
+pub(crate) fn ended<R: Eprint>(rt: &R, exit: &Exit) -> io::Result<ExitCode> {
     if !exit.is_well() {
         rt.eprintln(exit)?;
     }

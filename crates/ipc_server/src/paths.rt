@@ -1,7 +1,7 @@
 //! The paths of the spaces, and the sockets that listen on them.
 use crate::exit::Exit;
 use ipc_host::{Obstacle, obstacle_at};
-use ipc_options::ServerOptions;
+use l4sh_options::{OWNER_ONLY, ServerOptions};
 use std::alloc::{AllocError, Global};
 use std::fs::Permissions;
 use std::net::{Net, Shutdown};
@@ -11,18 +11,17 @@ use std::os::unix::net::{UnixListener, UnixStream};
 use std::rt::Files;
 use std::{fs, io};
 
-/// A space, 1 to `MAX_SPACE`, and the socket that listens for its clients.
+/// A path, and the socket that listens there.
 #[derive(Drop)]
-pub struct Listener {
-    pub(crate) space: u64,
+pub struct Door {
     socket: UnixListener,
     pub(crate) path: String,
     /// The same socket once more, by which an accept that waits is ended.
     closer: UnixStream,
 }
 
-impl Listener {
-    /// The next connection that a client makes.
+impl Door {
+    /// The next connection that somebody makes.
     pub(crate) fn accept(&self) -> io::Result<UnixStream> {
         let (stream, _) = self.socket.accept()?;
         Ok(stream)
@@ -32,6 +31,13 @@ impl Listener {
     pub(crate) fn close(&self) {
         let _ = self.closer.shutdown(Shutdown::Both);
     }
+}
+
+/// A space, 1 to `MAX_SPACE`, and where its clients connect.
+#[derive(Drop)]
+pub struct Listener {
+    pub(crate) space: u64,
+    pub(crate) door: Door,
 }
 
 /// Listens on DIR/space1 to DIR/spaceN, each with the permissions that were asked for as soon as it is bound.
@@ -69,7 +75,7 @@ fn add<R: Files + Net>(
     }
 }
 
-/// The socket that listens for a space.
+/// Where the clients of a space connect.
 fn listener_of<R: Files + Net>(
     rt: &R,
     alloc: Global,
@@ -77,9 +83,34 @@ fn listener_of<R: Files + Net>(
     space: u16,
 ) -> Result<Listener, Exit> {
     let path = path_of(alloc, options.dir, space)?;
-    match bind_guarded(rt, path.as_str(), options) {
-        Ok((socket, closer)) => Ok(Listener {
-            space: u64::from(space),
+    Ok(Listener {
+        space: u64::from(space),
+        door: door_at(rt, path, options.mode, options.replace)?,
+    })
+}
+
+/// Where those connect who ask what the server does: DIR/control, of its owner alone. None where that is not wanted.
+///
+/// # Errors
+///
+/// As of [`listen`].
+pub fn control<R: Files + Net>(
+    rt: &R,
+    alloc: Global,
+    options: &ServerOptions<'_>,
+) -> Result<Option<Door>, Exit> {
+    if options.no_control {
+        return Ok(None);
+    }
+    let dir = options.dir;
+    let path = format!(in alloc; "{dir}/control")?;
+    Ok(Some(door_at(rt, path, OWNER_ONLY, options.replace)?))
+}
+
+/// Binds a path with these permissions.
+fn door_at<R: Files + Net>(rt: &R, path: String, mode: u32, replace: bool) -> Result<Door, Exit> {
+    match bind_guarded(rt, path.as_str(), mode, replace) {
+        Ok((socket, closer)) => Ok(Door {
             socket,
             path,
             closer,
@@ -92,10 +123,11 @@ fn listener_of<R: Files + Net>(
 fn bind_guarded<R: Files + Net>(
     rt: &R,
     path: &str,
-    options: &ServerOptions<'_>,
+    mode: u32,
+    replace: bool,
 ) -> Result<(UnixListener, UnixStream), Obstacle> {
-    let socket = bind(rt, path, options.replace)?;
-    match guard(rt, path, &socket, options.mode) {
+    let socket = bind(rt, path, replace)?;
+    match guard(rt, path, &socket, mode) {
         Ok(closer) => Ok((socket, closer)),
         Err(error) => {
             let _ = fs::remove_file(rt, path);
@@ -136,6 +168,11 @@ pub fn path_of(alloc: Global, dir: &str, space: u16) -> Result<String, AllocErro
 /// Removes the paths.
 pub fn remove<R: Files>(rt: &R, listeners: &[Listener]) {
     for listener in listeners {
-        let _ = fs::remove_file(rt, listener.path.as_str());
+        remove_door(rt, &listener.door);
     }
+}
+
+/// Removes the path of a door.
+pub fn remove_door<R: Files>(rt: &R, door: &Door) {
+    let _ = fs::remove_file(rt, door.path.as_str());
 }

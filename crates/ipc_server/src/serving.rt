@@ -4,8 +4,8 @@ ghost use Rattle.ipc_pen.specs.Pens.{BeginsEmpty};
 use crate::caller::Caller;
 use crate::server::Server;
 use ipc_host::Notice;
-use ipc_lock::{PostEnd, TakeEnd};
-use ipc_pen::{Patience, Pen, PenPort};
+use ipc_lock::{Loaded, PostEnd, TakeEnd};
+use ipc_pen::{Patience, PenPort};
 use ipc_ports::PortRead;
 use ipc_session::{Gate, read_loop};
 use ipc_words::ThreadId;
@@ -211,7 +211,7 @@ where
 }
 
 /// Writes with a pen, with patience, and gives it back.
-fn write_with<C, T, P, R>(server: &Server<'_, C, T, P, R>, pen: Pen<P>)
+fn write_with<C, T, P, R>(server: &Server<'_, C, T, P, R>, pen: Loaded<P>)
 where
     C: Ledger,
     T: Ledger,

@@ -1,25 +1,20 @@
 //! The trace worker: each entry of the history goes to a file.
-ghost use Rattle.std.specs.Prelude.{◌≡◌, ◌<◌};
-
 use crate::host::Host;
 use crate::server::Server;
+use crate::trace_fault::TraceFault;
 use ipc_core::MAX_ENTRIES;
 use ipc_history::Entry;
 use ipc_host::SocketPort;
-use ipc_ports::{Failures, PortWrite, WritePort};
+use ipc_lock::HeldPart;
+use ipc_part::{BaseNumbers, put_part};
+use ipc_ports::PortWrite;
 use ipc_trace::{PutFault, TraceWriter};
 use std::alloc::Global;
-use std::fs::{File, OpenOptions};
-use std::io::BufWriter;
-use std::os::unix::fs::OpenOptionsExt;
-use std::rt::{Clock, Files};
+use std::rt::Clock;
 use std::sync::Wait;
-use std::sync::ledger::{Blank, Ledger};
+use std::sync::ledger::Ledger;
 use std::time::Duration;
-use std::{fmt, io, thread};
-
-/// How many bytes of lines are written at once where more come, at most.
-const BUFFER: usize = 65_536;
+use std::{fmt, thread};
 
 /// How long the worker sleeps where no entry is left, in milliseconds. So entries that come one by one are written together.
 const PAUSE: u64 = 1;
@@ -27,41 +22,20 @@ const PAUSE: u64 = 1;
 /// Where more entries than these wait for the trace, that is told: half of those that memory may hold.
 const FAR_BEHIND: usize = MAX_ENTRIES as usize / 2;
 
-/// Why a trace stopped, told as `l4d: trace TR1`.
-#[derive(Clone, Copy)]
-pub struct TraceFault {
-    fault: PutFault,
-    /// Why its file cannot be opened.
-    reason: Option<io::Error>,
-}
-
-impl fmt::Display for TraceFault {
-    fn fmt<W: fmt::Write>(&self, f: &mut fmt::Formatter<W>) -> fmt::Result {
-        let number = self.fault.number();
-        write!(f, "l4d: trace TR{number}")?;
-        match self.reason {
-            Some(reason) => write!(f, "\n  its file cannot be opened: {reason}"),
-            None => Ok(()),
-        }
-    }
-}
-
-impl From<PutFault> for TraceFault {
-    fn from(fault: PutFault) -> TraceFault {
-        TraceFault {
-            fault,
-            reason: None,
-        }
-    }
-}
-
-/// A trace that is written while the server runs, and how many entries stand in it.
+/// A trace that is written while the server runs, and how many entries stand in it and in the files before it.
 #[derive(Drop)]
 pub struct Trace<P: PortWrite> {
     writer: TraceWriter<P>,
     count: usize,
     // whether it was told that it is far behind, since no entry was left
     is_told: bool,
+}
+
+/// What a further file begins with: the part behind so many entries.
+#[derive(Drop)]
+pub struct Next {
+    pub(crate) part: HeldPart,
+    pub(crate) count: usize,
 }
 
 /// That a trace is far behind, as it is told.
@@ -77,73 +51,57 @@ impl fmt::Display for Behind {
     }
 }
 
-/// The permissions of a trace that is made: its owner alone.
-const OWNER_ONLY: u32 = 0o600;
-
-/// The file of a trace, which is made anew and has the line of the version. Where it was not there only its owner may
-/// read it.
-///
-/// # Errors
-///
-/// TR1: it cannot be opened or written. TR5: no memory for its lines.
-pub fn trace_file<R: Files<File = File>, L: Ledger>(
-    rt: &R,
+/// Puts a part that has no further entries.
+pub(crate) fn put_held<P: PortWrite>(
     alloc: Global,
-    path: &str,
-    failures: Failures<L>,
-) -> Result<Trace<WritePort<BufWriter<File>, L>>, TraceFault> {
-    match made(rt, path) {
-        Ok(file) => begun(alloc, file, failures),
-        Err(error) => Err(TraceFault {
-            fault: PutFault::DeviceFailed,
-            reason: Some(error),
-        }),
-    }
-}
-
-/// The trace of a file that was made anew, with the line of the version.
-fn begun<L: Ledger>(
-    alloc: Global,
-    file: File,
-    failures: Failures<L>,
-) -> Result<Trace<WritePort<BufWriter<File>, L>>, TraceFault> {
-    let Ok(file) = BufWriter::with_capacity(alloc, BUFFER, file) else {
-        return Err(TraceFault::from(PutFault::NoMemory));
-    };
-    let mut trace = Trace::new(alloc, WritePort::new(file, failures));
-    trace.begin()?;
-    Ok(trace)
-}
-
-fn made<R: Files<File = File>>(rt: &R, path: &str) -> io::Result<File> {
-    let mut options = OpenOptions::new();
-    options
-        .write(true)
-        .create(true)
-        .truncate(true)
-        .mode(OWNER_ONLY);
-    options.open(rt, path)
+    writer: &mut TraceWriter<P>,
+    part: &HeldPart,
+) -> Result<(), PutFault> {
+    let base = part.base();
+    let numbers = BaseNumbers::new(
+        base.versions(),
+        base.dropped(),
+        base.moment(),
+        base.calls(),
+        base.takes(),
+        base.over(),
+    );
+    put_part(alloc, writer, &numbers, part.kept(), &[])
 }
 
 impl<P: PortWrite> Trace<P> {
-    /// A trace of no entry so far.
-    pub fn new(alloc: Global, port: P) -> Trace<P> {
+    /// A trace behind so many entries.
+    pub fn new(alloc: Global, port: P, count: usize) -> Trace<P> {
         Trace {
             writer: TraceWriter::new(alloc, port),
-            count: 0,
+            count,
             is_told: false,
         }
     }
 
-    // Puts the line of the version, and hands it on.
-    fn begin(&mut self) -> Result<(), PutFault> {
+    /// Puts the line of the version, and hands it on.
+    ///
+    /// # Errors
+    ///
+    /// TR1.
+    pub(crate) fn begin(&mut self) -> Result<(), PutFault> {
         self.writer.put_header()?;
         self.writer.flush()
     }
 
-    /// Puts the entries of the history, as they come, until the kernel was closed and all are put, and notes how many stand. Memory may
-    /// let go of a group of entries once it was put. Where no entry is left, all lines are handed on before it waits for the next one.
-    /// Where more than half as many wait as memory may hold, that is told on standard error, once until none was left.
+    /// Puts the part behind which the entries come, and hands it on.
+    ///
+    /// # Errors
+    ///
+    /// TR1, TR5.
+    pub(crate) fn begin_part(&mut self, alloc: Global, part: &HeldPart) -> Result<(), PutFault> {
+        put_held(alloc, &mut self.writer, part)
+    }
+
+    /// Puts the entries of the history, as they come, until its file is full, or the kernel was closed and all are put; and notes how
+    /// many stand. Answers what a further file begins with; None at the end. Memory may let go of a group of entries once it was put.
+    /// Where no entry is left, all lines are handed on before it waits for the next one. Where more than half as many wait as memory may
+    /// hold, that is told on standard error, once until none was left.
     ///
     /// # Errors
     ///
@@ -152,7 +110,7 @@ impl<P: PortWrite> Trace<P> {
         self,
         server: &Server<'_, C, T, SocketPort, R>,
         host: &Host,
-    ) -> Result<(), TraceFault>
+    ) -> Result<Option<Next>, TraceFault>
     where
         P: Drop,
     {
@@ -165,14 +123,51 @@ impl<P: PortWrite> Trace<P> {
         &mut self,
         server: &Server<'_, C, T, SocketPort, R>,
         host: &Host,
-    ) -> Result<(), TraceFault> {
+    ) -> Result<Option<Next>, TraceFault> {
         for _ in server.rt.forever() {
             if self.put_group(server)? == 0 {
-                return Ok(());
+                return Ok(None);
             }
             host.note_traced(self.count);
+            if let Some(part) = self.part_where_due(server, host)? {
+                let count = self.count;
+                return Ok(Some(Next { part, count }));
+            }
         }
-        Ok(())
+        Ok(None)
+    }
+
+    // Hands a part to who asked for one. Where the file is full, answers that with which a further one begins.
+    fn part_where_due<C: Ledger, T: Ledger, R: Wait + Clock + Eprint>(
+        &mut self,
+        server: &Server<'_, C, T, SocketPort, R>,
+        host: &Host,
+    ) -> Result<Option<HeldPart>, PutFault> {
+        if host.parts.is_wanted(server.rt) {
+            let part = self.part_here(server, host)?;
+            host.parts.hand(server.rt, part);
+        }
+        if !host.meter.is_full() {
+            return Ok(None);
+        }
+        self.part_here(server, host)
+    }
+
+    // Puts the entries that are left, hands them on, and answers the part that begins behind them; None where there is no memory for it.
+    fn part_here<C: Ledger, T: Ledger, R: Wait + Clock + Eprint>(
+        &mut self,
+        server: &Server<'_, C, T, SocketPort, R>,
+        host: &Host,
+    ) -> Result<Option<HeldPart>, PutFault> {
+        let Ok(behind) = server.shared.part_behind(server.rt, self.count) else {
+            return Err(PutFault::NoMemory);
+        };
+        let (rest, part) = behind.into_parts();
+        self.put_lines(&rest)?;
+        drop(rest);
+        host.note_traced(self.count);
+        self.writer.flush()?;
+        Ok(part)
     }
 
     // Puts the entries that come next, and answers how many they are; none where the kernel was closed.
@@ -192,10 +187,7 @@ impl<P: PortWrite> Trace<P> {
         server: &Server<'_, C, T, SocketPort, R>,
         group: &[Entry],
     ) -> Result<usize, PutFault> {
-        for entry in group {
-            self.writer.put(entry)?;
-        }
-        self.count = self.count.saturating_add(group.len());
+        self.put_lines(group)?;
         let left = server.shared.mark_traced(server.rt, self.count);
         self.tell_when_far_behind(server.rt, left);
         if left == 0 {
@@ -203,6 +195,15 @@ impl<P: PortWrite> Trace<P> {
             thread::sleep(server.rt, Duration::from_millis(PAUSE));
         }
         Ok(group.len())
+    }
+
+    // Puts the lines of these entries, and counts them.
+    fn put_lines(&mut self, entries: &[Entry]) -> Result<(), PutFault> {
+        for entry in entries {
+            self.writer.put(entry)?;
+        }
+        self.count = self.count.saturating_add(entries.len());
+        Ok(())
     }
 
     // Says on standard error that so many entries wait, where they are many and it was not said since none was left.

@@ -1,5 +1,6 @@
 -- From a trace with a torn line to what is printed of it.
-use Rattle.std.proofs.Common.{◌≡◌, ℕ, Bool, true, false, Option, Some, None, IfSome, List, ◌++◌, ap, ◌∙◌, append-nil, inr}
+use Rattle.std.proofs.Common.{◌≡◌, ◌≢◌, ℕ, Bool, true, false, refl, Option, Some, None, IfSome, List, [], ◌++◌, ap, ◌∙◌, append-nil, inr}
+use Rattle.std.proofs.lemmas.List.Elements.{All-nil}
 use Rattle.ipc_history.specs.declared.entry.Entry.{Entry}
 use Rattle.std.proofs.KnownBytes.{Appends-nil}
 use Rattle.ipc_trace.specs.Traces.{HasUnknownVersion, IsRead, versioned_text}
@@ -7,7 +8,22 @@ use Rattle.ipc_trace.specs.declared.version.TraceVersion.{TraceVersion}
 use Rattle.ipc_trace.specs.declared.fault.TraceEnd.TheVariants as end
 use Rattle.ipc_shell.specs.Checking.{PrintsVerdict, HasBadLine, HasLines, ChecksTrace}
 use Rattle.ipc_shell.specs.declared.exit.Exit.{Exit}
-use Rattle.ipc_shell.specs.declared.exit.Exit.TheVariants.{Done, BadLine, NoMemory, DeviceFailed, Illegal, BadThreads, NoChart, BadWord, UnknownVersion, IllegalLine}
+use Rattle.ipc_shell.specs.declared.exit.Exit.TheVariants.{Done, BadLine, NoMemory, DeviceFailed, Illegal, UnknownVersion}
+
+pub whole_lines : (bytes left : Option (List ℕ)) (version : TraceVersion) (entries : List Entry) → IsRead bytes left version entries end.Whole → IfSome bytes (λ bytes. HasLines bytes version entries false)
+whole_lines None left version entries read = tt
+whole_lines (Some bytes) None version entries (held, taken, at_end) = absurd taken
+whole_lines (Some bytes) (Some rest) version entries (held, taken, at_end) = record {
+  held = held;
+  torn = [];
+  one = All-nil (λ byte. byte ≢ 10);
+  bytes_are = taken ∙ ap (λ (t : List ℕ). versioned_text version entries ++ t) at_end;
+  is_there = λ is. absurd (false_is_not_true is);
+  is_none = λ _. refl;
+}
+  where
+    false_is_not_true : false ≡ true → ⊥
+    false_is_not_true is = cc
 
 pub torn_lines : (bytes left : Option (List ℕ)) (version : TraceVersion) (entries : List Entry) → IsRead bytes left version entries end.Torn → IfSome bytes (λ bytes. HasLines bytes version entries true)
 torn_lines None left version entries read = tt
@@ -57,10 +73,6 @@ judged None before after version entries is_torn exit lines prints = tt
 judged (Some bytes) before after version entries is_torn Done lines prints = (version, (entries, (is_torn, lines, prints)))
 judged (Some bytes) before after version entries is_torn Illegal lines prints = (version, (entries, (is_torn, lines, prints)))
 judged (Some bytes) before after version entries is_torn (BadLine number) lines prints = absurd prints
-judged (Some bytes) before after version entries is_torn BadThreads lines prints = absurd prints
-judged (Some bytes) before after version entries is_torn (NoChart fault) lines prints = absurd prints
-judged (Some bytes) before after version entries is_torn BadWord lines prints = absurd prints
 judged (Some bytes) before after version entries is_torn UnknownVersion lines prints = absurd prints
-judged (Some bytes) before after version entries is_torn (IllegalLine number place) lines prints = absurd prints
 judged (Some bytes) before after version entries is_torn NoMemory lines prints = prints
 judged (Some bytes) before after version entries is_torn DeviceFailed lines prints = inr (version, (entries, (is_torn, lines, prints)))

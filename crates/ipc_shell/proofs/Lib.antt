@@ -1,10 +1,8 @@
-pub mod CommandLemmas
 pub mod LineLemmas
 pub mod PieceLemmas
 pub mod PutLemmas
 pub mod RunLemmas
 pub mod CheckLemmas
-pub mod LookLemmas
 pub mod MigrateLemmas
 pub mod ScriptLemmas
 pub mod WireLemmas

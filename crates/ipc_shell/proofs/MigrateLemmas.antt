@@ -11,7 +11,7 @@ use Rattle.ipc_shell.specs.Checking.{HasBadLine, HasLines, torn_text}
 use Rattle.ipc_shell.specs.Migrating.{MigratesTrace, TellsTorn, WritesMigrated}
 use Rattle.ipc_shell.specs.Putting.{AppendsFront}
 use Rattle.ipc_shell.specs.declared.exit.Exit.{Exit}
-use Rattle.ipc_shell.specs.declared.exit.Exit.TheVariants.{Done, BadLine, NoMemory, DeviceFailed, Illegal, BadThreads, NoChart, BadWord, UnknownVersion, IllegalLine}
+use Rattle.ipc_shell.specs.declared.exit.Exit.TheVariants.{Done, BadLine, NoMemory, DeviceFailed, Illegal, UnknownVersion}
 
 -- nothing was told
 untold : (said : Option (List ℕ)) (text : List ℕ) → AppendsFront said said text
@@ -28,11 +28,7 @@ not_migrated (Some bytes) before after said version entries is_torn DeviceFailed
     inr (record { version = version; entries = entries; is_torn = is_torn; lines = lines; written = writes; said = untold said (torn_text is_torn) })
 not_migrated (Some bytes) before after said version entries is_torn (BadLine number) lines writes other = absurd writes
 not_migrated (Some bytes) before after said version entries is_torn Illegal lines writes other = absurd writes
-not_migrated (Some bytes) before after said version entries is_torn BadThreads lines writes other = absurd writes
-not_migrated (Some bytes) before after said version entries is_torn (NoChart fault) lines writes other = absurd writes
-not_migrated (Some bytes) before after said version entries is_torn BadWord lines writes other = absurd writes
 not_migrated (Some bytes) before after said version entries is_torn UnknownVersion lines writes other = absurd writes
-not_migrated (Some bytes) before after said version entries is_torn (IllegalLine number place) lines writes other = absurd writes
 
 no_memory_is_other : NoMemory ≢ Done
 no_memory_is_other is = cc
@@ -51,11 +47,7 @@ migrated (Some bytes) before after said version entries DeviceFailed lines write
     not_migrated (Some bytes) before after said version entries false DeviceFailed lines writes failure_is_other
 migrated (Some bytes) before after said version entries (BadLine number) lines writes = absurd writes
 migrated (Some bytes) before after said version entries Illegal lines writes = absurd writes
-migrated (Some bytes) before after said version entries BadThreads lines writes = absurd writes
-migrated (Some bytes) before after said version entries (NoChart fault) lines writes = absurd writes
-migrated (Some bytes) before after said version entries BadWord lines writes = absurd writes
 migrated (Some bytes) before after said version entries UnknownVersion lines writes = absurd writes
-migrated (Some bytes) before after said version entries (IllegalLine number place) lines writes = absurd writes
 
 -- a trace with a torn line, of which was told
 pub migrated_torn : (bytes before after said_before said_after : Option (List ℕ)) (version : TraceVersion) (entries : List Entry) (exit : Exit)
@@ -70,11 +62,7 @@ migrated_torn (Some bytes) before after said_before said_after version entries D
 migrated_torn (Some bytes) before after said_before said_after version entries NoMemory lines writes tells = absurd tells
 migrated_torn (Some bytes) before after said_before said_after version entries (BadLine number) lines writes tells = absurd tells
 migrated_torn (Some bytes) before after said_before said_after version entries Illegal lines writes tells = absurd tells
-migrated_torn (Some bytes) before after said_before said_after version entries BadThreads lines writes tells = absurd tells
-migrated_torn (Some bytes) before after said_before said_after version entries (NoChart fault) lines writes tells = absurd tells
-migrated_torn (Some bytes) before after said_before said_after version entries BadWord lines writes tells = absurd tells
 migrated_torn (Some bytes) before after said_before said_after version entries UnknownVersion lines writes tells = absurd tells
-migrated_torn (Some bytes) before after said_before said_after version entries (IllegalLine number place) lines writes tells = absurd tells
 
 -- nothing is written of a trace with a bad line, nor of one of an unknown version
 pub bad_unmigrated : (bytes written said : Option (List ℕ)) (number : ℕ) → IfSome bytes (λ bytes. HasBadLine bytes number)

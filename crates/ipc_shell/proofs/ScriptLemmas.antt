@@ -9,7 +9,7 @@ use Rattle.ipc_shell.specs.Reading.{ReadsLine}
 use Rattle.ipc_shell.specs.Scripts.{ObeysLine, ObeysLines, StopsAfterLines, RunsLines, EndsAtLine}
 use Rattle.ipc_shell.specs.declared.lines.NextLine.TheVariants as next
 use Rattle.ipc_shell.specs.declared.exit.Exit.{Exit}
-use Rattle.ipc_shell.specs.declared.exit.Exit.TheVariants.{Done, BadLine, NoMemory, DeviceFailed, Illegal, BadThreads, NoChart, BadWord, UnknownVersion, IllegalLine}
+use Rattle.ipc_shell.specs.declared.exit.Exit.TheVariants.{Done, BadLine, NoMemory, DeviceFailed, Illegal, UnknownVersion}
 
 -- the lines that were obeyed of these bytes, and what was printed for them; the next line has this number
 pub record ObeyedOf {S : Type 0} (Obeys : S → List ℕ → List ℕ → S → Type 0) (start : S) (bytes rest : List ℕ) (printed_before printed_now : Option (List ℕ)) (state : S) (number : ℕ) : Type 0 where
@@ -151,11 +151,7 @@ module _ (S : Type 0) (Obeys : S → List ℕ → List ℕ → S → Type 0) (Is
   stops_at_line start state new line number before now after (Some bytes) (Some rest) None exit some so_far read ends = absurd read
   stops_at_line start state new line number before now after (Some bytes) (Some rest) (Some left) Done some so_far read ends = absurd ends
   stops_at_line start state new line number before now after (Some bytes) (Some rest) (Some left) Illegal some so_far read ends = absurd ends
-  stops_at_line start state new line number before now after (Some bytes) (Some rest) (Some left) BadThreads some so_far read ends = absurd ends
-  stops_at_line start state new line number before now after (Some bytes) (Some rest) (Some left) (NoChart fault) some so_far read ends = absurd ends
-  stops_at_line start state new line number before now after (Some bytes) (Some rest) (Some left) BadWord some so_far read ends = absurd ends
   stops_at_line start state new line number before now after (Some bytes) (Some rest) (Some left) UnknownVersion some so_far read ends = absurd ends
-  stops_at_line start state new line number before now after (Some bytes) (Some rest) (Some left) (IllegalLine n place) some so_far read ends = absurd ends
   stops_at_line start state new line number before now after (Some bytes) (Some rest) (Some left) (BadLine n) some so_far read (same, no_command, none) =
       let text = so_far.text in (
         text,

@@ -17,7 +17,7 @@ use Rattle.ipc_trace.specs.Versions.{MayHold, header_lines}
 use Rattle.ipc_trace.specs.declared.version.TraceVersion.{TraceVersion}
 use Rattle.ipc_shell.specs.Printing.{ended}
 use Rattle.ipc_shell.specs.declared.exit.Exit.{Exit}
-use Rattle.ipc_shell.specs.declared.exit.Exit.TheVariants.{Done, BadLine, NoMemory, DeviceFailed, Illegal, BadThreads, NoChart, BadWord, UnknownVersion, IllegalLine}
+use Rattle.ipc_shell.specs.declared.exit.Exit.TheVariants.{Done, BadLine, NoMemory, DeviceFailed, Illegal, UnknownVersion}
 
 -- what the rules ask for
 abbrev pub expected_text : Option Output → List ℕ
@@ -56,11 +56,7 @@ PrintsVerdict version entries is_torn before after Illegal =
     (index : ℕ) × ((expected : Option Output) × IsVerdict entries (No index expected)
     × Appends before after (verdict_text version (No index expected) is_torn))
 PrintsVerdict version entries is_torn before after (BadLine number) = ⊥
-PrintsVerdict version entries is_torn before after BadThreads = ⊥
-PrintsVerdict version entries is_torn before after (NoChart fault) = ⊥
-PrintsVerdict version entries is_torn before after BadWord = ⊥
 PrintsVerdict version entries is_torn before after UnknownVersion = ⊥
-PrintsVerdict version entries is_torn before after (IllegalLine number place) = ⊥
 PrintsVerdict version entries is_torn before after NoMemory = Appends before after []
 PrintsVerdict version entries is_torn before after DeviceFailed =
     (verdict : Verdict) × IsVerdict entries verdict
@@ -100,11 +96,7 @@ abbrev pub ChecksBytes : List ℕ → Option (List ℕ) → Option (List ℕ) �
 ChecksBytes bytes before after Done = PrintsTrace bytes before after Done
 ChecksBytes bytes before after Illegal = PrintsTrace bytes before after Illegal
 ChecksBytes bytes before after (BadLine number) = HasBadLine bytes number × Appends before after []
-ChecksBytes bytes before after BadThreads = ⊥
-ChecksBytes bytes before after (NoChart fault) = ⊥
-ChecksBytes bytes before after BadWord = ⊥
 ChecksBytes bytes before after UnknownVersion = HasUnknownVersion bytes × Appends before after []
-ChecksBytes bytes before after (IllegalLine number place) = ⊥
 ChecksBytes bytes before after NoMemory = Appends before after []
 ChecksBytes bytes before after DeviceFailed =
     Appends before after [] ⊎ PrintsTrace bytes before after DeviceFailed

@@ -1,6 +1,5 @@
 pub mod ScriptLines
 pub mod Reading
-pub mod Commands
 pub mod Answers
 pub mod Printing
 pub mod Scripts
@@ -11,6 +10,4 @@ pub mod Putting
 pub mod Failing
 pub mod Exits
 pub mod Checking
-pub mod Looking
 pub mod Migrating
-pub mod Talking

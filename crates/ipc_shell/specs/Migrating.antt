@@ -8,7 +8,7 @@ use Rattle.ipc_trace.specs.declared.version.TraceVersion.TheVariants.{Two}
 use Rattle.ipc_shell.specs.Checking.{HasBadLine, HasLines, torn_text}
 use Rattle.ipc_shell.specs.Putting.{AppendsFront}
 use Rattle.ipc_shell.specs.declared.exit.Exit.{Exit}
-use Rattle.ipc_shell.specs.declared.exit.Exit.TheVariants.{Done, BadLine, NoMemory, DeviceFailed, Illegal, BadThreads, NoChart, BadWord, UnknownVersion, IllegalLine}
+use Rattle.ipc_shell.specs.declared.exit.Exit.TheVariants.{Done, BadLine, NoMemory, DeviceFailed, Illegal, UnknownVersion}
 
 -- a trace of version 2 of these entries was written, or a front of it where there is no memory or a device failed
 abbrev pub WritesMigrated : List Entry → Option (List ℕ) → Option (List ℕ) → Exit → Type 0
@@ -17,11 +17,7 @@ WritesMigrated entries before after NoMemory = AppendsFront before after (versio
 WritesMigrated entries before after DeviceFailed = AppendsFront before after (versioned_text Two entries)
 WritesMigrated entries before after (BadLine number) = ⊥
 WritesMigrated entries before after Illegal = ⊥
-WritesMigrated entries before after BadThreads = ⊥
-WritesMigrated entries before after (NoChart fault) = ⊥
-WritesMigrated entries before after BadWord = ⊥
 WritesMigrated entries before after UnknownVersion = ⊥
-WritesMigrated entries before after (IllegalLine number place) = ⊥
 
 -- it is told that a trace is torn, or a front of that where a write failed
 abbrev pub TellsTorn : Option (List ℕ) → Option (List ℕ) → Exit → Type 0
@@ -30,11 +26,7 @@ TellsTorn before after DeviceFailed = AppendsFront before after (torn_text true)
 TellsTorn before after NoMemory = ⊥
 TellsTorn before after (BadLine number) = ⊥
 TellsTorn before after Illegal = ⊥
-TellsTorn before after BadThreads = ⊥
-TellsTorn before after (NoChart fault) = ⊥
-TellsTorn before after BadWord = ⊥
 TellsTorn before after UnknownVersion = ⊥
-TellsTorn before after (IllegalLine number place) = ⊥
 
 -- the entries of the whole lines are written as a trace of version 2, and it is told whether a torn line stands
 -- behind them; what is appended to the bytes of the new trace, and to those of the writer
@@ -74,10 +66,6 @@ MigratesBytes bytes before after said_before said_after DeviceFailed =
     WritesNothing before after said_before said_after
     ⊎ MigratesFront bytes before after said_before said_after
 MigratesBytes bytes before after said_before said_after Illegal = ⊥
-MigratesBytes bytes before after said_before said_after BadThreads = ⊥
-MigratesBytes bytes before after said_before said_after (NoChart fault) = ⊥
-MigratesBytes bytes before after said_before said_after BadWord = ⊥
-MigratesBytes bytes before after said_before said_after (IllegalLine number place) = ⊥
 
 -- where the reader tells its bytes
 abbrev pub MigratesTrace : Option (List ℕ) → Option (List ℕ) → Option (List ℕ) → Option (List ℕ) → Option (List ℕ) → Exit → Type 0

@@ -8,7 +8,7 @@ use Rattle.ipc_core.specs.declared.command.Answer.{Answer}
 use Rattle.ipc_core.specs.declared.command.Command.{Command}
 use Rattle.ipc_lines.specs.Lines.{entry_text}
 use Rattle.ipc_shell.specs.Answers.{answer_text}
-use Rattle.ipc_shell.specs.Commands.{IsCommand}
+use Rattle.l4sh_commands.specs.Commands.{IsCommand}
 
 -- a line and its newline
 abbrev pub ended : List ℕ → List ℕ

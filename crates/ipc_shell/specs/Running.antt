@@ -10,7 +10,8 @@ use Rattle.ipc_core.specs.declared.answers.Compacted.{Compacted}
 use Rattle.ipc_core.specs.declared.kernel.Limits.{Limits}
 use Rattle.ipc_core.specs.declared.command.Command.{Command}
 use Rattle.ipc_lines.specs.Lines.{spaced}
-use Rattle.ipc_shell.specs.Commands.{IsCommand, command_text}
+use Rattle.l4sh_commands.specs.Commands.{IsScriptCommand, command_text, compact_text, script_command_text}
+use Rattle.l4sh_commands.specs.declared.script_command.ScriptCommand.{ScriptCommand}
 use Rattle.ipc_shell.specs.Printing.{Answers, ended}
 use Rattle.ipc_shell.specs.Scripts.{EndsAtLine, RunsLines}
 use Rattle.ipc_shell.specs.declared.exit.Exit.{Exit}
@@ -30,15 +31,12 @@ pub record Commands (old : KernelParts) (line text : List ℕ) (new : KernelPart
   pub spells : line ≡ command_text command
   pub answers : Answers old command text new
 
--- the line that asks for a compaction, and what is printed for it: how many entries were dropped, and how many are left
-abbrev pub compact_line : List ℕ
-compact_line = codes "compact"
-
+-- what is printed of a compaction: how many entries were dropped, and how many are left
 abbrev pub compacted_text : Compacted → List ℕ
 compacted_text done = ended (spaced (codes "=" ∷ decimal done.dropped ∷ decimal done.left ∷ []))
 
 pub record IsCompacted (old : KernelParts) (line text : List ℕ) (new : KernelParts) : Type 0 where
-  pub spells : line ≡ compact_line
+  pub spells : line ≡ compact_text
   pub done : Compacted
   pub compacts : Compacts old new old.held.mark done
   pub text_is : text ≡ compacted_text done
@@ -47,10 +45,10 @@ pub record IsCompacted (old : KernelParts) (line text : List ℕ) (new : KernelP
 abbrev pub RunsLine : KernelParts → List ℕ → List ℕ → KernelParts → Type 0
 RunsLine old line text new = Commands old line text new ⊎ IsCompacted old line text new
 
--- a line that spells no command and asks for no compaction, whatever the kernel
+-- a line that spells no command of a script, whatever the kernel
 abbrev pub IsNoCommand : KernelParts → List ℕ → Type 0
 IsNoCommand kernel line =
-    ((command : Command) → IsCommand command → line ≢ command_text command) × (line ≢ compact_line)
+    (command : ScriptCommand) → IsScriptCommand command → line ≢ script_command_text command
 
 -- what a run prints of a script
 abbrev pub RunsScript : KernelParts → Option (List ℕ) → Option (List ℕ) → Option (List ℕ) → Exit

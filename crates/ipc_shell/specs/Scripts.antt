@@ -6,7 +6,7 @@ use Rattle.std.specs.Io.KnownBytes.{Appends}
 use Rattle.ipc_shell.specs.ScriptLines.{lines_of, longest_line}
 use Rattle.ipc_shell.specs.declared.exit.Exit.{Exit}
 use Rattle.ipc_shell.specs.declared.exit.Exit.TheVariants.{Done, BadLine, NoMemory, DeviceFailed}
-use Rattle.ipc_shell.specs.declared.exit.Exit.TheVariants.{Illegal, BadThreads, NoChart, BadWord, UnknownVersion, IllegalLine}
+use Rattle.ipc_shell.specs.declared.exit.Exit.TheVariants.{Illegal, UnknownVersion}
 
 -- an empty line is skipped; any other is short enough and is obeyed
 abbrev pub ObeysLine : {S : Type 0} → (S → List ℕ → List ℕ → S → Type 0)
@@ -59,11 +59,7 @@ Prints {S} Obeys IsNone start lines text Done =
 Prints Obeys IsNone start lines text (BadLine number) =
     EndsAtBadLine Obeys IsNone start lines text number
 Prints Obeys IsNone start lines text Illegal = ⊥
-Prints Obeys IsNone start lines text BadThreads = ⊥
-Prints Obeys IsNone start lines text (NoChart fault) = ⊥
-Prints Obeys IsNone start lines text BadWord = ⊥
 Prints Obeys IsNone start lines text UnknownVersion = ⊥
-Prints Obeys IsNone start lines text (IllegalLine number place) = ⊥
 Prints Obeys IsNone start lines text NoMemory = StopsAfterLines Obeys start lines text
 Prints Obeys IsNone start lines text DeviceFailed =
     (missing : List ℕ) × StopsAfterLines Obeys start lines (text ++ missing)
@@ -87,11 +83,7 @@ EndsAtLine Obeys IsNone old new before after line number (Some Done) = ⊥
 EndsAtLine Obeys IsNone old new before after line number (Some (BadLine n)) =
     (n ≡ number) × IsNone old line × Appends before after []
 EndsAtLine Obeys IsNone old new before after line number (Some Illegal) = ⊥
-EndsAtLine Obeys IsNone old new before after line number (Some BadThreads) = ⊥
-EndsAtLine Obeys IsNone old new before after line number (Some (NoChart fault)) = ⊥
-EndsAtLine Obeys IsNone old new before after line number (Some BadWord) = ⊥
 EndsAtLine Obeys IsNone old new before after line number (Some UnknownVersion) = ⊥
-EndsAtLine Obeys IsNone old new before after line number (Some (IllegalLine n place)) = ⊥
 EndsAtLine Obeys IsNone old new before after line number (Some NoMemory) = Appends before after []
 EndsAtLine Obeys IsNone old new before after line number (Some DeviceFailed) = (front : List ℕ)
     × ((back : List ℕ) × Obeys old line (front ++ back) new × Appends before after front)

@@ -2,18 +2,18 @@ ghost use Rattle.std.specs.Prelude.{◌≡◌, ◌≢◌, ◌+◌, ◌<◌, Some
 ghost use Rattle.std.specs.Io.KnownBytes.{prepend_known};
 ghost use Rattle.std.specs.String.{string_bytes};
 ghost use Rattle.ipc_shell.specs.Failing.{HasFailed};
-ghost use Rattle.ipc_shell.specs.Running.{compact_line, first_kernel, EndsLine, IsCompacted, IsNoCommand, RunsLine, RunsScript};
+ghost use Rattle.l4sh_commands.specs.Commands.{compact_text};
+ghost use Rattle.ipc_shell.specs.Running.{first_kernel, EndsLine, IsCompacted, IsNoCommand, RunsLine, RunsScript};
 
 mod answering;
-mod commands;
 
 use crate::exit::Exit;
 use crate::lines::{NextLine, next_line};
 use crate::output::put;
-pub(crate) use answering::answer;
-pub(crate) use commands::read_command;
+use answering::answer;
 use ipc_core::{Kernel, Limits, Refusal};
 use ipc_ports::{PieceBuffer, PortRead, PortWrite};
+use l4sh_commands::{ScriptCommand, read_command};
 use std::alloc::{AllocError, Global};
 
 /// Runs a script from a reader: after each command the lines of the entries that it wrote and one
@@ -90,7 +90,7 @@ fn run_lines<R: PortRead, W: PortWrite>(
 }
 
 /// A kernel with these limits, of which every entry counts as traced.
-fn marked_kernel(alloc: Global, limits: Limits) -> Result<Kernel, Refusal>
+pub fn marked_kernel(alloc: Global, limits: Limits) -> Result<Kernel, Refusal>
     ensures { IfOk result (λ kernel. kernel ≡ first_kernel limits) }
 {
     let mut kernel = Kernel::new(alloc, limits)?;
@@ -115,10 +115,10 @@ fn run_line<W: PortWrite>(
     ensures flushed { result ≢ Some Exit.DeviceFailed
         → W.flushed writer.old ≡ true → W.flushed writer.new ≡ true }
 {
-    let Ok(reply) = reply(alloc, kernel, line) else {
+    let Ok(told) = obey_line(alloc, kernel, line) else {
         return Some(Exit::NoMemory);
     };
-    let Some(text) = reply else {
+    let Some(text) = told else {
         return Some(Exit::BadLine(number));
     };
     match put(writer, text.as_bytes()) {
@@ -127,37 +127,30 @@ fn run_line<W: PortWrite>(
     }
 }
 
-/// Obeys a line, and gives what is printed for it. None where it spells no command and asks for no compaction.
-fn reply(alloc: Global, kernel: &mut Kernel, line: &[u8]) -> Result<Option<String>, AllocError>
-    ensures found { IfOk result (λ reply. IfSome reply
+/// Obeys a line, and gives what is printed for it: the lines of the entries that it wrote, and its answer line.
+/// None where it spells no command of a script.
+///
+/// The error: memory was refused.
+pub fn obey_line(
+    alloc: Global,
+    kernel: &mut Kernel,
+    line: &[u8],
+) -> Result<Option<String>, AllocError>
+    ensures found { IfOk result (λ told. IfSome told
         (λ text. RunsLine kernel.old line.now (string_bytes text) kernel.new)) }
     ensures none { result ≡ Ok None → IsNoCommand kernel.old line.now }
 {
-    if asks_to_compact(line) {
-        let text = compact(alloc, kernel)?;
-        return Ok(Some(text));
-    }
-    let Some(command) = read_command(alloc, line)? else {
-        return Ok(None);
+    let text = match read_command(alloc, line)? {
+        Some(ScriptCommand::Obey(command)) => answer(alloc, kernel, command)?,
+        Some(ScriptCommand::Compact) => compact(alloc, kernel)?,
+        None => return Ok(None),
     };
-    let text = answer(alloc, kernel, command)?;
     Ok(Some(text))
-}
-
-/// Whether a line asks for a compaction.
-fn asks_to_compact(line: &[u8]) -> bool
-    ensures yes { result ≡ true → line.now ≡ compact_line }
-    ensures no { result ≡ false → line.now ≢ compact_line }
-{
-    match line {
-        b"compact" => true,
-        _ => false,
-    }
 }
 
 /// Compacts a kernel up to its mark, and says how many entries were dropped and how many are left.
 fn compact(alloc: Global, kernel: &mut Kernel) -> Result<String, AllocError>
-    ensures { IfOk result (λ text. IsCompacted kernel.old compact_line
+    ensures { IfOk result (λ text. IsCompacted kernel.old compact_text
         (string_bytes text) kernel.new) }
 {
     let done = kernel.compact_marked();

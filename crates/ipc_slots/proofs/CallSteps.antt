@@ -31,7 +31,8 @@ use Rattle.ipc_laws.proofs.WordLemmas.{first_some_push, option_or_none}
 use Rattle.ipc_slots.specs.declared.last.Last.TheVariants.{Nothing}
 use Rattle.ipc_slots.proofs.LastEntries.{ends_with}
 use Rattle.ipc_slots.proofs.LiveSlots.{live_calling}
-use Rattle.ipc_slots.proofs.Silent.{Before, unnamed_front}
+use Rattle.ipc_laws.proofs.Finds.{absent}
+use Rattle.ipc_laws.proofs.Silent.{Before, unnamed_front}
 use Rattle.ipc_slots.specs.Standings.{standing_of, since_of, phase_of, entered, entered_standing}
 use Rattle.ipc_slots.specs.Slots.{Stands, slot_at, slot_of, live_of, live_at, blank}
 use Rattle.ipc_slots.specs.Steps.{calling}
@@ -42,7 +43,7 @@ use Rattle.ipc_slots.specs.declared.kept.KeptSlots.{KeptSlots}
 use Rattle.ipc_slots.proofs.Holders.{live_of_at, live_of_is}
 use Rattle.ipc_slots.proofs.OutputSteps.{same}
 use Rattle.ipc_slots.proofs.SlotSteps.{live_kept, space_kept, version_kept, last_kept}
-use Rattle.ipc_slots.proofs.StandingSteps.{absent, found, own, standing_step}
+use Rattle.ipc_slots.proofs.StandingSteps.{found, own, standing_step}
 
 bool_cases : (b : Bool) → (b ≡ true) ⊎ (b ≡ false)
 bool_cases true = inl refl
@@ -62,7 +63,7 @@ module _ (P : List Entry) (n t : ℕ) (call : CallParts) (legal : Legal P) (foll
   unfolding Follows
   alive = (free_parts P t (entered_free P n t call follows.1).0).0
 
-  idle : open_call P t ≡ None
+  pub idle : open_call P t ≡ None
   unfolding Follows
   idle = (free_parts P t (entered_free P n t call follows.1).0).1
 

@@ -1,5 +1,3 @@
-pub mod Finds
-pub mod Silent
 pub mod Overs
 pub mod PhaseSteps
 pub mod StandingSteps
@@ -25,3 +23,5 @@ pub mod Answering
 pub mod SlotSums
 pub mod Changed
 pub mod Naming
+pub mod Exchanged
+pub mod Passed

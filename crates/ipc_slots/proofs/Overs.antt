@@ -12,7 +12,7 @@ use Rattle.ipc_history.specs.NextOutput.{abort_send, end_of, is_send_partner_gon
 use Rattle.ipc_history.specs.declared.entry.Entry.{Entry}
 use Rattle.ipc_history.specs.declared.entry.Output.TheVariants.{Ended, Aborted}
 use Rattle.ipc_laws.specs.Laws.{timeout_at}
-use Rattle.ipc_slots.proofs.Finds.{find_nothing}
+use Rattle.ipc_laws.proofs.Finds.{find_nothing}
 
 -- each rule
 over_third : (a b c : Bool) → c ≡ true → (a && b && not c) ≡ false

@@ -1,6 +1,7 @@
 -- What a table of slots says after a change of its threads or of an open call.
 use Rattle.std.proofs.Common.{◌≡◌, refl, sym, cond, ap, ◌∙◌, ℕ, zero, suc, ◌+◌, ◌*◌, ◌^◌, ◌<◌, ◌≤◌, ◌==◌, eq-eqb, eqb-true, true, false, Bool, List, [], ◌∷◌, length, Option, Some, None, Ok, ◌&&◌, inl, inr, subst, option_map, option_and_then, is_some, if◌then◌else◌, arith}
 use Rattle.std.specs.Prelude.{replicate, slice_index_or, slice_set}
+use Rattle.std.specs.Option.{option_map_or}
 use Rattle.std.proofs.lemmas.Bool.{false≢true, ne_eqb, cases_order}
 use Rattle.std.proofs.lemmas.Bool.Decides.{nat_tests}
 use Rattle.std.proofs.lemmas.List.{get_or_default, get_or_past}
@@ -13,7 +14,7 @@ use Rattle.ipc_words.specs.ThreadId.{id_of, number_of, version_of}
 use Rattle.ipc_words.specs.Version.{next_version_of}
 use Rattle.ipc_slots.specs.Slot.{Slot}
 use Rattle.ipc_slots.specs.Steps.{calling, with_call, live_with, called_live, standing_in}
-use Rattle.ipc_slots.specs.Table.{blank, ended, fresh, live_slots, if_thread, live_in, slot_at, slots_from, slot_from, live_from}
+use Rattle.ipc_slots.specs.Table.{blank, open_call_in, ended, fresh, live_slots, if_thread, live_in, slot_at, slots_from, slot_from, space_in, live_from}
 use Rattle.ipc_slots.specs.declared.slot.Live.{Live}
 use Rattle.ipc_slots.specs.declared.slot.Standing.{Standing}
 
@@ -24,8 +25,8 @@ made k last call space = record { thread = id_of k last; space = space; call = c
 abbrev with_id : ℕ → Option Standing → ℕ → Live
 with_id t call space = record { thread = t; space = space; call = call }
 
-abbrev call_in : Live → Option Standing
-call_in l = l.call
+abbrev call_with : Live → Option Standing
+call_with l = l.call
 
 pub from_blank : (n k : ℕ) → slots_from k (replicate n unused) (replicate n None) ≡ replicate n blank
 from_blank zero k = refl
@@ -136,7 +137,7 @@ module _ (xs : List Numbered) (cs : List (Option Standing)) (table : List Slot) 
   pub standing_is : (k : ℕ) → standing_in (slot_at table k) ≡ (if is_some (slot_of xs k).space then slice_index_or cs k None else None)
   standing_is k = ap standing_in (slot_is k) ∙ go (slot_of xs k).space
     where
-      go : (o : Option ℕ) → option_and_then call_in (option_map (made k (slot_of xs k).last (slice_index_or cs k None)) o) ≡ (if is_some o then slice_index_or cs k None else None)
+      go : (o : Option ℕ) → option_and_then call_with (option_map (made k (slot_of xs k).last (slice_index_or cs k None)) o) ≡ (if is_some o then slice_index_or cs k None else None)
       go None = refl
       go (Some space) = refl
 
@@ -178,6 +179,27 @@ module _ (xs : List Numbered) (cs : List (Option Standing)) (table : List Slot) 
 
   pub live_missed : (t : ℕ) → live_space_of xs t ≡ None → live_in table t ≡ None
   live_missed t missed = live_in_is t ∙ rw missed refl
+
+  -- whether it is live, its space, and its open call
+  pub some_live : (t : ℕ) → is_some (live_in table t) ≡ is_some (live_space_of xs t)
+  some_live t = ap is_some (live_in_is t) ∙ go (live_space_of xs t)
+    where
+      go : (o : Option ℕ) → is_some (option_map (with_id t (slice_index_or cs (number_of t) None)) o) ≡ is_some o
+      go None = refl
+      go (Some space) = refl
+
+  pub space_live : (t : ℕ) → space_in table t ≡ option_map_or (λ space. space) (live_space_of xs t) 0
+  space_live t = ap (λ l. option_map_or (λ (l : Live). l.space) l 0) (live_in_is t) ∙ go (live_space_of xs t)
+    where
+      go : (o : Option ℕ) → option_map_or (λ (l : Live). l.space) (option_map (with_id t (slice_index_or cs (number_of t) None)) o) 0 ≡ option_map_or (λ space. space) o 0
+      go None = refl
+      go (Some space) = refl
+
+  pub call_live : (t space : ℕ) → live_space_of xs t ≡ Some space → (default : Option Standing) → slice_index_or cs (number_of t) default ≡ open_call_in table t
+  call_live t space found default = ap (option_and_then (λ (l : Live). l.call)) (live_found t space found default)
+
+  pub call_missed : (t : ℕ) → live_space_of xs t ≡ None → open_call_in table t ≡ None
+  call_missed t missed = ap (option_and_then (λ (l : Live). l.call)) (live_missed t missed)
 
   -- the live thread of a number, by its id
   pub live_by_id : (k t : ℕ) → live_id_of xs k ≡ Some t → number_of t ≡ k → live_in table t ≡ (slot_at table k).live

@@ -15,7 +15,7 @@ use Rattle.ipc_laws.proofs.Growth.{call_at_kept, caller_of_kept, from_of_kept, o
 use Rattle.ipc_laws.proofs.Settling.{legal_push}
 use Rattle.ipc_laws.proofs.Steps.{call_at_push}
 use Rattle.ipc_laws.proofs.Tests.{left, right, refuted, not_both}
-use Rattle.ipc_slots.proofs.Finds.{find_passes}
+use Rattle.ipc_laws.proofs.Finds.{absent, find_passes}
 use Rattle.ipc_slots.specs.Standings.{standing_of}
 use Rattle.ipc_slots.specs.Steps.{standing_after, call_after, is_closed_by}
 use Rattle.ipc_slots.proofs.PhaseSteps.{phase_after, since_after}
@@ -41,10 +41,6 @@ own H t n e =
 
 pub found : (H : List Entry) → Legal H → (t n : ℕ) → is_over H n ≡ false → caller_of H n ≡ t → open_call H t ≡ Some n
 found H legal t n o c = ap (open_call H) (sym c) ∙ (is_open_call H legal n o).found
-
-pub absent : {X : Type 0} (o : Option X) → ((x : X) → o ≡ Some x → ⊥) → o ≡ None
-absent None h = refl
-absent (Some x) h = absurd (h x refl)
 
 abbrev unless_over : List Entry → ℕ → Option ℕ
 unless_over Q n = (if is_over Q n then None else Some n)

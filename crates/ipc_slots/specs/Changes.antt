@@ -1,5 +1,5 @@
 -- Which slots an entry changed.
-use Rattle.std.specs.Prelude.{◌≡◌, ℕ, ◌<◌, ◌==◌, ◌||◌, Bool, false, List, [], ◌∷◌, ◌++◌, Option, Some, IfSome, IsTrue}
+use Rattle.std.specs.Prelude.{◌≡◌, ℕ, ◌<◌, ◌==◌, ◌||◌, Bool, false, List, [], ◌∷◌, ◌++◌, Option, Some, None, IfSome, IsTrue}
 use Rattle.std.specs.Option.{option_map_or}
 use Rattle.ipc_words.specs.Limits.{table_slots}
 use Rattle.ipc_words.specs.ThreadId.{number_of}
@@ -33,6 +33,15 @@ pub record HaveChanged (old new : List Slot) (changes : Changes) : Type 0 where
   pub second : IfSome changes.second (IsChange old)
   pub apart : (a b : Change) → changes.first ≡ Some a → changes.second ≡ Some b → (a.place == b.place) ≡ false
   pub elsewhere : (k : ℕ) → changes_at changes k ≡ false → slot_at new k ≡ slot_at old k
+
+-- a call of the slot at a place, which held none, has sent its message to the call of the slot at another place, which holds none now; the
+-- others are as they were
+pub record HaveExchanged (old new : List Slot) (place there : ℕ) : Type 0 where
+  pub within : place < table_slots
+  pub apart : (place == there) ≡ false
+  pub free : standing_in (slot_at old place) ≡ None
+  pub over : standing_in (slot_at new there) ≡ None
+  pub elsewhere : (k : ℕ) → (k == place) ≡ false → (k == there) ≡ false → slot_at new k ≡ slot_at old k
 
 -- and the place of each call that the entry names
 abbrev pub HasNamed : List Entry → Entry → Changes → Type 0

@@ -51,6 +51,10 @@ live_in table t = option_and_then (if_thread t) (slot_at table (number_of t)).li
 abbrev pub space_in : List Slot → ℕ → ℕ
 space_in table t = option_map_or (λ l. l.space) (live_in table t) 0
 
+-- and its open call
+abbrev pub open_call_in : List Slot → ℕ → Option Standing
+open_call_in table t = option_and_then (λ l. l.call) (live_in table t)
+
 -- how many threads are live
 abbrev pub live_slots : List Slot → ℕ
 live_slots table = count_by (λ slot. is_some slot.live) table

@@ -1,4 +1,4 @@
-ghost use Rattle.std.specs.Prelude.{◌≡◌, ◌<◌, option_map};
+ghost use Rattle.std.specs.Prelude.{◌≡◌, ◌<◌, option_copied, option_map};
 ghost use Rattle.ipc_words.specs.Limits.{table_slots};
 ghost use Rattle.ipc_history.specs.Calls.{calls_made};
 ghost use Rattle.ipc_history.specs.Threads.{now, is_taken, next_version};
@@ -12,14 +12,12 @@ use crate::slots::Slots;
 use ipc_words::ThreadId;
 
 impl Slots {
-    /// What is kept of the open call of a thread.
-    pub fn call_of(&self, thread: ThreadId) -> Option<Standing>
-        ensures { result ≡ option_map (standing_of self.now.past) (open_call self.now.past thread) }
+    /// What is kept of the open call of a thread, where it stands.
+    pub fn call_of(&self, thread: ThreadId) -> Option<&Standing>
+        ensures { option_copied result
+            ≡ option_map (standing_of self.now.past) (open_call self.now.past thread) }
     {
-        match self.kept().table.live(thread) {
-            Some(live) => live.call,
-            None => None,
-        }
+        self.kept().table.call_of(thread)
     }
 
     /// The open call of a thread.

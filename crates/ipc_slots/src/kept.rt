@@ -12,6 +12,9 @@ ghost use Rattle.ipc_slots.specs.Slots.{both_copied, slot_copied, space_in};
 ghost use Rattle.ipc_slots.specs.Steps.{HasRoom, calling, holds, standing_in, held_sender, no_sender};
 ghost use Rattle.ipc_slots.specs.Table.{MayOpen, blank, ended, fresh, live_in};
 
+mod exchange;
+mod passing;
+
 use crate::changes::{Change, Changes};
 use crate::last::Last;
 use crate::slot::{Live, Sender, Standing};
@@ -139,10 +142,7 @@ impl KeptSlots {
     fn space_in(&self, thread: ThreadId) -> u64
         ensures { result ≡ space_in self.now.table thread }
     {
-        match self.table.live(thread) {
-            Some(live) => live.space,
-            None => 0,
-        }
+        self.table.space_in(thread)
     }
 
     /// Whether two threads that are live are of one space.

@@ -3,7 +3,7 @@ ghost use Rattle.ipc_words.specs.Limits.{table_slots};
 ghost use Rattle.ipc_words.specs.ThreadId.{number_of};
 ghost use Rattle.ipc_slots.specs.Making.{IsOfNumber, made_slot};
 ghost use Rattle.ipc_slots.specs.Steps.{calling, standing_in};
-ghost use Rattle.ipc_slots.specs.Table.{MayOpen, blank, ended, fresh, live_in, live_slots, slot_at};
+ghost use Rattle.ipc_slots.specs.Table.{MayOpen, blank, open_call_in, ended, fresh, live_in, live_slots, slot_at, space_in};
 
 use crate::slot::{Live, Standing};
 use ipc_threads::ThreadTable;
@@ -77,6 +77,33 @@ impl SlotTable {
             space: u64::from(space),
             call: self.calls[thread.number() as usize],
         })
+    }
+
+    /// Whether the thread of an id is live.
+    pub(crate) fn is_live(&self, thread: ThreadId) -> bool
+        ensures { result ≡ is_some (live_in self.now thread) }
+    {
+        self.threads.space_of(thread).is_some()
+    }
+
+    /// The space of the live thread of an id, 0 where it is not live.
+    pub(crate) fn space_in(&self, thread: ThreadId) -> u64
+        ensures { result ≡ space_in self.now thread }
+    {
+        match self.threads.space_of(thread) {
+            Some(space) => u64::from(space),
+            None => 0,
+        }
+    }
+
+    /// The open call of the live thread of an id, where it stands.
+    pub(crate) fn call_of(&self, thread: ThreadId) -> Option<&Standing>
+        ensures { option_copied result ≡ open_call_in self.now thread }
+    {
+        match self.threads.space_of(thread) {
+            Some(_) => self.calls[thread.number() as usize].as_ref(),
+            None => None,
+        }
     }
 
     /// The live thread of the number of a place, with its open call.

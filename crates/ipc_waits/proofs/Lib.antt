@@ -23,3 +23,7 @@ pub mod LeastDue
 pub mod FirstDue
 pub mod Touches
 pub mod Meetings
+pub mod Passing
+pub mod Exchanged
+pub mod Resting
+pub mod Fronts

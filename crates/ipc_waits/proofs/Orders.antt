@@ -1,8 +1,9 @@
 -- Waits in order.
-use Rattle.std.proofs.Common.{◌≡◌, zero, suc, ◌≤◌, Bool, true, false, cond, List, [], ◌∷◌, ◌++◌, get_or, filter, inl, inr, arith}
+use Rattle.std.proofs.Common.{◌≡◌, ap, ◌∙◌, ℕ, zero, suc, ◌-◌, ◌≤◌, length, Bool, true, false, cond, List, [], ◌∷◌, ◌++◌, get_or, filter, inl, inr, arith}
 use Rattle.std.proofs.lemmas.Bool.{or_cases, or_left, or_right}
 use Rattle.std.proofs.lemmas.Bool.Decides.{nat_tests}
-use Rattle.std.specs.List.Sorted.{IsPartitionedBy}
+use Rattle.std.proofs.lemmas.List.{get_or_default}
+use Rattle.std.specs.List.Sorted.{IsPartitionPoint, IsPartitionedBy}
 use Rattle.ipc_waits.specs.Queues.{IsOrdered, comes_before, is_in, is_same}
 use Rattle.ipc_waits.specs.declared.queue.Wait.{Wait}
 use Rattle.ipc_waits.proofs.Sames.{in_at, in_filter, in_with, same_is, same_itself}
@@ -54,3 +55,7 @@ partitioned p falls (x ∷ xs) o zero zero d le within h = h
 partitioned p falls (x ∷ xs) o zero (suc j) d le within h = falls x (get_or xs j d) (o.0 (get_or xs j d) (in_at xs j d (omega arith))) h
 partitioned p falls (x ∷ xs) o (suc i) zero d le within h = absurd (omega arith)
 partitioned p falls (x ∷ xs) o (suc i) (suc j) d le within h = partitioned p falls xs o.1 i j d (omega arith) (omega arith) h
+
+-- behind the last one, where that comes before it
+pub behind_last : (ws : List Wait) (n : ℕ) (v d : Wait) → IsOrdered ws → n ≡ length ws → comes_before (get_or ws (n - 1) d) v ≡ true → IsPartitionPoint (λ w. comes_before w v ≡ true) (λ w. comes_before w v ≡ false) ws n
+behind_last ws n v d o is last = ((λ k e low high. partitioned (λ w. comes_before w v) (λ a b before passes. before_before a b v before passes) ws o k (n - 1) e (omega arith) (omega arith) (ap (λ w. comes_before w v) (get_or_default ws (n - 1) e d (omega arith)) ∙ last)), (λ k e low high. absurd (omega arith)))

@@ -9,3 +9,6 @@ pub mod Following
 pub mod Waiting
 pub mod Next
 pub mod FirstDue
+pub mod Passing
+pub mod Resting
+pub mod Rows

@@ -4,7 +4,7 @@ ghost use Rattle.ipc_words.specs.Limits.{table_slots};
 ghost use Rattle.ipc_waits.specs.Candidates.{FollowsPlace, with_place};
 
 use crate::queue::Wait;
-use ipc_memory::Memory;
+use ipc_base::Memory;
 use ipc_words::limits::TABLE_SLOTS;
 use std::alloc::AllocError;
 use std::marker::Model;

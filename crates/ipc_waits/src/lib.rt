@@ -7,6 +7,7 @@ pub mod finding;
 mod keys;
 mod next;
 mod queue;
+mod row;
 mod waiting;
 mod waits;
 

@@ -9,9 +9,9 @@ ghost use Rattle.ipc_waits.specs.Places.{IsAt, HasHere};
 ghost use Rattle.ipc_waits.specs.declared.queue.Wait.{Wait};
 
 use crate::keys::{Key, wait_of};
-use ipc_memory::Memory;
+use crate::row::Row;
+use ipc_base::Memory;
 use ipc_slots::Standing;
-use ipc_words::limits::TABLE_SLOTS;
 use std::alloc::AllocError;
 use std::marker::Model;
 
@@ -50,7 +50,7 @@ fn end_of(waits: &[Wait], moment: u64) -> usize
     waits.partition_point(|wait| wait.key <= moment)
 }
 
-/// Where a wait goes: behind those that come before it.
+/// Where a wait goes: behind those that come before it. Looks at the last one first.
 fn place_for(waits: &[Wait], wait: &Wait) -> usize
     requires { IsOrdered waits.now }
     ensures within { result ≤ length waits.now }
@@ -58,16 +58,26 @@ fn place_for(waits: &[Wait], wait: &Wait) -> usize
         (λ w. comes_before w wait.now ≡ true)
         (λ w. comes_before w wait.now ≡ false) waits.now result }
 {
+    let len = waits.len();
+    if len == 0 {
+        return 0;
+    }
+    if waits[len - 1].comes_before(wait) {
+        return len;
+    }
     waits.partition_point(|other| other.comes_before(wait))
 }
 
-/// Where a wait stands, if it does.
+/// Where a wait stands, if it does. Looks at the first one first.
 fn place_of(waits: &[Wait], wait: &Wait) -> Option<usize>
     requires { IsOrdered waits.now }
     ensures found { IfSome result (λ index. (index < length waits.now)
         × (slice_index_or waits.now index wait.now ≡ wait.now)) }
     ensures none { IfNone result (is_in waits.now wait.now ≡ false) }
 {
+    if !waits.is_empty() && waits[0] == *wait {
+        return Some(0);
+    }
     let begin = waits.partition_point(|other| !wait.comes_before(other));
     for index in begin..waits.len() {
         if waits[index] == *wait {
@@ -101,11 +111,11 @@ fn least_wait(waits: &[Wait]) -> Option<Wait>
 /// Calls that wait under keys, by rising keys and under one key by rising numbers; of each place at most one.
 #[derive(Drop)]
 pub struct Queue {
-    waits: Vec<Wait>,
+    waits: Row,
 }
 
 impl Model for Queue {
-    ghost use Rattle.std.specs.Prelude.{◌≤◌, List, vec_capacity};
+    ghost use Rattle.std.specs.Prelude.{◌+◌, ◌≤◌, List};
     ghost use Rattle.ipc_words.specs.Limits.{table_slots};
     ghost use Rattle.ipc_waits.specs.Queues.{IsQueue};
     ghost use Rattle.ipc_waits.specs.declared.queue.Wait.{Wait};
@@ -114,7 +124,7 @@ impl Model for Queue {
 
     ghost view = { λ q. q.waits.items };
 
-    ghost invariant = { λ q. IsQueue q.waits.items × (table_slots ≤ vec_capacity q.waits) };
+    ghost invariant = { λ q. IsQueue q.waits.items × (table_slots + table_slots ≤ q.waits.capacity) };
 }
 
 impl Queue {
@@ -124,7 +134,7 @@ impl Queue {
         ensures ample { M.is_ample → IsOk result }
     {
         Ok(Queue {
-            waits: memory.with_capacity(TABLE_SLOTS)?,
+            waits: Row::new(memory)?,
         })
     }
 
@@ -135,9 +145,7 @@ impl Queue {
         ensures { (w : Wait) → is_in self.new w ≡ (is_in self.old w || is_same w wait) }
     {
         let place = place_for(self.waits.as_slice(), &wait);
-        let Ok(()) = self.waits.insert(place, wait) else {
-            unreachable!()
-        };
+        self.waits.insert(place, wait);
     }
 
     /// Takes a wait out, if it is there.

@@ -3,16 +3,22 @@ ghost use Rattle.std.specs.List.{list_any};
 ghost use Rattle.ipc_words.specs.Limits.{last_moment};
 ghost use Rattle.ipc_history.specs.Calls.{numbers};
 ghost use Rattle.ipc_history.specs.Legal.{Follows};
+ghost use Rattle.ipc_history.specs.declared.entry.Entry.TheVariants.{Given};
+ghost use Rattle.ipc_history.specs.declared.entry.Input.TheVariants.{At};
 ghost use Rattle.ipc_history.specs.Timing.{is_due_at};
 ghost use Rattle.ipc_waits.specs.FirstDue.{IsLeastDue};
 ghost use Rattle.ipc_waits.specs.Following.{CanFollow, FollowsChange};
 ghost use Rattle.ipc_waits.specs.Queues.{is_until};
 ghost use Rattle.ipc_waits.specs.Waiting.{IsTouched, IsWaiting};
 
+mod exchange;
+mod passing;
+mod resting;
+
 use crate::candidates::Candidates;
 use crate::waits::Waits;
-use ipc_history::Entry;
-use ipc_memory::Memory;
+use ipc_base::Memory;
+use ipc_history::{Entry, Input};
 use ipc_slots::{Change, Slots};
 use ipc_words::limits::LAST_MOMENT;
 use std::alloc::AllocError;
@@ -81,9 +87,9 @@ impl Waiting {
     }
 
     /// Brings queues and candidates in step with a slot that has changed.
-    fn follow(&mut self, change: Option<Change>)
-        requires { CanFollow self.old change }
-        ensures { FollowsChange self.old self.new change }
+    fn follow(&mut self, change: &Option<Change>)
+        requires { CanFollow self.old change.now }
+        ensures { FollowsChange self.old self.new change.now }
     {
         if let Some(change) = change {
             let after = self.slots.held(change.place);
@@ -94,8 +100,9 @@ impl Waiting {
         }
     }
 
-    /// Takes note of the next entry of the history, which memory may hold at the hint where it enters a call. Takes no memory.
-    pub fn note(&mut self, entry: &Entry, hint: usize)
+    /// Takes note of a moment.
+    fn note_at(&mut self, entry: &Entry, moment: u64)
+        requires entry { entry.now ≡ Given (At moment) }
         requires follows { Follows self.old.slots.past entry.now }
         requires waiting { IsWaiting self.old }
         ensures past { self.new.slots.past ≡ self.old.slots.past ++ entry.now ∷ [] }
@@ -103,9 +110,26 @@ impl Waiting {
     {
         self.touch(entry);
         let _ = self.slots.kept();
+        self.slots.note_at(entry, moment);
+        let _ = self.slots.kept();
+    }
+
+    /// Takes note of the next entry of the history, which memory may hold at the hint where it enters a call. Takes no memory.
+    pub fn note(&mut self, entry: &Entry, hint: usize)
+        requires follows { Follows self.old.slots.past entry.now }
+        requires waiting { IsWaiting self.old }
+        ensures past { self.new.slots.past ≡ self.old.slots.past ++ entry.now ∷ [] }
+        ensures waiting { IsWaiting self.new }
+    {
+        if let Entry::Given(Input::At(moment)) = entry {
+            self.note_at(entry, *moment);
+            return;
+        }
+        self.touch(entry);
+        let _ = self.slots.kept();
         let changes = self.slots.note(entry, hint);
-        self.follow(changes.first);
-        self.follow(changes.second);
+        self.follow(&changes.first);
+        self.follow(&changes.second);
         let _ = self.slots.kept();
     }
 

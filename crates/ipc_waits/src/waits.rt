@@ -5,8 +5,8 @@ ghost use Rattle.ipc_waits.specs.Touching.{waits_touched};
 
 use crate::keys::{Due, Partner, Receiver};
 use crate::queue::{Queue, Wait};
+use ipc_base::Memory;
 use ipc_history::{Entry, Input};
-use ipc_memory::Memory;
 use ipc_slots::Standing;
 use std::alloc::AllocError;
 

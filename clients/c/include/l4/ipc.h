@@ -12,6 +12,8 @@
 #include <l4/thread.h>
 #include <l4/types.h>
 
+L4_BEGIN_C_
+
 static inline L4_Word_t L4_Timeouts(L4_Time_t SndTimeout, L4_Time_t RcvTimeout)
 {
 	return (L4_Word_t) SndTimeout.raw << 16 | RcvTimeout.raw;
@@ -20,6 +22,12 @@ static inline L4_Word_t L4_Timeouts(L4_Time_t SndTimeout, L4_Time_t RcvTimeout)
 /* Sends to `to`, and then receives from FromSpecifier; L4_nilthread leaves a phase out. *from is who sent, L4_nilthread
  * where nothing was received; from may be null. */
 L4_MsgTag_t L4_Ipc(L4_ThreadId_t to, L4_ThreadId_t FromSpecifier, L4_Word_t Timeouts, L4_ThreadId_t *from);
+
+/* L4_Ipc in two parts. The first sends the call: 0, or -1 where it could not be made, as for an L4_Ipc that fails. The second
+ * waits for its outcome, which comes when l4_fd() is readable. Between them the thread has no other call (C10), and the
+ * buffer registers and the buffers stay as they are. l4_disconnect gives the call up. */
+int l4_ipc_begin(L4_ThreadId_t to, L4_ThreadId_t FromSpecifier, L4_Word_t Timeouts);
+L4_MsgTag_t l4_ipc_end(L4_ThreadId_t *from);
 
 static inline L4_Bool_t L4_IpcSucceeded(L4_MsgTag_t t)
 {
@@ -99,10 +107,15 @@ static inline L4_MsgTag_t L4_ReplyWait(L4_ThreadId_t to, L4_ThreadId_t *from)
 	return L4_ReplyWait_Timeout(to, L4_Never, from);
 }
 
+/* L4_Call, made again for so long as no thread of this id is live. */
+L4_MsgTag_t l4_call_wait(L4_ThreadId_t to, L4_Time_t patience);
+
 /* A receive from oneself, which ends by its timeout or a cancel. */
 static inline void L4_Sleep(L4_Time_t t)
 {
 	(void) L4_Receive_Timeout(L4_Myself(), t);
 }
+
+L4_END_C_
 
 #endif

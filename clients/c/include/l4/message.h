@@ -1,16 +1,19 @@
 /* Messages: the tag, message and buffer registers, string items, and what composes them.
  *
  * A message has at most 63 words behind its tag, untyped and typed together. What is appended or put beyond that spoils
- * the message: its tag then counts more than 63 words, so that the Ipc that would send it fails (F4) and sends nothing.
+ * the message: its tag then counts more than 63 words, so that the Ipc that would send it fails (F4) and sends nothing; C11
+ * where what was appended is no string item. A string or buffer of some bytes at a null pointer fails with C12.
  * Registers beyond MR63 or BR32, or before the first, are not there: the next Ipc fails (C2). */
 #ifndef L4_MESSAGE_H
 #define L4_MESSAGE_H
 
 #include <l4/types.h>
 
+L4_BEGIN_C_
+
 /* Tags */
 
-#define L4_Niltag ((L4_MsgTag_t) { 0 })
+#define L4_Niltag L4_MADE_(L4_MsgTag_t, 0)
 
 static inline L4_Bool_t L4_IsMsgTagEqual(L4_MsgTag_t l, L4_MsgTag_t r)
 {
@@ -40,7 +43,7 @@ static inline L4_Word_t L4_TypedWords(L4_MsgTag_t t)
 /* The same tag with another label, of 48 bits. */
 static inline L4_MsgTag_t L4_MsgTagAddLabel(L4_MsgTag_t t, L4_Word_t label)
 {
-	return (L4_MsgTag_t) { (t.raw & 0xffff) | label << 16 };
+	return L4_MADE_(L4_MsgTag_t, (t.raw & 0xffff) | label << 16);
 }
 
 static inline L4_MsgTag_t L4_MsgTagAddLabelTo(L4_MsgTag_t *t, L4_Word_t label)
@@ -114,12 +117,12 @@ L4_Word_t L4_MsgGetStringItem(const L4_Msg_t *msg, L4_Word_t t, L4_StringItem_t 
 
 /* What a receive accepts: BR0, and from BR1 on the buffers of strings */
 
-#define L4_UntypedWordsAcceptor ((L4_Acceptor_t) { 0 })
-#define L4_StringItemsAcceptor ((L4_Acceptor_t) { 1 })
+#define L4_UntypedWordsAcceptor L4_MADE_(L4_Acceptor_t, 0)
+#define L4_StringItemsAcceptor L4_MADE_(L4_Acceptor_t, 1)
 
 static inline L4_Acceptor_t L4_AddAcceptor(L4_Acceptor_t l, L4_Acceptor_t r)
 {
-	return (L4_Acceptor_t) { l.raw | r.raw };
+	return L4_MADE_(L4_Acceptor_t, l.raw | r.raw);
 }
 
 static inline L4_Acceptor_t L4_AddAcceptorTo(L4_Acceptor_t *l, L4_Acceptor_t r)
@@ -129,7 +132,7 @@ static inline L4_Acceptor_t L4_AddAcceptorTo(L4_Acceptor_t *l, L4_Acceptor_t r)
 
 static inline L4_Acceptor_t L4_RemoveAcceptor(L4_Acceptor_t l, L4_Acceptor_t r)
 {
-	return (L4_Acceptor_t) { l.raw & ~r.raw };
+	return L4_MADE_(L4_Acceptor_t, l.raw & ~r.raw);
 }
 
 static inline L4_Acceptor_t L4_RemoveAcceptorFrom(L4_Acceptor_t *l, L4_Acceptor_t r)
@@ -149,7 +152,7 @@ typedef struct {
 } L4_MsgBuffer_t;
 
 void L4_MsgBufferClear(L4_MsgBuffer_t *b);
-/* What does not fit the 32 words, or is no string item, spoils the buffers: the receive that would use them fails (F5). */
+/* What does not fit the 32 words, or is no string item, spoils the buffers: the receive that would use them fails (F5, C11). */
 void L4_MsgBufferAppendSimpleRcvString(L4_MsgBuffer_t *b, L4_StringItem_t s);
 void L4_MsgBufferAppendRcvString(L4_MsgBuffer_t *b, const L4_StringItem_t *s);
 
@@ -164,5 +167,7 @@ void L4_StoreBR(int i, L4_Word_t *w);
 void L4_LoadBR(int i, L4_Word_t w);
 void L4_StoreBRs(int i, int k, L4_Word_t *w);
 void L4_LoadBRs(int i, int k, const L4_Word_t *w);
+
+L4_END_C_
 
 #endif

@@ -6,6 +6,8 @@
 
 #include <l4/types.h>
 
+L4_BEGIN_C_
+
 /* The bytes of the longest name. Names are printable ASCII without the space. */
 enum { L4_NAME_BYTES = 64 };
 
@@ -17,11 +19,16 @@ int l4_register(const char *name);
 /* The live thread that has the name; L4_nilthread with errno ENOENT where there is none, or as l4_register has it. */
 L4_ThreadId_t l4_lookup(const char *name);
 
+/* The same, asked again for so long as no live thread has the name or there is no name server. */
+L4_ThreadId_t l4_lookup_wait(const char *name, L4_Time_t patience);
+
 /* The first name behind `after`, in the order of bytes, and its thread; from "" on, all of them one by one. 1, or 0
  * where there is no further one, or -1 with errno as l4_register has it. name ends with a zero byte. */
 int l4_list(const char *after, char name[L4_NAME_BYTES + 1], L4_ThreadId_t *thread);
 
 /* Asks this thread as name server, in place of the first live one of 255.1 to 255.63. L4_nilthread: that one again. */
 void l4_use_name_server(L4_ThreadId_t server);
+
+L4_END_C_
 
 #endif

@@ -4,8 +4,10 @@
 
 #include <l4/types.h>
 
-#define L4_Never ((L4_Time_t) { 0 })
-#define L4_ZeroTime ((L4_Time_t) { 0x400 })
+L4_BEGIN_C_
+
+#define L4_Never L4_MADE_(L4_Time_t, 0)
+#define L4_ZeroTime L4_MADE_(L4_Time_t, 0x400)
 
 /* The shortest period that is not shorter than so many microseconds; L4_Never where no period is so long, which is
  * above 2,196,875,771,904. */
@@ -29,5 +31,7 @@ L4_Bool_t L4_IsTimeShorter(L4_Time_t l, L4_Time_t r);
 L4_Bool_t L4_IsTimeShorterOrEqual(L4_Time_t l, L4_Time_t r);
 L4_Bool_t L4_IsTimeEqual(L4_Time_t l, L4_Time_t r);
 L4_Bool_t L4_IsTimeNotEqual(L4_Time_t l, L4_Time_t r);
+
+L4_END_C_
 
 #endif

@@ -4,14 +4,16 @@
 
 #include <l4/types.h>
 
-#define L4_nilthread ((L4_ThreadId_t) { 0 })
-#define L4_anythread ((L4_ThreadId_t) { ~(L4_Word_t) 0 })
-#define L4_anylocalthread ((L4_ThreadId_t) { ~(L4_Word_t) 0x3f })
+L4_BEGIN_C_
+
+#define L4_nilthread L4_MADE_(L4_ThreadId_t, 0)
+#define L4_anythread L4_MADE_(L4_ThreadId_t, ~(L4_Word_t) 0)
+#define L4_anylocalthread L4_MADE_(L4_ThreadId_t, ~(L4_Word_t) 0x3f)
 
 /* The id of these two; what does not fit 32 bits is cut off. */
 static inline L4_ThreadId_t L4_GlobalId(L4_Word_t threadno, L4_Word_t version)
 {
-	return (L4_ThreadId_t) { threadno << 32 | (version & 0xffffffff) };
+	return L4_MADE_(L4_ThreadId_t, threadno << 32 | (version & 0xffffffff));
 }
 
 static inline L4_Word_t L4_ThreadNo(L4_ThreadId_t t)
@@ -59,13 +61,18 @@ static inline L4_Bool_t L4_IsGlobalId(L4_ThreadId_t t)
 
 /* Makes the calling thread the L4 thread of this number (1 to 1023) in this space (1 to 64) of the server whose folder
  * is dir: it connects to dir/spaceN. 0, or -1 with errno: that of connect(2) or socket(2); EISCONN where the thread is
- * connected; EINVAL, EADDRINUSE, EADDRNOTAVAIL, ENOMEM, ENOSPC for REFUSED K1 to K5; EPROTO for a FAULT or another
- * answer. The connection, and so the L4 thread, ends with the thread of the process at the latest. */
+ * connected; EINVAL, EADDRINUSE, EADDRNOTAVAIL, ENOMEM, ENOSPC for REFUSED K1 to K5; ETIMEDOUT where the server is full, or
+ * answers nothing for 10 seconds; EPROTO for a FAULT or another answer. The connection, and so the L4 thread, ends with
+ * the thread of the process at the latest. BR0 and VirtualSender begin as 0, whatever they were before. */
 int l4_connect(const char *dir, unsigned space, unsigned number);
 
 /* The same, and the version of the wire that is spoken: 1, which l4_connect speaks, or 2; EINVAL for another one. A server that
  * has version 1 alone answers FAULT F3, so errno is EPROTO and l4_error begins with it: call l4_connect then. */
 int l4_connect_version(const char *dir, unsigned space, unsigned number, unsigned version);
+
+/* The same with the time that it may take: it tries again while nobody listens at the path or the number is that of a live
+ * thread, and waits for an answer, until that time is over; for an answer it waits a second at least. */
+int l4_connect_wait(const char *dir, unsigned space, unsigned number, unsigned version, L4_Time_t patience);
 
 /* What version 2 tells of the last Ipc of the calling thread, also of one that was made for l4/names.h: the number of the
  * call, which is that in the trace of the server, and the moment at which it was over, in microseconds since the server began.
@@ -76,8 +83,14 @@ L4_Bool_t l4_last_call(L4_Word_t *number, L4_Word64_t *moment);
 /* The moment of the last ExchangeRegisters of the calling thread, in the same way. */
 L4_Bool_t l4_last_exchange(L4_Word64_t *moment);
 
-/* Ends the L4 thread. Nothing happens where the calling thread is none. */
+/* Ends the L4 thread, and waits until the server has ended it, for a second at most. Nothing happens where the calling
+ * thread is none. A forked child is none: it may connect, and its parent's threads go on. No function of this library may
+ * be called from a signal handler. */
 void l4_disconnect(void);
+
+/* The descriptor of the connection, for poll and its like alone; -1 where the calling thread is not connected. It is
+ * readable where the outcome of l4_ipc_begin comes, and, with no call begun, where the connection has ended. */
+int l4_fd(void);
 
 /* Why the last call of this thread that failed did so: the phase and error of an Ipc, the number of a refusal or
  * fault, or what was wrong with the connection. "no error" before the first. It stands until the next call of
@@ -128,5 +141,7 @@ static inline L4_Bool_t L4_ThreadWasIpcing(L4_ThreadState_t s)
 {
 	return (s.raw & 0x6) != 0;
 }
+
+L4_END_C_
 
 #endif

@@ -5,6 +5,19 @@
 #include <stdbool.h>
 #include <stdint.h>
 
+/* A value of a type of one member, in C and in C++; and what stands around declarations for both. */
+#ifdef __cplusplus
+#define L4_MADE_(type, value) (type { value })
+#define L4_BEGIN_C_ extern "C" {
+#define L4_END_C_ }
+#else
+#define L4_MADE_(type, value) ((type) { value })
+#define L4_BEGIN_C_
+#define L4_END_C_
+#endif
+
+L4_BEGIN_C_
+
 typedef uint8_t L4_Word8_t;
 typedef uint16_t L4_Word16_t;
 typedef uint32_t L4_Word32_t;
@@ -32,5 +45,7 @@ typedef struct {
 typedef struct {
 	L4_Word_t raw;
 } L4_Acceptor_t;
+
+L4_END_C_
 
 #endif

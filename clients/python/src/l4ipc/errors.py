@@ -1,13 +1,31 @@
 """What a call raises."""
 
+from dataclasses import dataclass
+from itertools import accumulate
 from typing import Optional, Tuple
+
+from . import protocol
+from .words import NILTHREAD, ThreadId
 
 SEND = "send"
 RECEIVE = "receive"
 
 
 class L4Error(Exception):
-    """Anything that a call of this package raises, but for wrong arguments."""
+    """Anything that a call of this package raises, but for wrong arguments, and for an ``OSError`` where it cannot connect."""
+
+
+@dataclass(frozen=True)
+class Circumstances:
+    """Of which call an error is: the thread, its partners, and the lengths of the strings that it sent."""
+
+    own: ThreadId = NILTHREAD
+    to: ThreadId = NILTHREAD
+    from_specifier: ThreadId = NILTHREAD
+    lengths: Tuple[int, ...] = ()
+
+
+_UNKNOWN = Circumstances()
 
 
 class IpcError(L4Error):
@@ -16,50 +34,95 @@ class IpcError(L4Error):
     ``phase`` is ``"send"`` or ``"receive"``. Where the send phase failed no receive phase took place. ``code`` is the word of the
     ErrorCode, and ``offset`` its offset: a number of bytes for `Overflow` and `Aborted`, else 0. ``call`` and ``moment`` are the number
     of the call and the moment at which it was over, in microseconds of the server; in version 1 of the wire they are ``None``.
+
+    ``thread`` is whose call it was, ``partner`` with whom its phase was: the thread that was sent to, or the FromSpecifier. ``delivered``
+    says whether the message of the call was delivered. Of a phase that failed nothing is.
     """
 
     text = "an error that has no name"
 
-    def __init__(self, code: int, call: Optional[int] = None, moment: Optional[int] = None) -> None:
+    def __init__(self, code: int, call: Optional[int] = None, moment: Optional[int] = None, of: Circumstances = _UNKNOWN) -> None:
         self.code = code
         self.call = call
         self.moment = moment
         self.phase = RECEIVE if code & 1 else SEND
         self.offset = code >> 4
+        self.thread = of.own
+        self.partner = of.from_specifier if self.phase == RECEIVE else of.to
+        self.delivered = self.phase == RECEIVE and of.to != NILTHREAD
+        self.waited: Optional[float] = None
+        self._of = of
         super().__init__(code)
 
     def __str__(self) -> str:
-        return f"{self.phase} phase: {self.text} (error {self.code:#x})"
+        way = "from" if self.phase == RECEIVE else "to"
+        who = f"{self.phase} phase {way} {self.partner}" if self.partner else f"{self.phase} phase"
+        own = f"{self.thread}: " if self.thread else ""
+        waited = "" if self.waited is None else f", after waiting for {self.waited:g} seconds"
+        return f"{own}{who}: {self.text} (error {self.code:#x}){self._details()}{waited}; {self._delivery()}"
+
+    def _details(self) -> str:
+        return ""
+
+    def _delivery(self) -> str:
+        if self.phase == SEND:
+            return "nothing was delivered"
+        return "the message was delivered, and no answer came" if self.delivered else "nothing was received"
 
 
 class Timeout(IpcError):
     """The timeout of the phase expired (e = 1)."""
 
-    text = "timeout"
+    text = protocol.ERRORS[protocol.E_TIMEOUT]
 
 
 class NoPartner(IpcError):
-    """The partner does not exist, or ended while the phase waited for it (e = 2)."""
+    """The partner does not exist, or ended while the phase waited for it (e = 2).
 
-    text = "non-existing partner"
+    ``waited`` is how many seconds the call waited for it, where it was asked to.
+    """
+
+    text = protocol.ERRORS[protocol.E_NON_EXISTING_PARTNER]
+
+    def _details(self) -> str:
+        if not self.partner:
+            return ""
+        if self.partner == self.thread:
+            return ", since that is the thread itself"
+        if not self.partner.number or not self.partner.version:
+            return f", since that is no id of a thread: ThreadId.of({int(self.partner) & 0x3FF}, 1) makes one of a number"
+        return ""
 
 
 class Cancelled(IpcError):
     """Another thread cancelled the phase by ExchangeRegisters (e = 3)."""
 
-    text = "cancelled by another thread"
+    text = protocol.ERRORS[protocol.E_CANCELLED]
 
 
 class Overflow(IpcError):
     """The message does not fit what the receiver accepts (e = 4). Nothing of it was delivered, and both partners are told.
 
-    ``offset`` is how many bytes the leading strings have that fit.
+    ``offset`` is how many bytes the leading strings have that fit. ``string`` is the number of the first one that does not, counted from 1,
+    where that is known: for who sent them.
     """
 
-    text = "message overflow"
+    text = protocol.ERRORS[protocol.E_MESSAGE_OVERFLOW]
 
-    def __str__(self) -> str:
-        return f"{super().__str__()} at byte {self.offset}"
+    @property
+    def string(self) -> Optional[int]:
+        """The number of the string that did not fit, counted from 1. Of empty strings and the one behind them it is the last."""
+        if self.phase == RECEIVE:
+            return None
+        before = [0, *accumulate(self._of.lengths)]
+        places = [place for place in range(1, len(before)) if before[place - 1] == self.offset]
+        return places[-1] if places else None
+
+    def _details(self) -> str:
+        if self.string is None:
+            return f": a string did not fit the buffers, behind {self.offset} bytes that did"
+        length = self._of.lengths[self.string - 1]
+        return f": string {self.string}, of {length} bytes, did not fit the receiver's buffers"
 
 
 class Aborted(IpcError):
@@ -68,41 +131,36 @@ class Aborted(IpcError):
     ``bytes`` is how many bytes were copied.
     """
 
-    text = "aborted by another thread"
+    text = protocol.ERRORS[protocol.E_ABORTED]
 
     @property
     def bytes(self) -> int:
         """How many bytes were copied."""
         return self.offset
 
-    def __str__(self) -> str:
-        return f"{super().__str__()} after {self.offset} bytes"
+    def _details(self) -> str:
+        return f" after {self.offset} bytes"
 
 
 class Refused(L4Error):
     """The kernel refused the command, and nothing changed: the number after K. The thread goes on."""
 
-    MEANINGS = {
-        1: "no thread number of 1 to 1,023",
-        2: "a thread of that number is live",
-        3: "the versions of the number are used up",
-        4: "no memory",
-        5: "the history has no room",
-        6: "the thread is not live",
-        7: "the thread has an open call",
-        8: "the number of the call would pass its limit",
-    }
+    MEANINGS = protocol.REFUSALS
 
-    def __init__(self, number: int) -> None:
+    def __init__(self, number: int, about: str = "") -> None:
         self.number = number
-        super().__init__(number)
+        self.about = about
+        super().__init__(number, about)
 
     def __str__(self) -> str:
-        return f"refused K{self.number}: {self.MEANINGS.get(self.number, 'unknown')}"
+        about = f"{self.about}: " if self.about else ""
+        return f"{about}refused K{self.number}: {self.MEANINGS.get(self.number, 'unknown')}"
 
 
 class Fault(L4Error):
     """The server found a fault, and ended the thread: the class is ``"K"``, ``"F"`` or ``"S"``, as in K7, F3 or S1."""
+
+    MEANINGS = {"K": protocol.REFUSALS, "F": protocol.FAULTS, "S": protocol.SESSION_ENDS}
 
     def __init__(self, letter: str, number: int) -> None:
         self.letter = letter
@@ -110,7 +168,8 @@ class Fault(L4Error):
         super().__init__(letter, number)
 
     def __str__(self) -> str:
-        return f"fault {self.letter}{self.number}: the thread is ended"
+        meaning = self.MEANINGS[self.letter].get(self.number, "unknown")
+        return f"fault {self.letter}{self.number}, and the thread is ended: {meaning}"
 
 
 class Closed(L4Error):
@@ -121,19 +180,20 @@ class BadFrame(L4Error):
     """The server sent what is no frame, or no answer to this call. The thread is closed."""
 
 
-_KINDS = {1: Timeout, 2: NoPartner, 3: Cancelled, 4: Overflow, 7: Aborted}
+_KINDS = {
+    protocol.E_TIMEOUT: Timeout,
+    protocol.E_NON_EXISTING_PARTNER: NoPartner,
+    protocol.E_CANCELLED: Cancelled,
+    protocol.E_MESSAGE_OVERFLOW: Overflow,
+    protocol.E_ABORTED: Aborted,
+}
 
 
-def ipc_error(code: int, call: Optional[int] = None, moment: Optional[int] = None) -> IpcError:
+def ipc_error(code: int, call: Optional[int] = None, moment: Optional[int] = None, of: Circumstances = _UNKNOWN) -> IpcError:
     """The exception of an ErrorCode."""
-    return _KINDS.get(code >> 1 & 7, IpcError)(code, call, moment)
-
-
-def kinds() -> Tuple[type, ...]:
-    """The exceptions of the ErrorCodes that have a name."""
-    return tuple(_KINDS.values())
+    return _KINDS.get(code >> 1 & 7, IpcError)(code, call, moment, of)
 
 
 def fault(letter: int, number: int) -> Optional[Fault]:
     """The exception of a FAULT frame; ``None`` where there is no such class."""
-    return Fault(chr(letter), number) if letter in (0x4B, 0x46, 0x53) else None
+    return Fault(chr(letter), number) if letter in protocol.CLASSES else None

@@ -2,33 +2,33 @@
 
 import struct
 from dataclasses import dataclass
-from typing import List, Optional, Sequence, Tuple, Union
+from typing import List, NamedTuple, Optional, Sequence, Tuple, Union
 
+from . import arguments, protocol
 from .errors import BadFrame
-from .message import Bytes
+from .message import Bytes, Encoded, Received
+from .protocol import (
+    BYE, BYE_BODY, EXREG, EXREG_BODY, EXREG_FIELDS, EXREGR, EXREGR_2, EXREGR_2_FIELDS, EXREGR_FIELDS, HELLO, HELLO_2_BODY, HELLO_2_FIELDS,
+    HELLO_BODY, HELLO_FIELDS, IPC, IPC_BODY, IPC_FIELDS, IPCR, IPCR_2, IPCR_2_FIELDS, IPCR_FIELDS, PIECE_FIELDS, REFUSED, VERSIONS, WELCOME,
+)
 from .words import MAX_MESSAGE_WORDS, ThreadId
 
-MAX_BODY = 2_097_152
+MAX_BODY = protocol.MAX_BODY_BYTES
 """How many bytes the body of a frame has at most."""
 
-HELLO, IPC, EXREG, BYE = 0x01, 0x02, 0x03, 0x04
-WELCOME, IPCR, EXREGR, REFUSED, FAULT = 0x81, 0x82, 0x83, 0x84, 0x85
-IPCR_2, EXREGR_2 = 0x86, 0x87
-"""What version 2 has in the place of IPCR and EXREGR."""
-
-VERSIONS = (1, 2)
-
-_IPC_HEAD = struct.Struct(">IBQQIQQQB")
-_IPCR_HEAD = struct.Struct(">QQQQ")
-_TIMES = struct.Struct(">QQ")
-_PIECE = struct.Struct(">QI")
-_LENGTHS = {WELCOME: 9, EXREGR: 25, EXREGR_2: 33, REFUSED: 2, FAULT: 3}
-_IPCR_LEAST = {IPCR: 34, IPCR_2: 50}
-_OF_ANOTHER_VERSION = {1: (IPCR_2, EXREGR_2), 2: (IPCR, EXREGR)}
+_IPC_HEAD = struct.Struct(f">IB{IPC_FIELDS}")
+_IPCR_HEAD = struct.Struct(f">{IPCR_FIELDS}")
+_IPCR_2_HEAD = struct.Struct(f">{IPCR_2_FIELDS}")
+_PIECE = struct.Struct(f">{PIECE_FIELDS}")
+_received = tuple.__new__
+PLAIN_CALLS = [(struct.Struct(f">IB{IPC_FIELDS}{count}Q").pack, IPC_BODY + 8 * count) for count in range(MAX_MESSAGE_WORDS + 1)]
+"""Of calls that have so many untyped words alone and accept no strings: what packs the whole frame, and the body length."""
+# Of outcomes that have so many untyped words and no pieces, by their lengths: the form of the whole frame, and the body length and the words.
+_PLAIN_FORMS = [struct.Struct(f">IB{IPCR_FIELDS}{count}QB") for count in range(MAX_MESSAGE_WORDS + 1)]
+_PLAIN_OUTCOMES = {form.size: (form.unpack, form.size - 4, count) for count, form in enumerate(_PLAIN_FORMS)}
 
 
-@dataclass(frozen=True)
-class Outcome:
+class Outcome(NamedTuple):
     """An IPCR frame: what became of a call. In version 2 with the number of the call, and the moment at which it was over."""
 
     tag: int
@@ -78,61 +78,52 @@ Answer = Union[Welcome, Outcome, Exchanged, Refusal, FaultTold]
 
 def hello(number: int, version: int = 1) -> bytes:
     """HELLO: asks for the thread of a number, and for answers of a version."""
-    if not 0 <= number < 1 << 16:
-        raise ValueError(f"{number} is no number of 16 bits")
-    if version not in VERSIONS:
-        raise ValueError(f"the wire has versions 1 and 2, and not {version}")
+    number = arguments.integer("number", number, 0, (1 << 16) - 1)
+    version = arguments.integer("version", version, VERSIONS[0], VERSIONS[-1])
     if version == 1:
-        return struct.pack(">IBH", 3, HELLO, number)
-    return struct.pack(">IBHH", 5, HELLO, number, version)
+        return struct.pack(f">IB{HELLO_FIELDS}", HELLO_BODY, HELLO, number)
+    return struct.pack(f">IB{HELLO_2_FIELDS}", HELLO_2_BODY, HELLO, number, version)
 
 
 def bye() -> bytes:
     """BYE: no more frames come."""
-    return struct.pack(">IB", 1, BYE)
+    return struct.pack(">IB", BYE_BODY, BYE)
 
 
 def exreg(dest: int, control: int) -> bytes:
     """EXREG: ExchangeRegisters."""
-    return struct.pack(">IBQQ", 17, EXREG, dest, control)
+    return struct.pack(f">IB{EXREG_FIELDS}", EXREG_BODY, EXREG, dest, control)
 
 
-def ipc(
-    to: int,
-    from_specifier: int,
-    timeouts: int,
-    virtual_sender: int,
-    tag: int,
-    acceptor: int,
-    registers: Sequence[int],
-    buffer_words: Sequence[int],
-    payload: Bytes,
-) -> bytes:
+def ipc(to: int, from_specifier: int, timeouts: int, message: Encoded, acceptor: int, buffer_words: Sequence[int]) -> bytes:
     """IPC: one Ipc system call."""
-    words = len(registers) + len(buffer_words)
-    body = 46 + 8 * words + len(payload)
-    head = _IPC_HEAD.pack(body, IPC, to, from_specifier, timeouts, virtual_sender, tag, acceptor, len(buffer_words))
-    return b"".join((head, struct.pack(f">{words}Q", *registers, *buffer_words), payload))
+    tag, originator, registers, payload = message
+    count = len(buffer_words)
+    body = IPC_BODY + len(registers) + 8 * count + len(payload)
+    head = _IPC_HEAD.pack(body, IPC, to, from_specifier, timeouts, originator, tag, acceptor, count)
+    if not count:
+        return head + registers + payload
+    return b"".join((head, registers, struct.pack(f">{count}Q", *buffer_words), payload))
 
 
 def body_length(head: bytes) -> int:
     """The body length that the first four bytes of a frame say."""
-    (length,) = struct.unpack(">I", head)
+    length = int.from_bytes(head[:4], "big")
     if length == 0:
         raise BadFrame("a frame without a body")
     if length > MAX_BODY:
         raise BadFrame(f"a body of {length} bytes")
-    return int(length)
+    return length
 
 
 def check_kind(kind: int, length: int, version: int = 1) -> None:
     """Looks whether a body of this kind may come in this version, and have this length."""
-    if kind in _OF_ANOTHER_VERSION[version]:
+    if kind in protocol.OF_ANOTHER_VERSION[version]:
         raise BadFrame(f"a frame of kind {kind:#x}, which version {version} does not have")
-    if kind in _IPCR_LEAST:
-        fits = length >= _IPCR_LEAST[kind]
-    elif kind in _LENGTHS:
-        fits = length == _LENGTHS[kind]
+    if kind in protocol.LEAST_LENGTHS:
+        fits = length >= protocol.LEAST_LENGTHS[kind]
+    elif kind in protocol.LENGTHS:
+        fits = length == protocol.LENGTHS[kind]
     else:
         raise BadFrame(f"a frame of kind {kind:#x}")
     if not fits:
@@ -145,29 +136,48 @@ def read(body: Bytes, version: int = 1) -> Answer:
     check_kind(body[0], len(body), version)
     kind = body[0]
     if kind == IPCR:
-        return _outcome(body[1:])
+        return _outcome(body[1 + _IPCR_HEAD.size :], None, None, *_IPCR_HEAD.unpack_from(body, 1))
     if kind == IPCR_2:
-        return _outcome(body[1 + _TIMES.size :], *_TIMES.unpack_from(body, 1))
+        return _outcome(body[1 + _IPCR_2_HEAD.size :], *_IPCR_2_HEAD.unpack_from(body, 1))
     if kind == WELCOME:
         return Welcome(ThreadId.from_bytes(body[1:9], "big"))
-    if kind in (EXREGR, EXREGR_2):
-        *moment, result, control, code = struct.unpack(f">{len(body) // 8}Q", body[1:])
-        return Exchanged(ThreadId(result), control, code, *moment)
+    if kind == EXREGR:
+        result, control, code = struct.unpack(f">{EXREGR_FIELDS}", body[1:])
+        return Exchanged(ThreadId(result), control, code)
+    if kind == EXREGR_2:
+        moment, result, control, code = struct.unpack(f">{EXREGR_2_FIELDS}", body[1:])
+        return Exchanged(ThreadId(result), control, code, moment)
     if kind == REFUSED:
         return Refusal(body[1])
     return FaultTold(body[1], body[2])
 
 
-def _outcome(body: memoryview, call: Optional[int] = None, moment: Optional[int] = None) -> Outcome:
-    tag, sender, actual_sender, error = _IPCR_HEAD.unpack_from(body)
+def plain_received(data: bytes) -> Optional[Received]:
+    """The message that these bytes bring, if they are one outcome of version 1 that did not fail, and has untyped words alone; else ``None``."""
+    form = _PLAIN_OUTCOMES.get(len(data))
+    if form is None:
+        return None
+    unpack, body, count = form
+    fields = unpack(data)
+    tag = fields[2]
+    # the lower half of the tag has the number of untyped words, and behind it typed words and the flags
+    if tag & 0xFFFF != count or fields[1] != IPCR or fields[0] != body or fields[-1]:
+        return None
+    return _received(Received, (ThreadId(fields[3]), tag >> 16, fields[6:-1], (), None, None, None))
+
+
+def _outcome(
+    tail: memoryview, call: Optional[int], moment: Optional[int], tag: int, sender: int, actual_sender: int, error: int
+) -> Outcome:
+    """The outcome of these fields, and of the words and pieces behind them."""
     count = (tag & 0x3F) + (tag >> 6 & 0x3F)
     if count > MAX_MESSAGE_WORDS:
         raise BadFrame(f"a tag of {count} words")
-    place = _IPCR_HEAD.size + 8 * count
-    if place >= len(body):
+    place = 8 * count
+    if place >= len(tail):
         raise BadFrame("an outcome that is too short for its words")
-    words = struct.unpack_from(f">{count}Q", body, _IPCR_HEAD.size)
-    pieces = _pieces(body[place + 1 :], body[place])
+    words = struct.unpack_from(f">{count}Q", tail)
+    pieces = _pieces(tail[place + 1 :], tail[place])
     return Outcome(tag, ThreadId(sender), ThreadId(actual_sender), error, words, pieces, call, moment)
 
 

@@ -1,20 +1,34 @@
 """Messages, and the buffers for their strings."""
 
+import struct
 from dataclasses import dataclass
-from typing import List, Optional, Sequence, Tuple, Union
+from typing import List, NamedTuple, NoReturn, Optional, Sequence, Tuple, Union
 
-from .words import MAX_BUFFER_WORDS, MAX_LABEL, MAX_MESSAGE_WORDS, MAX_STRING_BYTES, WORD_LIMIT, ThreadId
+from . import arguments
+from .words import MAX_BUFFER_WORDS, MAX_LABEL, MAX_MESSAGE_WORDS, MAX_STRING_BYTES, NILTHREAD, WORD_LIMIT, ThreadId
 
 Bytes = Union[bytes, bytearray, memoryview]
 Part = Union[int, bytearray, memoryview]
 Buffer = Union[Part, Sequence[Part]]
 """A buffer string: its size in bytes, memory to fill, or a sequence of such parts, its substrings."""
 
+_NOTHING: Tuple[()] = ()
 PROPAGATED = 0x1000
 FAILED = 0x8000
 
+_WORDS = [struct.Struct(f">{count}Q") for count in range(MAX_MESSAGE_WORDS + 1)]
 
-@dataclass(frozen=True)
+
+class Encoded(NamedTuple):
+    """A message as the wire has it: its tag, the VirtualSender, the bytes of the words from MR1 on, and those of all strings."""
+
+    tag: int
+    originator: int
+    registers: bytes
+    payload: bytes
+
+
+@dataclass(frozen=True, init=False)
 class Message:
     """A message to send: a label, untyped words (MR1 on), and strings.
 
@@ -29,37 +43,73 @@ class Message:
     strings: Sequence[Bytes] = ()
     originator: Optional[int] = None
 
-    def tag(self) -> int:
-        """The message tag, MR0."""
-        typed = 2 * len(self.strings)
-        if not 0 <= self.label <= MAX_LABEL:
-            raise ValueError("a label has 48 bits")
-        if len(self.words) + typed > MAX_MESSAGE_WORDS:
-            raise ValueError(f"{len(self.words)} words and {len(self.strings)} strings are more than 63 message registers")
-        flag = 0 if self.originator is None else PROPAGATED
-        return self.label << 16 | flag | typed << 6 | len(self.words)
+    def __init__(
+        self, label: int = 0, words: Sequence[int] = (), strings: Sequence[Bytes] = (), originator: Optional[int] = None
+    ) -> None:
+        parts = self.__dict__  # (as a frozen dataclass does, in less time; what is not given is the default of the class)
+        parts["label"] = label
+        parts["words"] = words
+        if strings is not _NOTHING:
+            parts["strings"] = strings
+        if originator is not None:
+            parts["originator"] = originator
 
-    def registers(self) -> List[int]:
-        """The words from MR1 on: the untyped words, then a simple string item for each string."""
-        for word in self.words:
-            if not 0 <= word < WORD_LIMIT:
-                raise ValueError(f"{word} is no word of 64 bits")
-        items, place = [], 0
-        for string in self.strings:
-            length = memoryview(string).nbytes
-            items += [length << 10, place]
+    def encoded(self) -> Encoded:
+        """The message as the wire has it. A TypeError or a ValueError says why it cannot be sent."""
+        if self.strings or self.originator is not None:
+            return self._encoded_whole()
+        words, label = self.words, self.label
+        try:
+            if label < 0 or label > MAX_LABEL or isinstance(words, (bytes, bytearray)):
+                self._refuse()
+            return Encoded(label << 16 | len(words), NILTHREAD, _WORDS[len(words)].pack(*words), b"")
+        except (struct.error, TypeError, IndexError, AttributeError):
+            self._refuse()
+
+    def _encoded_whole(self) -> Encoded:
+        """The same of a message of any kind: each part of it is looked at."""
+        label = arguments.integer("label", self.label, 0, MAX_LABEL)
+        words = [arguments.integer(f"words[{place}]", word, 0, WORD_LIMIT - 1, "an int of 64 bits is")
+                 for place, word in enumerate(arguments.sequence("words", self.words, "ints"))]
+        lengths = self.lengths()
+        if len(words) + 2 * len(lengths) > MAX_MESSAGE_WORDS:
+            raise ValueError(f"words, strings: {len(words)} words and {len(lengths)} strings are more than {MAX_MESSAGE_WORDS} message registers")
+        place = 0
+        for length in lengths:
+            words += [length << 10, place]
             place += length
         if place > MAX_STRING_BYTES:
-            raise ValueError(f"the strings have {place} bytes, which is more than {MAX_STRING_BYTES}")
-        return [*self.words, *items]
+            raise ValueError(f"strings: they have {place} bytes, which is more than {MAX_STRING_BYTES}")
+        flag = 0 if self.originator is None else PROPAGATED
+        originator = 0 if self.originator is None else arguments.thread_id("originator", self.originator)
+        tag = label << 16 | flag | 2 * len(lengths) << 6 | len(words) - 2 * len(lengths)
+        return Encoded(tag, originator, _WORDS[len(words)].pack(*words), b"".join(self.strings))
 
-    def payload(self) -> bytes:
-        """The bytes of all strings, end to end."""
-        return b"".join(self.strings)
+    def _refuse(self) -> NoReturn:
+        """Says what is wrong with a message that cannot be sent."""
+        self._encoded_whole()
+        raise ValueError(f"message: {self!r} cannot be sent")
+
+    def tag(self) -> int:
+        """The message tag, MR0."""
+        return self.encoded().tag
+
+    def lengths(self) -> Tuple[int, ...]:
+        """The lengths of the strings."""
+        return tuple(_length(place, string) for place, string in enumerate(arguments.sequence("strings", self.strings, "bytes")))
 
 
-@dataclass(frozen=True)
-class Received:
+def _length(place: int, string: object) -> int:
+    try:
+        memory = memoryview(string)  # type: ignore[arg-type]
+    except TypeError:
+        raise arguments.wanted(f"strings[{place}]", "bytes are", string) from None
+    if not memory.c_contiguous:
+        raise ValueError(f"strings[{place}]: its bytes do not lie in one piece")
+    return memory.nbytes
+
+
+class Received(NamedTuple):
     """A message that was received.
 
     ``sender`` is the thread that is shown as its sender, to whom a reply goes. ``actual_sender`` is who sent it where it was propagated,
@@ -86,18 +136,18 @@ class BufferStrings:
 
     def __init__(self, buffers: Sequence[Buffer]) -> None:
         self.strings: List[List[Tuple[int, int, Optional[memoryview]]]] = []
-        self._given = list(buffers)
+        self._given = list(arguments.sequence("buffers", buffers, "buffers"))
         place = 0
-        for buffer in self._given:
+        for number, buffer in enumerate(self._given):
             parts = []
-            for part in _parts(buffer):
-                length, memory = _memory(part)
+            for part in _parts(f"buffers[{number}]", buffer):
+                length, memory = _memory(f"buffers[{number}]", part)
                 parts.append((place, length, memory))
                 place += length
             self.strings.append(parts)
         self.words = [word for parts in self.strings for word in _item(parts)]
         if len(self.words) > MAX_BUFFER_WORDS:
-            raise ValueError(f"the buffers take {len(self.words)} words, which is more than {MAX_BUFFER_WORDS} buffer registers")
+            raise ValueError(f"buffers: they take {len(self.words)} words, which is more than {MAX_BUFFER_WORDS} buffer registers")
 
     @property
     def acceptor(self) -> int:
@@ -125,7 +175,7 @@ class BufferStrings:
 
     def fill(self, lengths: Sequence[int], data: Bytes) -> Tuple[Union[bytes, memoryview], ...]:
         """Puts strings of these lengths, which lie end to end in the data, into the memory of the buffers, and answers them."""
-        data, taken, strings = memoryview(data), 0, []
+        taken, strings, data = 0, [], memoryview(data)
         for place, whole in enumerate(lengths):
             string, filled = data[taken : taken + whole], 0
             taken += whole
@@ -135,29 +185,35 @@ class BufferStrings:
                     memory[: len(piece)] = piece
                 filled += len(piece)
             only = self.strings[place][0][2]
-            is_memory = isinstance(self._given[place], (bytearray, memoryview))
+            is_memory = not isinstance(self._given[place], (list, tuple))
             strings.append(only[:whole] if is_memory and only is not None else bytes(string))
         return tuple(strings)
 
 
-def _parts(buffer: Buffer) -> List[Part]:
-    if isinstance(buffer, (int, bytearray, memoryview)):
+NO_BUFFERS = BufferStrings(())
+
+
+def _parts(name: str, buffer: object) -> Sequence[object]:
+    """The parts of a buffer: a list or a tuple has some, anything else is one."""
+    if not isinstance(buffer, (list, tuple)):
         return [buffer]
-    parts = list(buffer)
-    if not parts:
-        raise ValueError("a buffer string without a part")
-    return parts
+    if not buffer:
+        raise ValueError(f"{name}: a buffer string without a part")
+    return buffer
 
 
-def _memory(part: Part) -> Tuple[int, Optional[memoryview]]:
+def _memory(name: str, part: object) -> Tuple[int, Optional[memoryview]]:
     """The length of a part, and its memory where it brings some."""
-    if isinstance(part, int):
-        if not 0 <= part < 1 << 54:
-            raise ValueError(f"a buffer of {part} bytes")
-        return part, None
-    memory = memoryview(part)
+    if hasattr(part, "__index__"):
+        return arguments.integer(name, part, 0, (1 << 54) - 1), None
+    try:
+        memory = memoryview(part)  # type: ignore[arg-type]
+    except TypeError:
+        raise arguments.wanted(name, "a size, a bytearray, a memoryview, or a list of these is", part) from None
     if memory.readonly:
-        raise ValueError("a buffer that cannot be written")
+        raise ValueError(f"{name}: {type(part).__name__} cannot be written; a buffer is a size or a bytearray")
+    if not memory.c_contiguous:
+        raise ValueError(f"{name}: its bytes do not lie in one piece")
     memory = memory.cast("B")
     return len(memory), memory
 

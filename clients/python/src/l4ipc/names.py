@@ -1,12 +1,19 @@
 """Names: who has one, and which thread is live. docs/NAMES.md has the words of the name server."""
 
+import re
 import time
-from typing import Dict, List, Optional, Tuple
+from typing import TYPE_CHECKING, Dict, List, Optional, Tuple
 
-from .errors import IpcError, L4Error, NoPartner
-from .message import Message, Received
-from .thread import Thread
-from .words import NILTHREAD, ThreadId
+from . import arguments, protocol, steps
+from .errors import SEND, Circumstances, IpcError, L4Error, NoPartner, Refused, Timeout
+from .message import Buffer, Message, Received
+from .steps import Ipc, Pause, Steps
+from .waiting import pauses
+from .words import NILTHREAD, ThreadId, timeouts
+
+if TYPE_CHECKING:
+    from .caller import Caller
+    from .thread import Thread
 
 NUMBER = 255
 """The thread number of a name server."""
@@ -14,10 +21,18 @@ NUMBER = 255
 MAX_VERSION = 63
 """Up to which version a thread is looked for."""
 
-MAX_NAME_BYTES = 64
+MAX_NAME_BYTES = protocol.MAX_NAME_BYTES
 """How many bytes a name has at most."""
 
+KEPT_FOR = 5.0
+"""After how many seconds a server registers its names again, so that a name server that was started again knows them."""
+
+AGAIN_AFTER = 1.0
+"""After how many seconds it tries again where there is no name server."""
+
 REGISTER, LOOK_UP, LIST = 1, 2, 3
+
+_IS_AN_ID = re.compile(r"[0-9]+(\.[0-9]+)?")
 
 
 class NameFault(L4Error):
@@ -27,7 +42,7 @@ class NameFault(L4Error):
     """
 
     BAD_REQUEST, BAD_NAME, TAKEN, FULL, NO_MEMORY = 1, 2, 3, 4, 5
-    MEANINGS: Dict[int, str] = {1: "bad request", 2: "bad name", 3: "taken", 4: "full", 5: "no memory"}
+    MEANINGS: Dict[int, str] = protocol.NAME_ERRORS
 
     def __init__(self, number: int, holder: ThreadId = NILTHREAD) -> None:
         self.number = number
@@ -35,23 +50,196 @@ class NameFault(L4Error):
         super().__init__(number, holder)
 
     def __str__(self) -> str:
-        return f"the name server answered: {self.MEANINGS.get(self.number, f'error {self.number}')}"
+        by = f" by {self.holder}" if self.holder else ""
+        return f"the name server answered: {self.MEANINGS.get(self.number, f'error {self.number}')}{by}"
 
 
 class NoNames(L4Error):
     """No name server was found."""
 
     def __str__(self) -> str:
-        return f"no thread of number {NUMBER} and of a version up to {MAX_VERSION} is live"
+        return f"no name server is there (a live thread of number {NUMBER}, of a version up to {MAX_VERSION}): start l4x DIR names"
 
 
-def is_live(thread: Thread, other: int) -> bool:
-    """Whether a thread is live: asked by a closed receive from it with zero time, of which it notices nothing.
+class Unregistered(NoPartner):
+    """The name that a message was to go to is nobody's. Nothing was sent."""
 
-    A message that it is just sending to this thread is received and lost; so ask only for threads that do not.
-    """
+    def __init__(self, own: ThreadId, name: str) -> None:
+        super().__init__(0x4, of=Circumstances(own))
+        self.name = name
+
+    def _details(self) -> str:
+        return f": nobody has registered {self.name}"
+
+
+class Kept:
+    """The names that a thread has registered for itself, to be registered again, and the threads that it has found by their names."""
+
+    def __init__(self) -> None:
+        self.names: Dict[str, None] = {}
+        self.found: Dict[str, ThreadId] = {}
+        self.again_at = 0.0
+        self.is_busy = False
+
+    def registered(self, name: str) -> None:
+        """The name is this thread's."""
+        self.names[name] = None
+        self.again_at = time.monotonic() + KEPT_FOR
+
+    def is_due(self) -> bool:
+        """Whether it is time to register the names again."""
+        return bool(self.names) and not self.is_busy and time.monotonic() >= self.again_at
+
+    def restart(self) -> None:
+        """The thread is a new one: it has no name yet, and nobody whom it knew is there."""
+        self.found.clear()
+        self.again_at = 0.0
+
+
+class Book:
+    """What is known of the name server, and what it is asked for, as steps."""
+
+    def __init__(self, thread: "Caller", server: Optional[int] = None, timeout: Optional[float] = None) -> None:
+        self._thread = thread
+        self._life = thread.lives
+        self._timeout = arguments.seconds_or_none("timeout", timeout)
+        self.server = None if server is None else ThreadId(server)
+
+    def ask(self, label: int, name: bytes, originator: Optional[int] = None) -> Steps[Received]:
+        """A request. The name server is looked for where it is not known, and again where it has ended."""
+        if self._life != self._thread.lives:
+            self._life, self.server = self._thread.lives, None
+        message = Message(label, strings=[name], originator=originator)
+        buffers: List[Buffer] = [MAX_NAME_BYTES] if label == LIST else []
+        first = 1
+        while True:
+            if self.server is None:
+                self.server = yield from live_version(NUMBER, first)
+                if self.server is None:
+                    raise NoNames
+            try:
+                answer: Received = yield Ipc(self.server, self.server, message, timeouts(self._timeout, self._timeout), buffers)
+                break
+            except NoPartner:
+                first, self.server = self.server.version + 1, None
+        if answer.label:
+            raise NameFault(answer.label, ThreadId(answer.words[0] if answer.words else 0))
+        if len(answer.words) != 1:
+            raise L4Error(f"{self.server} is no name server")
+        return answer
+
+    def register(self, name: str, originator: Optional[int] = None) -> Steps[ThreadId]:
+        """`Names.register`."""
+        answer = yield from self.ask(REGISTER, _bytes(name), originator)
+        registered = ThreadId(answer.words[0])
+        if registered == self._thread.id:
+            self._thread.kept.registered(name)
+        return registered
+
+    def lookup(self, name: str) -> Steps[Optional[ThreadId]]:
+        """`Names.lookup`."""
+        answer = yield from self.ask(LOOK_UP, _bytes(name))
+        found = ThreadId(answer.words[0])
+        return None if found == NILTHREAD else found
+
+    def list(self) -> Steps[List[Tuple[str, ThreadId]]]:
+        """`Names.list`."""
+        names: List[Tuple[str, ThreadId]] = []
+        after = b""
+        while True:
+            answer = yield from self.ask(LIST, after)
+            if answer.words[0] == NILTHREAD or not answer.strings:
+                return names
+            name = bytes(answer.strings[0])
+            if name <= after:
+                raise L4Error("the name server went back in its list")
+            names.append((name.decode("ascii", "backslashreplace"), ThreadId(answer.words[0])))
+            after = name
+
+    def wait_for(self, name: str, seconds: Optional[float]) -> Steps[ThreadId]:
+        """`Names.wait_for`."""
+        waiting = pauses(arguments.seconds_or_none("seconds", seconds), 1.0)
+        while True:
+            try:
+                found = yield from self.lookup(name)
+                missing = f"nobody has registered {name}"
+            except NoNames as error:
+                found, missing = None, str(error)
+            if found is not None:
+                return found
+            pause = next(waiting, None)
+            if pause is None:
+                raise TimeoutError(f"{missing}; waited for {name} for {seconds} seconds")
+            yield Pause(pause)
+
+    def wait_to_register(self, name: str, seconds: Optional[float]) -> Steps[ThreadId]:
+        """`Names.wait_to_register`."""
+        waiting = pauses(arguments.seconds_or_none("seconds", seconds), 1.0)
+        while True:
+            try:
+                return (yield from self.register(name))
+            except NoNames:
+                pause = next(waiting, None)
+                if pause is None:
+                    raise
+            yield Pause(pause)
+
+    def keep(self) -> Steps[None]:
+        """Registers the names of the thread again. What does not do so now is tried again later, and is raised at the end."""
+        kept = self._thread.kept
+        kept.is_busy, kept.again_at, failure = True, time.monotonic() + KEPT_FOR, None
+        try:
+            for name in list(kept.names):
+                try:
+                    yield from self.register(name)
+                except (NameFault, NoNames, IpcError, Refused) as error:
+                    failure = error
+        finally:
+            kept.is_busy = False
+        if failure is not None:
+            kept.again_at = time.monotonic() + (AGAIN_AFTER if isinstance(failure, NoNames) else KEPT_FOR)
+            raise failure
+
+    def call(self, name: str, step: Ipc, is_call: bool, wait_for: Optional[float]) -> Steps[Optional[Received]]:
+        """A message to who has a name. Where that one has ended the name is looked up again; nothing was sent then."""
+        found, waiting = self._thread.kept.found, pauses(arguments.seconds_or_none("wait_for", wait_for))
+        while True:
+            was_known, failure = name in found, None
+            try:
+                partner = found[name] if was_known else (yield from self._partner(name))
+                received: Optional[Received] = yield step._replace(to=partner, from_specifier=partner if is_call else NILTHREAD)
+                return received
+            except (NoPartner, NoNames) as missing:
+                if isinstance(missing, NoPartner) and missing.phase != SEND:
+                    raise
+                failure = missing
+            found.pop(name, None)
+            if was_known:
+                continue
+            pause = next(waiting, None)
+            if pause is None:
+                if isinstance(failure, NoPartner):
+                    failure.waited = wait_for or None
+                raise failure
+            yield Pause(pause)
+
+    def _partner(self, name: str) -> Steps[ThreadId]:
+        partner = yield from self.lookup(name)
+        if partner is None:
+            raise Unregistered(self._thread.id, name)
+        self._thread.kept.found[name] = partner
+        return partner
+
+
+def is_name(to: str) -> bool:
+    """Whether a text is a name that a message may go to; the text of a thread id is none."""
+    return not _IS_AN_ID.fullmatch(to)
+
+
+def live(other: int) -> Steps[bool]:
+    """`is_live`."""
     try:
-        thread.receive(other, 0)
+        yield steps.receive(other, 0)
     except NoPartner:
         return False
     except IpcError:
@@ -59,13 +247,26 @@ def is_live(thread: Thread, other: int) -> bool:
     return True
 
 
-def live_thread(thread: Thread, number: int, first: int = 1) -> Optional[ThreadId]:
-    """The live thread of a number, if its version is ``first`` to 63. Each version costs one call."""
+def live_version(number: int, first: int) -> Steps[Optional[ThreadId]]:
+    """`live_thread`."""
     for version in range(first, MAX_VERSION + 1):
         other = ThreadId.of(number, version)
-        if is_live(thread, other):
+        if (yield from live(other)):
             return other
     return None
+
+
+def is_live(thread: "Thread", other: int) -> bool:
+    """Whether a thread is live: asked by a closed receive from it with zero time, of which it notices nothing.
+
+    A message that it is just sending to this thread is received and lost; so ask only for threads that do not.
+    """
+    return thread.run(live(arguments.thread_id("other", other)))
+
+
+def live_thread(thread: "Thread", number: int, first: int = 1) -> Optional[ThreadId]:
+    """The live thread of a number, if its version is ``first`` to 63. Each version costs one call."""
+    return thread.run(live_version(number, first))
 
 
 class Names:
@@ -75,94 +276,57 @@ class Names:
     it is past version 63. ``timeout`` is how long each phase of a request may take, in seconds.
     """
 
-    def __init__(self, thread: Thread, server: Optional[int] = None, timeout: Optional[float] = None) -> None:
+    def __init__(self, thread: "Thread", server: Optional[int] = None, timeout: Optional[float] = None) -> None:
         self._thread = thread
-        self._server = None if server is None else ThreadId(server)
-        self._timeout = timeout
+        self._book = Book(thread, server, timeout)
 
     @property
     def server(self) -> Optional[ThreadId]:
         """The name server, where it was found."""
-        return self._server
+        return self._book.server
 
     def register(self, name: str, originator: Optional[int] = None) -> ThreadId:
         """From now on the name is that of this thread; with an originator, of that thread of the own space.
 
-        It answers the thread that is registered, which is this one where the propagation was not permitted.
+        It answers the thread that is registered, which is this one where the propagation was not permitted. An own name is kept: `serve`
+        registers it again every few seconds, and a thread that connects again does so, too.
         """
-        return ThreadId(self._ask(REGISTER, _bytes(name), originator).words[0])
+        return self._thread.run(self._book.register(name, originator))
 
     def lookup(self, name: str) -> Optional[ThreadId]:
         """The live thread that has the name, or ``None``."""
-        found = ThreadId(self._ask(LOOK_UP, _bytes(name)).words[0])
-        return None if found == NILTHREAD else found
+        return self._thread.run(self._book.lookup(name))
 
     def list(self) -> List[Tuple[str, ThreadId]]:
         """All names and their threads, in the order of bytes."""
-        names: List[Tuple[str, ThreadId]] = []
-        after = b""
-        while True:
-            answer = self._ask(LIST, after)
-            if answer.words[0] == NILTHREAD or not answer.strings:
-                return names
-            name = bytes(answer.strings[0])
-            if name <= after:
-                raise L4Error("the name server went back in its list")
-            names.append((name.decode("ascii", "backslashreplace"), ThreadId(answer.words[0])))
-            after = name
+        return self._thread.run(self._book.list())
 
     def wait_for(self, name: str, seconds: Optional[float] = None) -> ThreadId:
-        """The live thread that has the name, once there is one. It asks again after pauses of 10 milliseconds up to a second.
+        """The live thread that has the name, once there is one. It asks again after pauses of 5 milliseconds up to a second.
 
-        After so many seconds it raises ``TimeoutError``.
+        After so many seconds it raises ``TimeoutError``: nobody has registered the name, or there is no name server.
         """
-        end = None if seconds is None else time.monotonic() + seconds
-        pause = 0.01
-        while True:
-            try:
-                found = self.lookup(name)
-            except NoNames:
-                found = None
-            if found is not None:
-                return found
-            if end is not None and time.monotonic() >= end:
-                raise TimeoutError(f"nobody has registered {name}")
-            time.sleep(pause)
-            pause = min(2 * pause, 1.0)
+        return self._thread.run(self._book.wait_for(name, seconds))
 
-    def _ask(self, label: int, name: bytes, originator: Optional[int] = None) -> Received:
-        request = Message(label, strings=[name], originator=originator)
-        buffers = [MAX_NAME_BYTES] if label == LIST else []
-        first = 1
-        while True:
-            if self._server is None:
-                self._server = live_thread(self._thread, NUMBER, first)
-                if self._server is None:
-                    raise NoNames
-            try:
-                answer = self._thread.call(self._server, request, self._timeout, self._timeout, buffers)
-                break
-            except NoPartner:
-                first, self._server = self._server.version + 1, None
-        if answer.label:
-            raise NameFault(answer.label, ThreadId(answer.words[0] if answer.words else 0))
-        if len(answer.words) != 1:
-            raise L4Error(f"{self._server} is no name server")
-        return answer
+    def wait_to_register(self, name: str, seconds: Optional[float] = None) -> ThreadId:
+        """Registers the name, once there is a name server. After so many seconds it raises `NoNames`."""
+        return self._thread.run(self._book.wait_to_register(name, seconds))
 
 
-def register(thread: Thread, name: str) -> ThreadId:
+def register(thread: "Thread", name: str) -> ThreadId:
     """Registers a name as this thread."""
     return Names(thread).register(name)
 
 
-def lookup(thread: Thread, name: str) -> Optional[ThreadId]:
+def lookup(thread: "Thread", name: str) -> Optional[ThreadId]:
     """The live thread that has the name, or ``None``."""
     return Names(thread).lookup(name)
 
 
 def _bytes(name: str) -> bytes:
+    if not isinstance(name, str):
+        raise arguments.wanted("name", "a str is", name)
     data = name.encode("utf-8")
     if len(data) > MAX_NAME_BYTES:
-        raise ValueError(f"a name has at most {MAX_NAME_BYTES} bytes")
+        raise ValueError(f"name: {arguments.shown(name)} has {len(data)} bytes, which is more than {MAX_NAME_BYTES}")
     return data

@@ -3,29 +3,48 @@
 import os
 import socket
 import threading
+import time
+from dataclasses import replace
 from typing import NoReturn, Optional, Sequence, Type, TypeVar, Union
 
-from . import frames
-from .errors import RECEIVE, BadFrame, Closed, L4Error, Refused, Timeout, fault, ipc_error
-from .message import FAILED, PROPAGATED, Buffer, BufferStrings, Message, Received
+from . import arguments, calls, connecting, frames, serving
+from .caller import Caller
+from .calls import NO_MESSAGE
+from .errors import RECEIVE, BadFrame, Closed, L4Error, Timeout
+from .exchanging import Exchanged, exchange_frame, exchanged
+from .message import NO_BUFFERS, Buffer, Message, Received
+from .serving import Answering, Telling
+from .steps import Ipc, Pause, Step, Steps
 from .words import ANYTHREAD, NILTHREAD, ThreadId, timeouts
 
-CANCEL_RECEIVE = 0x2
-"""R of the control of ExchangeRegisters."""
+LEAST_WAIT = 1.0
+"""How many seconds a thread that connects again waits at least, since its number may still be that of its last connection."""
 
-CANCEL_SEND = 0x4
-"""S of the control of ExchangeRegisters."""
+Partner = Union[int, str]
+"""A thread id, or a name that the name server knows."""
 
 _Kind = TypeVar("_Kind", frames.Welcome, frames.Outcome, frames.Exchanged)
-_NO_MESSAGE = Message()
+_Result = TypeVar("_Result")
 _MOST_READ = 65_536
+_FIRST_READ = 4_096
+_ANSWER_AT_ONCE = timeouts(0, None)
+# The server has ended the thread; what it said of that is still to be read.
+_ENDED_BY_THE_SERVER = (BrokenPipeError, ConnectionResetError)
 
 
-class Thread:
+class Thread(Caller):
     """A thread of l4d: one connection, which is live until it is closed.
 
     ``directory`` is the folder of the server, ``number`` the thread number that is asked for (1 to 1,023), ``space`` the space whose path is
     connected to. ``id`` is the thread's id. As a context manager it says BYE at the end.
+
+    ``wait_for`` is how many seconds to wait for a server that is not there yet, or where the number is still that of another thread;
+    ``None`` is never. ``connect_timeout`` is how many seconds a server that is there may take for its answer. Where it cannot connect it
+    raises an ``OSError`` that names the path: ``FileNotFoundError``, ``ConnectionRefusedError``, ``PermissionError``, ``TimeoutError``.
+
+    With ``reconnect`` it connects again where the connection has ended, as l4d was started again. The call that was open fails with
+    `Closed`, and is not made again; the next one connects first, for which it waits ``wait_for`` seconds, and registers the names of the
+    thread again. The thread may then have another ``id``; ``lives`` counts its connections.
 
     ``version`` is that of the wire, 1 or 2. In version 2 the server tells of each call its number and the moment at which it was over, in
     microseconds since the server began; in version 1 these are ``None``. A server that has version 1 alone raises `Fault` F3: connect again.
@@ -34,39 +53,40 @@ class Thread:
 
     One call is open at a time. A call that is interrupted, as by KeyboardInterrupt, closes the thread, since its answer would be taken for
     that of the next call. Timeouts are in seconds: ``None`` is never, 0 is zero time, and each other one is the shortest period that
-    is not shorter.
+    is not shorter. Where a call has a partner, that is a thread id, or a name that the name server knows.
     """
 
-    def __init__(self, directory: Union[str, "os.PathLike[str]"], number: int, space: int = 1, version: int = 1) -> None:
-        connection = socket.socket(socket.AF_UNIX, socket.SOCK_STREAM)
-        try:
-            connection.connect(os.path.join(os.fspath(directory), f"space{space}"))
-        except BaseException:
-            connection.close()
-            raise
-        self._begin(connection, number, version)
+    def __init__(
+        self,
+        directory: Union[str, "os.PathLike[str]"],
+        number: int,
+        space: int = 1,
+        version: int = 1,
+        wait_for: Optional[float] = 0,
+        connect_timeout: Optional[float] = 10,
+        reconnect: bool = False,
+    ) -> None:
+        place = connecting.place_of(directory, number, space, version, wait_for, connect_timeout)
+        self._begin(place, *connecting.connect(place), reconnect)
 
     @classmethod
     def over(cls, connection: socket.socket, number: int, version: int = 1) -> "Thread":
         """A thread over a connection that is there, and on which nothing was said yet."""
         thread = cls.__new__(cls)
-        thread._begin(connection, number, version)
+        thread._begin(connecting.Place("", number, version), connection, NILTHREAD, False)
+        try:
+            thread.id = thread._ask(frames.hello(number, version), frames.Welcome).thread
+        except BaseException:
+            thread._close()
+            raise
         return thread
 
-    def _begin(self, connection: socket.socket, number: int, version: int) -> None:
+    def _begin(self, place: connecting.Place, connection: socket.socket, own: ThreadId, reconnect: bool) -> None:
+        super().__init__(place, reconnect)
         self._connection = connection
-        self.version = version
-        self.last_call: Optional[int] = None
-        self.last_moment: Optional[int] = None
-        self._taken = bytearray()
-        self._is_closed = False
+        self._begun: Optional[calls.Call] = None
         self._call = threading.Lock()
-        try:
-            answer = self._ask(frames.hello(number, version), frames.Welcome)
-        except BaseException:
-            self._close()
-            raise
-        self.id = answer.thread
+        self._connected_as(own)
 
     def __enter__(self) -> "Thread":
         return self
@@ -74,39 +94,42 @@ class Thread:
     def __exit__(self, *_: object) -> None:
         self.close()
 
-    def __repr__(self) -> str:
-        return f"<Thread {self.id}{', closed' if self._is_closed else ''}>"
-
-    @property
-    def is_closed(self) -> bool:
-        """Whether the connection has ended, as far as it is known here."""
-        return self._is_closed
-
     def close(self) -> None:
         """Says BYE, and ends the thread. A closed thread stays closed."""
-        if not self._is_closed:
+        if not self._is_closed and not self._is_lost:
             try:
                 self._connection.sendall(frames.bye())
             except OSError:
                 pass
-            self._close()
+        self._is_closed = True
+        self._connection.close()
 
     def _close(self) -> None:
-        self._is_closed = True
+        self._lose()
         self._connection.close()
 
     # The calls of the manual.
 
-    def send(self, to: int, message: Message = _NO_MESSAGE, timeout: Optional[float] = None) -> None:
-        """L4_Send: sends a message, and waits so long for the receiver to take it."""
-        self.ipc(to, NILTHREAD, message, send_timeout=timeout)
+    def send(self, to: Partner, message: Message = NO_MESSAGE, timeout: Optional[float] = None, wait_for: Optional[float] = 0) -> None:
+        """L4_Send: sends a message, and waits so long for the receiver to take it.
+
+        ``wait_for`` is how many seconds to wait for a receiver that is not there yet, before that; ``None`` is never.
+        """
+        times = 0 if timeout is None else timeouts(timeout, None, "timeout")
+        if wait_for == 0 and not isinstance(to, str):
+            self._ipc(to, NILTHREAD, message, times)
+        else:
+            self.run(self._once_there(wait_for, to, False, message, times))
 
     def receive(self, sender: int, timeout: Optional[float] = None, buffers: Sequence[Buffer] = ()) -> Received:
         """L4_Receive: receives from one thread (a closed receive), from `ANYTHREAD`, or from `ANYLOCALTHREAD`.
 
         The k-th string goes to the k-th buffer. Without buffers no strings are accepted: a message that has some fails with `Overflow`.
         """
-        return self._message(self.ipc(NILTHREAD, sender, receive_timeout=timeout, buffers=buffers))
+        if sender.__class__ is not ThreadId and not arguments.thread_id("sender", sender) or not sender:
+            raise ValueError("sender: nilthread is no thread to receive from")
+        times = 0 if timeout is None else timeouts(None, timeout, receive_name="timeout")
+        return self._message(self._ipc(NILTHREAD, sender, NO_MESSAGE, times, buffers))
 
     def wait(self, timeout: Optional[float] = None, buffers: Sequence[Buffer] = ()) -> Received:
         """L4_Wait: receives from any thread."""
@@ -114,19 +137,26 @@ class Thread:
 
     def call(
         self,
-        to: int,
-        message: Message = _NO_MESSAGE,
+        to: Partner,
+        message: Message = NO_MESSAGE,
         send_timeout: Optional[float] = None,
         receive_timeout: Optional[float] = None,
         buffers: Sequence[Buffer] = (),
+        wait_for: Optional[float] = 0,
     ) -> Received:
-        """L4_Call: sends a message, and receives the answer of that thread alone."""
-        return self._message(self.ipc(to, to, message, send_timeout, receive_timeout, buffers))
+        """L4_Call: sends a message, and receives the answer of that thread alone.
+
+        ``wait_for`` is how many seconds to wait for a partner that is not there yet, before that; ``None`` is never.
+        """
+        times = 0 if send_timeout is None and receive_timeout is None else timeouts(send_timeout, receive_timeout)
+        if wait_for == 0 and not isinstance(to, str):
+            return self._ipc(to, to, message, times, buffers) or self._message(None)
+        return self._message(self.run(self._once_there(wait_for, to, True, message, times, buffers)))
 
     def reply_wait(
         self,
         to: int,
-        message: Message = _NO_MESSAGE,
+        message: Message = NO_MESSAGE,
         timeout: Optional[float] = None,
         buffers: Sequence[Buffer] = (),
     ) -> Received:
@@ -134,34 +164,49 @@ class Thread:
 
         Where the answer fails, the exception has the phase ``"send"``, and nothing was received: `wait` then.
         """
-        return self._message(self.ipc(to, ANYTHREAD, message, 0, timeout, buffers))
+        times = _ANSWER_AT_ONCE if timeout is None else timeouts(0, timeout, receive_name="timeout")
+        return self._ipc(to, ANYTHREAD, message, times, buffers, True) or self._message(None)
+
+    def serve(self, function: Answering, buffers: Sequence[Buffer] = (), tell: Telling = serving.log) -> None:
+        """The loop of a server: answers each message that comes by what the function returns for it, a `Message`, or ``None`` for no answer.
+
+        No client ends it. What could not be received or answered is told, by ``tell(error, request)``, and the next message is waited for:
+        strings that do not fit the buffers, a client that has ended, or that does not wait for its answer. Where the function raises an
+        exception, that is told, and its client is answered by an empty message with the label `FUNCTION_FAILED`. Names that the thread has
+        registered it registers again every five seconds, so that a name server that was started again knows them.
+
+        It returns once the connection has ended, as l4d ends, and tells that, too; a thread with ``reconnect`` waits for l4d instead, and
+        goes on. Without ``tell`` the logger ``l4ipc`` tells.
+        """
+        self.run(serving.Loop(self, function, buffers, tell).run())
 
     def sleep(self, seconds: Optional[float]) -> None:
         """L4_Sleep: a closed receive from the thread itself, which ends by its timeout."""
+        times = timeouts(None, seconds, receive_name="seconds")
+        self._ready()
         try:
-            self.ipc(NILTHREAD, self.id, receive_timeout=seconds)
+            self._ipc(NILTHREAD, self.id, NO_MESSAGE, times)
         except Timeout as end:
             if end.phase != RECEIVE:
                 raise
 
-    def exchange_registers(self, dest: int, send: bool = False, receive: bool = False) -> Optional["Exchanged"]:
+    def exchange_registers(self, dest: int, send: bool = False, receive: bool = False) -> Optional[Exchanged]:
         """L4_ExchangeRegisters: cancels the send phase or the receive phase of a thread of the own space.
 
         ``send`` is the bit S and ``receive`` the bit R of the control: which phase is cancelled. A transfer is aborted by the bit of
         the side that ``dest`` has in it. It answers in which phase the thread was, or ``None`` where it is not a live thread of the own space.
         """
-        control = (CANCEL_SEND if send else 0) | (CANCEL_RECEIVE if receive else 0)
-        answer = self._ask(frames.exreg(_word(dest), control), frames.Exchanged)
+        frame = exchange_frame(dest, send, receive)
+        self._ready()
+        answer = self._ask(frame, frames.Exchanged)
         self.last_moment = answer.moment
-        if answer.code:
-            return None
-        return Exchanged(answer.result, bool(answer.control & CANCEL_SEND), bool(answer.control & CANCEL_RECEIVE), answer.moment)
+        return exchanged(answer)
 
     def ipc(
         self,
         to: int,
         from_specifier: int,
-        message: Message = _NO_MESSAGE,
+        message: Message = NO_MESSAGE,
         send_timeout: Optional[float] = None,
         receive_timeout: Optional[float] = None,
         buffers: Sequence[Buffer] = (),
@@ -170,129 +215,234 @@ class Thread:
 
         It answers the message, or ``None`` where there is no receive phase.
         """
-        has_send, has_receive = to != NILTHREAD, from_specifier != NILTHREAD
-        if not has_send:
-            message, send_timeout = _NO_MESSAGE, None
-        if not has_receive:
-            buffers, receive_timeout = (), None
-        strings = BufferStrings(buffers)
-        frame = frames.ipc(
-            _word(to),
-            _word(from_specifier),
-            timeouts(send_timeout, receive_timeout),
-            NILTHREAD if message.originator is None else _word(message.originator),
-            message.tag(),
-            strings.acceptor,
-            message.registers(),
-            strings.words,
-            message.payload(),
-        )
-        outcome = self._ask(frame, frames.Outcome)
-        self.last_call, self.last_moment = outcome.call, outcome.moment
-        if outcome.tag & FAILED:
-            raise ipc_error(outcome.error, outcome.call, outcome.moment)
-        return self._received(outcome, strings) if has_receive else None
+        return self._ipc(to, from_specifier, message, calls.times_of(send_timeout, receive_timeout), buffers)
 
-    def _received(self, outcome: frames.Outcome, buffers: BufferStrings) -> Received:
-        """The message of an outcome. What the server says of strings has to be just what the buffers have room for."""
-        lengths = frames.string_lengths(outcome)
-        if lengths is None:
-            self._fail(BadFrame("typed words that are no simple string items"))
-        pieces = buffers.pieces_of(lengths)
-        if pieces is None:
-            self._fail(BadFrame("strings that the buffers have no room for"))
-        if pieces != [(pointer, len(data)) for pointer, data in outcome.pieces]:
-            self._fail(BadFrame("pieces that do not lie where the strings belong"))
-        untyped = outcome.tag & 0x3F
-        pointers = outcome.words[untyped + 1 :: 2]
-        if any(pointer != buffers.first_pointer(place) for place, pointer in enumerate(pointers)):
-            self._fail(BadFrame("a string that does not begin where its buffer does"))
-        strings = buffers.fill(lengths, b"".join(data for _, data in outcome.pieces))
-        actual_sender = outcome.actual_sender if outcome.tag & PROPAGATED else None
-        return Received(outcome.sender, outcome.tag >> 16, outcome.words[:untyped], strings, actual_sender, outcome.call, outcome.moment)
+    # A call that was begun, for programs that wait for other things, too.
 
-    def _message(self, received: Optional[Received]) -> Received:
-        if received is None:
-            raise ValueError("a receive from nilthread has no receive phase")
-        return received
+    def fileno(self) -> int:
+        """The descriptor of the connection, for poll and select. It is readable once an answer comes, or the connection has ended."""
+        return self._connection.fileno()
+
+    def begin_wait(self, timeout: Optional[float] = None, buffers: Sequence[Buffer] = ()) -> None:
+        """Begins an L4_Wait, and comes back at once. `finish` answers what it brings; until then the thread makes no other call."""
+        times = 0 if timeout is None else timeouts(None, timeout, receive_name="timeout")
+        self._begin_call(NILTHREAD, ANYTHREAD, NO_MESSAGE, times, buffers)
+
+    def begin_reply_wait(
+        self, to: int, message: Message = NO_MESSAGE, timeout: Optional[float] = None, buffers: Sequence[Buffer] = ()
+    ) -> None:
+        """Begins an L4_ReplyWait, as `begin_wait` does."""
+        self._begin_call(to, ANYTHREAD, message, timeouts(0, timeout, receive_name="timeout"), buffers, True)
+
+    def begin_call(
+        self,
+        to: int,
+        message: Message = NO_MESSAGE,
+        send_timeout: Optional[float] = None,
+        receive_timeout: Optional[float] = None,
+        buffers: Sequence[Buffer] = (),
+    ) -> None:
+        """Begins an L4_Call, as `begin_wait` does."""
+        self._begin_call(to, to, message, calls.times_of(send_timeout, receive_timeout), buffers)
+
+    def is_over(self) -> bool:
+        """Whether the call that was begun is over, so that `finish` does not wait. It takes what has arrived of the answer, and does not wait.
+
+        It is over, too, where the connection has ended: `finish` raises that.
+        """
+        if self._begun is None:
+            raise RuntimeError("no call was begun")
+        try:
+            while self._arrived() is None:
+                more = self._connection.recv(_MOST_READ, socket.MSG_DONTWAIT)
+                if not more:
+                    return True
+                self._taken += more
+        except BlockingIOError:
+            return False
+        except (OSError, BadFrame):
+            return True
+        return True
+
+    def finish(self) -> Optional[Received]:
+        """What the call that was begun has brought: a message, or an exception. It waits until the call is over."""
+        call, self._begun = self._begun, None
+        if call is None:
+            raise RuntimeError("no call was begun")
+        self._call.release()
+        return self._result(call, self._ask(b"", frames.Outcome))
+
+    def _begin_call(
+        self, to: int, from_specifier: int, message: Message, times: int, buffers: Sequence[Buffer], is_answer: bool = False
+    ) -> None:
+        call = calls.call(self.id, to, from_specifier, message, times, buffers)
+        self._ready(is_answer)
+        if not self._call.acquire(False):
+            raise RuntimeError("another call of this thread is open")
+        try:
+            self._say(call.frame)
+        except BaseException:
+            self._close()
+            self._call.release()
+            raise
+        self._begun = call
+
+    # How a call is made.
+
+    def run(self, steps: Steps[_Result]) -> _Result:
+        """Does what takes several calls, step by step."""
+        try:
+            step = next(steps)
+            while True:
+                try:
+                    came = self._ipc(*step) if step.__class__ is Ipc else self._do(step)
+                except BaseException as error:
+                    step = steps.throw(error)
+                else:
+                    step = steps.send(came)
+        except StopIteration as done:
+            result: _Result = done.value
+            return result
+
+    def _do(self, step: Step) -> object:
+        """A step that is no Ipc."""
+        if isinstance(step, Pause):
+            time.sleep(step.seconds)
+        else:
+            self._connect_again(None)
+        return None
+
+    def _ipc(
+        self, to: int, from_specifier: int, message: Message, times: int, buffers: Sequence[Buffer] = (), is_answer: bool = False
+    ) -> Optional[Received]:
+        if self.reconnects:
+            self._ready(is_answer)
+        frame = None
+        if message.__class__ is Message and to and from_specifier and not buffers:
+            frame = calls.plain_frame(to, from_specifier, message, times)
+        if frame is None:
+            call = calls.call(self.id, to, from_specifier, message, times, buffers)
+            return self._result(call, self._ask(call.frame, frames.Outcome))
+        came = self._over(frame, True)
+        if came.__class__ is Received:
+            return came  # type: ignore[return-value]
+        call = calls.Call(self.id, to, from_specifier, message, NO_BUFFERS, frame)
+        return self._result(call, self._of_kind(came, frames.Outcome))
+
+    def _result(self, call: calls.Call, outcome: frames.Outcome) -> Optional[Received]:
+        try:
+            return self._read(call, outcome)
+        except BadFrame as error:
+            self._fail(error)
 
     # The connection.
 
+    def _ready(self, is_answer: bool = False) -> None:
+        """The thread is connected: again, where the connection has ended and that is asked for. Nothing was sent yet.
+
+        An answer goes to who asked over the same connection: it fails where that has ended.
+        """
+        if self._is_closed:
+            raise Closed(f"{self!r}: no call is made")
+        if not self.reconnects or self.kept.is_busy or self._begun is not None:
+            return
+        if self._is_lost or self._has_ended():
+            if is_answer:
+                self._close()
+                raise Closed(f"{self!r}: the connection has ended over which the message came")
+            try:
+                self._connect_again(self._place.wait_for)
+            except OSError as error:
+                raise Closed(f"{self!r}: {error}") from error
+        if self.kept.is_due():
+            try:
+                self.run(self._keeper.keep())
+            except Closed:
+                raise
+            except L4Error as error:
+                serving.log(error, None)
+
+    def _has_ended(self) -> bool:
+        """Whether the connection has ended since the last call."""
+        try:
+            return not self._connection.recv(1, socket.MSG_PEEK | socket.MSG_DONTWAIT)
+        except BlockingIOError:
+            return False
+        except OSError:
+            return True
+
+    def _connect_again(self, wait_for: Optional[float]) -> None:
+        self._close()
+        seconds = None if wait_for is None else max(wait_for, LEAST_WAIT)
+        self._connection, own = connecting.connect(replace(self._place, wait_for=seconds))
+        self._connected_as(own)
+
     def _ask(self, frame: bytes, kind: Type[_Kind]) -> _Kind:
         """Sends a frame, and answers the next one, which has to be of this kind."""
-        if not self._call.acquire(blocking=False):
+        return self._of_kind(self._over(frame), kind)
+
+    def _over(self, frame: bytes, is_plain: bool = False) -> Union[Received, frames.Answer]:
+        """Sends a frame, and answers the next one. Where the call is plain and its outcome, too, that is the message itself: the fast way."""
+        if not self._call.acquire(False):
             raise RuntimeError("another call of this thread is open")
         try:
             if self._is_closed:
-                raise Closed("the thread is closed")
-            answer = self._exchange(frame)
+                raise Closed(f"{self!r}: no call is made")
+            if not is_plain or self._taken:
+                self._say(frame)
+                return self._hear()
+            connection = self._connection
+            try:
+                connection.sendall(frame)
+            except _ENDED_BY_THE_SERVER:
+                pass
+            data = connection.recv(_FIRST_READ)
+            received = frames.plain_received(data)
+            if received is not None:
+                return received
+            if not data:
+                raise EOFError
+            self._taken = data
+            return self._hear()
         except (OSError, EOFError) as end:
             self._close()
-            raise Closed("the connection has ended") from end
+            raise Closed(f"{self!r}: the connection has ended, with l4d or by it") from end
         except BaseException:
             self._close()
             raise
         finally:
             self._call.release()
+
+    def _of_kind(self, answer: Union[Received, frames.Answer], kind: Type[_Kind]) -> _Kind:
+        """The answer, which has to be of this kind."""
         if isinstance(answer, kind):
             return answer
+        error = connecting.error_of(answer, repr(self))
         if isinstance(answer, frames.Refusal):
-            raise Refused(answer.number)
-        if isinstance(answer, frames.FaultTold):
-            told = fault(answer.letter, answer.number)
-            if told is not None:
-                self._fail(told)
-        self._fail(BadFrame(f"an answer of another kind: {type(answer).__name__}"))
+            raise error
+        self._fail(error)
 
     def _fail(self, error: L4Error) -> NoReturn:
         self._close()
         raise error
 
     def _exchange(self, frame: bytes) -> frames.Answer:
+        self._say(frame)
+        return self._hear()
+
+    def _say(self, frame: bytes) -> None:
         try:
             self._connection.sendall(frame)
-        except (BrokenPipeError, ConnectionResetError):
-            # the server has ended the thread; what it said of that is still to be read
+        except _ENDED_BY_THE_SERVER:
             pass
-        length = frames.body_length(self._take(4))
-        frames.check_kind(self._peek(), length, self.version)
-        return frames.read(self._take(length), self.version)
 
-    def _peek(self) -> int:
-        self._fetch(1)
-        return self._taken[0]
-
-    def _take(self, count: int) -> bytes:
-        """So many bytes of the stream."""
-        self._fetch(count)
-        taken = bytes(self._taken[:count])
-        del self._taken[:count]
-        return taken
-
-    def _fetch(self, count: int) -> None:
-        while len(self._taken) < count:
-            more = self._connection.recv(max(count - len(self._taken), _MOST_READ))
+    def _hear(self) -> frames.Answer:
+        """The next frame, which is waited for."""
+        end = self._arrived()
+        while end is None:
+            more = self._connection.recv(_MOST_READ)
             if not more:
                 raise EOFError
             self._taken += more
-
-
-class Exchanged:
-    """What ExchangeRegisters answers: the thread, and in which phase it was; and when, in version 2 of the wire."""
-
-    __slots__ = ("thread", "was_sending", "was_receiving", "moment")
-
-    def __init__(self, thread: ThreadId, was_sending: bool, was_receiving: bool, moment: Optional[int] = None) -> None:
-        self.thread = thread
-        self.was_sending = was_sending
-        self.was_receiving = was_receiving
-        self.moment = moment
-
-    def __repr__(self) -> str:
-        return f"Exchanged({self.thread}, was_sending={self.was_sending}, was_receiving={self.was_receiving})"
-
-
-def _word(thread: int) -> int:
-    if not 0 <= thread < 1 << 64:
-        raise ValueError(f"{thread} is no thread id")
-    return int(thread)
+            end = self._arrived()
+        return self._frame_until(end)

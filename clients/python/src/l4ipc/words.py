@@ -3,22 +3,24 @@
 import math
 from typing import Optional
 
+from . import arguments, protocol
+
 WORD_LIMIT = 1 << 64
 """One more than the greatest word."""
 
-MAX_MESSAGE_WORDS = 63
+MAX_MESSAGE_WORDS = protocol.MAX_MESSAGE_WORDS
 """How many message registers a message has beside its tag: u + t."""
 
-MAX_BUFFER_WORDS = 32
+MAX_BUFFER_WORDS = protocol.MAX_BUFFER_WORDS
 """How many buffer registers a receive has beside its acceptor."""
 
-MAX_STRING_BYTES = 1_048_576
+MAX_STRING_BYTES = protocol.MAX_STRING_BYTES
 """How many bytes the strings of a message have together at most."""
 
-MAX_LABEL = (1 << 48) - 1
+MAX_LABEL = (1 << protocol.MAX_LABEL_BITS) - 1
 """The greatest label."""
 
-LONGEST_PERIOD = 2_196_875_771_904
+LONGEST_PERIOD = protocol.MAX_PERIOD
 """The longest period in microseconds: some 25 days."""
 
 NEVER = 0
@@ -36,9 +38,8 @@ class ThreadId(int):
     @classmethod
     def of(cls, number: int, version: int) -> "ThreadId":
         """The global id of a number and a version: 2.1 is ``ThreadId.of(2, 1)``."""
-        if not (0 <= number < 1 << 32 and 0 <= version < 1 << 32):
-            raise ValueError("a number and a version have 32 bits")
-        return cls(number << 32 | version)
+        number = arguments.integer("number", number, 0, (1 << 32) - 1)
+        return cls(number << 32 | arguments.integer("version", version, 0, (1 << 32) - 1))
 
     @property
     def number(self) -> int:
@@ -68,16 +69,17 @@ ANYLOCALTHREAD = ThreadId(WORD_LIMIT - 64)
 """As the FromSpecifier of a receive: any thread of the own space."""
 
 
-def period(seconds: Optional[float]) -> int:
+def period(seconds: Optional[float], name: str = "seconds") -> int:
     """The word of a period of so many seconds.
 
     ``None`` is never, and 0 is zero time. Else it is the shortest period that is not shorter. From 2,196,875.771905 seconds on, which is
-    more than the longest period, it is never.
+    more than the longest period, it is never. ``name`` is what an error calls it.
     """
     if seconds is None:
         return NEVER
-    if not seconds >= 0:
-        raise ValueError(f"a period of {seconds} seconds")
+    seconds = arguments.seconds(name, seconds)
+    if seconds == 0:
+        return ZERO_TIME
     if math.isinf(seconds):
         return NEVER
     # what is less than a nanosecond comes from the spelling of the number in bits, and is no time
@@ -99,9 +101,9 @@ def seconds_of(word: int) -> Optional[float]:
         raise ValueError(f"{word:#x} is no period")
     if word == NEVER:
         return None
-    return (word & 0x3FF) * 2 ** (word >> 10) / 1_000_000
+    return ((word & 0x3FF) << (word >> 10)) / 1_000_000
 
 
-def timeouts(send: Optional[float], receive: Optional[float]) -> int:
-    """The word of 32 bits that has the two timeouts of a call, each in seconds."""
-    return period(send) << 16 | period(receive)
+def timeouts(send: Optional[float], receive: Optional[float], send_name: str = "send_timeout", receive_name: str = "receive_timeout") -> int:
+    """The word of 32 bits that has the two timeouts of a call, each in seconds. The names are what an error calls them."""
+    return period(send, send_name) << 16 | period(receive, receive_name)

@@ -1,4 +1,4 @@
-use Rattle.std.proofs.Common.{sym, ◌∙◌}
+use Rattle.std.proofs.Common.{sym, ap, ◌∙◌, option_copied}
 use Rattle.std.proofs.lemmas.Option.{none-some, same_Some}
 use Rattle.ipc_slots.specs.Standings.{standing_of}
 use Rattle.ipc_desks.proofs.Standings.{standing_there}
@@ -6,9 +6,9 @@ use Rattle.ipc_partners.proofs.PartnerLemmas.{partner_by}
 use Rattle.ipc_partners.proofs.kept.known_partner.Goals as goal
 
 pub unreachable-requires : goal.unreachable-requires
-unreachable-requires c = none-some (standing_of c.args.slots.now.past c.args.number) (sym c.in_default.is ∙ (c.call_at.ensures ∙ standing_there c.args.slots.now.past c.kept.ensures.legal c.args.slots.now.kept (rw c.kept.ensures.kept at c.kept.ensures.stands) c.args.number c.requires.open c.args.place c.requires.place))
+unreachable-requires c = none-some (standing_of c.args.slots.now.past c.args.number) (sym (ap option_copied c.in_default.is) ∙ (c.held.ensures ∙ standing_there c.args.slots.now.past c.kept.ensures.legal c.args.slots.now.kept (rw c.kept.ensures.kept at c.kept.ensures.stands) c.args.number c.requires.open c.args.place c.requires.place))
 
 pub returns : goal.returns
 returns c =
-    let is = same_Some c.in-Some.call (standing_of c.args.slots.now.past c.args.number) (sym c.in-Some.is ∙ (c.call_at.ensures ∙ standing_there c.args.slots.now.past c.kept.ensures.legal c.args.slots.now.kept (rw c.kept.ensures.kept at c.kept.ensures.stands) c.args.number c.requires.open c.args.place c.requires.place)) in
-    partner_by c.args.slots.now.past c.args.number c.in-Some.call is
+    let is = same_Some c.in-Some.call.now (standing_of c.args.slots.now.past c.args.number) (sym (ap option_copied c.in-Some.is) ∙ (c.held.ensures ∙ standing_there c.args.slots.now.past c.kept.ensures.legal c.args.slots.now.kept (rw c.kept.ensures.kept at c.kept.ensures.stands) c.args.number c.requires.open c.args.place c.requires.place)) in
+    partner_by c.args.slots.now.past c.args.number c.in-Some.call.now is

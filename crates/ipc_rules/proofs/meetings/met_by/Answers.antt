@@ -1,4 +1,4 @@
-use Rattle.std.proofs.Common.{sym, ◌∙◌}
+use Rattle.std.proofs.Common.{sym, ◌∙◌, ap, option_copied}
 use Rattle.ipc_rules.proofs.Meets.{met_law}
 use Rattle.ipc_rules.proofs.meetings.met_by.Goals as goal
 
@@ -13,14 +13,14 @@ returns-in_err-receiving c =
     let kept = c.kept-kept in
     let law = met_law c.args.slots.now.past kept.result.now kept.ensures.legal kept.ensures.stands c.args.call.now c.requires in
     let may = sym c.may_meet.ensures ∙ c.if-not-may_meet.false in
-    c.from_residual.ensures ∙ (rw (may, sym c.call_of.ensures ∙ c.in_err-receiving.was) at law)
+    ap option_copied c.from_residual.ensures ∙ (rw (may, sym c.call_of.ensures ∙ ap option_copied c.in_err-receiving.was) at law)
 
 pub returns-then-awaits : goal.returns-then-awaits
 returns-then-awaits c =
     let kept = c.kept-kept in
     let law = met_law c.args.slots.now.past kept.result.now kept.ensures.legal kept.ensures.stands c.args.call.now c.requires in
     let may = sym c.may_meet.ensures ∙ c.if-not-may_meet.false in
-    let there = sym c.call_of.ensures ∙ c.in_ok-receiving.was in
+    let there = sym c.call_of.ensures ∙ ap option_copied c.in_ok-receiving.was in
     rw (may, there, sym c.are_local.ensures, sym c.awaits.ensures ∙ c.if-awaits.true) at law
 
 pub returns-else-awaits : goal.returns-else-awaits
@@ -28,5 +28,5 @@ returns-else-awaits c =
     let kept = c.kept-kept in
     let law = met_law c.args.slots.now.past kept.result.now kept.ensures.legal kept.ensures.stands c.args.call.now c.requires in
     let may = sym c.may_meet.ensures ∙ c.if-not-may_meet.false in
-    let there = sym c.call_of.ensures ∙ c.in_ok-receiving.was in
+    let there = sym c.call_of.ensures ∙ ap option_copied c.in_ok-receiving.was in
     rw (may, there, sym c.are_local.ensures, sym c.awaits.ensures ∙ c.if-awaits.false) at law

@@ -1,7 +1,6 @@
 use Rattle.std.proofs.Common.{true, false, subst}
 use Rattle.ipc_trace.specs.Traces.{IsRead}
-use Rattle.ipc_shell.proofs.CheckLemmas.{bad_line, bad_unjudged, judged, torn_lines}
-use Rattle.ipc_shell.proofs.LookLemmas.{whole_lines}
+use Rattle.ipc_shell.proofs.CheckLemmas.{bad_line, bad_unjudged, judged, torn_lines, whole_lines}
 use Rattle.ipc_shell.proofs.check.check_trace.Goals as goal
 
 pub returns-in-Torn-clause-checks : goal.returns-in-Torn-clause-checks

@@ -3,7 +3,7 @@ use Rattle.ipc_trace.specs.Traces.{IsRead}
 use Rattle.ipc_shell.specs.Migrating.{WritesMigrated}
 use Rattle.ipc_shell.specs.declared.exit.Exit.TheVariants.{Done}
 use Rattle.ipc_shell.proofs.CheckLemmas.{bad_line, torn_lines}
-use Rattle.ipc_shell.proofs.LookLemmas.{whole_lines}
+use Rattle.ipc_shell.proofs.CheckLemmas.{whole_lines}
 use Rattle.ipc_shell.proofs.MigrateLemmas.{bad_unmigrated, device_in_trace, migrated, migrated_torn, not_migrated, torn_is_no_failure}
 use Rattle.ipc_shell.proofs.migrate.migrate_trace.Goals as goal
 

@@ -1,22 +1,22 @@
-use Rattle.std.proofs.lemmas.Bool.{false≢true}
 use Rattle.std.proofs.Common.{sym, ◌∙◌}
-use Rattle.ipc_core.proofs.CourseLemmas.{goes_none, goes_more, goes_falls, output_follows, output_place}
+use Rattle.ipc_core.proofs.CourseLemmas.{goes_none}
+use Rattle.ipc_core.proofs.PassedCourse.{goes_written, written_falls}
 use Rattle.ipc_core.proofs.course.Course.settle.Goals as goal
 
-pub append-requires-clause-follows : goal.append-requires-clause-follows
-append-requires-clause-follows c = output_follows _ _ (sym c.next_output.ensures ∙ c.in-Some.is)
+pub write-requires-clause-legal : goal.write-requires-clause-legal
+write-requires-clause-legal c = c.loop-output.invariant.legal
 
-pub append-requires-clause-room : goal.append-requires-clause-room
-append-requires-clause-room c = output_place _ _ c.in-Some.output c.loop-output.invariant (sym c.next_output.ensures ∙ c.in-Some.is)
+pub write-requires-clause-next : goal.write-requires-clause-next
+write-requires-clause-next c = sym c.next_output.ensures ∙ c.in-Some.is
+
+pub write-requires-clause-room : goal.write-requires-clause-room
+write-requires-clause-room c = c.loop-output.invariant.fits
 
 pub loop-output-init : goal.loop-output-init
 loop-output-init c = goes_none _ c.requires.legal c.requires.room
 
 pub loop-output-smaller : goal.loop-output-smaller
-loop-output-smaller c = goes_falls c.loop-output.self c.append.new.self c.in-Some.output c.loop-output.invariant.legal (sym c.next_output.ensures ∙ c.in-Some.is) c.append.ensures.entries
+loop-output-smaller c = written_falls c.loop-output.self c.write.new.self c.in-Some.output c.loop-output.invariant.legal (sym c.next_output.ensures ∙ c.in-Some.is) c.write.ensures.entries
 
 pub loop-output-preserved : goal.loop-output-preserved
-loop-output-preserved c = goes_more _ _ _ c.in-Some.output c.loop-output.invariant (sym c.next_output.ensures ∙ c.in-Some.is) c.append.ensures.entries c.append.ensures.room c.append.ensures.books
-
-pub append-requires-clause-fresh : goal.append-requires-clause-fresh
-append-requires-clause-fresh c = λ t none. absurd (false≢true none)
+loop-output-preserved c = goes_written _ _ _ c.in-Some.output c.loop-output.invariant (sym c.next_output.ensures ∙ c.in-Some.is) c.write.ensures.entries c.write.ensures.room c.write.ensures.books

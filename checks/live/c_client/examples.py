@@ -1,0 +1,344 @@
+"""Names, and the examples and servers of the C client beside each other, beside those in Python, and beside clients that do the worst."""
+
+import os
+import re
+import subprocess
+import sys
+import time
+
+from c_client.building import build_pages
+from c_client.saying import SECONDS, ZERO, Past, Say, Server, compare, told_to, wait_until_gone, wait_until_waiting, word_of_id
+from frames import ANY, FAILED, NIL, thread_id
+from kit import ROOT
+from name_server import NameServer
+from protocol_tables import MAX_NAME_BYTES, MAX_STRING_BYTES
+
+
+class L4xNames:
+    """The name server of l4x, with the look of the one of checks/lib."""
+
+    def __init__(self, l4x, path):
+        self.process = subprocess.Popen([l4x, os.path.dirname(path), "names"], stdout=subprocess.PIPE, text=True)
+        word, thread = self.process.stdout.readline().split()
+        assert word == "names"
+        self.thread = word_of_id(thread)
+
+    def end(self):
+        self.process.kill()
+        self.process.wait()
+
+
+def check_l4x(programs, l4d, l4sh, l4x, room):
+    """A C client of the key-value server of l4x, through its gateway too: label 2 asks for a key, label 3 answers it."""
+    with Server(l4d, room) as server:
+        serving = [subprocess.Popen([l4x, server.dir, role], stdout=subprocess.DEVNULL) for role in ("keyvalue", "gateway")]
+        sayer = Say(programs["say"], server.dir, 7)
+        for number in (1, 2):
+            wait_until_waiting(sayer, thread_id(number), 0x2)
+        subprocess.run([l4x, server.dir, "put", "7", "70"], check=True, stdout=subprocess.DEVNULL)
+        for number in (1, 2):
+            to = thread_id(number)
+            # the gateway's request is answered by the server itself, for which the wait is turned
+            got = sayer.ipc(to=to, source=to, label=2, words=(7,))
+            assert got[:5] == (3 << 16 | 1, thread_id(1), 0, 0, "46"), got
+        told = told_to(sayer)
+        sayer.end()
+        for process in serving:
+            process.kill()
+            process.wait()
+        return compare(server, l4sh, told)
+
+
+def check_names(programs, l4d, l4sh, room, start):
+    """The calls of l4/names.h, with a name server that follows docs/NAMES.md: start makes one for a path."""
+    with Server(l4d, room) as server:
+        one, two = (Say(programs["say"], server.dir, number) for number in (1, 2))
+        ask = lambda sayer, line: sayer.ask(line)
+        count = 0
+
+        def want(got, wanted):
+            nonlocal count
+            count += 1
+            assert got == wanted, (got, wanted)
+
+        want(ask(one, "lookup a"), ("0", 3, "N6: there is no name server (a)"))
+        names = start(server.path)
+        want(ask(one, "register echo")[:2], ("0", 0))
+        want(ask(two, "lookup echo")[:2], (f"{one.thread:x}", 0))
+        want(ask(two, "lookup Echo"), ("0", 2, "N7: no live thread has the name (Echo)"))
+        want(ask(two, "register echo"), ("-1", 98, "REFUSED N3: another live thread has the name (echo)"))
+        want(ask(two, "register other")[:2], ("0", 0))
+        want(ask(one, "list -")[0], f"1 echo {one.thread:x}")
+        want(ask(one, "list echo")[0], f"1 other {two.thread:x}")
+        want(ask(one, "list other")[0], "0 - 0")
+        longest = "n" * MAX_NAME_BYTES
+        want(ask(one, f"register {longest}")[0], "0")
+        want(ask(two, "list echo")[0], f"1 {longest} {one.thread:x}")
+        for bad in ("n" * (MAX_NAME_BYTES + 1), "a b", "\u00e9"):
+            want(ask(one, f"register {bad}")[1], 22)
+        # buffers that were accepted before stay
+        one.ask("brs 0 1,c00,7")
+        ask(one, "lookup echo")
+        one.tell("wait")
+        want(one.hear()[2].split(" (")[0], "receive phase from any thread: timeout")
+        # a name whose thread has ended is gone, and another one may have it
+        one.ask("disconnect")
+        want(ask(two, "lookup echo")[1], 2)
+        want(ask(two, "register echo")[0], "0")
+        # the name server ends, and comes again without names
+        names.end()
+        wait_until_gone(two, names.thread)
+        want(ask(two, "lookup echo")[1], 3)
+        again = start(server.path)
+        want(again.thread, thread_id(255, 2))
+        want(ask(two, "lookup echo")[1], 2)
+        want(ask(two, "register echo")[0], "0")
+        one.end()
+        two.end()
+        again.end()
+        server.is_legal(l4sh)
+        return count
+
+
+def run_example(room, name, *words, waits=None):
+    """A role that ends: what it printed. One that serves: its process, when it has said who it is."""
+    process = subprocess.Popen([name, *words], stdout=subprocess.PIPE, stderr=subprocess.PIPE, text=True)
+    if waits:
+        line = process.stdout.readline()
+        assert line.startswith(waits), line + process.stderr.read()
+        return process
+    out, errors = process.communicate(timeout=SECONDS)
+    assert process.returncode == 0, (name, words, out, errors)
+    return out
+
+
+def check_examples(programs, l4d, l4sh, room, plain):
+    """Each example, by names or by ids; what it prints is right, and stands so in the trace."""
+    program = lambda name: os.path.join(room, "plain_" + name) if plain else programs[name]
+    with Server(l4d, room) as server:
+        if plain:
+            names = NameServer(server.path)
+        peer = (lambda name, number: name) if plain else (lambda name, number: f"{number}.1")
+        run = lambda name, *words, **rest: run_example(room, program(name), server.dir, *words, **rest)
+        serving = [run("pingpong", "pong", waits="pingpong is 2.1 " + ("(registered)" if plain else "(no name server)"))]
+        pings = run("pingpong", "ping", peer("pingpong", 2)).splitlines()
+        assert [re.match(r"IPC \( *(\d+) MRs\): [\d.]+ microseconds$", line)[1] for line in pings] == [str(n) for n in range(0, 61, 4)]
+        serving.append(run("pager", "serve", waits="pager is 4.1"))
+        addresses = ["0x1000", "0x2fff", "0x1004", "0xffffffffffffffff"]
+        assert run("pager", "touch", peer("pager", 4), *addresses) == "0x1000: frame 0\n0x2fff: frame 1\n0x1004: frame 0\n0xffffffffffffffff: frame 2\n"
+        taker = run("copy", "take", waits="taker is 6.1")
+        assert run("copy", "give", peer("taker", 6), "Greeting", *"hello from several pieces of memory".split()) == "sent in 12 pieces of memory\n"
+        out, errors = taker.communicate(timeout=SECONDS)
+        assert (taker.returncode, out) == (0, "title: Greeting\nfront: hello fr\nrest: om several pieces of memory\n"), out + errors
+        answerer = run("gateway", "answer", waits="answerer is 8.1")
+        serving += [answerer, run("gateway", "pass", peer("answerer", 8), waits="gateway is 9.1")]
+        assert run("gateway", "ask", peer("gateway", 9), "21") == "from 8.1: 42\n"
+        assert answerer.stdout.readline() == "from 14.1, by 9.1: 21\n"
+        cancelled = sorted(run("cancel").splitlines())
+        assert cancelled == ["caller: receive phase from 11.1: cancelled by another thread (e=3, offset 0), ErrorCode 0x7",
+                             "canceller: it was in its receive phase", "silent: a request from 12.1, and no answer"], cancelled
+        lines = server.is_legal(l4sh)
+        past = Past(lines)
+        heard = lambda thread: [told for told in past.outcomes(thread) if told[1] != NIL and told[1] >> 32 != 255]
+        pongs = [(told[4].count(",") + 1 if told[4] != "-" else 0) for told in heard(thread_id(3))]
+        assert pongs == [words for words in range(0, 61, 4) for _ in range(1000)]
+        assert [told[4] for told in heard(thread_id(5))] == ["1000,0", "2000,1", "1000,0", "fffffffffffff000,2"]
+        text = "hello from several pieces of memory".encode().hex()
+        assert [told[5] for told in heard(thread_id(6))] == [f"x{'Greeting'.encode().hex()},x{text}"]
+        assert [told[1:5] for told in heard(thread_id(8))] == [(thread_id(14), thread_id(9), 0, "15")]
+        assert [told[1:5] for told in heard(thread_id(14))] == [(thread_id(8), NIL, 0, "2a")]
+        assert (FAILED, NIL, NIL, 0x7, "-", "-") in past.outcomes(thread_id(12))
+        for process in serving:
+            process.kill()
+            process.wait()
+        return len(lines)
+
+
+def do_the_worst(programs, dir, victims):
+    """What no server should mind: strings, twice in a row and big ones, each count of words under any label, clients that wait for no
+    answer, that end in midst of their call, and that have no room for what comes. How much of it was done."""
+    sayer, done = Say(programs["say"], dir, 50), 0
+    for to in victims:
+        for strings in ([[b"x"]], [[b"x"]], [[bytes(MAX_STRING_BYTES)]], [[b""]] * 31, [[b"x"], [b"y"], [b"z"]]):
+            sayer.code(to=to, strings=strings)
+        for label, count in ((0, 0), (0, 1), (1, 2), (2, 0), (3, 63), (0xFFFF_FFFF_FFFF, 5), (0xFFFF_FFFF_FFE4, 1)):
+            sayer.code(to=to, label=label, words=range(count))
+            sayer.code(to=to, source=to, rcv=ZERO, label=label, words=range(count))
+        # in the name of one who does not wait, and of nobody
+        for shown in (sayer.thread, thread_id(60)):
+            sayer.code(to=to, virtual=shown, words=(1,))
+        other = Say(programs["say"], dir, 51)
+        other.tell_ipc(to=to, source=to, words=(1,))
+        other.tell_ipc(to=to, source=to, words=(1,))
+        time.sleep(0.01)
+        other.kill()
+        wait_until_gone(sayer, other.thread)
+        done += 22
+    sayer.end()
+    return done
+
+
+def check_worst(programs, l4d, room):
+    """Each server of each page, beside clients that do their worst: it serves as before, and ends when l4d ends, saying why."""
+    pages, count = build_pages(room), 1
+    with Server(l4d, room) as server:
+        # the client of README may come first
+        client = subprocess.Popen([pages["page_client"], server.dir], stdout=subprocess.PIPE, text=True)
+        answering = subprocess.Popen([pages["page_readme"], server.dir])
+        assert client.communicate(timeout=SECONDS)[0] == "42\n"
+        answering.kill()
+        answering.wait()
+    with Server(l4d, room) as server:
+        start = lambda name, *words, waits=None: run_example(room, {**programs, **pages}[name], server.dir, *words, waits=waits)
+        serving = {2: start("pingpong", "pong", waits="pingpong is 2.1"), 4: start("pager", "serve", waits="pager is 4.1"),
+                   8: start("gateway", "answer", waits="answerer is 8.1"), 9: start("gateway", "pass", "8.1", waits="gateway is 9.1"),
+                   6: start("copy", "take", waits="taker is 6.1")}
+        for number, name in ((1, "page_readme"), (40, "page_tutorial")):
+            serving[number] = subprocess.Popen([pages[name], server.dir], stdout=subprocess.PIPE, stderr=subprocess.PIPE, text=True)
+        sayer = Say(programs["say"], server.dir, 52)
+        for number in serving:
+            wait_until_waiting(sayer, thread_id(number), 0x2)
+        count += do_the_worst(programs, server.dir, [thread_id(number) for number in serving])
+        for number, label, words, wanted in ((2, 5, (1, 2, 3), "1,2,3"), (4, 0xFFFF_FFFF_FFE4, (0x5008, 0), "5000,0"), (8, 0, (21,), "2a"),
+                                             (9, 0, (21,), "2a"), (1, 0, (7,), "2a"), (40, 0, (7,), "8")):
+            for _ in range(2):
+                got = sayer.ipc(to=thread_id(number), source=thread_id(number), rcv=0x2BE8, label=label, words=words)
+                # the gateway's request is answered by the answerer
+                assert got[1] == thread_id(8 if number == 9 else number) and got[4] == wanted, (number, got)
+                count += 1
+        # an asker of the gateway is told that its answerer has ended
+        serving.pop(8).kill()
+        wait_until_gone(sayer, thread_id(8))
+        assert sayer.ipc(to=thread_id(9), source=thread_id(9), words=(1,))[0] >> 16 == 1
+        taker = serving.pop(6)
+        assert sayer.code(to=thread_id(6), strings=[[b"a title"], [b"a text"]]) == 0
+        out, errors = taker.communicate(timeout=SECONDS)
+        assert (taker.returncode, out) == (0, "title: a title\nfront: a text\nrest: \n"), (out, errors)
+        sayer.end()
+        server.process.kill()
+        for number, process in serving.items():
+            _, errors = process.communicate(timeout=SECONDS)
+            assert process.returncode == 1 and (number == 40 or "F9: the connection ended" in errors), (number, process.returncode, errors)
+            # all but TUTORIAL's loop have told what they could not answer
+            assert number == 40 or errors.count("got no answer: send phase to ") > 5 or number == 9, (number, errors)
+            count += 1
+    return count + check_worst_of_cancel(programs, l4d, room) + check_driver(programs, l4d, room) + check_parts(programs, l4d, room)
+
+
+def check_driver(programs, l4d, room):
+    """Lines of a FIFO come to readers that wait, each to one; a reader gives up beside its call; strangers do their worst; l4d's end is the driver's."""
+    fifo = os.path.join(room, "device")
+    os.mkfifo(fifo)
+    with Server(l4d, room) as server:
+        driver = subprocess.Popen([programs["driver"], server.dir, "serve", fifo], stdout=subprocess.PIPE, stderr=subprocess.PIPE, text=True)
+        device = open(fifo, "w", buffering=1)
+        assert driver.stdout.readline().startswith("driver is 15.1")
+        sayer = Say(programs["say"], server.dir, 52)
+        reader = lambda: subprocess.Popen([programs["driver"], server.dir, "read", "15.1"], stdin=subprocess.PIPE, stdout=subprocess.PIPE, text=True)
+
+        def wanted(process, line):
+            assert process.stdout.readline() == line and process.wait(SECONDS) == 0, line
+
+        for version in (1, 2):
+            waiting = reader()
+            wait_until_waiting(sayer, thread_id(17, version), 0x2)
+            device.write(f"line {version}\n")
+            wanted(waiting, f"line {version}\n")
+        waiting = reader()
+        wait_until_waiting(sayer, thread_id(17, 3), 0x2)
+        waiting.stdin.close()
+        wanted(waiting, "gave up\n")
+        do_the_worst(programs, server.dir, [thread_id(15)])
+        # two lines at once, and the second half of the last one comes later
+        device.write("one\ntwo\nthr")
+        wanted(reader(), "one\n")
+        wanted(reader(), "two\n")
+        waiting = reader()
+        wait_until_waiting(sayer, thread_id(17, 6), 0x2)
+        device.write("ee\n")
+        wanted(waiting, "three\n")
+        sayer.end()
+        server.process.kill()
+        _, errors = driver.communicate(timeout=SECONDS)
+        assert driver.returncode == 1 and "F9: the connection ended" in errors, (driver.returncode, errors)
+        device.close()
+    return 6
+
+
+def check_parts(programs, l4d, room):
+    """Ipc in two parts: l4_fd is readable when the outcome comes and not before, a call between them is C10, an end of nothing C14."""
+    with Server(l4d, room) as server:
+        one, two = Say(programs["say"], server.dir, 1), Say(programs["say"], server.dir, 2)
+        assert one.ask("end")[2].startswith("C14: no call was begun")
+        assert one.ask("begin")[0] == "0"
+        assert one.ask("readable")[0] == "0"
+        assert one.ask(f"send {two.thread:x}")[2].startswith("C10:") and one.ask("exreg 1 0")[2].startswith("C10:")
+        assert one.ask("begin")[2].startswith("C10:")
+        assert two.code(to=one.thread, label=5, words=(7, 8)) == 0
+        while one.ask("readable")[0] == "0":
+            time.sleep(0.001)
+        assert one.ask("end")[0].split()[:5] == ["50002", f"{two.thread:x}", "0", "0", "7,8"]
+        assert one.ask("end")[2].startswith("C14:")
+        # given up, and the number is free
+        assert one.ask("begin")[0] == "0"
+        one.ask("disconnect")
+        assert one.connect(1)[0] == 0 and one.code(source=ANY, rcv=0x64) == 0x3
+        server.process.kill()
+        while one.ask("readable")[0] == "0":
+            time.sleep(0.001)
+        one.end()
+        two.end()
+    return 12
+
+
+def check_worst_of_cancel(programs, l4d, room):
+    """The three threads of cancel, beside one that sends strings to each of them."""
+    with Server(l4d, room) as server:
+        sayer = Say(programs["say"], server.dir, 50)
+        process = subprocess.Popen([programs["cancel"], server.dir], stdout=subprocess.PIPE, text=True)
+        while process.poll() is None:
+            for number in (11, 12, 13):
+                sayer.code(to=thread_id(number), snd=0x64, strings=[[b"x"]])
+        assert process.returncode == 0 and process.stdout.read().count("\n") == 3
+        sayer.end()
+    return 1
+
+
+def check_python(programs, l4d, l4sh, room):
+    """C and Python examples with each other: servers of the one, found by name, and clients of the other. How many pairs."""
+    python = os.path.join(ROOT, "clients", "python")
+    if not os.path.isdir(python):
+        return 0
+    environment = {**os.environ, "PYTHONPATH": os.path.join(python, "src")}
+    example = lambda name: [sys.executable, os.path.join(python, "examples", name + ".py")]
+
+    def ask(words, wanted):
+        got = subprocess.run(words, capture_output=True, text=True, timeout=SECONDS, env=environment)
+        assert got.returncode == 0 and re.search(wanted, got.stdout), (words, got.stdout, got.stderr)
+
+    def serve(name, words):
+        """Starts a server, and waits until its name is known."""
+        serving.append(subprocess.Popen(words, stdout=subprocess.DEVNULL, env=environment))
+        end = time.time() + SECONDS
+        while name not in names.names and time.time() < end:
+            time.sleep(0.01)
+
+    for is_c in (True, False):
+        with Server(l4d, room) as server:
+            names, serving, at = NameServer(server.path), [], server.dir
+            serve(b"pingpong", [programs["pingpong"], at, "pong"] if is_c else [*example("pingpong"), at, "serve"])
+            serve(b"gateway", [programs["gateway"], at, "pass", "pingpong"] if is_c else [*example("gateway"), at, "serve"])
+            serve(b"pager", [programs["pager"], at, "serve"] if is_c else [*example("pager"), at, "serve"])
+            if is_c:
+                ask([*example("pager"), at, "fault", "0x2fff", "0x1000"], r"0x2fff .*0x2000, frame 0\n0x1000 .*0x1000, frame 1\n")
+                ask([*example("gateway"), at, "ask", "21"], r"asked .*9.*, and .*2.* answered 21")
+                ask([*example("pingpong"), at, "ask", "200"], "200 calls of ")
+            else:
+                ask([programs["pager"], at, "touch", "pager", "0x2fff", "0x1000"], "^0x2fff: frame 0\n0x1000: frame 1\n$")
+                ask([programs["gateway"], at, "ask", "gateway", "21"], "^from 10.1: 21\n$")
+                ask([programs["pingpong"], at, "ping"], r"IPC \(60 MRs\)")
+            server.is_legal(l4sh)
+            for process in serving:
+                process.kill()
+                process.wait()
+    return 6

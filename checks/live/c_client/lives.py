@@ -1,0 +1,45 @@
+"""Threads of one process, fork and signals, and a long life."""
+
+import subprocess
+
+from c_client.saying import SECONDS, Server
+from processes import figures
+
+
+def check_threads(programs, l4d, l4sh, room):
+    """Eight threads of one process, which end without saying so."""
+    with Server(l4d, room) as server:
+        words = int(subprocess.run([programs["threads"], server.dir], check=True, capture_output=True, text=True, timeout=SECONDS).stdout)
+        server.is_legal(l4sh)
+        return words
+
+
+UNIX_ROWS = ["destructor", "signals", "return", "killed", "child", "cancel", "left", "nested"]
+
+
+def check_unix(programs, l4d, l4sh, room):
+    """Fork, signals, the ends of threads of the process, calls that were left: each row with a server of its own."""
+    for row in UNIX_ROWS:
+        with Server(l4d, room) as server:
+            # the sanitizer for addresses does not see that a cancelled thread has left its frames
+            program = programs["plain_unix" if row == "cancel" else "unix"]
+            ran = subprocess.run([program, server.dir, row], capture_output=True, text=True, timeout=SECONDS)
+            assert ran.returncode == 0, (row, ran.returncode, ran.stderr)
+            server.is_legal(l4sh)
+    return len(UNIX_ROWS)
+
+
+def check_long_life(programs, l4d, room):
+    """A server that has answered many calls holds no more memory than one that has answered few, and takes calls as before."""
+    with Server(l4d, room, trace=False) as server:
+        def calls(count):
+            ran = subprocess.run([programs["long_life"], server.dir, str(count)], check=True, capture_output=True, text=True, timeout=8 * SECONDS)
+            assert int(ran.stdout) == count, ran
+            return count
+        made = calls(50_000)
+        before = figures(server.process.pid).resident
+        # two entries each: without compaction a history of 1,048,576 entries is full before their end
+        made += calls(550_000)
+        more = figures(server.process.pid).resident - before
+        assert more <= 8 * 1024, f"{more} KiB more after {made} calls"
+        return made, more

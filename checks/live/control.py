@@ -1,0 +1,205 @@
+#!/usr/bin/env python3
+"""control.py L4D L4SH: a server without a trace is asked what it does, while it works and while it hangs.
+
+Three threads that wait for each other are told as a deadlock, in the words of `l4sh state` of the trace of such a history; counters are told. The path `control` is
+its owner's alone whatever --mode says, it is not there with --no-control, and it goes with the others. Those who ask nothing, ask what is unknown, ask in pieces,
+do not read, or come in crowds hold up nobody.
+
+Its last line is `N checked, M failed`; the status is 0 where M is 0.
+"""
+
+import os
+import re
+import socket
+import stat
+import subprocess
+import sys
+import tempfile
+import threading
+import time
+
+sys.path[1:1] = [f"{sys.path[0]}/../lib", f"{sys.path[0]}/../../clients/python/src"]
+
+from arguments import programs_of
+from counting import Tally
+from l4ipc import L4Error, Message, Thread, ThreadId
+from serving import rest_of
+
+SECONDS = 60
+CROWD = 40
+
+tally = Tally()
+check = tally.check
+
+
+class Server:
+    """An l4d in a folder of its own."""
+
+    def __init__(self, l4d, *words):
+        self.folder = tempfile.mkdtemp(prefix="l4control")
+        command = [l4d, "--dir", self.folder, "--spaces", "1", "--keep-open", *words]
+        # SIGTERM is blocked, so that it ends the service
+        blocked = "import signal, os, sys; signal.pthread_sigmask(signal.SIG_BLOCK, [signal.SIGTERM]); os.execv(sys.argv[1], sys.argv[1:])"
+        self.process = subprocess.Popen([sys.executable, "-c", blocked, *command], stdin=subprocess.DEVNULL, stdout=subprocess.PIPE, text=True)
+        self.process.stdout.readline()
+        self.path = f"{self.folder}/control"
+
+    def __enter__(self):
+        return self
+
+    def __exit__(self, *_):
+        self.process.kill()
+        self.process.communicate()
+
+    def end(self):
+        """Ends the service; how long that took."""
+        began = time.monotonic()
+        self.process.terminate()
+        self.process.communicate(timeout=SECONDS)
+        return time.monotonic() - began
+
+    def connect(self):
+        asker = socket.socket(socket.AF_UNIX)
+        asker.settimeout(SECONDS)
+        asker.connect(self.path)
+        return asker
+
+    def ask(self, *pieces):
+        """What is answered to a word that comes in pieces."""
+        with self.connect() as asker:
+            try:
+                for piece in pieces:
+                    asker.sendall(piece)
+                    time.sleep(0.05 if len(pieces) > 1 else 0)
+            except ConnectionError:
+                # closed at once, in a crowd
+                pass
+            return rest_of(asker)
+
+
+def tool(l4sh, *words):
+    ran = subprocess.run([l4sh, *words], stdin=subprocess.DEVNULL, capture_output=True, text=True, timeout=SECONDS)
+    return ran.returncode, ran.stdout, ran.stderr
+
+
+def without_moments(text):
+    """A state without its moments."""
+    return re.sub(r"^moment \d+ µs$|since \d+", "", text, flags=re.M)
+
+
+def wait_until(holds):
+    """Whether this holds within a while."""
+    end = time.monotonic() + SECONDS
+    while time.monotonic() < end:
+        if holds():
+            return True
+        time.sleep(0.02)
+    return False
+
+
+def hang(server):
+    """Three threads, each of which calls the next."""
+    threads = [Thread(server.folder, number) for number in (1, 2, 3)]
+    for number, thread in enumerate(threads, 1):
+        def call(thread=thread, to=number % 3 + 1):
+            try:
+                thread.call(ThreadId.of(to, 1), Message(0, [7]))
+            except (L4Error, OSError):
+                pass
+        threading.Thread(target=call, daemon=True).start()
+        wait_until(lambda: f"{number}.1  space 1  sends" in server.ask(b"state\n"))
+    return threads
+
+
+def check_hang(l4d, l4sh):
+    """A hang of a server without a trace is told, and is that of the trace of the same calls."""
+    with Server(l4d) as plain, tempfile.TemporaryDirectory() as room:
+        with Server(l4d, "--trace", f"{room}/trace") as traced:
+            held = hang(plain), hang(traced)
+            status, told, error = tool(l4sh, "state", plain.folder)
+            check("the deadlock is told", (status, error) == (0, "") and "deadlock: 1.1 waits for 2.1 waits for 3.1 waits for 1.1\n" in told, (status, told, error))
+            check("a server answers as l4sh does", told and without_moments(told) == without_moments(plain.ask(b"state\n")), told)
+            status, of_trace, _ = tool(l4sh, "state", f"{room}/trace")
+            check("it is the state of the trace", status == 0 and without_moments(told) == without_moments(of_trace), (told, of_trace))
+            first, second = (int(re.match(r"moment (\d+)", plain.ask(b"state\n"))[1]) for _ in range(2))
+            check("its clock goes on while all hang", first < second, (first, second))
+            del held
+
+
+def check_counters(l4d, l4sh):
+    """The counters, as lines of a name and a value."""
+    with Server(l4d) as server, Thread(server.folder, 1) as one, Thread(server.folder, 2) as two:
+        for _ in range(5):
+            two.begin_wait()
+            one.send(ThreadId.of(2, 1), Message(0, [1]))
+            two.finish()
+        status, told, error = tool(l4sh, "count", server.folder)
+        counters = dict(line.split(" ") for line in told.splitlines())
+        check("counters are told", (status, error) == (0, "") and all(value.isdigit() for value in counters.values()), (status, told, error))
+        check("they count", counters.get("threads") == "2" and counters.get("connections") == "2" and counters.get("calls_over") == "10", counters)
+        check("without a trace none lags", "trace_entries_behind" not in counters, counters)
+
+
+def check_askers(l4d):
+    """Those who ask badly hold up nobody."""
+    with Server(l4d) as server, Thread(server.folder, 1):
+        state = "1.1  space 1  free\n"
+        check("a word in pieces", state in server.ask(b"st", b"ate", b"\n"), "")
+        for word in (b"\n", b"states\n", b"STATE\n", b"state \n", b"\0" * 64, b"x" * 64, b"counters\r\n"):
+            told = server.ask(word)
+            check(f"{word[:12]!r} is unknown", told == "unknown: one of state, counters, trace, rotate\n", told)
+        crowd = [server.connect() for _ in range(CROWD)]
+        time.sleep(0.2)
+        closed = sum(1 for asker in crowd if is_closed(asker))
+        check("a crowd is not let in", closed >= CROWD - 8, closed)
+        began = time.monotonic()
+        check("who says nothing is left", wait_until(lambda: state in server.ask(b"state\n")), "")
+        check("soon", time.monotonic() - began < 10, time.monotonic() - began)
+        for asker in crowd:
+            asker.close()
+        mute = server.connect()
+        took = server.end()
+        check("who says nothing does not keep a server that ends", took < 10, took)
+        mute.close()
+        check("the paths are gone", os.listdir(server.folder) == [], os.listdir(server.folder))
+
+
+def is_closed(asker):
+    """Whether the server has closed this connection."""
+    asker.setblocking(False)
+    try:
+        return asker.recv(1) == b""
+    except BlockingIOError:
+        return False
+    except ConnectionError:
+        return True
+
+
+def check_path(l4d, l4sh):
+    """Whose the path is, and that it can be left out."""
+    with Server(l4d, "--mode", "666") as server:
+        modes = {name: stat.S_IMODE(os.stat(f"{server.folder}/{name}").st_mode) for name in os.listdir(server.folder)}
+        check("it is its owner's alone", modes == {"space1": 0o666, "control": 0o600}, modes)
+        status, _, error = tool(l4sh, "state", "--at", "1", server.folder)
+        check("no --at of a live server", status == 2 and "takes no --at" in error, (status, error))
+        status, _, error = tool(l4sh, "count", "--json", server.folder)
+        check("no --json of a live server", status == 2 and "takes no --json" in error, (status, error))
+    status, told, error = tool(l4sh, "state", server.folder)
+    check("nobody answers there", status == 1 and told == "" and f"{server.folder}/control: " in error, (status, told, error))
+    with Server(l4d, "--no-control") as server:
+        check("it can be left out", os.listdir(server.folder) == ["space1"], os.listdir(server.folder))
+        status, _, error = tool(l4sh, "state", server.folder)
+        check("then nobody can ask", status == 1 and "No such file" in error, (status, error))
+
+
+def main(arguments):
+    l4d, l4sh = programs_of(arguments, __doc__, 2)
+    check_hang(l4d, l4sh)
+    check_counters(l4d, l4sh)
+    check_askers(l4d)
+    check_path(l4d, l4sh)
+    return tally.end()
+
+
+if __name__ == "__main__":
+    sys.exit(main(sys.argv[1:]))

@@ -1,0 +1,27 @@
+#!/usr/bin/env python3
+"""What a sysadmin meets who runs l4d: limits, strangers, paths, signals, a trace.
+
+checks/live/operating.py PROGRAM         runs PROGRAM (l4d) in folders of its own
+
+Each case says what it typed and what came. The last line is `operating: N passed, M failed`; the exit status is 1 where one failed.
+"""
+
+import sys
+
+sys.path.insert(1, f"{sys.path[0]}/../lib")
+
+from counting import told_looks
+from server_cases.ending import signals, terminal
+from server_cases.rooms import few_connections, few_tasks, full, kept_open, no_descriptor, strangers
+from server_cases.starting import denied, guarded, paths, probe, ready, words
+from server_cases.telling import log, slow_trace, traces
+
+CASES = [words, paths, denied, guarded, probe, traces, slow_trace, log, signals, terminal, ready, full, few_connections, kept_open, no_descriptor, few_tasks, strangers]
+
+
+def main():
+    return told_looks("operating", ((case.__name__.replace("_", " "), case) for case in CASES))
+
+
+if __name__ == "__main__":
+    sys.exit(main())

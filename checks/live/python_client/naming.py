@@ -1,0 +1,154 @@
+"""Names: servers and name servers that restart, bad names, and names of who propagates."""
+
+import time
+
+from python_client.package import name_server
+from python_client.seeing import Message, beside, check, end, l4ipc, names, output, same, told
+
+
+def server_restarts(server):
+    """A server of two versions, under one name."""
+    with server.thread(90) as asks:
+        asked = names.Names(asks)
+        same("no such name", asked.lookup("echo"), None)
+        first = server.thread(91)
+        same("register", str(names.register(first, "echo")), "91.1")
+        same("register again", str(names.register(first, "echo")), "91.1")
+        same("look up", str(asked.lookup("echo")), "91.1")
+        told("taken", lambda: asked.register("echo"), names.NameFault, number=names.NameFault.TAKEN, holder=first.id)
+        first.close()
+        wait_until_gone(asks, first.id)
+        same("the name of a thread that ended", asked.lookup("echo"), None)
+        second = server.thread(91)
+        same("the second version", str(names.register(second, "echo")), "91.2")
+        same("look up of the second version", str(asked.lookup("echo")), "91.2")
+        served = beside(lambda: second.reply_wait(second.wait(5).sender, Message(0, [42]), 0))
+        same("a call of it by its name", asks.call(asked.lookup("echo"), Message(1)).words, (42,))
+        served()
+        second.close()
+        wait_until_gone(asks, second.id)
+        third = server.thread(91)
+        same("a name that is taken over from a thread that ended", str(names.register(third, "echo")), "91.3")
+        third.close()
+
+
+def wait_until_gone(thread, other):
+    for _ in range(500):
+        if not names.is_live(thread, other):
+            return
+        time.sleep(0.002)
+
+
+def bad_names(server):
+    fault = names.NameFault
+    with server.thread(92) as thread:
+        asked = names.Names(thread)
+        for name in ("", " ", "a b", "a\n", "\x7f", "é"):
+            told(f"bad name {name!r}", lambda: asked.register(name), fault, number=fault.BAD_NAME)
+            told(f"bad name {name!r} looked up", lambda: asked.lookup(name), fault, number=fault.BAD_NAME)
+        longest = "~" * 64
+        same("the longest name", asked.register(longest), thread.id)
+        same("it is found", asked.lookup(longest), thread.id)
+        for message in (Message(0), Message(1), Message(1, [1], [b"a"]), Message(2, [1]), Message(3), Message(4, [], [b"a"]), Message(3, [0], [b""])):
+            answer = thread.call(asked.server, message, buffers=[64])
+            same(f"bad request {message}", (answer.label, answer.words, answer.strings), (fault.BAD_REQUEST, (0,), ()))
+        for message in (Message(1, [], [b"a" * 65]), Message(1, [], [b"a", b"b"])):
+            told("a request past the server's buffer", lambda: thread.call(asked.server, message), l4ipc.Overflow, phase="send")
+        answer = thread.call(asked.server, Message(3, [], [b"\xff"]), buffers=[64])
+        same("a list after what is no name", answer.label, fault.BAD_NAME)
+        thread.send(asked.server, Message(1, [], [b"quiet"]))
+        same("a register that waits for no answer", asked.lookup("quiet"), thread.id)
+        same("the list", asked.list(), [("quiet", thread.id), (longest, thread.id)])
+
+
+def propagated_names(server):
+    with server.thread(93) as gate, server.thread(94) as other, server.thread(95, 2) as stranger:
+        asked = names.Names(gate)
+        same("no such name", asked.lookup("other"), None)
+        # the server answers whom it registers, so that the gate gets no answer; it looks the name up afterwards
+        gate.send(asked.server, Message(1, [], [b"other"], originator=other.id))
+        same("a thread of the own space is registered", asked.lookup("other"), other.id)
+        same("a thread of another space is not", asked.register("stranger", originator=stranger.id), gate.id)
+        same("its own", names.Names(stranger).register("own"), stranger.id)
+        same("names over spaces", asked.lookup("own"), stranger.id)
+
+
+def busy_names(server):
+    """Threads that look each other up while all of them ask: the name server meets requests of those whom it asks the kernel about."""
+    threads = [server.thread(number) for number in range(100, 108)]
+    for thread in threads:
+        names.register(thread, f"busy{thread.id.number}")
+    wrong = []
+
+    def asks(place):
+        asked = names.Names(threads[place])
+        for turn in range(60):
+            wanted = threads[(place + turn) % len(threads)].id
+            found = asked.lookup(f"busy{wanted.number}")
+            if found != wanted:
+                wrong.append((found, wanted))
+        return "done"
+
+    joined = [beside(lambda place=place: asks(place)) for place in range(len(threads))]
+    same("busy look ups end", [it(60) for it in joined], ["done"] * len(threads))
+    same("busy look ups", wrong, [])
+    for thread in threads:
+        thread.close()
+
+
+def full_names(server):
+    with server.thread(96) as thread, server.thread(97) as asks:
+        asked = names.Names(thread)
+        wait_until_listed(asks, 0)
+        for place in range(256):
+            asked.register(f"n{place:03}")
+        told("full", lambda: names.register(asks, "more"), names.NameFault, number=names.NameFault.FULL)
+        same("a full list", [name for name, _ in names.Names(asks).list()], [f"n{place:03}" for place in range(256)])
+    with server.next_thread(97) as asks:
+        wait_until_gone(asks, thread.id)
+        same("room after their thread has ended", names.register(asks, "more"), asks.id)
+        same("the list drops who ended", names.Names(asks).list(), [("more", asks.id)])
+
+
+def wait_until_listed(thread, count):
+    for _ in range(500):
+        if len(names.Names(thread).list()) == count:
+            return
+        time.sleep(0.002)
+
+
+def looked_up(server, l4x, name):
+    """What `l4x lookup` prints, and its status, once the thread of the last look up has ended."""
+    for _ in range(500):
+        text, status = output(server.start([l4x, server.folder, "lookup", name]))
+        if text != "refused: K2\n":
+            break
+    return text, status
+
+
+def name_server_restarts(server, l4x, process):
+    with server.thread(98) as thread:
+        asked = names.Names(thread)
+        asked.register("before")
+        end(process)
+        wait_until_gone(thread, asked.server)
+        told("no name server", lambda: asked.lookup("before"), names.NoNames)
+        name_server(server, l4x, 2)
+        same("a new name server has forgotten", asked.lookup("before"), None)
+        same("it was found", str(asked.server), "255.2")
+        asked.register("after")
+        text, status = looked_up(server, l4x, "after")
+        same("l4x lookup", (status, text), (0, "98.1\n"))
+        text, status = looked_up(server, l4x, "nobody")
+        same("l4x lookup of nobody", (status, text), (0, "nothing\n"))
+        text, status = looked_up(server, l4x, "a b")
+        check("l4x lookup of a bad name", status == 1 and "bad name" in text, text)
+    server.start([l4x, server.folder, "keyvalue", "--names"])
+    server.start([l4x, server.folder, "gateway", "--names"])
+    with server.next_thread(98) as thread:
+        asked = names.Names(thread)
+        same("l4x registers", [str(asked.wait_for(name, 10)) for name in ("keyvalue", "gateway")], ["1.1", "2.1"])
+        answer = thread.call(asked.lookup("gateway"), Message(1, [7, 70]))
+        same("a put through the gateway of l4x", (answer.label, answer.words, str(answer.sender)), (3, (70,), "1.1"))
+    for said, wanted in ((("get", "7", "--names"), "70\n"), (("get", "7", "gateway", "--names"), "70\n"), (("get", "7"), "70\n"), (("get", "8"), "nothing\n")):
+        same(f"l4x {' '.join(said)}", output(server.start([l4x, server.folder, *said])), (wanted, 0))

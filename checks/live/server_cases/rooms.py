@@ -1,0 +1,184 @@
+"""Strangers, and limits of connections, descriptors and tasks."""
+
+import os
+import resource
+import shutil
+import socket
+import subprocess
+import tempfile
+import time
+
+from frames import BYE, hello
+from protocol_tables import MAX_CONNECTIONS, WELCOME
+from server_cases.running import PROGRAM, has, run, served
+from serving import Client, pair_works
+
+# How many descriptors the server of strangers may have, how many strangers come, and how long one may be silent, in seconds.
+DESCRIPTORS, STRANGERS, SILENT = 64, 10_000, 1
+# One connection more than a path takes without --keep-open.
+MOST_CONNECTIONS = MAX_CONNECTIONS + 1
+# How many tasks a server may have that gets no further worker.
+TASKS = 12
+
+
+def strangers():
+    """Strangers who connect and say nothing use up no path: a pair works on, a new client is served, and the server ends well."""
+    with served("--hello-within", str(SILENT), preexec_fn=lambda: resource.setrlimit(resource.RLIMIT_NOFILE, (DESCRIPTORS, DESCRIPTORS))) as server:
+        pair = Client(server.path, 1), Client(server.path, 2)
+        came, waiting, trips, begin = 0, [], 0, time.time()
+        while came < STRANGERS:
+            # most leave at once, as scanners do; some stay and say nothing
+            try:
+                stranger = Client(server.path)
+            except BlockingIOError:
+                # the system's queue for the path is full
+                time.sleep(0.01)
+                continue
+            came += 1
+            if came % 100 == 0:
+                waiting.append(stranger)
+                pair_works(pair)
+                trips += 1
+            else:
+                stranger.line.close()
+        spent = time.time() - begin
+        begin = time.time()
+        new = None
+        while new is None:
+            try:
+                new = Client(server.path, 3, seconds=30)
+            except BlockingIOError:
+                time.sleep(0.01)
+        after = time.time() - begin
+        pair_works((pair[0], new))
+        pair_works(pair)
+        files = len(os.listdir(f"/proc/{server.process.pid}/fd"))
+        assert files <= DESCRIPTORS, files
+        shut = [stranger for stranger in waiting if stranger.is_shut(0.05)]
+        assert shut, "no silent stranger was closed"
+        assert pair[0].is_shut(0.05) is False, "the pair was closed"
+        return f"{came} strangers in {spent:.1f} s, {trips} round trips meanwhile, a new client after {after:.1f} s, {len(shut)} silent ones closed"
+
+
+def no_descriptor():
+    """An accept that finds no descriptor is tried again, told once, and does not count as a connection."""
+    with served("--connections", "40") as server:
+        first = Client(server.path, 1)
+        files = len(os.listdir(f"/proc/{server.process.pid}/fd"))
+        resource.prlimit(server.process.pid, resource.RLIMIT_NOFILE, (files, DESCRIPTORS))
+        # an accept that waits has its descriptor already, so the first may still come
+        late = [Client(server.path) for _ in range(3)]
+        late[2].line.sendall(hello(2))
+        time.sleep(0.5)
+        late[2].line.settimeout(0.2)
+        try:
+            raise AssertionError(late[2].hear())
+        except TimeoutError:
+            pass
+        resource.prlimit(server.process.pid, resource.RLIMIT_NOFILE, (DESCRIPTORS, DESCRIPTORS))
+        late[2].line.settimeout(5)
+        assert late[2].hear()[0] == WELCOME
+        for number in range(3, 3 + 36):
+            client = Client(server.path, number)
+            client.line.close()
+        for client in (first, *late):
+            client.line.close()
+        status, out, err = server.end()
+        assert (status, out) == (0, "closed\n"), (status, out, err)
+        assert err.count("\n") == 1, err
+        has(err, "l4d: no connection can be accepted: ", "os error 24", " connections are there")
+        return err.strip()
+
+
+def few_connections():
+    """--live 2: a third is served once one of the two has ended or was silent for too long."""
+    with served("--live", "2", "--hello-within", str(SILENT)) as server:
+        one, silent = Client(server.path, 1), Client(server.path)
+        begin = time.time()
+        three = Client(server.path, 3)
+        spent = time.time() - begin
+        assert spent > SILENT / 2, spent
+        assert silent.is_shut(1) and not one.is_shut(0.1)
+        four = Client(server.path)
+        four.line.sendall(hello(4))
+        assert not four.is_shut(2 * SILENT), "a thread was closed for a newer connection"
+        one.line.sendall(BYE)
+        four.line.settimeout(5)
+        assert four.hear()[0] == WELCOME
+        three.line.close()
+        return f"the third connection was served after {spent:.1f} s, when the silent one was closed"
+
+
+def few_tasks():
+    """A server that may start no further worker closes the connection, tells it once, and serves on."""
+    if not shutil.which("prlimit") or os.getuid() != 0:
+        return "left out: prlimit and root are wanted"
+    with tempfile.TemporaryDirectory() as folder:
+        os.chmod(folder, 0o777)
+        # the limit counts all tasks of a user: one whom nobody else is
+        user = 54_321
+        run_as = ["prlimit", f"--nproc={TASKS}", "setpriv", f"--reuid={user}", f"--regid={user}", "--clear-groups"]
+        if not shutil.which("setpriv"):
+            return "left out: setpriv is wanted"
+        place = f"{folder}/l4d"
+        shutil.copy(PROGRAM, place)
+        os.chmod(place, 0o755)
+        process = subprocess.Popen([*run_as, place, "--dir", folder, "--spaces", "1"], stdin=subprocess.DEVNULL, stdout=subprocess.PIPE, stderr=subprocess.PIPE)
+        try:
+            assert process.stdout.readline() == b"listening 1\n", process.communicate()
+            clients, refused = [], 0
+            for number in range(1, 12):
+                try:
+                    clients.append(Client(f"{folder}/space1", number, seconds=5))
+                except (EOFError, ConnectionResetError, BrokenPipeError):
+                    refused += 1
+            assert refused and len(clients) >= 2, (refused, len(clients))
+            pair_works(clients[:2])
+            for client in clients[1:]:
+                client.line.sendall(BYE)
+            time.sleep(0.3)
+            again = Client(f"{folder}/space1", 100)
+            pair_works((clients[0], again))
+        finally:
+            process.kill()
+        err = process.communicate()[1].decode()
+        return f"{len(clients)} served, {refused} closed, and served again once there was room; {err.strip() or 'nothing told'}"
+
+
+def full():
+    """A server that has no room for a connection says so once, and what helps; with --log it tells each connection that waits."""
+    for words, before, helps in ((("--live", "2"), (), "--live"), ((), ("prlimit", "--nofile=30"), "LimitNOFILE")):
+        if before and not shutil.which(before[0]):
+            continue
+        for log in ((), ("--log",)):
+            with served(*words, *log, before=before) as server:
+                there = [Client(server.path) for _ in range(8)]
+                time.sleep(0.5)
+                for client in there:
+                    client.line.close()
+                time.sleep(0.5)
+                server.process.kill()
+                err = server.end()[2]
+                assert err.count("l4d: full: ") == 1 and "connections are there" in err and helps in err, err
+                assert ("l4d: no room yet for a connection of space 1\n" in err) == bool(log), err
+    return err.splitlines()[1]
+
+
+def kept_open():
+    """--keep-open: a path goes on past the number of connections after which it closes otherwise; without it that number is the last."""
+    # so few descriptors that no crowd of threads builds up: who comes then waits for room
+    few = lambda: resource.setrlimit(resource.RLIMIT_NOFILE, (4 * DESCRIPTORS, 4 * DESCRIPTORS))
+    with served("--keep-open", preexec_fn=few) as server:
+        pair = Client(server.path, 1), Client(server.path, 2)
+        begin = time.time()
+        for _ in range(MOST_CONNECTIONS):
+            came = socket.socket(socket.AF_UNIX)
+            came.connect(server.path)
+            came.close()
+        spent = time.time() - begin
+        pair_works(pair)
+        pair_works((pair[0], Client(server.path, 3)))
+        assert server.process.poll() is None
+    status, out, err = run("--dir", "/", "--spaces", "1", "--connections", "2", "--keep-open")
+    assert (status, out) == (2, "") and "--keep-open: no --connections beside it, got 2" in err, err
+    return f"{MOST_CONNECTIONS} connections in {spent:.0f} s, and a pair and a new client work on"

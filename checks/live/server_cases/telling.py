@@ -1,0 +1,126 @@
+"""Traces, and what is told."""
+
+import os
+import re
+import resource
+import signal
+import stat
+import tempfile
+import threading
+import time
+
+from frames import frame, hello, ipc
+from protocol_tables import FAULT, IPCR, K_NUMBER_TAKEN, REFUSED
+from server_cases.running import has, run, served
+from serving import Client, pair_works
+
+# With more entries than these before it a trace is far behind. A call to nobody makes two; so many processes make them.
+FAR_BEHIND, CALLERS = 524_288, 2
+
+
+def traces():
+    """A trace that is made is its owner's alone; one that is required and fails ends the server, at the start before anything is accepted."""
+    with tempfile.TemporaryDirectory() as folder:
+        old = os.umask(0)
+        try:
+            file = f"{folder}/trace"
+            told = run("--dir", folder, "--spaces", "1", "--connections", "2", "--probe", "--trace", file, "--trace-required")
+        finally:
+            os.umask(old)
+        assert told == (0, "listening 1\nprobe 0x7\nclosed\n", ""), told
+        assert stat.S_IMODE(os.stat(file).st_mode) == 0o600, oct(os.stat(file).st_mode)
+        told = run("--dir", folder, "--spaces", "1", "--trace", f"{folder}/none/trace", "--trace-required")
+        assert (told[0], told[1]) == (1, ""), told
+        has(told[2], "l4d: trace TR1\n", "cannot be opened", "No such file", "--trace-required")
+        assert not os.path.exists(f"{folder}/space1")
+        told = run("--dir", folder, "--spaces", "1", "--trace", "/dev/full", "--trace-required")
+        assert (told[0], told[1]) == (1, ""), told
+        has(told[2], "l4d: trace TR1\n", "--trace-required")
+        assert not os.path.exists(f"{folder}/space1")
+
+        def little_room():
+            # room for the line of the version, and a write past it fails
+            signal.signal(signal.SIGXFSZ, signal.SIG_IGN)
+            resource.setrlimit(resource.RLIMIT_FSIZE, (len("l4trace 2\n"),) * 2)
+
+        with served("--trace", f"{folder}/short", "--trace-required", preexec_fn=little_room) as server:
+            try:
+                client = Client(server.path, 1)
+                assert client.is_shut(5)
+            except (EOFError, ConnectionResetError):
+                pass
+            status, out, err = server.end()
+            assert status == 1 and not os.path.exists(server.path), (status, out, err)
+            has(err, "l4d: trace TR1\n", "--trace-required")
+        return "mode 0600; at the start, on a full device, and at a later write that fails, status 1"
+
+
+def call_nobody(path, number, count):
+    """A process of its own that calls a thread which is not there, so often."""
+    child = os.fork()
+    if child:
+        return child
+    status = 1
+    try:
+        caller, call = Client(path, number, seconds=120), ipc(77 << 32 | 1, 0, [])
+        status = 0 if all(caller.ask(call)[0] == IPCR for _ in range(count)) else 2
+    finally:
+        os._exit(status)
+
+
+def lines_of(pipe, read):
+    """Adds what comes out of a pipe to a list until its end."""
+    while piece := os.read(pipe, 1 << 20):
+        read.append(piece)
+
+
+def slow_trace():
+    """A trace that nobody reads holds up no client; how far it is behind is told once; and when it is read it is whole."""
+    with tempfile.TemporaryDirectory() as folder:
+        fifo = f"{folder}/trace"
+        os.mkfifo(fifo)
+        pipe = os.open(fifo, os.O_RDONLY | os.O_NONBLOCK)
+        with served("--trace", fifo, "--connections", str(CALLERS + 2)) as server:
+            begin = time.time()
+            # the pipe and the server's buffer take some lines, too
+            each = FAR_BEHIND // 2 // CALLERS + 5_000
+            callers = [call_nobody(server.path, 10 + it, each) for it in range(CALLERS)]
+            assert [os.waitpid(it, 0)[1] for it in callers] == [0] * CALLERS
+            spent, calls = time.time() - begin, CALLERS * each
+            pair_works((Client(server.path, 1), Client(server.path, 2)))
+            os.set_blocking(pipe, True)
+            read = []
+            reader = threading.Thread(target=lines_of, args=(pipe, read))
+            reader.start()
+            status, out, err = server.end(60)
+            reader.join()
+            os.close(pipe)
+            told = re.fullmatch(r"l4d: trace (\d+) entries behind\n", err)
+            assert (status, out) == (0, "closed\n") and told and int(told[1]) > FAR_BEHIND, (status, out, err)
+            trace = b"".join(read)
+            assert trace.startswith(b"l4trace 2\n") and trace.endswith(b"\n")
+            assert trace.count(b"\ncalled ") == calls + 2 and trace.count(b"\nfailed ") == calls, trace.count(b"\n")
+        return f"{calls} calls in {spent:.0f} s, {told[1]} entries behind, and then a trace of {trace.count(bytes([10]))} lines"
+
+
+def log():
+    """--log tells paths, refused connections, faults with their thread, and counters; nothing is told without it."""
+    for words, told in ((("--log",), True), ((), False)):
+        with served("--connections", "4", *words) as server:
+            pair = Client(server.path, 1), Client(server.path, 2)
+            pair_works(pair)
+            taken = Client(server.path)
+            assert taken.ask(hello(1)) == (REFUSED, bytes([K_NUMBER_TAKEN]))
+            assert Client(server.path).ask(b"GET / HTTP/1.1\r\n\r\n")[0] == FAULT
+            assert pair[1].ask(frame(9))[0] == FAULT
+            taken.line.close()
+            pair[0].line.close()
+            status, out, err = server.end()
+            assert (status, out) == (0, "closed\n"), (status, out, err)
+            if not told:
+                assert err == "", err
+                continue
+            has(err, f"l4d: listens on {server.path}\n", "l4d: refused K2 to a connection of space 1\n", "l4d: fault F1 to a connection of space 1\n",
+                " to 2.1 of space 1\n", "2 calls over", "2 faults", "1 refusals K2", " entries, ", " KiB")
+            last = err.strip().splitlines()[-1]
+    return last

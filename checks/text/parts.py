@@ -1,0 +1,183 @@
+#!/usr/bin/env python3
+"""checks/text/parts.py [L4SH]: histories that stand in several files, made right and made wrong.
+
+The histories are those of the scripts in checks/scripts/run and of the examples, cut into two and three files: `l4sh part` writes where each further one
+begins, with the outcomes taken or not. Of the files of one history `l4sh check` has to say `yes`. Then one line at a time of a base, or of what is kept, is
+changed, left out or put twice; the files come in another order, one comes twice, one is empty, torn, or no part; and an entry does not follow. Each time the
+file and the line have to be told that are at fault, and for an entry what the whole trace is told. The last line is `N passed, M failed`."""
+
+import glob
+import os
+import re
+import sys
+import tempfile
+
+sys.path.insert(1, f"{sys.path[0]}/../lib")
+
+from kit import ROOT
+from runs import ended, stored, trace_of, version_line
+
+HERE = f"{ROOT}/checks"
+NUMBERED = re.compile(rb"\d+")
+COUNT = re.compile(rb"no 1 \d+ (number|over) ")
+# how many of the histories are cut at each of their places, and how many places of the others are tried
+PLACES = 12
+
+
+class Files:
+    """The files of one history, in a folder of their own."""
+
+    def __init__(self, l4sh, room):
+        self.l4sh, self.room = l4sh, room
+
+    def put(self, contents):
+        """Writes these, oldest first, and says their names."""
+        names = [f"{self.room}/{place}" for place in range(len(contents))]
+        for name, content in zip(names, contents):
+            with open(name, "wb") as file:
+                file.write(content)
+        return names
+
+    def check(self, *contents):
+        """What `check` prints of these, with each name as its place; its status; and what it says on standard error."""
+        printed, status, told = ended([self.l4sh, "check", *self.put(contents)])
+        return printed.replace(self.room.encode() + b"/", b""), status, told
+
+    def part(self, *contents, untaken=False):
+        """The part that begins behind these; None where none does."""
+        printed, status, _ = ended([self.l4sh, "part", *(["--untaken"] if untaken else []), *self.put(contents)])
+        return printed if status == 0 else None
+
+
+def histories(l4sh):
+    """Legal histories, each as its header and its lines."""
+    scripts = sorted(glob.glob(f"{HERE}/scripts/run/*.in") + glob.glob(f"{ROOT}/examples/*.l4"))
+    for script in scripts:
+        trace = trace_of(ended([l4sh, "run"], stored(script))[0])
+        header = version_line(trace)
+        if ended([l4sh, "check", "-"], header + trace)[0] == b"yes\n":
+            yield os.path.basename(script), header, trace.splitlines(keepends=True)
+
+
+def places_of(count):
+    """Some places from 0 to that of the end."""
+    step = max(1, count // PLACES)
+    return sorted({*range(0, count + 1, step), count})
+
+
+def faults_of_cuts(files, header, lines):
+    """What is wrong with this history in two files and in three."""
+    whole = len(lines)
+    for place in places_of(whole):
+        first = header + b"".join(lines[:place])
+        for untaken in (False, True):
+            begun = files.part(first, untaken=untaken)
+            if begun is None:
+                continue
+            second = begun + b"".join(lines[place:])
+            there = files.check(first, second)
+            if there != (b"yes\n", 0, b""):
+                yield f"cut at {place}, {'untaken' if untaken else 'taken'}: {there}"
+            later = (place + whole) // 2
+            between = begun + b"".join(lines[place:later])
+            more = files.part(first, between)
+            if more is not None:
+                there = files.check(first, between, more + b"".join(lines[later:]))
+                if there != (b"yes\n", 0, b""):
+                    yield f"cut at {place} and {later}: {there}"
+
+
+def with_greater(line):
+    """The line with its last number one greater."""
+    found = list(NUMBERED.finditer(line))[-1]
+    return line[: found.start()] + b"%d" % (int(found[0]) + 1) + line[found.end() :]
+
+
+def faults_of_bases(files, first, begun, rest):
+    """What is told of a base of which one line is another."""
+    lines = begun.splitlines(keepends=True)
+    kept = lines.index(b"kept\n")
+    for place in range(1, len(lines) - 1):
+        line = lines[place]
+        changes = []
+        if place < kept and NUMBERED.search(line):
+            changes.append(("a greater number", lines[:place] + [with_greater(line)] + lines[place + 1 :]))
+        if place > 3 and line != b"kept\n":
+            changes.append(("left out", lines[:place] + lines[place + 1 :]))
+        if place > kept:
+            changes.append(("twice", lines[:place] + [line] + lines[place:]))
+        for what, changed in changes:
+            printed, status, told = files.check(first, b"".join(changed) + rest)
+            wanted = b"no 1 %d " % (place + (2 if what == "twice" else 1))
+            as_wanted = status == 3 and printed.startswith(wanted)
+            # a line that has no place there is bad, or a count that no rule asks for
+            if what == "a greater number" and line.startswith(b"number "):
+                as_wanted = status in (2, 3)
+            # which outcomes are still to be taken is read off what is kept, so without it a count before it may be the first that does not agree
+            if what == "left out" and place > kept:
+                as_wanted = as_wanted or status == 3 and bool(COUNT.match(printed))
+            if not as_wanted:
+                yield f"line {place + 1} {what}: {(printed, status, told)}, wanted is {wanted}"
+
+
+def faults_of_entries(files, header, lines, place, begun, first):
+    """What is told where an entry of the second file is left out."""
+    for gone in range(place, len(lines) - 1):
+        left = lines[:gone] + lines[gone + 1 :]
+        printed, status, _ = ended([files.l4sh, "check", "-"], header + b"".join(left))
+        before = len(begun.splitlines()) - place - len(header.splitlines())
+        if status == 3:
+            number = int(printed.split()[1])
+            printed = b"no 1 %d %b" % (number + before, printed.split(b" ", 2)[2])
+        there = files.check(first, begun + b"".join(left[place:]))
+        if there[:2] != (printed, status):
+            yield f"entry {gone + 1} left out: {there}, wanted is {(printed, status)}"
+
+
+def faults_of_orders(files, first, second):
+    """What is told of files in another order, and of what is no part."""
+    rows = [
+        ("the other order", (second, first), b"", 2, b"bad line 1"),
+        ("a part alone", (second,), b"", 2, b"name the files before it"),
+        ("the trace twice", (first, first), b"", 2, b"it is no part"),
+        ("an empty file", (first, b""), b"", 2, b"ends before the line since"),
+        ("an empty trace before a part", (b"", second), b"no 1 ", 3, b""),
+        ("a file that is no trace", (b"hello\n", second), b"", 2, b"bad line 1"),
+        ("an unfinished part", (first, second[: second.index(b"since")]), b"", 2, b"ends before the line since"),
+        ("a torn file before another", (first + b"o", second), b"", 5, b"torn"),
+        ("a torn last file", (first, second + b"o"), b"yes\ntorn\n", 0, b""),
+        ("a part twice", (first, second, second), b"no 2 ", 3, b""),
+        ("another version of a part", (first, second.replace(b"l4part 1", b"l4part 2", 1)), b"", 2, b"bad line 1"),
+        ("a line that is none", (first, second.replace(b"kept\n", b"kept\nhello\n", 1)), b"", 2, b"bad line"),
+    ]
+    for name, contents, printed, status, told in rows:
+        there = files.check(*contents)
+        if there[1] != status or not there[0].startswith(printed) or (not printed and there[0]) or told not in there[2]:
+            yield f"{name}: {there}"
+
+
+def main():
+    l4sh = sys.argv[1] if len(sys.argv) > 1 else f"{ROOT}/l4sh"
+    passed = failed = 0
+    with tempfile.TemporaryDirectory() as room:
+        files = Files(l4sh, room)
+        for name, header, lines in histories(l4sh):
+            faults = list(faults_of_cuts(files, header, lines))
+            place = len(lines) // 2
+            first = header + b"".join(lines[:place])
+            begun = files.part(first, untaken=True)
+            if begun is not None and len(lines) < 60:
+                rest = b"".join(lines[place:])
+                faults += faults_of_bases(files, first, begun, rest)
+                faults += faults_of_entries(files, header, lines, place, begun, first)
+                if b"number" in begun and rest:
+                    faults += faults_of_orders(files, first, begun + rest)
+            for fault in faults[:5]:
+                print(f"{name}: {fault}")
+            passed, failed = (passed, failed + 1) if faults else (passed + 1, failed)
+    print(f"{passed} passed, {failed} failed")
+    return 1 if failed else 0
+
+
+if __name__ == "__main__":
+    sys.exit(main())

@@ -1,0 +1,359 @@
+#!/usr/bin/env python3
+"""checks/text/scripts.py [L4SH]: the worked scripts of the rules, of frames, of traces and of words.
+
+Each stands in checks/scripts, below the command that reads it. `run`, `wire` and `talk` read it from standard input; `check`, `chart`, `state`, `script`,
+`count` and `follow` are given it as a file, and then `-` and the same on standard input; `explain`, `tag` and `period` are asked each of its lines as a
+word, and so are `threads` and `label`, which are options of `follow`. NAME.in is what is read, NAME.out what is printed, NAME.args further words, and NAME.end the exit status and all of standard error where they are not 0 and nothing. Each word that is asked ends with that status; what is told of
+them stands there word by word, and once where it is the same for all.
+They were worked out by hand from the rules. A long run of one byte stands as `{61*65537}`: its two digits, and how often. Those of the name
+`mistake_..` are what people type first, and end with the reason.
+
+What is read from standard input and is not long is read again with one byte in each read, and with eight: it makes no difference how the bytes are cut.
+
+`migrate` is given NAME.in as a file, and then on standard input. NAME.new is what then stands in the new file; where there is none, no file was made. In `bad_lines`
+each line of COMMAND.in is read alone, and ends as bad line 1, with that line of COMMAND.out as its reason; nothing is printed. Only a line of a trace has its newline.
+
+In `live` NAME.in is typed into `l4sh talk DIR`, where a server listens that NAME.frames writes down: what it hears, to the byte, and what it says then, line by line.
+Behind the last line it says nothing more, and hears nothing. What it says comes whole, and then byte by byte.
+
+Then each example of examples/ prints what is stored beside it. And the script that `l4sh script` makes of a trace gives the trace back when it is run:
+of each example, and of each script in checks/scripts/run.
+
+What is too long to be stored is made here: 1,022 threads that send to one, which receives from each in turn, or none before they are all due; a hundred messages with a
+compaction behind each, where there is room for few; and messages that took each time up to some longest one, whose counts are told.
+
+And what no script shows: that each code of the C client is explained, `--version`, a folder in place of a trace, that `l4sh follow -` tells an entry before the next one comes, that of a line that is too long
+no more is kept than has to be, and that `l4sh wire` has 65,535 connections and no more. The last line is `N passed, M failed`."""
+
+import glob
+import json
+import os
+import re
+import subprocess
+import sys
+import tempfile
+
+sys.path.insert(1, f"{sys.path[0]}/../lib")
+
+from kit import ROOT
+from protocol_tables import CODES, MAX_LINE_BYTES
+from runs import OF_A_FILE, OF_A_WORD, ended, ended_in_pieces, stored, trace_of, version_line
+from written import Written
+
+HERE = f"{ROOT}/checks"
+EXAMPLES = f"{ROOT}/examples"
+OF_A_SERVER = ("state", "count")
+OF_AN_OPTION = ("threads", "label")
+OF_INPUT = ("run", "wire", "talk")
+# What has more bytes is not read in small pieces.
+SHORT = 4096
+# So many connections does `l4sh wire` have.
+CONNECTIONS = 65535
+# Of two lines that are too long, of so many bytes, the longer one takes at most so much more memory.
+LONG_LINES, MORE = (3 << 20, 24 << 20), 8 << 20
+# The numbers of the threads that send to the first one.
+SENDERS = range(2, 1024)
+# Of so many messages, which took each time from 1 on, the median, the time that 99 of 100 do not pass, and the longest.
+TIMES = {1: (1, 1, 1), 2: (1, 2, 2), 3: (2, 3, 3), 99: (50, 99, 99), 100: (50, 99, 100), 200: (100, 198, 200), 201: (101, 199, 201)}
+VERSION = re.compile(rb"l4sh \d+\.\d+ \(logic [0-9a-f]{16}\)\n(commit .*\n)?")
+
+
+def of_file(words, trace, options=()):
+    with tempfile.NamedTemporaryFile() as file:
+        file.write(trace)
+        file.flush()
+        return ended([*words, *options, file.name])
+
+
+def of_words(words, asked):
+    """What is printed for all of these words together, the status of each where that is one, and what they are told: once where all are told the same."""
+    runs = [ended([*words, word]) for word in asked]
+    statuses, told = {status for _, status, _ in runs}, [told for _, _, told in runs]
+    printed = b"".join(printed for printed, _, _ in runs)
+    return printed, statuses.pop() if len(statuses) == 1 else None, told[0] if len(set(told)) == 1 else b"".join(told)
+
+
+def wanted(base):
+    status, _, told = stored(f"{base}.end", b"0\n").partition(b"\n")
+    return stored(f"{base}.out"), int(status), told
+
+
+def found(l4sh, base):
+    command = os.path.basename(os.path.dirname(base))
+    options = stored(f"{base}.args").decode().split()
+    given = stored(f"{base}.in")
+    if command in OF_A_FILE:
+        return of_file([l4sh, command], given, options)
+    if command in OF_A_WORD:
+        return of_words([l4sh, command, *options], given.removesuffix(b"\n").split(b"\n"))
+    if command in OF_AN_OPTION:
+        return of_words([l4sh, "follow", "-"], [f"--{command}=".encode() + word for word in given.removesuffix(b"\n").split(b"\n")])
+    return ended([l4sh, command, *options], given)
+
+
+def given_back(l4sh, trace):
+    """Where the script of a trace does not give the trace back, what comes in its place."""
+    script, status, told = of_file([l4sh, "script"], version_line(trace) + trace)
+    if status:
+        return told
+    back = trace_of(ended([l4sh, "run"], script)[0])
+    return None if back == trace else b"another trace: " + back
+
+
+def faults_of_stored(l4sh, base):
+    if found(l4sh, base) != wanted(base):
+        yield f"{found(l4sh, base)} is not {wanted(base)}"
+    command, given = os.path.basename(os.path.dirname(base)), stored(f"{base}.in")
+    words = [l4sh, command, *stored(f"{base}.args").decode().split()]
+    if command in OF_A_FILE:
+        words.append("-")
+        if ended(words, given) != wanted(base):
+            yield f"of standard input: {ended(words, given)} is not {wanted(base)}"
+    if command in OF_A_FILE + OF_INPUT and len(given) <= SHORT:
+        for size in (1, 8):
+            there = ended_in_pieces(words, given, size)
+            if there != wanted(base):
+                yield f"in pieces of {size}: {there} is not {wanted(base)}"
+
+
+def faults_of_migrated(l4sh, base):
+    given = stored(f"{base}.in")
+    new = stored(f"{base}.new", None)
+    with tempfile.TemporaryDirectory() as room:
+        with open(f"{room}/old", "wb") as file:
+            file.write(given)
+        for old in ("-", f"{room}/old"):
+            there = ended([l4sh, "migrate", old, f"{room}/new"], given)
+            made = stored(f"{room}/new", None)
+            if (there, made) != (wanted(base), new):
+                yield f"{there, made} is not {wanted(base), new}"
+            if made is not None:
+                os.remove(f"{room}/new")
+
+
+def faults_of_bad_lines(l4sh, base):
+    command = os.path.basename(base)
+    words, newline = ([l4sh, command, "-"], b"\n") if command in OF_A_FILE else ([l4sh, command], b"")
+    lines = stored(f"{base}.in").removesuffix(b"\n").split(b"\n")
+    reasons = stored(f"{base}.out").removesuffix(b"\n").split(b"\n")
+    if len(lines) != len(reasons):
+        yield f"there are {len(lines)} lines, and {len(reasons)} reasons"
+    for line, reason in zip(lines, reasons):
+        there = ended(words, line + newline)
+        if there != (b"", 2, b"l4sh: bad line 1\n" + reason + b"\n"):
+            yield f"{line} ends so: {there}"
+
+
+def faults_of_live(l4sh, base):
+    lines = stored(f"{base}.frames").decode().splitlines()
+    for size in (SHORT, 1):
+        with tempfile.TemporaryDirectory() as folder:
+            server = Written(folder, lines, size)
+            there = ended([l4sh, "talk", folder, *stored(f"{base}.args").decode().split()], stored(f"{base}.in"))
+            fault = server.end()
+        if fault or there != wanted(base):
+            yield f"in pieces of {size}: {fault or 'it says all'}; {there} is not {wanted(base)}"
+
+
+def faults_of_connections(l4sh, _):
+    lines = [b"connect 1\n"] * (CONNECTIONS + 1) + [b"end %d\n" % CONNECTIONS]
+    answers = [b"= %d\n" % number for number in range(1, CONNECTIONS + 1)] + [b"! S4\n", b"ended %d\n" % CONNECTIONS]
+    one_more = b"feed %d 00\n" % (CONNECTIONS + 1)
+    told = b"l4sh: bad line %d\nfield 2, connection: no connection has come with this number\n" % (len(lines) + 1)
+    there = ended([l4sh, "wire"], b"".join([*lines, one_more]))
+    if there != (b"".join(answers), 2, told):
+        yield f"it ends by {there[1:]}, behind {there[0][-100:]}"
+
+
+def faults_of_example(l4sh, path):
+    ran = ended([l4sh, "run"], stored(path))
+    if ran != (stored(f"{path[:-3]}.out"), 0, b""):
+        yield f"it prints {ran}"
+
+
+def faults_of_script(l4sh, path):
+    options = stored(f"{path[:-3]}.args").decode().split()
+    there = given_back(l4sh, trace_of(ended([l4sh, "run", *options], stored(path))[0]))
+    if there is not None:
+        yield f"its trace is not given back: {there}"
+
+
+def faults_of_version(l4sh, _):
+    printed, status, told = ended([l4sh, "--version"])
+    if status or told or not VERSION.fullmatch(printed):
+        yield f"it ends so: {printed, status, told}"
+
+
+def faults_of_codes(l4sh, _):
+    # those of one letter, which the C client makes error codes of
+    codes = [(letters, number) for letters, family in CODES.items() if len(letters) == 1 for number in family]
+    for letter, number in codes:
+        meaning, *end = ended([l4sh, "explain", f"{letter}{number}"])
+        if end != [0, b""]:
+            yield f"{letter}{number} ends so: {end}"
+        word = f"{16 * (256 * ord(letter) + number):#x}"
+        told = ended([l4sh, "explain", word])[0].partition(b"\n")[0]
+        if told != b"as an ErrorCode: of the C client, " + meaning.rstrip(b"\n"):
+            yield f"{word} is told so: {told}"
+
+
+def faults_of_folder(l4sh, path):
+    """A folder is no trace. `state` and `count` ask the server of a folder, and here there is none."""
+    for command in OF_A_FILE:
+        there = ended([l4sh, command, path])
+        why = f"{path}/control: No such file or directory (os error 2)" if command in OF_A_SERVER else f"{path}: is a folder"
+        if there != (b"", 1, f"l4sh: device failed\n{why}\n".encode()):
+            yield f"{command} ends so: {there}"
+
+
+def faults_of_following(l4sh, _):
+    with subprocess.Popen([l4sh, "follow", "-"], stdin=subprocess.PIPE, stdout=subprocess.PIPE, stderr=subprocess.STDOUT) as ran:
+        for line, told in ((b"opened 1.1 1\n", "1  0 µs  1.1 is there, in space 1\n"), (b"at 5\nbroke 1.1\n", "3  5 µs  1.1 is gone\n")):
+            ran.stdin.write(line)
+            ran.stdin.flush()
+            there = ran.stdout.readline()
+            if there != told.encode():
+                yield f"it tells {there}"
+        rest = ran.communicate()[0]
+        if rest or ran.returncode:
+            yield f"it ends by {ran.returncode}: {rest}"
+
+
+def peak(words):
+    """The status of a run, all that it says, and how many bytes of memory it has at most."""
+    with tempfile.TemporaryFile() as said:
+        ran = subprocess.Popen(words, stdout=said, stderr=said)
+        _, status, usage = os.wait4(ran.pid, 0)
+        ran.returncode = os.waitstatus_to_exitcode(status)
+        said.seek(0)
+        return ran.returncode, said.read(), usage.ru_maxrss * 1024
+
+
+def faults_of_long_lines(l4sh, _):
+    for command in ("check", "follow"):
+        peaks = []
+        for size in LONG_LINES:
+            with tempfile.NamedTemporaryFile() as file:
+                # in pieces: a program that is started begins with the memory of the one that starts it
+                for _ in range(size >> 20):
+                    file.write(b"x" * (1 << 20))
+                file.write(b"\n")
+                file.flush()
+                status, said, memory = peak([l4sh, command, file.name])
+            peaks.append(memory)
+            if (status, said) != (2, b"l4sh: bad line 1\na line of more than %d bytes\n" % MAX_LINE_BYTES):
+                yield f"{command} of {size} bytes ends so: {status} {said[:200]}"
+        if peaks[1] - peaks[0] > MORE:
+            yield f"{command} takes {peaks} bytes for lines of {LONG_LINES}"
+
+
+def crowd(timeouts):
+    """A script of all threads, of which all but the first send it their numbers, and what is printed."""
+    script = [f"open {number} 1" for number in (1, *SENDERS)]
+    printed = [line for number in (1, *SENDERS) for line in (f"opened {number}.1 1", f"= {number}.1")]
+    for call, number in enumerate(SENDERS, 1):
+        fields = f"{number}.1 1.1 nil {timeouts} 0x1 nil {number:#x} - -"
+        script.append(f"call {fields}")
+        printed += [f"called {call} {fields}", f"= {call}"]
+    return script, printed
+
+
+def received_in_turn():
+    script, printed = crowd("0x0")
+    for call, number in enumerate(SENDERS, 1):
+        own, fields = len(SENDERS) + call, "1.1 nil any 0x0 0x0 nil - - -"
+        script += [f"call {fields}", "take 1.1"]
+        printed += [f"called {own} {fields}", f"began {call} {own}", f"ended {call} {own}", f"= {own}", f"= {own} 0x1 {number}.1 nil 0x0 {number:#x} -"]
+    return script, printed
+
+
+def due_together():
+    script, printed = crowd("0x50000")
+    script += ["at 3", "at 4", "at 5", *(f"take {number}.1" for number in SENDERS)]
+    calls = range(1, len(SENDERS) + 1)
+    printed += ["= ok", "= ok", "at 5", *(f"failed {call} 0x2" for call in calls), "= ok", *(f"= {call} 0x8000 nil nil 0x2 - -" for call in calls)]
+    return script, printed
+
+
+def never_full():
+    script, printed = ["open 1 1", "open 2 1"], ["opened 1.1 1", "= 1.1", "opened 2.1 1", "= 2.1"]
+    for word in range(100):
+        own, fields, sent = 2 * word + 1, "1.1 nil any 0x0 0x0 nil - - -", f"2.1 1.1 nil 0x0 0x1 nil {word:#x} - -"
+        script += [f"call {fields}", f"call {sent}", "take 1.1", "take 2.1", "compact"]
+        printed += [f"called {own} {fields}", f"= {own}", f"called {own + 1} {sent}", f"began {own + 1} {own}", f"ended {own + 1} {own}", f"= {own + 1}"]
+        # the opens of the two threads are left
+        printed += [f"= {own} 0x1 2.1 nil 0x0 {word:#x} -", f"= {own + 1} 0x0 nil nil 0x0 - -", "= 4 2"]
+    return script, printed
+
+
+# What is made, and the options of its run.
+MADE = {"received in turn": (received_in_turn,), "due together": (due_together,), "never full": (never_full, "--entries", "64")}
+
+
+def faults_of_made(l4sh, name):
+    make, *options = MADE[name]
+    script, printed = ("".join(f"{line}\n" for line in lines).encode() for lines in make())
+    there = ended([l4sh, "run", *options], script)
+    if there != (printed, 0, b""):
+        yield f"it prints {there}"
+
+
+def trace_of_times():
+    """A trace of two threads for each number of messages. Each message has 7 bytes. Its send phase takes a time, and its receive phase twice that."""
+    threads = [f"{number}.1" for number in range(1, 2 * len(TIMES) + 1)]
+    yield from (f"opened {thread} 1" for thread in threads)
+    call = moment = 0
+    for sender, receiver, messages in zip(threads[::2], threads[1::2], TIMES):
+        for time in range(messages, 0, -1):
+            yield f"called {call + 1} {receiver} nil any 0x0 0x0 nil - - 7@0x0"
+            yield f"at {moment + time}"
+            yield f"called {call + 2} {sender} {receiver} nil 0x0 0x80 nil - x61626364656667 -"
+            yield f"began {call + 2} {call + 1}"
+            yield f"at {moment + 2 * time}"
+            yield f"moved {call + 2} 7"
+            yield f"ended {call + 2} {call + 1}"
+            call, moment = call + 2, moment + 2 * time
+
+
+def faults_of_times(l4sh, _):
+    there = ended([l4sh, "count", "--json", "-"], "".join(f"{line}\n" for line in trace_of_times()).encode())
+    if there[1:] != (0, b""):
+        yield f"it ends so: {there}"
+        return
+    told = [pair for pair in json.loads(there[0])["pairs"] if pair["from"] != "any"]
+    for place, (messages, times) in enumerate(TIMES.items()):
+        names = ("median", "99_of_100", "longest")
+        pair = {"from": f"{2 * place + 1}.1", "to": f"{2 * place + 2}.1", "calls": messages, "messages": messages, "bytes": 7 * messages, "failures": 0,
+                "sends_took": dict(zip(names, times)), "receives_took": dict(zip(names, (2 * time for time in times)))}
+        if told[place : place + 1] != [pair]:
+            yield f"it counts {told[place : place + 1]} and not {pair}"
+    if len(told) != len(TIMES):
+        yield f"it counts {len(told)} pairs"
+
+
+FAULTS_OF = {"migrate": faults_of_migrated, "bad_lines": faults_of_bad_lines, "live": faults_of_live}
+
+
+def main():
+    l4sh = sys.argv[1] if len(sys.argv) > 1 else f"{ROOT}/l4sh"
+    examples = sorted(glob.glob(f"{EXAMPLES}/*.l4"))
+    scripts = sorted(glob.glob(f"{HERE}/scripts/run/*.in"))
+    looks = [(path[: -len(".in")], FAULTS_OF.get(os.path.basename(os.path.dirname(path)), faults_of_stored))
+             for path in sorted(glob.glob(f"{HERE}/scripts/*/*.in"))]
+    looks += [(path, faults_of_example) for path in examples]
+    looks += [(path, faults_of_script) for path in [*examples, *scripts]]
+    looks += [(name, faults_of_made) for name in MADE] + [("times", faults_of_times)]
+    looks += [("codes of the C client", faults_of_codes)]
+    looks += [("--version", faults_of_version), (HERE, faults_of_folder), ("follow -", faults_of_following), ("long lines", faults_of_long_lines), ("many connections", faults_of_connections)]
+    failed = 0
+    for path, faults_of in looks:
+        faults = list(faults_of(l4sh, path))
+        failed += bool(faults)
+        for fault in faults:
+            print(f"{path.removeprefix(f'{HERE}/')}: {fault}"[:600])
+    print(f"{len(looks) - failed} passed, {failed} failed")
+    return 1 if failed or not (examples and scripts) else 0
+
+
+if __name__ == "__main__":
+    sys.exit(main())

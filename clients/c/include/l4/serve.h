@@ -1,0 +1,27 @@
+/* A server's loop: it waits, has each request answered by a function, and goes on whatever its clients do. */
+#ifndef L4_SERVE_H
+#define L4_SERVE_H
+
+#include <l4/types.h>
+
+L4_BEGIN_C_
+
+/* Answers a request: its words stand in the message registers, its strings in the buffers that were accepted before
+ * l4_serve. True where the message registers have the answer now; false where none goes to the asker now. The answer is
+ * propagated only where the function calls L4_Set_VirtualSender: the flag p of a request that was loaded back is dropped.
+ * Calls of other threads, l4_disconnect and L4_Accept may be made in it. */
+typedef L4_Bool_t (*l4_answer_t)(L4_ThreadId_t from, L4_MsgTag_t tag, void *data);
+
+/* Is told what failed, l4_error() says why: the answer to this thread did not go over, or where it is L4_nilthread a request
+ * did not come whole, as one with a string that the buffers did not take. */
+typedef void (*l4_trouble_t)(L4_ThreadId_t to, void *data);
+
+/* Serves until the connection is lost, as where the server l4d ends: -1 with errno, l4_error() says why. 0 where the
+ * functions called l4_disconnect. Answers go with send timeout zero, so a client that does not wait gets none, and is told
+ * of as trouble. Where trouble is null a line on standard error tells it. A receive that can never be made (buffers that
+ * are spoilt) ends it too, with -1; one that the server has no room for is tried again, ten times a second. */
+int l4_serve(l4_answer_t answer, l4_trouble_t trouble, void *data);
+
+L4_END_C_
+
+#endif

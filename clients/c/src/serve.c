@@ -1,0 +1,82 @@
+/* A server's loop. */
+#define _POSIX_C_SOURCE 200809L
+
+#include "internal.h"
+
+#include <l4/ipc.h>
+#include <l4/serve.h>
+
+#include <poll.h>
+#include <stdio.h>
+
+/* How long is waited before a receive for which the server had no room, in milliseconds. */
+enum { PAUSE = 100 };
+
+static void print_trouble(L4_ThreadId_t to, void *data)
+{
+	(void) data;
+	if (L4_IsNilThread(to))
+		fprintf(stderr, "l4_serve: a request did not come: %s\n", l4_error());
+	else
+		fprintf(stderr, "l4_serve: %llu.%llu got no answer: %s\n", (unsigned long long) L4_ThreadNo(to),
+			(unsigned long long) L4_Version(to), l4_error());
+}
+
+/* Whether the server lacked room for the call, of which it may have some later. */
+static bool has_no_room(const struct failure *failure)
+{
+	return failure->source == SERVER_REFUSED && failure->class == 'K' && (failure->number == K_NO_MEMORY || failure->number == K_HISTORY_FULL);
+}
+
+/* What a failed call asks of the loop: whom to tell of as unanswered, and whether a receive can be tried again. */
+static bool can_go_on(const struct thread *thread, L4_ThreadId_t *unanswered)
+{
+	const struct failure *failure = &thread->last;
+	bool is_answered = failure->source == OUTCOME && failure->code & 1;
+
+	if (!thread->is_connected)
+		return false;
+	if (failure->source != OUTCOME && L4_IsNilThread(*unanswered)) {
+		if (!has_no_room(failure))
+			return false;
+		(void) poll(NULL, 0, PAUSE);
+	}
+	if (is_answered)
+		*unanswered = L4_nilthread;
+	return true;
+}
+
+/* Has a request answered. The thread to which the answer goes, L4_nilthread for none. */
+static L4_ThreadId_t have_answered(struct thread *thread, l4_answer_t answer, L4_ThreadId_t from, L4_MsgTag_t tag, void *data)
+{
+	bool is_answered;
+
+	thread->names_sender = false;
+	is_answered = answer(from, tag, data);
+	if (!thread->names_sender)
+		thread->mr[0] &= ~(L4_Word_t) TAG_PROPAGATED;
+	return is_answered ? from : L4_nilthread;
+}
+
+int l4_serve(l4_answer_t answer, l4_trouble_t trouble, void *data)
+{
+	struct thread *thread = &l4_thread;
+	L4_ThreadId_t to = L4_nilthread, from;
+
+	if (trouble == NULL)
+		trouble = print_trouble;
+	do {
+		L4_MsgTag_t tag = L4_ReplyWait(to, &from);
+
+		if (L4_IpcSucceeded(tag)) {
+			to = have_answered(thread, answer, from, tag, data);
+			continue;
+		}
+		if (!can_go_on(thread, &to))
+			return -1;
+		trouble(to, data);
+		to = L4_nilthread;
+	} while (thread->is_connected);
+	/* the functions ended the connection, or a call of theirs lost it */
+	return thread->lost.source == NOBODY ? 0 : l4_refuse(thread, FOUND_HERE, 'C', C_NOT_CONNECTED);
+}

@@ -1,0 +1,443 @@
+"""The same threads for asyncio: each call is a coroutine. One process may have many threads, each with one call open at a time.
+
+A call that is cancelled closes its thread, since its answer would be taken for that of the next call. Where the thread has a ``canceller``,
+another thread of the same space, the call is ended by ExchangeRegisters instead, and the thread goes on. A message that has come all the
+same is not lost: the next `wait` that it fits answers it.
+"""
+
+import asyncio
+import os
+import socket
+from dataclasses import replace
+from inspect import isawaitable
+from typing import Awaitable, Callable, List, NoReturn, Optional, Sequence, Tuple, Type, TypeVar, Union
+
+from . import arguments, calls, connecting, frames, serving
+from .caller import Caller
+from .calls import NO_MESSAGE
+from .errors import RECEIVE, BadFrame, Closed, IpcError, L4Error, Timeout
+from .exchanging import Exchanged, exchange_frame, exchanged
+from .message import Buffer, Message, Received
+from .names import Book, live, live_version
+from .serving import Telling
+from .steps import Answer, Ipc, Pause, Step, Steps
+from .thread import LEAST_WAIT, Partner
+from .waiting import end_of, left_until, pauses
+from .words import ANYLOCALTHREAD, ANYTHREAD, NILTHREAD, ThreadId, timeouts
+
+Answering = Callable[[Received], Union[Optional[Message], Awaitable[Optional[Message]]]]
+"""What a server does with a message: a function or a coroutine function that returns the answer, or ``None`` for no answer."""
+
+_Kind = TypeVar("_Kind", frames.Outcome, frames.Exchanged)
+_Result = TypeVar("_Result")
+_MOST_READ = 65_536
+
+
+class Thread(Caller):
+    """A thread of l4d whose calls are coroutines: ``async with Thread(directory, number) as thread``, or `connect` and `close`.
+
+    Its arguments are those of `l4ipc.Thread`; and ``canceller``, a thread of the same space that ends calls which are cancelled.
+    """
+
+    def __init__(
+        self,
+        directory: Union[str, "os.PathLike[str]"],
+        number: int,
+        space: int = 1,
+        version: int = 1,
+        wait_for: Optional[float] = 0,
+        connect_timeout: Optional[float] = 10,
+        reconnect: bool = False,
+        canceller: Optional["Thread"] = None,
+    ) -> None:
+        super().__init__(connecting.place_of(directory, number, space, version, wait_for, connect_timeout), reconnect)
+        self._canceller = canceller
+        self._connection: Optional[socket.socket] = None
+        self._is_open = False
+        self._kept: List[Received] = []
+        self._queue: Optional[asyncio.Lock] = None
+
+    async def connect(self) -> "Thread":
+        """Connects, once."""
+        self._queue = asyncio.Lock()
+        await self._connect(self._place)
+        return self
+
+    async def __aenter__(self) -> "Thread":
+        return await self.connect()
+
+    async def __aexit__(self, *_: object) -> None:
+        self.close()
+
+    def close(self) -> None:
+        """Says BYE, and ends the thread. A closed thread stays closed."""
+        if self._connection is not None and not self._is_lost:
+            try:
+                self._connection.send(frames.bye())
+            except OSError:
+                pass
+        self._is_closed = True
+        self._close()
+
+    def _close(self) -> None:
+        self._lose()
+        if self._connection is not None:
+            self._connection.close()
+
+    # The calls of the manual, as those of `l4ipc.Thread`.
+
+    async def send(self, to: Partner, message: Message = NO_MESSAGE, timeout: Optional[float] = None, wait_for: Optional[float] = 0) -> None:
+        """L4_Send."""
+        times = timeouts(timeout, None, "timeout")
+        await self.run(self._once_there(wait_for, to, False, message, times))
+
+    async def receive(self, sender: int, timeout: Optional[float] = None, buffers: Sequence[Buffer] = ()) -> Received:
+        """L4_Receive."""
+        if not arguments.thread_id("sender", sender):
+            raise ValueError("sender: nilthread is no thread to receive from")
+        times = timeouts(None, timeout, receive_name="timeout")
+        return self._message(await self._ipc(NILTHREAD, sender, NO_MESSAGE, times, buffers))
+
+    async def wait(self, timeout: Optional[float] = None, buffers: Sequence[Buffer] = ()) -> Received:
+        """L4_Wait."""
+        return await self.receive(ANYTHREAD, timeout, buffers)
+
+    async def call(
+        self,
+        to: Partner,
+        message: Message = NO_MESSAGE,
+        send_timeout: Optional[float] = None,
+        receive_timeout: Optional[float] = None,
+        buffers: Sequence[Buffer] = (),
+        wait_for: Optional[float] = 0,
+    ) -> Received:
+        """L4_Call."""
+        times = calls.times_of(send_timeout, receive_timeout)
+        if wait_for == 0 and not isinstance(to, str):
+            return self._message(await self._ipc(to, to, message, times, buffers))
+        return self._message(await self.run(self._once_there(wait_for, to, True, message, times, buffers)))
+
+    async def reply_wait(
+        self, to: int, message: Message = NO_MESSAGE, timeout: Optional[float] = None, buffers: Sequence[Buffer] = ()
+    ) -> Received:
+        """L4_ReplyWait."""
+        return self._message(await self._ipc(to, ANYTHREAD, message, timeouts(0, timeout, receive_name="timeout"), buffers, True))
+
+    async def serve(self, function: Answering, buffers: Sequence[Buffer] = (), tell: Telling = serving.log) -> None:
+        """The loop of a server. The function may be a coroutine function: the next message is waited for once it has returned."""
+        await self.run(serving.Loop(self, function, buffers, tell, awaits=True).run())  # type: ignore[arg-type]
+
+    async def sleep(self, seconds: Optional[float]) -> None:
+        """L4_Sleep."""
+        times = timeouts(None, seconds, receive_name="seconds")
+        await self._ready()
+        try:
+            await self._ipc(NILTHREAD, self.id, NO_MESSAGE, times)
+        except Timeout as end:
+            if end.phase != RECEIVE:
+                raise
+
+    async def exchange_registers(self, dest: int, send: bool = False, receive: bool = False) -> Optional[Exchanged]:
+        """L4_ExchangeRegisters."""
+        frame = exchange_frame(dest, send, receive)
+        await self._ready()
+        answer = await self._ask(frame, frames.Exchanged)
+        self.last_moment = answer.moment
+        return exchanged(answer)
+
+    async def ipc(
+        self,
+        to: int,
+        from_specifier: int,
+        message: Message = NO_MESSAGE,
+        send_timeout: Optional[float] = None,
+        receive_timeout: Optional[float] = None,
+        buffers: Sequence[Buffer] = (),
+    ) -> Optional[Received]:
+        """L4_Ipc."""
+        return await self._ipc(to, from_specifier, message, calls.times_of(send_timeout, receive_timeout), buffers)
+
+    # How a call is made.
+
+    async def run(self, steps: Steps[_Result]) -> _Result:
+        """Does what takes several calls, step by step."""
+        try:
+            step = next(steps)
+            while True:
+                try:
+                    came = await self._do(step)
+                except BaseException as error:
+                    step = steps.throw(error)
+                else:
+                    step = steps.send(came)
+        except StopIteration as done:
+            result: _Result = done.value
+            return result
+
+    async def _do(self, step: Step) -> object:
+        if isinstance(step, Ipc):
+            return await self._ipc(*step)
+        if isinstance(step, Answer):
+            answer: object = step.function(step.request)
+            return await answer if isawaitable(answer) else answer
+        if isinstance(step, Pause):
+            await asyncio.sleep(step.seconds)
+        else:
+            await self._connect_again(None)
+        return None
+
+    async def _ipc(
+        self, to: int, from_specifier: int, message: Message, times: int, buffers: Sequence[Buffer] = (), is_answer: bool = False
+    ) -> Optional[Received]:
+        await self._ready(is_answer)
+        kept = self._kept_from(from_specifier)
+        call = calls.call(self.id, to, NILTHREAD if kept else from_specifier, message, times, buffers)
+        if kept is None:
+            return self._result(call, await self._ask(call.frame, frames.Outcome, call))
+        if to != NILTHREAD:
+            self._result(call, await self._ask(call.frame, frames.Outcome, call))
+        self._kept.remove(kept)
+        return kept
+
+    def _kept_from(self, from_specifier: int) -> Optional[Received]:
+        """The first message that came for a call which was cancelled, and that fits this receive."""
+        anybody = from_specifier in (ANYTHREAD, ANYLOCALTHREAD)
+        return next((it for it in self._kept if anybody or it.sender == from_specifier), None)
+
+    def _result(self, call: calls.Call, outcome: frames.Outcome) -> Optional[Received]:
+        try:
+            return self._read(call, outcome)
+        except BadFrame as error:
+            self._fail(error)
+
+    # The connection.
+
+    async def _ready(self, is_answer: bool = False) -> None:
+        """The thread is connected: again, where the connection has ended and that is asked for. Nothing was sent yet."""
+        if self._is_closed or self._connection is None:
+            raise Closed(f"{self!r}: no call is made")
+        if not self.reconnects or self.kept.is_busy:
+            return
+        if self._is_lost or self._has_ended(self._connection):
+            if is_answer:
+                self._close()
+                raise Closed(f"{self!r}: the connection has ended over which the message came")
+            try:
+                await self._connect_again(self._place.wait_for)
+            except OSError as error:
+                raise Closed(f"{self!r}: {error}") from error
+        if self.kept.is_due():
+            try:
+                await self.run(self._keeper.keep())
+            except Closed:
+                raise
+            except L4Error as error:
+                serving.log(error, None)
+
+    @staticmethod
+    def _has_ended(connection: socket.socket) -> bool:
+        """Whether the connection has ended since the last call."""
+        try:
+            return not connection.recv(1, socket.MSG_PEEK)
+        except BlockingIOError:
+            return False
+        except OSError:
+            return True
+
+    async def _connect_again(self, wait_for: Optional[float]) -> None:
+        self._close()
+        seconds = None if wait_for is None else max(wait_for, LEAST_WAIT)
+        self._kept.clear()
+        await self._connect(replace(self._place, wait_for=seconds))
+
+    async def _connect(self, place: connecting.Place) -> None:
+        end, waiting = end_of(place.wait_for), pauses(place.wait_for)
+        while True:
+            try:
+                self._connection, own = await _attempt(place, place.seconds_for_an_answer(end))
+                return self._connected_as(own)
+            except (OSError, L4Error) as error:
+                pause = next(waiting, None) if connecting.passes(error) else None
+                if pause is None:
+                    raise connecting.explained(error, place) from None
+            await asyncio.sleep(pause)
+
+    async def _ask(self, frame: bytes, kind: Type[_Kind], call: Optional[calls.Call] = None) -> _Kind:
+        """Sends a frame, and answers the next one, which has to be of this kind."""
+        if self._is_open:
+            raise RuntimeError("another call of this thread is open")
+        if self._is_closed or self._connection is None:
+            raise Closed(f"{self!r}: no call is made")
+        self._is_open = True
+        try:
+            answer = await self._exchange(self._connection, frame, call)
+        except (OSError, EOFError) as end:
+            self._close()
+            raise Closed(f"{self!r}: the connection has ended, with l4d or by it") from end
+        finally:
+            self._is_open = False
+        if isinstance(answer, kind):
+            return answer
+        error = connecting.error_of(answer, repr(self))
+        if isinstance(answer, frames.Refusal):
+            raise error
+        self._fail(error)
+
+    def _fail(self, error: L4Error) -> NoReturn:
+        self._close()
+        raise error
+
+    async def _exchange(self, connection: socket.socket, frame: bytes, call: Optional[calls.Call]) -> frames.Answer:
+        """One frame and its answer. Where this is cancelled, the call is ended, or the thread is closed."""
+        is_sent = False
+        try:
+            try:
+                await asyncio.get_running_loop().sock_sendall(connection, frame)
+            except (BrokenPipeError, ConnectionResetError):
+                pass  # the server has ended the thread; what it said of that is still to be read
+            is_sent = True
+            return await self._hear(connection)
+        except asyncio.CancelledError:
+            if not is_sent or call is None or self._canceller is None:
+                self._close()
+            else:
+                await self._end_call(self._canceller, connection, call)
+            raise
+        except BaseException:
+            self._close()
+            raise
+
+    async def _hear(self, connection: socket.socket) -> frames.Answer:
+        """The next frame, which is waited for."""
+        end = self._arrived()
+        while end is None:
+            self._add(await asyncio.get_running_loop().sock_recv(connection, _MOST_READ))
+            end = self._arrived()
+        return self._frame_until(end)
+
+    def _add(self, more: bytes) -> None:
+        if not more:
+            raise EOFError
+        self._taken += more
+
+    async def _end_call(self, canceller: "Thread", connection: socket.socket, call: calls.Call) -> None:
+        """Ends the open call by ExchangeRegisters, and keeps a message that has come all the same. It is tried until the call is over,
+        since the server may see ExchangeRegisters before it sees the call."""
+        try:
+            for pause in pauses(None, 0.05):
+                await canceller.cancel(self.id)
+                end = self._what_is_there(connection)
+                if end is not None:
+                    break
+                await asyncio.sleep(pause)
+            self._keep(call, self._frame_until(end or 0))
+        except BaseException:
+            self._close()
+            raise
+
+    def _what_is_there(self, connection: socket.socket) -> Optional[int]:
+        """Takes what has arrived, without waiting; where the next frame ends, if it is whole."""
+        try:
+            while self._arrived() is None:
+                self._add(connection.recv(_MOST_READ))
+        except BlockingIOError:
+            pass
+        return self._arrived()
+
+    def _keep(self, call: calls.Call, answer: frames.Answer) -> None:
+        """Keeps the message of a call that has ended, unless it is the answer of a partner, whom nobody waits for any more."""
+        if not isinstance(answer, frames.Outcome):
+            self._fail(connecting.error_of(answer, repr(self)))
+        try:
+            received = self._result(call, answer)
+        except IpcError:
+            return
+        if received is not None and call.to != call.from_specifier:
+            self._kept.append(received)
+
+    async def cancel(self, dest: int) -> None:
+        """Cancels both phases of a thread of the own space. Those who ask for it at one time come one after another."""
+        if self._queue is None:
+            raise Closed(f"{self!r}: no call is made")
+        async with self._queue:
+            await self.exchange_registers(dest, send=True, receive=True)
+
+
+class Names:
+    """The name server, as `l4ipc.names.Names`."""
+
+    def __init__(self, thread: Thread, server: Optional[int] = None, timeout: Optional[float] = None) -> None:
+        self._thread = thread
+        self._book = Book(thread, server, timeout)
+
+    async def register(self, name: str, originator: Optional[int] = None) -> ThreadId:
+        """From now on the name is that of this thread; with an originator, of that thread of the own space."""
+        return await self._thread.run(self._book.register(name, originator))
+
+    async def lookup(self, name: str) -> Optional[ThreadId]:
+        """The live thread that has the name, or ``None``."""
+        return await self._thread.run(self._book.lookup(name))
+
+    async def list(self) -> List[Tuple[str, ThreadId]]:
+        """All names and their threads, in the order of bytes."""
+        return await self._thread.run(self._book.list())
+
+    async def wait_for(self, name: str, seconds: Optional[float] = None) -> ThreadId:
+        """The live thread that has the name, once there is one."""
+        return await self._thread.run(self._book.wait_for(name, seconds))
+
+    async def wait_to_register(self, name: str, seconds: Optional[float] = None) -> ThreadId:
+        """Registers the name, once there is a name server."""
+        return await self._thread.run(self._book.wait_to_register(name, seconds))
+
+
+async def is_live(thread: Thread, other: int) -> bool:
+    """Whether a thread is live, as `l4ipc.names.is_live`."""
+    return await thread.run(live(arguments.thread_id("other", other)))
+
+
+async def live_thread(thread: Thread, number: int, first: int = 1) -> Optional[ThreadId]:
+    """The live thread of a number, as `l4ipc.names.live_thread`."""
+    return await thread.run(live_version(number, first))
+
+
+async def _attempt(place: connecting.Place, seconds: Optional[float]) -> Tuple[socket.socket, ThreadId]:
+    """A connection whose thread is live, and that thread, within so many seconds."""
+    connection = socket.socket(socket.AF_UNIX, socket.SOCK_STREAM)
+    try:
+        connection.setblocking(False)
+        return connection, await asyncio.wait_for(_greet(connection, place, end_of(seconds)), seconds)
+    except asyncio.TimeoutError:
+        connection.close()
+        raise socket.timeout from None
+    except BaseException:
+        connection.close()
+        raise
+
+
+async def _greet(connection: socket.socket, place: connecting.Place, end: Optional[float]) -> ThreadId:
+    loop = asyncio.get_running_loop()
+    for pause in pauses(left_until(end)):
+        try:
+            connection.connect(place.path)
+            break
+        except BlockingIOError:  # the server takes no connection at the moment, and such a socket has nothing to wait on
+            await asyncio.sleep(pause)
+    try:
+        await loop.sock_sendall(connection, place.hello())
+    except (BrokenPipeError, ConnectionResetError):
+        pass  # what an l4d says that closes the connection is still to be read
+    length = frames.body_length(await _exactly(connection, 4))
+    kind = await _exactly(connection, 1)
+    frames.check_kind(kind[0], length, place.version)
+    return connecting.welcomed(frames.read(kind + await _exactly(connection, length - 1), place.version))
+
+
+async def _exactly(connection: socket.socket, count: int) -> bytes:
+    data = b""
+    while len(data) < count:
+        more = await asyncio.get_running_loop().sock_recv(connection, count - len(data))
+        if not more:
+            raise Closed("the connection has ended")
+        data += more
+    return data

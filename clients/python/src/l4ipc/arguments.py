@@ -1,0 +1,65 @@
+"""What is said of a wrong argument: a TypeError or a ValueError that begins with the argument's name. Nothing was sent then."""
+
+import math
+import operator
+from typing import Callable, Optional, Sequence, TypeVar
+
+_Number = TypeVar("_Number", int, float)
+
+_MOST_SHOWN = 60
+
+
+def wanted(name: str, what: str, value: object) -> TypeError:
+    """A value of another type than what is wanted."""
+    return TypeError(f"{name}: {what} wanted, and not {shown(value)} ({type(value).__name__})")
+
+
+def shown(value: object) -> str:
+    """A value as a text that is not long."""
+    text = repr(value)
+    return text if len(text) <= _MOST_SHOWN else f"{text[:_MOST_SHOWN]}.."
+
+
+def integer(name: str, value: object, least: int, most: int, what: str = "an int is") -> int:
+    """An integer within bounds."""
+    try:
+        number = operator.index(value)  # type: ignore[arg-type]
+    except TypeError:
+        raise wanted(name, what, value) from None
+    if not least <= number <= most:
+        raise ValueError(f"{name}: {number} is not from {least} to {most}")
+    return number
+
+
+def thread_id(name: str, value: object) -> int:
+    """The word of a thread id."""
+    return integer(name, value, 0, (1 << 64) - 1, "a thread id, as ThreadId.of(2, 1), is")
+
+
+def seconds(name: str, value: object) -> float:
+    """A number of seconds that is not negative."""
+    if isinstance(value, (str, bytes, bytearray)) or not hasattr(value, "__float__"):
+        raise wanted(name, "a number of seconds, or None for never, is", value)
+    number = float(value)
+    if math.isnan(number) or number < 0:
+        raise ValueError(f"{name}: {shown(value)} seconds are no period")
+    return number
+
+
+def seconds_or_none(name: str, value: object) -> Optional[float]:
+    """A number of seconds, or ``None`` for never."""
+    return None if value is None else seconds(name, value)
+
+
+def sequence(name: str, value: object, of_what: str) -> Sequence[object]:
+    """A list, a tuple, or another sequence that is not one of bytes or characters."""
+    if isinstance(value, (str, bytes, bytearray, memoryview)) or not (hasattr(value, "__len__") and hasattr(value, "__iter__")):
+        raise wanted(name, f"a sequence of {of_what} is", value)
+    return value  # type: ignore[return-value]
+
+
+def function(name: str, value: object) -> Callable[..., object]:
+    """Something that can be called."""
+    if not callable(value):
+        raise wanted(name, "a function is", value)
+    return value

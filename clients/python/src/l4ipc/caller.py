@@ -1,0 +1,93 @@
+"""What a thread knows of itself, whether its calls block or are coroutines."""
+
+from typing import Optional, Union
+
+from . import arguments, calls, frames
+from .connecting import Place
+from .message import Message, Received
+from .names import Book, Kept, is_name
+from .steps import Ipc, Steps, until_there
+from .words import NILTHREAD, ThreadId
+
+NAMES_TIMEOUT = 2.0
+"""How many seconds a thread gives the name server for each phase, where it looks a name up for a call."""
+
+KEEPING_TIMEOUT = 0.25
+"""The same where it registers its names again: a name server that is stopped keeps a server from its clients no longer."""
+
+
+class Caller:
+    """The state of a thread that does not depend on how its calls wait."""
+
+    def __init__(self, place: Place, reconnect: bool) -> None:
+        self._place = place
+        self.reconnects = reconnect
+        self.id = NILTHREAD
+        self.version = place.version
+        self.lives = 0
+        self.last_call: Optional[int] = None
+        self.last_moment: Optional[int] = None
+        self.kept = Kept()
+        self._taken = b""
+        self._is_closed = False
+        self._is_lost = False
+        self._book = Book(self, timeout=NAMES_TIMEOUT)
+        self._keeper = Book(self, timeout=KEEPING_TIMEOUT)
+
+    def __repr__(self) -> str:
+        path = f" at {self._place.path}" if self._place.path else ""
+        return f"<Thread {self.id}{path}{', closed' if self._is_closed else ', not connected' if self._is_lost else ''}>"
+
+    @property
+    def is_closed(self) -> bool:
+        """Whether the connection has ended, as far as it is known here, and is not made again."""
+        return self._is_closed
+
+    def _connected_as(self, own: ThreadId) -> None:
+        """A connection is there, whose thread has this id."""
+        self.id = own
+        self.lives += 1
+        self._taken = b""
+        self._is_lost = False
+        self.kept.restart()
+
+    def _lose(self) -> None:
+        """The connection has ended. A thread that connects again is not closed by that."""
+        self._is_lost = True
+        self._is_closed = self._is_closed or not self.reconnects
+
+    def _read(self, call: calls.Call, outcome: frames.Outcome) -> Optional[Received]:
+        """What a call has brought."""
+        self.last_call, self.last_moment = outcome.call, outcome.moment
+        return call.result(outcome)
+
+    def _arrived(self) -> Optional[int]:
+        """Where the next frame ends, if it has arrived whole. What its first bytes say is looked at before more is waited for."""
+        taken = self._taken
+        if len(taken) < 4:
+            return None
+        end = 4 + frames.body_length(taken)
+        if len(taken) > 4:
+            frames.check_kind(taken[4], end - 4, self.version)
+        return end if len(taken) >= end else None
+
+    def _frame_until(self, end: int) -> frames.Answer:
+        """The frame that has arrived."""
+        body, self._taken = self._taken[4:end], self._taken[end:]
+        return frames.read(body, self.version)
+
+    def _once_there(
+        self, wait_for: Optional[float], to: Union[int, str], is_call: bool, message: Message, times: int, buffers: calls.Buffers = ()
+    ) -> Steps[Optional[Received]]:
+        """A call of a partner that may not be there yet, or that is given by its name."""
+        step = Ipc(NILTHREAD, NILTHREAD, message, times, buffers)
+        if isinstance(to, str):
+            if not is_name(to):
+                raise arguments.wanted("to", "a thread id, as ThreadId.of(2, 1), is", to)
+            return self._book.call(to, step, is_call, wait_for)
+        return until_there(step._replace(to=to, from_specifier=to if is_call else NILTHREAD), wait_for)
+
+    def _message(self, received: Optional[Received]) -> Received:
+        if received is None:
+            raise ValueError("to: nilthread is no partner of a call")
+        return received

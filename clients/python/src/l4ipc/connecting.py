@@ -1,0 +1,158 @@
+"""Connecting to l4d: waiting until it is there, and saying why it is not."""
+
+import errno
+import os
+import socket
+import time
+from contextlib import suppress
+from dataclasses import dataclass
+from typing import Optional, Tuple
+
+from . import arguments, frames, protocol
+from .errors import BadFrame, Closed, L4Error, Refused, fault
+from .waiting import end_of, left_until, pauses
+from .words import ThreadId
+
+NUMBER_IS_TAKEN = protocol.K_NUMBER_TAKEN
+"""The refusal K2: a thread of that number is live."""
+
+MAX_PATH_BYTES = protocol.MAX_PATH_BYTES
+"""How many bytes the path of a socket has at most."""
+
+MAX_SPACE = protocol.MAX_SPACE
+"""The greatest number of a space: l4d has no path beyond it."""
+
+_HELP = {
+    errno.ENOENT: "no such path: start l4d --dir DIR with the folder DIR, or wait for it by wait_for=",
+    errno.ECONNREFUSED: "nobody listens at that path, since its l4d has ended",
+    errno.EACCES: "no permission to connect: who may is in the mode of the path and of its folder",
+    errno.ETIMEDOUT: "l4d does not answer: it is full (its --live and --keep-open, and its descriptors), or it is stopped",
+}
+
+
+@dataclass(frozen=True)
+class Place:
+    """Where a thread connects to, as which thread, and how long it waits: for l4d to be there, and then for its answer."""
+
+    path: str
+    number: int
+    version: int = 1
+    wait_for: Optional[float] = 0
+    connect_timeout: Optional[float] = None
+
+    def hello(self) -> bytes:
+        """The frame that asks for the thread."""
+        return frames.hello(self.number, self.version)
+
+    def seconds_for_an_answer(self, end: Optional[float]) -> Optional[float]:
+        """How long one try may take: until the end of the waiting, but at least the timeout for connecting."""
+        left = left_until(end)
+        return None if left is None or self.connect_timeout is None else max(left, self.connect_timeout)
+
+
+def place_of(directory: object, number: int, space: int, version: int, wait_for: Optional[float], connect_timeout: Optional[float]) -> Place:
+    """The place of a thread of a server's folder; a wrong argument is a TypeError or a ValueError."""
+    if not isinstance(directory, (str, os.PathLike)):
+        raise arguments.wanted("directory", "a path is", directory)
+    path = os.path.join(os.fspath(directory), f"space{arguments.integer('space', space, 1, MAX_SPACE)}")
+    if "\0" in path or len(os.fsencode(path)) > MAX_PATH_BYTES:
+        raise ValueError(f"directory: {arguments.shown(path)} is no path of at most {MAX_PATH_BYTES} bytes")
+    frames.hello(number, version)
+    waits = arguments.seconds_or_none("wait_for", wait_for)
+    return Place(path, number, version, waits, arguments.seconds_or_none("connect_timeout", connect_timeout))
+
+
+def passes(error: Exception) -> bool:
+    """Whether it helps to wait: nobody is there yet, or the number is still that of a thread that is about to end."""
+    if isinstance(error, Refused):
+        return error.number == NUMBER_IS_TAKEN
+    return isinstance(error, (FileNotFoundError, ConnectionError, BlockingIOError, Closed))
+
+
+def explained(error: Exception, place: Place) -> Exception:
+    """The same error with the path, and with what helps."""
+    if isinstance(error, Refused):
+        return Refused(error.number, f"number {place.number} at {place.path}")
+    if isinstance(error, (Closed, ConnectionResetError, BrokenPipeError)):
+        return Closed(f"l4d closed the connection at {place.path} before it answered")
+    if not isinstance(error, OSError):
+        return error
+    number = errno.ETIMEDOUT if isinstance(error, (socket.timeout, BlockingIOError)) else error.errno
+    if number is None:
+        return OSError(errno.EINVAL, str(error), place.path)
+    return OSError(number, _HELP.get(number, os.strerror(number)), place.path)
+
+
+def welcomed(answer: frames.Answer) -> ThreadId:
+    """The thread that an answer to HELLO makes; an error for any other answer."""
+    if isinstance(answer, frames.Welcome):
+        return answer.thread
+    raise error_of(answer)
+
+
+def error_of(answer: object, about: str = "") -> L4Error:
+    """What an answer of another kind than the one that was asked for is told as."""
+    if isinstance(answer, frames.Refusal):
+        return Refused(answer.number, about)
+    told = fault(answer.letter, answer.number) if isinstance(answer, frames.FaultTold) else None
+    return told or BadFrame(f"an answer of another kind: {type(answer).__name__}")
+
+
+def connect(place: Place) -> Tuple[socket.socket, ThreadId]:
+    """A connection whose thread is live, and that thread. It waits as long as the place says."""
+    end, waiting = end_of(place.wait_for), pauses(place.wait_for)
+    while True:
+        try:
+            return _attempt(place, end_of(place.seconds_for_an_answer(end)))
+        except (OSError, L4Error) as error:
+            pause = next(waiting, None) if passes(error) else None
+            if pause is None:
+                raise explained(error, place) from None
+        time.sleep(pause)
+
+
+def _attempt(place: Place, end: Optional[float]) -> Tuple[socket.socket, ThreadId]:
+    connection = socket.socket(socket.AF_UNIX, socket.SOCK_STREAM)
+    try:
+        connection.settimeout(left_until(end))
+        _connect(connection, place.path, end)
+        with suppress(BrokenPipeError, ConnectionResetError):  # what an l4d says that closes the connection is still to be read
+            connection.sendall(place.hello())
+        thread = welcomed(_read(connection, place.version, end))
+        connection.settimeout(None)
+        return connection, thread
+    except BaseException:
+        connection.close()
+        raise
+
+
+def _connect(connection: socket.socket, path: str, end: Optional[float]) -> None:
+    """Connects. Where the server takes no connection at the moment it tries again, since such a socket has nothing to wait on."""
+    for pause in pauses(left_until(end)):
+        try:
+            return connection.connect(path)
+        except BlockingIOError:
+            time.sleep(pause)
+    connection.connect(path)
+
+
+def _read(connection: socket.socket, version: int, end: Optional[float]) -> frames.Answer:
+    """The next frame: not a byte more is taken of the stream."""
+    length = frames.body_length(_exactly(connection, 4, end))
+    body = _exactly(connection, 1, end)
+    frames.check_kind(body[0], length, version)
+    return frames.read(body + _exactly(connection, length - 1, end), version)
+
+
+def _exactly(connection: socket.socket, count: int, end: Optional[float]) -> bytes:
+    data = b""
+    while len(data) < count:
+        left = left_until(end)
+        if left == 0:
+            raise socket.timeout
+        connection.settimeout(left)
+        more = connection.recv(count - len(data))
+        if not more:
+            raise Closed("the connection has ended")
+        data += more
+    return data

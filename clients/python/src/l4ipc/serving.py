@@ -1,0 +1,137 @@
+"""The loop of a server: it answers each message, tells what it could not answer, and goes on."""
+
+import logging
+from typing import TYPE_CHECKING, Callable, Optional, Sequence
+
+from . import arguments, steps
+from .calls import NO_MESSAGE
+from .errors import RECEIVE, SEND, Closed, IpcError, L4Error, Refused, Timeout
+from .message import Buffer, BufferStrings, Message, Received
+from .names import AGAIN_AFTER, KEPT_FOR
+from .steps import Answer, ConnectAgain, Pause, Steps
+from .words import ANYTHREAD, MAX_LABEL, NILTHREAD, timeouts
+
+if TYPE_CHECKING:
+    from .caller import Caller
+
+Answering = Callable[[Received], Optional[Message]]
+"""What a server does with a message: it returns the answer, or ``None`` for no answer."""
+
+Telling = Callable[[Exception, Optional[Received]], None]
+"""What a server is told of: what went wrong, and the message that was not answered; ``None`` where none came."""
+
+FUNCTION_FAILED = MAX_LABEL
+"""The label of the empty answer to a message whose function raised an exception: 48 ones."""
+
+_FAILED = Message(FUNCTION_FAILED)
+
+NO_MEMORY, NO_ROOM = 4, 5
+"""The refusals K4 and K5, which pass as memory comes free."""
+
+# The timeouts of a server's calls: its answer has zero time, and it waits for the next message without an end, or while its names are good.
+_ANSWER_AT_ONCE, _NEVER, _KEPT_FOR, _AGAIN_AFTER = timeouts(0, None), 0, timeouts(None, KEPT_FOR), timeouts(None, AGAIN_AFTER)
+
+_log = logging.getLogger("l4ipc")
+_step = tuple.__new__
+
+
+def log(error: Exception, request: Optional[Received]) -> None:
+    """Tells by the logger ``l4ipc``, which prints warnings on standard error unless the program says otherwise."""
+    if request is None:
+        _log.warning("l4ipc: %s", error)
+    elif isinstance(error, (IpcError, Refused)):
+        _log.warning("l4ipc: %s was not answered: %s", request.sender, error)
+    else:
+        _log.error("l4ipc: the message of %s failed the server's function", request.sender, exc_info=error)
+
+
+def check_arguments(function: object, buffers: Sequence[Buffer], tell: object) -> None:
+    """Looks at the arguments of a server before the first call, so that what is wrong later is an answer."""
+    arguments.function("function", function)
+    arguments.function("tell", tell)
+    BufferStrings(buffers)
+
+
+class Loop:
+    """A server's loop: the message that is to be answered, and its answer; ``None`` where there is none.
+
+    Where the driver ``awaits`` what the function returns, finding an answer is a step of its own; else the loop calls the function.
+    """
+
+    def __init__(self, thread: "Caller", function: Answering, buffers: Sequence[Buffer], tell: Telling, awaits: bool = False) -> None:
+        check_arguments(function, buffers, tell)
+        self.awaits = awaits
+        self.thread, self.function, self.buffers, self.tell = thread, function, buffers, tell
+        self.request: Optional[Received] = None
+        self.answer: Optional[Message] = None
+        self.names_failed = False
+        self.life = thread.lives
+
+    def run(self) -> Steps[None]:
+        """Serves until the connection has ended, and is not made again."""
+        while True:
+            try:
+                yield from self.turns()
+            except Closed as end:
+                self.tell(end, None)
+                if not self.thread.reconnects or self.thread.is_closed:
+                    return
+                self.request = None
+                yield ConnectAgain()
+
+    def turns(self) -> Steps[None]:
+        """Answers a message, waits for the next one, and has the function find its answer, again and again."""
+        kept, function, awaits = self.thread.kept, self.function, self.awaits
+        while True:
+            if kept.names and kept.is_due():
+                yield from self.keep_names()
+            answered, self.request = self.request, None
+            try:
+                request: Received = yield self.next_call(answered)
+            except (IpcError, Refused, TypeError, ValueError) as error:
+                pause = self.failed(error, answered)
+                if pause:
+                    yield Pause(pause)
+                continue
+            self.request, self.life = request, self.thread.lives
+            try:
+                self.answer = (yield Answer(function, request)) if awaits else function(request)
+            except Exception as error:  # whatever the function does, the next client is served
+                self.tell(error, request)
+                self.answer = _FAILED
+
+    def failed(self, error: Exception, answered: Optional[Received]) -> float:
+        """Tells that a call failed; how many seconds to wait before the next one. What does not pass is raised."""
+        if isinstance(error, IpcError):
+            if not (isinstance(error, Timeout) and error.phase == RECEIVE):
+                self.tell(error, answered if error.phase == SEND else None)
+            return 0
+        if answered is None and not isinstance(error, Refused):
+            raise error
+        self.tell(error, answered)
+        if not isinstance(error, Refused):  # what the function returned cannot be sent
+            self.request, self.answer = answered, _FAILED
+            return 0
+        if error.number not in (NO_MEMORY, NO_ROOM):
+            raise error
+        return 0.1
+
+    def next_call(self, answered: Optional[Received]) -> steps.Ipc:
+        """The call that answers a message, if it gets an answer, and waits for the next one: for a while, where names are to be kept."""
+        thread, answer = self.thread, self.answer
+        patience = _NEVER if not thread.kept.names else _AGAIN_AFTER if self.names_failed else _KEPT_FOR
+        if answered is None or answer is None or self.life != thread.lives:
+            return steps.Ipc(NILTHREAD, ANYTHREAD, NO_MESSAGE, patience, self.buffers)
+        return _step(steps.Ipc, (answered.sender, ANYTHREAD, answer, _ANSWER_AT_ONCE | patience, self.buffers, True))
+
+    def keep_names(self) -> Steps[None]:
+        """Registers the names of the server again. That it fails is told once."""
+        try:
+            yield from self.thread._keeper.keep()
+            self.names_failed = False
+        except Closed:
+            raise
+        except L4Error as error:
+            if not self.names_failed:
+                self.tell(error, None)
+            self.names_failed = True

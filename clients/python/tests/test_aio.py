@@ -1,0 +1,181 @@
+"""Threads whose calls are coroutines, against servers that a test gives."""
+
+import asyncio
+import unittest
+import unittest.mock
+
+import l4ipc
+from l4ipc import FUNCTION_FAILED, Message, Thread, ThreadId, aio
+
+from .scripted import DONE, EXREGR, FAULT, REFUSED, STRING, WELCOME, WORDS, failed, outcome, said
+from .test_connecting import Listener
+
+FIRST = ThreadId.of(1, 1)
+IN_255 = 0xFF00000001
+AGAIN = bytes.fromhex("00000009 81 0000000200000002")
+
+
+def scripted(answers, does, *more, **named):
+    """What a coroutine of a thread answers or raises, and the frames that went over the first connection."""
+
+    async def main(there):
+        async with aio.Thread(there.folder, 2, **named) as thread:
+            try:
+                return await does(thread)
+            except (l4ipc.L4Error, RuntimeError, ValueError, TypeError) as error:
+                return error
+
+    with Listener([WELCOME + answers, *more]) as there:
+        came = asyncio.run(main(there.listens()))
+        return came, said(there.kept[0])
+
+
+class Aio(unittest.TestCase):
+    def test_the_frames_are_those_of_the_calls_that_block(self):
+        rows = [
+            (WORDS, lambda it: it.call(FIRST, Message(3, [1, 2]), 1, 2, [5])), (DONE, lambda it: it.send(FIRST, Message(3, [], [b"abc"]), 1)),
+            (STRING, lambda it: it.wait(3, [3])), (WORDS, lambda it: it.receive(FIRST)), (WORDS, lambda it: it.reply_wait(FIRST, Message(1), 2)),
+            (failed(3), lambda it: it.sleep(0.5)), (EXREGR, lambda it: it.exchange_registers(FIRST, True, True)),
+            (WORDS, lambda it: it.ipc(FIRST, FIRST, Message(1))),
+        ]
+        for answer, does in rows:
+            with Listener([WELCOME + answer]) as there:
+                with Thread(there.listens().folder, 2) as thread:
+                    wanted = does(thread)
+                frames = said(there.kept[0])
+            self.assertEqual(scripted(answer, does), (wanted, frames) if answer != EXREGR else (unittest.mock.ANY, frames))
+
+    def test_what_fails(self):
+        rows = [
+            (failed(0x4), l4ipc.NoPartner, False), (REFUSED, l4ipc.Refused, False), (FAULT, l4ipc.Fault, True), (STRING, l4ipc.BadFrame, True),
+            (WORDS[:4] + b"\x90", l4ipc.BadFrame, True), (EXREGR, l4ipc.BadFrame, True),
+        ]
+        for answer, kind, closed in rows:
+            async def does(thread):
+                with self.assertRaises(kind):
+                    await thread.wait()
+                return thread.is_closed
+
+            self.assertEqual(scripted(answer, does)[0], closed)
+        for does in (lambda it: it.wait("1s"), lambda it: it.call("1.1"), lambda it: it.send(FIRST, 7), lambda it: it.wait(buffers=[b"x"])):
+            came, frames = scripted(b"", does)
+            self.assertIsInstance(came, (TypeError, ValueError))
+            self.assertEqual([frame[4] for frame in frames], [1, 4])
+
+    def test_an_end(self):
+        with Listener([WELCOME], ends=True) as there:
+            async def main():
+                async with aio.Thread(there.listens().folder, 2) as thread:
+                    for _ in range(2):
+                        with self.assertRaises(l4ipc.Closed):
+                            await thread.wait()
+
+            asyncio.run(main())
+
+    def test_one_call_at_a_time(self):
+        async def does(thread):
+            first = asyncio.ensure_future(thread.wait())
+            await asyncio.sleep(0)
+            with self.assertRaises(RuntimeError):
+                await thread.wait()
+            first.cancel()
+
+        scripted(b"", does)
+
+    def test_a_cancelled_call_closes_its_thread(self):
+        async def does(thread):
+            with self.assertRaises(asyncio.TimeoutError):
+                await asyncio.wait_for(thread.wait(), 0.05)
+            return thread.is_closed
+
+        self.assertEqual(scripted(b"", does)[0], True)
+
+    def test_a_cancelled_call_is_ended_by_a_canceller(self):
+        for answer, kept in ((failed(0x7), False), (WORDS, True)):
+            with Listener([WELCOME, WELCOME]) as there:
+                async def main():
+                    async with aio.Thread(there.folder, 3) as canceller, aio.Thread(there.folder, 2, canceller=canceller) as thread:
+                        task = asyncio.ensure_future(thread.wait())
+                        await asyncio.sleep(0.05)
+                        for connection, sent in zip(there.kept, (EXREGR, answer)):
+                            connection.sendall(sent)
+                        task.cancel()
+                        with self.assertRaises(asyncio.CancelledError):
+                            await task
+                        self.assertFalse(thread.is_closed)
+                        there.kept[1].sendall(DONE)
+                        if kept:  # the answer is sent, and then the message that came before is there
+                            received = await thread.reply_wait(FIRST, Message(9))
+                            self.assertEqual(received.words, (7, 8))
+                        else:
+                            await thread.send(FIRST, Message(9))
+
+                there.listens()
+                asyncio.run(main())
+                frames = [said(it) for it in there.kept]
+                self.assertEqual([frame[4] for frame in frames[0]][:2], [1, 3])
+                self.assertEqual(frames[0][1][5:], ThreadId.of(2, 1).to_bytes(8, "big") + (6).to_bytes(8, "big"))
+                _, _, last, _ = frames[1]
+                self.assertEqual((last[5:13], last[13:21]), (FIRST.to_bytes(8, "big"), bytes(8)))
+
+    def test_a_server(self):
+        async def answer(request):
+            await asyncio.sleep(0)
+            return Message(request.label + 1)
+
+        for function, label in ((answer, 4), (lambda request: Message(4), 4), (lambda request: 1 // 0, FUNCTION_FAILED)):
+            told = []
+            with Listener([WELCOME + WORDS], ends=True) as there:
+                async def main():
+                    async with aio.Thread(there.folder, 2) as thread:
+                        await thread.serve(function, tell=lambda error, request: told.append(type(error)))
+
+                there.listens()
+                asyncio.run(main())
+            self.assertEqual(told[-1], l4ipc.Closed)
+        _, frames = scripted(WORDS + FAULT, lambda it: it.serve(answer))
+        self.assertEqual([int.from_bytes(frame[33:41], "big") >> 16 for frame in frames[1:]], [0, 4])
+
+    def test_names(self):
+        found = failed(0x3) + outcome(1, IN_255, words=(FIRST,))
+        came, frames = scripted(found + WORDS, lambda it: it.call("echo", Message(5)))
+        self.assertEqual(came.words, (7, 8))
+        came, _ = scripted(failed(0x3) + outcome(1, IN_255, words=(ThreadId.of(2, 1),)), lambda it: aio.Names(it).wait_to_register("echo", 1))
+        self.assertEqual(came, ThreadId.of(2, 1))
+        came, _ = scripted(3 * failed(0x5) + failed(0x3), lambda it: aio.live_thread(it, 9))
+        self.assertEqual(came, ThreadId.of(9, 4))
+        came, frames = scripted(3 * failed(0x4) + WORDS, lambda it: it.call(FIRST, wait_for=10))
+        self.assertEqual((came.words, len(frames)), ((7, 8), 6))
+
+    def test_connecting(self):
+        async def connects(folder, **more):
+            async with aio.Thread(folder, 2, **more) as thread:
+                return thread.id
+
+        with self.assertRaises(FileNotFoundError) as caught:
+            asyncio.run(connects("/nope"))
+        self.assertIn("/nope/space1", str(caught.exception))
+        with Listener([WELCOME], after=0.2) as there:
+            self.assertEqual(asyncio.run(connects(there.folder, wait_for=10)), ThreadId.of(2, 1))
+        with Listener([b""]) as there, self.assertRaises(TimeoutError) as caught:
+            asyncio.run(connects(there.listens().folder, connect_timeout=0.2))
+        self.assertIn("is full", str(caught.exception))
+        with Listener([REFUSED]) as there, self.assertRaises(l4ipc.Refused):
+            asyncio.run(connects(there.listens().folder))
+        with self.assertRaises(ValueError):
+            aio.Thread("/nope", 2, space=0)
+
+    def test_it_connects_again(self):
+        with Listener([WELCOME + WORDS, AGAIN + WORDS]) as there:
+            async def main():
+                async with aio.Thread(there.listens().folder, 2, reconnect=True) as thread:
+                    await thread.call(FIRST)
+                    there.kept[0].close()
+                    await thread.call(FIRST)
+                    return thread.id, thread.lives
+
+            self.assertEqual(asyncio.run(main()), (ThreadId.of(2, 2), 2))
+
+
+if __name__ == "__main__":
+    unittest.main()

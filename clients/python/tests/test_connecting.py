@@ -1,0 +1,202 @@
+"""Connecting, and waiting for a partner: what is waited for, and what is said of it."""
+
+import shutil
+import socket
+import tempfile
+import threading
+import time
+import unittest
+
+import l4ipc
+from l4ipc import Message, Thread, ThreadId
+
+from .scripted import FAULT, REFUSED, WELCOME, WORDS, failed, outcome, said, scripted
+
+FIRST = ThreadId.of(1, 1)
+
+
+class Listener:
+    """A path that answers each connection by the next of some bytes, from so many seconds on. It keeps all connections open, or ends them."""
+
+    def __init__(self, answers=(), after=0.0, backlog=8, ends=False):
+        self.folder = tempfile.mkdtemp()
+        self.path = f"{self.folder}/space1"
+        self.kept = []
+        self.listener = socket.socket(socket.AF_UNIX)
+        self.is_there = False
+        self.worker = threading.Thread(target=self.serve, args=(list(answers), after, backlog, ends), daemon=True)
+        self.worker.start()
+
+    def serve(self, answers, after, backlog, ends):
+        time.sleep(after)
+        self.listener.bind(self.path)
+        self.listener.listen(backlog)
+        self.is_there = True
+        for answer in answers:
+            connection, _ = self.listener.accept()
+            self.kept.append(connection)
+            connection.sendall(answer)
+            if ends:
+                connection.close()
+
+    def listens(self):
+        """Until the path is there."""
+        while not self.is_there:
+            time.sleep(0.005)
+        return self
+
+    def __enter__(self):
+        return self
+
+    def __exit__(self, *_):
+        self.worker.join(5)
+        for connection in (self.listener, *self.kept):
+            connection.close()
+        shutil.rmtree(self.folder)
+
+
+class Connecting(unittest.TestCase):
+    def fails(self, kind, folder, *texts, **more):
+        with self.assertRaises(kind) as caught:
+            Thread(folder, 2, **more)
+        for text in texts:
+            self.assertIn(text, str(caught.exception))
+        return caught.exception
+
+    def test_no_path(self):
+        began = time.monotonic()
+        error = self.fails(FileNotFoundError, "/nope", "/nope/space1", "start l4d --dir")
+        self.assertEqual(error.filename, "/nope/space1")
+        self.fails(FileNotFoundError, "/nope", "/nope/space1", wait_for=0.2)
+        self.assertTrue(0.2 <= time.monotonic() - began < 5)
+
+    def test_nobody_listens(self):
+        with Listener() as there:
+            there.listens().listener.close()
+            self.fails(ConnectionRefusedError, there.folder, there.path, "has ended")
+
+    def test_a_path_that_is_there_later(self):
+        with Listener([WELCOME], after=0.3) as there:
+            Thread(there.folder, 2, wait_for=10).close()
+
+    def test_a_number_that_becomes_free(self):
+        with Listener([REFUSED, REFUSED, WELCOME], ends=True) as there:
+            Thread(there.listens().folder, 2, wait_for=10).close()
+        with Listener([REFUSED], ends=True) as there:
+            error = self.fails(l4ipc.Refused, there.listens().folder, "number 2", there.path, "K2", "is live")
+            self.assertEqual(error.number, 2)
+
+    def test_what_does_not_pass(self):
+        for answer, kind in ((REFUSED[:-1] + b"\1", l4ipc.Refused), (FAULT, l4ipc.Fault), (WORDS, l4ipc.BadFrame)):
+            with Listener([answer]) as there:
+                self.fails(kind, there.listens().folder, wait_for=10)
+
+    def test_a_server_that_does_not_answer(self):
+        began = time.monotonic()
+        with Listener([b"", WELCOME[:3]]) as there:
+            self.fails(TimeoutError, there.listens().folder, there.path, "is full", connect_timeout=0.2)
+            self.fails(TimeoutError, there.folder, there.path, "is full", connect_timeout=0.1, wait_for=0.2)
+        self.assertTrue(0.4 <= time.monotonic() - began < 5)
+
+    def test_a_server_that_takes_no_connection(self):
+        with Listener(backlog=0) as there:
+            queued = [socket.socket(socket.AF_UNIX) for _ in range(1)]
+            there.listens()
+            queued[0].connect(there.path)
+            self.fails(TimeoutError, there.folder, there.path, "is full", connect_timeout=0.2)
+            queued[0].close()
+
+    def test_a_server_that_ends(self):
+        with Listener([b""], ends=True) as there:
+            self.fails(l4ipc.Closed, there.listens().folder, there.path)
+        with Listener([b"", b"", WELCOME], ends=True) as there:
+            Thread(there.listens().folder, 2, wait_for=10).close()
+
+
+class WaitingForAPartner(unittest.TestCase):
+    def test_it_is_asked_again_until_it_is_there(self):
+        thread, server = scripted(3 * failed(0x4) + WORDS)
+        self.assertEqual(thread.call(FIRST, Message(0, [1]), wait_for=10).words, (7, 8))
+        frames = said(server)[1:]
+        self.assertEqual(frames, [frames[0]] * 4)
+        thread.close()
+        server.close()
+
+    def test_it_does_not_come(self):
+        thread, server = scripted(100 * failed(0x4))
+        with self.assertRaises(l4ipc.NoPartner) as caught:
+            thread.send(FIRST, wait_for=0.2)
+        self.assertEqual(caught.exception.waited, 0.2)
+        self.assertIn("2.1: send phase to 1.1: non-existing partner (error 0x4), after waiting for 0.2 seconds; nothing was delivered", str(caught.exception))
+        self.assertTrue(4 < len(said(server)) < 20)
+        thread.close()
+        server.close()
+
+    def test_what_was_sent_is_not_sent_again(self):
+        for code in (0x5, 0x2, 0x3, 0x6, 0x18):
+            thread, server = scripted(failed(code) + WORDS)
+            with self.assertRaises(l4ipc.IpcError):
+                thread.call(FIRST, Message(0, [1]), wait_for=10)
+            self.assertEqual(len(said(server)), 2)
+            thread.close()
+            server.close()
+
+
+class Texts(unittest.TestCase):
+    def text(self, code, does):
+        thread, server = scripted(failed(code))
+        with self.assertRaises(l4ipc.IpcError) as caught:
+            does(thread)
+        thread.close()
+        server.close()
+        return caught.exception, str(caught.exception)
+
+    def test_who_and_what(self):
+        strings = Message(0, [], [b"k", b"", b"x" * 9])
+        rows = [
+            (0x2, lambda it: it.send(FIRST), "2.1: send phase to 1.1: timeout (error 0x2); nothing was delivered"),
+            (0x5, lambda it: it.call(FIRST), "2.1: receive phase from 1.1: non-existing partner (error 0x5); the message was delivered, and no answer came"),
+            (0x3, lambda it: it.wait(1), "2.1: receive phase from anythread: timeout (error 0x3); nothing was received"),
+            (0x4, lambda it: it.send(1), "that is no id of a thread: ThreadId.of(1, 1)"),
+            (0x4, lambda it: it.send(it.id), "that is the thread itself"),
+            (0x18, lambda it: it.send(FIRST, strings), "string 3, of 9 bytes, did not fit the receiver's buffers; nothing was delivered"),
+            (0x8, lambda it: it.send(FIRST, strings), "string 1, of 1 bytes, did not fit"),
+            (0x19, lambda it: it.wait(), "a string did not fit the buffers, behind 1 bytes that did; nothing was received"),
+            (0x10000E, lambda it: it.send(FIRST), "aborted by another thread (error 0x10000e) after 65536 bytes"),
+        ]
+        for code, does, text in rows:
+            with self.subTest(hex(code)):
+                self.assertIn(text, self.text(code, does)[1])
+
+    def test_parts(self):
+        error, _ = self.text(0x18, lambda it: it.send(FIRST, Message(0, [], [b"k", b"x"])))
+        self.assertEqual((error.thread, error.partner, error.string, error.delivered), (ThreadId.of(2, 1), FIRST, 2, False))
+        error, _ = self.text(0x9, lambda it: it.call(FIRST, Message(0, [], [b"k", b"x"])))
+        self.assertEqual((error.partner, error.string, error.delivered), (FIRST, None, True))
+
+    def test_an_end_tells_the_thread(self):
+        thread, server = scripted(b"")
+        with self.assertRaises(l4ipc.Closed) as caught:
+            thread.wait()
+        self.assertIn("2.1", str(caught.exception))
+        server.close()
+
+    def test_no_name_server(self):
+        thread, server = scripted(200 * failed(0x5))
+        with self.assertRaises(TimeoutError) as caught:
+            l4ipc.names.Names(thread).wait_for("x", 0.01)
+        self.assertIn("no name server is there", str(caught.exception))
+        self.assertIn("start l4x DIR names", str(caught.exception))
+        thread.close()
+        server.close()
+
+    def test_a_name_server_that_comes(self):
+        answer = outcome(1, 0xFF00000002, words=(ThreadId.of(2, 1),))
+        thread, server = scripted(63 * failed(0x5) + failed(0x5) + failed(0x3) + answer)
+        self.assertEqual(l4ipc.names.Names(thread).wait_to_register("x", 10), ThreadId.of(2, 1))
+        thread.close()
+        server.close()
+
+
+if __name__ == "__main__":
+    unittest.main()

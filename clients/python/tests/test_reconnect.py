@@ -1,0 +1,130 @@
+"""A thread that connects again, against a server that a test gives."""
+
+import socket
+import unittest
+
+import l4ipc
+from l4ipc import Message, Thread, ThreadId
+
+from .scripted import WELCOME, WORDS, failed, outcome, said
+from .test_connecting import Listener
+
+FIRST = ThreadId.of(1, 1)
+AGAIN = bytes.fromhex("00000009 81 0000000200000002")
+IN_255 = 0xFF00000001
+
+
+class Reconnect(unittest.TestCase):
+    def test_the_open_call_fails_and_the_next_one_connects(self):
+        with Listener([WELCOME + WORDS, AGAIN + WORDS]) as there:
+            thread = Thread(there.listens().folder, 2, reconnect=True)
+            self.assertEqual(thread.call(FIRST, Message(1)).words, (7, 8))
+            there.kept[0].shutdown(socket.SHUT_WR)
+            thread._has_ended = lambda: False  # the end comes while the call is open
+            with self.assertRaises(l4ipc.Closed):
+                thread.call(FIRST, Message(2))
+            del thread._has_ended
+            self.assertFalse(thread.is_closed)
+            self.assertEqual(thread.call(FIRST, Message(3)).words, (7, 8))
+            self.assertEqual((thread.id, thread.lives), (ThreadId.of(2, 2), 2))
+            labels = [[int.from_bytes(frame[33:41], "big") >> 16 for frame in said(it)[1:]] for it in there.kept]
+            self.assertEqual(labels, [[1, 2], [3]])
+            thread.close()
+            self.assertTrue(thread.is_closed)
+            with self.assertRaises(l4ipc.Closed):
+                thread.call(FIRST)
+
+    def test_an_end_between_two_calls_costs_no_call(self):
+        with Listener([WELCOME + WORDS, AGAIN + WORDS]) as there:
+            thread = Thread(there.listens().folder, 2, reconnect=True)
+            thread.call(FIRST)
+            there.kept[0].close()
+            self.assertEqual(thread.call(FIRST).words, (7, 8))
+            thread.close()
+
+    def test_without_it_the_thread_is_closed(self):
+        with Listener([WELCOME, AGAIN], ends=True) as there:
+            thread = Thread(there.listens().folder, 2)
+            for _ in range(2):
+                with self.assertRaises(l4ipc.Closed):
+                    thread.call(FIRST)
+            self.assertTrue(thread.is_closed)
+            Thread(there.folder, 2).close()
+
+    def test_nobody_is_there_again(self):
+        with Listener([WELCOME]) as there:
+            thread = Thread(there.listens().folder, 2, reconnect=True)
+            there.worker.join()
+            there.listener.close()
+            there.kept[0].close()
+            for _ in range(2):
+                with self.assertRaises(l4ipc.Closed) as caught:
+                    thread.call(FIRST)
+                self.assertIn(there.path, str(caught.exception))
+            thread.close()
+
+    def test_names_are_registered_again(self):
+        registered = failed(0x3) + outcome(1, IN_255, words=(ThreadId.of(2, 1),))
+        again = failed(0x3) + outcome(1, IN_255, words=(ThreadId.of(2, 2),))
+        with Listener([WELCOME + registered, AGAIN + again + WORDS]) as there:
+            thread = Thread(there.listens().folder, 2, reconnect=True)
+            l4ipc.names.register(thread, "echo")
+            there.kept[0].close()
+            self.assertEqual(thread.call(FIRST, Message(9)).words, (7, 8))
+            frames = said(there.kept[1])
+            self.assertEqual([frame[50:].endswith(b"echo") for frame in frames], [False, False, True, False])
+            thread.close()
+
+    def test_a_server_goes_on(self):
+        with Listener([WELCOME + WORDS, AGAIN + WORDS + WORDS]) as there:
+            thread = Thread(there.listens().folder, 2, reconnect=True)
+            there.kept[0].shutdown(socket.SHUT_WR)
+            told, came = [], []
+
+            def answer(request):
+                came.append(request)
+                if len(came) == 3:
+                    thread.close()
+                return Message()
+
+            thread.serve(answer, tell=lambda error, request: told.append((type(error), request)))
+            self.assertEqual(len(came), 3)
+            # the first answer belongs to the connection that has ended
+            partners = [int.from_bytes(frame[5:13], "big") for it in there.kept for frame in said(it)[1:] if frame[4] == 2]
+            self.assertEqual(partners, [0, 0, FIRST])
+            self.assertEqual(told, [(l4ipc.Closed, None), (l4ipc.Closed, None)])
+
+
+class ByName(unittest.TestCase):
+    def test_a_name_that_moves(self):
+        def found(thread):
+            return outcome(1, IN_255, words=(thread,))
+
+        answers = WELCOME + failed(0x3) + found(0) + found(FIRST) + WORDS + WORDS + failed(0x4) + found(ThreadId.of(1, 2)) + WORDS
+        with Listener([answers]) as there:
+            thread = Thread(there.listens().folder, 2)
+            for _ in range(3):
+                self.assertEqual(thread.call("echo", Message(5), wait_for=10).words, (7, 8))
+            partners = [int.from_bytes(frame[5:13], "big") for frame in said(there.kept[0])[1:]]
+            self.assertEqual(partners, [0, IN_255, IN_255, FIRST, FIRST, FIRST, IN_255, ThreadId.of(1, 2)])
+            thread.close()
+
+    def test_nobody_has_it(self):
+        with Listener([WELCOME + failed(0x3) + outcome(1, IN_255, words=(0,)) * 100]) as there:
+            thread = Thread(there.listens().folder, 2)
+            for wait_for in (0, 0.05):
+                with self.assertRaises(l4ipc.NoPartner) as caught:
+                    thread.send("echo", wait_for=wait_for)
+                self.assertIn("nobody has registered echo", str(caught.exception))
+            thread.close()
+
+    def test_no_name_server(self):
+        with Listener([WELCOME + failed(0x5) * 63]) as there:
+            thread = Thread(there.listens().folder, 2)
+            with self.assertRaises(l4ipc.names.NoNames):
+                thread.call("echo")
+            thread.close()
+
+
+if __name__ == "__main__":
+    unittest.main()

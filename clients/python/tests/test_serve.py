@@ -1,0 +1,102 @@
+"""The loop of a server."""
+
+import unittest
+
+import l4ipc
+from l4ipc import FUNCTION_FAILED, Message, Received
+
+from .scripted import REFUSED, STRING, WORDS, failed, outcome, said, scripted
+
+# An IPC frame's place of the word `to`, of its tag and of its first word.
+TO, TAG, FIRST_WORD = slice(5, 13), slice(33, 41), slice(50, 58)
+
+
+def served(answers, function, **more):
+    """What a server tells of until its connection ends, and the frames that it wrote behind HELLO."""
+    thread, server = scripted(answers)
+    told = []
+    try:
+        thread.serve(function, tell=lambda error, request: told.append((type(error), request and request.sender)), **more)
+        return told, said(server)[1:]
+    finally:
+        thread.close()
+        server.close()
+
+
+def logged_by(test, answers, function):
+    """What the logger is told while a server serves."""
+    thread, server = scripted(answers)
+    with test.assertLogs("l4ipc") as logged:
+        thread.serve(function)
+    server.close()
+    return logged
+
+
+def message_of(frame):
+    """To whom a frame goes, with which label and which first word."""
+    tag = int.from_bytes(frame[TAG], "big")
+    return int.from_bytes(frame[TO], "big"), tag >> 16, int.from_bytes(frame[FIRST_WORD], "big") if tag & 0x3F else None
+
+
+class Serve(unittest.TestCase):
+    def test_each_message_is_answered_until_the_end(self):
+        told, frames = served(2 * WORDS, lambda request: Message(request.label + 1, [sum(request.words)]))
+        self.assertEqual(told, [(l4ipc.Closed, None)])
+        self.assertEqual([message_of(frame) for frame in frames], [(0, 0, None), (1 << 32 | 1, 4, 15), (1 << 32 | 1, 4, 15)])
+
+    def test_no_answer(self):
+        told, frames = served(2 * WORDS, lambda request: None)
+        self.assertEqual([message_of(frame)[0] for frame in frames], [0, 0, 0])
+
+    def test_phases_that_fail(self):
+        answers = failed(0x9) + failed(0x7) + WORDS + failed(0x4) + WORDS + failed(0x2) + failed(0x9) + WORDS
+        told, frames = served(answers, lambda request: Message())
+        client = 1 << 32 | 1
+        self.assertEqual(told, [(l4ipc.Overflow, None), (l4ipc.Cancelled, None), (l4ipc.NoPartner, client), (l4ipc.Timeout, client), (l4ipc.Overflow, None),
+                                (l4ipc.Closed, None)])
+        self.assertEqual([message_of(frame)[0] for frame in frames], [0, 0, 0, client, 0, client, 0, 0, client])
+
+    def test_functions_that_fail(self):
+        def raises(request):
+            raise IndexError
+
+        for function, kind in ((raises, IndexError), (lambda request: Message(0, [-1]), ValueError), (lambda request: Message(-1), ValueError)):
+            told, frames = served(2 * WORDS, function)
+            self.assertEqual([error for error, _ in told], [kind, kind, l4ipc.Closed])
+            self.assertEqual([message_of(frame)[1] for frame in frames], [0, FUNCTION_FAILED, FUNCTION_FAILED])
+        told, frames = served(WORDS, lambda request: 42)
+        self.assertEqual([message_of(frame)[1] for frame in frames], [0, FUNCTION_FAILED])
+
+    def test_refusals_that_pass(self):
+        told, frames = served(REFUSED[:-1] + b"\5" + REFUSED[:-1] + b"\4" + WORDS, lambda request: Message())
+        self.assertEqual([error for error, _ in told], [l4ipc.Refused, l4ipc.Refused, l4ipc.Closed])
+
+    def test_what_ends_it(self):
+        with self.assertRaises(l4ipc.Refused):
+            served(REFUSED[:-1] + b"\6", lambda request: Message())
+        with self.assertRaises(l4ipc.BadFrame):
+            served(STRING, lambda request: Message())
+        with self.assertRaises(SystemExit):
+            served(WORDS, lambda request: exit())
+
+    def test_what_the_logger_says(self):
+        logged = logged_by(self, failed(0x9) + WORDS + failed(0x4), lambda request: Message())
+        self.assertEqual([record.levelname for record in logged.records], ["WARNING"] * 3)
+        for text, wanted in zip(logged.output, ("nothing was received", "1.1 was not answered", "the connection has ended")):
+            self.assertIn(wanted, text)
+        self.assertIn("ZeroDivisionError", logged_by(self, WORDS, lambda request: 1 // 0).output[0])
+
+    def test_strings(self):
+        memory = bytearray(8)
+        came = []
+        served(STRING, lambda request: came.append(bytes(request.strings[0])), buffers=[memory])
+        self.assertEqual((came, bytes(memory[:3])), ([b"abc"], b"abc"))
+
+    def test_a_message_that_tells_both_senders(self):
+        came = []
+        served(outcome(0x1001, 0x300000001, 0x400000001, words=(9,)), came.append)
+        self.assertIsInstance(came[0], Received)
+
+
+if __name__ == "__main__":
+    unittest.main()

@@ -1,0 +1,5 @@
+pub mod Others
+pub mod Keeping
+pub mod Taking
+pub mod Joining
+pub mod Walking

@@ -1,5 +1,0 @@
-use Rattle.ipc_chart.specs.Folds.{Covers}
-use Rattle.ipc_chart.proofs.folding.singles.Given as goal
-
-abbrev pub invariant-loop-first : goal.invariant-loop-first
-invariant-loop-first l = Covers 0 l.folds.items l.first

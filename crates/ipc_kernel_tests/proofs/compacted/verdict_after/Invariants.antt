@@ -1,4 +1,0 @@
-use Rattle.ipc_kernel_tests.proofs.compacted.verdict_after.Given as goal
-
-abbrev pub ghost-check_from : goal.ghost-check_from
-ghost-check_from g a = g.before

@@ -1,9 +1,0 @@
-//! Tests of what the kernel and the checker of histories give beside what the programs show.
-#![tactic(auto)]
-
-#[cfg(test)]
-mod compacted;
-#[cfg(test)]
-mod kernel;
-#[cfg(test)]
-mod steps;

@@ -1,4 +1,0 @@
-pub mod Endings
-pub mod Requests
-pub mod Talks
-pub mod Verbs

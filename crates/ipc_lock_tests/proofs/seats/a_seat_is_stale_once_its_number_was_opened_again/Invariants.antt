@@ -1,7 +1,0 @@
-use Rattle.ipc_lock_tests.proofs.seats.a_seat_is_stale_once_its_number_was_opened_again.Given as goal
-
-abbrev pub ghosts-stale_seats-C-Ledger : goal.ghosts-stale_seats-C-Ledger
-ghosts-stale_seats-C-Ledger g a = record { name = a.calls.name; parts = a.calls.parts }
-
-abbrev pub ghosts-stale_seats-T-Ledger : goal.ghosts-stale_seats-T-Ledger
-ghosts-stale_seats-T-Ledger g a = record { name = a.takes.name; parts = a.takes.parts }

@@ -1,5 +1,0 @@
-use Rattle.ipc_options.specs.Command.{named_app}
-use Rattle.ipc_options.proofs.server_words.server_command.Goals as goal
-
-pub returns : goal.returns
-returns c = c.with_arguments.ensures named_app c.named_command.ensures

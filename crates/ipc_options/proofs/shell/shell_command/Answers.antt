@@ -1,5 +1,0 @@
-use Rattle.ipc_options.specs.Command.{shell_named_app}
-use Rattle.ipc_options.proofs.shell.shell_command.Goals as goal
-
-pub returns : goal.returns
-returns c = c.with_subcommands.ensures shell_named_app c.shell_named.ensures

@@ -1,4 +1,0 @@
-use Rattle.ipc_past.proofs.past.Past.told.Given as goal
-
-abbrev pub ghost-told : goal.ghost-told
-ghost-told g a = g.items

@@ -1,0 +1,232 @@
+//! Those who ask what the server does: they connect to the path `control`, say a word, and are answered with a text.
+use crate::counters::{CounterLines, counters_now};
+use crate::host::Host;
+use crate::part_answer::answer_with_part;
+use crate::paths::Door;
+use crate::server::Server;
+use ipc_host::SocketPort;
+use l4sh_state::{State, drops_of, tell_state};
+use std::alloc::AllocError;
+use std::io::{Read, Write};
+use std::os::unix::net::UnixStream;
+use std::rt::Clock;
+use std::sync::Wait;
+use std::sync::atomic::Ordering;
+use std::sync::ledger::Ledger;
+use std::thread::{Scope, Threads};
+use std::time::Duration;
+use std::{io, thread};
+
+/// How many may ask at one time. Who comes beside them is closed at once.
+const MOST_ASKERS: u64 = 8;
+
+/// How long each read and each write of an answer may wait, in milliseconds.
+const PATIENCE: u64 = 1_000;
+
+/// The most bytes of a word, its newline among them.
+const WORD_BYTES: usize = 64;
+
+/// How many reads a word may come in.
+const WORD_READS: usize = 64;
+
+/// How much stack a worker has that tells what each thread does, in bytes.
+const STACK: usize = 4_194_304;
+
+/// What is said to a word that asks for nothing.
+const UNKNOWN: &str = "unknown: one of state, counters, trace, rotate\n";
+
+/// What is said where there is no memory for an answer.
+pub(crate) const NO_MEMORY: &str = "no memory\n";
+
+/// What is said where the trace is to go on in a further file.
+const ROTATED: &str = "the next entries end the file\n";
+
+/// What is said where there is no trace.
+const UNTRACED: &str = "no trace\n";
+
+/// Answers those who ask, until the service ends.
+pub(crate) fn answer_askers<C: Ledger + Send, T: Ledger + Send, R>(
+    server: &Server<'_, C, T, SocketPort, R>,
+    host: &Host,
+    door: &Door,
+)
+where
+    R: Threads + Wait + Clock + Sync,
+{
+    let rt = server.rt;
+    thread::scope(thread::scope_env(), rt, |scope| {
+        for _ in rt.forever() {
+            if host.guests.is_stopping(rt) {
+                return;
+            }
+            match door.accept() {
+                Ok(stream) => {
+                    if let Some(stream) = admit(host, stream) {
+                        let started = start_worker(
+                            scope,
+                            move || serve_asker(server, host, stream),
+                        );
+                        if started.is_err() {
+                            leave(host);
+                        }
+                    }
+                }
+                Err(_) => rest(server, host),
+            }
+        }
+    });
+}
+
+/// Lets one in who asks, where there is room for him.
+fn admit(host: &Host, stream: UnixStream) -> Option<UnixStream> {
+    if host.askers.load(Ordering::SeqCst) >= MOST_ASKERS {
+        return None;
+    }
+    let _ = host.askers.fetch_add(1, Ordering::SeqCst);
+    Some(stream)
+}
+
+/// Waits a little where nobody could be accepted.
+fn rest<C: Ledger, T: Ledger, R: Wait + Clock>(
+    server: &Server<'_, C, T, SocketPort, R>,
+    host: &Host,
+) {
+    host.guests.wait_turn(server.rt);
+}
+
+/// Starts a worker that does this, with a stack that a state has room on.
+fn start_worker<'s, E, F: FnOnce() + Send + Drop + 's>(
+    scope: &Scope<'s, E>,
+    work: F,
+) -> io::Result<()>
+    requires { F.pre work }
+{
+    let builder = thread::Builder::new().stack_size(STACK);
+    let handle = builder.spawn_scoped(scope, work)?;
+    drop(handle);
+    Ok(())
+}
+
+/// One who asked has gone.
+fn leave(host: &Host) {
+    let _ = host.askers.fetch_sub(1, Ordering::SeqCst);
+}
+
+/// Hears the word of one who asks, and answers it. Who is slow is left: nothing waits for him.
+fn serve_asker<C: Ledger, T: Ledger, R: Wait + Clock>(
+    server: &Server<'_, C, T, SocketPort, R>,
+    host: &Host,
+    stream: UnixStream,
+) {
+    let _ = answer_over(server, host, &stream);
+    drop(stream);
+    leave(host);
+}
+
+/// The same over his connection.
+///
+/// # Errors
+///
+/// The system's; he was too slow.
+fn answer_over<C: Ledger, T: Ledger, R: Wait + Clock>(
+    server: &Server<'_, C, T, SocketPort, R>,
+    host: &Host,
+    stream: &UnixStream,
+) -> io::Result<()> {
+    let patience = Duration::from_millis(PATIENCE);
+    stream.set_read_timeout(Some(patience))?;
+    stream.set_write_timeout(Some(patience))?;
+    let asked = hear(stream)?;
+    if asked == Asked::Trace {
+        return answer_with_part(server, host, stream);
+    }
+    let mut writer = stream;
+    match answer_to(server, host, asked) {
+        Ok(Some(answer)) => writer.write_all(answer.as_bytes()),
+        Ok(None) => writer.write_all(UNKNOWN.as_bytes()),
+        Err(_) => writer.write_all(NO_MEMORY.as_bytes()),
+    }
+}
+
+/// What may be asked.
+#[derive(Clone, Copy, PartialEq, Eq)]
+enum Asked {
+    /// What each thread does.
+    State,
+    /// What the server counts.
+    Counters,
+    /// The part of a trace that begins now.
+    Trace,
+    /// That the trace goes on in a further file.
+    Rotate,
+    /// Nothing that is known.
+    Unknown,
+}
+
+/// The word that comes, up to a newline or the end.
+///
+/// # Errors
+///
+/// The system's; it was too slow.
+fn hear(stream: &UnixStream) -> io::Result<Asked> {
+    let mut bytes = [0u8; WORD_BYTES];
+    let mut count = 0usize;
+    let mut reader = stream;
+    for _ in 0..WORD_READS {
+        if count >= WORD_BYTES {
+            break;
+        }
+        let read = reader.read(&mut bytes[count..])?;
+        count = count.saturating_add(read).min(WORD_BYTES);
+        if read == 0 || bytes[..count].contains(&b'\n') {
+            break;
+        }
+    }
+    Ok(asked_by(&bytes[..count.min(WORD_BYTES)]))
+}
+
+/// What a word asks for.
+fn asked_by(bytes: &[u8]) -> Asked {
+    match bytes {
+        b"state" | b"state\n" => Asked::State,
+        b"counters" | b"counters\n" => Asked::Counters,
+        b"trace" | b"trace\n" => Asked::Trace,
+        b"rotate" | b"rotate\n" => Asked::Rotate,
+        _ => Asked::Unknown,
+    }
+}
+
+/// The answer; None where nothing was asked that is known.
+fn answer_to<C: Ledger, T: Ledger, R: Wait + Clock>(
+    server: &Server<'_, C, T, SocketPort, R>,
+    host: &Host,
+    asked: Asked,
+) -> Result<Option<String>, AllocError> {
+    match asked {
+        Asked::State => Ok(Some(state_text(server)?)),
+        Asked::Counters => {
+            let counters = counters_now(server, host);
+            Ok(Some(CounterLines(counters).to_string(server.alloc)?))
+        }
+        Asked::Rotate => Ok(Some(String::from_str(server.alloc, rotated(host))?)),
+        Asked::Trace | Asked::Unknown => Ok(None),
+    }
+}
+
+/// Has the trace go on in a further file, and answers what is said.
+fn rotated(host: &Host) -> &'static str {
+    if host.end_file() { ROTATED } else { UNTRACED }
+}
+
+/// What each thread does at this moment, in the words of `l4sh state`.
+fn state_text<C: Ledger, T: Ledger, R: Wait + Clock>(
+    server: &Server<'_, C, T, SocketPort, R>,
+) -> Result<String, AllocError> {
+    let State { threads, .. } = server.shared.state(server.rt);
+    let state = State {
+        threads,
+        moment: server.now(),
+    };
+    let drops = drops_of(server.alloc, &[])?;
+    tell_state(server.alloc, &state, &drops)
+}

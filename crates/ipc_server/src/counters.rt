@@ -1,0 +1,110 @@
+//! What a server does at one moment, in numbers.
+use crate::host::Host;
+use crate::server::Server;
+use ipc_host::{Counts, SocketPort};
+use std::fmt;
+use std::sync::Wait;
+use std::sync::ledger::Ledger;
+
+/// The counters of this moment.
+pub(crate) fn counters_now<C: Ledger, T: Ledger, R: Wait>(
+    server: &Server<'_, C, T, SocketPort, R>,
+    host: &Host,
+) -> Counters {
+    let (connections, threads, counts) = host.guests.state(server.rt);
+    let entries = server.shared.entries(server.rt) as u64;
+    Counters {
+        connections,
+        threads,
+        calls: server.shared.takes(server.rt),
+        counts,
+        entries,
+        held: server.shared.held(server.rt) as u64,
+        kibibytes: host.kibibytes(server.alloc),
+        behind: host.behind(entries),
+    }
+}
+
+/// What a server does at one moment.
+#[derive(Clone, Copy)]
+pub(crate) struct Counters {
+    connections: usize,
+    threads: usize,
+    /// How many calls are over whose outcome was taken.
+    calls: u64,
+    counts: Counts,
+    entries: u64,
+    /// How many of them memory holds.
+    held: u64,
+    /// How much memory the process holds.
+    kibibytes: u64,
+    /// How many entries the trace lags behind.
+    behind: Option<u64>,
+}
+
+impl fmt::Display for Counters {
+    fn fmt<W: fmt::Write>(&self, f: &mut fmt::Formatter<W>) -> fmt::Result {
+        self.fmt_connections(f)?;
+        self.fmt_calls(f)?;
+        self.fmt_entries(f)?;
+        self.fmt_memory(f)?;
+        self.fmt_trace(f)
+    }
+}
+
+impl Counters {
+    fn fmt_connections<W: fmt::Write>(&self, f: &mut fmt::Formatter<W>) -> fmt::Result {
+        let (threads, connections) = (self.threads, self.connections);
+        write!(f, "l4d: {threads} threads of {connections} connections")
+    }
+
+    fn fmt_calls<W: fmt::Write>(&self, f: &mut fmt::Formatter<W>) -> fmt::Result {
+        let (calls, counts) = (self.calls, self.counts);
+        write!(f, ", {calls} calls over, {counts}")
+    }
+
+    fn fmt_entries<W: fmt::Write>(&self, f: &mut fmt::Formatter<W>) -> fmt::Result {
+        let (entries, held) = (self.entries, self.held);
+        write!(f, ", {entries} entries, {held} held")
+    }
+
+    fn fmt_memory<W: fmt::Write>(&self, f: &mut fmt::Formatter<W>) -> fmt::Result {
+        let kibibytes = self.kibibytes;
+        write!(f, ", {kibibytes} KiB")
+    }
+
+    fn fmt_trace<W: fmt::Write>(&self, f: &mut fmt::Formatter<W>) -> fmt::Result {
+        match self.behind {
+            Some(behind) => write!(f, ", trace {behind} entries behind"),
+            None => Ok(()),
+        }
+    }
+}
+
+/// Counters as lines, each a name and a value.
+#[derive(Clone, Copy)]
+pub(crate) struct CounterLines(pub(crate) Counters);
+
+impl fmt::Display for CounterLines {
+    fn fmt<W: fmt::Write>(&self, f: &mut fmt::Formatter<W>) -> fmt::Result {
+        let CounterLines(counters) = self;
+        let Counters {
+            connections,
+            threads,
+            calls,
+            entries,
+            held,
+            kibibytes,
+            ..
+        } = *counters;
+        write!(f, "connections {connections}\nthreads {threads}\n")?;
+        write!(f, "calls_over {calls}\n")?;
+        counters.counts.fmt_lines(f)?;
+        write!(f, "entries {entries}\nentries_held {held}\n")?;
+        write!(f, "memory_kib {kibibytes}\n")?;
+        match counters.behind {
+            Some(behind) => write!(f, "trace_entries_behind {behind}\n"),
+            None => Ok(()),
+        }
+    }
+}

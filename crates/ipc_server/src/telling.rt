@@ -1,0 +1,65 @@
+//! What words ask to be told: help, the version, and what is wrong with them.
+use crate::ended;
+use crate::exit::Exit;
+use clap::error::ErrorKind;
+use l4sh_options::{server_options, tell_version};
+use std::alloc::{AllocError, Global};
+use std::io;
+use std::process::ExitCode;
+use std::rt::Files;
+
+/// Whether the words are the command `help`.
+pub(crate) fn asks_help(words: &[String]) -> bool {
+    words.len() == 2 && words[1].as_str() == "help"
+}
+
+/// Prints on standard output what `--help` tells on standard error.
+pub(crate) fn tell_help<R: Print + Eprint>(rt: &R, alloc: Global) -> io::Result<ExitCode> {
+    match help_words(alloc) {
+        Ok(words) => tell_help_of(rt, alloc, &words),
+        Err(_) => ended(rt, &Exit::NoMemory),
+    }
+}
+
+/// The words that ask for help.
+fn help_words(alloc: Global) -> Result<Vec<String>, AllocError> {
+    let mut words = Vec::new(alloc);
+    for word in ["l4d", "--help"] {
+        words.push(String::from_str(alloc, word)?)?;
+    }
+    Ok(words)
+}
+
+/// Prints on standard output what these words, which ask for help, are told.
+fn tell_help_of<R: Print + Eprint>(
+    rt: &R,
+    alloc: Global,
+    words: &[String],
+) -> io::Result<ExitCode> {
+    match server_options(alloc, words) {
+        Err(error) if error.kind() == ErrorKind::DisplayHelp => {
+            rt.print(&error)?;
+            Ok(ExitCode::from(0))
+        }
+        _ => ended(rt, &Exit::NoMemory),
+    }
+}
+
+/// Tells what is wrong with the words, or the version where they ask for it, and answers the status of the program.
+pub(crate) fn tell_error<R: Alloc + Files + Print + Eprint>(
+    rt: &R,
+    alloc: Global,
+    error: &clap::Error,
+) -> io::Result<ExitCode> {
+    match error.kind() {
+        ErrorKind::OutOfMemory => ended(rt, &Exit::NoMemory),
+        ErrorKind::DisplayVersion => {
+            tell_version(rt, alloc, error)?;
+            Ok(ExitCode::from(0))
+        }
+        _ => {
+            rt.eprint(error)?;
+            Ok(ExitCode::from(2))
+        }
+    }
+}

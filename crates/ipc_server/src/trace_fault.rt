@@ -1,0 +1,79 @@
+//! Why a trace stopped.
+use ipc_trace::PutFault;
+use std::alloc::AllocError;
+use std::{fmt, io};
+
+/// What failed of the file of a trace.
+#[derive(Clone, Copy, PartialEq, Eq)]
+pub enum Failed {
+    /// To open it.
+    Opening,
+    /// To write it.
+    Writing,
+    /// To give it, or an older one, its new name.
+    Renaming,
+}
+
+impl fmt::Display for Failed {
+    fn fmt<W: fmt::Write>(&self, f: &mut fmt::Formatter<W>) -> fmt::Result {
+        match self {
+            Failed::Opening => write!(f, "its file cannot be opened"),
+            Failed::Writing => write!(f, "its file cannot be written"),
+            Failed::Renaming => write!(f, "its file cannot be renamed"),
+        }
+    }
+}
+
+/// Why a trace stopped, told as `l4d: trace TR1`.
+#[derive(Clone, Copy)]
+pub struct TraceFault {
+    fault: PutFault,
+    /// What failed, and the system's reason for it.
+    reason: Option<(Failed, io::Error)>,
+}
+
+impl TraceFault {
+    /// A call of the file failed.
+    pub fn device(failed: Failed, error: io::Error) -> TraceFault {
+        TraceFault {
+            fault: PutFault::DeviceFailed,
+            reason: Some((failed, error)),
+        }
+    }
+
+    /// The same, with the system's reason for a write that failed, where it has none yet.
+    pub fn with_reason(self, reason: Option<io::Error>) -> TraceFault {
+        match (self.fault, self.reason, reason) {
+            (PutFault::DeviceFailed, None, Some(error)) => {
+                TraceFault::device(Failed::Writing, error)
+            }
+            _ => self,
+        }
+    }
+}
+
+impl fmt::Display for TraceFault {
+    fn fmt<W: fmt::Write>(&self, f: &mut fmt::Formatter<W>) -> fmt::Result {
+        let number = self.fault.number();
+        write!(f, "l4d: trace TR{number}")?;
+        match &self.reason {
+            Some((failed, error)) => write!(f, "\n  {failed}: {error}"),
+            None => Ok(()),
+        }
+    }
+}
+
+impl From<PutFault> for TraceFault {
+    fn from(fault: PutFault) -> TraceFault {
+        TraceFault {
+            fault,
+            reason: None,
+        }
+    }
+}
+
+impl From<AllocError> for TraceFault {
+    fn from(_error: AllocError) -> TraceFault {
+        TraceFault::from(PutFault::NoMemory)
+    }
+}

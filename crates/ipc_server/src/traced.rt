@@ -1,0 +1,198 @@
+//! Serving beside a worker that writes the trace.
+ghost use Rattle.std.specs.Prelude.{◌≡◌, ◌<◌};
+
+use crate::exit::Exit;
+use crate::host::Host;
+use crate::serve_and_close;
+use crate::server::Server;
+use crate::trace_disk::TraceDisk;
+use crate::trace_fault::TraceFault;
+use crate::trace_files::TraceFiles;
+use crate::tracing::Trace;
+use ipc_host::SocketPort;
+use ipc_ports::{Failures, PortWrite};
+use l4sh_options::ServerOptions;
+use std::fs::File;
+use std::marker::Brand;
+use std::net::{Net, TcpListener, TcpStream};
+use std::rt::{Clock, Files};
+use std::sync::Wait;
+use std::sync::ledger::{Blank, Ledger};
+use std::thread;
+use std::thread::Threads;
+
+/// Serves the paths, with a trace where one is asked for.
+pub(crate) fn serve_as_asked<C: Ledger + Send, T: Ledger + Send, R>(
+    server: &Server<'_, C, T, SocketPort, R>,
+    host: &Host,
+    options: &ServerOptions<'_>,
+) -> Exit
+where
+    R: Threads
+        + Wait
+        + Clock
+        + Files<File = File>
+        + TraceDisk
+        + Net<Listener = TcpListener, Stream = TcpStream>
+        + Print
+        + Eprint
+        + Sync,
+{
+    if options.trace.is_some() {
+        serve_traced::<C, T, Brand, R>(server, host, options, Blank::new(1))
+    } else {
+        serve_untraced(server, host, options, true)
+    }
+}
+
+/// Serves the paths while no trace is written: none was asked for, or it has stopped already.
+fn serve_untraced<C: Ledger + Send, T: Ledger + Send, R>(
+    server: &Server<'_, C, T, SocketPort, R>,
+    host: &Host,
+    options: &ServerOptions<'_>,
+    is_whole: bool,
+) -> Exit
+where
+    R: Threads
+        + Wait
+        + Clock
+        + Net<Listener = TcpListener, Stream = TcpStream>
+        + Print
+        + Eprint
+        + Sync,
+{
+    server.keep_nothing();
+    exit_of(serve_and_close(server, host, options), is_whole)
+}
+
+/// Opens the file of the trace, and serves the paths while a worker writes it. The count of the file's failures begins as a blank.
+fn serve_traced<C: Ledger + Send, T: Ledger + Send, L: Ledger + Send, R>(
+    server: &Server<'_, C, T, SocketPort, R>,
+    host: &Host,
+    options: &ServerOptions<'_>,
+    writes: Blank,
+) -> Exit
+where
+    R: Threads
+        + Wait
+        + Clock
+        + Files<File = File>
+        + TraceDisk
+        + Net<Listener = TcpListener, Stream = TcpStream>
+        + Print
+        + Eprint
+        + Sync,
+    requires writes_name { writes.name ≡ L.name }
+    requires writes_parts { (writes.parts ≡ L.parts) × (0 < writes.parts) }
+{
+    let files = TraceFiles::new(options, &host.meter);
+    match files.begin(server.rt, server.alloc, Failures::<L>::new(writes)) {
+        Ok(trace) => serve_beside(server, host, options, files, trace),
+        Err(fault) => {
+            let fault = fault.with_reason(host.meter.reason());
+            serve_without(server, host, options, fault)
+        }
+    }
+}
+
+/// Tells why the trace cannot be written, and serves the paths without it, unless it is required.
+fn serve_without<C: Ledger + Send, T: Ledger + Send, R>(
+    server: &Server<'_, C, T, SocketPort, R>,
+    host: &Host,
+    options: &ServerOptions<'_>,
+    fault: TraceFault,
+) -> Exit
+where
+    R: Threads
+        + Wait
+        + Clock
+        + Net<Listener = TcpListener, Stream = TcpStream>
+        + Print
+        + Eprint
+        + Sync,
+{
+    tell(server.rt, fault);
+    if options.trace_required {
+        server.shared.close(server.rt);
+        return Exit::TraceRequired;
+    }
+    serve_untraced(server, host, options, false)
+}
+
+/// Serves the paths while a worker writes the trace. Where the worker cannot be started the trace is written at the end.
+fn serve_beside<C: Ledger + Send, T: Ledger + Send, R, P: PortWrite + Drop + Send>(
+    server: &Server<'_, C, T, SocketPort, R>,
+    host: &Host,
+    options: &ServerOptions<'_>,
+    files: TraceFiles<'_>,
+    trace: Trace<P>,
+) -> Exit
+where
+    R: Threads
+        + Wait
+        + Clock
+        + TraceDisk
+        + Net<Listener = TcpListener, Stream = TcpStream>
+        + Print
+        + Eprint
+        + Sync,
+{
+    let (is_whole, served) = thread::join(
+        server.rt,
+        move || write_trace(server, host, files, options.trace_required, trace),
+        move || serve_and_close(server, host, options),
+    );
+    exit_beside(served, is_whole, options.trace_required)
+}
+
+/// How the server ended beside a trace, which may be required.
+fn exit_beside(served: Result<(), Exit>, is_whole: bool, is_required: bool) -> Exit {
+    if is_required && !is_whole {
+        drop(served);
+        return Exit::TraceRequired;
+    }
+    exit_of(served, is_whole)
+}
+
+/// Writes the trace to its end, and tells where it stopped before. False where it did; where the trace is required the service is then
+/// stopped.
+fn write_trace<C, T, R, P>(
+    server: &Server<'_, C, T, SocketPort, R>,
+    host: &Host,
+    files: TraceFiles<'_>,
+    is_required: bool,
+    trace: Trace<P>,
+) -> bool
+where
+    C: Ledger,
+    T: Ledger,
+    R: Wait + Clock + Eprint + TraceDisk,
+    P: PortWrite + Drop,
+{
+    match files.follow(server, host, trace) {
+        Ok(()) => true,
+        Err(fault) => {
+            tell(server.rt, fault.with_reason(host.meter.reason()));
+            server.keep_nothing();
+            if is_required {
+                host.stop(server.rt);
+            }
+            false
+        }
+    }
+}
+
+/// Says on standard error why the trace stopped.
+fn tell<R: Eprint>(rt: &R, fault: TraceFault) {
+    // where standard error fails too, the exit status still says it
+    let _ = rt.eprintln(&fault);
+}
+
+/// How the server ended, by what came of serving and whether its trace is whole or was not asked for.
+fn exit_of(served: Result<(), Exit>, is_whole: bool) -> Exit {
+    match served {
+        Ok(()) if is_whole => Exit::Closed,
+        Ok(()) => Exit::Untraced,
+        Err(exit) => exit,
+    }
+}

@@ -1,5 +1,0 @@
-use Rattle.ipc_state.proofs.Walks.{IsWalked}
-use Rattle.ipc_state.proofs.building.slots_of.Given as goal
-
-abbrev pub invariant-loop-index : goal.invariant-loop-index
-invariant-loop-index l = IsWalked l.entries l.index l.past l.slots

@@ -1,0 +1,4 @@
+use Rattle.l4sh.proofs.looking.print_state.Goals as goal
+
+pub returns-in-Ok-clause-said : goal.returns-in-Ok-clause-said
+returns-in-Ok-clause-said g c = c.print.ensures.ends c.args.version c.args.entries.now c.in-Ok.ensures.state.legal

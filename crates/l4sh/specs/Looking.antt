@@ -1,0 +1,136 @@
+-- Our choice (docs/FORMATS.md): what is said of a trace that is looked at.
+use Rattle.std.specs.Prelude.{◌≡◌, ℕ, ◌+◌, List, length, take, Bool, true, false, Option, IfSome, ⊤}
+use Rattle.ipc_history.specs.Legal.{Legal}
+use Rattle.ipc_history.specs.declared.entry.Entry.{Entry}
+use Rattle.ipc_trace.specs.Traces.{HasUnknownVersion}
+use Rattle.ipc_trace.specs.Versions.{header_lines}
+use Rattle.ipc_trace.specs.declared.version.TraceVersion.{TraceVersion}
+use Rattle.ipc_shell.specs.Checking.{HasLines, HasBadLine}
+use Rattle.l4sh.specs.declared.exit.Exit.{Exit}
+use Rattle.l4sh.specs.declared.exit.Exit.TheVariants.{Done, BadLine, NoMemory, DeviceFailed, Illegal, BadThreads, NoChart, BadWord, UnknownVersion, IllegalLine, Torn}
+use Rattle.l4sh.specs.declared.looking.Look.{Look}
+use Rattle.l4sh.specs.declared.looking.Look.TheVariants.{Script, StateAt, Counts}
+
+-- the entries before the line of this number, counted from 1, are so many and legal, those up to it are not
+pub record IsFaultLine (version : TraceVersion) (entries : List Entry) (number place : ℕ) : Type 0 where
+  pub number_is : number ≡ header_lines version + place + 1
+  pub before : Legal (take place entries)
+  pub fault : Legal (take (place + 1) entries) → ⊥
+
+-- what is said of entries: that all is well only of a legal history, and a line only where it is at
+-- fault
+abbrev pub IsSaidOf : TraceVersion → List Entry → Exit → Type 0
+IsSaidOf version entries Done = Legal entries
+IsSaidOf version entries UnknownVersion = ⊥
+IsSaidOf version entries (IllegalLine number place) = IsFaultLine version entries number place
+IsSaidOf version entries (BadLine number) = ⊥
+IsSaidOf version entries NoMemory = ⊤
+IsSaidOf version entries DeviceFailed = ⊤
+IsSaidOf version entries Illegal = ⊥
+IsSaidOf version entries BadThreads = ⊥
+IsSaidOf version entries (NoChart fault) = ⊥
+IsSaidOf version entries BadWord = ⊥
+IsSaidOf version entries (Torn number) = ⊥
+
+-- what may be said of each legal history
+abbrev pub MayEnd : Exit → Type 0
+MayEnd exit = (version : TraceVersion) (entries : List Entry) → Legal entries
+    → IsSaidOf version entries exit
+
+-- the entries of which something is told
+abbrev pub shown_of : Look → List Entry → List Entry
+shown_of Script entries = entries
+shown_of (StateAt count) entries = take count entries
+shown_of (Counts is_json) entries = entries
+
+-- the entries of the whole lines, of which this is said, and whether a torn line stands behind them
+abbrev pub SaysOfTrace : Look → List ℕ → Bool → Exit → Type 0
+SaysOfTrace look bytes is_torn exit = (version : TraceVersion) × ((entries : List Entry)
+    × HasLines bytes version entries is_torn × IsSaidOf version (shown_of look entries) exit)
+
+-- the last whole line before a torn one has this number, and what is shown is legal
+abbrev pub ShowsTorn : Look → List ℕ → ℕ → Type 0
+ShowsTorn look bytes number = (version : TraceVersion) × ((entries : List Entry)
+    × HasLines bytes version entries true × (number ≡ header_lines version + length entries)
+    × Legal (shown_of look entries))
+
+-- how what was told of the whole lines ends where a torn line stands behind them
+abbrev pub torn_end : TraceVersion → List Entry → Exit → Exit
+torn_end version entries Done = Torn (header_lines version + length entries)
+torn_end version entries other = other
+
+-- how a look at these bytes ends
+abbrev pub LooksAtBytes : Look → List ℕ → Exit → Type 0
+LooksAtBytes look bytes Done = SaysOfTrace look bytes false Done
+LooksAtBytes look bytes (Torn number) = ShowsTorn look bytes number
+LooksAtBytes look bytes UnknownVersion = HasUnknownVersion bytes
+LooksAtBytes look bytes (IllegalLine number place) =
+    (is_torn : Bool) × SaysOfTrace look bytes is_torn (IllegalLine number place)
+LooksAtBytes look bytes (BadLine number) = HasBadLine bytes number
+LooksAtBytes look bytes NoMemory = ⊤
+LooksAtBytes look bytes DeviceFailed = ⊤
+LooksAtBytes look bytes Illegal = ⊥
+LooksAtBytes look bytes BadThreads = ⊥
+LooksAtBytes look bytes (NoChart fault) = ⊥
+LooksAtBytes look bytes BadWord = ⊥
+
+-- where the reader tells its bytes
+abbrev pub LooksAt : Look → Option (List ℕ) → Exit → Type 0
+LooksAt look bytes exit = IfSome bytes (λ bytes. LooksAtBytes look bytes exit)
+
+-- what a chart's end says of the entries up to the last that it may show: it is drawn of a legal
+-- history alone, and a line is named only where it is at fault
+abbrev pub IsDrawnOf : TraceVersion → List Entry → Exit → Type 0
+IsDrawnOf version entries Done = Legal entries
+IsDrawnOf version entries (NoChart fault) = Legal entries
+IsDrawnOf version entries UnknownVersion = ⊥
+IsDrawnOf version entries (IllegalLine number place) = IsFaultLine version entries number place
+IsDrawnOf version entries (BadLine number) = ⊥
+IsDrawnOf version entries NoMemory = ⊤
+IsDrawnOf version entries DeviceFailed = ⊤
+IsDrawnOf version entries Illegal = ⊥
+IsDrawnOf version entries BadThreads = ⊥
+IsDrawnOf version entries BadWord = ⊥
+IsDrawnOf version entries (Torn number) = ⊥
+
+-- how a chart of each legal history may end
+abbrev pub MayDraw : Exit → Type 0
+MayDraw exit = (version : TraceVersion) (entries : List Entry) → Legal entries
+    → IsDrawnOf version entries exit
+
+-- the first entries of the whole lines, so many, of which this is said, and whether a torn line stands behind them
+abbrev pub DrawsTrace : ℕ → List ℕ → Bool → Exit → Type 0
+DrawsTrace last bytes is_torn exit = (version : TraceVersion) × ((entries : List Entry)
+    × HasLines bytes version entries is_torn × IsDrawnOf version (take last entries) exit)
+
+-- the last whole line before a torn one has this number, and what is drawn is legal
+abbrev pub DrawsTorn : ℕ → List ℕ → ℕ → Type 0
+DrawsTorn last bytes number = (version : TraceVersion) × ((entries : List Entry)
+    × HasLines bytes version entries true × (number ≡ header_lines version + length entries)
+    × Legal (take last entries))
+
+-- how a chart of these bytes ends that shows no entry behind the last
+abbrev pub ChartsBytes : ℕ → List ℕ → Exit → Type 0
+ChartsBytes last bytes Done = DrawsTrace last bytes false Done
+ChartsBytes last bytes (Torn number) = DrawsTorn last bytes number
+ChartsBytes last bytes (NoChart fault) = (is_torn : Bool) × DrawsTrace last bytes is_torn (NoChart fault)
+ChartsBytes last bytes UnknownVersion = HasUnknownVersion bytes
+ChartsBytes last bytes (IllegalLine number place) =
+    (is_torn : Bool) × DrawsTrace last bytes is_torn (IllegalLine number place)
+ChartsBytes last bytes (BadLine number) = HasBadLine bytes number
+ChartsBytes last bytes NoMemory = ⊤
+ChartsBytes last bytes DeviceFailed = ⊤
+ChartsBytes last bytes Illegal = ⊥
+ChartsBytes last bytes BadThreads = ⊤
+ChartsBytes last bytes BadWord = ⊥
+
+-- where the reader tells its bytes
+abbrev pub ChartsTrace : ℕ → Option (List ℕ) → Exit → Type 0
+ChartsTrace last bytes exit = IfSome bytes (λ bytes. ChartsBytes last bytes exit)
+
+-- what ends so has printed nothing
+abbrev pub IsSilent : Exit → Type 0
+IsSilent Done = ⊥
+IsSilent (Torn number) = ⊥
+IsSilent DeviceFailed = ⊥
+IsSilent other = ⊤

@@ -1,0 +1,114 @@
+ghost use Rattle.std.specs.Prelude.{◌≡◌, ◌+◌, ◌<◌};
+
+use ipc_client::Client;
+use ipc_ports::{Failures, PortRead, PortWrite, ReadPort, WritePort};
+use l4sh_live::{Ending, talk_to};
+use l4sh_options::TalkOptions;
+use std::alloc::{AllocError, Global};
+use std::marker::Brand;
+use std::net::Net;
+use std::os::unix::net::UnixStream;
+use std::sync::ledger::{Blank, Ledger};
+
+/// How a talk with a server ended, and why, where that is known.
+#[derive(Drop)]
+pub struct Talked {
+    pub ending: Ending,
+    pub reason: Option<String>,
+}
+
+/// Connects to a space of the server of a folder, and talks as one of its threads. Without memory there is
+/// no reason.
+///
+/// It ends as `DeviceFailed` only where a call of the reader or of the writer failed in this talk.
+pub fn talk_to_server<N: Net, R: PortRead, W: PortWrite>(
+    rt: &N,
+    alloc: Global,
+    options: &TalkOptions<'_>,
+    reader: &mut R,
+    writer: &mut W,
+) -> Talked
+    ensures { result.ending ≡ Ending.DeviceFailed
+        → R.failures reader.old + W.failures writer.old
+        < R.failures reader.new + W.failures writer.new }
+{
+    match path_of(alloc, options) {
+        Ok(path) => talk_at(rt, alloc, path.as_str(), options.thread, reader, writer),
+        Err(_) => Talked {
+            ending: Ending::NoMemory,
+            reason: None,
+        },
+    }
+}
+
+// Connects to a path, and talks as the thread of this number.
+fn talk_at<N: Net, R: PortRead, W: PortWrite>(
+    rt: &N,
+    alloc: Global,
+    path: &str,
+    number: u16,
+    reader: &mut R,
+    writer: &mut W,
+) -> Talked
+    ensures { result.ending ≡ Ending.DeviceFailed
+        → R.failures reader.old + W.failures writer.old
+        < R.failures reader.new + W.failures writer.new }
+{
+    match UnixStream::connect(rt, path) {
+        Ok(stream) => talk_along(alloc, &stream, number, reader, writer),
+        Err(error) => Talked {
+            ending: Ending::NoServer,
+            reason: format!(in alloc; "{path}: {error}").ok(),
+        },
+    }
+}
+
+// Talks over a socket as the thread of this number.
+fn talk_along<R: PortRead, W: PortWrite>(
+    alloc: Global,
+    stream: &UnixStream,
+    number: u16,
+    reader: &mut R,
+    writer: &mut W,
+) -> Talked
+    ensures { result.ending ≡ Ending.DeviceFailed
+        → R.failures reader.old + W.failures writer.old
+        < R.failures reader.new + W.failures writer.new }
+{
+    let (reads, writes) = (Blank::new(1), Blank::new(1));
+    let ending = talk_over::<Brand, Brand, _, _>(
+        alloc, stream, number, reader, writer, reads, writes,
+    );
+    let reason = ending.reason(alloc).unwrap_or(None);
+    Talked { ending, reason }
+}
+
+// The path of a space: `DIR/spaceN`.
+fn path_of(alloc: Global, options: &TalkOptions<'_>) -> Result<String, AllocError> {
+    let TalkOptions { dir, space, .. } = *options;
+    format!(in alloc; "{dir}/space{space}")
+}
+
+// Talks over a socket. The counts of its failures begin as blanks.
+fn talk_over<I: Ledger, O: Ledger, R: PortRead, W: PortWrite>(
+    alloc: Global,
+    stream: &UnixStream,
+    number: u16,
+    reader: &mut R,
+    writer: &mut W,
+    reads: Blank,
+    writes: Blank,
+) -> Ending
+    requires reads_name { reads.name ≡ I.name }
+    requires reads_parts { (reads.parts ≡ I.parts) × (0 < reads.parts) }
+    requires writes_name { writes.name ≡ O.name }
+    requires writes_parts { (writes.parts ≡ O.parts) × (0 < writes.parts) }
+    ensures { result ≡ Ending.DeviceFailed
+        → R.failures reader.old + W.failures writer.old
+        < R.failures reader.new + W.failures writer.new }
+{
+    let from_server = ReadPort::new(stream, Failures::<I>::new(reads));
+    let to_server = WritePort::new(stream, Failures::<O>::new(writes));
+    let mut client = Client::new(alloc, from_server, to_server);
+    talk_to(alloc, number, &mut client, reader, writer)
+}

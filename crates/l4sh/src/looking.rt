@@ -1,0 +1,221 @@
+ghost use Rattle.std.specs.Prelude.{◌≡◌, ◌≢◌, ◌+◌, ◌^◌, ◌<◌, IfOk, Some, option_map, take};
+ghost use Rattle.l4sh_explain.specs.Answers.{IfAnswer, IfMistake};
+ghost use Rattle.std.specs.Io.KnownBytes.{Appends};
+ghost use Rattle.std.specs.String.{string_bytes};
+ghost use Rattle.ipc_trace.specs.Versions.{header_lines};
+ghost use Rattle.l4sh.specs.Looking.{IsSaidOf, IsSilent, LooksAt, MayEnd, shown_of, torn_end};
+
+use crate::exit::Exit;
+use ipc_check::{Verdict, check};
+use ipc_history::Entry;
+use ipc_ports::{PortRead, PortWrite};
+use ipc_shell::put;
+use ipc_trace::{TraceEnd, TraceRead, TraceVersion, read_trace};
+use l4sh_count::{CountFault, Event, events_of, grouped, json_of, tell_counts};
+use l4sh_explain::Told;
+use l4sh_script::script_of;
+use l4sh_state::{State, drops_of, state_of, tell_state};
+use std::alloc::{AllocError, Global};
+
+/// What is asked of a trace.
+#[derive(Clone, Copy)]
+pub enum Look {
+    /// The commands whose history it is.
+    Script,
+    /// The state of its threads after so many entries, or after all where there are fewer.
+    StateAt(usize),
+    /// The counts of its pairs of threads, in JSON or in words.
+    Counts { is_json: bool },
+}
+
+/// Prints what is asked of the trace of a reader, over the whole lines where the last one is torn, and then
+/// ends as `Torn`.
+/// Nothing is printed of a trace with a bad line, nor of one with a line that does not follow those
+/// before it; for a state only the lines before it are looked at.
+///
+/// It ends as `DeviceFailed` only where a call of the reader or of the writer failed in this run.
+pub fn look_at_trace<R: PortRead, W: PortWrite>(
+    alloc: Global,
+    look: Look,
+    reader: &mut R,
+    writer: &mut W,
+) -> Exit
+    ensures looks { LooksAt look (R.remaining reader.old) result }
+    ensures device { result ≡ Exit.DeviceFailed
+        → R.failures reader.old + W.failures writer.old
+        < R.failures reader.new + W.failures writer.new }
+    ensures silent { IsSilent result → W.written writer.new ≡ W.written writer.old }
+{
+    let read = read_trace(alloc, reader);
+    match read.end {
+        TraceEnd::Whole => tell(alloc, look, &read, writer),
+        TraceEnd::Torn => {
+            let exit = tell(alloc, look, &read, writer);
+            torn_behind(&read, exit)
+        }
+        TraceEnd::BadLine(number) => Exit::BadLine(number),
+        TraceEnd::UnknownVersion => Exit::UnknownVersion,
+        TraceEnd::DeviceFailed => Exit::DeviceFailed,
+        TraceEnd::NoMemory => Exit::NoMemory,
+    }
+}
+
+// Prints what is asked of the entries that were read.
+fn tell<W: PortWrite>(alloc: Global, look: Look, read: &TraceRead, writer: &mut W) -> Exit
+    ensures said { IsSaidOf read.now.version (shown_of look read.now.entries.items) result }
+    ensures failed { result ≡ Exit.DeviceFailed → W.failures writer.old < W.failures writer.new }
+    ensures silent { result ≢ Exit.Done → result ≢ Exit.DeviceFailed
+        → W.written writer.new ≡ W.written writer.old }
+{
+    let (version, entries) = (read.version, read.entries.as_slice());
+    match look {
+        Look::Script => print_script(alloc, version, entries, writer),
+        Look::StateAt(count) => print_state(alloc, version, front(entries, count), writer),
+        Look::Counts { is_json } => print_counts(alloc, version, entries, is_json, writer),
+    }
+}
+
+// Prints the counts of the pairs of threads of these entries.
+fn print_counts<W: PortWrite>(
+    alloc: Global,
+    version: TraceVersion,
+    entries: &[Entry],
+    is_json: bool,
+    writer: &mut W,
+) -> Exit
+    ensures said { IsSaidOf version entries.now result }
+    ensures failed { result ≡ Exit.DeviceFailed → W.failures writer.old < W.failures writer.new }
+    ensures silent { result ≢ Exit.Done → result ≢ Exit.DeviceFailed
+        → W.written writer.new ≡ W.written writer.old }
+{
+    match events_of(alloc, entries) {
+        Ok(events) => print(counts_text(alloc, &events, is_json), writer),
+        Err(CountFault::Illegal(index)) => illegal_at(version, index),
+        Err(CountFault::NoMemory) => Exit::NoMemory,
+    }
+}
+
+// The counts of events, in JSON or in words.
+fn counts_text(alloc: Global, events: &[Event], is_json: bool) -> Result<String, AllocError> {
+    let groups = grouped(alloc, events)?;
+    if is_json {
+        json_of(alloc, &groups, events)
+    } else {
+        tell_counts(alloc, &groups, events)
+    }
+}
+
+// Prints the commands whose history these entries are.
+fn print_script<W: PortWrite>(
+    alloc: Global,
+    version: TraceVersion,
+    entries: &[Entry],
+    writer: &mut W,
+) -> Exit
+    ensures said { IsSaidOf version entries.now result }
+    ensures failed { result ≡ Exit.DeviceFailed → W.failures writer.old < W.failures writer.new }
+    ensures silent { result ≢ Exit.Done → result ≢ Exit.DeviceFailed
+        → W.written writer.new ≡ W.written writer.old }
+{
+    match check(entries) {
+        Verdict::Yes => print(script_of(alloc, entries), writer),
+        Verdict::No { index, .. } => illegal_at(version, index),
+    }
+}
+
+// Prints the state of the threads after these entries.
+fn print_state<W: PortWrite>(
+    alloc: Global,
+    version: TraceVersion,
+    entries: &[Entry],
+    writer: &mut W,
+) -> Exit
+    ensures said { IsSaidOf version entries.now result }
+    ensures failed { result ≡ Exit.DeviceFailed → W.failures writer.old < W.failures writer.new }
+    ensures silent { result ≢ Exit.Done → result ≢ Exit.DeviceFailed
+        → W.written writer.new ≡ W.written writer.old }
+{
+    match state_of(entries) {
+        Ok(state) => print(state_text(alloc, &state, entries), writer),
+        Err(index) => illegal_at(version, index),
+    }
+}
+
+// The state of the threads after these entries, in words.
+fn state_text(alloc: Global, state: &State, entries: &[Entry]) -> Result<String, AllocError> {
+    let drops = drops_of(alloc, entries)?;
+    let text = tell_state(alloc, state, &drops);
+    drop(drops);
+    text
+}
+
+// The first entries, so many, or all where there are fewer.
+pub(crate) fn front(entries: &[Entry], count: usize) -> &[Entry]
+    ensures { result.now ≡ take count entries.now }
+{
+    if count < entries.len() {
+        &entries[..count]
+    } else {
+        entries
+    }
+}
+
+// The entry in a place does not follow those before it, in a trace of this version.
+pub(crate) fn illegal_at(version: TraceVersion, place: usize) -> Exit
+    ensures { place + 2 < 2 ^ 64
+        → result ≡ Exit.IllegalLine (header_lines version + place + 1) place }
+{
+    Exit::IllegalLine {
+        number: version.line_of(place),
+        entries: place as u64,
+    }
+}
+
+// How it ends where a torn line stands behind those that were read, and of these was told so.
+pub(crate) fn torn_behind(read: &TraceRead, exit: Exit) -> Exit
+    ensures { result ≡ torn_end read.now.version read.now.entries.items exit }
+{
+    match exit {
+        Exit::Done => Exit::Torn(read.version.line_of(read.entries.len()).saturating_sub(1)),
+        other => other,
+    }
+}
+
+/// Prints the answer to a word. `BadWord`, and the reason, where there is none.
+pub fn print_answer<W: PortWrite>(
+    told: Result<Told, AllocError>,
+    writer: &mut W,
+) -> (Exit, Option<String>)
+    ensures whole { IfOk told (λ said. IfAnswer said (λ text. result.0 ≡ Exit.Done
+        → Appends (W.written writer.old) (W.written writer.new) text)) }
+    ensures none { IfOk told (λ said. IfMistake said (λ reason. (result.0 ≡ Exit.BadWord)
+        × (option_map string_bytes result.1 ≡ Some reason))) }
+    ensures failed { result.0 ≡ Exit.DeviceFailed
+        → W.failures writer.old < W.failures writer.new }
+    ensures silent { result.0 ≢ Exit.Done → result.0 ≢ Exit.DeviceFailed
+        → W.written writer.new ≡ W.written writer.old }
+{
+    match told {
+        Ok(Told::Answer(text)) => (print(Ok(text), writer), None),
+        Ok(Told::Mistake(reason)) => (Exit::BadWord, Some(reason)),
+        Err(_) => (Exit::NoMemory, None),
+    }
+}
+
+// Prints a text, where there was memory for it.
+fn print<W: PortWrite>(text: Result<String, AllocError>, writer: &mut W) -> Exit
+    ensures whole { IfOk text (λ text. result ≡ Exit.Done
+        → Appends (W.written writer.old) (W.written writer.new) (string_bytes text)) }
+    ensures ends { MayEnd result }
+    ensures failed { result ≡ Exit.DeviceFailed → W.failures writer.old < W.failures writer.new }
+    ensures silent { result ≢ Exit.Done → result ≢ Exit.DeviceFailed
+        → W.written writer.new ≡ W.written writer.old }
+{
+    let Ok(text) = text else {
+        return Exit::NoMemory;
+    };
+    match put(writer, text.as_bytes()) {
+        Ok(()) => Exit::Done,
+        Err(_) => Exit::DeviceFailed,
+    }
+}

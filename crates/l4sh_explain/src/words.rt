@@ -1,0 +1,160 @@
+use crate::codes::{Code, code_in_word, code_of, put_families};
+use crate::periods::tell_period;
+use crate::tags::tell_tag;
+use crate::told::{Told, wanted};
+use ipc_lines::{HexText, IdText, read_hex, read_id};
+use ipc_words::{ErrorKind, IpcError, MsgTag, Period, Phase, ThreadId, ThreadIdKind};
+use l4sh_reasons::{Shown, wanted_hex};
+use std::alloc::{AllocError, Global};
+
+/// What a code of a refusal or of a fault, a word in HEX or an id means, line by line.
+pub fn explain(alloc: Global, word: &str) -> Result<Told, AllocError> {
+    if let Some(code) = code_of(word.as_bytes()) {
+        return Ok(Told::Answer(code_line(alloc, code)?));
+    }
+    if let Some(value) = read_hex(word.as_bytes()) {
+        return Ok(Told::Answer(word_lines(alloc, value)?));
+    }
+    match read_id(word.as_bytes()) {
+        Some(id) => Ok(Told::Answer(id_line(alloc, id)?)),
+        None => unknown(alloc, word),
+    }
+}
+
+fn code_line(alloc: Global, code: Code) -> Result<String, AllocError> {
+    let Code {
+        letters,
+        number,
+        meaning,
+    } = code;
+    format!(in alloc; "{letters}{number}: {meaning}\n")
+}
+
+fn word_lines(alloc: Global, value: u64) -> Result<String, AllocError> {
+    let mut text = String::new(alloc);
+    tell_error_code(&mut text, value)?;
+    text.push_str("as a tag: ")?;
+    tell_tag(&mut text, MsgTag::from_word(value))?;
+    text.push_str("\n")?;
+    tell_times(&mut text, value)?;
+    tell_id(&mut text, ThreadId::from_word(value))?;
+    Ok(text)
+}
+
+fn id_line(alloc: Global, id: ThreadId) -> Result<String, AllocError> {
+    let mut text = String::new(alloc);
+    tell_id(&mut text, id)?;
+    Ok(text)
+}
+
+// What is wanted, and the families of the codes.
+fn unknown(alloc: Global, word: &str) -> Result<Told, AllocError> {
+    if word.starts_with("0x") || word.starts_with("0X") {
+        return wanted(alloc, wanted_hex(word.as_bytes()), word);
+    }
+    let mut reason = format!(in alloc;
+        "wanted is a word in HEX, as 0x8, an id, as 1.1, or a code{}; the codes are",
+        Shown(word.as_bytes())
+    )?;
+    put_families(&mut reason)?;
+    Ok(Told::Mistake(reason))
+}
+
+// A word as an ErrorCode: of the manual, or of the C client, which makes one of a code.
+fn tell_error_code(text: &mut String, value: u64) -> Result<(), AllocError> {
+    match code_in_word(value) {
+        Some(code) => {
+            let Code {
+                letters,
+                number,
+                meaning,
+            } = code;
+            write!(
+                text,
+                "as an ErrorCode: of the C client, {letters}{number}: {meaning}\n"
+            )
+        }
+        None => tell_error(text, IpcError::from_word(value)),
+    }
+}
+
+// A word as an ErrorCode of the manual.
+fn tell_error(text: &mut String, error: IpcError) -> Result<(), AllocError> {
+    if error.to_word() == 0 {
+        return text.push_str("as an ErrorCode: no error\n");
+    }
+    let phase = match error.phase() {
+        Phase::Send => "send phase",
+        Phase::Receive => "receive phase",
+    };
+    let offset = error.offset();
+    match error.kind() {
+        Some(ErrorKind::Timeout) => {
+            write!(
+                text,
+                "as an ErrorCode: the {phase} took longer than its timeout\n"
+            )
+        }
+        Some(ErrorKind::NonExistingPartner) => {
+            write!(
+                text,
+                "as an ErrorCode: the partner of the {phase} does not exist, or ended\n"
+            )
+        }
+        Some(ErrorKind::Cancelled) => {
+            write!(
+                text,
+                "as an ErrorCode: another thread cancelled the {phase}\n"
+            )
+        }
+        Some(ErrorKind::MessageOverflow) => write!(
+            text,
+            "as an ErrorCode: the message did not fit in the {phase}; {offset} bytes did\n"
+        ),
+        Some(ErrorKind::Aborted) => write!(
+            text,
+            "as an ErrorCode: another thread aborted the {phase} after {offset} bytes\n"
+        ),
+        None => text.push_str("as an ErrorCode: none\n"),
+    }
+}
+
+// A word as a period, and as two timeouts.
+fn tell_times(text: &mut String, value: u64) -> Result<(), AllocError> {
+    if let Some(period) = period_in(value) {
+        text.push_str("as a period: ")?;
+        tell_period(text, period)?;
+        text.push_str("\n")?;
+    }
+    if let (Some(send), Some(receive)) = (
+        period_in(value / 0x1_0000),
+        period_in(value % 0x1_0000),
+    ) {
+        text.push_str("as timeouts: send ")?;
+        tell_period(text, send)?;
+        text.push_str(", receive ")?;
+        tell_period(text, receive)?;
+        text.push_str("\n")?;
+    }
+    Ok(())
+}
+
+fn period_in(value: u64) -> Option<Period> {
+    Period::from_word(u16::try_from(value).ok()?)
+}
+
+// A word as a thread id.
+fn tell_id(text: &mut String, id: ThreadId) -> Result<(), AllocError> {
+    match id.kind() {
+        ThreadIdKind::Nilthread => text.push_str("as an id: nilthread, no thread\n"),
+        ThreadIdKind::Anythread => text.push_str("as an id: anythread\n"),
+        ThreadIdKind::Anylocalthread => text.push_str("as an id: anylocalthread\n"),
+        ThreadIdKind::Global { number, version } => write!(
+            text,
+            "as an id: {}, thread number {number}, version {version}, the word {}\n",
+            IdText(id),
+            HexText(id.to_word())
+        ),
+        ThreadIdKind::Other => text.push_str("as an id: it names no thread\n"),
+    }
+}

@@ -1,0 +1,5 @@
+pub mod Endings
+pub mod Requests
+pub mod Talks
+pub mod Verbs
+pub mod Versions

@@ -1,0 +1,8 @@
+-- The command has the subcommands so far.
+use Rattle.std.proofs.Common.{take}
+use Rattle.clap.specs.Words.{App}
+use Rattle.l4sh_options.specs.Command.{IsOfApp, with_subcommands}
+use Rattle.l4sh_options.proofs.parts.with_subcommands.Given as goal
+
+abbrev pub invariant-loop-row : goal.invariant-loop-row
+invariant-loop-row l = (app : App) → IsOfApp app l.initial.made → IsOfApp (with_subcommands app (take l.row-index l.rows)) l.made

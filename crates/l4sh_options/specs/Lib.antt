@@ -1,0 +1,4 @@
+pub mod Command
+pub mod Server
+pub mod Shell
+pub mod TraceFiles

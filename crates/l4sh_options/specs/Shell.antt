@@ -1,0 +1,220 @@
+-- What the words of `l4sh` ask for.
+use Rattle.std.specs.Prelude.{◌≡◌, ◌≤◌, ◌⊎◌, ℕ, Bool, List, [], ◌∷◌, map, Option, Some, codes, option_map, true, false, ⊤, IsNone, IsSome, IsSomeAnd, None}
+use Rattle.std.specs.Borrow.{Bor}
+use Rattle.std.specs.Str.Parse.{digits_value, without_leading_plus}
+use Rattle.ipc_words.specs.Limits.{max_entries, max_calls, max_chart_entry, max_space, max_thread_number}
+use Rattle.clap.specs.Words.{IsUnsignedIn, Row, Text, all_of, first_of, one_of, subcommand_of, takes}
+use Rattle.clap.specs.Values.{kind_of}
+use Rattle.clap.specs.declared.error.Error.{Error}
+use Rattle.clap.specs.declared.error.kind.ErrorKind.TheVariants.{DisplayVersion, OutOfMemory}
+use Rattle.l4sh_options.specs.Command.{shell_app}
+use Rattle.l4sh_options.specs.declared.shell.ChartOptions.{ChartOptions}
+use Rattle.l4sh_options.specs.declared.shell.FollowOptions.{FollowOptions}
+use Rattle.l4sh_options.specs.declared.shell.ScriptLimits.{ScriptLimits}
+use Rattle.l4sh_options.specs.declared.shell.ShellOptions.{ShellOptions}
+use Rattle.l4sh_options.specs.declared.shell.ShellOptions.TheVariants.{Run, Wire, Check, Part, Chart, State}
+use Rattle.l4sh_options.specs.declared.shell.ShellOptions.TheVariants.{Script, Explain, Tag, Period, Count, Follow, Talk, TalkTo, Migrate}
+use Rattle.l4sh_options.specs.declared.shell.StateOptions.{StateOptions}
+use Rattle.l4sh_options.specs.declared.shell.TalkOptions.{TalkOptions}
+
+-- each number is within its limit
+abbrev pub AreWithinLimits : ScriptLimits → Type 0
+AreWithinLimits limits = (limits.entries ≤ max_entries) × (limits.calls ≤ max_calls)
+
+-- a number from 1 up to most
+abbrev pub IsOneUpTo : ℕ → ℕ → Type 0
+IsOneUpTo most number = (1 ≤ number) × (number ≤ most)
+
+-- the number of a thread is within its limit, and that of a space
+abbrev pub AreNumbersWithin : TalkOptions → Type 0
+AreNumbersWithin talk = IsOneUpTo max_thread_number talk.thread × IsOneUpTo max_space talk.space
+
+-- the limits of a script are, and the numbers of a thread and a space
+abbrev pub IsWithinLimits : ShellOptions → Type 0
+IsWithinLimits (Run limits) = AreWithinLimits limits
+IsWithinLimits Wire = ⊤
+IsWithinLimits (Check files) = ⊤
+IsWithinLimits (Part files is_untaken) = ⊤
+IsWithinLimits (Chart chart) = ⊤
+IsWithinLimits (State state) = ⊤
+IsWithinLimits (Script file) = ⊤
+IsWithinLimits (Explain word) = ⊤
+IsWithinLimits (Tag word) = ⊤
+IsWithinLimits (Period word) = ⊤
+IsWithinLimits (Count file is_json) = ⊤
+IsWithinLimits (Follow follow) = ⊤
+IsWithinLimits Talk = ⊤
+IsWithinLimits (TalkTo talk) = AreNumbersWithin talk
+IsWithinLimits (Migrate old new) = ⊤
+
+-- the number that an option has among the matches of a subcommand
+abbrev pub number_in : List Row → Text → Option ℕ
+number_in rows id = option_map (λ text. digits_value 10 (without_leading_plus text)) (one_of id rows)
+
+-- whether a flag is set among the matches of a subcommand
+abbrev pub IsFlagIn : List Row → Text → Bool → Type 0
+IsFlagIn rows id value = (one_of id rows ≡ Some (codes "true") → value ≡ true)
+    × (one_of id rows ≡ Some (codes "false") → value ≡ false)
+
+-- the files are those of the matches
+abbrev pub HasFilesIn : List Row → List (Bor Text) → Type 0
+HasFilesIn rows files = all_of (codes "file") rows ≡ Some (map (λ file. file.now) files)
+
+-- so they are, where they were asked for before the subcommand is known
+abbrev pub AreFilesIn : List Row → Option (List (Bor Text)) → Type 0
+AreFilesIn rows files = option_map (λ texts. map (λ text. text.now) texts) files ≡ all_of (codes "file") rows
+
+-- the options of `chart` are those of its matches
+abbrev pub HasChartIn : List Row → ChartOptions → Type 0
+HasChartIn rows chart = (first_of (codes "file") rows ≡ Some chart.file.now)
+    × (number_in rows (codes "from") ≡ Some chart.from)
+    × (number_in rows (codes "to") ≡ Some chart.to)
+    × (first_of (codes "threads") rows ≡ option_map (λ list. list.now) chart.threads)
+    × IsFlagIn rows (codes "text") chart.is_text
+    × IsFlagIn rows (codes "html") chart.is_html
+    × IsFlagIn rows (codes "unfolded") chart.is_unfolded
+    × (number_in rows (codes "page") ≡ Some chart.page)
+    × (number_in rows (codes "width") ≡ Some chart.width)
+
+-- the options of `state` are those of its matches
+abbrev pub HasStateIn : List Row → StateOptions → Type 0
+HasStateIn rows state = (first_of (codes "file") rows ≡ Some state.file.now)
+    × (number_in rows (codes "at") ≡ Some state.at)
+
+-- the options of `follow` are those of its matches
+abbrev pub HasFollowIn : List Row → FollowOptions → Type 0
+HasFollowIn rows follow = (first_of (codes "file") rows ≡ Some follow.file.now)
+    × (first_of (codes "threads") rows ≡ option_map (λ list. list.now) follow.threads)
+    × (first_of (codes "label") rows ≡ option_map (λ label. label.now) follow.label)
+    × IsFlagIn rows (codes "failures") follow.failures
+
+-- the number that an option has, which is 1 up to most
+abbrev pub IsCountIn : List Row → Text → ℕ → ℕ → Type 0
+IsCountIn rows id most number = (number_in rows id ≡ Some number) × IsOneUpTo most number
+
+-- the options of `talk` with a server are those of its matches
+abbrev pub HasTalkIn : List Row → TalkOptions → Type 0
+HasTalkIn rows talk = (first_of (codes "dir") rows ≡ Some talk.dir.now)
+    × (number_in rows (codes "thread") ≡ Some talk.thread)
+    × (number_in rows (codes "space") ≡ Some talk.space)
+
+-- `talk` has no server, and no number of a thread or a space of one
+abbrev pub HasNoServerIn : List Row → Type 0
+HasNoServerIn rows = (first_of (codes "dir") rows ≡ None)
+    × (number_in rows (codes "thread") ≡ Some 1)
+    × (number_in rows (codes "space") ≡ Some 1)
+
+-- the limits are those of the matches
+abbrev pub HasLimitsIn : List Row → ScriptLimits → Type 0
+HasLimitsIn rows limits = (number_in rows (codes "entries") ≡ Some limits.entries)
+    × (number_in rows (codes "calls") ≡ Some limits.calls)
+
+-- the options are those of the matches of the subcommand of this name
+unfoldable pub HasMatchesIn : Text → List Row → ShellOptions → Type 0
+HasMatchesIn name rows (Run limits) = (name ≡ codes "run") × HasLimitsIn rows limits
+HasMatchesIn name rows Wire = name ≡ codes "wire"
+HasMatchesIn name rows (Check files) = (name ≡ codes "check") × HasFilesIn rows files.items
+HasMatchesIn name rows (Part files is_untaken) = (name ≡ codes "part") × HasFilesIn rows files.items
+    × IsFlagIn rows (codes "untaken") is_untaken
+HasMatchesIn name rows (Chart chart) = (name ≡ codes "chart") × HasChartIn rows chart
+HasMatchesIn name rows (State state) = (name ≡ codes "state") × HasStateIn rows state
+HasMatchesIn name rows (Script file) = (name ≡ codes "script")
+    × (first_of (codes "file") rows ≡ Some file.now)
+HasMatchesIn name rows (Explain word) = (name ≡ codes "explain")
+    × (first_of (codes "word") rows ≡ Some word.now)
+HasMatchesIn name rows (Tag word) = (name ≡ codes "tag")
+    × (first_of (codes "word") rows ≡ Some word.now)
+HasMatchesIn name rows (Period word) = (name ≡ codes "period")
+    × (first_of (codes "word") rows ≡ Some word.now)
+HasMatchesIn name rows (Count file is_json) = (name ≡ codes "count")
+    × (first_of (codes "file") rows ≡ Some file.now) × IsFlagIn rows (codes "json") is_json
+HasMatchesIn name rows (Follow follow) = (name ≡ codes "follow") × HasFollowIn rows follow
+HasMatchesIn name rows Talk = (name ≡ codes "talk") × HasNoServerIn rows
+HasMatchesIn name rows (TalkTo talk) = (name ≡ codes "talk") × HasTalkIn rows talk
+HasMatchesIn name rows (Migrate old new) = (name ≡ codes "migrate")
+    × (first_of (codes "old") rows ≡ Some old.now) × (first_of (codes "new") rows ≡ Some new.now)
+
+-- the matches have a decimal number within its limit for each limit of a script
+abbrev pub ReadsAsRun : List Row → Type 0
+ReadsAsRun rows = IsSomeAnd (one_of (codes "entries") rows) (IsUnsignedIn 0 max_entries)
+    × IsSomeAnd (one_of (codes "calls") rows) (IsUnsignedIn 0 max_calls)
+
+-- the matches have files, which is all that `check` and `part` need
+abbrev pub ReadsAsFiles : List Row → Type 0
+ReadsAsFiles rows = IsSome (all_of (codes "file") rows)
+
+-- the subcommand of this name takes the files of one history
+abbrev pub TakesFiles : Text → Type 0
+TakesFiles name = (name ≡ codes "check") ⊎ (name ≡ codes "part")
+
+-- the matches have a file, which is all that `script`, `count` and `follow` need
+abbrev pub ReadsAsCheck : List Row → Type 0
+ReadsAsCheck rows = IsSome (first_of (codes "file") rows)
+
+-- the matches of `chart` have a file, and a decimal number of 32 bits for each place and each size
+abbrev pub ReadsAsChart : List Row → Type 0
+ReadsAsChart rows = ReadsAsCheck rows
+    × IsSomeAnd (one_of (codes "from") rows) (IsUnsignedIn 0 max_chart_entry)
+    × IsSomeAnd (one_of (codes "to") rows) (IsUnsignedIn 0 max_chart_entry)
+    × IsSomeAnd (one_of (codes "page") rows) (IsUnsignedIn 0 max_chart_entry)
+    × IsSomeAnd (one_of (codes "width") rows) (IsUnsignedIn 0 max_chart_entry)
+
+-- the matches of `state` have a file, and a decimal number of 32 bits for the entry
+abbrev pub ReadsAsState : List Row → Type 0
+ReadsAsState rows = ReadsAsCheck rows
+    × IsSomeAnd (one_of (codes "at") rows) (IsUnsignedIn 0 max_chart_entry)
+
+-- the matches have a decimal number from 1 up to most for an option
+abbrev pub ReadsOneUpTo : List Row → Text → ℕ → Type 0
+ReadsOneUpTo rows id most = IsSomeAnd (one_of id rows) (IsUnsignedIn 1 most)
+
+-- the matches of `talk` have the numbers of a thread and a space, which are 1 where there is no folder
+abbrev pub ReadsAsTalk : List Row → Type 0
+ReadsAsTalk rows = ReadsOneUpTo rows (codes "thread") max_thread_number
+    × ReadsOneUpTo rows (codes "space") max_space
+    × (IsNone (first_of (codes "dir") rows) → (number_in rows (codes "thread") ≡ Some 1)
+    × (number_in rows (codes "space") ≡ Some 1))
+
+-- the matches have the two files of `migrate`
+abbrev pub ReadsAsMigrate : List Row → Type 0
+ReadsAsMigrate rows = IsSome (first_of (codes "old") rows) × IsSome (first_of (codes "new") rows)
+
+-- the matches have a word
+abbrev pub ReadsAsWord : List Row → Type 0
+ReadsAsWord rows = IsSome (first_of (codes "word") rows)
+
+-- the subcommand of this name takes one word
+abbrev pub TakesWord : Text → Type 0
+TakesWord name = (name ≡ codes "explain") ⊎ (name ≡ codes "tag") ⊎ (name ≡ codes "period")
+
+-- the matches of the subcommand of this name have what it needs
+unfoldable pub Reads : Text → List Row → Type 0
+Reads name rows = ((name ≡ codes "run") × ReadsAsRun rows)
+    ⊎ (name ≡ codes "wire")
+    ⊎ (TakesFiles name × ReadsAsFiles rows)
+    ⊎ ((name ≡ codes "chart") × ReadsAsChart rows)
+    ⊎ ((name ≡ codes "state") × ReadsAsState rows)
+    ⊎ ((name ≡ codes "script") × ReadsAsCheck rows)
+    ⊎ ((name ≡ codes "count") × ReadsAsCheck rows)
+    ⊎ ((name ≡ codes "follow") × ReadsAsCheck rows)
+    ⊎ ((name ≡ codes "talk") × ReadsAsTalk rows)
+    ⊎ ((name ≡ codes "migrate") × ReadsAsMigrate rows)
+    ⊎ (TakesWord name × ReadsAsWord rows)
+
+-- the options are those that the words, or the defaults, give the subcommand that they name
+abbrev pub IsAskedBy : List Text → ShellOptions → Type 0
+IsAskedBy words options =
+    IsSomeAnd (subcommand_of shell_app words) (λ named. HasMatchesIn named.0 named.1 options)
+
+-- the command takes the words, which name a subcommand with what it needs
+abbrev pub IsTaken : List Text → Type 0
+IsTaken words = (takes shell_app words ≡ true)
+    × IsSomeAnd (subcommand_of shell_app words) (λ named. Reads named.0 named.1)
+
+-- the words ask for the version and for nothing else
+abbrev pub AsksVersion : List Text → Type 0
+AsksVersion words = (program : Text) × (words ≡ program ∷ codes "--version" ∷ [])
+
+-- the version is told, or memory ran out
+abbrev pub TellsVersion : Error → Type 0
+TellsVersion error = (kind_of error ≡ DisplayVersion) ⊎ (kind_of error ≡ OutOfMemory)

@@ -1,0 +1,19 @@
+//! The command lines of `l4sh` and `l4d`.
+#![tactic(auto)]
+
+mod default_texts;
+mod parts;
+mod server;
+mod server_words;
+mod shell;
+mod trace_words;
+mod version;
+
+pub use default_texts::default_texts_are_the_limits;
+pub use server::{MAX_SPACES, OWNER_ONLY, ServerOptions};
+pub use server_words::server_options;
+pub use shell::{
+    ChartOptions, FollowOptions, ScriptLimits, ShellOptions, StateOptions, TalkOptions,
+    shell_options,
+};
+pub use version::{VERSION, tell_version};

@@ -1,0 +1,228 @@
+use crate::grammars::{Field, FieldKind, Grammar};
+use crate::reasons::{BadField, Reason, Wanted};
+use crate::rules::CallRule;
+use crate::whole::LineFault;
+use ipc_lines::{read_decimal, read_hex};
+use ipc_words::MaskedControl;
+use std::fmt;
+
+/// The most bytes that are shown of what stood there.
+const MAX_SHOWN: usize = 40;
+
+impl fmt::Display for LineFault {
+    fn fmt<W: fmt::Write>(&self, f: &mut fmt::Formatter<W>) -> fmt::Result {
+        let text = match self {
+            LineFault::Comment => "a line beginning with #: there are no comments",
+            LineFault::Answer => {
+                "an answer of l4sh run: a trace has entries alone (leave them out by grep -v '^[=!]')"
+            }
+            LineFault::SpaceBefore => "a space before the first field",
+            LineFault::CarriageReturn => {
+                "a carriage return at the end: a line ends by a newline alone, not by CRLF"
+            }
+            LineFault::SpaceBehind => "a space behind the last field",
+            LineFault::TabBehind => "a tab at the end: fields have one space between each two",
+            LineFault::TwoSpaces => "two spaces in a row: fields have one space between each two",
+            LineFault::Tab => "a tab: fields have one space between each two",
+        };
+        f.write_str(text)
+    }
+}
+
+impl fmt::Display for Field {
+    fn fmt<W: fmt::Write>(&self, f: &mut fmt::Formatter<W>) -> fmt::Result {
+        let text = match self {
+            Field::Number => "number",
+            Field::Space => "space",
+            Field::Thread => "thread",
+            Field::To => "to",
+            Field::From => "from",
+            Field::Timeouts => "timeouts",
+            Field::Tag => "tag",
+            Field::Originator => "originator",
+            Field::Words => "words",
+            Field::Strings => "strings",
+            Field::Buffers => "buffers",
+            Field::Target => "target",
+            Field::Control | Field::MaskedControl => "control",
+            Field::Moment => "moment",
+            Field::Connection => "connection",
+            Field::Bytes | Field::ByteCount => "bytes",
+            Field::Call => "call",
+            Field::SendingCall => "sending call",
+            Field::ReceivingCall => "receiving call",
+            Field::Code => "code",
+        };
+        f.write_str(text)
+    }
+}
+
+impl fmt::Display for CallRule {
+    fn fmt<W: fmt::Write>(&self, f: &mut fmt::Formatter<W>) -> fmt::Result {
+        let text = match self {
+            CallRule::NoReceivePeriod => {
+                "no receive period (the low 16 bits), since nothing is received; a send period stands above them, as 0x50000"
+            }
+            CallRule::NoSendPeriod => {
+                "no send period (the high 16 bits), since nothing is sent; a receive period stands below them, as 0x5"
+            }
+            CallRule::EmptyTag => "0x0, since nothing is sent",
+            CallRule::ClearFlags => "r, X and E (0x2000, 0x4000, 0x8000) not set",
+            CallRule::WordsFit => "at most 63 words, untyped and typed together",
+            CallRule::EvenTyped => "an even t (bits 6 to 11): two typed words for each string",
+            CallRule::NoOriginator => {
+                "nil: p, 0x1000 of the tag, is not set, so nothing is propagated"
+            }
+            CallRule::WordsCounted => "as many words as u says, the low six bits of the tag",
+            CallRule::StringsCounted => {
+                "half as many strings as t says, bits 6 to 11 of the tag (0x80 for each)"
+            }
+            CallRule::NoBuffers => "'-': without a receive phase there are no buffers",
+        };
+        f.write_str(text)
+    }
+}
+
+fn wanted_number(bytes: &[u8]) -> &'static str {
+    match bytes {
+        [b'0', b'x', ..] => "a decimal, and no HEX",
+        [b'0', ..] => "a decimal without leading zeros",
+        [b'-', ..] => "a decimal, which is not negative",
+        _ => "a decimal of at most 64 bits",
+    }
+}
+
+/// What is wanted of a word in HEX, in the words that fit what stood there.
+pub fn wanted_hex(bytes: &[u8]) -> &'static str {
+    match bytes {
+        [b'0', b'x', b'0', ..] => "HEX without leading zeros, as 0x400",
+        [b'0', b'x', digits @ ..] if has_capital(digits) => "HEX with lower-case digits, as 0xff",
+        [b'0', b'X', ..] => "HEX, which begins with a small x, as 0x7",
+        [b'0', b'x', digits @ ..] if !digits.iter().all(u8::is_ascii_hexdigit) => {
+            "HEX with digits 0 to 9 and a to f, as 0xff"
+        }
+        [b'0', b'x', ..] => "HEX of at most 64 bits, as 0x7",
+        _ => "HEX, which begins with 0x, as 0x7",
+    }
+}
+
+fn has_capital(digits: &[u8]) -> bool {
+    digits.iter().any(|digit| b'A' <= *digit && *digit <= b'F')
+}
+
+fn wanted_id(bytes: &[u8]) -> &'static str {
+    if read_decimal(bytes).is_some() {
+        "an id, NUMBER.VERSION, as 1.1"
+    } else {
+        "an id: nil, any, local, NUMBER.VERSION as 1.1, or HEX"
+    }
+}
+
+fn wanted_control(bytes: &[u8]) -> &'static str {
+    match read_hex(bytes) {
+        Some(word) if MaskedControl::from_word(word).is_none() => "0x0, 0x2, 0x4 or 0x6",
+        _ => wanted_hex(bytes),
+    }
+}
+
+fn wanted_timeouts(bytes: &[u8]) -> &'static str {
+    match read_hex(bytes) {
+        None => wanted_hex(bytes),
+        Some(word) if word > 0xffff_ffff => {
+            "HEX of 32 bits: 0x10000 times the send period, and the receive period"
+        }
+        Some(_) => "two periods; bit 15 of one is set, which makes it a time point",
+    }
+}
+
+// What is wanted of a text of a kind, in the words that fit what stood there.
+fn wanted_of(kind: FieldKind, bytes: &[u8]) -> &'static str {
+    match kind {
+        FieldKind::Decimal => wanted_number(bytes),
+        FieldKind::Id => wanted_id(bytes),
+        FieldKind::Hex => wanted_hex(bytes),
+        FieldKind::MaskedControl => wanted_control(bytes),
+        FieldKind::Timeouts => wanted_timeouts(bytes),
+        FieldKind::Words => "'-', or HEX with commas and no spaces between, as 0x7,0x8",
+        FieldKind::Strings => "'-', or for each string x and its bytes in hex digits, as x616263",
+        FieldKind::Buffers => {
+            "'-', 's', or LENGTH@POINTER with a decimal and a HEX, as 5@0x1000"
+        }
+        FieldKind::Digits => "an even number of hex digits, two at least",
+    }
+}
+
+/// Bytes that somebody typed, as they are shown again: printable ASCII as it is, and each other byte as `\x1b`, so that none
+/// of them moves the cursor of a terminal.
+#[derive(Clone, Copy)]
+pub struct Printable<'a>(pub &'a [u8]);
+
+impl fmt::Display for Printable<'_> {
+    fn fmt<W: fmt::Write>(&self, f: &mut fmt::Formatter<W>) -> fmt::Result {
+        for byte in self.0 {
+            if (b' '..=b'~').contains(byte) {
+                f.write_char(char::from(*byte))?;
+            } else {
+                write!(f, "\\x{byte:02x}")?;
+            }
+        }
+        Ok(())
+    }
+}
+
+/// What stood there, behind what was wanted: `; not 1h`. Nothing is told where nothing stood there, or more than 40 bytes.
+#[derive(Clone, Copy)]
+pub struct Shown<'a>(pub &'a [u8]);
+
+impl fmt::Display for Shown<'_> {
+    fn fmt<W: fmt::Write>(&self, f: &mut fmt::Formatter<W>) -> fmt::Result {
+        let bytes = self.0;
+        if bytes.is_empty() || bytes.len() > MAX_SHOWN {
+            return Ok(());
+        }
+        write!(f, "; not {}", Printable(bytes))
+    }
+}
+
+impl fmt::Display for BadField<'_> {
+    fn fmt<W: fmt::Write>(&self, f: &mut fmt::Formatter<W>) -> fmt::Result {
+        let BadField {
+            number,
+            field,
+            wanted,
+            text,
+        } = *self;
+        write!(f, "field {number}, {field}: wanted is ")?;
+        match wanted {
+            Wanted::Spelling(kind) => write!(f, "{}", wanted_of(kind, text))?,
+            Wanted::Rule(rule) => write!(f, "{rule}")?,
+        }
+        write!(f, "{}", Shown(text))
+    }
+}
+
+fn names_of(grammar: Grammar) -> &'static str {
+    match grammar {
+        Grammar::Script => "wanted is open, call, exreg, broke, at, advance or take",
+        Grammar::Wire => "wanted is connect, feed, end, at or advance",
+        Grammar::Trace => {
+            "wanted is the name of an entry: at, opened, called, exreg, broke, moved, began, turned, ended, overflowed, aborted or failed"
+        }
+    }
+}
+
+impl fmt::Display for Reason<'_> {
+    fn fmt<W: fmt::Write>(&self, f: &mut fmt::Formatter<W>) -> fmt::Result {
+        match *self {
+            Reason::Line(fault) => write!(f, "{fault}"),
+            Reason::Name(grammar, text) => {
+                write!(f, "field 1: {}{}", names_of(grammar), Shown(text))
+            }
+            Reason::Count(wanted, came) => write!(
+                f,
+                "behind its name this line wants {wanted} fields, but {came} came"
+            ),
+            Reason::Field(bad) => write!(f, "{bad}"),
+        }
+    }
+}

@@ -1,0 +1,21 @@
+use Rattle.std.proofs.Common.{sym, ap, ◌∙◌, ◌++◌, ◌∷◌, []}
+use Rattle.l4sh_state.proofs.Walks.{fault_at, walk_on, walk_start}
+use Rattle.l4sh_state.proofs.building.slots_of.Goals as goal
+
+pub loop-index-init : goal.loop-index-init
+loop-index-init c = walk_start c.args.entries.now c.new-past.result c.new-slots.result c.new-past.ensures c.new-slots.ensures
+
+pub returns-then-not-follows-clause-fault : goal.returns-then-not-follows-clause-fault
+returns-then-not-follows-clause-fault c =
+    let l = c.loop-index in
+    let e = c.index-entries-index in
+    fault_at c.args.entries.now l.slots.past l.index e.result c.loop-index-test.true e.is l.invariant.told l.invariant.legal c.if-not-follows.ensures.no
+
+pub loop-index-preserved : goal.loop-index-preserved
+loop-index-preserved c =
+    let l = c.loop-index in
+    let e = c.index-entries-index in
+    let was = l.invariant in
+    let added = c.add.ensures ∙ ap (λ p. p ++ e.result ∷ []) (was.walked ∙ sym was.told) in
+    walk_on c.args.entries.now l.slots.past l.index e.result c.loop-index-test.true e.is was.told
+    c.add.new.self c.note.new.self was.legal added c.if-not-follows.ensures.yes c.note.ensures.past

@@ -1,0 +1,4 @@
+pub mod States
+pub mod Doings
+pub mod Waits
+pub mod WaitsFor

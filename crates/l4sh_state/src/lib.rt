@@ -1,0 +1,19 @@
+//! What a history says of each live thread: what it does, for whom it waits, and each deadlock.
+#![tactic(auto)]
+
+mod building;
+mod courses;
+mod doing;
+mod drops;
+mod state;
+mod telling;
+mod threads;
+mod waits;
+
+pub use building::slots_of;
+pub use courses::{Course, PLACES, course_from};
+pub use doing::{Doing, doing_of};
+pub use drops::{Dropped, Drops, drops_of};
+pub use state::{State, state_in, state_of};
+pub use telling::tell_state;
+pub use waits::{course_of, waits_of};

@@ -1,0 +1,4 @@
+use Rattle.tests_kernel.proofs.compacted.verdict_after.Given as goal
+
+abbrev pub ghost-check_from : goal.ghost-check_from
+ghost-check_from g a = g.before

@@ -16,12 +16,15 @@ row_none kernel boxes errands = (record { no_step = refl; no_change = refl }, re
 pub row_and : {P : Type 0} (places : List (Option ℕ)) (place : Option ℕ) (old between new : KernelParts) (boxes middle after : List BoxParts) (errands next errands_now : Errands P)
     → LoadsRow places old between boxes middle errands next → LoadsOne place between new middle after next errands_now
     → LoadsRow (places ++ place ∷ []) old new boxes after errands errands_now
-row_and {P} [] place old between new boxes middle after errands next errands_now h one =
-    (new, after, errands_now,
-     subst (λ (k : KernelParts). LoadsOne place k new boxes after errands errands_now) h.0.no_step
-     (subst (λ (m : List BoxParts). LoadsOne place between new m after errands errands_now) h.0.no_change
-     (subst (λ (e : Errands P). LoadsOne place between new middle after e errands_now) h.1 one)),
-     row_none new after errands_now)
+row_and {P} [] place old between new boxes middle after errands next errands_now h one = (
+  new,
+  after,
+  errands_now,
+  subst (λ (k : KernelParts). LoadsOne place k new boxes after errands errands_now) h.0.no_step
+      (subst (λ (m : List BoxParts). LoadsOne place between new m after errands errands_now) h.0.no_change
+      (subst (λ (e : Errands P). LoadsOne place between new middle after e errands_now) h.1 one)),
+  row_none new after errands_now,
+)
 row_and (p ∷ places) place old between new boxes middle after errands next errands_now h one =
     (h.0, h.1, h.2, h.3, row_and places place h.0 between new h.1 middle after h.2 next errands_now h.4 one)
 
@@ -30,10 +33,14 @@ pub row_first : {P : Type 0} (own : Option ℕ) (owners owners_now : List (Optio
     → owners_now ≡ owners → finished_now ≡ finished → LoadsOne own old between boxes middle errands next
     → LoadsRow (map (place_of owners_now) finished_now) between new middle after next errands_now
     → LoadsRow (places_told own owners finished) old new boxes after errands errands_now
-row_first {P} own owners owners_now finished finished_now old between new boxes middle after errands next errands_now h k one row =
-    (between, middle, next, one,
-     subst (λ (o : List (Option ℕ)). LoadsRow (map (place_of o) finished) between new middle after next errands_now) h
-     (subst (λ (f : List ℕ). LoadsRow (map (place_of owners_now) f) between new middle after next errands_now) k row))
+row_first {P} own owners owners_now finished finished_now old between new boxes middle after errands next errands_now h k one row = (
+  between,
+  middle,
+  next,
+  one,
+  subst (λ (o : List (Option ℕ)). LoadsRow (map (place_of o) finished) between new middle after next errands_now) h
+      (subst (λ (f : List ℕ). LoadsRow (map (place_of owners_now) f) between new middle after next errands_now) k row),
+)
 
 -- the same behind what changed nothing of these
 pub row_from : {P : Type 0} (own : Option ℕ) (owners owners_now : List (Option ℕ)) (finished finished_now : List ℕ) (old old_now new : KernelParts) (boxes boxes_now after : List BoxParts) (errands errands_now : Errands P)
@@ -54,7 +61,7 @@ pub row_more : {P : Type 0} (owners : List (Option ℕ)) (finished : List ℕ) (
 row_more {P} owners finished i old between new boxes middle after errands next errands_now within h one =
     let there : slice_get finished i ≡ Some (slice_index_or finished i 0) = slice_get-get_or finished i 0 within in
     let last : LoadsOne (place_of owners (slice_index_or finished i 0)) between new middle after next errands_now =
-        subst (λ (t : Option ℕ). LoadsOne (place_at owners t) between new middle after next errands_now) there one in
+    subst (λ (t : Option ℕ). LoadsOne (place_at owners t) between new middle after next errands_now) there one in
     subst (λ (places : List (Option ℕ)). LoadsRow places old new boxes after errands errands_now) (sym (map_more (place_of owners) finished i 0 within))
     (row_and (map (place_of owners) (take i finished)) (place_of owners (slice_index_or finished i 0)) old between new boxes middle after errands next errands_now h last)
 

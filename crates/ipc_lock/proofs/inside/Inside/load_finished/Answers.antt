@@ -13,9 +13,9 @@ pub finished-preserved : goal.finished-preserved
 finished-preserved g c = record {
   loads = row_more _ _ _ _ _ _ _ _ _ _ _ _ (omega (arith, c.finished-test.true, c.len-index-end.ensures, c.args.self.now.finished.ok.0)) c.finished.invariant.loads
       (subst (λ o. LoadsOne (place_at o (slice_get c.args.self.now.finished.items c.finished.index)) c.finished.self.locked.kernel c.load_for.new.self.locked.kernel
-          c.finished.self.boxes.items c.load_for.new.self.boxes.items c.finished.errands c.load_for.new.errands) (ap vec_items c.finished.invariant.owners)
+      c.finished.self.boxes.items c.load_for.new.self.boxes.items c.finished.errands c.load_for.new.errands) (ap vec_items c.finished.invariant.owners)
       (subst (λ f. LoadsOne (place_at c.finished.self.owners.items (slice_get f c.finished.index)) c.finished.self.locked.kernel c.load_for.new.self.locked.kernel
-          c.finished.self.boxes.items c.load_for.new.self.boxes.items c.finished.errands c.load_for.new.errands) (ap vec_items c.finished.invariant.finished)
+      c.finished.self.boxes.items c.load_for.new.self.boxes.items c.finished.errands c.load_for.new.errands) (ap vec_items c.finished.invariant.finished)
       c.load_for.ensures.loads));
   owners = c.load_for.ensures.owners ∙ c.finished.invariant.owners;
   finished = c.load_for.ensures.finished ∙ c.finished.invariant.finished;

@@ -24,6 +24,7 @@ ROOT = os.path.dirname(HERE)
 WHOLE = {
     "clients/c/src/protocol.h": of_c.header,
     "clients/c/src/meanings.h": of_c.meanings,
+    "clients/c/include/l4/told.h": of_c.told,
     "clients/python/src/l4ipc/protocol.py": of_python.client,
     "checks/lib/protocol_tables.py": of_python.checks,
     **of_scripts.whole(),

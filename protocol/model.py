@@ -76,6 +76,11 @@ class Frame:
         return "".join(LETTERS[it.width] for it in self.fields)
 
     @property
+    def told(self):
+        """What its version tells before what all versions tell."""
+        return self.own if self.then else []
+
+    @property
     def has_tail(self):
         return bool(self.tail)
 
@@ -123,6 +128,11 @@ class Protocol:
     errors: list = field(default_factory=list)
     entries: list = field(default_factory=list)
     prose: list = field(default_factory=list)
+
+    def forms(self, name):
+        """Of each version the frame that it has for an answer: its own one, or that of the version before."""
+        of_version = {it.version: it for it in self.frames.values() if it.name == name or (it.base and it.base.name == name)}
+        return [of_version[max(it for it in of_version if it <= version)] for version in self.versions]
 
     def said(self, text, bad):
         """A text with its limits as numbers: {entries} as 1,048,576, {entries.plain} as 1048576, {entries.code} as 1_048_576, and
@@ -202,6 +212,15 @@ def frame_of(record, protocol):
     return frame
 
 
+def look_at_outcomes(protocol, record):
+    """What a version of IPCR tells of a call are words: first those of the version before, then its own."""
+    before = []
+    for frame in protocol.forms("IPCR"):
+        if frame.told[: len(before)] != before or any(it.width != 8 for it in frame.told):
+            raise record.bad(f"frame {frame.name}: its own fields are words, and begin with {', '.join(it.name for it in before)}")
+        before = frame.told
+
+
 def load_frames(protocol):
     for record in read(HERE, "frames.txt", FRAMES):
         if record.word == "version":
@@ -216,6 +235,7 @@ def load_frames(protocol):
             protocol.classes[record.name] = record.number("byte"), tuple(record.one("rattle").split())
             if protocol.classes[record.name][0] != ord(record.name):
                 raise record.bad(f"class {record.name}: its byte is that of another letter", record.line_of("byte"))
+    look_at_outcomes(protocol, record)
 
 
 def load_limits(protocol):

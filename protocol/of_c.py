@@ -55,6 +55,26 @@ def fields_of(frame):
     return "\n".join(body + (putter(frame) if frame.to == "server" else getter(frame)))
 
 
+def forms(protocol):
+    """What tells the frame that a version has for an outcome."""
+    rows = [f"{{ {it.name}, {it.name}_BODY, {it.name}_FIELDS, {len(it.told)} }}" for it in protocol.forms("IPCR")]
+    cases = [f"\tcase {version}:\n\t\treturn (struct outcome_form) {row};" for version, row in enumerate(rows[1:], min(protocol.versions) + 1)]
+    return "\n".join([
+        "/* The frame of an outcome in a version: its kind, its least body, and how many bytes its fields take, and words of them what only later",
+        " * versions tell. */",
+        "struct outcome_form {", "\tenum kind kind;", "\tsize_t body;", "\tsize_t fields;", "\tsize_t told;", "};", "",
+        "static inline struct outcome_form outcome_form(unsigned version)", "{", "\tswitch (version) {", *cases,
+        f"\tdefault:\n\t\treturn (struct outcome_form) {rows[0]};", "\t}", "}"])
+
+
+def told(protocol):
+    """clients/c/include/l4/told.h."""
+    rows = [f"\tl4_told_{it.name}," for it in protocol.forms("IPCR")[-1].told]
+    return "\n".join([
+        MADE, "/* The numbers that later versions of the wire tell of an Ipc, as docs/FORMATS.md has them. */",
+        "#ifndef L4_TOLD_H", "#define L4_TOLD_H", "", "typedef enum {", *rows, "} l4_told_t;", "", "#endif", ""])
+
+
 def header(protocol):
     """clients/c/src/protocol.h."""
     frames = [it for it in protocol.frames.values()]
@@ -63,17 +83,19 @@ def header(protocol):
              for letters in ("K", "F", "S", "C", "N")]
     return "\n\n".join([
         f"{MADE}\n/* The numbers of the protocol, as docs/FORMATS.md has them. */",
-        '#ifndef L4_PROTOCOL_H\n#define L4_PROTOCOL_H\n\n#include "bytes.h"',
+        '#ifndef L4_PROTOCOL_H\n#define L4_PROTOCOL_H\n\n#include "bytes.h"\n\n#include <stddef.h>',
         enum("The limits that concern a client.", limits),
         enum("The versions of the frames.", [("FIRST_WIRE_VERSION", min(protocol.versions)), ("LAST_WIRE_VERSION", max(protocol.versions))]),
         enum("The kinds of frames.", kinds_of(protocol), "kind"),
         enum("The body length of each; of one whose tail can grow the least one.", [(f"{it.name}_BODY", it.body) for it in frames]),
         enum("How many bytes the fields take that stand behind the kind.", [(f"{it.name}_FIELDS", it.size) for it in [*frames, protocol.piece]]),
+        f"/* How many numbers the last version tells of an Ipc besides. */\nenum {{\n\tTOLD_NUMBERS = {len(protocol.forms('IPCR')[-1].told)},\n}};",
         enum("The classes of codes that a FAULT tells.", [(f"CLASS_{name}", f"{byte:#04x}") for name, (byte, _) in protocol.classes.items()]),
         *codes,
         enum("What went wrong in a phase: e of an ErrorCode.", [(f"E_{upper(it.name)}", it.number) for it in protocol.errors]),
         "/* The fields of frames: what puts or gets them answers the byte behind them. */",
-        *(fields_of(it) for it in [*frames, protocol.piece] if it.fields),
+        *(fields_of(it) for it in [*frames, protocol.piece] if it.fields and not (it.told and it.tail)),
+        forms(protocol),
         "#endif\n",
     ])
 

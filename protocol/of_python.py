@@ -42,6 +42,13 @@ def of_other_versions(protocol):
         yield version, f"({', '.join(others)}{',' if len(others) == 1 else ''})"
 
 
+def told(protocol):
+    """What later versions tell of an Ipc: a class with a number for each."""
+    rows = [f"    {it.name}: Optional[int] = None" for it in protocol.forms("IPCR")[-1].told]
+    return "\n".join(["class Told(NamedTuple):", '    """What a later version tells of an Ipc, as docs/FORMATS.md has it; ``None`` is what was not told."""', "", *rows, "", "",
+                      "NOTHING_TOLD = Told()"])
+
+
 def client(protocol):
     """clients/python/src/l4ipc/protocol.py."""
     answers = [it for it in protocol.frames.values() if it.to == "client"]
@@ -50,7 +57,7 @@ def client(protocol):
     short = [(it.number, quoted(it.texts["short"])) for it in protocol.codes["N"] if "short" in it.texts]
     return "\n".join([
         MADE.format("The numbers of the protocol, as docs/FORMATS.md has them."), "",
-        "from typing import Dict, Tuple", "",
+        "from typing import Dict, NamedTuple, Optional, Tuple", "",
         *limits, "",
         f"VERSIONS = ({versions})", "",
         *kinds(protocol), "",
@@ -58,6 +65,9 @@ def client(protocol):
         *(f"{it.name}_BODY = {it.body}" for it in protocol.frames.values() if it.to == "server"), "",
         "# The fields behind the kind, as struct spells them; all numbers have the most significant byte first.",
         *formats(protocol), "",
+        "# Of each kind of an outcome its fields: what its version tells, and the tag, the sender, the ActualSender and the ErrorCode.",
+        table("OUTCOMES", {it.name: f"{it.name}_FIELDS" for it in protocol.forms("IPCR")}.items(), "Dict[int, str]"), "", "",
+        told(protocol), "",
         "# The body length of an answer; of one that can grow the least one.",
         table("LENGTHS", [(it.name, it.body) for it in answers if not it.has_tail], "Dict[int, int]"),
         table("LEAST_LENGTHS", [(it.name, it.body) for it in answers if it.has_tail], "Dict[int, int]"), "",

@@ -16,6 +16,9 @@ TOO_LONG = struct.pack(">I", MAX_BODY_BYTES + 1)
 
 _FIELDS = {name: struct.Struct(f">{it.format}") for name, it in FRAMES.items()}
 _NAMED = {name: namedtuple(name, it.names) for name, it in FRAMES.items()}
+# The frames of an outcome by their versions, and how many numbers stand before those that all versions tell.
+_OUTCOMES = {it.version: name for name, it in FRAMES.items() if name.partition("_")[0] == "IPCR"}
+_BY_TOLD = {len(FRAMES[name].names) - len(FRAMES["IPCR"].names): name for name in _OUTCOMES.values()}
 _PIECE = struct.Struct(f">{PIECE_FIELDS}")
 PIECE_BYTES = _PIECE.size
 
@@ -111,12 +114,12 @@ def welcome(thread):
 
 
 def ipcr(tag=None, sender=0, actual=0, error=0, words=(), pieces=(), ended=()):
-    """An IPCR frame: of version 2 where `ended` has the number of the call and its moment. Without a tag of its own it has untyped words alone, and E is set
-    where there is an error. A piece is a pointer and bytes."""
+    """An IPCR frame: of the version that tells of the call as much as `ended` has. Without a tag of its own it has untyped words alone, and E is set where
+    there is an error. A piece is a pointer and bytes."""
     words = tuple(words)
     tag = len(words) | (FAILED if error else 0) if tag is None else tag
     tail = words_bytes(words) + bytes([len(pieces)]) + b"".join(piece(pointer, data) for pointer, data in pieces)
-    return frame_of("IPCR_2" if ended else "IPCR", *ended, tag, sender, actual, error, tail=tail)
+    return frame_of(_BY_TOLD[len(ended)], *ended, tag, sender, actual, error, tail=tail)
 
 
 def piece(pointer, data):
@@ -143,12 +146,14 @@ def fault(letter, number):
 
 
 class Outcome:
-    """What an IPCR says, from the bytes behind its kind: in version 2 also the number of the call and the moment at which it was over, None in version 1."""
+    """What an IPCR says, from the bytes behind its kind. `told` is what its version tells besides; of it the number of the call and the moment at which that
+    was over, None in version 1."""
 
     def __init__(self, body, version=1):
-        name = "IPCR" if version == 1 else "IPCR_2"
+        name = _OUTCOMES[max(it for it in _OUTCOMES if it <= version)]
         fields = fields_in(name, body)
-        self.call, self.moment = (None, None) if version == 1 else (fields.call, fields.moment)
+        self.told = {it: value for it, value in fields._asdict().items() if it not in FRAMES["IPCR"].names}
+        self.call, self.moment = self.told.get("call"), self.told.get("moment")
         self.tag, self.sender, self.actual, self.error = fields.tag, fields.sender, fields.actual_sender, fields.error
         count = (self.tag & 63) + (self.tag >> 6 & 63)
         self.words = struct.unpack_from(f">{count}Q", body, size_of(name))

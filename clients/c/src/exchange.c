@@ -3,7 +3,7 @@
 
 /* What ExchangeRegisters answers. */
 struct exchanged {
-	struct told told;
+	struct told_moment told;
 	L4_ThreadId_t result;
 	struct exregr_fields fields;
 };
@@ -12,7 +12,7 @@ static int read_exchanged(struct thread *thread, L4_ThreadId_t dest, struct exch
 {
 	struct exregr_2_fields fields;
 	const unsigned char *bytes;
-	bool has_moment = thread->version == 2;
+	bool has_moment = thread->version != 1;
 	unsigned kind;
 	size_t body;
 
@@ -26,7 +26,7 @@ static int read_exchanged(struct thread *thread, L4_ThreadId_t dest, struct exch
 		return -1;
 	if (has_moment) {
 		(void) get_exregr_2(bytes, &fields);
-		exchanged->told = (struct told) { .is_told = true, .moment = fields.moment };
+		exchanged->told = (struct told_moment) { true, fields.moment };
 	} else {
 		(void) get_exregr(bytes, &fields.exregr);
 	}

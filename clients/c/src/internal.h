@@ -63,11 +63,15 @@ struct failure {
 	unsigned string;
 };
 
-/* What version 2 tells of the last Ipc or ExchangeRegisters. */
+/* What a later version tells of the last Ipc: so many numbers, in the order of l4_told_t. */
 struct told {
+	size_t count;
+	L4_Word64_t numbers[TOLD_NUMBERS];
+};
+
+/* The moment of the last ExchangeRegisters, where a version tells it. */
+struct told_moment {
 	bool is_told;
-	/* of an Ipc */
-	L4_Word_t call;
 	L4_Word64_t moment;
 };
 
@@ -104,7 +108,7 @@ struct thread {
 	/* L4_Set_VirtualSender was called: l4_serve asks it of its function */
 	bool names_sender;
 	struct told last_call;
-	struct told last_exchange;
+	struct told_moment last_exchange;
 	struct failure last;
 	/* why the connection was lost, told by each later call */
 	struct failure lost;

@@ -30,7 +30,7 @@ static int begin(struct thread *thread, L4_ThreadId_t to, L4_ThreadId_t from, L4
 
 	thread->open = (struct phases) { .sends = !L4_IsNilThread(to), .receives = !L4_IsNilThread(from), .to = to, .from = from };
 	thread->is_calling = true;
-	thread->last_call.is_told = false;
+	thread->last_call.count = 0;
 	if (!thread->is_connected)
 		status = l4_refuse(thread, FOUND_HERE, 'C', C_NOT_CONNECTED);
 	else if (thread->is_misused)

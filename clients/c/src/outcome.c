@@ -13,51 +13,46 @@ struct outcome {
 	unsigned pieces;
 };
 
-/* Reads the fields of an IPCR, in version 2 with those that only it has. */
-static void read_fields(const unsigned char *bytes, bool has_times, struct outcome *outcome)
+/* Reads the fields of an IPCR: the words that its version tells of the call, and those that all versions tell. */
+static void read_fields(const unsigned char *bytes, size_t told, struct outcome *outcome)
 {
-	struct ipcr_2_fields fields;
-
-	if (has_times) {
-		(void) get_ipcr_2(bytes, &fields);
-		outcome->told = (struct told) { true, fields.call, fields.moment };
-	} else {
-		(void) get_ipcr(bytes, &fields.ipcr);
-	}
-	outcome->fields = fields.ipcr;
-	outcome->sender.raw = fields.ipcr.sender;
-	outcome->untyped = fields.ipcr.tag & 0x3f;
-	outcome->typed = fields.ipcr.tag >> 6 & 0x3f;
+	outcome->told.count = told;
+	for (size_t i = 0; i < told; i++, bytes += 8)
+		outcome->told.numbers[i] = get_word(bytes);
+	(void) get_ipcr(bytes, &outcome->fields);
+	outcome->sender.raw = outcome->fields.sender;
+	outcome->untyped = outcome->fields.tag & 0x3f;
+	outcome->typed = outcome->fields.tag >> 6 & 0x3f;
 }
 
 /* Reads an IPCR frame up to its pieces; its words go to the message registers. */
 static int read_outcome(struct thread *thread, struct outcome *outcome)
 {
+	struct outcome_form form = outcome_form(thread->version);
 	const unsigned char *bytes;
-	bool has_times = thread->version == 2;
-	size_t least = has_times ? IPCR_2_BODY : IPCR_BODY, body, words;
+	size_t body, words;
 	unsigned kind;
 
 	if (l4_read_head(thread, &kind, &body) < 0)
 		return -1;
-	if (kind != (has_times ? IPCR_2 : IPCR))
+	if (kind != form.kind)
 		return l4_read_refusal(thread, kind, body);
-	if (body < least)
+	if (body < form.body)
 		return l4_lose(thread, FOUND_HERE, 'F', F_WRONG_SIZE, 0);
-	if (l4_take(thread, has_times ? IPCR_2_FIELDS : IPCR_FIELDS, &bytes) < 0)
+	if (l4_take(thread, form.fields, &bytes) < 0)
 		return -1;
-	read_fields(bytes, has_times, outcome);
+	read_fields(bytes, form.told, outcome);
 	words = outcome->untyped + outcome->typed;
 	if (words > MAX_MESSAGE_WORDS)
 		return l4_lose(thread, FOUND_HERE, 'F', F_TOO_MANY_WORDS, 0);
-	if (body < least + 8 * words)
+	if (body < form.body + 8 * words)
 		return l4_lose(thread, FOUND_HERE, 'F', F_WRONG_SIZE, 0);
 	if (l4_take(thread, 8 * words + 1, &bytes) < 0)
 		return -1;
 	for (size_t i = 0; i < words; i++, bytes += 8)
 		thread->mr[1 + i] = get_word(bytes);
 	outcome->pieces = *bytes;
-	outcome->rest = body - least - 8 * words;
+	outcome->rest = body - form.body - 8 * words;
 	return 0;
 }
 

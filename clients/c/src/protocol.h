@@ -6,6 +6,8 @@
 
 #include "bytes.h"
 
+#include <stddef.h>
+
 /* The limits that concern a client. */
 enum {
 	MAX_THREAD_NUMBER = 1023,
@@ -71,6 +73,11 @@ enum {
 	REFUSED_FIELDS = 1,
 	FAULT_FIELDS = 2,
 	PIECE_FIELDS = 12,
+};
+
+/* How many numbers the last version tells of an Ipc besides. */
+enum {
+	TOLD_NUMBERS = 2,
 };
 
 /* The classes of codes that a FAULT tells. */
@@ -263,21 +270,6 @@ static inline const unsigned char *get_exregr(const unsigned char *at, struct ex
 	return at;
 }
 
-struct ipcr_2_fields {
-	L4_Word_t call;
-	L4_Word_t moment;
-	struct ipcr_fields ipcr;
-};
-
-static inline const unsigned char *get_ipcr_2(const unsigned char *at, struct ipcr_2_fields *fields)
-{
-	fields->call = get_word(at);
-	at += 8;
-	fields->moment = get_word(at);
-	at += 8;
-	return get_ipcr(at, &fields->ipcr);
-}
-
 struct exregr_2_fields {
 	L4_Word_t moment;
 	struct exregr_fields exregr;
@@ -327,6 +319,25 @@ static inline const unsigned char *get_piece(const unsigned char *at, struct pie
 	fields->length = get_half(at);
 	at += 4;
 	return at;
+}
+
+/* The frame of an outcome in a version: its kind, its least body, and how many bytes its fields take, and words of them what only later
+ * versions tell. */
+struct outcome_form {
+	enum kind kind;
+	size_t body;
+	size_t fields;
+	size_t told;
+};
+
+static inline struct outcome_form outcome_form(unsigned version)
+{
+	switch (version) {
+	case 2:
+		return (struct outcome_form) { IPCR_2, IPCR_2_BODY, IPCR_2_FIELDS, 2 };
+	default:
+		return (struct outcome_form) { IPCR, IPCR_BODY, IPCR_FIELDS, 0 };
+	}
 }
 
 #endif

@@ -128,7 +128,8 @@ static void begin(struct thread *thread, unsigned version)
 {
 	thread->is_misused = thread->is_calling = thread->is_begun = false;
 	thread->version = version;
-	thread->last_call = thread->last_exchange = (struct told) { .is_told = false };
+	thread->last_call.count = 0;
+	thread->last_exchange.is_told = false;
 	thread->lost = (struct failure) { .source = NOBODY };
 	thread->virtual_sender = L4_nilthread;
 	thread->name_server = L4_nilthread;
@@ -365,24 +366,34 @@ L4_ThreadId_t L4_MyGlobalId(void)
 	return l4_thread.id;
 }
 
-/* What was told of the last one, and whether anything was. */
-static bool give_told(const struct told *told, L4_Word_t *number, L4_Word64_t *moment)
+L4_Bool_t l4_last_told(l4_told_t which, L4_Word64_t *number)
 {
+	const struct told *told = &l4_thread.last_call;
+	bool is_told = (size_t) which < told->count;
+
 	if (number != NULL)
-		*number = told->is_told ? told->call : 0;
-	if (moment != NULL)
-		*moment = told->is_told ? told->moment : 0;
-	return told->is_told;
+		*number = is_told ? told->numbers[which] : 0;
+	return is_told;
 }
 
 L4_Bool_t l4_last_call(L4_Word_t *number, L4_Word64_t *moment)
 {
-	return give_told(&l4_thread.last_call, number, moment);
+	L4_Word64_t call;
+	bool is_told = l4_last_told(l4_told_call, &call);
+
+	if (number != NULL)
+		*number = (L4_Word_t) call;
+	(void) l4_last_told(l4_told_moment, moment);
+	return is_told;
 }
 
 L4_Bool_t l4_last_exchange(L4_Word64_t *moment)
 {
-	return give_told(&l4_thread.last_exchange, NULL, moment);
+	const struct told_moment *told = &l4_thread.last_exchange;
+
+	if (moment != NULL)
+		*moment = told->is_told ? told->moment : 0;
+	return told->is_told;
 }
 
 L4_Word_t L4_ErrorCode(void)

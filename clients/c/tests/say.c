@@ -183,6 +183,19 @@ static void print_told(bool is_told, L4_Word_t number, L4_Word64_t moment)
 		printf(" -");
 }
 
+/* The numbers of a call, each asked by its name, are those that l4_last_call gives. */
+static void check_told(bool is_told, L4_Word_t number, L4_Word64_t moment)
+{
+	L4_Word64_t call = 1, over = 1, none = 1;
+
+	if (l4_last_told(l4_told_call, &call) != is_told || l4_last_told(l4_told_moment, &over) != is_told)
+		die("l4_last_told and l4_last_call differ on whether anything is told");
+	if (call != number || over != moment || l4_last_told(l4_told_call, NULL) != is_told)
+		die("l4_last_told tells other numbers than l4_last_call");
+	if (l4_last_told((l4_told_t) 1000, &none) || none != 0)
+		die("l4_last_told tells a number that there is not");
+}
+
 static void print_outcome(L4_MsgTag_t tag, L4_ThreadId_t from)
 {
 	static const L4_Msg_t nothing;
@@ -212,6 +225,7 @@ static void print_outcome(L4_MsgTag_t tag, L4_ThreadId_t from)
 	printf(count == 0 ? "-" : "");
 	is_told = l4_last_call(&number, &moment);
 	print_told(is_told, number, moment);
+	check_told(is_told, number, moment);
 }
 
 static void ipc(char *line)

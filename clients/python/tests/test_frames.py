@@ -203,9 +203,11 @@ class Version2(unittest.TestCase):
         self.assertEqual((thread.last_call, thread.last_moment), (None, None))
         received = thread.wait()
         self.assertEqual((received.words, received.call, received.moment), ((7, 8), 7, 100))
+        self.assertEqual((received.told, thread.last_told), ((7, 100), (7, 100)))
         with self.assertRaises(l4ipc.NoPartner) as failure:
             thread.send(FIRST)
         self.assertEqual((failure.exception.call, failure.exception.moment), (8, 101))
+        self.assertEqual(failure.exception.told._asdict(), {"call": 8, "moment": 101})
         thread.send(FIRST)
         self.assertEqual((thread.last_call, thread.last_moment), (9, 102))
         exchanged = thread.exchange_registers(SECOND, send=True)
@@ -221,6 +223,7 @@ class Version2(unittest.TestCase):
         exchanged = thread.exchange_registers(SECOND)
         told = (received.call, received.moment, failure.exception.call, failure.exception.moment, exchanged.moment, thread.last_call, thread.last_moment)
         self.assertEqual(told, (None,) * 7)
+        self.assertEqual((received.told, failure.exception.told, thread.last_told), ((None, None),) * 3)
         thread.close()
         server.close()
 

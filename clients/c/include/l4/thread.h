@@ -2,6 +2,7 @@
 #ifndef L4_THREAD_H
 #define L4_THREAD_H
 
+#include <l4/told.h>
 #include <l4/types.h>
 
 L4_BEGIN_C_
@@ -79,6 +80,10 @@ int l4_connect_wait(const char *dir, unsigned space, unsigned number, unsigned v
  * False, and 0 in both places, where nothing was told: in version 1, before the first Ipc, and where the last one was refused or
  * was not made. Either pointer may be null. */
 L4_Bool_t l4_last_call(L4_Word_t *number, L4_Word64_t *moment);
+
+/* One number of those that any version tells of the last Ipc, in the same way: l4_told_call, l4_told_moment, and what l4/told.h
+ * has besides. */
+L4_Bool_t l4_last_told(l4_told_t which, L4_Word64_t *number);
 
 /* The moment of the last ExchangeRegisters of the calling thread, in the same way. */
 L4_Bool_t l4_last_exchange(L4_Word64_t *moment);

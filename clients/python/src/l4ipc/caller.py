@@ -6,6 +6,7 @@ from . import arguments, calls, frames
 from .connecting import Place
 from .message import Message, Received
 from .names import Book, Kept, is_name
+from .protocol import NOTHING_TOLD
 from .steps import Ipc, Steps, until_there
 from .words import NILTHREAD, ThreadId
 
@@ -25,6 +26,7 @@ class Caller:
         self.id = NILTHREAD
         self.version = place.version
         self.lives = 0
+        self.last_told = NOTHING_TOLD
         self.last_call: Optional[int] = None
         self.last_moment: Optional[int] = None
         self.kept = Kept()
@@ -58,7 +60,8 @@ class Caller:
 
     def _read(self, call: calls.Call, outcome: frames.Outcome) -> Optional[Received]:
         """What a call has brought."""
-        self.last_call, self.last_moment = outcome.call, outcome.moment
+        self.last_told = outcome.told
+        self.last_call, self.last_moment = outcome.told.call, outcome.told.moment
         return call.result(outcome)
 
     def _arrived(self) -> Optional[int]:

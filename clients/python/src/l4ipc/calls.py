@@ -28,12 +28,12 @@ class Call(NamedTuple):
         """The message that came, or ``None`` where there is no receive phase; an `IpcError` where a phase failed."""
         if outcome.tag & FAILED:
             of = Circumstances(self.own, ThreadId(self.to), ThreadId(self.from_specifier), self.message.lengths())
-            raise ipc_error(outcome.error, outcome.call, outcome.moment, of)
+            raise ipc_error(outcome.error, outcome.told, of)
         if not self.from_specifier:
             return None
         if outcome.tag & (TYPED_WORDS | PROPAGATED) or outcome.pieces:
             return self._with_strings(outcome)
-        return Received(outcome.sender, outcome.tag >> 16, outcome.words, (), None, outcome.call, outcome.moment)
+        return Received(outcome.sender, outcome.tag >> 16, outcome.words, (), None, outcome.told)
 
     def _with_strings(self, outcome: frames.Outcome) -> Received:
         """What the server says of strings has to be just what the buffers have room for."""
@@ -51,7 +51,7 @@ class Call(NamedTuple):
             raise BadFrame("a string that does not begin where its buffer does")
         strings = self.strings.fill(lengths, b"".join(data for _, data in outcome.pieces))
         actual_sender = outcome.actual_sender if outcome.tag & PROPAGATED else None
-        return Received(outcome.sender, outcome.tag >> 16, outcome.words[:untyped], strings, actual_sender, outcome.call, outcome.moment)
+        return Received(outcome.sender, outcome.tag >> 16, outcome.words[:untyped], strings, actual_sender, outcome.told)
 
 
 def plain_frame(to: int, from_specifier: int, message: Message, times: int) -> Optional[bytes]:

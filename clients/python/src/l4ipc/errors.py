@@ -33,7 +33,8 @@ class IpcError(L4Error):
 
     ``phase`` is ``"send"`` or ``"receive"``. Where the send phase failed no receive phase took place. ``code`` is the word of the
     ErrorCode, and ``offset`` its offset: a number of bytes for `Overflow` and `Aborted`, else 0. ``call`` and ``moment`` are the number
-    of the call and the moment at which it was over, in microseconds of the server; in version 1 of the wire they are ``None``.
+    of the call and the moment at which it was over, in microseconds of the server; in version 1 of the wire they are ``None``. ``told``
+    has all that the version tells besides.
 
     ``thread`` is whose call it was, ``partner`` with whom its phase was: the thread that was sent to, or the FromSpecifier. ``delivered``
     says whether the message of the call was delivered. Of a phase that failed nothing is.
@@ -41,10 +42,11 @@ class IpcError(L4Error):
 
     text = "an error that has no name"
 
-    def __init__(self, code: int, call: Optional[int] = None, moment: Optional[int] = None, of: Circumstances = _UNKNOWN) -> None:
+    def __init__(self, code: int, told: protocol.Told = protocol.NOTHING_TOLD, of: Circumstances = _UNKNOWN) -> None:
         self.code = code
-        self.call = call
-        self.moment = moment
+        self.told = told
+        self.call = told.call
+        self.moment = told.moment
         self.phase = RECEIVE if code & 1 else SEND
         self.offset = code >> 4
         self.thread = of.own
@@ -189,9 +191,9 @@ _KINDS = {
 }
 
 
-def ipc_error(code: int, call: Optional[int] = None, moment: Optional[int] = None, of: Circumstances = _UNKNOWN) -> IpcError:
+def ipc_error(code: int, told: protocol.Told = protocol.NOTHING_TOLD, of: Circumstances = _UNKNOWN) -> IpcError:
     """The exception of an ErrorCode."""
-    return _KINDS.get(code >> 1 & 7, IpcError)(code, call, moment, of)
+    return _KINDS.get(code >> 1 & 7, IpcError)(code, told, of)
 
 
 def fault(letter: int, number: int) -> Optional[Fault]:

@@ -9,7 +9,8 @@ from .errors import BadFrame
 from .message import Bytes, Encoded, Received
 from .protocol import (
     BYE, BYE_BODY, EXREG, EXREG_BODY, EXREG_FIELDS, EXREGR, EXREGR_2, EXREGR_2_FIELDS, EXREGR_FIELDS, HELLO, HELLO_2_BODY, HELLO_2_FIELDS,
-    HELLO_BODY, HELLO_FIELDS, IPC, IPC_BODY, IPC_FIELDS, IPCR, IPCR_2, IPCR_2_FIELDS, IPCR_FIELDS, PIECE_FIELDS, REFUSED, VERSIONS, WELCOME,
+    HELLO_BODY, HELLO_FIELDS, IPC, IPC_BODY, IPC_FIELDS, IPCR, IPCR_FIELDS, NOTHING_TOLD, PIECE_FIELDS, REFUSED, VERSIONS, WELCOME,
+    Told,
 )
 from .words import MAX_MESSAGE_WORDS, ThreadId
 
@@ -17,8 +18,7 @@ MAX_BODY = protocol.MAX_BODY_BYTES
 """How many bytes the body of a frame has at most."""
 
 _IPC_HEAD = struct.Struct(f">IB{IPC_FIELDS}")
-_IPCR_HEAD = struct.Struct(f">{IPCR_FIELDS}")
-_IPCR_2_HEAD = struct.Struct(f">{IPCR_2_FIELDS}")
+_OUTCOME_HEADS = {kind: struct.Struct(f">{fields}") for kind, fields in protocol.OUTCOMES.items()}
 _PIECE = struct.Struct(f">{PIECE_FIELDS}")
 _received = tuple.__new__
 PLAIN_CALLS = [(struct.Struct(f">IB{IPC_FIELDS}{count}Q").pack, IPC_BODY + 8 * count) for count in range(MAX_MESSAGE_WORDS + 1)]
@@ -29,7 +29,7 @@ _PLAIN_OUTCOMES = {form.size: (form.unpack, form.size - 4, count) for count, for
 
 
 class Outcome(NamedTuple):
-    """An IPCR frame: what became of a call. In version 2 with the number of the call, and the moment at which it was over."""
+    """An IPCR frame: what became of a call, and what its version tells besides."""
 
     tag: int
     sender: ThreadId
@@ -37,8 +37,7 @@ class Outcome(NamedTuple):
     error: int
     words: Tuple[int, ...]
     pieces: Tuple[Tuple[int, memoryview], ...]
-    call: Optional[int] = None
-    moment: Optional[int] = None
+    told: Told = NOTHING_TOLD
 
 
 @dataclass(frozen=True)
@@ -135,10 +134,10 @@ def read(body: Bytes, version: int = 1) -> Answer:
     body = memoryview(body)
     check_kind(body[0], len(body), version)
     kind = body[0]
-    if kind == IPCR:
-        return _outcome(body[1 + _IPCR_HEAD.size :], None, None, *_IPCR_HEAD.unpack_from(body, 1))
-    if kind == IPCR_2:
-        return _outcome(body[1 + _IPCR_2_HEAD.size :], *_IPCR_2_HEAD.unpack_from(body, 1))
+    head = _OUTCOME_HEADS.get(kind)
+    if head is not None:
+        *told, tag, sender, actual_sender, error = head.unpack_from(body, 1)
+        return _outcome(body[1 + head.size :], Told(*told), tag, ThreadId(sender), ThreadId(actual_sender), error)
     if kind == WELCOME:
         return Welcome(ThreadId.from_bytes(body[1:9], "big"))
     if kind == EXREGR:
@@ -163,12 +162,10 @@ def plain_received(data: bytes) -> Optional[Received]:
     # the lower half of the tag has the number of untyped words, and behind it typed words and the flags
     if tag & 0xFFFF != count or fields[1] != IPCR or fields[0] != body or fields[-1]:
         return None
-    return _received(Received, (ThreadId(fields[3]), tag >> 16, fields[6:-1], (), None, None, None))
+    return _received(Received, (ThreadId(fields[3]), tag >> 16, fields[6:-1], (), None, NOTHING_TOLD))
 
 
-def _outcome(
-    tail: memoryview, call: Optional[int], moment: Optional[int], tag: int, sender: int, actual_sender: int, error: int
-) -> Outcome:
+def _outcome(tail: memoryview, told: Told, tag: int, sender: ThreadId, actual_sender: ThreadId, error: int) -> Outcome:
     """The outcome of these fields, and of the words and pieces behind them."""
     count = (tag & 0x3F) + (tag >> 6 & 0x3F)
     if count > MAX_MESSAGE_WORDS:
@@ -178,7 +175,7 @@ def _outcome(
         raise BadFrame("an outcome that is too short for its words")
     words = struct.unpack_from(f">{count}Q", tail)
     pieces = _pieces(tail[place + 1 :], tail[place])
-    return Outcome(tag, ThreadId(sender), ThreadId(actual_sender), error, words, pieces, call, moment)
+    return Outcome(tag, sender, actual_sender, error, words, pieces, told)
 
 
 def _pieces(body: memoryview, count: int) -> Tuple[Tuple[int, memoryview], ...]:

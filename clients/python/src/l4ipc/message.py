@@ -5,6 +5,7 @@ from dataclasses import dataclass
 from typing import List, NamedTuple, NoReturn, Optional, Sequence, Tuple, Union
 
 from . import arguments
+from .protocol import NOTHING_TOLD, Told
 from .words import MAX_BUFFER_WORDS, MAX_LABEL, MAX_MESSAGE_WORDS, MAX_STRING_BYTES, NILTHREAD, WORD_LIMIT, ThreadId
 
 Bytes = Union[bytes, bytearray, memoryview]
@@ -115,7 +116,7 @@ class Received(NamedTuple):
     ``sender`` is the thread that is shown as its sender, to whom a reply goes. ``actual_sender`` is who sent it where it was propagated,
     else ``None``. A string is ``bytes`` where its buffer was given by a size or by parts, and a ``memoryview`` of the filled front of the
     buffer where that was memory. ``call`` and ``moment`` are the number of the call that received it and the moment at which that was
-    over, in microseconds of the server; in version 1 of the wire they are ``None``.
+    over, in microseconds of the server; in version 1 of the wire they are ``None``. ``told`` has all that the version tells besides.
     """
 
     sender: ThreadId
@@ -123,8 +124,17 @@ class Received(NamedTuple):
     words: Tuple[int, ...]
     strings: Tuple[Union[bytes, memoryview], ...] = ()
     actual_sender: Optional[ThreadId] = None
-    call: Optional[int] = None
-    moment: Optional[int] = None
+    told: Told = NOTHING_TOLD
+
+    @property
+    def call(self) -> Optional[int]:
+        """The number of the call that received it."""
+        return self.told.call
+
+    @property
+    def moment(self) -> Optional[int]:
+        """The moment at which that was over."""
+        return self.told.moment
 
 
 class BufferStrings:

@@ -1,6 +1,6 @@
 """The numbers of the protocol, as docs/FORMATS.md has them. Made by protocol/generate.py: not edited by hand."""
 
-from typing import Dict, Tuple
+from typing import Dict, NamedTuple, Optional, Tuple
 
 MAX_THREAD_NUMBER = 1_023
 MAX_SPACE = 64
@@ -47,6 +47,22 @@ EXREGR_2_FIELDS = "QQQQ"
 REFUSED_FIELDS = "B"
 FAULT_FIELDS = "BB"
 PIECE_FIELDS = "QI"
+
+# Of each kind of an outcome its fields: what its version tells, and the tag, the sender, the ActualSender and the ErrorCode.
+OUTCOMES: Dict[int, str] = {
+    IPCR: IPCR_FIELDS,
+    IPCR_2: IPCR_2_FIELDS,
+}
+
+
+class Told(NamedTuple):
+    """What a later version tells of an Ipc, as docs/FORMATS.md has it; ``None`` is what was not told."""
+
+    call: Optional[int] = None
+    moment: Optional[int] = None
+
+
+NOTHING_TOLD = Told()
 
 # The body length of an answer; of one that can grow the least one.
 LENGTHS: Dict[int, int] = {

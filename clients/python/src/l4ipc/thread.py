@@ -49,7 +49,7 @@ class Thread(Caller):
     ``version`` is that of the wire, 1 or 2. In version 2 the server tells of each call its number and the moment at which it was over, in
     microseconds since the server began; in version 1 these are ``None``. A server that has version 1 alone raises `Fault` F3: connect again.
     ``last_call`` is the number of the Ipc that was over last, and ``last_moment`` the moment of the last answer to an Ipc or an
-    ExchangeRegisters: also for `send` and `sleep`, which answer nothing.
+    ExchangeRegisters: also for `send` and `sleep`, which answer nothing. ``last_told`` has all that the version tells of that Ipc.
 
     One call is open at a time. A call that is interrupted, as by KeyboardInterrupt, closes the thread, since its answer would be taken for
     that of the next call. Timeouts are in seconds: ``None`` is never, 0 is zero time, and each other one is the shortest period that

@@ -23,6 +23,8 @@ FILES = {
     "lib/systemd/system/l4d.service": 0o644, "lib/systemd/system/l4d-names.service": 0o644,
     "share/doc/hashkarst/examples/adder.service": 0o644, "lib/tmpfiles.d/l4d.conf": 0o644, "lib/sysusers.d/l4d.conf": 0o644,
 }
+# What they are made of: where it is as committed they have the commit, whatever else stands in the tree.
+SOURCES = ["README.md", "build", "clients", "crates", "crates.txt", "docs", "install", "packaging"]
 LIBRARY = ["lib/libl4ipc.a", "lib/libl4ipc.so", "lib/libl4ipc.so.1", "lib/libl4ipc.so.1.0.0", "lib/pkgconfig/l4ipc.pc"]
 PREFIX, PYTHON = "/usr/local/hashkarst", "lib/python3/packages"
 # A unit is exposed so far at most, as systemd-analyze counts: 0 is safe, 10 is not.
@@ -56,10 +58,10 @@ def helps(program):
 
 
 def commit():
-    """The commit of this tree, where it is as committed; else None."""
+    """The commit of this tree, where its sources are as committed; else None."""
     if not shutil.which("git"):
         return None
-    head, status = run("git", "-C", ROOT, "rev-parse", "HEAD"), run("git", "-C", ROOT, "status", "--porcelain")
+    head, status = run("git", "-C", ROOT, "rev-parse", "HEAD"), run("git", "status", "--porcelain", "--", *SOURCES, cwd=ROOT)
     return head.stdout if head.returncode == status.returncode == 0 and not status.stdout else None
 
 
@@ -216,11 +218,15 @@ def refusals(place):
             shutil.copy(f"{ROOT}/{name}", f"{bare}/{name}")
         refused = run(f"{bare}/install", env={**os.environ, "DESTDIR": f"{bare}/to"})
         assert refused.returncode == 1 and "is not proved" in refused.stderr and not os.path.exists(f"{bare}/to"), refused
+        for name in ("packaging/deb", "CHANGELOG.md"):
+            shutil.copy(f"{ROOT}/{name}", f"{bare}/{name}")
+        refused = run(f"{bare}/packaging/deb", f"{bare}/to", env={**os.environ, "SOURCE_DATE_EPOCH": "0"})
+        assert not shutil.which("dpkg-deb") or refused.returncode == 1 and "is not proved" in refused.stderr and "Traceback" not in refused.stderr, refused
     refused = run(f"{ROOT}/install", env={**os.environ, "DESTDIR": place, "PREFIX": "usr"})
     assert refused.returncode == 2 and "PREFIX" in refused.stderr, refused
     refused = installed(place, "--remove")
     assert refused.returncode == 2 and "usage" in refused.stderr, refused
-    return 3
+    return 4
 
 
 def debs(place):
@@ -230,21 +236,23 @@ def debs(place):
         print(f"packaging: Debian packages are left out, since {', '.join(lacking)} is not there")
         return 0
     made = []
-    for turn in ("first", "second"):
-        told = run(f"{ROOT}/packaging/deb", f"{place}/{turn}")
-        assert told.returncode == 0, told
-        made.append({name: open(f"{place}/{turn}/{name}", "rb").read() for name in os.listdir(f"{place}/{turn}")})
+    # the first ones stand in the tree while the second ones are made, as who follows README has them
+    with tempfile.TemporaryDirectory(prefix="packages-", dir=ROOT) as packages:
+        for turn in (packages, f"{place}/second"):
+            told = run(f"{ROOT}/packaging/deb", turn)
+            assert told.returncode == 0, told
+            made.append({name: open(f"{turn}/{name}", "rb").read() for name in os.listdir(turn)})
     assert made[0] == made[1] and len(made[0]) == 4, [sorted(it) for it in made]
     there = []
     for name in made[0]:
-        assert run("dpkg-deb", "-x", f"{place}/first/{name}", f"{place}/unpacked").returncode == 0
-        there += [line.split()[5] for line in run("dpkg-deb", "-c", f"{place}/first/{name}").stdout.splitlines() if not line.startswith("d")]
+        assert run("dpkg-deb", "-x", f"{place}/second/{name}", f"{place}/unpacked").returncode == 0
+        there += [line.split()[5] for line in run("dpkg-deb", "-c", f"{place}/second/{name}").stdout.splitlines() if not line.startswith("d")]
     wanted = {re.sub(r"^share/man/.*", r"\g<0>.gz", name) for name in FILES if name != "lib/hashkarst/installed"}
     assert len(there) == len(set(there)) and not {f"./usr/{name}" for name in wanted} - set(there), {f"./usr/{name}" for name in wanted} - set(there)
     told = run(f"{place}/unpacked/usr/bin/l4d", "--dir", place, "--spaces", "1", "--connections", "2", "--probe")
     assert told.returncode == 0 and told.stdout == "listening 1\nprobe 0x7\nclosed\n", told
     if shutil.which("lintian"):
-        told = run("lintian", "--fail-on", "error,warning", *[f"{place}/first/{name}" for name in made[0]])
+        told = run("lintian", "--fail-on", "error,warning", *[f"{place}/second/{name}" for name in made[0]])
         assert told.returncode == 0, told.stdout
     return 4
 

@@ -2,7 +2,7 @@
 """checks/text/tutorial.py L4SH: the ten steps of docs/TUTORIAL.md, by their judge.
 
 Each stored solution is right, and each script with its gap is not yet, with the gap's line and the hint. A gap that is filled in wrongly is told by the
-first line that is another, and the deadlock of the last step by what `l4sh state` says. Each step has its section in the page, and what the page quotes of
+first line that is another, the line that it should be by --answer alone, and the deadlock of the last step by what `l4sh state` says. Each step has its section in the page, and what the page quotes of
 the program is what it prints.
 
 Its last line is `N checked, M failed`; the status is 0 where M is 0.
@@ -23,7 +23,7 @@ from page_text import blocks_of, text_of
 
 STEPS = "examples/tutorial"
 L4SH = os.path.abspath(sys.argv[1])
-# What somebody may well fill in first, and what the judge then shows.
+# What somebody may well fill in first, and what the judge then shows if it is asked for the answer.
 WRONG = {
     "01": (["2"], "wanted: called 2 2.1 1.1"), "02": (["2"], "wanted: called 3 1.1 nil 3.1"), "03": (["2", "2"], "wanted: called 3 1.1 2.1 any"),
     "04": (["2s"], "wanted: called 1 1.1 nil any 0x7e8"), "05": (["4"], "wanted: called 1 1.1 nil any"), "06": (["5"], "3@0x100000,5@0x200000"),
@@ -40,11 +40,11 @@ def judged(*words):
     return ran.returncode, ran.stdout + ran.stderr
 
 
-def judged_text(number, script):
+def judged_text(number, script, *more):
     with tempfile.NamedTemporaryFile("w", suffix=".l4") as file:
         file.write(script)
         file.flush()
-        return judged(number, file.name)
+        return judged(number, file.name, *more)
 
 
 def filled(script, words):
@@ -63,7 +63,9 @@ def step(path):
     check(f"the solution of {name}", status == 0 and said.startswith(f"{name}: right."), said)
     words, shown = WRONG[number]
     status, said = judged_text(number, filled(script, words))
-    check(f"{name} filled in wrongly", status == 1 and shown in said and f"hint: {hint}\n" in said, said)
+    check(f"{name} filled in wrongly", status == 1 and "wanted: " not in said and f"hint: {hint}\n" in said, said)
+    status, said = judged_text(number, filled(script, words), "--answer")
+    check(f"the answer of {name}", status == 1 and shown in said and f"hint: {hint}\n" in said, said)
     gaps = [re.escape(part) for part in script.split("...")]
     check(f"the solution of {name} fills the gap alone", re.fullmatch(".+".join(gaps), text_of(f"{STEPS}/solutions/{name}.l4")), name)
     check(f"{name} has its section", f"\n## {int(number)}. " in text_of("docs/TUTORIAL.md") and f"{name}.l4`" in text_of("docs/TUTORIAL.md"))
@@ -95,6 +97,9 @@ def main():
     for path in steps:
         step(path)
     page()
+    for word in ("from=2", "from=any"):
+        status, said = judged_text("10", filled(text_of(f"{STEPS}/10_deadlock.l4"), [word]))
+        check(f"the deadlock ends by {word}, too", status == 0, said)
     status, said = judged("11")
     check("a step that is not there", status == 2 and "the steps are 01 to 10" in said, said)
     status, said = judged("01", f"{ROOT}/{STEPS}/none.l4")

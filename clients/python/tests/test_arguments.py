@@ -55,6 +55,10 @@ ROWS = [
     ("tell", lambda it: it.serve(print, tell=7)),
     *(("name", lambda it, bad=bad: names.Names(it).register(bad)) for bad in (7, None, b"x", "n" * 65)),
     ("name", lambda it: names.Names(it).lookup(7)),
+    ("thread", lambda it: names.Names("1.1")),
+    ("thread", lambda it: names.lookup(7, "x")),
+    ("server", lambda it: names.Names(it, "255.1")),
+    ("timeout", lambda it: names.Names(it, timeout="1s")),
     ("seconds", lambda it: names.Names(it).wait_for("x", "1s")),
 ]
 

@@ -69,7 +69,9 @@ class IpcError(L4Error):
     def _delivery(self) -> str:
         if self.phase == SEND:
             return "nothing was delivered"
-        return "the message was delivered, and no answer came" if self.delivered else "nothing was received"
+        if not self.delivered:
+            return "nothing was received"
+        return f"the message was delivered, and {'no answer came' if self.partner == self._of.to else 'nothing was received'}"
 
 
 class Timeout(IpcError):

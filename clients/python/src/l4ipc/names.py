@@ -100,10 +100,12 @@ class Book:
     """What is known of the name server, and what it is asked for, as steps."""
 
     def __init__(self, thread: "Caller", server: Optional[int] = None, timeout: Optional[float] = None) -> None:
+        if not hasattr(thread, "lives"):
+            raise arguments.wanted("thread", "a Thread is", thread)
         self._thread = thread
         self._life = thread.lives
         self._timeout = arguments.seconds_or_none("timeout", timeout)
-        self.server = None if server is None else ThreadId(server)
+        self.server = None if server is None else ThreadId(arguments.thread_id("server", server))
 
     def ask(self, label: int, name: bytes, originator: Optional[int] = None) -> Steps[Received]:
         """A request. The name server is looked for where it is not known, and again where it has ended."""

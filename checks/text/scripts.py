@@ -23,7 +23,12 @@ What is too long to be stored is made here: 1,022 threads that send to one, whic
 compaction behind each, where there is room for few; and messages that took each time up to some longest one, whose counts are told.
 
 And what no script shows: that each code of the C client is explained, `--version`, a folder in place of a trace, that `l4sh follow -` tells an entry before the next one comes, that of a line that is too long
-no more is kept than has to be, and that `l4sh wire` has 65,535 connections and no more. The last line is `N passed, M failed`."""
+no more is kept than has to be, and that `l4sh wire` has 65,535 connections and no more. The last line is `N passed, M failed`.
+
+    checks/text/scripts.py [L4SH] --store
+
+is for a change of what a line says: what the scripts and the examples print now is stored in place of what differs, and each file is told. It shows nothing
+of right and wrong. Read each difference, and commit what you would have written by hand."""
 
 import glob
 import json
@@ -49,6 +54,8 @@ OF_INPUT = ("run", "wire", "talk")
 SHORT = 4096
 # So many connections does `l4sh wire` have.
 CONNECTIONS = 65535
+# A byte that stands a hundred times or more in a row, as two digits.
+LONG_RUN = re.compile(rb"([0-9a-f]{2})\1{99,}")
 # Of two lines that are too long, of so many bytes, the longer one takes at most so much more memory.
 LONG_LINES, MORE = (3 << 20, 24 << 20), 8 << 20
 # The numbers of the threads that send to the first one.
@@ -331,11 +338,45 @@ def faults_of_times(l4sh, _):
         yield f"it counts {len(told)} pairs"
 
 
+def solution_of(base):
+    return f"{os.path.dirname(base)}/solutions/{os.path.basename(base)}.l4"
+
+
+def packed(text):
+    """A text with its long runs of one byte as they are stored."""
+    return LONG_RUN.sub(lambda run: b"{%s*%d}" % (run[1], len(run[0]) // 2), text)
+
+
+def store(l4sh, base):
+    """Stores what a script prints now and how it ends, where that is something else; the files that were written. Of a step of the tutorial it is the solution."""
+    script = next((path for path in (solution_of(base), f"{base}.l4") if os.path.exists(path)), None)
+    printed, status, told = ended([l4sh, "run"], stored(script)) if script else found(l4sh, base)
+    for path, now, before in ((f"{base}.out", printed, stored(f"{base}.out")), (f"{base}.end", b"%d\n" % (status or 0) + told, stored(f"{base}.end", b"0\n"))):
+        if now != before:
+            with open(path, "wb") as file:
+                file.write(packed(now))
+            yield path
+
+
+def store_all(l4sh):
+    bases = [path[: -len(".in")] for path in sorted(glob.glob(f"{HERE}/scripts/*/*.in"))]
+    bases = [base for base in bases if os.path.basename(os.path.dirname(base)) not in FAULTS_OF]
+    examples = [path[: -len(".l4")] for path in sorted(glob.glob(f"{EXAMPLES}/*.l4") + glob.glob(f"{EXAMPLES}/tutorial/*.l4"))]
+    written = [path for base in [*bases, *examples] for path in store(l4sh, base)]
+    for path in written:
+        print(f"{os.path.relpath(path, ROOT)}: stored anew")
+    print(f"{len(written)} files stored anew: read each difference")
+    return 0
+
+
 FAULTS_OF = {"migrate": faults_of_migrated, "bad_lines": faults_of_bad_lines, "live": faults_of_live}
 
 
 def main():
-    l4sh = sys.argv[1] if len(sys.argv) > 1 else f"{ROOT}/l4sh"
+    words = [word for word in sys.argv[1:] if word != "--store"]
+    l4sh = words[0] if words else f"{ROOT}/l4sh"
+    if "--store" in sys.argv[1:]:
+        return store_all(l4sh)
     examples = sorted(glob.glob(f"{EXAMPLES}/*.l4"))
     scripts = sorted(glob.glob(f"{HERE}/scripts/run/*.in"))
     looks = [(path[: -len(".in")], FAULTS_OF.get(os.path.basename(os.path.dirname(path)), faults_of_stored))

@@ -4,7 +4,7 @@ import array
 import unittest
 
 import l4ipc
-from l4ipc import ANYTHREAD, Message, Thread, ThreadId, names
+from l4ipc import ANYTHREAD, Message, Thread, ThreadId, names, protocol
 
 from .scripted import WORDS, said, scripted
 
@@ -81,7 +81,7 @@ class Arguments(unittest.TestCase):
         rows = [
             ("directory", (7, 2)), ("directory", (None, 2)), ("directory", ("x" * 120, 2)), ("directory", ("a\0b", 2)), ("number", ("/nope", "2")),
             ("number", ("/nope", -1)), ("number", ("/nope", 1 << 16)), ("space", ("/nope", 2, 0)), ("space", ("/nope", 2, "1")),
-            ("version", ("/nope", 2, 1, 3)), ("version", ("/nope", 2, 1, "1")), ("wait_for", ("/nope", 2, 1, 1, "1s")),
+            ("version", ("/nope", 2, 1, protocol.VERSIONS[-1] + 1)), ("version", ("/nope", 2, 1, "1")), ("wait_for", ("/nope", 2, 1, 1, "1s")),
             ("connect_timeout", ("/nope", 2, 1, 1, 0, -1)),
         ]
         for name, given in rows:

@@ -7,6 +7,7 @@ import l4ipc
 from l4ipc import ANYLOCALTHREAD, ANYTHREAD, NILTHREAD, Message, Thread, ThreadId, period, seconds_of
 from l4ipc import frames
 from l4ipc.message import BufferStrings
+from l4ipc.protocol import VERSIONS, Told
 
 from .scripted import DONE, EXREGR, FAILED, WORDS, in_version_2, said, scripted
 
@@ -185,7 +186,7 @@ class Version2(unittest.TestCase):
         self.assertEqual(said(server)[0].hex(), "000000050100020002")
         self.assertEqual(thread.version, 2)
         server.close()
-        for version in (0, 3, 65_535, -1):
+        for version in (0, VERSIONS[-1] + 1, 65_535, -1):
             with self.subTest(version=version), self.assertRaises(ValueError):
                 frames.hello(2, version)
 
@@ -203,11 +204,11 @@ class Version2(unittest.TestCase):
         self.assertEqual((thread.last_call, thread.last_moment), (None, None))
         received = thread.wait()
         self.assertEqual((received.words, received.call, received.moment), ((7, 8), 7, 100))
-        self.assertEqual((received.told, thread.last_told), ((7, 100), (7, 100)))
+        self.assertEqual((received.told, thread.last_told), (Told(7, 100), Told(7, 100)))
         with self.assertRaises(l4ipc.NoPartner) as failure:
             thread.send(FIRST)
         self.assertEqual((failure.exception.call, failure.exception.moment), (8, 101))
-        self.assertEqual(failure.exception.told._asdict(), {"call": 8, "moment": 101})
+        self.assertEqual(failure.exception.told, Told(8, 101))
         thread.send(FIRST)
         self.assertEqual((thread.last_call, thread.last_moment), (9, 102))
         exchanged = thread.exchange_registers(SECOND, send=True)
@@ -223,7 +224,7 @@ class Version2(unittest.TestCase):
         exchanged = thread.exchange_registers(SECOND)
         told = (received.call, received.moment, failure.exception.call, failure.exception.moment, exchanged.moment, thread.last_call, thread.last_moment)
         self.assertEqual(told, (None,) * 7)
-        self.assertEqual((received.told, failure.exception.told, thread.last_told), ((None, None),) * 3)
+        self.assertEqual((received.told, failure.exception.told, thread.last_told), (Told(),) * 3)
         thread.close()
         server.close()
 

@@ -24,7 +24,7 @@ FILES = {
     "share/doc/hashkarst/examples/adder.service": 0o644, "lib/tmpfiles.d/l4d.conf": 0o644, "lib/sysusers.d/l4d.conf": 0o644,
 }
 # What they are made of: where it is as committed they have the commit, whatever else stands in the tree.
-SOURCES = ["README.md", "build", "clients", "crates", "crates.txt", "docs", "install", "packaging"]
+SOURCES = ["CHANGELOG.md", "README.md", "build", "clients", "crates", "crates.txt", "docs", "install", "packaging"]
 LIBRARY = ["lib/libl4ipc.a", "lib/libl4ipc.so", "lib/libl4ipc.so.1", "lib/libl4ipc.so.1.0.0", "lib/pkgconfig/l4ipc.pc"]
 PREFIX, PYTHON = "/usr/local/hashkarst", "lib/python3/packages"
 # A unit is exposed so far at most, as systemd-analyze counts: 0 is safe, 10 is not.

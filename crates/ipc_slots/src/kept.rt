@@ -1,25 +1,22 @@
-ghost use Rattle.std.specs.Prelude.{◌≡◌, ◌==◌, ◌<◌, Some, None, IsSome, [], option_copied, replicate, slice_set};
+ghost use Rattle.std.specs.Prelude.{◌≡◌, ◌==◌, ◌<◌, None, [], option_copied, replicate, slice_set};
 ghost use Rattle.ipc_words.specs.Limits.{table_slots};
-ghost use Rattle.ipc_words.specs.ThreadId.{number_of};
-ghost use Rattle.ipc_history.specs.declared.entry.Entry.TheVariants.{Written};
 ghost use Rattle.ipc_slots.specs.Changes.{change_at};
-ghost use Rattle.ipc_slots.specs.Last.{last_of};
-ghost use Rattle.ipc_slots.specs.declared.last.Last.TheVariants.{Nothing};
 ghost use Rattle.ipc_slots.specs.Making.{IsMade, IsOfNumber, made_slot};
 ghost use Rattle.ipc_slots.specs.Pledges.{open_in, pledge_in};
-ghost use Rattle.ipc_slots.specs.Slots.{Stands, raised, slot_at, slot_after, one_after, both_after};
-ghost use Rattle.ipc_slots.specs.Slots.{both_copied, slot_copied, space_in};
-ghost use Rattle.ipc_slots.specs.Steps.{HasRoom, calling, holds, standing_in, held_sender, no_sender};
-ghost use Rattle.ipc_slots.specs.Table.{MayOpen, blank, ended, fresh, live_in};
+ghost use Rattle.ipc_slots.specs.Slots.{Stands, slot_at, space_in};
+ghost use Rattle.ipc_slots.specs.Steps.{holds, standing_in};
+ghost use Rattle.ipc_slots.specs.Table.{blank};
 
+mod copying;
 mod exchange;
+mod inputs;
+mod outputs;
 mod passing;
 
-use crate::changes::{Change, Changes};
+use crate::changes::Change;
 use crate::last::Last;
-use crate::slot::{Live, Sender, Standing};
+use crate::slot::{Live, Standing};
 use crate::table::SlotTable;
-use ipc_history::Output;
 use ipc_words::ThreadId;
 use ipc_words::limits::TABLE_SLOTS;
 
@@ -183,239 +180,5 @@ impl KeptSlots {
             place,
             before: self.call_at(place),
         }
-    }
-
-    /// What an output makes of the open call of the slot at a place.
-    fn after(&self, place: usize, output: &Output, sender: &Sender) -> Option<Standing>
-        ensures { result ≡ standing_in (slot_after output.now self.now sender.now
-            (slot_at self.now.table place)) }
-    {
-        match self.call_at(place) {
-            Some(call) => call.after(output, self.moment, sender),
-            None => None,
-        }
-    }
-
-    /// The caller of the call that the slot at a place holds, and how many of its bytes were copied.
-    fn sender_at(&self, place: usize) -> Sender
-        requires { place < table_slots }
-        ensures { result ≡ held_sender (slot_at self.now.table place) }
-    {
-        match self.table.live_at(place) {
-            Some(live) => live.sender(),
-            None => Sender::NONE,
-        }
-    }
-
-    /// Changes the slot at a place by an output that begins nothing.
-    fn change(&mut self, place: usize, output: &Output)
-        requires { place < table_slots }
-        ensures { self.new ≡ record self.old {
-          table = one_after output.now self.old
-              no_sender place;
-        } }
-    {
-        let call = self.after(place, output, &Sender::NONE);
-        self.table.set_call(place, call);
-    }
-
-    /// Changes the slots of a sending and a receiving call by an output.
-    fn change_both(&mut self, sending: usize, receiving: usize, output: &Output)
-        requires sending { sending < table_slots }
-        requires receiving { receiving < table_slots }
-        ensures { self.new ≡ record self.old {
-          table = both_after output.now self.old
-              sending receiving;
-        } }
-    {
-        let sender = self.sender_at(sending);
-        let received = self.after(receiving, output, &sender);
-        let sent = self.after(sending, output, &sender);
-        self.table.set_call(sending, sent);
-        self.table.set_call(receiving, received);
-    }
-
-    /// The top after an open of a number.
-    fn raised(&self, number: usize) -> usize
-        requires { number < table_slots }
-        ensures { result ≡ raised number self.now.top }
-    {
-        if number < self.top {
-            self.top
-        } else {
-            number + 1
-        }
-    }
-
-    /// Takes note of an output that names the call at a place alone; says which slot that changed.
-    pub(crate) fn note_one(&mut self, place: usize, output: &Output) -> Changes
-        requires { place < table_slots }
-        ensures kept { self.new ≡ record self.old {
-          table = one_after output.now self.old
-              no_sender place;
-          recent = place;
-          last = last_of (Written output.now);
-        } }
-        ensures changes { result ≡ record {
-          first = Some (change_at self.old.table place);
-          second = None;
-        } }
-    {
-        let change = self.change_at(place);
-        self.change(place, output);
-        self.recent = place;
-        self.last = Last::of(output);
-        Changes::one(change)
-    }
-
-    /// Takes note of an output that names the calls at two places; says which slots that changed.
-    pub(crate) fn note_two(&mut self, sending: usize, receiving: usize, output: &Output) -> Changes
-        requires sending { sending < table_slots }
-        requires receiving { receiving < table_slots }
-        ensures kept { self.new ≡ record self.old {
-          table = both_after output.now self.old
-              sending receiving;
-          recent = sending;
-          last = last_of (Written output.now);
-        } }
-        ensures changes { result ≡ record {
-          first = Some (change_at self.old.table sending);
-          second = Some (change_at self.old.table receiving);
-        } }
-    {
-        let changes = Changes::two(self.change_at(sending), self.change_at(receiving));
-        self.change_both(sending, receiving, output);
-        self.recent = sending;
-        self.last = Last::of(output);
-        changes
-    }
-
-    /// Takes note of an open of a thread whose number is this one; says which slot that changed.
-    pub(crate) fn note_opened(&mut self, number: usize, thread: ThreadId, space: u64) -> Changes
-        requires within { number < table_slots }
-        requires number { number ≡ number_of thread }
-        requires opens { MayOpen self.old.table thread space }
-        ensures kept { self.new ≡ record self.old {
-          table = slice_set self.old.table number (fresh thread space);
-          top = raised number self.old.top;
-          last = Nothing;
-        } }
-        ensures changes { result ≡ record {
-          first = Some (change_at self.old.table number);
-          second = None;
-        } }
-    {
-        let change = self.change_at(number);
-        self.table.open(thread, space);
-        self.top = self.raised(number);
-        self.last = Last::Nothing;
-        Changes::one(change)
-    }
-
-    /// Takes note of a break of a thread whose number is this one; says which slot that changed.
-    pub(crate) fn note_broke(&mut self, number: usize, thread: ThreadId) -> Changes
-        requires within { number < table_slots }
-        requires number { number ≡ number_of thread }
-        requires live { IsSome (live_in self.old.table thread) }
-        ensures kept { self.new ≡ record self.old {
-          table = slice_set self.old.table number (ended (slot_at self.old.table number));
-          last = Nothing;
-        } }
-        ensures changes { result ≡ record {
-          first = Some (change_at self.old.table number);
-          second = None;
-        } }
-    {
-        let change = self.change_at(number);
-        self.table.close(thread);
-        self.last = Last::Nothing;
-        Changes::one(change)
-    }
-
-    /// Takes note of a call of the thread at a place, and of what is kept of it; says which slot that changed.
-    pub(crate) fn note_called(
-        &mut self,
-        place: usize,
-        number: u64,
-        call: Option<Standing>,
-        hint: usize,
-    ) -> Changes
-        requires { place < table_slots }
-        ensures kept { self.new ≡ record self.old {
-          table = slice_set self.old.table place (calling call (slot_at self.old.table place));
-          calls_made = number;
-          recent = place;
-          last = Nothing;
-        } }
-        ensures changes { result ≡ record {
-          first = Some (change_at self.old.table place);
-          second = None;
-        } }
-    {
-        let change = self.change_at(place);
-        self.table.set_call(place, call);
-        self.table.set_hint(place, hint);
-        self.calls_made = number;
-        self.recent = place;
-        self.last = Last::Nothing;
-        Changes::one(change)
-    }
-
-    /// What a copy makes of the open call of the slot at a place.
-    fn copied(&self, number: u64, count: u64, place: usize) -> Option<Standing>
-        requires { (s : _) → standing_in (slot_at self.now.table place) ≡ Some s → HasRoom count s }
-        ensures { result ≡ standing_in (slot_copied number count (slot_at self.now.table place)) }
-    {
-        match self.call_at(place) {
-            Some(call) => Some(call.copied(number, count)),
-            None => None,
-        }
-    }
-
-    /// Changes the slots of a sending and a receiving call by a copy.
-    fn copy(&mut self, number: u64, count: u64, sending: usize, receiving: usize)
-        requires sending { sending < table_slots }
-        requires receiving { receiving < table_slots }
-        requires room { (k : _) (s : _) → standing_in (slot_at self.old.table k)
-            ≡ Some s → HasRoom count s }
-        ensures { self.new ≡ record self.old {
-          table = both_copied number count self.old.table
-              sending receiving;
-        } }
-    {
-        let sent = self.copied(number, count, sending);
-        let received = self.copied(number, count, receiving);
-        self.table.set_call(sending, sent);
-        self.table.set_call(receiving, received);
-    }
-
-    /// Takes note of a copy for the calls at two places; says which slots that changed.
-    pub(crate) fn note_moved(
-        &mut self,
-        number: u64,
-        count: u64,
-        sending: usize,
-        receiving: usize,
-    ) -> Changes
-        requires sending { sending < table_slots }
-        requires receiving { receiving < table_slots }
-        requires room { (k : _) (s : _) → standing_in (slot_at self.old.table k)
-            ≡ Some s → HasRoom count s }
-        ensures kept { self.new ≡ record self.old {
-          table = both_copied number count self.old.table
-              sending receiving;
-          recent = sending;
-          last = Nothing;
-        } }
-        ensures changes { result ≡ record {
-          first = Some (change_at self.old.table sending);
-          second = Some (change_at self.old.table receiving);
-        } }
-    {
-        let changes = Changes::two(self.change_at(sending), self.change_at(receiving));
-        self.copy(number, count, sending, receiving);
-        self.recent = sending;
-        self.last = Last::Nothing;
-        changes
     }
 }

@@ -342,15 +342,24 @@ def solution_of(base):
     return f"{os.path.dirname(base)}/solutions/{os.path.basename(base)}.l4"
 
 
+def of_example(l4sh, base):
+    return ended([l4sh, "run"], stored(f"{base}.l4"))
+
+
+def solved(l4sh, base):
+    """What the solution of a step of the tutorial prints, typed: entries and answers, without the words beside them."""
+    printed, status, told = ended([l4sh, "talk"], stored(solution_of(base)))
+    return b"".join(line.partition(b"    ")[0].rstrip(b"\n") + b"\n" for line in printed.splitlines(keepends=True) if not line.startswith((b"? ", b"> "))), status, told
+
+
 def packed(text):
     """A text with its long runs of one byte as they are stored."""
     return LONG_RUN.sub(lambda run: b"{%s*%d}" % (run[1], len(run[0]) // 2), text)
 
 
 def store(l4sh, base):
-    """Stores what a script prints now and how it ends, where that is something else; the files that were written. Of a step of the tutorial it is the solution."""
-    script = next((path for path in (solution_of(base), f"{base}.l4") if os.path.exists(path)), None)
-    printed, status, told = ended([l4sh, "run"], stored(script)) if script else found(l4sh, base)
+    """Stores what a script prints now and how it ends, where that is something else; the files that were written."""
+    printed, status, told = solved(l4sh, base) if os.path.exists(solution_of(base)) else of_example(l4sh, base) if os.path.exists(f"{base}.l4") else found(l4sh, base)
     for path, now, before in ((f"{base}.out", printed, stored(f"{base}.out")), (f"{base}.end", b"%d\n" % (status or 0) + told, stored(f"{base}.end", b"0\n"))):
         if now != before:
             with open(path, "wb") as file:

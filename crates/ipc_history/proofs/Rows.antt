@@ -10,7 +10,7 @@ use Rattle.ipc_history.specs.Matching.{before_call, is_propagated, shown_sender,
 use Rattle.ipc_history.specs.Timing.{before_sent, receive_start, is_past, is_due_at, is_due}
 use Rattle.ipc_history.specs.NextOutput.{abort_send, abort_receive, stop_send, stop_receive, stop, stop_after, turn_after, end_of, is_send_partner_gone, is_receive_partner_gone, is_left, left_sender_code, left_receiver_code, partner_gone_code, partner_gone_of, meeting, meeting_of, timeout_of, next_output}
 use Rattle.ipc_history.specs.Legal.{is_free, next_moving, may_open, may_move, is_admissible}
-use Rattle.ipc_history.specs.Outcomes.{end_moment, outcome_of}
+use Rattle.ipc_history.specs.Outcomes.{end_moment, failure, nothing, outcome_of}
 use Rattle.ipc_history.specs.declared.entry.Entry.TheVariants.{Given, Written}
 use Rattle.ipc_history.specs.declared.entry.Input.TheVariants.{At, Opened, Called, Exreg, Broke, Moved}
 use Rattle.ipc_history.specs.declared.entry.Output.TheVariants.{Began, Turned, Ended, Overflowed, Aborted, Failed}
@@ -177,36 +177,36 @@ unfolding is_normal numbers calls_made call_at caller_of to_of from_of send_peri
 a_receive_from_nobody_fails = refl
 
 -- what the receiver is told
-a_receiver_is_told_the_message : outcome_of (Given (Opened (t 1) 1) ∷ Given (Opened (t 2) 1) ∷ Given (Called 1 (t 1) (receive anythread 0)) ∷ Given (Called 2 (t 2) (send (t 1) 0)) ∷ Written (Began 2 1) ∷ Written (Ended 2 1) ∷ []) 1 ≡ Some (record { call = 1; moment = 0; tag = 1; sender = t 2; actual = 0; error = 0; words = 7 ∷ []; strings = []; buffers = [] })
+a_receiver_is_told_the_message : outcome_of (Given (Opened (t 1) 1) ∷ Given (Opened (t 2) 1) ∷ Given (Called 1 (t 1) (receive anythread 0)) ∷ Given (Called 2 (t 2) (send (t 1) 0)) ∷ Written (Began 2 1) ∷ Written (Ended 2 1) ∷ []) 1 ≡ Some (record (nothing 1) { tag = 1; sender = t 2; words = 7 ∷ [] })
 unfolding is_normal numbers calls_made call_at caller_of to_of from_of send_period_of receive_period_of tag_of originator_of words_of strings_of buffers_of message_size now has_broken was_opened is_live space_of is_taken next_version is_sent receiver_of sender_of is_over open_call is_sending is_transferring moved_bytes is_receiving before_call is_propagated shown_sender from_specifier accepts matches match_of before_sent receive_start is_past is_due_at is_due abort_send abort_receive stop_send stop_receive stop stop_after turn_after end_of is_send_partner_gone is_receive_partner_gone is_left left_sender_code left_receiver_code partner_gone_code partner_gone_of meeting meeting_of timeout_of next_output is_free next_moving may_open may_move is_admissible settled run end_moment outcome_of
 a_receiver_is_told_the_message = refl
 
 -- and the sender
-a_sender_is_told_nothing : outcome_of (Given (Opened (t 1) 1) ∷ Given (Opened (t 2) 1) ∷ Given (Called 1 (t 1) (receive anythread 0)) ∷ Given (Called 2 (t 2) (send (t 1) 0)) ∷ Written (Began 2 1) ∷ Written (Ended 2 1) ∷ []) 2 ≡ Some (record { call = 2; moment = 0; tag = 0; sender = 0; actual = 0; error = 0; words = []; strings = []; buffers = [] })
+a_sender_is_told_nothing : outcome_of (Given (Opened (t 1) 1) ∷ Given (Opened (t 2) 1) ∷ Given (Called 1 (t 1) (receive anythread 0)) ∷ Given (Called 2 (t 2) (send (t 1) 0)) ∷ Written (Began 2 1) ∷ Written (Ended 2 1) ∷ []) 2 ≡ Some (nothing 2)
 unfolding is_normal numbers calls_made call_at caller_of to_of from_of send_period_of receive_period_of tag_of originator_of words_of strings_of buffers_of message_size now has_broken was_opened is_live space_of is_taken next_version is_sent receiver_of sender_of is_over open_call is_sending is_transferring moved_bytes is_receiving before_call is_propagated shown_sender from_specifier accepts matches match_of before_sent receive_start is_past is_due_at is_due abort_send abort_receive stop_send stop_receive stop stop_after turn_after end_of is_send_partner_gone is_receive_partner_gone is_left left_sender_code left_receiver_code partner_gone_code partner_gone_of meeting meeting_of timeout_of next_output is_free next_moving may_open may_move is_admissible settled run end_moment outcome_of
 a_sender_is_told_nothing = refl
 
 -- two words for each string
-strings_are_told_as_simple_items : outcome_of (Given (Opened (t 1) 1) ∷ Given (Opened (t 2) 1) ∷ Given (Called 1 (t 1) (receive_strings anythread fitting)) ∷ Given (Called 2 (t 2) (send_strings (t 1))) ∷ Written (Began 2 1) ∷ Given (Moved 2 8) ∷ Written (Ended 2 1) ∷ []) 1 ≡ Some (record { call = 1; moment = 0; tag = 0x100; sender = t 2; actual = 0; error = 0; words = 0xc00 ∷ 0x1000 ∷ 0x1400 ∷ 0x2000 ∷ []; strings = (0x61 ∷ 0x62 ∷ 0x63 ∷ []) ∷ (0x68 ∷ 0x65 ∷ 0x6c ∷ 0x6c ∷ 0x6f ∷ []) ∷ []; buffers = fitting })
+strings_are_told_as_simple_items : outcome_of (Given (Opened (t 1) 1) ∷ Given (Opened (t 2) 1) ∷ Given (Called 1 (t 1) (receive_strings anythread fitting)) ∷ Given (Called 2 (t 2) (send_strings (t 1))) ∷ Written (Began 2 1) ∷ Given (Moved 2 8) ∷ Written (Ended 2 1) ∷ []) 1 ≡ Some (record (nothing 1) { tag = 0x100; sender = t 2; words = 0xc00 ∷ 0x1000 ∷ 0x1400 ∷ 0x2000 ∷ []; strings = (0x61 ∷ 0x62 ∷ 0x63 ∷ []) ∷ (0x68 ∷ 0x65 ∷ 0x6c ∷ 0x6c ∷ 0x6f ∷ []) ∷ []; buffers = fitting })
 unfolding is_normal numbers calls_made call_at caller_of to_of from_of send_period_of receive_period_of tag_of originator_of words_of strings_of buffers_of message_size now has_broken was_opened is_live space_of is_taken next_version is_sent receiver_of sender_of is_over open_call is_sending is_transferring moved_bytes is_receiving before_call is_propagated shown_sender from_specifier accepts matches match_of before_sent receive_start is_past is_due_at is_due abort_send abort_receive stop_send stop_receive stop stop_after turn_after end_of is_send_partner_gone is_receive_partner_gone is_left left_sender_code left_receiver_code partner_gone_code partner_gone_of meeting meeting_of timeout_of next_output is_free next_moving may_open may_move is_admissible settled run end_moment outcome_of
 strings_are_told_as_simple_items = refl
 
 -- both partners are told of an overflow
-an_overflow_is_told_to_the_sender : outcome_of (Given (Opened (t 1) 1) ∷ Given (Opened (t 2) 1) ∷ Given (Called 1 (t 1) (receive_strings anythread short)) ∷ Given (Called 2 (t 2) (send_strings (t 1))) ∷ Written (Overflowed 2 1 3) ∷ []) 2 ≡ Some (record { call = 2; moment = 0; tag = 0x8000; sender = 0; actual = 0; error = 0x38; words = []; strings = []; buffers = [] })
+an_overflow_is_told_to_the_sender : outcome_of (Given (Opened (t 1) 1) ∷ Given (Opened (t 2) 1) ∷ Given (Called 1 (t 1) (receive_strings anythread short)) ∷ Given (Called 2 (t 2) (send_strings (t 1))) ∷ Written (Overflowed 2 1 3) ∷ []) 2 ≡ Some (failure 2 0x38)
 unfolding is_normal numbers calls_made call_at caller_of to_of from_of send_period_of receive_period_of tag_of originator_of words_of strings_of buffers_of message_size now has_broken was_opened is_live space_of is_taken next_version is_sent receiver_of sender_of is_over open_call is_sending is_transferring moved_bytes is_receiving before_call is_propagated shown_sender from_specifier accepts matches match_of before_sent receive_start is_past is_due_at is_due abort_send abort_receive stop_send stop_receive stop stop_after turn_after end_of is_send_partner_gone is_receive_partner_gone is_left left_sender_code left_receiver_code partner_gone_code partner_gone_of meeting meeting_of timeout_of next_output is_free next_moving may_open may_move is_admissible settled run end_moment outcome_of
 an_overflow_is_told_to_the_sender = refl
 
 -- and the receiver
-an_overflow_is_told_to_the_receiver : outcome_of (Given (Opened (t 1) 1) ∷ Given (Opened (t 2) 1) ∷ Given (Called 1 (t 1) (receive_strings anythread short)) ∷ Given (Called 2 (t 2) (send_strings (t 1))) ∷ Written (Overflowed 2 1 3) ∷ []) 1 ≡ Some (record { call = 1; moment = 0; tag = 0x8000; sender = 0; actual = 0; error = 0x39; words = []; strings = []; buffers = [] })
+an_overflow_is_told_to_the_receiver : outcome_of (Given (Opened (t 1) 1) ∷ Given (Opened (t 2) 1) ∷ Given (Called 1 (t 1) (receive_strings anythread short)) ∷ Given (Called 2 (t 2) (send_strings (t 1))) ∷ Written (Overflowed 2 1 3) ∷ []) 1 ≡ Some (failure 1 0x39)
 unfolding is_normal numbers calls_made call_at caller_of to_of from_of send_period_of receive_period_of tag_of originator_of words_of strings_of buffers_of message_size now has_broken was_opened is_live space_of is_taken next_version is_sent receiver_of sender_of is_over open_call is_sending is_transferring moved_bytes is_receiving before_call is_propagated shown_sender from_specifier accepts matches match_of before_sent receive_start is_past is_due_at is_due abort_send abort_receive stop_send stop_receive stop stop_after turn_after end_of is_send_partner_gone is_receive_partner_gone is_left left_sender_code left_receiver_code partner_gone_code partner_gone_of meeting meeting_of timeout_of next_output is_free next_moving may_open may_move is_admissible settled run end_moment outcome_of
 an_overflow_is_told_to_the_receiver = refl
 
 -- the receiver sees the VirtualSender, and the ActualSender beside it
-a_propagated_message_shows_its_originator : outcome_of (Given (Opened (t 1) 1) ∷ Given (Opened (t 2) 1) ∷ Given (Opened (t 3) 1) ∷ Given (Called 1 (t 2) (receive anythread 0)) ∷ Given (Called 2 (t 3) (receive anythread 0)) ∷ Given (Called 3 (t 1) (both (t 2) (t 2) 0 0)) ∷ Written (Began 3 1) ∷ Written (Ended 3 1) ∷ Given (Called 4 (t 2) (send_for (t 1) (t 3))) ∷ Written (Began 4 2) ∷ Written (Turned 3 (t 3)) ∷ Written (Ended 4 2) ∷ Given (Called 5 (t 3) (send (t 1) at_once)) ∷ Written (Began 5 3) ∷ Written (Ended 5 3) ∷ []) 2 ≡ Some (record { call = 2; moment = 0; tag = 0x1001; sender = t 1; actual = t 2; error = 0; words = 6 ∷ []; strings = []; buffers = [] })
+a_propagated_message_shows_its_originator : outcome_of (Given (Opened (t 1) 1) ∷ Given (Opened (t 2) 1) ∷ Given (Opened (t 3) 1) ∷ Given (Called 1 (t 2) (receive anythread 0)) ∷ Given (Called 2 (t 3) (receive anythread 0)) ∷ Given (Called 3 (t 1) (both (t 2) (t 2) 0 0)) ∷ Written (Began 3 1) ∷ Written (Ended 3 1) ∷ Given (Called 4 (t 2) (send_for (t 1) (t 3))) ∷ Written (Began 4 2) ∷ Written (Turned 3 (t 3)) ∷ Written (Ended 4 2) ∷ Given (Called 5 (t 3) (send (t 1) at_once)) ∷ Written (Began 5 3) ∷ Written (Ended 5 3) ∷ []) 2 ≡ Some (record (nothing 2) { tag = 0x1001; sender = t 1; actual = t 2; words = 6 ∷ [] })
 unfolding is_normal numbers calls_made call_at caller_of to_of from_of send_period_of receive_period_of tag_of originator_of words_of strings_of buffers_of message_size now has_broken was_opened is_live space_of is_taken next_version is_sent receiver_of sender_of is_over open_call is_sending is_transferring moved_bytes is_receiving before_call is_propagated shown_sender from_specifier accepts matches match_of before_sent receive_start is_past is_due_at is_due abort_send abort_receive stop_send stop_receive stop stop_after turn_after end_of is_send_partner_gone is_receive_partner_gone is_left left_sender_code left_receiver_code partner_gone_code partner_gone_of meeting meeting_of timeout_of next_output is_free next_moving may_open may_move is_admissible settled run end_moment outcome_of
 a_propagated_message_shows_its_originator = refl
 
 -- p is dropped too
-a_dropped_propagation_shows_the_caller : outcome_of (Given (Opened (t 1) 2) ∷ Given (Opened (t 2) 1) ∷ Given (Opened (t 3) 1) ∷ Given (Called 1 (t 2) (receive anythread 0)) ∷ Given (Called 2 (t 3) (receive anythread 0)) ∷ Given (Called 3 (t 1) (both (t 2) (t 2) 0 0)) ∷ Written (Began 3 1) ∷ Written (Ended 3 1) ∷ Given (Called 4 (t 2) (send_for (t 1) (t 3))) ∷ Written (Began 4 2) ∷ Written (Ended 4 2) ∷ []) 2 ≡ Some (record { call = 2; moment = 0; tag = 1; sender = t 2; actual = 0; error = 0; words = 6 ∷ []; strings = []; buffers = [] })
+a_dropped_propagation_shows_the_caller : outcome_of (Given (Opened (t 1) 2) ∷ Given (Opened (t 2) 1) ∷ Given (Opened (t 3) 1) ∷ Given (Called 1 (t 2) (receive anythread 0)) ∷ Given (Called 2 (t 3) (receive anythread 0)) ∷ Given (Called 3 (t 1) (both (t 2) (t 2) 0 0)) ∷ Written (Began 3 1) ∷ Written (Ended 3 1) ∷ Given (Called 4 (t 2) (send_for (t 1) (t 3))) ∷ Written (Began 4 2) ∷ Written (Ended 4 2) ∷ []) 2 ≡ Some (record (nothing 2) { tag = 1; sender = t 2; words = 6 ∷ [] })
 unfolding is_normal numbers calls_made call_at caller_of to_of from_of send_period_of receive_period_of tag_of originator_of words_of strings_of buffers_of message_size now has_broken was_opened is_live space_of is_taken next_version is_sent receiver_of sender_of is_over open_call is_sending is_transferring moved_bytes is_receiving before_call is_propagated shown_sender from_specifier accepts matches match_of before_sent receive_start is_past is_due_at is_due abort_send abort_receive stop_send stop_receive stop stop_after turn_after end_of is_send_partner_gone is_receive_partner_gone is_left left_sender_code left_receiver_code partner_gone_code partner_gone_of meeting meeting_of timeout_of next_output is_free next_moving may_open may_move is_admissible settled run end_moment outcome_of
 a_dropped_propagation_shows_the_caller = refl

@@ -22,7 +22,7 @@ sys.path.insert(0, f"{ROOT}/protocol")
 
 import generate
 from model import load
-from rattle_sources import Lost, Source
+from rattle_sources import Lost, Source, items
 from reader import Bad
 
 # Of some fields the name in ipc_frame.
@@ -106,73 +106,112 @@ def fields_named(frame):
     return [IN_RATTLE.get(it.name, it.name) for it in frame.fields]
 
 
+def of_outcomes(book):
+    """The names of the versions in ipc_frame, each with the frame that it has for an outcome."""
+    return dict(zip(book.protocol.versions.values(), book.protocol.forms("IPCR")))
+
+
+def others(book):
+    """The frames that are no outcomes, by their names in ipc_frame."""
+    return {it.rattle: it for it in book.protocol.frames.values() if it not in of_outcomes(book).values()}
+
+
+def outcome_definitions(book):
+    """What the versions of an outcome tell, in the definitions of ipc_frame and in its code."""
+    spec, source = book.source("crates/ipc_frame/specs/Versions.antt"), book.source("crates/ipc_frame/src/version.rt")
+    outcomes, numbers = of_outcomes(book), {name: it for it, name in book.protocol.versions.items()}
+    book.same(spec.path, "versions", spec.lists("versions")[""], list(numbers))
+    for name, wanted in (("version_number", numbers), ("ipcr_byte", {name: it.kind for name, it in outcomes.items()}),
+                         ("end_count", {name: len(it.told) for name, it in outcomes.items()})):
+        book.same(spec.path, name, spec.numbers(name), wanted)
+        book.same(source.path, name, source.numbered({"version_number": "number"}.get(name, name)), wanted)
+    told = {tuple(re.findall(r"\bend\.(\w+)", value)) for _, value in spec.equations("end_words")}
+    book.same(spec.path, "end_words", told, {(), tuple(field.name for field in book.protocol.forms("IPCR")[-1].told)})
+    named = {name: int(number) for number, name in re.findall(r"(\d+) => Some\(WireVersion::(\w+)\)", source.body("named"))}
+    book.same(source.path, "named", named, {name: it for name, it in numbers.items() if it > 1})
+    first, frames = book.protocol.frames["IPCR"], book.source("crates/ipc_frame/specs/Frames.antt")
+    book.same(frames.path, "outcome_widths", frames.lists("outcome_widths")[""], [str(field.width) for field in first.fields])
+    kind = book.source("crates/ipc_frame/src/kind.rt")
+    for path, what, seen, wanted in (
+        (frames.path, "the kind byte of an IPCR", dict(frames.equations("kind_byte"))["(Ipcr version)"], "ipcr_byte version"),
+        (frames.path, "its widths", dict(frames.equations("widths"))["(Ipcr version)"], "end_widths version ++ outcome_widths"),
+        (kind.path, "byte", kind.arms("byte")["Ipcr"], "version.ipcr_byte()"),
+        (kind.path, "is_wrong_size", kind.arms("is_wrong_size")["Ipcr"], f"size < {first.body} + 8 * version.end_count()"),
+        (kind.path, "head", kind.arms("head")["Ipcr"], f"{first.size} + 8 * version.end_count()"),
+    ):
+        book.same(path, what, seen, wanted)
+    read = {name: int(byte, 16) for byte, name in re.findall(r"(0x[0-9a-f]+) => Some\(FrameKind::Ipcr\(WireVersion::(\w+)\)\)", kind.body("from_byte"))}
+    book.same(kind.path, "the outcomes of from_byte", read, {name: it.kind for name, it in outcomes.items()})
+
+
 def frame_definitions(book):
     """Kinds, sides, fields and lengths in the definitions of ipc_frame."""
     spec, reading = book.source("crates/ipc_frame/specs/Frames.antt"), book.source("crates/ipc_frame/specs/Reading.antt")
-    frames = {it.rattle: it for it in book.protocol.frames.values()}
+    frames, first = others(book), book.protocol.frames["IPCR"]
     of_frames = lambda value: {name: value(it) for name, it in frames.items()}
-    book.same(spec.path, "kind_byte", spec.numbers("kind_byte"), of_frames(lambda it: it.kind))
-    book.same(spec.path, "side_of", dict(spec.equations("side_of")), of_frames(lambda it: it.to.capitalize()))
-    book.same(spec.path, "widths", spec.lists("widths"), of_frames(lambda it: [str(field.width) for field in it.fields]))
+    told = lambda name: {kind: value for kind, value in spec.equations(name) if kind != "(Ipcr version)"}
+    book.same(spec.path, "kind_byte", {kind: int(value, 16) for kind, value in told("kind_byte").items()}, of_frames(lambda it: it.kind))
+    book.same(spec.path, "side_of", told("side_of"), of_frames(lambda it: it.to.capitalize()))
+    book.same(spec.path, "widths", {kind: items(value) for kind, value in told("widths").items()}, of_frames(lambda it: [str(field.width) for field in it.fields]))
     for side, kinds in spec.lists("kinds").items():
         wanted = {it.kind for it in frames.values() if it.to == side.lower()}
         book.same(spec.path, f"the kinds that a {side} reads", {frames[it].kind for it in kinds if it in frames}, wanted)
+        book.same(spec.path, f"whether a {side} reads outcomes", kinds[-1] == "map Ipcr versions", first.to == side.lower())
     by_length = {(it.kind, it.body) for it in frames.values() if it.base and it.base.kind == it.kind}
     kind, length, other = reading.one(r"^kind_with (\w+) size = \(if size == (\d+) then (\w+) else \1\)$", "kind_with")
     book.same(reading.path, "the kind that a length decides", {(frames[other].kind, int(length))}, by_length)
-    book.same(reading.path, "least_size", reading.numbers("least_size"), of_frames(lambda it: it.body))
+    least = dict(reading.equations("least_size"))
+    book.same(reading.path, "least_size of an IPCR", least.pop("(Ipcr version)"), f"{first.body} + 8 * end_count version")
+    book.same(reading.path, "least_size", {kind: int(value) for kind, value in least.items()}, of_frames(lambda it: it.body))
     longer = {name for name, value in reading.equations("is_longer") if value == "true"}
-    book.same(reading.path, "is_longer", longer, {name for name, it in frames.items() if it.has_tail})
-    tags = {name: int(place) for name, place in reading.all(r"^has_too_many_words (\w+) fields =\s+nat_lt max_message_words \(words_of \(slice_index fields (\d+)\)\)", "tags")}
+    book.same(reading.path, "is_longer", longer, {"(Ipcr version)", *(name for name, it in frames.items() if it.has_tail)})
+    tags = dict(reading.all(r"^has_too_many_words (\w+|\(.*?\)) fields =\s+nat_lt max_message_words \(words_of \(slice_index fields (\d+|\(.*?\))\)\)", "tags"))
     place = lambda it, name: [field.name for field in it.fields].index(name)
-    book.same(reading.path, "the places of tags", tags, {name: place(it, "tag") for name, it in frames.items() if it.has_tail})
+    behind = {name: str(place(it, "tag")) for name, it in frames.items() if it.has_tail}
+    book.same(reading.path, "the places of tags", tags, {**behind, "(Ipcr version)": "(end_count version)"})
+    book.same("protocol/frames.txt", "the place of the tag of an IPCR", place(first, "tag"), 0)
     book.same(reading.path, "the place of b", reading.number(r"nat_lt max_buffer_words \(slice_index fields (\d+)\)", "b"), place(frames["Ipc"], "buffer_words"))
-    versions = book.source("crates/ipc_frame/specs/Versions.antt")
-    book.same(versions.path, "version_number", versions.numbers("version_number"), {name: it for it, name in book.protocol.versions.items()})
     parts = book.source("crates/ipc_frame/specs/Parts.antt")
     piece = parts.one(r"^piece_text piece = number_text (\d+) piece\.(\w+) \+\+ number_text (\d+) \((\w+) piece\.bytes\)", "piece_text")
     book.same(parts.path, "a piece", piece, tuple(str(it) for field in book.protocol.piece.fields for it in (field.width, field.name)))
-    for name, least in (("ipc_size ipc", frames["Ipc"].body), ("ipcr_size ipcr", frames["Ipcr"].body)):
+    for name, least in (("ipc_size ipc", frames["Ipc"].body), ("ipcr_size ipcr", first.body)):
         book.same(parts.path, name, parts.number(rf"^{name} = (\d+) \+", name), least)
 
 
 def field_names(book):
-    """The fields of each frame by name and order; those of version 2 stand in a function of their own."""
+    """The fields of each frame by name and order; what a later version tells stands in a function of its own."""
     spec = book.source("crates/ipc_frame/specs/Frames.antt")
-    frames = {it.rattle: it for it in book.protocol.frames.values()}
+    frames = others(book)
     told = {arguments.strip("()").split()[0].removeprefix("frame."): value for arguments, value in spec.equations("fields_of")}
-    before = {name: dict(spec.equations(name)) for name in ("version_fields", "end_fields", "moment_fields")}
+    before = {name: dict(spec.equations(name)) for name in ("version_fields", "moment_fields")}
     plain = lambda value: [re.sub(r"^\(*(?:length )?(?:\w+\.)?(\w+)\)*$", r"\1", it.strip("() ")) for it in value.split("∷") if it.strip("() ") != "[]"]
     for name in ("Ipc", "Exreg", "Bye", "Welcome", "Refused", "Fault"):
         book.same(spec.path, f"the fields of {name}", plain(told[name]), fields_named(frames[name]))
-    own = plain(re.sub(r"^end_fields ipcr\.end ", "", told["Ipcr"]))
-    more = plain(re.sub(r" fields$", " []", before["end_fields"]["(Some end) fields"]))
-    book.same(spec.path, "the fields of Ipcr", own, fields_named(frames["Ipcr"]))
-    book.same(spec.path, "the fields of IpcrTwo", more[:2] + own, fields_named(frames["IpcrTwo"]))
+    own = plain(told["Ipcr"].removeprefix("end_words ipcr.end ++ "))
+    book.same(spec.path, "the fields of an outcome", own, fields_named(book.protocol.frames["IPCR"]))
     own = plain(re.sub(r"^moment_fields moment ", "", told["Exregr"]))
     book.same(spec.path, "the fields of Exregr", own, fields_named(frames["Exregr"]))
     book.same(spec.path, "the fields of ExregrTwo", plain(before["moment_fields"]["(Some moment) fields"])[:1] + own, fields_named(frames["ExregrTwo"]))
     book.same(spec.path, "the fields of Hello", plain(told["Hello"])[:1], fields_named(frames["Hello"]))
-    version = before["version_fields"]["Two"].split("_")[0]
+    version = re.search(r"then (\w+)_number version", before["version_fields"]["version"])[1]
     book.same(spec.path, "the fields of HelloTwo", plain(told["Hello"])[:1] + [version], fields_named(frames["HelloTwo"]))
 
 
 def frame_sources(book):
     """The same in the code of ipc_frame and ipc_connection."""
     source = book.source("crates/ipc_frame/src/kind.rt")
-    frames = {it.rattle: it for it in book.protocol.frames.values()}
+    frames = others(book)
     of_frames = lambda value: {name: value(it) for name, it in frames.items()}
     book.same(source.path, "byte", source.numbered("byte"), of_frames(lambda it: it.kind))
     book.same(source.path, "is_wrong_size", source.numbered("is_wrong_size"), of_frames(lambda it: it.body))
     book.same(source.path, "head", source.numbered("head"), of_frames(lambda it: it.size))
-    read = {name: int(byte, 16) for byte, name in re.findall(r"(0x[0-9a-f]+) => Some\(FrameKind::(\w+)\)", source.body("from_byte"))}
+    read = {name: int(byte, 16) for byte, name in re.findall(r"(0x[0-9a-f]+) => Some\(FrameKind::(\w+)\),", source.body("from_byte"))}
     book.same(source.path, "from_byte", read, {name: it.kind for name, it in frames.items() if not (it.base and it.base.kind == it.kind)})
     judging = book.source("crates/ipc_frame/src/judging.rt")
     offset = lambda name: sum(it.width for it in frames["Ipc"].fields[: [it.name for it in frames["Ipc"].fields].index(name)])
     book.same(judging.path, "where the tag of an IPC stands", judging.number(r"read_u64\(&head\[(\d+)\.\.\]\)", "the tag"), offset("tag"))
     book.same(judging.path, "where b of an IPC stands", judging.number(r"head\[(\d+)\] as usize", "b"), offset("buffer_words"))
-    book.same(judging.path, "how far the tag of an IPCR stands before its words", judging.number(r"kind\.head\(\) - (\d+)\.\.", "the tag"), frames["Ipcr"].size)
-    book.same(judging.path, "the version that a HELLO names", judging.number(r"^    if number == (\d+) \{$", "the version"), max(book.protocol.versions))
+    book.same(judging.path, "how far the tag of an IPCR stands before its words", judging.number(r"kind\.head\(\) - (\d+)\.\.", "the tag"), book.protocol.frames["IPCR"].size)
     classes = book.source("crates/ipc_connection/src/fault.rt")
     of_faults = book.source("crates/ipc_connection/specs/Faults.antt")
     for letter, (byte, (constant, definition)) in book.protocol.classes.items():
@@ -275,7 +314,7 @@ def main():
         book.protocol = load()
     except Bad as wrong:
         sys.exit(f"{wrong}\n0 compared, 1 differ")
-    for look in (made, limits, frame_definitions, field_names, frame_sources, codes, explained, lines, kinds_by_hand):
+    for look in (made, limits, outcome_definitions, frame_definitions, field_names, frame_sources, codes, explained, lines, kinds_by_hand):
         try:
             look(book)
         except (Lost, Bad, ValueError, KeyError, AttributeError, TypeError, IndexError) as wrong:

@@ -6,13 +6,15 @@ use Rattle.ipc_items.specs.Pieces.{PlacedBytes}
 use Rattle.ipc_frame.specs.declared.fault.FrameFault.{FrameFault}
 use Rattle.ipc_frame.specs.declared.fault.FrameFault.TheVariants.{NoMemory}
 use Rattle.ipc_frame.specs.declared.kind.FrameKind.{FrameKind}
-use Rattle.ipc_frame.specs.declared.kind.FrameKind.TheVariants.{Ipc, Ipcr, IpcrTwo}
+use Rattle.ipc_frame.specs.declared.kind.FrameKind.TheVariants.{Ipc, Ipcr}
 use Rattle.ipc_frame.specs.declared.kind.Side.{Side}
 use Rattle.ipc_frame.specs.declared.frame.Frame.{Frame}
 use Rattle.ipc_frame.specs.declared.frame.Frame.TheVariants as frame
 use Rattle.ipc_frame.specs.declared.judging.Judgement.{Judgement}
 use Rattle.ipc_frame.specs.Numbers.{IsBytes, number_in, fields_in, words_in}
 use Rattle.ipc_frame.specs.declared.version.CallEnd.{CallEnd}
+use Rattle.ipc_frame.specs.declared.version.WireVersion.{WireVersion}
+use Rattle.ipc_frame.specs.Versions.{end_count, end_in}
 use Rattle.ipc_frame.specs.Parts.{IpcParts, IpcrParts, FitsIpcr, words_of, end_size, ipc_size, ipcr_size}
 use Rattle.ipc_frame.specs.Frames.{widths, kind_of, size_of, HasTail}
 use Rattle.ipc_frame.specs.Reading.{Short, Bad, Whole, kind_in, pieces_in, ipc_parts, ipcr_parts, reading, Tells, TellsBefore}
@@ -20,6 +22,7 @@ use Rattle.ipc_frame.specs.Stream.{Stream, Rest, Stopped, put_front, frames_with
 use Rattle.ipc_frame.specs.Decoding.{Decodes, MakesFrame, MakesIpcr, stream_at, StopsAt}
 use Rattle.ipc_frame.proofs.NumberLemmas.{number_more}
 use Rattle.ipc_frame.proofs.FieldLemmas.{length_words_in}
+use Rattle.ipc_frame.proofs.VersionLemmas.{outcome_head, told_in}
 use Rattle.ipc_frame.proofs.FoundLemmas.{whole_shown, shown_found, whole_within, wrong_fixed, least_is_head, some_mapped}
 use Rattle.ipc_frame.proofs.JudgeLemmas.{number_one}
 use Rattle.ipc_frame.proofs.StreamLemmas.{enough}
@@ -76,12 +79,11 @@ ipcr_made end fields tail f made =
     let size : ipcr_size (ipcr_parts end fields tail found.0) ≡ 33 + end_size end + length tail = ap size_of found.2 ∙ made.size in
     record { pieces = found.0; found = found.1; fits = fits; room = omega (arith, size, length_words_in (words_of (slice_index fields 0)) tail) }
 
--- of version 1, and of version 2
-pub makes_first : (fields tail : List ℕ) (f : Frame) → MakesFrame Ipcr fields tail f → MakesIpcr None fields tail f
-makes_first fields tail f made = let size : size_of f ≡ 1 + (32 + length tail) = made.size in record { made = made.made; has = made.has; size = omega (arith, size) }
-
-pub makes_second : (fields tail : List ℕ) (f : Frame) → MakesFrame IpcrTwo fields tail f → MakesIpcr (Some (record { call = slice_index fields 0; moment = slice_index fields 1 })) (drop 2 fields) tail f
-makes_second fields tail f made = let size : size_of f ≡ 1 + (48 + length tail) = made.size in record { made = made.made; has = made.has; size = omega (arith, size) }
+-- an outcome of a version is what its words say, and the numbers from the tag on
+pub makes_outcome : (version : WireVersion) (fields tail : List ℕ) (f : Frame) → MakesFrame (Ipcr version) fields tail f → MakesIpcr (end_in version fields) (drop (end_count version) fields) tail f
+makes_outcome version fields tail f made =
+    let size_is : end_size (end_in version fields) ≡ 8 * end_count version = ap (λ v. 8 * end_count v) (told_in version fields) in
+    record { made = made.made; has = made.has; size = omega (arith, made.size, size_is, outcome_head version) }
 
 pub pieces_there : (behind tail : List ℕ) (count words : ℕ) (pieces : List PlacedBytes) → behind ≡ drop (8 * count) tail → count ≡ words → pieces_in (number_in 1 (drop (8 * words) tail)) (drop 1 (drop (8 * words) tail)) ≡ Some pieces → pieces_in (slice_index behind 0) (take (length behind - 1) (drop 1 behind)) ≡ Some pieces
 pieces_there behind tail count words pieces is_behind is_count found =

@@ -5,7 +5,7 @@ use Rattle.ipc_frame.specs.declared.fault.FrameFault.{FrameFault}
 use Rattle.ipc_frame.specs.declared.fault.FrameFault.TheVariants as fault
 use Rattle.ipc_frame.specs.declared.frame.Frame.{Frame}
 use Rattle.ipc_frame.specs.declared.kind.FrameKind.{FrameKind}
-use Rattle.ipc_frame.specs.declared.kind.FrameKind.TheVariants.{Hello, HelloTwo, Ipc, Exreg, Bye, Welcome, Ipcr, Exregr, Refused, Fault, IpcrTwo, ExregrTwo}
+use Rattle.ipc_frame.specs.declared.kind.FrameKind.TheVariants.{Hello, HelloTwo, Ipc, Exreg, Bye, Welcome, Ipcr, Exregr, Refused, Fault, ExregrTwo}
 use Rattle.ipc_frame.specs.declared.kind.Side.{Side}
 use Rattle.ipc_frame.specs.Reading.{Reading, Short, Bad, Whole, once, bad_if, whole_if, body_known, fields_known, kind_known, size_known, reading, kind_in, is_wrong_size, has_too_many_words, least_size_with, frame_of, missing}
 use Rattle.ipc_frame.specs.Frames.{widths}
@@ -47,11 +47,10 @@ missing_formats Ipc = tt
 missing_formats Exreg = tt
 missing_formats Bye = tt
 missing_formats Welcome = tt
-missing_formats Ipcr = tt
+missing_formats (Ipcr version) = tt
 missing_formats Exregr = tt
 missing_formats Refused = tt
 missing_formats Fault = tt
-missing_formats IpcrTwo = tt
 missing_formats ExregrTwo = tt
 
 fields_format : (kind : FrameKind) (size : ℕ) (fields rest : List ℕ) → Formats (fields_known kind size fields rest)

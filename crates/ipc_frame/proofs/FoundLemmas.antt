@@ -4,9 +4,10 @@ use Rattle.std.specs.List.{AllByRecursion}
 use Rattle.std.specs.Option.{option_map}
 use Rattle.std.proofs.lemmas.List.{append_assoc, drop-drop, length-take-le, nil_from_length, take-append-drop}
 use Rattle.std.proofs.lemmas.Bool.{cases_Bool, eqb-true, ltb-false, or_parts}
+use Rattle.ipc_words.specs.Limits.{max_frame_body}
 use Rattle.ipc_items.specs.Pieces.{PlacedBytes}
 use Rattle.ipc_frame.specs.declared.kind.FrameKind.{FrameKind}
-use Rattle.ipc_frame.specs.declared.kind.FrameKind.TheVariants.{Hello, HelloTwo, Ipc, Exreg, Bye, Welcome, Ipcr, Exregr, Refused, Fault, IpcrTwo, ExregrTwo}
+use Rattle.ipc_frame.specs.declared.kind.FrameKind.TheVariants.{Hello, HelloTwo, Ipc, Exreg, Bye, Welcome, Ipcr, Exregr, Refused, Fault, ExregrTwo}
 use Rattle.ipc_frame.specs.declared.kind.Side.{Side}
 use Rattle.ipc_frame.specs.declared.kind.Side.TheVariants.{Server, Client}
 use Rattle.ipc_frame.specs.declared.frame.Frame.{Frame}
@@ -14,13 +15,13 @@ use Rattle.ipc_frame.specs.declared.frame.Frame.TheVariants as frame
 use Rattle.ipc_frame.specs.Numbers.{IsBytes, number_text, number_in, fields_text, fields_in, AreWords, words_text, words_in}
 use Rattle.ipc_frame.specs.declared.fault.FrameFault.{FrameFault}
 use Rattle.ipc_frame.specs.declared.version.CallEnd.{CallEnd}
-use Rattle.ipc_frame.specs.declared.version.WireVersion.TheVariants.{Two}
-use Rattle.ipc_frame.specs.Versions.{version_of}
+use Rattle.ipc_frame.specs.Versions.{version_of, version_told, end_count, end_in, end_words}
 use Rattle.ipc_frame.specs.Parts.{IsPiece, words_of, piece_text, pieces_text, end_size}
-use Rattle.ipc_frame.specs.Frames.{kind_byte, side_of, kinds, widths, ipcr_kind, end_fields, kind_of, fields_of, tail_of, size_of, body_of, spelling, HasTail, IsFrame}
+use Rattle.ipc_frame.specs.Frames.{kind_byte, side_of, kinds, outcome_widths, widths, ipcr_kind, kind_of, fields_of, tail_of, size_of, body_of, spelling, HasTail, IsFrame}
 use Rattle.ipc_frame.specs.Reading.{Whole, kind_among, kind_in, kind_with, is_wrong_size, is_longer, least_size, has_too_many_words, least_size_with, pieces_in, ipc_parts, ipcr_parts, ipcr_in, frame_of, missing, whole_if, body_known, fields_known, kind_known, size_known, reading}
 use Rattle.ipc_frame.proofs.NumberLemmas.{number_below, number_spelled, number_taken, bytes_drop, bytes_take}
 use Rattle.ipc_frame.proofs.FieldLemmas.{fields_fit, fields_taken, length_words_in, words_spelled}
+use Rattle.ipc_frame.proofs.VersionLemmas.{fields_behind, ipcr_sides, outcome_fields, outcome_head, tag_behind, told_in, version_found, words_found}
 use Rattle.ipc_frame.proofs.StageLemmas.{once_whole, bad_if_whole}
 use Rattle.ipc_frame.proofs.SpellingLemmas.{length_spelling}
 use Rattle.ipc_frame.specs.Laws.{Begins}
@@ -60,11 +61,10 @@ with_byte Ipc size = refl
 with_byte Exreg size = refl
 with_byte Bye size = refl
 with_byte Welcome size = refl
-with_byte Ipcr size = refl
+with_byte (Ipcr version) size = refl
 with_byte Exregr size = refl
 with_byte Refused size = refl
 with_byte Fault size = refl
-with_byte IpcrTwo size = refl
 with_byte ExregrTwo size = refl
 
 with_side : (kind : FrameKind) (size : ℕ) → side_of (kind_with kind size) ≡ side_of kind
@@ -78,11 +78,10 @@ with_side Ipc size = refl
 with_side Exreg size = refl
 with_side Bye size = refl
 with_side Welcome size = refl
-with_side Ipcr size = refl
+with_side (Ipcr version) size = refl
 with_side Exregr size = refl
 with_side Refused size = refl
 with_side Fault size = refl
-with_side IpcrTwo size = refl
 with_side ExregrTwo size = refl
 
 kind_in_byte : (side : Side) (size byte : ℕ) (kind : FrameKind) → kind_in side size byte ≡ Some kind → kind_byte kind ≡ byte
@@ -152,7 +151,7 @@ pub record Found (kind : FrameKind) (head tail : List ℕ) (f : Frame) : Type 0 
 pub record Asked (kind : FrameKind) (head tail : List ℕ) : Type 0 where
   pub tail_bytes : IsBytes tail
   pub head_bytes : IsBytes head
-  pub within : 1 + (sum (widths kind) + length tail) ≤ 2 ^ 21
+  pub within : 1 + (sum (widths kind) + length tail) ≤ max_frame_body
   pub few_words : has_too_many_words kind (fields_in (widths kind) head) ≡ false
   pub room : least_size_with kind (fields_in (widths kind) head) ≤ 1 + (sum (widths kind) + length tail)
   pub no_tail : is_longer kind ≡ false → length tail ≡ 0
@@ -193,13 +192,13 @@ ipc_found head tail asked =
 -- the numbers of an outcome from the tag on, and of what stands before them
 record AskedIpcr (end : Option CallEnd) (fields tail : List ℕ) : Type 0 where
   pub tail_bytes : IsBytes tail
-  pub within : 33 + end_size end + length tail ≤ 2 ^ 21
+  pub within : 33 + end_size end + length tail ≤ max_frame_body
   pub few_words : nat_lt 63 (words_of (slice_index fields 0)) ≡ false
   pub room : 34 + 8 * words_of (slice_index fields 0) ≤ 33 + length tail
 
 record FoundIpcr (end : Option CallEnd) (fields tail : List ℕ) (f : Frame) : Type 0 where
   pub kind_is : kind_of f ≡ ipcr_kind end
-  pub numbers : fields_of f ≡ end_fields end (slice_index fields 0 ∷ slice_index fields 1 ∷ slice_index fields 2 ∷ slice_index fields 3 ∷ [])
+  pub numbers : fields_of f ≡ end_words end ++ (slice_index fields 0 ∷ slice_index fields 1 ∷ slice_index fields 2 ∷ slice_index fields 3 ∷ [])
   pub tail_is : tail_of f ≡ tail
   pub size : size_of f ≡ 33 + end_size end + length tail
   pub has : HasTail f
@@ -229,32 +228,28 @@ ipcr_found end fields tail f asked made =
       has = (record { words = l1; few_words = few_words; few_pieces = omega (arith, found.number); within = omega (arith, asked.within, total) }, are_words_in count tail asked.tail_bytes, found.each);
     })
 
--- a HELLO that names its version
-version_found : (number named : ℕ) (f : Frame) → option_map (frame.Hello number) (version_of named) ≡ Some f → (frame.Hello number Two ≡ f) × (named ≡ 2)
-version_found number named f e = elim (cases_Bool (named == 2)) [
-  | inl two ↦ let e2 = rw two at e in (cc, eqb-true named 2 two)
-  | inr other ↦ let e2 = rw other at e in absurd (cc)
-]
-
 frame_found : (kind : FrameKind) (head tail : List ℕ) (f : Frame) → Asked kind head tail → frame_of kind (fields_in (widths kind) head) tail ≡ Some f → Found kind head tail f
 frame_found Ipc head tail f asked e = let same : frame.Ipc (ipc_parts (fields_in (widths Ipc) head) tail) ≡ f = cc in subst (λ g. Found Ipc head tail g) same (ipc_found head tail asked)
-frame_found Ipcr head tail f asked e =
-    let within : 1 + (32 + length tail) ≤ 2 ^ 21 = asked.within in
-    let room : 34 + 8 * words_of (number_in 8 head) ≤ 1 + (32 + length tail) = asked.room in
-    let found = ipcr_found None (fields_in (widths Ipcr) head) tail f (record { tail_bytes = asked.tail_bytes; within = omega (arith, within); few_words = asked.few_words; room = omega (arith, room) }) e in
-    record { kind_is = found.kind_is; fields = found.numbers; tail_is = found.tail_is; size = let size : size_of f ≡ 33 + 0 + length tail = found.size in omega (arith, size); has = found.has }
-frame_found IpcrTwo head tail f asked e =
-    let fields = fields_in (widths IpcrTwo) head in
-    let end : CallEnd = record { call = slice_index fields 0; moment = slice_index fields 1 } in
-    let within : 1 + (48 + length tail) ≤ 2 ^ 21 = asked.within in
-    let room : 50 + 8 * words_of (number_in 8 (drop 8 (drop 8 head))) ≤ 1 + (48 + length tail) = asked.room in
-    let found = ipcr_found (Some end) (drop 2 fields) tail f (record { tail_bytes = asked.tail_bytes; within = omega (arith, within); few_words = asked.few_words; room = omega (arith, room) }) e in
-    record { kind_is = found.kind_is; fields = found.numbers; tail_is = found.tail_is; size = let size : size_of f ≡ 33 + 16 + length tail = found.size in omega (arith, size); has = found.has }
+frame_found (Ipcr version) head tail f asked e =
+    let fields = fields_in (widths (Ipcr version)) head in
+    let end = end_in version fields in
+    let behind = drop (end_count version) fields in
+    let told : version_told end ≡ version = told_in version fields in
+    let size_is : end_size end ≡ 8 * end_count version = ap (λ v. 8 * end_count v) told in
+    let total = outcome_head version in
+    let tag = tag_behind version fields in
+    let found = ipcr_found end behind tail f (record { tail_bytes = asked.tail_bytes; within = omega (arith, asked.within, total, size_is); few_words = rw tag asked.few_words; room = rw tag (omega (arith, asked.room, total)) }) e in
+    let numbers : fields_in outcome_widths (drop (8 * end_count version) head) ≡ slice_index behind 0 ∷ slice_index behind 1 ∷ slice_index behind 2 ∷ slice_index behind 3 ∷ [] =
+    ap (λ (xs : List ℕ). slice_index xs 0 ∷ slice_index xs 1 ∷ slice_index xs 2 ∷ slice_index xs 3 ∷ []) (sym (fields_behind version head)) in
+    let all : end_words end ++ (slice_index behind 0 ∷ slice_index behind 1 ∷ slice_index behind 2 ∷ slice_index behind 3 ∷ []) ≡ fields =
+    ap₂ (λ xs ys. xs ++ ys) (words_found version head) (sym numbers) ∙ sym (outcome_fields version head) in
+    record { kind_is = found.kind_is ∙ ap Ipcr told; fields = found.numbers ∙ all; tail_is = found.tail_is; size = omega (arith, found.size, total, size_is); has = found.has }
 frame_found HelloTwo head tail f asked e =
     let fields = fields_in (widths HelloTwo) head in
-    let found = version_found (slice_index fields 0) (slice_index fields 1) f e in
+    let found = some_mapped (frame.Hello (slice_index fields 0)) (version_of (slice_index fields 1)) f e in
+    let named = version_found (slice_index fields 1) found.0 found.1 in
     let none = nil_from_length tail (asked.no_tail refl) in
-    subst (Found HelloTwo head tail) found.0 (record { kind_is = refl; fields = ap (λ n. slice_index fields 0 ∷ n ∷ []) (sym found.1); tail_is = sym none; size = ap (λ n. 1 + (4 + n)) (sym (asked.no_tail refl)); has = tt })
+    subst (Found HelloTwo head tail) found.2 (record { kind_is = rw named.0 refl; fields = rw named.0 (ap (λ n. slice_index fields 0 ∷ n ∷ []) named.1); tail_is = sym none; size = rw named.0 (ap (λ n. 1 + (4 + n)) (sym (asked.no_tail refl))); has = tt })
 frame_found Hello head tail f asked e = fixed_found Hello head tail f _ asked refl e refl refl refl refl tt
 frame_found Exreg head tail f asked e = fixed_found Exreg head tail f _ asked refl e refl refl refl refl tt
 frame_found Bye head tail f asked e = fixed_found Bye head tail f _ asked refl e refl refl refl refl tt
@@ -300,7 +295,7 @@ kind_shown size (Some kind) rest f n e =
 
 pub record Shown (side : Side) (bytes : List ℕ) (f : Frame) (n : ℕ) (kind : FrameKind) : Type 0 where
   pub size_there : 4 ≤ length bytes
-  pub within : number_in 4 (take 4 bytes) ≤ 2 ^ 21
+  pub within : number_in 4 (take 4 bytes) ≤ max_frame_body
   pub kind_there : 1 ≤ length (drop 4 bytes)
   pub kind_is : kind_in side (number_in 4 (take 4 bytes)) (number_in 1 (take 1 (drop 4 bytes))) ≡ Some kind
   pub behind : KindShown (number_in 4 (take 4 bytes)) kind (drop 1 (drop 4 bytes)) f n
@@ -310,7 +305,7 @@ unfolding reading size_known
 whole_shown side bytes f n e =
     let a = once_whole 4 bytes (λ size behind. size_known side (number_in 4 size) behind) f n e in
     let size = number_in 4 (take 4 bytes) in
-    let b = bad_if_whole (nat_lt (2 ^ 21) size) _ _ f n a.1 in
+    let b = bad_if_whole (nat_lt max_frame_body size) _ _ f n a.1 in
     let c = bad_if_whole (size == 0) _ _ f n b.1 in
     let d = once_whole 1 (drop 4 bytes) (λ kind behind. kind_known size (kind_in side size (number_in 1 kind)) behind) f n c.1 in
     let k = kind_shown size _ _ f n d.1 in
@@ -328,12 +323,11 @@ least_is_head Ipc = omega arith
 least_is_head Exreg = omega arith
 least_is_head Bye = omega arith
 least_is_head Welcome = omega arith
-least_is_head Ipcr = omega arith
+least_is_head (Ipcr version) = omega (arith, outcome_head version)
 least_is_head Exregr = omega arith
 least_is_head Refused = omega arith
 least_is_head Fault = omega arith
 least_is_head HelloTwo = omega arith
-least_is_head IpcrTwo = omega arith
 least_is_head ExregrTwo = omega arith
 
 head_is_least : (kind : FrameKind) → is_longer kind ≡ false → least_size kind ≤ 1 + sum (widths kind)
@@ -342,12 +336,11 @@ head_is_least Ipc e = absurd (cc)
 head_is_least Exreg e = omega arith
 head_is_least Bye e = omega arith
 head_is_least Welcome e = omega arith
-head_is_least Ipcr e = absurd (cc)
+head_is_least (Ipcr version) e = absurd (cc)
 head_is_least Exregr e = omega arith
 head_is_least Refused e = omega arith
 head_is_least Fault e = omega arith
 head_is_least HelloTwo e = omega arith
-head_is_least IpcrTwo e = absurd (cc)
 head_is_least ExregrTwo e = omega arith
 
 -- the frame ends within the bytes

@@ -3,18 +3,19 @@ use Rattle.std.proofs.Common.{◌≡◌, ◌≢◌, ℕ, zero, suc, ◌+◌, ◌
 use Rattle.std.proofs.lemmas.List.{append-nil, drop-append-le, drop-drop, get_or-drop, nil_from_length, take-append-le, length-take-le, take-append-drop}
 use Rattle.std.proofs.lemmas.List.Sums.{sum_by-cons}
 use Rattle.std.proofs.lemmas.Bool.{cases_Bool, lt-ltb, le-ltb, ltb-false, ne_eqb, or_parts}
+use Rattle.ipc_words.specs.Limits.{max_frame_body}
 use Rattle.ipc_frame.specs.declared.fault.FrameFault.{FrameFault}
 use Rattle.ipc_frame.specs.declared.fault.FrameFault.TheVariants.{TooLong, UnknownKind, WrongSize, TooManyWords, UnknownVersion}
 use Rattle.ipc_frame.specs.declared.kind.FrameKind.{FrameKind}
-use Rattle.ipc_frame.specs.declared.kind.FrameKind.TheVariants.{Hello, HelloTwo, Ipc, Exreg, Bye, Welcome, Ipcr, Exregr, Refused, Fault, IpcrTwo, ExregrTwo}
+use Rattle.ipc_frame.specs.declared.kind.FrameKind.TheVariants.{Hello, HelloTwo, Ipc, Exreg, Bye, Welcome, Ipcr, Exregr, Refused, Fault, ExregrTwo}
 use Rattle.ipc_frame.specs.declared.kind.Side.{Side}
 use Rattle.ipc_frame.specs.declared.judging.Judgement.{Judgement}
 use Rattle.ipc_frame.specs.declared.judging.Judgement.TheVariants as judged
 use Rattle.ipc_frame.specs.declared.frame.Frame.{Frame}
 use Rattle.ipc_frame.specs.declared.frame.Frame.TheVariants as frame
 use Rattle.ipc_frame.specs.declared.version.CallEnd.{CallEnd}
-use Rattle.ipc_frame.specs.declared.version.WireVersion.TheVariants.{Two}
-use Rattle.ipc_frame.specs.Versions.{version_of}
+use Rattle.ipc_frame.specs.declared.version.WireVersion.{WireVersion}
+use Rattle.ipc_frame.specs.Versions.{end_count, end_in, version_of}
 use Rattle.std.specs.Option.{option_map}
 use Rattle.ipc_frame.specs.Numbers.{number_in, fields_in}
 use Rattle.ipc_frame.specs.Parts.{words_of}
@@ -22,6 +23,7 @@ use Rattle.ipc_frame.specs.declared.kind.Side.TheVariants.{Server, Client}
 use Rattle.ipc_frame.specs.Frames.{side_of, widths}
 use Rattle.ipc_frame.specs.Reading.{Reading, Short, Bad, once, kind_in, least_size, is_wrong_size, is_pieced, tag_in, has_too_many_words, least_size_with, pieces_in, ipcr_in, frame_of, missing, whole_if, words_fault, body_known, fields_known, kind_known, size_known, reading, Tells, TellsBefore}
 use Rattle.ipc_frame.proofs.NumberLemmas.{number_more}
+use Rattle.ipc_frame.proofs.VersionLemmas.{outcome_head, tag_behind, tag_found}
 use Rattle.ipc_frame.proofs.FoundLemmas.{side_found}
 use Rattle.ipc_frame.proofs.PieceLemmas.{some_mapped_too}
 
@@ -96,11 +98,10 @@ made Ipc fields tail whole named = (_, refl)
 made Exreg fields tail whole named = (_, refl)
 made Bye fields tail whole named = (_, refl)
 made Welcome fields tail whole named = (_, refl)
-made Ipcr fields tail whole named = absurd (cc)
+made (Ipcr version) fields tail whole named = absurd (cc)
 made Exregr fields tail whole named = (_, refl)
 made Refused fields tail whole named = (_, refl)
 made Fault fields tail whole named = (_, refl)
-made IpcrTwo fields tail whole named = absurd (cc)
 made ExregrTwo fields tail whole named = (_, refl)
 
 missing_pieces : (kind : FrameKind) → is_pieced kind ≡ true → missing kind ≡ WrongSize
@@ -110,11 +111,10 @@ missing_pieces Ipc e = absurd (cc)
 missing_pieces Exreg e = absurd (cc)
 missing_pieces Bye e = absurd (cc)
 missing_pieces Welcome e = absurd (cc)
-missing_pieces Ipcr e = refl
+missing_pieces (Ipcr version) e = refl
 missing_pieces Exregr e = absurd (cc)
 missing_pieces Refused e = absurd (cc)
 missing_pieces Fault e = absurd (cc)
-missing_pieces IpcrTwo e = refl
 missing_pieces ExregrTwo e = absurd (cc)
 
 module _ (kind : FrameKind) (size behind : ℕ) (rest : List ℕ) (right : is_wrong_size kind size ≡ false) where
@@ -149,13 +149,13 @@ module _ (size behind : ℕ) (rest : List ℕ) (right : is_wrong_size HelloTwo s
   abbrev named : ℕ
   named = number_in 2 (drop 2 rest)
 
-  told_by : (b : Bool) → (named == 2) ≡ b → (reading : Reading) → reading ≡ whole_if UnknownVersion size (option_map (frame.Hello (number_in 2 rest)) (version_of named)) → Tells (if b then judged.Whole else judged.Bad UnknownVersion) reading
-  told_by true two reading e = (frame.Hello (number_in 2 rest) Two, (4 + size, rw two at e))
-  told_by false other reading e = rw other at e
+  told_by : (o : Option WireVersion) → version_of named ≡ o → (reading : Reading) → reading ≡ whole_if UnknownVersion size (option_map (frame.Hello (number_in 2 rest)) (version_of named)) → Tells (if is_some o then judged.Whole else judged.Bad UnknownVersion) reading
+  told_by (Some version) is reading e = (frame.Hello (number_in 2 rest) version, (4 + size, rw is at e))
+  told_by None is reading e = rw is at e
 
-  pub version_tail : 4 ≤ length rest → words_fault HelloTwo size (fields_in (widths HelloTwo) rest) ≡ None → (wanted there : ℕ) → wanted ≡ size - 5 → there ≡ (length rest - 4) + behind → wanted ≤ there → TellsBefore (if named == 2 then judged.Whole else judged.Bad UnknownVersion) behind (λ more. kind_known size (Some HelloTwo) (rest ++ more))
+  pub version_tail : 4 ≤ length rest → words_fault HelloTwo size (fields_in (widths HelloTwo) rest) ≡ None → (wanted there : ℕ) → wanted ≡ size - 5 → there ≡ (length rest - 4) + behind → wanted ≤ there → TellsBefore (if is_some (version_of named) then judged.Whole else judged.Bad UnknownVersion) behind (λ more. kind_known size (Some HelloTwo) (rest ++ more))
   version_tail h e wanted there is_wanted is_there enough more l =
-      told_by (named == 2) refl _ (body_there HelloTwo size behind rest right h e wanted there is_wanted is_there enough more l)
+      told_by (version_of named) refl _ (body_there HelloTwo size behind rest right h e wanted there is_wanted is_there enough more l)
 
 some_there : (o : Option Frame) → is_some o ≡ true → (f : Frame) × (o ≡ Some f)
 some_there None h = absurd (cc)
@@ -189,8 +189,9 @@ module _ (kind : FrameKind) (size behind : ℕ) (rest : List ℕ) (right : is_wr
 
 -- the tag of an IPCR comes 32 bytes before its words
 pub tag_there : (kind : FrameKind) (head : List ℕ) → is_pieced kind ≡ true → number_in 8 (drop (sum (widths kind) - 32) head) ≡ tag_in kind (fields_in (widths kind) head)
-tag_there Ipcr head e = refl
-tag_there IpcrTwo head e = ap (number_in 8) (sym (drop-drop 8 8 head))
+tag_there (Ipcr version) head e =
+    let place : sum (widths (Ipcr version)) - 32 ≡ 8 * end_count version = omega (arith, outcome_head version) in
+    ap (λ n. number_in 8 (drop n head)) place ∙ sym (tag_found version head)
 tag_there Hello head e = absurd (cc)
 tag_there HelloTwo head e = absurd (cc)
 tag_there Ipc head e = absurd (cc)
@@ -203,8 +204,7 @@ tag_there Fault head e = absurd (cc)
 tag_there ExregrTwo head e = absurd (cc)
 
 pub pieced_head : (kind : FrameKind) → is_pieced kind ≡ true → 32 ≤ sum (widths kind)
-pieced_head Ipcr e = omega arith
-pieced_head IpcrTwo e = omega arith
+pieced_head (Ipcr version) e = omega (arith, outcome_head version)
 pieced_head Hello e = absurd (cc)
 pieced_head HelloTwo e = absurd (cc)
 pieced_head Ipc e = absurd (cc)
@@ -218,8 +218,9 @@ pieced_head ExregrTwo e = absurd (cc)
 
 -- of an IPCR: too many words, or a body that is too short for them
 pub words_of_ipcr : (kind : FrameKind) (size words : ℕ) (fields : List ℕ) → is_pieced kind ≡ true → words ≡ words_of (tag_in kind fields) → (if nat_lt 63 words then Some TooManyWords else if nat_lt size (sum (widths kind) + 2 + 8 * words) then Some WrongSize else None) ≡ words_fault kind size fields
-words_of_ipcr Ipcr size words fields e is = rw is refl
-words_of_ipcr IpcrTwo size words fields e is = rw is refl
+words_of_ipcr (Ipcr version) size words fields e is =
+    let least : sum (widths (Ipcr version)) + 2 + 8 * words ≡ 34 + 8 * end_count version + 8 * words_of (slice_index fields (end_count version)) = omega (arith, outcome_head version, is) in
+    ap₂ (λ w k. if nat_lt 63 w then Some TooManyWords else if nat_lt size k then Some WrongSize else None) is least
 words_of_ipcr Hello size words fields e is = absurd (cc)
 words_of_ipcr HelloTwo size words fields e is = absurd (cc)
 words_of_ipcr Ipc size words fields e is = absurd (cc)
@@ -238,9 +239,8 @@ pieces_of_ipcr end words fields tail behind fit is_words is_behind is_fit =
     is_fit ∙ (ap (λ n. is_some (pieces_in n (drop 1 behind))) (sym (number_one behind)) ∙ (ap (λ xs. is_some (pieces_in (number_in 1 xs) (drop 1 xs))) there ∙ sym (some_mapped_too _ _)))
 
 pub pieces_behind : (kind : FrameKind) (words : ℕ) (fields tail behind : List ℕ) (fit : Bool) → is_pieced kind ≡ true → words ≡ words_of (tag_in kind fields) → behind ≡ drop (8 * words) tail → fit ≡ is_some (pieces_in (slice_index behind 0) (drop 1 behind)) → fit ≡ is_some (frame_of kind fields tail)
-pieces_behind Ipcr words fields tail behind fit e is_words is_behind is_fit = pieces_of_ipcr None words fields tail behind fit is_words is_behind is_fit
-pieces_behind IpcrTwo words fields tail behind fit e is_words is_behind is_fit =
-    pieces_of_ipcr _ words (drop 2 fields) tail behind fit (is_words ∙ ap words_of (sym (get_or-drop 2 fields 0 0))) is_behind is_fit
+pieces_behind (Ipcr version) words fields tail behind fit e is_words is_behind is_fit =
+    pieces_of_ipcr (end_in version fields) words (drop (end_count version) fields) tail behind fit (is_words ∙ ap words_of (sym (tag_behind version fields))) is_behind is_fit
 pieces_behind Hello words fields tail behind fit e is_words is_behind is_fit = absurd (cc)
 pieces_behind HelloTwo words fields tail behind fit e is_words is_behind is_fit = absurd (cc)
 pieces_behind Ipc words fields tail behind fit e is_words is_behind is_fit = absurd (cc)
@@ -272,12 +272,11 @@ no_words Ipc size fields right a b = absurd (a refl)
 no_words Exreg size fields right a b = rw (room_left Exreg size right) refl
 no_words Bye size fields right a b = rw (room_left Bye size right) refl
 no_words Welcome size fields right a b = rw (room_left Welcome size right) refl
-no_words Ipcr size fields right a b = absurd (cc)
+no_words (Ipcr version) size fields right a b = absurd (cc)
 no_words Exregr size fields right a b = rw (room_left Exregr size right) refl
 no_words Refused size fields right a b = rw (room_left Refused size right) refl
 no_words Fault size fields right a b = rw (room_left Fault size right) refl
 no_words HelloTwo size fields right a b = rw (room_left HelloTwo size right) refl
-no_words IpcrTwo size fields right a b = absurd (cc)
 no_words ExregrTwo size fields right a b = rw (room_left ExregrTwo size right) refl
 
 -- what the tag and b show, by their places
@@ -285,24 +284,22 @@ pub words_by_place : (size : ℕ) (head : List ℕ) (tag few : ℕ) → tag ≡ 
 words_by_place size head tag few t f =
     ap₂ (λ x y. if nat_lt 63 (words_of x) || nat_lt 32 y then Some TooManyWords else if nat_lt size (46 + 8 * words_of x + 8 * y) then Some WrongSize else None) (t ∙ sym (ipc_tag head)) (f ∙ sym (ipc_few head))
 
-pub not_pieced : (kind : FrameKind) → kind ≢ Ipcr → kind ≢ IpcrTwo → is_pieced kind ≡ false
-not_pieced Ipcr a b = absurd (a refl)
-not_pieced IpcrTwo a b = absurd (b refl)
-not_pieced Hello a b = refl
-not_pieced HelloTwo a b = refl
-not_pieced Ipc a b = refl
-not_pieced Exreg a b = refl
-not_pieced Bye a b = refl
-not_pieced Welcome a b = refl
-not_pieced Exregr a b = refl
-not_pieced Refused a b = refl
-not_pieced Fault a b = refl
-not_pieced ExregrTwo a b = refl
+pub not_pieced : (kind : FrameKind) → ((version : WireVersion) → kind ≢ Ipcr version) → is_pieced kind ≡ false
+not_pieced (Ipcr version) a = absurd (a version refl)
+not_pieced Hello a = refl
+not_pieced HelloTwo a = refl
+not_pieced Ipc a = refl
+not_pieced Exreg a = refl
+not_pieced Bye a = refl
+not_pieced Welcome a = refl
+not_pieced Exregr a = refl
+not_pieced Refused a = refl
+not_pieced Fault a = refl
+not_pieced ExregrTwo a = refl
 
 -- the server is sent no IPCR
 side_pieced : (kind : FrameKind) → is_pieced kind ≡ true → side_of kind ≡ Client
-side_pieced Ipcr e = refl
-side_pieced IpcrTwo e = refl
+side_pieced (Ipcr version) e = refl
 side_pieced Hello e = absurd (cc)
 side_pieced HelloTwo e = absurd (cc)
 side_pieced Ipc e = absurd (cc)
@@ -323,12 +320,11 @@ head_within Ipc e = omega arith
 head_within Exreg e = omega arith
 head_within Bye e = omega arith
 head_within Welcome e = absurd (cc)
-head_within Ipcr e = absurd (cc)
+head_within (Ipcr version) e = absurd (cc)
 head_within Exregr e = absurd (cc)
 head_within Refused e = absurd (cc)
 head_within Fault e = absurd (cc)
 head_within HelloTwo e = omega arith
-head_within IpcrTwo e = absurd (cc)
 head_within ExregrTwo e = absurd (cc)
 
 -- the bytes that come behind are a payload, so the numbers are there
@@ -337,18 +333,18 @@ head_there Server size byte behind n kind e none there some = omega (arith, head
 head_there Client size byte behind n kind e none there some = absurd (omega (arith, none refl, some))
 
 -- behind the length
-module _ (side : Side) (size behind : ℕ) (within : size ≤ 2 ^ 21) (some : 0 < size) where
+module _ (side : Side) (size behind : ℕ) (within : size ≤ max_frame_body) (some : 0 < size) where
   pub short_body : behind ≡ 0 → TellsBefore (judged.Short 1) behind (λ more. size_known side size ([] ++ more))
   unfolding size_known
   short_body none more l =
-      let a : nat_lt (2 ^ 21) size ≡ false = le-ltb (2 ^ 21) size within in
+      let a : nat_lt max_frame_body size ≡ false = le-ltb max_frame_body size within in
       let b : (size == 0) ≡ false = ne_eqb size 0 (λ e. omega arith) in
       rw (a, b, nil_from_length more (l ∙ none)) refl
 
   pub body_told : (byte : ℕ) (rest more : List ℕ) → size_known side size ((byte ∷ rest) ++ more) ≡ kind_known size (kind_in side size byte) (rest ++ more)
   unfolding size_known
   body_told byte rest more =
-      let a : nat_lt (2 ^ 21) size ≡ false = le-ltb (2 ^ 21) size within in
+      let a : nat_lt max_frame_body size ≡ false = le-ltb max_frame_body size within in
       let b : (size == 0) ≡ false = ne_eqb size 0 (λ e. omega arith) in
       let c : nat_lt (suc (length (rest ++ more))) 1 ≡ false = le-ltb _ 1 (omega arith) in
       rw (a, b, c) (ap (λ k. kind_known size (kind_in side size k) (rest ++ more)) (number_one (byte ∷ [])))
@@ -382,9 +378,9 @@ module _ (side : Side) (held : List ℕ) (behind : ℕ) where
       let number : number_in 4 (take 4 (held ++ more)) ≡ number_in 4 held = ap (number_in 4) (take-append-le 4 held more h) ∙ (sym (number_more 4 front (drop 4 held) (omega (arith, length-take-le 4 held h))) ∙ ap (number_in 4) (take-append-drop 4 held)) in
       once_enough 4 (held ++ more) (λ size behind. size_known side (number_in 4 size) behind) (omega arith) ∙ ap₂ (λ n xs. size_known side n xs) number (drop-append-le 4 held more h)
 
-  pub too_long : 4 ≤ length held → 2 ^ 21 < number_in 4 held → TellsBefore (judged.Bad TooLong) behind (λ more. reading side (held ++ more))
+  pub too_long : 4 ≤ length held → max_frame_body < number_in 4 held → TellsBefore (judged.Bad TooLong) behind (λ more. reading side (held ++ more))
   unfolding size_known
-  too_long h long more l = start_told h more ∙ (let t : nat_lt (2 ^ 21) (number_in 4 held) ≡ true = lt-ltb (2 ^ 21) (number_in 4 held) long in rw t refl)
+  too_long h long more l = start_told h more ∙ (let t : nat_lt max_frame_body (number_in 4 held) ≡ true = lt-ltb max_frame_body (number_in 4 held) long in rw t refl)
 
   pub no_body : 4 ≤ length held → number_in 4 held ≡ 0 → TellsBefore (judged.Bad WrongSize) behind (λ more. reading side (held ++ more))
   unfolding size_known

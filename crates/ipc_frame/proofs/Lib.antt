@@ -1,5 +1,6 @@
 pub mod NumberLemmas
 pub mod FieldLemmas
+pub mod VersionLemmas
 pub mod StageLemmas
 pub mod SpellingLemmas
 pub mod FoundLemmas

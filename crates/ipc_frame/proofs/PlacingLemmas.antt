@@ -2,6 +2,7 @@
 use Rattle.std.proofs.Common.{◌≡◌, ℕ, ◌+◌, ◌*◌, ◌^◌, ◌<◌, ◌≤◌, ◌==◌, nat_lt, true, false, List, [], ◌∷◌, ◌++◌, None, IfNone, Ok, Result, length, take, drop, map, get_or, sum_by, refl, sym, ap, ap₂, ◌∙◌, arith, length-append, length-drop, length-take}
 use Rattle.std.specs.List.{flat_map}
 use Rattle.std.proofs.lemmas.List.{take_more, map-append}
+use Rattle.ipc_words.specs.Limits.{max_frame_body}
 use Rattle.ipc_items.specs.declared.buffer_list.Substring.{Substring}
 use Rattle.ipc_items.specs.declared.placing.Piece.{Piece}
 use Rattle.ipc_items.specs.Placed.{placed}
@@ -11,10 +12,11 @@ use Rattle.ipc_items.specs.Pieces.{PlacedBytes, put_piece, pieces, pieces_of_all
 use Rattle.ipc_history.specs.Outcomes.{OutcomeParts, HasItsWords, pieces_in}
 use Rattle.ipc_frame.specs.declared.fault.FrameFault.{FrameFault}
 use Rattle.ipc_frame.specs.declared.version.WireVersion.{WireVersion}
-use Rattle.ipc_frame.specs.declared.version.WireVersion.TheVariants.{One, Two}
+use Rattle.ipc_frame.specs.Versions.{end_of, version_told}
 use Rattle.ipc_frame.specs.Parts.{IpcrParts, IsIpcr, words_of, pieces_text, end_size}
 use Rattle.ipc_frame.specs.Making.{ipcr_fault}
-use Rattle.ipc_frame.specs.Replies.{reply_of, end_of}
+use Rattle.ipc_frame.specs.Replies.{reply_of}
+use Rattle.ipc_frame.proofs.VersionLemmas.{few_words}
 use Rattle.ipc_frame.proofs.WindowLemmas.{piece_size}
 use Rattle.std.proofs.lemmas.List.Sums.{sum_by-cons}
 use Rattle.std.proofs.lemmas.Bool.{le-ltb, eq-eqb}
@@ -59,10 +61,6 @@ all_size (buffer ∷ buffers) (string ∷ strings) =
     omega (arith, pieces_text_joined (pieces buffer string) (flat_map (λ ps. ps) (pieces_of_all buffers strings)), string_size buffer string, all_size buffers strings, sum_by-cons (λ (parts : List Substring). length parts) buffer buffers, sum_by-cons (λ (s : List ℕ). length s) string strings)
 
 -- an outcome within its limits makes a frame
-end_small : (version : WireVersion) (o : OutcomeParts) → end_size (end_of version o) ≤ 16
-end_small One o = omega arith
-end_small Two o = omega arith
-
 pub reply_is : (version : WireVersion) (o : OutcomeParts) → AreStrings o.strings → AreBuffers o.buffers → HasItsWords o.tag o.words → IsIpcr (reply_of version o)
 reply_is version o strings buffers words =
     let count = all_count o.buffers o.strings in
@@ -71,7 +69,7 @@ reply_is version o strings buffers words =
       words = words.counted;
       few_words = omega (arith, words.counted, words.few);
       few_pieces = omega (arith, count, buffers.1);
-      within = omega (arith, end_small version o, size, buffers.1, strings.1, words.few);
+      within = omega (arith, few_words (version_told (end_of version o)), size, buffers.1, strings.1, words.few);
     }
 
 pub reply_fits : (version : WireVersion) (o : OutcomeParts) → IsIpcr (reply_of version o) → ipcr_fault (reply_of version o) ≡ None
@@ -80,7 +78,7 @@ reply_fits version o is =
     let counted : (length o.words == words_of o.tag) ≡ true = eq-eqb (length o.words) (words_of o.tag) is.words in
     let all = flat_map (λ ps. ps) (pieces_in o) in
     let few_pieces : nat_lt 255 (length all) ≡ false = le-ltb 255 (length all) is.few_pieces in
-    let short : nat_lt (2 ^ 21) (34 + end_size (end_of version o) + 8 * length o.words + length (pieces_text all)) ≡ false = le-ltb (2 ^ 21) (34 + end_size (end_of version o) + 8 * length o.words + length (pieces_text all)) is.within in
+    let short : nat_lt max_frame_body (34 + end_size (end_of version o) + 8 * length o.words + length (pieces_text all)) ≡ false = le-ltb max_frame_body (34 + end_size (end_of version o) + 8 * length o.words + length (pieces_text all)) is.within in
     rw (few, counted, few_pieces, short) refl
 
 -- one more copy

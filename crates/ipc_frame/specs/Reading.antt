@@ -7,7 +7,7 @@ use Rattle.ipc_items.specs.Pieces.{PlacedBytes}
 use Rattle.ipc_frame.specs.declared.fault.FrameFault.{FrameFault}
 use Rattle.ipc_frame.specs.declared.fault.FrameFault.TheVariants.{TooLong, UnknownKind, WrongSize, TooManyWords, UnknownVersion}
 use Rattle.ipc_frame.specs.declared.kind.FrameKind.{FrameKind}
-use Rattle.ipc_frame.specs.declared.kind.FrameKind.TheVariants.{Hello, HelloTwo, Ipc, Exreg, Bye, Welcome, Ipcr, Exregr, Refused, Fault, IpcrTwo, ExregrTwo}
+use Rattle.ipc_frame.specs.declared.kind.FrameKind.TheVariants.{Hello, HelloTwo, Ipc, Exreg, Bye, Welcome, Ipcr, Exregr, Refused, Fault, ExregrTwo}
 use Rattle.ipc_frame.specs.declared.kind.Side.{Side}
 use Rattle.ipc_frame.specs.declared.judging.Judgement.{Judgement}
 use Rattle.ipc_frame.specs.declared.judging.Judgement.TheVariants as judged
@@ -15,7 +15,7 @@ use Rattle.ipc_frame.specs.declared.frame.Frame.{Frame}
 use Rattle.ipc_frame.specs.declared.frame.Frame.TheVariants as frame
 use Rattle.ipc_frame.specs.declared.version.CallEnd.{CallEnd}
 use Rattle.ipc_frame.specs.declared.version.WireVersion.TheVariants.{One}
-use Rattle.ipc_frame.specs.Versions.{version_of}
+use Rattle.ipc_frame.specs.Versions.{end_count, end_in, version_of}
 use Rattle.ipc_frame.specs.Numbers.{number_in, fields_in, words_in}
 use Rattle.ipc_frame.specs.Parts.{IpcParts, IpcrParts, words_of}
 use Rattle.ipc_frame.specs.Frames.{kind_byte, kinds, widths}
@@ -59,48 +59,43 @@ least_size Ipc = 46
 least_size Exreg = 17
 least_size Bye = 1
 least_size Welcome = 9
-least_size Ipcr = 34
+least_size (Ipcr version) = 34 + 8 * end_count version
 least_size Exregr = 25
 least_size Refused = 2
 least_size Fault = 3
-least_size IpcrTwo = 50
 least_size ExregrTwo = 33
 
 abbrev pub is_longer : FrameKind → Bool
 is_longer Ipc = true
-is_longer Ipcr = true
-is_longer IpcrTwo = true
+is_longer (Ipcr version) = true
 is_longer _ = false
 
 -- a kind doesn't have this body length
 abbrev pub is_wrong_size : FrameKind → ℕ → Bool
 is_wrong_size kind size = nat_lt size (least_size kind) || (not (is_longer kind) && nat_lt (least_size kind) size)
 
--- the numbers after the kind: IPC has the tag in place 4 and b in place 6, IPCR the tag in place 0, in version 2 in place 2
+-- the numbers after the kind: IPC has the tag in place 4 and b in place 6, IPCR the tag behind the words of its version
 abbrev pub has_too_many_words : FrameKind → List ℕ → Bool
 has_too_many_words Ipc fields =
     nat_lt max_message_words (words_of (slice_index fields 4))
     || nat_lt max_buffer_words (slice_index fields 6)
-has_too_many_words Ipcr fields = nat_lt max_message_words (words_of (slice_index fields 0))
-has_too_many_words IpcrTwo fields = nat_lt max_message_words (words_of (slice_index fields 2))
+has_too_many_words (Ipcr version) fields = nat_lt max_message_words (words_of (slice_index fields (end_count version)))
 has_too_many_words _ fields = false
 
 -- the tag of an IPCR
 abbrev pub tag_in : FrameKind → List ℕ → ℕ
-tag_in IpcrTwo fields = slice_index fields 2
+tag_in (Ipcr version) fields = slice_index fields (end_count version)
 tag_in kind fields = slice_index fields 0
 
 -- the kinds of an IPCR, with its pieces behind its words
 abbrev pub is_pieced : FrameKind → Bool
-is_pieced Ipcr = true
-is_pieced IpcrTwo = true
+is_pieced (Ipcr version) = true
 is_pieced _ = false
 
 -- the body length that their words ask for at least
 abbrev pub least_size_with : FrameKind → List ℕ → ℕ
 least_size_with Ipc fields = 46 + 8 * words_of (slice_index fields 4) + 8 * slice_index fields 6
-least_size_with Ipcr fields = 34 + 8 * words_of (slice_index fields 0)
-least_size_with IpcrTwo fields = 50 + 8 * words_of (slice_index fields 2)
+least_size_with (Ipcr version) fields = 34 + 8 * end_count version + 8 * words_of (slice_index fields (end_count version))
 least_size_with kind fields = least_size kind
 
 -- pieces that end with the bytes
@@ -153,12 +148,10 @@ frame_of Ipc fields tail = Some (frame.Ipc (ipc_parts fields tail))
 frame_of Exreg fields tail = Some (frame.Exreg (slice_index fields 0) (slice_index fields 1))
 frame_of Bye fields tail = Some frame.Bye
 frame_of Welcome fields tail = Some (frame.Welcome (slice_index fields 0))
-frame_of Ipcr fields tail = ipcr_in None fields tail
+frame_of (Ipcr version) fields tail = ipcr_in (end_in version fields) (drop (end_count version) fields) tail
 frame_of Exregr fields tail = Some (frame.Exregr (slice_index fields 0) (slice_index fields 1) (slice_index fields 2) None)
 frame_of Refused fields tail = Some (frame.Refused (slice_index fields 0))
 frame_of Fault fields tail = Some (frame.Fault (slice_index fields 0) (slice_index fields 1))
-frame_of IpcrTwo fields tail =
-    ipcr_in (Some (record { call = slice_index fields 0; moment = slice_index fields 1 })) (drop 2 fields) tail
 frame_of ExregrTwo fields tail =
     Some (frame.Exregr (slice_index fields 1) (slice_index fields 2) (slice_index fields 3) (Some (slice_index fields 0)))
 

@@ -1,23 +1,17 @@
 -- An outcome as it is sent (L4 X.2 manual, Ipc: output parameters): its words, and the pieces of its strings in order.
-use Rattle.std.specs.Prelude.{List, Option, Some, None}
+use Rattle.std.specs.Prelude.{List}
 use Rattle.std.specs.List.{flat_map}
 use Rattle.ipc_items.specs.Pieces.{PlacedBytes}
 use Rattle.ipc_history.specs.Outcomes.{OutcomeParts, pieces_in}
-use Rattle.ipc_frame.specs.declared.version.CallEnd.{CallEnd}
 use Rattle.ipc_frame.specs.declared.version.WireVersion.{WireVersion}
-use Rattle.ipc_frame.specs.declared.version.WireVersion.TheVariants.{One, Two}
 use Rattle.ipc_frame.specs.declared.frame.Frame.{Frame}
 use Rattle.ipc_frame.specs.declared.frame.Frame.TheVariants as frame
+use Rattle.ipc_frame.specs.Versions.{end_of}
 use Rattle.ipc_frame.specs.Parts.{IpcrParts}
 
 -- the pieces of the strings, in order
 abbrev pub pieces_told : OutcomeParts → List PlacedBytes
 pieces_told outcome = flat_map (λ pieces. pieces) (pieces_in outcome)
-
--- version 2 tells the call and when it was over
-abbrev pub end_of : WireVersion → OutcomeParts → Option CallEnd
-end_of One outcome = None
-end_of Two outcome = Some (record { call = outcome.call; moment = outcome.moment })
 
 abbrev pub reply_of : WireVersion → OutcomeParts → IpcrParts
 reply_of version outcome = record {

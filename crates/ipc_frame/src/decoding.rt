@@ -4,7 +4,7 @@ ghost use Rattle.std.specs.Prelude.{length, drop, slice_index};
 ghost use Rattle.ipc_items.specs.Pieces.{PlacedBytes};
 ghost use Rattle.ipc_frame.specs.Numbers.{number_in, fields_in, words_in};
 ghost use Rattle.ipc_frame.specs.Parts.{IsIpc, ipc_size};
-ghost use Rattle.ipc_frame.specs.Frames.{widths};
+ghost use Rattle.ipc_frame.specs.Frames.{outcome_widths, widths};
 ghost use Rattle.ipc_frame.specs.Reading.{Tells, ipc_parts, ipcr_in, frame_of, is_longer, reading};
 ghost use Rattle.ipc_frame.specs.Stream.{put_front, stream_of};
 ghost use Rattle.ipc_frame.specs.Decoding.{Decodes, MakesFrame, MakesIpcr, TakesFrame, Unreads};
@@ -17,7 +17,7 @@ use crate::ipcr::{IpcrFrame, IpcrParts};
 use crate::judging::{Judgement, judge, read_u16, read_u32};
 use crate::kind::{FrameKind, Side};
 use crate::pieces::read_pieces;
-use crate::version::{CallEnd, WireVersion};
+use crate::version::{CallEnd, WireVersion, split_end};
 use ipc_words::{Control, IpcError, MsgTag, ThreadId, Timeouts};
 use std::alloc::{AllocError, Global};
 
@@ -82,8 +82,8 @@ fn read_ipcr(
 ) -> Result<IpcrFrame, AllocError>
     requires head { 32 ≤ length head.now }
     requires made { (f : Frame) × MakesIpcr end
-        (fields_in (widths FrameKind.Ipcr) head.now) tail.now f }
-    ensures { IfOk result (λ ipcr. ipcr_in end (fields_in (widths FrameKind.Ipcr) head.now) tail.now
+        (fields_in outcome_widths head.now) tail.now f }
+    ensures { IfOk result (λ ipcr. ipcr_in end (fields_in outcome_widths head.now) tail.now
         ≡ Some (Frame.Ipcr ipcr)) }
 {
     let (tag, head) = split_u64(head);
@@ -104,18 +104,22 @@ fn read_ipcr(
     }))
 }
 
-// An outcome of version 2.
-fn read_ended(alloc: Global, head: &[u8], tail: &[u8]) -> Result<IpcrFrame, AllocError>
-    requires head { 48 ≤ length head.now }
-    requires made { (f : Frame) × MakesFrame FrameKind.IpcrTwo
-        (fields_in (widths FrameKind.IpcrTwo) head.now) tail.now f }
-    ensures { IfOk result (λ ipcr. frame_of FrameKind.IpcrTwo
-        (fields_in (widths FrameKind.IpcrTwo) head.now) tail.now
+// An outcome of a version, of its numbers and what comes after them.
+fn read_outcome(
+    alloc: Global,
+    version: WireVersion,
+    head: &[u8],
+    tail: &[u8],
+) -> Result<IpcrFrame, AllocError>
+    requires head { sum (widths (FrameKind.Ipcr version)) ≤ length head.now }
+    requires made { (f : Frame) × MakesFrame (FrameKind.Ipcr version)
+        (fields_in (widths (FrameKind.Ipcr version)) head.now) tail.now f }
+    ensures { IfOk result (λ ipcr. frame_of (FrameKind.Ipcr version)
+        (fields_in (widths (FrameKind.Ipcr version)) head.now) tail.now
         ≡ Some (Frame.Ipcr ipcr)) }
 {
-    let (call, head) = split_u64(head);
-    let (moment, head) = split_u64(head);
-    read_ipcr(alloc, Some(CallEnd { call, moment }), head, tail)
+    let (end, behind) = split_end(version, head);
+    read_ipcr(alloc, end, behind, tail)
 }
 
 // A frame of a fixed length, of its numbers.
@@ -129,7 +133,10 @@ fn read_numbers(kind: FrameKind, head: &[u8]) -> Frame
 {
     match kind {
         FrameKind::Hello => Frame::Hello(read_u16(head), WireVersion::One),
-        FrameKind::HelloTwo => Frame::Hello(read_u16(head), WireVersion::Two),
+        FrameKind::HelloTwo => match WireVersion::named(read_u16(&head[2..])) {
+            Some(version) => Frame::Hello(read_u16(head), version),
+            None => unreachable!(),
+        },
         FrameKind::Exreg => {
             let (dest, head) = split_u64(head);
             let (control, _) = split_u64(head);
@@ -178,8 +185,7 @@ fn read_frame(alloc: Global, kind: FrameKind, head: &[u8], tail: &[u8]) -> Resul
 {
     match kind {
         FrameKind::Ipc => Ok(Frame::Ipc(read_ipc(alloc, head, tail)?)),
-        FrameKind::Ipcr => Ok(Frame::Ipcr(read_ipcr(alloc, None, head, tail)?)),
-        FrameKind::IpcrTwo => Ok(Frame::Ipcr(read_ended(alloc, head, tail)?)),
+        FrameKind::Ipcr(version) => Ok(Frame::Ipcr(read_outcome(alloc, version, head, tail)?)),
         _ => Ok(read_numbers(kind, head)),
     }
 }

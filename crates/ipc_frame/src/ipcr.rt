@@ -2,7 +2,7 @@ ghost use Rattle.std.specs.Prelude.{IfOk, IfSome, IfNone, Ok, Err, true, ◌≡�
 ghost use Rattle.std.specs.List.{AllByRecursion};
 ghost use Rattle.ipc_words.specs.Limits.{max_frame_body, max_pieces};
 ghost use Rattle.ipc_frame.specs.Numbers.{IsBytes, byte_values};
-ghost use Rattle.ipc_frame.specs.Parts.{IsEnd, IsPiece, IsIpcr, end_size, pieces_text, ipcr_size};
+ghost use Rattle.ipc_frame.specs.Parts.{IsPiece, IsIpcr, end_size, pieces_text, ipcr_size};
 ghost use Rattle.ipc_frame.specs.Frames.{IsFrame};
 ghost use Rattle.ipc_frame.specs.Making.{ipcr_fault};
 
@@ -10,7 +10,7 @@ use crate::cutting::copied;
 use crate::fault::FrameFault;
 use crate::fitting::{are_bytes, are_words};
 use crate::frame::Frame;
-use crate::version::CallEnd;
+use crate::version::{CallEnd, end_fits, version_told};
 use ipc_words::limits::{MAX_FRAME_BODY, MAX_MESSAGE_WORDS, MAX_PIECES};
 use ipc_words::{IpcError, MsgTag, ThreadId};
 use std::alloc::{AllocError, Global};
@@ -67,7 +67,7 @@ impl Placed {
 /// The parts of an outcome as it is sent, whatever they are.
 #[derive(Drop)]
 pub struct IpcrParts {
-    /// In version 2 which call it was, and when it was over; None in version 1.
+    /// What its version tells of the call: which it was, and when it was over; None in version 1.
     pub end: Option<CallEnd>,
     /// The tag of the message that was received.
     pub tag: MsgTag,
@@ -133,20 +133,12 @@ fn pieces_within(pieces: &[Placed], most: usize) -> bool
     true
 }
 
-// Each number of an end is one of 64 bits. They are read so that the prover knows it.
-fn end_fits(end: Option<CallEnd>)
-    ensures { IsEnd end }
-{
-    if let Some(end) = end {
-        let _numbers = (end.call, end.moment);
-    }
-}
-
 // How many bytes of the body are neither words nor pieces: the kind, the numbers and the count of the pieces.
 fn head_of(end: Option<CallEnd>) -> usize
-    ensures { result ≡ 34 + end_size end }
+    ensures count { result ≡ 34 + end_size end }
+    ensures few { result ≤ 98 }
 {
-    if end.is_some() { 50 } else { 34 }
+    34 + 8 * version_told(end).end_count()
 }
 
 // What is wrong with parts, where anything is.
@@ -204,7 +196,8 @@ impl IpcrFrame {
 
     // How many bytes of its body are neither words nor pieces.
     pub(crate) fn head(&self) -> usize
-        ensures { result ≡ 34 + end_size self.now.end }
+        ensures count { result ≡ 34 + end_size self.now.end }
+        ensures few { result ≤ 98 }
     {
         head_of(self.parts.end)
     }

@@ -4,6 +4,7 @@ ghost use Rattle.std.specs.Prelude.{false, take, drop};
 ghost use Rattle.ipc_words.specs.Limits.{max_buffer_words, max_frame_body, max_message_words};
 ghost use Rattle.ipc_frame.specs.Numbers.{number_in, fields_in};
 ghost use Rattle.ipc_frame.specs.Parts.{words_of};
+ghost use Rattle.ipc_frame.specs.Versions.{version_of};
 ghost use Rattle.ipc_frame.specs.Frames.{widths};
 ghost use Rattle.ipc_frame.specs.Reading.{TellsBefore, words_fault, is_wrong_size};
 ghost use Rattle.ipc_frame.specs.Reading.{has_too_many_words, is_pieced, least_size_with, frame_of, tag_in};
@@ -12,6 +13,7 @@ ghost use Rattle.ipc_frame.specs.Reading.{fields_known, kind_known, size_known, 
 use crate::fault::FrameFault;
 use crate::kind::{FrameKind, Side};
 use crate::pieces::pieces_fit;
+use crate::version::WireVersion;
 use byteorder::{BigEndian, ByteOrder};
 use ipc_words::MsgTag;
 use ipc_words::limits::{MAX_BUFFER_WORDS, MAX_FRAME_BODY, MAX_MESSAGE_WORDS};
@@ -112,7 +114,7 @@ fn fields_fault(size: usize, kind: FrameKind, rest: &[u8]) -> Option<FrameFault>
 {
     match kind {
         FrameKind::Ipc => ipc_fault(size, rest),
-        FrameKind::Ipcr | FrameKind::IpcrTwo => ipcr_fault(size, kind, rest),
+        FrameKind::Ipcr(_) => ipcr_fault(size, kind, rest),
         _ => None,
     }
 }
@@ -149,10 +151,10 @@ fn judge_pieces(size: usize, kind: FrameKind, rest: &[u8]) -> Judgement
 
 // What the version shows that a HELLO names.
 fn judge_version(number: u16) -> Judgement
-    ensures { result ≡ (if number == 2 then Judgement.Whole else Judgement.Bad
+    ensures { result ≡ (if is_some (version_of number) then Judgement.Whole else Judgement.Bad
         FrameFault.UnknownVersion) }
 {
-    if number == 2 {
+    if WireVersion::named(number).is_some() {
         Judgement::Whole
     } else {
         Judgement::Bad(FrameFault::UnknownVersion)

@@ -3,6 +3,8 @@ ghost use Rattle.std.specs.Prelude.{sum, ◌≤◌};
 ghost use Rattle.ipc_frame.specs.Frames.{kind_byte, kinds, widths};
 ghost use Rattle.ipc_frame.specs.Reading.{kind_among, kind_in, kind_with, is_pieced, is_wrong_size};
 
+use crate::version::WireVersion;
+
 /// Who reads a stream.
 #[derive(Clone, Copy, Debug, PartialEq, Eq)]
 pub enum Side {
@@ -12,7 +14,7 @@ pub enum Side {
     Client,
 }
 
-/// The kinds of frames; those of version 2 whose fields differ are kinds of their own.
+/// The kinds of frames; those of a version whose fields differ are kinds of their own.
 #[derive(Clone, Copy, PartialEq, Eq)]
 pub(crate) enum FrameKind {
     Hello,
@@ -21,11 +23,10 @@ pub(crate) enum FrameKind {
     Exreg,
     Bye,
     Welcome,
-    Ipcr,
+    Ipcr(WireVersion),
     Exregr,
     Refused,
     Fault,
-    IpcrTwo,
     ExregrTwo,
 }
 
@@ -40,11 +41,10 @@ impl FrameKind {
             FrameKind::Exreg => 0x03,
             FrameKind::Bye => 0x04,
             FrameKind::Welcome => 0x81,
-            FrameKind::Ipcr => 0x82,
+            FrameKind::Ipcr(version) => version.ipcr_byte(),
             FrameKind::Exregr => 0x83,
             FrameKind::Refused => 0x84,
             FrameKind::Fault => 0x85,
-            FrameKind::IpcrTwo => 0x86,
             FrameKind::ExregrTwo => 0x87,
         }
     }
@@ -63,11 +63,11 @@ impl FrameKind {
             },
             Side::Client => match byte {
                 0x81 => Some(FrameKind::Welcome),
-                0x82 => Some(FrameKind::Ipcr),
+                0x82 => Some(FrameKind::Ipcr(WireVersion::One)),
                 0x83 => Some(FrameKind::Exregr),
                 0x84 => Some(FrameKind::Refused),
                 0x85 => Some(FrameKind::Fault),
-                0x86 => Some(FrameKind::IpcrTwo),
+                0x86 => Some(FrameKind::Ipcr(WireVersion::Two)),
                 0x87 => Some(FrameKind::ExregrTwo),
                 _ => None,
             },
@@ -98,7 +98,7 @@ impl FrameKind {
     pub(crate) fn is_pieced(self) -> bool
         ensures { result ≡ is_pieced self }
     {
-        matches!(self, FrameKind::Ipcr | FrameKind::IpcrTwo)
+        matches!(self, FrameKind::Ipcr(_))
     }
 
     /// Whether a body of this length is no body of this kind.
@@ -112,11 +112,10 @@ impl FrameKind {
             FrameKind::Exreg => size != 17,
             FrameKind::Bye => size != 1,
             FrameKind::Welcome => size != 9,
-            FrameKind::Ipcr => size < 34,
+            FrameKind::Ipcr(version) => size < 34 + 8 * version.end_count(),
             FrameKind::Exregr => size != 25,
             FrameKind::Refused => size != 2,
             FrameKind::Fault => size != 3,
-            FrameKind::IpcrTwo => size < 50,
             FrameKind::ExregrTwo => size != 33,
         }
     }
@@ -132,11 +131,10 @@ impl FrameKind {
             FrameKind::Exreg => 16,
             FrameKind::Bye => 0,
             FrameKind::Welcome => 8,
-            FrameKind::Ipcr => 32,
+            FrameKind::Ipcr(version) => 32 + 8 * version.end_count(),
             FrameKind::Exregr => 24,
             FrameKind::Refused => 1,
             FrameKind::Fault => 2,
-            FrameKind::IpcrTwo => 48,
             FrameKind::ExregrTwo => 32,
         }
     }

@@ -4,11 +4,11 @@ ghost use Rattle.ipc_items.specs.Pieces.{pieces_of_all};
 ghost use Rattle.ipc_items.specs.Placed.{placed};
 ghost use Rattle.ipc_frame.specs.Parts.{IsIpcr};
 ghost use Rattle.ipc_frame.specs.Making.{ipcr_fault};
-ghost use Rattle.ipc_frame.specs.Replies.{end_of, reply_of};
+ghost use Rattle.ipc_frame.specs.Replies.{reply_of};
 
 use crate::fault::FrameFault;
 use crate::ipcr::{IpcrFrame, IpcrParts, Placed};
-use crate::version::{CallEnd, WireVersion};
+use crate::version::{WireVersion, end_of};
 use ipc_history::Outcome;
 use ipc_items::{Piece, scatter_all};
 use std::alloc::{AllocError, Global};
@@ -22,19 +22,6 @@ fn owned(alloc: Global, pieces: &[Piece<'_>]) -> Result<Vec<Placed>, AllocError>
         copies.push(Placed::new(alloc, piece.pointer, piece.bytes)?)?;
     }
     Ok(copies)
-}
-
-/// What version 2 tells of the end of a call; version 1 tells nothing of it.
-pub(crate) fn end_of(version: WireVersion, outcome: &Outcome) -> Option<CallEnd>
-    ensures { result ≡ end_of version outcome.now }
-{
-    match version {
-        WireVersion::One => None,
-        WireVersion::Two => Some(CallEnd {
-            call: outcome.call,
-            moment: outcome.moment,
-        }),
-    }
 }
 
 // The parts of the frame that tells an outcome.

@@ -1,16 +1,14 @@
 ghost use Rattle.std.specs.Prelude.{◌≡◌, ◌≤◌, ◌<◌, ◌+◌, ◌-◌, ◌^◌, [], if◌then◌else◌, nat_lt, drop, length};
 ghost use Rattle.ipc_words.specs.Limits.{max_frame_body};
 ghost use Rattle.ipc_frame.specs.Parts.{pieces_text, ipcr_size};
-ghost use Rattle.ipc_history.specs.Outcomes.{OutcomeParts};
-ghost use Rattle.ipc_frame.specs.Frames.{kind_byte, kind_of, tail_of, spelling};
+ghost use Rattle.ipc_frame.specs.Frames.{tail_of, spelling};
 ghost use Rattle.ipc_frame.specs.Replies.{pieces_told, reply_of, ipcr_of};
 ghost use Rattle.ipc_frame.specs.Lending.{lent_piece, lent_pieces};
 ghost use Rattle.ipc_frame.specs.Window.{page, passed, passed_parts};
 
-use crate::encoding::{put_end, put_ipcr_numbers, put_piece, put_words};
-use crate::kind::FrameKind;
-use crate::replies::{end_of, fits};
-use crate::version::WireVersion;
+use crate::encoding::{put_ipcr_numbers, put_piece, put_words};
+use crate::replies::fits;
+use crate::version::{WireVersion, end_of, put_end};
 use crate::window::Window;
 use ipc_history::Outcome;
 use ipc_items::Scattered;
@@ -40,17 +38,14 @@ fn measure_of(outcome: &Outcome) -> Measure
 }
 
 /// The body length of the frame that tells an outcome.
+#[tactic(auto, using(crate::proofs::VersionLemmas::told_of))]
 pub(crate) fn reply_size(version: WireVersion, outcome: &Outcome) -> usize
     ensures value { result ≡ ipcr_size (reply_of version outcome.now) }
     ensures within { result ≤ max_frame_body }
 {
     fits(version, outcome);
     let measure = measure_of(outcome);
-    let head = match version {
-        WireVersion::One => 34,
-        WireVersion::Two => 50,
-    };
-    head + 8 * outcome.words.len() + measure.bytes
+    34 + 8 * version.end_count() + 8 * outcome.words.len() + measure.bytes
 }
 
 // The pieces of the strings.
@@ -81,7 +76,7 @@ fn put_reply_tail(window: &mut Window, out: &mut [u8], outcome: &Outcome)
 }
 
 // The numbers after the kind, and the rest.
-#[tactic(auto, unfolding(crate::specs::Window::passed_parts))]
+#[tactic(auto, unfolding(crate::specs::Window::passed_parts), using(crate::proofs::WindowLemmas::outcome_passed))]
 fn put_reply_parts(window: &mut Window, out: &mut [u8], version: WireVersion, outcome: &Outcome)
     requires { window.old.filled ≤ length out.old }
     ensures shown { page window.new out.new ≡ passed_parts (ipcr_of version outcome.now)
@@ -100,16 +95,6 @@ fn put_reply_parts(window: &mut Window, out: &mut [u8], version: WireVersion, ou
     put_reply_tail(window, out, outcome);
 }
 
-// The kind byte of the frame that tells an outcome.
-fn reply_byte(version: WireVersion) -> u8
-    ensures { (outcome : OutcomeParts) → result ≡ kind_byte (kind_of (ipcr_of version outcome)) }
-{
-    match version {
-        WireVersion::One => FrameKind::Ipcr.byte(),
-        WireVersion::Two => FrameKind::IpcrTwo.byte(),
-    }
-}
-
 /// The spelling of the frame that tells an outcome in a version.
 pub(crate) fn put_reply(
     window: &mut Window,
@@ -123,7 +108,7 @@ pub(crate) fn put_reply(
     ensures within { window.new.filled ≤ length out.new }
 {
     window.put_u32(out, reply_size(version, outcome) as u32);
-    window.put_u8(out, reply_byte(version));
+    window.put_u8(out, version.ipcr_byte());
     put_reply_parts(window, out, version, outcome);
 }
 

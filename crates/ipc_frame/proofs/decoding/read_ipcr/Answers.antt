@@ -1,10 +1,9 @@
 use Rattle.std.proofs.Common.{◌≡◌, ◌+◌, ◌-◌, Some, is_some, slice_index, length, take, drop, refl, sym, ap, ap₂, subst, ◌∙◌}
 use Rattle.std.specs.List.{AllByRecursion}
-use Rattle.ipc_frame.specs.declared.kind.FrameKind.TheVariants.{Ipcr}
 use Rattle.ipc_frame.specs.declared.frame.Frame.TheVariants as frame
 use Rattle.ipc_frame.specs.Numbers.{number_in, fields_in, words_in}
 use Rattle.ipc_frame.specs.Parts.{IsIpcr, IsPiece, words_of}
-use Rattle.ipc_frame.specs.Frames.{widths}
+use Rattle.ipc_frame.specs.Frames.{outcome_widths}
 use Rattle.ipc_frame.specs.Reading.{ipcr_parts, pieces_in}
 use Rattle.ipc_frame.proofs.DecodeLemmas.{ipcr_made, same_ipcr, pieces_there, one_value}
 use Rattle.ipc_frame.proofs.decoding.read_ipcr.Goals as goal
@@ -13,7 +12,7 @@ pub read_pieces-requires : goal.read_pieces-requires
 read_pieces-requires c =
     let h = c.args.head.now in
     let tail = c.args.tail.now in
-    let made = ipcr_made c.args.end (fields_in (widths Ipcr) h) tail c.requires.made.0 c.requires.made.1 in
+    let made = ipcr_made c.args.end (fields_in outcome_widths h) tail c.requires.made.0 c.requires.made.1 in
     let tag : c.from_word-tag.result ≡ number_in 8 h = c.from_word-tag.ensures ∙ c.split_u64-tag.ensures.number in
     let count : c.untyped.result + c.typed.result ≡ words_of (number_in 8 h) = ap₂ (λ a b. a + b) c.untyped.ensures c.typed.ensures ∙ ap words_of tag in
     let behind = c.split_at.result.1.now in
@@ -24,7 +23,7 @@ pub of-requires-clause-is : goal.of-requires-clause-is
 of-requires-clause-is c =
     let h = c.args.head.now in
     let tail = c.args.tail.now in
-    let made = ipcr_made c.args.end (fields_in (widths Ipcr) h) tail c.requires.made.0 c.requires.made.1 in
+    let made = ipcr_made c.args.end (fields_in outcome_widths h) tail c.requires.made.0 c.requires.made.1 in
     let tag : c.from_word-tag.result ≡ number_in 8 h = c.from_word-tag.ensures ∙ c.split_u64-tag.ensures.number in
     let count : c.untyped.result + c.typed.result ≡ words_of (number_in 8 h) = ap₂ (λ a b. a + b) c.untyped.ensures c.typed.ensures ∙ ap words_of tag in
     let behind = c.split_at.result.1.now in
@@ -37,7 +36,7 @@ of-requires-clause-is c =
     let actual = c.from_word-2.ensures ∙ (c.split_u64-actual.ensures.number ∙ ap (number_in 8) behind_sender) in
     let error = c.from_word-3.ensures ∙ (c.split_u64-error.ensures.number ∙ ap (number_in 8) behind_actual) in
     let words = c.in_ok-read_words.ensures ∙ ap (λ k. words_in k tail) count in
-    let parts = ipcr_parts c.args.end (fields_in (widths Ipcr) h) tail made.pieces in
+    let parts = ipcr_parts c.args.end (fields_in outcome_widths h) tail made.pieces in
     let same = same_ipcr parts _ _ _ _ _ _ _ refl tag sender actual error words pieces in
     subst IsIpcr (sym same) made.fits.0
 
@@ -45,7 +44,7 @@ pub of-requires-clause-pieces : goal.of-requires-clause-pieces
 of-requires-clause-pieces c =
     let h = c.args.head.now in
     let tail = c.args.tail.now in
-    let made = ipcr_made c.args.end (fields_in (widths Ipcr) h) tail c.requires.made.0 c.requires.made.1 in
+    let made = ipcr_made c.args.end (fields_in outcome_widths h) tail c.requires.made.0 c.requires.made.1 in
     let tag : c.from_word-tag.result ≡ number_in 8 h = c.from_word-tag.ensures ∙ c.split_u64-tag.ensures.number in
     let count : c.untyped.result + c.typed.result ≡ words_of (number_in 8 h) = ap₂ (λ a b. a + b) c.untyped.ensures c.typed.ensures ∙ ap words_of tag in
     let behind = c.split_at.result.1.now in
@@ -57,7 +56,7 @@ pub returns : goal.returns
 returns c =
     let h = c.args.head.now in
     let tail = c.args.tail.now in
-    let made = ipcr_made c.args.end (fields_in (widths Ipcr) h) tail c.requires.made.0 c.requires.made.1 in
+    let made = ipcr_made c.args.end (fields_in outcome_widths h) tail c.requires.made.0 c.requires.made.1 in
     let tag : c.from_word-tag.result ≡ number_in 8 h = c.from_word-tag.ensures ∙ c.split_u64-tag.ensures.number in
     let count : c.untyped.result + c.typed.result ≡ words_of (number_in 8 h) = ap₂ (λ a b. a + b) c.untyped.ensures c.typed.ensures ∙ ap words_of tag in
     let behind = c.split_at.result.1.now in
@@ -70,6 +69,6 @@ returns c =
     let actual = c.from_word-2.ensures ∙ (c.split_u64-actual.ensures.number ∙ ap (number_in 8) behind_sender) in
     let error = c.from_word-3.ensures ∙ (c.split_u64-error.ensures.number ∙ ap (number_in 8) behind_actual) in
     let words = c.in_ok-read_words.ensures ∙ ap (λ k. words_in k tail) count in
-    let parts = ipcr_parts c.args.end (fields_in (widths Ipcr) h) tail made.pieces in
+    let parts = ipcr_parts c.args.end (fields_in outcome_widths h) tail made.pieces in
     let same = same_ipcr parts _ _ _ _ _ _ _ refl tag sender actual error words pieces in
     rw made.found (ap (λ q. Some (frame.Ipcr q)) (sym (c.of.ensures ∙ same)))

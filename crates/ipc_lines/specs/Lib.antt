@@ -5,4 +5,3 @@ pub mod Reading
 pub mod Names
 pub mod Spelling
 pub mod Limit
-pub mod Told

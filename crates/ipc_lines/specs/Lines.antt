@@ -68,12 +68,20 @@ entry_text entry = spaced (entry_fields entry)
 abbrev pub placed_in : OutcomeParts → List PlacedBytes
 placed_in outcome = flat_map (λ placed. placed) (pieces_in outcome)
 
--- the fields of an outcome: the number of the call, the tag, the sender that is shown, the ActualSender, the ErrorCode, MR1 on,
--- and the pieces of the received strings
-abbrev pub outcome_fields : OutcomeParts → List (List ℕ)
-outcome_fields outcome =
+-- the fields of an outcome that are one word each: the number of the call, the tag, the sender that is shown, the ActualSender and
+-- the ErrorCode
+abbrev pub told_fields : OutcomeParts → List (List ℕ)
+told_fields outcome =
     decimal outcome.call ∷ hex_text outcome.tag ∷ id_text outcome.sender ∷ id_text outcome.actual
-    ∷ hex_text outcome.error ∷ words_text outcome.words ∷ pieces_text (placed_in outcome) ∷ []
+    ∷ hex_text outcome.error ∷ []
+
+-- MR1 on, and the pieces of the received strings
+abbrev pub received_fields : OutcomeParts → List (List ℕ)
+received_fields outcome = words_text outcome.words ∷ pieces_text (placed_in outcome) ∷ []
+
+-- the fields of an outcome
+abbrev pub outcome_fields : OutcomeParts → List (List ℕ)
+outcome_fields outcome = told_fields outcome ++ received_fields outcome
 
 abbrev pub outcome_text : OutcomeParts → List ℕ
 outcome_text outcome = spaced (outcome_fields outcome)

@@ -4,8 +4,7 @@ ghost use Rattle.std.specs.List.{flat_map};
 ghost use Rattle.ipc_items.specs.Pieces.{pieces_of_all};
 ghost use Rattle.ipc_items.specs.Placed.{placed};
 ghost use Rattle.ipc_lines.specs.Texts.{pieces_text, piece_text};
-ghost use Rattle.ipc_lines.specs.Lines.{outcome_text, placed_in, spaced};
-ghost use Rattle.ipc_lines.specs.Told.{received_fields, told_fields};
+ghost use Rattle.ipc_lines.specs.Lines.{outcome_text, placed_in, received_fields, spaced, told_fields};
 
 use crate::lists::{separate, write_bytes, write_words};
 use crate::scalars::{HexText, IdText};
@@ -37,7 +36,7 @@ fn write_pieces(alloc: Global, out: &mut String, pieces: &[Piece<'_>]) -> Result
     Ok(())
 }
 
-// Appends the five fields of an outcome that are one word each.
+// Appends the fields of an outcome that are one word each.
 fn write_scalars(out: &mut String, outcome: &Outcome) -> Result<(), AllocError>
     ensures { OnOk result (string_bytes out.new
         ≡ string_bytes out.old ++ spaced (told_fields outcome.now)) }
@@ -71,7 +70,7 @@ fn write_lists(alloc: Global, out: &mut String, outcome: &Outcome) -> Result<(),
     write_received(alloc, out, outcome)
 }
 
-// Appends the seven fields of an outcome.
+// Appends the fields of an outcome.
 fn write_outcome(alloc: Global, out: &mut String, outcome: &Outcome) -> Result<(), AllocError>
     ensures { OnOk result (string_bytes out.new
         ≡ string_bytes out.old ++ outcome_text outcome.now) }

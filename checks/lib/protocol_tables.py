@@ -165,7 +165,7 @@ MEANINGS = {
     "C5": "the thread is connected already",
     "C6": "the path of the space is too long for a socket",
     "C7": "ExchangeRegisters of what is no live thread of the caller's space",
-    "C8": "the wire has versions 1 and 2",
+    "C8": "the wire has no such version",
     "C9": "the connection stayed with the process that forked this one",
     "C10": "a call of the thread is open: longjmp left it, or a signal handler calls within it",
     "C11": "no string item: a size below 0, or more substrings than 63 words hold",

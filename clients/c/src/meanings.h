@@ -43,7 +43,7 @@ static const struct meaning meanings[] = {
 	{ 'C', C_IS_CONNECTED, EISCONN, "the thread is connected already" },
 	{ 'C', C_NO_PATH, ENAMETOOLONG, "the path of the space is too long for a socket" },
 	{ 'C', C_NOBODY_THERE, ESRCH, "ExchangeRegisters of what is no live thread of the caller's space" },
-	{ 'C', C_NO_VERSION, EINVAL, "the wire has versions 1 and 2" },
+	{ 'C', C_NO_VERSION, EINVAL, "the wire has no such version" },
 	{ 'C', C_IS_FORKED, ENOTCONN, "the connection stayed with the process that forked this one" },
 	{ 'C', C_CALL_IS_OPEN, EBUSY, "a call of the thread is open: longjmp left it, or a signal handler calls within it" },
 	{ 'C', C_NO_ITEM, EINVAL, "no string item: a size below 0, or more substrings than 63 words hold" },

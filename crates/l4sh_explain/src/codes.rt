@@ -94,7 +94,7 @@ const CLIENT: Family = Family {
         "the thread is connected already",
         "the path of the space is too long for a socket",
         "ExchangeRegisters of what is no live thread of the caller's space",
-        "the wire has versions 1 and 2",
+        "the wire has no such version",
         "the connection stayed with the process that forked this one",
         "a call of the thread is open: longjmp left it, or a signal handler calls within it",
         "what was appended to the message is no string item",

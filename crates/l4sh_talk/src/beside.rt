@@ -26,7 +26,7 @@ fn put_fields<'a>(fields: &mut Vec<&'a [u8]>, line: &'a [u8]) -> Result<(), Allo
 fn words_of_fields(alloc: Global, fields: &[&[u8]]) -> Result<Option<String>, AllocError> {
     match fields {
         [mark, word] => words_of_one(alloc, mark, word),
-        [mark, _, tag, sender, _, error, _, _] if is_done(mark) => {
+        [mark, _, tag, sender, _, error, ..] if is_done(mark) => {
             outcome_words(alloc, tag, sender, error)
         }
         _ => Ok(None),

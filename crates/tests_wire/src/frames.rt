@@ -221,7 +221,6 @@ const FAULTY: &[Faulty] = &[
     // a version that is not there is told when its HELLO is whole
     (Side::Server, &HELLO_TWO, &[(8, 0)], 9, 15),
     (Side::Server, &HELLO_TWO, &[(8, 1)], 9, 15),
-    (Side::Server, &HELLO_TWO, &[(8, 3)], 9, 15),
     (Side::Server, &HELLO_TWO, &[(8, 255)], 9, 15),
     (Side::Server, &HELLO_TWO, &[], 8, 9),
     // the call

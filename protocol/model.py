@@ -212,30 +212,31 @@ def frame_of(record, protocol):
     return frame
 
 
-def look_at_outcomes(protocol, record):
+def look_at_outcomes(protocol, records):
     """What a version of IPCR tells of a call are words: first those of the version before, then its own."""
     before = []
     for frame in protocol.forms("IPCR"):
         if frame.told[: len(before)] != before or any(it.width != 8 for it in frame.told):
-            raise record.bad(f"frame {frame.name}: its own fields are words, and begin with {', '.join(it.name for it in before)}")
+            raise records[frame.name].bad(f"frame {frame.name}: its own fields are words, and begin with {', '.join(it.name for it in before)}")
         before = frame.told
 
 
 def load_frames(protocol):
+    records = {}
     for record in read(HERE, "frames.txt", FRAMES):
         if record.word == "version":
             if record.name != str(len(protocol.versions) + 1):
                 raise record.bad("version: they are counted from 1")
             protocol.versions[len(protocol.versions) + 1] = record.one("rattle")
         elif record.word == "frame":
-            protocol.frames[record.name] = frame_of(record, protocol)
+            records[record.name], protocol.frames[record.name] = record, frame_of(record, protocol)
         elif record.word == "piece":
             protocol.piece = Frame(record.name, record.name, 0, "client", "", fields_of(record))
         else:
             protocol.classes[record.name] = record.number("byte"), tuple(record.one("rattle").split())
             if protocol.classes[record.name][0] != ord(record.name):
                 raise record.bad(f"class {record.name}: its byte is that of another letter", record.line_of("byte"))
-    look_at_outcomes(protocol, record)
+    look_at_outcomes(protocol, records)
 
 
 def load_limits(protocol):

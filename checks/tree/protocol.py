@@ -129,6 +129,8 @@ def outcome_definitions(book):
     book.same(spec.path, "end_words", told, {(), tuple(field.name for field in book.protocol.forms("IPCR")[-1].told)})
     named = {name: int(number) for number, name in re.findall(r"(\d+) => Some\(WireVersion::(\w+)\)", source.body("named"))}
     book.same(source.path, "named", named, {name: it for name, it in numbers.items() if it > 1})
+    for it in outcomes.values():
+        book.same("protocol/frames.txt", f"the name of {it.name} in ipc_frame", it.rattle, f"Ipcr {book.protocol.versions[it.version]}")
     first, frames = book.protocol.frames["IPCR"], book.source("crates/ipc_frame/specs/Frames.antt")
     book.same(frames.path, "outcome_widths", frames.lists("outcome_widths")[""], [str(field.width) for field in first.fields])
     kind = book.source("crates/ipc_frame/src/kind.rt")

@@ -92,7 +92,7 @@ struct thread {
 	/* that one is of l4_ipc_begin */
 	bool is_begun;
 	struct phases open;
-	/* of the wire, 1 or 2 */
+	/* of the wire */
 	unsigned version;
 	/* a register that is not there was used: the next Ipc tells it */
 	bool is_misused;

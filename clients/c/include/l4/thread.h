@@ -67,7 +67,7 @@ static inline L4_Bool_t L4_IsGlobalId(L4_ThreadId_t t)
  * the thread of the process at the latest. BR0 and VirtualSender begin as 0, whatever they were before. */
 int l4_connect(const char *dir, unsigned space, unsigned number);
 
-/* The same, and the version of the wire that is spoken: 1, which l4_connect speaks, or 2; EINVAL for another one. A server that
+/* The same, and the version of the wire that is spoken: 1, which l4_connect speaks, or a later one; EINVAL for none. A server that
  * has version 1 alone answers FAULT F3, so errno is EPROTO and l4_error begins with it: call l4_connect then. */
 int l4_connect_version(const char *dir, unsigned space, unsigned number, unsigned version);
 
@@ -75,7 +75,7 @@ int l4_connect_version(const char *dir, unsigned space, unsigned number, unsigne
  * thread, and waits for an answer, until that time is over; for an answer it waits a second at least. */
 int l4_connect_wait(const char *dir, unsigned space, unsigned number, unsigned version, L4_Time_t patience);
 
-/* What version 2 tells of the last Ipc of the calling thread, also of one that was made for l4/names.h: the number of the
+/* What a later version tells of the last Ipc of the calling thread, also of one that was made for l4/names.h: the number of the
  * call, which is that in the trace of the server, and the moment at which it was over, in microseconds since the server began.
  * False, and 0 in both places, where nothing was told: in version 1, before the first Ipc, and where the last one was refused or
  * was not made. Either pointer may be null. */

@@ -1,4 +1,4 @@
-"""Frames: what goes over the socket, in both versions of the wire. docs/FORMATS.md has them."""
+"""Frames: what goes over the socket, in each version of the wire. docs/FORMATS.md has them."""
 
 import struct
 from dataclasses import dataclass
@@ -49,7 +49,7 @@ class Welcome:
 
 @dataclass(frozen=True)
 class Exchanged:
-    """An EXREGR frame: what ExchangeRegisters answers. In version 2 with its moment."""
+    """An EXREGR frame: what ExchangeRegisters answers, from version 2 on with its moment."""
 
     result: ThreadId
     control: int

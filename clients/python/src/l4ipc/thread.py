@@ -46,7 +46,7 @@ class Thread(Caller):
     `Closed`, and is not made again; the next one connects first, for which it waits ``wait_for`` seconds, and registers the names of the
     thread again. The thread may then have another ``id``; ``lives`` counts its connections.
 
-    ``version`` is that of the wire, 1 or 2. In version 2 the server tells of each call its number and the moment at which it was over, in
+    ``version`` is that of the wire, from 1 on. From version 2 on the server tells of each call its number and the moment at which it was over, in
     microseconds since the server began; in version 1 these are ``None``. A server that has version 1 alone raises `Fault` F3: connect again.
     ``last_call`` is the number of the Ipc that was over last, and ``last_moment`` the moment of the last answer to an Ipc or an
     ExchangeRegisters: also for `send` and `sleep`, which answer nothing. ``last_told`` has all that the version tells of that Ipc.

@@ -19,7 +19,7 @@ use Rattle.ipc_core.specs.declared.command.Answer.TheVariants.{Opened, Entered, 
 use Rattle.ipc_core.specs.declared.command.Command.{Command}
 use Rattle.ipc_core.specs.declared.command.Command.TheVariants.{Open, Enter, Exreg, Broke, At, Advance, Take}
 use Rattle.ipc_core.specs.declared.refusal.Refusal.{Refusal}
-use Rattle.ipc_core.specs.declared.refusal.Refusal.TheVariants.{BadNumber, NumberTaken, NumberWorn, NoMemory, HistoryFull, NoThread, Busy, CallsSpent}
+use Rattle.ipc_core.specs.declared.refusal.Refusal.TheVariants.{HistoryFull, NoThread}
 use Rattle.ipc_core.proofs.Few.{obeys_few}
 use Rattle.ipc_core.proofs.RunLaws.{runs_once}
 use Rattle.ipc_core.proofs.SeenFrom.{cause_seen, does_seen}
@@ -54,14 +54,8 @@ not_full : (refusal : Refusal) (answer : Answer) → answer ≡ Refused refusal 
 not_full refusal answer is = ap says_history_full is ∙ both refusal
   where
     both : (refusal : Refusal) → says_history_full (Refused refusal) ≡ is_history_full (Some refusal)
-    both BadNumber = refl
-    both NumberTaken = refl
-    both NumberWorn = refl
-    both NoMemory = refl
     both HistoryFull = refl
-    both NoThread = refl
-    both Busy = refl
-    both CallsSpent = refl
+    both _ = refl
 
 done_not_full : (old new : KernelParts) (command : Command) (answer : Answer) → Does old command answer new → says_history_full answer ≡ false
 unfolding Does

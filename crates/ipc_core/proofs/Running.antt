@@ -6,7 +6,7 @@ use Rattle.ipc_core.specs.Obeying.{MayObey, Obeys, Runs, is_no_memory}
 use Rattle.ipc_core.specs.declared.command.Answer.{Answer}
 use Rattle.ipc_core.specs.declared.command.Answer.TheVariants.{Refused}
 use Rattle.ipc_core.specs.declared.refusal.Refusal.{Refusal}
-use Rattle.ipc_core.specs.declared.refusal.Refusal.TheVariants.{BadNumber, NumberTaken, NumberWorn, NoMemory, HistoryFull, NoThread, Busy, CallsSpent}
+use Rattle.ipc_core.specs.declared.refusal.Refusal.TheVariants.{NoMemory}
 use Rattle.ipc_core.specs.declared.command.Command.{Command}
 
 -- no command leaves the kernel as it is
@@ -24,14 +24,8 @@ runs_push (c ∷ commands) [] first between last command answer runs obeys = abs
 
 -- a refusal that has another cause
 pub other_refusal : (refusal : Refusal) → (refusal ≡ NoMemory → ⊥) → is_no_memory (Refused refusal) ≡ false
-other_refusal BadNumber other = refl
-other_refusal NumberTaken other = refl
-other_refusal NumberWorn other = refl
 other_refusal NoMemory other = absurd (other refl)
-other_refusal HistoryFull other = refl
-other_refusal NoThread other = refl
-other_refusal Busy other = refl
-other_refusal CallsSpent other = refl
+other_refusal _ other = refl
 
 -- what was not refused for want of memory was obeyed
 pub obeyed : (old : KernelParts) (command : Command) (answer : Answer) (new : KernelParts) → MayObey old command answer new → is_no_memory answer ≡ false → Obeys old command answer new

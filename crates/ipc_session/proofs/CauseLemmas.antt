@@ -17,7 +17,7 @@ use Rattle.ipc_connection.specs.declared.replying.Told.TheVariants as told
 use Rattle.ipc_connection.specs.declared.stage.Stage.{Stage}
 use Rattle.ipc_connection.specs.declared.stage.Stage.TheVariants.{Greeting, Serving, Finished}
 use Rattle.ipc_core.specs.declared.refusal.Refusal.{Refusal}
-use Rattle.ipc_core.specs.declared.refusal.Refusal.TheVariants.{BadNumber, NumberTaken, NumberWorn, NoMemory, HistoryFull, NoThread, Busy, CallsSpent}
+use Rattle.ipc_core.specs.declared.refusal.Refusal.TheVariants.{NoThread, Busy}
 use Rattle.ipc_session.specs.Reading.{IsCause}
 use Rattle.ipc_session.specs.Serving.{AsksSo, IsAnswer, Serves, ServesBy, ends_with, turned_at}
 use Rattle.ipc_session.specs.declared.ending.Ending.{Ending}
@@ -56,12 +56,7 @@ refused_on Finished refusal is_on goes = absurd (is_on refl)
 refused : (stage : Stage) (request : Request) (ending : Ending) (heard : HeardList) (before : List KernelCall) (refusal : Refusal) → stage ≢ Finished → RefusedSo stage request ending heard before refusal
 refused stage request ending heard before NoThread is_on e = refused_gone stage request ending heard before e
 refused stage request ending heard before Busy is_on e = refused_busy stage request ending heard before e
-refused stage request ending heard before BadNumber is_on e = goes_on ending stage (e ∙ refused_on stage BadNumber is_on refl)
-refused stage request ending heard before NumberTaken is_on e = goes_on ending stage (e ∙ refused_on stage NumberTaken is_on refl)
-refused stage request ending heard before NumberWorn is_on e = goes_on ending stage (e ∙ refused_on stage NumberWorn is_on refl)
-refused stage request ending heard before NoMemory is_on e = goes_on ending stage (e ∙ refused_on stage NoMemory is_on refl)
-refused stage request ending heard before HistoryFull is_on e = goes_on ending stage (e ∙ refused_on stage HistoryFull is_on refl)
-refused stage request ending heard before CallsSpent is_on e = goes_on ending stage (e ∙ refused_on stage CallsSpent is_on refl)
+refused stage request ending heard before refusal is_on e = goes_on ending stage (e ∙ refused_on stage refusal is_on refl)
 
 opened_on : (stage : Stage) (thread : ℕ) (version : WireVersion) → ends_with (told.Opened thread version) stage ≡ On (Serving thread)
 unfolding next_stage

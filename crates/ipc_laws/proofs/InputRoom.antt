@@ -1,11 +1,12 @@
 -- An input needs no more room than it asks for.
 use Rattle.std.proofs.lemmas.Bool.{false_from_ne_true}
 use Rattle.std.proofs.lemmas.List.Sums.{sum_by_push}
-use Rattle.std.proofs.Common.{◌≡◌, refl, ℕ, ◌+◌, ◌-◌, ◌*◌, ◌/◌, ◌≤◌, min, Bool, true, false, not, ◌==◌, eq-eqb, eqb-true, cond, if◌then◌else◌, List, [], ◌∷◌, ◌++◌, length, length-append, Some, None, sum_by, arith}
+use Rattle.std.proofs.Common.{◌≡◌, refl, ℕ, ◌+◌, ◌-◌, ◌*◌, ◌≤◌, Bool, true, false, not, ◌==◌, eq-eqb, eqb-true, cond, if◌then◌else◌, List, [], ◌∷◌, ◌++◌, length, length-append, Some, None, sum_by, arith}
 use Rattle.ipc_words.specs.ThreadId.{nilthread}
 use Rattle.ipc_items.specs.Strings.{size_of}
 use Rattle.ipc_history.specs.CallParts.{CallParts}
 use Rattle.ipc_history.specs.Entries.{count_in, number_in, call_in}
+use Rattle.ipc_history.specs.Blocks.{blocks, block_of}
 use Rattle.ipc_history.specs.Calls.{numbers, call_at, is_called, to_of, strings_of, message_size}
 use Rattle.ipc_history.specs.Threads.{is_live}
 use Rattle.ipc_history.specs.Phases.{is_over, moved_bytes}
@@ -43,7 +44,7 @@ module _ (P : List Entry) (i : Input) (plain : number_in (Given i) ≡ None) whe
 
 -- a Moved leaves a block less to copy
 
-module _ (P : List Entry) (h : Legal P) (q : Quiet P) (n m count : ℕ) (p : Passes P n m) (c : count ≡ min 65536 (message_size P n - moved_bytes P n)) where
+module _ (P : List Entry) (h : Legal P) (q : Quiet P) (n m count : ℕ) (p : Passes P n m) (c : count ≡ block_of P n) where
   block_less : blocks_left (P ++ Given (Moved n count) ∷ []) n + 1 ≤ blocks_left P n
   unfolding blocks_left
   block_less =
@@ -72,7 +73,7 @@ module _ (P : List Entry) (h : Legal P) (q : Quiet P) (n m count : ℕ) (p : Pas
 
 -- A Called adds the room of its call, and leaves that of the others
 
-no_more_blocks : (b : Bool) (s m : ℕ) → (if b then 0 else (s - m + 65535) / 65536) ≤ (if b then 0 else (s + 65535) / 65536)
+no_more_blocks : (b : Bool) (s m : ℕ) → (if b then 0 else blocks (s - m)) ≤ (if b then 0 else blocks s)
 no_more_blocks b s m = grind arith
 
 module _ (P : List Entry) (n thread : ℕ) (call : CallParts) (absent : is_called P n ≡ false) where

@@ -2,12 +2,13 @@
 use Rattle.std.proofs.lemmas.Bool.{cases_order}
 use Rattle.std.proofs.lemmas.Option.{none-some}
 use Rattle.std.proofs.lemmas.List.Sums.{sum_by_push}
-use Rattle.std.proofs.Common.{◌≡◌, refl, sym, ap, ◌∙◌, ℕ, ◌+◌, ◌-◌, ◌<◌, ◌≤◌, min, zero-le, Bool, true, false, ◌==◌, eq-eqb, eqb-true, List, [], ◌∷◌, ◌++◌, Option, Some, None, option_and_then, inl, inr, arith}
+use Rattle.std.proofs.Common.{◌≡◌, refl, sym, ap, ◌∙◌, ℕ, ◌+◌, ◌-◌, ◌<◌, ◌≤◌, zero-le, Bool, true, false, ◌==◌, eq-eqb, eqb-true, List, [], ◌∷◌, ◌++◌, Option, Some, None, option_and_then, inl, inr, arith}
 use Rattle.std.specs.Option.{option_or}
 use Rattle.ipc_words.specs.ThreadId.{nilthread}
 use Rattle.ipc_history.specs.CallParts.{CallParts}
 use Rattle.ipc_history.specs.Words.{first_some, last}
 use Rattle.ipc_history.specs.Entries.{count_in, number_in}
+use Rattle.ipc_history.specs.Blocks.{block_of}
 use Rattle.ipc_history.specs.Calls.{numbers, call_at, is_called, to_of, strings_of, message_size}
 use Rattle.ipc_history.specs.Phases.{receiver_of, is_transferring, moved_bytes}
 use Rattle.ipc_history.specs.NextOutput.{next_output, stop_after, turn_after, end_of, partner_gone_of, meeting_of, timeout_of}
@@ -81,7 +82,7 @@ size_of_none P n h = go (call_at P n) refl
 abbrev Within : List Entry → Type 0
 Within P = (n : ℕ) → moved_bytes P n ≤ message_size P n
 
-pub counted : (P : List Entry) (n count : ℕ) → is_admissible P (Moved n count) ≡ true → count ≡ min 65536 (message_size P n - moved_bytes P n)
+pub counted : (P : List Entry) (n count : ℕ) → is_admissible P (Moved n count) ≡ true → count ≡ block_of P n
 unfolding is_admissible may_move
 counted P n count h = eqb-true _ _ (right _ _ h)
 
@@ -98,7 +99,7 @@ step P (Given (Moved k count)) l h f n = go (k == n) refl
     go true e =
         let same : k ≡ n = eqb-true k n e in
         let more : count_in n (Given (Moved k count)) ≡ count = rw e refl in
-        let much : count ≡ min 65536 (message_size P n - moved_bytes P n) = rw same at (counted P k count f.1) in
+        let much : count ≡ block_of P n = rw same at (counted P k count f.1) in
         rw (moved_push P (Given (Moved k count)) n, size_same P (P ++ Given (Moved k count) ∷ []) n (call_at_push P (Given (Moved k count)) refl n)) (omega (arith, more, much, h n))
 step P (Given (Called k thread call)) l h f n = go (is_called P n) refl
   where

@@ -1,7 +1,8 @@
 -- The calls of a legal history are in normal form.
 use Rattle.std.proofs.lemmas.Bool.{leb-true}
 use Rattle.std.proofs.lemmas.Option.{same_Some}
-use Rattle.std.proofs.Common.{◌≡◌, refl, sym, ap, ◌∙◌, ℕ, ◌+◌, ◌*◌, ◌^◌, ◌≤◌, zero-le, lit≤, true, eqb-true, List, length, Option, Some, None, arith}
+use Rattle.std.proofs.Common.{◌≡◌, refl, sym, ap, ◌∙◌, ℕ, ◌+◌, ◌*◌, ◌≤◌, zero-le, lit≤, true, eqb-true, List, length, Option, Some, None, arith}
+use Rattle.ipc_words.specs.Limits.{max_string_bytes}
 use Rattle.ipc_words.specs.MsgTag.{untyped_of, typed_of}
 use Rattle.ipc_items.specs.Strings.{size_of}
 use Rattle.ipc_history.specs.CallParts.{CallParts, is_normal}
@@ -36,7 +37,7 @@ pub record IsCounted (call : CallParts) : Type 0 where
   pub untyped : untyped_of call.tag ≡ length call.words
   pub typed : typed_of call.tag ≡ 2 * length call.strings
   pub together : length call.words + 2 * length call.strings ≤ 63
-  pub size : size_of call.strings ≤ 2 ^ 20
+  pub size : size_of call.strings ≤ max_string_bytes
 
 pub normal_counts : (call : CallParts) → is_normal call ≡ true → IsCounted call
 unfolding is_normal

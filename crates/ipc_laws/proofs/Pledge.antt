@@ -2,12 +2,13 @@
 use Rattle.std.proofs.lemmas.Option.{none-some, same_Some}
 use Rattle.std.proofs.lemmas.List.Folds.{list_any-append}
 use Rattle.std.proofs.lemmas.List.Sums.{sum_by-cons, sum_by-le-sum_by}
-use Rattle.std.proofs.Common.{◌≡◌, refl, sym, ap, ap₂, ◌∙◌, ℕ, ◌+◌, ◌-◌, ◌*◌, ◌/◌, ◌≤◌, zero-le, Bool, true, false, not, ◌||◌, ◌==◌, cond, if◌then◌else◌, List, [], ◌∷◌, ◌++◌, append-nil, append_assoc, length, Option, Some, None, is_none, sum_by, ◌⊎◌, inl, inr, arith}
+use Rattle.std.proofs.Common.{◌≡◌, refl, sym, ap, ap₂, ◌∙◌, ℕ, ◌+◌, ◌-◌, ◌*◌, ◌≤◌, zero-le, Bool, true, false, not, ◌||◌, ◌==◌, cond, if◌then◌else◌, List, [], ◌∷◌, ◌++◌, append-nil, append_assoc, length, Option, Some, None, is_none, sum_by, ◌⊎◌, inl, inr, arith}
 use Rattle.std.specs.List.{list_any}
 use Rattle.std.specs.Option.{option_or, option_map_or}
 use Rattle.ipc_words.specs.ThreadId.{nilthread}
 use Rattle.ipc_history.specs.Words.{last}
 use Rattle.ipc_history.specs.Entries.{breaks, closes, ends_send}
+use Rattle.ipc_history.specs.Blocks.{blocks}
 use Rattle.ipc_history.specs.Calls.{numbers, caller_of, to_of, from_of, message_size}
 use Rattle.ipc_history.specs.Threads.{has_broken}
 use Rattle.ipc_history.specs.Phases.{is_over, is_sent, moved_bytes, receiver_of, sender_of}
@@ -29,7 +30,7 @@ use Rattle.ipc_laws.proofs.ThreadChanges.{or_false}
 phase_most : (done waiting : Bool) → phase_steps done waiting ≤ 2
 phase_most done waiting = grind arith
 
-pledge_more : (a b : Bool) (s m t : ℕ) → t ≤ 4 * cond (not a) 1 0 → (if a then 0 else 1 + 2 * (if b then 0 else (s - m + 65535) / 65536)) + t ≤ (if a then 0 else 5 + 2 * (if b then 0 else (s + 65535) / 65536))
+pledge_more : (a b : Bool) (s m t : ℕ) → t ≤ 4 * cond (not a) 1 0 → (if a then 0 else 1 + 2 * (if b then 0 else blocks (s - m))) + t ≤ (if a then 0 else 5 + 2 * (if b then 0 else blocks s))
 pledge_more a b s m t h = grind arith
 
 pledge_covers_call : (P : List Entry) (x : ℕ) → room_of P x ≤ pledge_of P x
@@ -96,7 +97,7 @@ begun_room : (P : List Entry) (n m : ℕ) → receiver_of P n ≡ Some m → is_
 unfolding room_of pledge_of blocks_left
 begun_room P n m r o = rw o (more (to_of P n == nilthread) (message_size P n) (moved_bytes P n) (steps_left P n) (begun_steps P n m r o))
   where
-    more : (b : Bool) (s m t : ℕ) → t ≤ 3 → (1 + 2 * (if b then 0 else (s - m + 65535) / 65536)) + t + 1 ≤ 5 + 2 * (if b then 0 else (s + 65535) / 65536)
+    more : (b : Bool) (s m t : ℕ) → t ≤ 3 → (1 + 2 * (if b then 0 else blocks (s - m))) + t + 1 ≤ 5 + 2 * (if b then 0 else blocks s)
     more true s m t h = omega arith
     more false s m t h = omega arith
 

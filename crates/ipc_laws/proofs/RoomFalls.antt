@@ -1,7 +1,8 @@
 -- The room that is owed falls: no output needs more than was owed, and a failure gives some back.
-use Rattle.std.proofs.Common.{◌≡◌, refl, ℕ, ◌+◌, ◌-◌, ◌*◌, ◌/◌, ◌≤◌, Bool, true, false, ◌==◌, eq-eqb, eqb-true, if◌then◌else◌, List, [], ◌∷◌, ◌++◌, length, length-append, Some, arith}
+use Rattle.std.proofs.Common.{◌≡◌, refl, ℕ, ◌+◌, ◌-◌, ◌*◌, ◌≤◌, Bool, true, false, ◌==◌, eq-eqb, eqb-true, if◌then◌else◌, List, [], ◌∷◌, ◌++◌, length, length-append, Some, arith}
 use Rattle.ipc_words.specs.ThreadId.{nilthread}
 use Rattle.ipc_history.specs.Entries.{count_in, closes}
+use Rattle.ipc_history.specs.Blocks.{blocks}
 use Rattle.ipc_history.specs.Calls.{numbers, call_at, to_of, message_size}
 use Rattle.ipc_history.specs.Phases.{is_over, moved_bytes}
 use Rattle.ipc_history.specs.NextOutput.{next_output}
@@ -31,7 +32,7 @@ pub room_of_falls : (P : List Entry) (e : Entry) (x taken less : ℕ) → call_a
 unfolding room_of
 room_of_falls P e x taken less same none h g = room_falls (is_over P x) (is_over (P ++ e ∷ []) x) _ _ _ _ taken less (is_over_same P e x same) none h g
 
-fewer_blocks : (b : Bool) (s m c : ℕ) → (if b then 0 else (s - (m + c) + 65535) / 65536) ≤ (if b then 0 else (s - m + 65535) / 65536)
+fewer_blocks : (b : Bool) (s m c : ℕ) → (if b then 0 else blocks (s - (m + c))) ≤ (if b then 0 else blocks (s - m))
 fewer_blocks b s m c = grind arith
 
 pub blocks_fall : (P : List Entry) (e : Entry) (x : ℕ) → call_at (P ++ e ∷ []) x ≡ call_at P x → blocks_left (P ++ e ∷ []) x ≤ blocks_left P x

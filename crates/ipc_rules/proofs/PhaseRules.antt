@@ -1,8 +1,9 @@
 -- What the rules give for an open call, by what is kept of it.
 use Rattle.std.proofs.lemmas.Bool.{true_from_ne_false}
-use Rattle.std.proofs.Common.{◌≡◌, refl, ap, ◌∙◌, ℕ, ◌+◌, ◌*◌, ◌==◌, ◌||◌, ◌&&◌, not, if◌then◌else◌, Bool, true, false, List, Option, Some, None, option_map, option_and_then, ◌^◌, ◌≤◌, arith}
+use Rattle.std.proofs.Common.{◌≡◌, refl, ap, ◌∙◌, ℕ, ◌+◌, ◌*◌, ◌==◌, ◌||◌, ◌&&◌, not, if◌then◌else◌, Bool, true, false, List, Option, Some, None, option_map, option_and_then, ◌≤◌, arith}
 use Rattle.std.specs.List.{list_any}
 use Rattle.std.specs.Option.{option_or}
+use Rattle.ipc_words.specs.Limits.{max_string_bytes}
 use Rattle.ipc_words.specs.ThreadId.{nilthread}
 use Rattle.ipc_history.specs.Entries.{ends}
 use Rattle.ipc_history.specs.Calls.{is_called, caller_of, to_of, message_size, send_period_of, receive_period_of}
@@ -152,7 +153,7 @@ pub small_at : (P : List Entry) → Legal P → (s : Standing) → IsStanding P 
 unfolding standing_of
 small_at P legal s call = rw call.is (record { moved = moves_fit P legal s.number; taken = go (phase_of P s.number) (taken_is P s.number) })
   where
-    go : (p : Phase) → ((k by bytes : ℕ) → p ≡ Taking k by bytes → (by ≡ caller_of P k) × (bytes ≡ moved_bytes P k)) → taken p ≤ 2 ^ 20
+    go : (p : Phase) → ((k by bytes : ℕ) → p ≡ Taking k by bytes → (by ≡ caller_of P k) × (bytes ≡ moved_bytes P k)) → taken p ≤ max_string_bytes
     go Sending h = omega arith
     go (Passing m) h = omega arith
     go Receiving h = omega arith

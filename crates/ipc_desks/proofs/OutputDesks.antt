@@ -1,8 +1,9 @@
 -- What an output that ends a call makes of the desks.
 use Rattle.std.proofs.lemmas.Bool.{false_from_ne_true, ne_eqb, cases_eq, or_cases}
 use Rattle.std.proofs.lemmas.Option.{none-some, same_Some}
-use Rattle.std.proofs.Common.{◌≡◌, ◌≢◌, refl, sym, ap, ◌∙◌, ℕ, ◌+◌, ◌*◌, ◌≤◌, Bool, true, false, ◌||◌, ◌&&◌, ◌==◌, not, eqb-true, eq-eqb, if◌then◌else◌, cond, nat_le, ◌^◌, option_map, List, [], ◌∷◌, ◌++◌, length, Option, Some, None, unwrap_or, inl, inr, ◌⊎◌, arith}
+use Rattle.std.proofs.Common.{◌≡◌, ◌≢◌, refl, sym, ap, ◌∙◌, ℕ, ◌+◌, ◌*◌, ◌≤◌, Bool, true, false, ◌||◌, ◌&&◌, ◌==◌, not, eqb-true, eq-eqb, if◌then◌else◌, cond, nat_le, option_map, List, [], ◌∷◌, ◌++◌, length, Option, Some, None, unwrap_or, inl, inr, ◌⊎◌, arith}
 use Rattle.std.specs.Option.{option_map_or}
+use Rattle.ipc_words.specs.Limits.{max_string_bytes}
 use Rattle.ipc_words.specs.ThreadId.{nilthread, number_of}
 use Rattle.std.proofs.lemmas.List.Sums.{sum_by-cons}
 use Rattle.ipc_items.specs.declared.buffer_list.Substring.{Substring}
@@ -378,11 +379,11 @@ overflow_within (s ∷ strings) (b ∷ buffers) offset h = go (nat_le (length s)
         omega (arith, sum_by-cons (λ (s : List ℕ). length s) s strings, rest x refl)
     go false o rest h = let same : 0 ≡ offset = same_Some 0 offset h in omega arith
 
-pub small_offset : (P : List Entry) (n m offset : ℕ) → Legal P → Follows P (Written (Overflowed n m offset)) → offset ≤ 2 ^ 20
+pub small_offset : (P : List Entry) (n m offset : ℕ) → Legal P → Follows P (Written (Overflowed n m offset)) → offset ≤ max_string_bytes
 unfolding Follows message_size
 small_offset P n m offset legal follows = omega (arith, overflow_within (strings_of P n) (buffers_of P m) offset (next_output_means P (Overflowed n m offset) follows).1, (normal_message P legal n).size)
 
-pub small_count : (P : List Entry) (n m count : ℕ) → Legal P → Follows P (Written (Aborted n m count)) → count ≤ 2 ^ 20
+pub small_count : (P : List Entry) (n m count : ℕ) → Legal P → Follows P (Written (Aborted n m count)) → count ≤ max_string_bytes
 unfolding Follows
 small_count P n m count legal follows = let c = (next_output_means P (Aborted n m count) follows).1 in omega (arith, c, moves_fit P legal n)
 

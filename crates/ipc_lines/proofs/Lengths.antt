@@ -10,6 +10,7 @@ use Rattle.std.proofs.lemmas.List.Elements.{All-head, All-tail}
 use Rattle.std.proofs.lemmas.List.Sums.{sum_by-cons}
 use Rattle.hex.specs.Hex.{IsBytes, lower_digits}
 use Rattle.hex.proofs.HexLemmas.{length-encode_with}
+use Rattle.ipc_words.specs.Limits.{max_string_bytes}
 use Rattle.ipc_words.specs.ThreadId.{number_of, version_of}
 use Rattle.ipc_items.specs.declared.buffer_list.Substring.{Substring}
 use Rattle.ipc_lines.specs.Texts.{hex_text, id_text, listed, words_text, bytes_text, strings_text, substring_text, buffer_text, buffers_text}
@@ -71,7 +72,7 @@ strings_size (x ∷ xs) = omega (arith, strings_size xs, sum_by-cons (λ s. 2 * 
 bytes_length : (bytes : List ℕ) → length (bytes_text bytes) + 1 ≤ 2 * length bytes + 2
 bytes_length bytes = omega (arith, length-encode_with lower_digits bytes)
 
-pub strings_length : (strings : List (List ℕ)) → IsStringList strings → length (strings_text strings) ≤ 2097215
+pub strings_length : (strings : List (List ℕ)) → IsStringList strings → length (strings_text strings) ≤ 2 * max_string_bytes + 63
 strings_length strings h = omega (arith, h.0, listed_length 44 bytes_text IsBytes (λ s. 2 * length s + 2) (λ s is. bytes_length s) (codes "-") strings h.1, strings_size strings)
 
 substring_length : (part : Substring) → IsSubstring part → length (substring_text part) + 1 ≤ 40

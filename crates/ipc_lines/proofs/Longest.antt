@@ -1,5 +1,6 @@
 -- No line is longer than the limit.
-use Rattle.std.proofs.Common.{◌≡◌, ℕ, ◌+◌, ◌≤◌, List, [], ◌∷◌, length, arith, length-append}
+use Rattle.std.proofs.Common.{◌≡◌, ℕ, ◌+◌, ◌*◌, ◌≤◌, List, [], ◌∷◌, length, arith, length-append}
+use Rattle.ipc_words.specs.Limits.{max_string_bytes}
 use Rattle.ipc_history.specs.CallParts.{CallParts}
 use Rattle.ipc_history.specs.declared.entry.Entry.{Entry}
 use Rattle.ipc_history.specs.declared.entry.Entry.TheVariants.{Given, Written}
@@ -24,7 +25,7 @@ pub spaced_within : (fields : List (List ℕ)) → room fields ≤ most_bytes + 
 spaced_within [] h = omega arith
 spaced_within (field ∷ fields) h = omega (arith, spaced_length field fields)
 
-pub call_room : (thread : ℕ) (call : CallParts) → IsCall thread call → room (call_fields thread call) ≤ 2105000
+pub call_room : (thread : ℕ) (call : CallParts) → IsCall thread call → room (call_fields thread call) ≤ 2 * max_string_bytes + 7848
 call_room thread call is =
     let timeouts : IsWord (timeouts_of call) = omega (arith, is.send_period, is.receive_period) in
     omega (

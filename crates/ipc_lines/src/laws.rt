@@ -17,7 +17,7 @@ pub fn entries_have_lines_of_their_own()
     ensures { EachHasOneLine }
 {}
 
-/// No entry has a line of more than 2,105,343 bytes.
+/// No entry has a line of more than [`ipc_words::limits::MAX_LINE_BYTES`] bytes.
 pub fn lines_are_within_the_limit()
     ensures { LinesAreWithinTheLimit }
 {}

@@ -7,6 +7,7 @@ use Rattle.std.proofs.Math.Seq.{drop-append_seam}
 use Rattle.std.proofs.lemmas.Bool.{cases_Bool, ltb-false, leb-false, le-ltb, eq-eqb}
 use Rattle.std.proofs.lemmas.List.Sums.{sum_by-cons}
 use Rattle.ipc_words.specs.Laws.{FieldsOfTagReadBack}
+use Rattle.ipc_words.specs.Limits.{max_frame_body}
 use Rattle.ipc_words.specs.TagFields.{tag_of}
 use Rattle.ipc_words.specs.MsgTag.{untyped_of, typed_of}
 use Rattle.ipc_words.specs.declared.tag_fields.TagFields.{TagFields}
@@ -69,7 +70,7 @@ messages_fit_frames back label words strings to from timeouts buffers are none f
     let b : nat_lt 32 (length buffers.words) ≡ false = le-ltb 32 (length buffers.words) (omega (arith, few)) in
     let c : (length all == words_of (tag_of fields)) ≡ true = eq-eqb (length all)
     (words_of (tag_of fields)) (omega (arith, count, u, t)) in
-    let d : nat_lt (2 ^ 21) (46 + 8 * length all + 8 * length buffers.words + length
-    (concat strings)) ≡ false = le-ltb (2 ^ 21) (46 + 8 * length all + 8 * length buffers.words
+    let d : nat_lt max_frame_body (46 + 8 * length all + 8 * length buffers.words + length
+    (concat strings)) ≡ false = le-ltb max_frame_body (46 + 8 * length all + 8 * length buffers.words
     + length (concat strings)) (omega (arith, count, within.0, few, size, are.1)) in
     rw (a, b, c, d) refl

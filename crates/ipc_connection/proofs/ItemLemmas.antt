@@ -1,10 +1,11 @@
 -- Items never lack memory by what they spell, and few words spell few strings.
-use Rattle.std.proofs.Common.{◌≡◌, ◌≢◌, ℕ, zero, suc, ◌+◌, ◌*◌, ◌^◌, ◌≤◌, Bool, true, false, ◌||◌, List, [], ◌∷◌, length, take, drop, Option, Some, None, sum_by, nat_lt, Ok, Err, if◌then◌else◌, refl, arith}
+use Rattle.std.proofs.Common.{◌≡◌, ◌≢◌, ℕ, zero, suc, ◌+◌, ◌*◌, ◌≤◌, Bool, true, false, ◌||◌, List, [], ◌∷◌, length, take, drop, Option, Some, None, sum_by, nat_lt, Ok, Err, if◌then◌else◌, refl, arith}
 use Rattle.std.specs.Option.{option_or}
 use Rattle.std.specs.List.{list_any}
 use Rattle.std.proofs.lemmas.Bool.{ltb-false}
 use Rattle.std.proofs.lemmas.List.{length-take, length-drop}
 use Rattle.std.proofs.lemmas.List.Sums.{sum_by-cons}
+use Rattle.ipc_words.specs.Limits.{max_string_bytes}
 use Rattle.ipc_items.specs.declared.item_fault.ItemFault.{ItemFault}
 use Rattle.ipc_items.specs.declared.item_fault.ItemFault.TheVariants.{PastWords, ReservedBit, OutsidePayload, TooLong, NoMemory}
 use Rattle.ipc_items.specs.ItemWords.{ItemWords, count_of, goes_on, length_of, items_within, items_of, put_before, strings_by, has_reserved_bit}
@@ -29,7 +30,7 @@ never_item item items =
 
 never_range : (size before : ℕ) (item : ItemWords) → Never (range_fault size before item)
 never_range size before item =
-    never_if (list_any (is_outside size (length_of item.descriptor)) item.pointers) (Some OutsidePayload) _ (λ e. cc) (never_if (nat_lt (2 ^ 20) (before + bytes_in item)) (Some TooLong) None (λ e. cc) (λ e. cc))
+    never_if (list_any (is_outside size (length_of item.descriptor)) item.pointers) (Some OutsidePayload) _ (λ e. cc) (never_if (nat_lt max_string_bytes (before + bytes_in item)) (Some TooLong) None (λ e. cc) (λ e. cc))
 
 never_strings : (size before : ℕ) (items : List ItemWords) → Never (string_fault size before items)
 never_strings size before [] = λ e. cc

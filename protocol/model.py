@@ -135,8 +135,8 @@ class Protocol:
         return [of_version[max(it for it in of_version if it <= version)] for version in self.versions]
 
     def said(self, text, bad):
-        """A text with its limits as numbers: {entries} as 1,048,576, {entries.plain} as 1048576, {entries.code} as 1_048_576, and
-        {entries.frame} as 00100000, the four bytes of a length."""
+        """A text with its limits as numbers: {entries} with commas, {entries.plain} in digits alone, {entries.code} with underscores, and
+        {entries.frame} as the four bytes of a length, in hex."""
         def number(name):
             base, _, form = name[1].partition(".")
             spellings = {"": ",", "plain": "", "code": "_", "frame": "08x"}

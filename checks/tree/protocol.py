@@ -53,6 +53,10 @@ TOLD = [
     ("crates/ipc_host/src/obstacle.rt", "const MOST_BYTES: usize = (N);", "path_bytes"),
     ("crates/ipc_host/src/obstacle.rt", "a socket's path has at most (N) bytes", "path_bytes"),
     ("crates/ipc_host/src/datagram.rt", "const MOST_PATH: usize = (N);", "path_bytes"),
+    ("crates/l4sh_options/specs/Command.antt", 'max_entries_text = codes "(N)"', "entries"),
+    ("crates/l4sh_options/specs/Command.antt", 'max_calls_text = codes "(N)"', "calls"),
+    ("crates/l4sh_options/specs/Command.antt", 'max_chart_entry_text = codes "(N)"', "chart_entry"),
+    ("crates/l4sh_options/specs/Command.antt", 'max_connections_text = codes "(N)"', "connections"),
     ("crates/l4x/src/table.rt", "pub const MAX_NAMES: usize = (N);", "names"),
     ("crates/l4x/src/table.rt", "pub const MAX_NAME_BYTES: usize = (N);", "name_bytes"),
 ]
@@ -94,12 +98,17 @@ def limits(book):
     book.same(spec.path, "its limits", defined, {it.rattle[1]: it.value for it in of_words})
     by_name = {it.name: it.value for it in book.protocol.limits.values()}
     book.same("protocol/limits.txt", "a line with its newline", by_name["whole_line_bytes"], by_name["line_bytes"] + 1)
-    book.same("protocol/limits.txt", "a body that is too long", by_name["too_long_body"], by_name["body_bytes"] + 1)
+    for more, what, most in (("too_long_body", "a body that is too long", "body_bytes"), ("too_many_bytes", "strings that are too long", "string_bytes"),
+                             ("too_many_entries", "too many entries", "entries")):
+        book.same("protocol/limits.txt", what, by_name[more], by_name[most] + 1)
     # a version has 32 bits, of which the low six are not all zero
     book.same("protocol/limits.txt", "the versions of a number", by_name["versions"], 2**32 - 2**26)
     for path, text, name in TOLD:
-        pattern = re.escape(text).replace(r"\(N\)", r"([\d_,]+\d|\d)")
-        book.same(path, text, book.source(path).number(pattern, text), by_name[name])
+        book.same(path, text, book.source(path).number(told_pattern(text), text), by_name[name])
+
+
+def told_pattern(text):
+    return re.escape(text).replace(r"\(N\)", r"([\d_,]+\d|\d)")
 
 
 def fields_named(frame):

@@ -38,7 +38,7 @@ def check_long_life(programs, l4d, room):
             return count
         made = calls(50_000)
         before = figures(server.process.pid).resident
-        # two entries each: without compaction a history of 1,048,576 entries is full before their end
+        # two entries each: without compaction the greatest history is full before their end
         made += calls(550_000)
         more = figures(server.process.pid).resident - before
         assert more <= 8 * 1024, f"{more} KiB more after {made} calls"

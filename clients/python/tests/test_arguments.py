@@ -44,7 +44,7 @@ ROWS = [
     *(("label", sends(Message(bad))) for bad in ("x", None, 1.5, [1], -1, 1 << 48)),
     *(("words", sends(Message(0, bad))) for bad in (5, None, "abc", b"abc", bytearray(2), iter([1]), [0] * 64)),
     *(("words[1]", sends(Message(0, [0, bad]))) for bad in (1.5, "1", None, b"x", -1, 1 << 64)),
-    *(("strings", sends(Message(0, [], bad))) for bad in (b"abc", "abc", 7, [bytes(1_048_577)])),
+    *(("strings", sends(Message(0, [], bad))) for bad in (b"abc", "abc", 7, [bytes(protocol.MAX_STRING_BYTES + 1)])),
     *(("strings[1]", sends(Message(0, [], [b"a", bad]))) for bad in ("abc", 7, None, memoryview(bytes(8))[::2])),
     *(("buffers", waits(bad)) for bad in (b"AB", "AB", bytearray(10), memoryview(bytearray(3)), 10, None, [1, 2] * 17)),
     *(("buffers[1]", waits([3, bad])) for bad in (b"AB", bytes(10), "AB", None, 1.5, -1, 1 << 54, [], [b"AB"], ["x"], [1, None])),

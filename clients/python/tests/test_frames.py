@@ -7,7 +7,7 @@ import l4ipc
 from l4ipc import ANYLOCALTHREAD, ANYTHREAD, NILTHREAD, Message, Thread, ThreadId, period, seconds_of
 from l4ipc import frames
 from l4ipc.message import BufferStrings
-from l4ipc.protocol import VERSIONS, Told
+from l4ipc.protocol import MAX_STRING_BYTES, VERSIONS, Told
 
 from .scripted import DONE, EXREGR, FAILED, WORDS, in_version_2, said, scripted
 
@@ -54,7 +54,7 @@ class Words(unittest.TestCase):
     def test_messages_past_their_limits(self):
         for message in (
             Message(1 << 48), Message(-1), Message(0, [0] * 64), Message(0, [0] * 62, [b""]), Message(0, [], [b""] * 32),
-            Message(0, [1 << 64]), Message(0, [-1]), Message(0, [], [b"x" * 1_048_577]), Message(0, [0], originator=1 << 64),
+            Message(0, [1 << 64]), Message(0, [-1]), Message(0, [], [bytes(MAX_STRING_BYTES + 1)]), Message(0, [0], originator=1 << 64),
         ):
             thread, server = scripted(DONE)
             with self.subTest(message=str(message)[:60]), self.assertRaises(ValueError):

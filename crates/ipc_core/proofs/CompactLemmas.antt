@@ -47,7 +47,6 @@ open_kept H taken legal n (Written output) opened is = absurd (false≢true is)
 
 -- what the last calls tell is what is kept
 pub passes_is : (P H : List Entry) (taken : List ℕ) (desks : List Desk) → P ≡ H → Legal H → DesksKeep P taken desks → TookOthers H taken → (kept : KeptParts) → PassesAs kept (kept_upto P taken table_slots) → (e : Entry) → passes kept e ≡ is_kept H taken e
-unfolding TookOthers
 passes_is P H taken desks seen legal keeps others kept same e =
     same e ∙ (ap (λ l. passes (kept_upto l taken table_slots) e) seen ∙ kept_is H taken legal (subst (λ l. DesksKeep l taken desks) seen keeps).over others e)
 

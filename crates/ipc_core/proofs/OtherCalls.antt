@@ -20,12 +20,11 @@ IsIdleFor H taken _ = Unit {0}
 
 -- no call was made
 pub others_none : TookOthers [] []
-unfolding TookOthers is_called call_at
+unfolding is_called call_at
 others_none n called = absurd (false≢true called)
 
 -- more were taken
 pub others_more : (H : List Entry) (old new : List ℕ) → TookOthers H old → ((n : ℕ) → is_among n old ≡ true → is_among n new ≡ true) → TookOthers H new
-unfolding TookOthers
 others_more H old new others more n called = elim (others n called) [ inl last ↦ inl last | inr among ↦ inr (more n among) ]
 
 -- a call that was the last one of its thread is so still, or was taken
@@ -47,7 +46,6 @@ or_right false b h o = o
 
 -- after a command
 pub others_grown : (H K : List Entry) (input : Input) → Grows H K input → (old new : List ℕ) → new ≡ old → TookOthers H old → IsIdleFor H old input → TookOthers K new
-unfolding TookOthers
 others_grown H K input grows old new same others idle n called = go (is_called H n) refl
   where
     go : (b : Bool) → is_called H n ≡ b → (last_call K (caller_of K n) ≡ Some n) ⊎ (is_among n new ≡ true)

@@ -1,8 +1,8 @@
 -- The calls of one thread: the last one, how many it made, and how many of those had their outcome taken.
 use Rattle.std.specs.Prelude.{ℕ, List, Bool, false, not, ◌==◌, Option, None, if◌then◌else◌, count_by, option_and_then}
-use Rattle.std.specs.List.{list_any}
 use Rattle.std.specs.Option.{option_map_or}
 pub use Rattle.ipc_history.specs.Entries.{number_by}
+pub use Rattle.ipc_history.specs.Words.{is_among}
 unfoldable pub use Rattle.ipc_history.specs.Calls.{last_call}
 use Rattle.ipc_history.specs.Calls.{caller_of}
 use Rattle.ipc_history.specs.Outcomes.{OutcomeParts, outcome_of}
@@ -18,10 +18,6 @@ calls_by thread _ = false
 -- how many calls a thread made
 unfoldable pub made_by : List Entry → ℕ → ℕ
 made_by H thread = count_by (calls_by thread) H
-
--- a call is one of these
-abbrev pub is_among : ℕ → List ℕ → Bool
-is_among n calls = list_any (λ k. k == n) calls
 
 -- how many of the calls whose outcome was taken a thread made
 unfoldable pub taken_by : List Entry → List ℕ → ℕ → ℕ

@@ -14,6 +14,7 @@ mod judging;
 mod kind;
 mod laws;
 mod pieces;
+mod putting;
 mod replies;
 mod telling;
 mod version;

@@ -6,7 +6,7 @@ ghost use Rattle.ipc_frame.specs.Replies.{pieces_told, reply_of, ipcr_of};
 ghost use Rattle.ipc_frame.specs.Lending.{lent_piece, lent_pieces};
 ghost use Rattle.ipc_frame.specs.Window.{page, passed, passed_parts};
 
-use crate::encoding::{put_ipcr_numbers, put_piece, put_words};
+use crate::putting::{put_ipcr_numbers, put_piece, put_words};
 use crate::replies::fits;
 use crate::version::{WireVersion, end_of, put_end};
 use crate::window::Window;

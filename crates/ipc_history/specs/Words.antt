@@ -1,5 +1,6 @@
 -- Words on lists that the library lacks.
-use Rattle.std.specs.Prelude.{List, [], ◌∷◌, Option, Some, None, Bool, if◌then◌else◌}
+use Rattle.std.specs.Prelude.{List, [], ◌∷◌, Option, Some, None, Bool, ℕ, ◌==◌, if◌then◌else◌}
+use Rattle.std.specs.List.{list_any}
 use Rattle.std.specs.Option.{option_or}
 
 -- what f gives for the first element for which it gives something
@@ -20,3 +21,7 @@ last xs = last_some Some xs
 abbrev pub before : {X : Type 0} → (X → Bool) → List X → List X
 before test [] = []
 before test (x ∷ xs) = (if test x then [] else x ∷ before test xs)
+
+-- a number is one of these
+abbrev pub is_among : ℕ → List ℕ → Bool
+is_among n ns = list_any (λ k. k == n) ns

@@ -1,5 +1,5 @@
 -- What is printed for a command of a script.
-use Rattle.std.specs.Prelude.{◌≡◌, ℕ, List, [], ◌∷◌, ◌++◌, drop, length}
+use Rattle.std.specs.Prelude.{◌≡◌, ℕ, List, ◌++◌, drop, length}
 use Rattle.std.specs.List.{flat_map}
 use Rattle.ipc_history.specs.declared.entry.Entry.{Entry}
 use Rattle.ipc_core.specs.KernelParts.{KernelParts}
@@ -8,11 +8,8 @@ use Rattle.ipc_core.specs.declared.command.Answer.{Answer}
 use Rattle.ipc_core.specs.declared.command.Command.{Command}
 use Rattle.ipc_lines.specs.Lines.{entry_text}
 use Rattle.ipc_shell.specs.Answers.{answer_text}
+pub use Rattle.ipc_trace.specs.Traces.{ended}
 use Rattle.l4sh_commands.specs.Commands.{IsCommand}
-
--- a line and its newline
-abbrev pub ended : List ℕ → List ℕ
-ended line = line ++ 10 ∷ []
 
 -- the lines of entries
 abbrev pub entries_text : List Entry → List ℕ

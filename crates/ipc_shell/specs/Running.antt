@@ -1,14 +1,13 @@
 -- The run of a script: its lines, and what is printed.
-use Rattle.std.specs.Prelude.{◌≡◌, ◌≢◌, ℕ, ◌-◌, ◌^◌, min, List, [], ◌∷◌, codes, Option, ◌⊎◌}
+use Rattle.std.specs.Prelude.{◌≡◌, ◌≢◌, ℕ, min, List, [], ◌∷◌, codes, Option, ◌⊎◌}
 use Rattle.std.specs.Fmt.{decimal}
 use Rattle.ipc_words.specs.Limits.{max_entries, max_calls}
-use Rattle.ipc_history.specs.Holding.{marked_to}
 use Rattle.ipc_core.specs.Compacting.{Compacts}
-use Rattle.ipc_core.specs.KernelParts.{KernelParts, nothing_held}
-use Rattle.ipc_core.specs.Obeying.{empty_kernel}
+use Rattle.ipc_core.specs.KernelParts.{KernelParts}
 use Rattle.ipc_core.specs.declared.answers.Compacted.{Compacted}
 use Rattle.ipc_core.specs.declared.kernel.Limits.{Limits}
 use Rattle.ipc_core.specs.declared.command.Command.{Command}
+use Rattle.ipc_exchange.specs.Serving.{first_kernel}
 use Rattle.ipc_lines.specs.Lines.{spaced}
 use Rattle.l4sh_commands.specs.Commands.{IsScriptCommand, command_text, compact_text, script_command_text}
 use Rattle.l4sh_commands.specs.declared.script_command.ScriptCommand.{ScriptCommand}
@@ -16,14 +15,9 @@ use Rattle.ipc_shell.specs.Printing.{Answers, ended}
 use Rattle.ipc_shell.specs.Scripts.{EndsAtLine, RunsLines}
 use Rattle.ipc_shell.specs.declared.exit.Exit.{Exit}
 
--- every entry counts as traced, so a kernel is compacted up to its end
-abbrev pub every_entry : ℕ
-every_entry = 2 ^ 64 - 1
-
 -- the kernel that a script begins with: more than the greatest limits counts as those
-abbrev pub first_kernel : Limits → KernelParts
-first_kernel limits =
-    record (empty_kernel (min limits.entries max_entries) (min limits.calls max_calls)) { held = marked_to every_entry nothing_held }
+abbrev pub kernel_within : Limits → KernelParts
+kernel_within limits = first_kernel (min limits.entries max_entries) (min limits.calls max_calls)
 
 -- a line that spells a command: the kernel obeys it, and this is printed
 pub record Commands (old : KernelParts) (line text : List ℕ) (new : KernelParts) : Type 0 where

@@ -3,7 +3,7 @@ ghost use Rattle.std.specs.Io.KnownBytes.{prepend_known};
 ghost use Rattle.std.specs.String.{string_bytes};
 ghost use Rattle.ipc_shell.specs.Failing.{HasFailed};
 ghost use Rattle.l4sh_commands.specs.Commands.{compact_text};
-ghost use Rattle.ipc_shell.specs.Running.{first_kernel, EndsLine, IsCompacted, IsNoCommand, RunsLine, RunsScript};
+ghost use Rattle.ipc_shell.specs.Running.{kernel_within, EndsLine, IsCompacted, IsNoCommand, RunsLine, RunsScript};
 
 mod answering;
 
@@ -31,7 +31,7 @@ pub fn run_script<R: PortRead, W: PortWrite>(
     reader: &mut R,
     writer: &mut W,
 ) -> Exit
-    ensures runs { RunsScript (first_kernel limits) (R.remaining reader.old)
+    ensures runs { RunsScript (kernel_within limits) (R.remaining reader.old)
         (W.written writer.old) (W.written writer.new) result }
     ensures device { result ≡ Exit.DeviceFailed
         → HasFailed (R.failures reader.old + W.failures writer.old)
@@ -91,7 +91,7 @@ fn run_lines<R: PortRead, W: PortWrite>(
 
 /// A kernel with these limits, of which every entry counts as traced.
 pub fn marked_kernel(alloc: Global, limits: Limits) -> Result<Kernel, Refusal>
-    ensures { IfOk result (λ kernel. kernel ≡ first_kernel limits) }
+    ensures { IfOk result (λ kernel. kernel ≡ kernel_within limits) }
 {
     let mut kernel = Kernel::new(alloc, limits)?;
     kernel.mark(usize::MAX);

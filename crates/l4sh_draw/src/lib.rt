@@ -13,6 +13,7 @@ mod lines;
 mod marks;
 mod messages;
 mod sheet;
+mod signs;
 mod strands;
 mod style;
 mod svg;

@@ -3,10 +3,11 @@ use crate::ink::Ink;
 use crate::lanes::{Lane, Place, lanes_of, set_alive, turn_lanes, turns_upto};
 use crate::legend::put_legend_text;
 use crate::lines::{Line, pages_of};
+use crate::signs::{put, put_arrow, put_lanes, sign_of};
 use crate::words::{put_label, put_waits_after};
 use ipc_history::Entry;
 use ipc_words::ThreadId;
-use l4sh_chart::{Column, Fold, Mark, Row, Scene, Wait};
+use l4sh_chart::{Column, Fold, Mark, Row, Scene};
 use std::alloc::{AllocError, Global};
 
 // Widths in characters: of the numbers, of the moments, of a lane where there are few or many, and of the words where lines are cut.
@@ -298,31 +299,6 @@ fn put_words(line: &mut Ink, scene: &Scene, entries: &[Entry], row: &Row) {
     put_waits_after(line, "; ", row);
 }
 
-// The lanes between two marks.
-fn put_lanes(
-    signs: &mut Vec<&'static str>,
-    lanes: &[Lane],
-    width: usize,
-) -> Result<(), AllocError> {
-    for lane in lanes {
-        put_lane(signs, lane_sign(*lane), width)?;
-    }
-    Ok(())
-}
-
-// A lane of a width, with a sign in its middle.
-fn put_lane(
-    signs: &mut Vec<&'static str>,
-    sign: &'static str,
-    width: usize,
-) -> Result<(), AllocError> {
-    for place in 0..width {
-        let is_middle = place == width / 2;
-        signs.push(if is_middle { sign } else { " " })?;
-    }
-    Ok(())
-}
-
 // A line, cut where it has more characters than the width; 0: it is not.
 fn end_line(ink: &mut Ink, line: &Ink, width: usize) {
     ink.keep(line.done);
@@ -366,63 +342,6 @@ pub(crate) fn last_row(fold: &Fold) -> usize {
     fold.first
         .saturating_add(fold.period.saturating_mul(fold.count))
         .saturating_sub(1)
-}
-
-fn lane_sign(lane: Lane) -> &'static str {
-    if !lane.lives {
-        return " ";
-    }
-    match lane.wait {
-        Wait::Nothing => "|",
-        Wait::Receives => ":",
-        Wait::Sends => "H",
-    }
-}
-
-fn put(signs: &mut [&'static str], place: usize, sign: &'static str) {
-    if let Some(there) = signs.get_mut(place) {
-        *there = sign;
-    }
-}
-
-// An arrow from one lane to another.
-fn put_arrow(signs: &mut [&'static str], mark: Mark, from: usize, to: usize) {
-    for place in from.min(to).saturating_add(1)..from.max(to) {
-        put(signs, place, shaft_of(mark, place));
-    }
-    put(signs, from, "o");
-    let head = if from < to { ">" } else { "<" };
-    put(signs, to, head);
-    if mark == Mark::Overflowed || mark == Mark::Aborted {
-        put(signs, from / 2 + to / 2, "x");
-    }
-}
-
-// The sign of the shaft of an arrow at a place.
-fn shaft_of(mark: Mark, place: usize) -> &'static str {
-    match mark {
-        Mark::Began => ".",
-        Mark::Stopped => "~",
-        Mark::Missed if place % 2 == 0 => " ",
-        Mark::Missed => "~",
-        _ => "-",
-    }
-}
-
-/// The sign of a mark at one lane.
-pub(crate) fn sign_of(mark: Mark) -> &'static str {
-    match mark {
-        Mark::Opened => "O",
-        Mark::Broke => "X",
-        Mark::Called => "*",
-        Mark::Dropped => "P",
-        Mark::Moved => "+",
-        Mark::Turned => "@",
-        Mark::TimedOut => "T",
-        Mark::Cancelled | Mark::Stopped => "#",
-        Mark::Missed => "~",
-        _ => "!",
-    }
 }
 
 fn put_spaces(ink: &mut Ink, count: usize) {

@@ -3,6 +3,7 @@ use Rattle.std.specs.Prelude.{◌≡◌, ℕ, ◌+◌, ◌≤◌, Bool, true, fa
 use Rattle.std.specs.Prelude.{None}
 use Rattle.std.specs.List.{All}
 use Rattle.std.specs.Option.{option_map_or}
+pub use Rattle.ipc_history.specs.Keeping.{is_at}
 use Rattle.ipc_history.specs.Words.{last}
 use Rattle.ipc_history.specs.Calls.{calls_made}
 use Rattle.ipc_history.specs.Legal.{Legal, Quiet}
@@ -30,10 +31,6 @@ IsBehindAt (Given (input.At moment) ∷ rest) = ⊥
 IsBehindAt _ = Unit {0}
 
 -- a list ends with an At
-abbrev pub is_at : Entry → Bool
-is_at (Given (input.At moment)) = true
-is_at _ = false
-
 abbrev pub ends_at : List Entry → Bool
 ends_at P = option_map_or is_at (last P) false
 

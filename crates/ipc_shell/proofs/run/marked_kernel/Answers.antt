@@ -1,7 +1,7 @@
 use Rattle.std.proofs.Common.{◌∙◌, ap}
 use Rattle.ipc_history.specs.Holding.{marked_to}
 use Rattle.ipc_core.specs.KernelParts.{KernelParts}
-use Rattle.ipc_shell.specs.Running.{every_entry}
+use Rattle.ipc_exchange.specs.Serving.{every_entry}
 use Rattle.ipc_shell.proofs.run.marked_kernel.Goals as goal
 
 pub returns : goal.returns

@@ -9,7 +9,6 @@ pub base_of-requires-clause-partners : goal.base_of-requires-clause-partners
 base_of-requires-clause-partners c = c.self.invariant.partners_of ∙ sym c.self.invariant.course.desks_of
 
 pub base_of-requires-clause-others : goal.base_of-requires-clause-others
-unfolding TookOthers
 base_of-requires-clause-others c =
     subst (λ H. TookOthers H c.self.inside.desks.taken) (sym c.self.invariant.course.desks_of)
     (subst (λ v. TookOthers v.entries v.taken) (sym c.self.view_is) c.requires.others)

@@ -3,7 +3,7 @@ use Rattle.ipc_frame.specs.Numbers.{words_text, number_text}
 use Rattle.ipc_frame.specs.Parts.{pieces_text}
 use Rattle.ipc_frame.specs.Window.{page, passed}
 use Rattle.ipc_frame.proofs.WindowLemmas.{tail_passed}
-use Rattle.ipc_frame.proofs.encoding.put_ipcr_tail.Goals as goal
+use Rattle.ipc_frame.proofs.putting.put_ipcr_tail.Goals as goal
 
 pub returns-clause-shown : goal.returns-clause-shown
 returns-clause-shown c =

@@ -2,7 +2,7 @@ use Rattle.std.proofs.Common.{ap, ◌∙◌}
 use Rattle.ipc_frame.specs.Numbers.{words_text}
 use Rattle.ipc_frame.specs.Window.{page, passed}
 use Rattle.ipc_frame.proofs.WindowLemmas.{tail_passed}
-use Rattle.ipc_frame.proofs.encoding.put_ipc_tail.Goals as goal
+use Rattle.ipc_frame.proofs.putting.put_ipc_tail.Goals as goal
 
 pub returns-clause-shown : goal.returns-clause-shown
 returns-clause-shown c =

@@ -2,7 +2,7 @@ use Rattle.std.proofs.Common.{length}
 use Rattle.ipc_frame.specs.Numbers.{number_text}
 use Rattle.ipc_frame.specs.Window.{page}
 use Rattle.ipc_frame.proofs.WindowLemmas.{tail_passed}
-use Rattle.ipc_frame.proofs.encoding.put_piece.Goals as goal
+use Rattle.ipc_frame.proofs.putting.put_piece.Goals as goal
 
 pub returns-clause-shown : goal.returns-clause-shown
 returns-clause-shown c =

@@ -3,7 +3,7 @@ ghost use Rattle.std.specs.String.{string_bytes};
 ghost use Rattle.ipc_lines.specs.Lines.{timeouts_of, spaced, scalar_fields, list_fields, call_text};
 
 use crate::lists::{write_buffers, write_strings, write_words};
-use crate::scalars::{HexText, IdText};
+use crate::scalars::{HexText, IdText, USUAL_LINE_BYTES};
 use ipc_history::Call;
 use ipc_words::{ThreadId, Timeouts};
 use std::alloc::{AllocError, Global};
@@ -78,7 +78,7 @@ pub(crate) fn write_call(
 pub fn call_text(alloc: Global, caller: ThreadId, call: &Call) -> Result<String, AllocError>
     ensures { IfOk result (λ text. string_bytes text ≡ call_text caller call.now) }
 {
-    let mut text = String::new(alloc);
+    let mut text = String::with_capacity(alloc, USUAL_LINE_BYTES)?;
     write_call(alloc, &mut text, caller, call)?;
     Ok(text)
 }

@@ -10,7 +10,7 @@ ghost use Rattle.ipc_lines.specs.Reading.{IsReadable};
 
 use crate::calls::write_call;
 use crate::readable::entry_is_readable;
-use crate::scalars::{HexText, IdText};
+use crate::scalars::{HexText, IdText, USUAL_LINE_BYTES};
 use ipc_history::{Call, Entry, Input, Output};
 use ipc_words::{IpcError, MaskedControl, ThreadId};
 use std::alloc::{AllocError, Global};
@@ -130,7 +130,7 @@ fn write_output(out: &mut String, output: Output) -> Result<(), AllocError>
 fn line_of(alloc: Global, entry: &Entry) -> Result<String, AllocError>
     ensures { IfOk result (λ line. string_bytes line ≡ entry_text entry.now) }
 {
-    let mut line = String::new(alloc);
+    let mut line = String::with_capacity(alloc, USUAL_LINE_BYTES)?;
     match entry {
         Entry::Given(input) => write_input(alloc, &mut line, input)?,
         Entry::Written(output) => write_output(&mut line, *output)?,

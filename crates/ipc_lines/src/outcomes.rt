@@ -7,7 +7,7 @@ ghost use Rattle.ipc_lines.specs.Texts.{pieces_text, piece_text};
 ghost use Rattle.ipc_lines.specs.Lines.{outcome_text, placed_in, received_fields, spaced, told_fields};
 
 use crate::lists::{separate, write_bytes, write_words};
-use crate::scalars::{HexText, IdText};
+use crate::scalars::{HexText, IdText, USUAL_LINE_BYTES};
 use ipc_history::Outcome;
 use ipc_items::{Piece, scatter_all};
 use std::alloc::{AllocError, Global};
@@ -89,7 +89,7 @@ fn write_outcome(alloc: Global, out: &mut String, outcome: &Outcome) -> Result<(
 pub fn outcome_line(alloc: Global, outcome: &Outcome) -> Result<String, AllocError>
     ensures { IfOk result (λ line. string_bytes line ≡ outcome_text outcome.now) }
 {
-    let mut line = String::new(alloc);
+    let mut line = String::with_capacity(alloc, USUAL_LINE_BYTES)?;
     write_outcome(alloc, &mut line, outcome)?;
     Ok(line)
 }

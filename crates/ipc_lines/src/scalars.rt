@@ -1,6 +1,10 @@
 use ipc_words::ThreadId;
 use std::fmt;
 
+/// How many bytes a line has room for at first: as many as that of a call of a few words needs. A
+/// longer one grows.
+pub(crate) const USUAL_LINE_BYTES: usize = 128;
+
 /// A word as HEX: `0x` and its lower-case digits without leading zeros; 0 is `0x0`.
 #[derive(Clone, Copy)]
 pub struct HexText(pub u64);

@@ -3,7 +3,7 @@
 import struct
 from typing import NamedTuple, Optional, Sequence
 
-from . import arguments, frames
+from . import arguments, frames, protocol
 from .errors import BadFrame, Circumstances, ipc_error
 from .message import FAILED, NO_BUFFERS, PROPAGATED, Buffer, BufferStrings, Message, Received
 from .words import ThreadId, timeouts
@@ -62,7 +62,7 @@ def plain_frame(to: int, from_specifier: int, message: Message, times: int) -> O
     count = len(words)
     try:
         pack, body = frames.PLAIN_CALLS[count]
-        return pack(body, frames.IPC, to, from_specifier, times, 0, message.label << 16 | count, 0, 0, *words)
+        return pack(body, protocol.IPC, to, from_specifier, times, 0, message.label << 16 | count, 0, 0, *words)
     except (struct.error, TypeError, IndexError):
         return None
 

@@ -10,6 +10,9 @@ use ipc_lines::{HexText, IdText, entry_line, outcome_line};
 use l4sh_commands::command_is_readable;
 use std::alloc::{AllocError, Global};
 
+/// How many bytes what is printed for a command has room for at first. A longer text grows.
+const USUAL_BYTES: usize = 256;
+
 /// Obeys a command: the lines of the entries that it writes, and then its answer line.
 pub fn answer(alloc: Global, kernel: &mut Kernel, command: Command) -> Result<String, AllocError>
     ensures { IfOk result (λ text. Answers kernel.old command (string_bytes text) kernel.new) }
@@ -19,7 +22,7 @@ pub fn answer(alloc: Global, kernel: &mut Kernel, command: Command) -> Result<St
     let _ = kernel.whole_from();
     command_is_readable(&command);
     let answer = kernel.obey(command);
-    let mut text = String::new(alloc);
+    let mut text = String::with_capacity(alloc, USUAL_BYTES)?;
     write_entries(alloc, &mut text, kernel.entries_from(before))?;
     write_answer(alloc, &mut text, &answer)?;
     text.push_str("\n")?;

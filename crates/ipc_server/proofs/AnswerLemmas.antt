@@ -14,7 +14,7 @@ unfolding Asked
 asked_answers (Refused refusal) (Open number version) seat after asked = tt
 asked_answers (Refused refusal) (Enter thread call) seat after asked = tt
 asked_answers (Refused refusal) (Exreg thread target control) seat after asked = tt
-asked_answers (Opened opened named) (Open number version) seat after asked = asked.2
+asked_answers (Opened opened named) (Open number version) seat after asked = (asked.1, asked.2)
 asked_answers (Opened opened named) (Enter thread call) seat after asked = asked
 asked_answers (Opened opened named) (Exreg thread target control) seat after asked = asked
 asked_answers Entered (Open number version) seat after asked = asked

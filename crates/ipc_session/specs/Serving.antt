@@ -1,5 +1,6 @@
 -- How what is heard is served, and how a connection ends by it.
 use Rattle.std.specs.Prelude.{◌≡◌, List, [], ◌∷◌, Result, ⊤}
+use Rattle.ipc_words.specs.ThreadId.{number_of}
 use Rattle.ipc_frame.specs.declared.fault.FrameFault.{FrameFault}
 use Rattle.ipc_connection.specs.declared.heard.Heard.{Heard}
 use Rattle.ipc_connection.specs.Asking.{asks}
@@ -34,9 +35,9 @@ turned_at told stage = On stage
 abbrev pub ends_with : Told → Stage → Turned
 ends_with told stage = turned_at told (next_stage stage told)
 
--- what a kernel port answers: the thread that it opened, that it entered the call, what ExchangeRegisters answers, or a refusal
+-- what a kernel port answers: the thread of that number that it opened, that it entered the call, what ExchangeRegisters answers, or a refusal
 abbrev pub IsAnswer : Request → Told → Type 0
-IsAnswer (Open number version) (Opened thread named) = named ≡ version
+IsAnswer (Open number version) (Opened thread named) = (number_of thread ≡ number) × (named ≡ version)
 IsAnswer (Enter thread call) Entered = ⊤
 IsAnswer (Exreg thread target control) (Exchanged result stopped code moment) = ⊤
 IsAnswer request (Refused refusal) = ⊤

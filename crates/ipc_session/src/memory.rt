@@ -12,7 +12,8 @@ use ipc_frame::WireVersion;
 use ipc_words::{Control, ThreadId};
 use std::alloc::Global;
 
-/// Keeps what it is asked, with its answers. It opens one thread, enters each call, stops no phase, and may refuse one request.
+/// Keeps what it is asked, with its answers. It opens one thread and refuses each other number (K2), enters each call, stops no phase, and may
+/// refuse one request.
 #[derive(Drop)]
 pub struct MemoryKernelPort {
     thread: ThreadId,
@@ -24,7 +25,7 @@ pub struct MemoryKernelPort {
 }
 
 impl MemoryKernelPort {
-    /// A port that opens this thread, and refuses nothing.
+    /// A port that opens this thread, and refuses only other numbers.
     pub fn new(alloc: Global, thread: ThreadId) -> MemoryKernelPort
         ensures { calls_of result.is_complete result.deeds.items ≡ Some [] }
     {
@@ -79,12 +80,15 @@ impl MemoryKernelPort {
     }
 }
 
-/// What becomes of a request that is not refused, where this thread is opened and no phase was to be stopped.
+/// What becomes of a request that is not refused, where this thread alone may be opened and no phase was to be stopped.
 fn accepted(request: &Request, thread: ThreadId) -> Told
     ensures { IsAnswer request.now result }
 {
     match request {
-        Request::Open(_, version) => Told::Opened(thread, *version),
+        Request::Open(number, version) if thread.number() == u32::from(*number) => {
+            Told::Opened(thread, *version)
+        }
+        Request::Open(_, _) => Told::Refused(Refusal::NumberTaken),
         Request::Enter(_, _) => Told::Entered,
         Request::Exreg { target, .. } => Told::Exchanged(*target, Control::from_word(0), 0, 0),
     }

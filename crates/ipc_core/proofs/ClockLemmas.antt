@@ -1,12 +1,12 @@
 -- What keeps a kernel where its clock is set, a thread ends or a block is copied.
-use Rattle.std.proofs.Common.{◌≡◌, refl, ◌∙◌, subst, ℕ, ◌+◌, ◌-◌, ◌<◌, ◌≤◌, ◌^◌, List, [], ◌∷◌, ◌++◌, Bool, true, false, length, min, eq-eqb, IsTrue, IsFalse, Some, nat_lt, arith}
+use Rattle.std.proofs.Common.{◌≡◌, refl, ◌∙◌, subst, ℕ, ◌+◌, ◌<◌, ◌≤◌, ◌^◌, List, [], ◌∷◌, ◌++◌, Bool, true, false, length, eq-eqb, IsTrue, IsFalse, Some, nat_lt, arith}
 use Rattle.std.proofs.lemmas.Bool.{ltb-true, ltb-false}
 use Rattle.std.specs.Bool.{MatchBool}
 use Rattle.std.specs.List.{list_any}
 use Rattle.ipc_core.specs.CourseParts.{CourseParts}
-use Rattle.ipc_history.specs.Calls.{numbers, message_size}
+use Rattle.ipc_history.specs.Calls.{numbers}
 use Rattle.ipc_history.specs.Blocks.{block_of}
-use Rattle.ipc_history.specs.Phases.{is_over, moved_bytes}
+use Rattle.ipc_history.specs.Phases.{is_over}
 use Rattle.ipc_history.specs.Threads.{now, is_live}
 use Rattle.ipc_history.specs.Timing.{is_due_at}
 use Rattle.ipc_history.specs.Legal.{Legal, is_admissible, may_move, next_moving}
@@ -29,13 +29,13 @@ pub broke_admissible : (H : List Entry) (thread : ℕ) → is_live H thread ≡ 
 unfolding is_admissible
 broke_admissible H thread live = live
 
-pub moved_admissible : (H : List Entry) (n count : ℕ) → next_moving H ≡ Some n → count ≡ min 65536 (message_size H n - moved_bytes H n) → IsTrue (is_admissible H (Moved n count))
+pub moved_admissible : (H : List Entry) (n count : ℕ) → next_moving H ≡ Some n → count ≡ block_of H n → IsTrue (is_admissible H (Moved n count))
 unfolding is_admissible may_move
 moved_admissible H n count next least = both _ _ (rw next (eq-eqb n n refl)) (eq-eqb count _ least)
 
 -- that call is open
 pub moving_open : (H : List Entry) (n : ℕ) → next_moving H ≡ Some n → IsFalse (is_over H n)
-moving_open H n next = (moving_passes H n (min 65536 (message_size H n - moved_bytes H n)) (moved_admissible H n (min 65536 (message_size H n - moved_bytes H n)) next refl)).1.opened
+moving_open H n next = (moving_passes H n (block_of H n) (moved_admissible H n (block_of H n) next refl)).1.opened
 
 -- where no phase is due at a later moment, the clock alone is set
 pub kernel_waits : (entries_limit calls_limit moment later : ℕ) (course : CourseParts) → IsKernel entries_limit calls_limit moment course → moment ≤ later → later < 2 ^ 63 → list_any (is_due_at course.entries later) (numbers course.entries) ≡ false → IsKernel entries_limit calls_limit later course

@@ -1,7 +1,7 @@
 -- The room that is made for a command, and the kernel after the command took it.
 use Rattle.std.proofs.lemmas.Bool.{le-ltb, lt-ltb, ltb-true, ltb-false}
 use Rattle.std.proofs.lemmas.List.Sums.{sum_by-cons}
-use Rattle.std.proofs.Common.{◌≡◌, sym, ap, ◌∙◌, subst, ℕ, ◌+◌, ◌-◌, ◌*◌, ◌<◌, ◌≤◌, ◌==◌, if◌then◌else◌, Bool, true, false, not, cond, List, [], ◌∷◌, length, IsTrue, Option, Some, None, IfSome, sum_by, arith}
+use Rattle.std.proofs.Common.{◌≡◌, sym, ap, ◌∙◌, subst, ℕ, ◌+◌, ◌-◌, ◌*◌, ◌/◌, ◌<◌, ◌≤◌, ◌==◌, if◌then◌else◌, Bool, true, false, not, cond, List, [], ◌∷◌, length, IsTrue, Option, Some, None, IfSome, sum_by, arith}
 use Rattle.std.specs.Prelude.{◌↔◌}
 use Rattle.ipc_core.specs.CourseParts.{CourseParts}
 use Rattle.ipc_history.specs.Legal.{Legal, is_admissible}
@@ -12,6 +12,7 @@ use Rattle.ipc_laws.specs.Counting.{live_threads, open_calls, pledge_of, pledged
 use Rattle.ipc_laws.proofs.Normal.{normal_message}
 use Rattle.ipc_laws.proofs.OpenCalls.{open_bound}
 use Rattle.ipc_laws.proofs.Pledge.{pledge_covers}
+use Rattle.ipc_words.specs.Limits.{block_bytes, max_string_bytes, pledge_of_block, pledge_of_open_call, pledge_of_thread}
 use Rattle.ipc_words.specs.ThreadId.{nilthread}
 use Rattle.ipc_history.specs.Blocks.{blocks}
 use Rattle.ipc_history.specs.Calls.{message_size, numbers, to_of}
@@ -37,29 +38,36 @@ unfolding pledged
 room_where H need live calls None live_is calls_are none = none
 room_where H need live calls (Some room) live_is calls_are some = let same : room ≡ 2 * live + calls + need = some in omega arith
 
+-- the most that is pledged for an open call, and for a live thread with its call
+abbrev most_of_call : ℕ
+most_of_call = pledge_of_open_call + pledge_of_block * (max_string_bytes / block_bytes)
+
+abbrev pub most_of_thread : ℕ
+most_of_thread = pledge_of_thread + most_of_call
+
 -- no thread has more pledged than this
-call_most : (H : List Entry) → Legal H → (n : ℕ) → pledge_of H n ≤ 37 * cond (not (is_over H n)) 1 0
+call_most : (H : List Entry) → Legal H → (n : ℕ) → pledge_of H n ≤ most_of_call * cond (not (is_over H n)) 1 0
 unfolding pledge_of
 call_most H legal n = go (is_over H n) (to_of H n == nilthread)
   where
-    go : (over none : Bool) → (if over then 0 else 5 + 2 * (if none then 0 else blocks (message_size H n))) ≤ 37 * cond (not over) 1 0
+    go : (over none : Bool) → (if over then 0 else 5 + 2 * (if none then 0 else blocks (message_size H n))) ≤ most_of_call * cond (not over) 1 0
     go true none = omega arith
     go false true = omega arith
     go false false = let size = (normal_message H legal n).size in omega arith
 
-times_37 : (f g : ℕ → ℕ) (xs : List ℕ) → ((x : ℕ) → f x ≤ 37 * g x) → sum_by f xs ≤ 37 * sum_by g xs
-times_37 f g [] h = omega arith
-times_37 f g (x ∷ xs) h = omega (arith, times_37 f g xs h, h x, sum_by-cons f x xs, sum_by-cons g x xs)
+most_in_all : (f g : ℕ → ℕ) (xs : List ℕ) → ((x : ℕ) → f x ≤ most_of_call * g x) → sum_by f xs ≤ most_of_call * sum_by g xs
+most_in_all f g [] h = omega arith
+most_in_all f g (x ∷ xs) h = omega (arith, most_in_all f g xs h, h x, sum_by-cons f x xs, sum_by-cons g x xs)
 
-calls_most : (H : List Entry) → Legal H → sum_by (pledge_of H) (numbers H) ≤ 37 * open_calls H
+calls_most : (H : List Entry) → Legal H → sum_by (pledge_of H) (numbers H) ≤ most_of_call * open_calls H
 unfolding open_calls
-calls_most H legal = times_37 (pledge_of H) (λ n. cond (not (is_over H n)) 1 0) (numbers H) (call_most H legal)
+calls_most H legal = most_in_all (pledge_of H) (λ n. cond (not (is_over H n)) 1 0) (numbers H) (call_most H legal)
 
-pub pledged_most : (H : List Entry) → Legal H → pledged H ≤ 39 * live_threads H
+pub pledged_most : (H : List Entry) → Legal H → pledged H ≤ most_of_thread * live_threads H
 unfolding pledged
 pledged_most H legal = omega (arith, calls_most H legal, open_bound H legal)
 
-pub room_most : (kernel : KernelParts) (need left live : ℕ) → Legal kernel.history → left + length kernel.history ≡ kernel.entries_limit → live ≡ live_threads kernel.history → need ≤ left → 39 * live ≤ left - need → is_full kernel need ≡ false
+pub room_most : (kernel : KernelParts) (need left live : ℕ) → Legal kernel.history → left + length kernel.history ≡ kernel.entries_limit → live ≡ live_threads kernel.history → need ≤ left → most_of_thread * live ≤ left - need → is_full kernel need ≡ false
 unfolding is_full
 room_most kernel need left live legal split live_is fits most = let bound = pledged_most kernel.history legal in le-ltb _ _ (omega arith)
 

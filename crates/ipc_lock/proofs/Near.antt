@@ -1,6 +1,6 @@
 -- What may be pledged, and what a call may need, fits between near the limit and the limit.
-use Rattle.std.proofs.Common.{◌≤◌, ◌==◌, if◌then◌else◌, Bool, true, false, arith}
-use Rattle.ipc_words.specs.Limits.{max_string_bytes}
+use Rattle.std.proofs.Common.{◌/◌, ◌≤◌, ◌==◌, if◌then◌else◌, Bool, true, false, arith}
+use Rattle.ipc_words.specs.Limits.{block_bytes, max_string_bytes}
 use Rattle.ipc_words.specs.ThreadId.{nilthread}
 use Rattle.ipc_items.specs.Strings.{size_of}
 use Rattle.ipc_history.specs.Blocks.{blocks}
@@ -10,10 +10,10 @@ use Rattle.ipc_laws.proofs.LiveThreads.{live_bound}
 use Rattle.ipc_core.proofs.ReservedLemmas.{pledged_most}
 use Rattle.ipc_lock.specs.Upkeeping.{NearCovers}
 
-few_blocks : (call : CallParts) → size_of call.strings ≤ max_string_bytes → blocks_of call ≤ 16
+few_blocks : (call : CallParts) → size_of call.strings ≤ max_string_bytes → blocks_of call ≤ max_string_bytes / block_bytes
 few_blocks call within = go (call.to == nilthread)
   where
-    go : (none : Bool) → (if none then 0 else blocks (size_of call.strings)) ≤ 16
+    go : (none : Bool) → (if none then 0 else blocks (size_of call.strings)) ≤ max_string_bytes / block_bytes
     go true = omega arith
     go false = omega arith
 

@@ -1,6 +1,6 @@
 -- When memory lets go of entries of the history.
-use Rattle.std.specs.Prelude.{◌≡◌, ℕ, ◌+◌, ◌-◌, ◌*◌, ◌^◌, ◌≤◌, List, Bool, ◌&&◌, ◌||◌, nat_le, min, max, length, MatchBool}
-use Rattle.ipc_words.specs.Limits.{block_bytes, max_string_bytes}
+use Rattle.std.specs.Prelude.{◌≡◌, ℕ, ◌+◌, ◌-◌, ◌*◌, ◌/◌, ◌^◌, ◌≤◌, List, Bool, ◌&&◌, ◌||◌, nat_le, min, max, length, MatchBool}
+use Rattle.ipc_words.specs.Limits.{block_bytes, max_string_bytes, table_slots}
 use Rattle.ipc_items.specs.Strings.{size_of}
 use Rattle.ipc_history.specs.CallParts.{CallParts}
 use Rattle.ipc_history.specs.Holding.{held_of}
@@ -23,9 +23,9 @@ few_entries = 4096
 abbrev pub few_bytes : ℕ
 few_bytes = 4 * block_bytes
 
--- so many entries below the limit it is near
+-- so many entries below the limit it is near: four for each block that each thread may send
 abbrev pub near_the_limit : ℕ
-near_the_limit = 65536
+near_the_limit = 4 * table_slots * (max_string_bytes / block_bytes)
 
 -- there is room for all that may be pledged, and that the largest call needs
 abbrev pub NearCovers : Type 0

@@ -3,7 +3,7 @@ ghost use Rattle.std.specs.Prelude.{◌≡◌};
 ghost use Rattle.ipc_lock.specs.Upkeeping.{first_upkeep, is_due, noted, restarted};
 
 use ipc_core::Command;
-use ipc_words::limits::BLOCK_BYTES;
+use ipc_words::limits::{BLOCK_BYTES, MAX_STRING_BYTES, TABLE_SLOTS};
 
 /// So many entries are held before any is let go.
 const FEW_ENTRIES: usize = 4_096;
@@ -11,8 +11,9 @@ const FEW_ENTRIES: usize = 4_096;
 /// So many bytes of strings come before any entry is let go, where the entries are few.
 const FEW_BYTES: usize = 4 * BLOCK_BYTES as usize;
 
-/// What the greatest number of threads may have pledged, and a step may need, with room to spare: a law says so.
-const NEAR_THE_LIMIT: usize = 65_536;
+/// Four entries for each block that each thread may send: what the greatest number of threads may have pledged, and a step may need,
+/// with room to spare. A law says so.
+const NEAR_THE_LIMIT: usize = 4 * TABLE_SLOTS * (MAX_STRING_BYTES / BLOCK_BYTES as usize);
 
 /// When entries are let go: where as many are held as were left the last time, and as many again; where four blocks of strings came since;
 /// or near the limit, where many more may be let go than before.

@@ -4,7 +4,7 @@ use Rattle.std.specs.Prelude.{◌↔◌}
 use Rattle.ipc_laws.specs.Counting.{pledged}
 use Rattle.ipc_core.specs.Room.{is_full}
 use Rattle.ipc_laws.proofs.LiveThreads.{live_bound}
-use Rattle.ipc_core.proofs.ReservedLemmas.{full_where, pledged_most, room_most, room_where}
+use Rattle.ipc_core.proofs.ReservedLemmas.{full_where, most_of_thread, pledged_most, room_most, room_where}
 use Rattle.ipc_core.proofs.kernel.Kernel.room_for.Goals as goal
 
 pub room_within-requires : goal.room_within-requires
@@ -30,4 +30,4 @@ returns-then-most-left-clause-full c =
     (λ none. absurd (false≢true (sym none)), λ full. absurd (false≢true (sym room ∙ full)))
 
 pub returns-then-most-left-clause-value : goal.returns-then-most-left-clause-value
-returns-then-most-left-clause-value c = subst (λ k. pledged k.history + c.args.need ≤ 39 * c.live-live.result + c.args.need) c.self.view_is (omega (arith, pledged_most c.self.inside.course.entries c.self.invariant.kernel.stands.legal, c.live-live.ensures))
+returns-then-most-left-clause-value c = subst (λ k. pledged k.history + c.args.need ≤ most_of_thread * c.live-live.result + c.args.need) c.self.view_is (omega (arith, pledged_most c.self.inside.course.entries c.self.invariant.kernel.stands.legal, c.live-live.ensures))

@@ -7,6 +7,7 @@
 - Limits, kinds and fields of frames, numbers and names of codes, what `l4sh explain` says of each, the counters of refusals of `l4d --log`, and the words and
   fields of entry lines are those of protocol/. Sources (.rt) and definitions (.antt) are read as text. Where a number or a text is no longer found in the
   form that this check knows, that is a fault, too.
+- No source, definition or proof spells the number of such a limit as that of the bytes of strings: each has its name.
 - No check and no bench in Python spells the kind of a frame that goes to a client: they have it from protocol_tables.py.
 
 It prints what differs, and the status is 1 where something does. The last line is `N compared, M differ`.
@@ -46,7 +47,6 @@ TOLD = [
     ("crates/l4sh_options/src/default_texts.rt", 'MAX_CHART_ENTRY_TEXT: &str = "(N)"', "chart_entry"),
     ("crates/l4sh_options/src/default_texts.rt", 'MAX_CONNECTIONS_TEXT: &str = "(N)"', "connections"),
     ("crates/l4sh_explain/src/fields.rt", "const LABEL_BITS: u32 = (N);", "label_bits"),
-    ("crates/l4sh_explain/src/fields.rt", "const MAX_STRINGS: u64 = (N);", "strings"),
     ("crates/l4sh_explain/src/fields.rt", "HEX of at most (N) bits", "label_bits"),
     ("crates/l4sh_explain/src/fields.rt", "a number of words from 0 to (N)", "message_words"),
     ("crates/l4sh_explain/src/fields.rt", "a number of strings from 0 to (N)", "strings"),
@@ -60,6 +60,11 @@ TOLD = [
     ("crates/l4x/src/table.rt", "pub const MAX_NAMES: usize = (N);", "names"),
     ("crates/l4x/src/table.rt", "pub const MAX_NAME_BYTES: usize = (N);", "name_bytes"),
 ]
+# The limits whose numbers stand nowhere else by chance: crates name them.
+NAMED = ("string_bytes", "too_many_bytes", "entries", "too_many_entries", "line_bytes", "whole_line_bytes", "body_bytes", "too_long_body", "outputs",
+         "command_entries")
+# What has a size of its own, which may be the number of a limit.
+OF_ITS_OWN = ["const STACK: usize = (N);"]
 # The families of l4sh explain, by their letters.
 FAMILIES = {"K": "KERNEL", "F": "FRAME", "S": "SESSION", "TR": "TRACE", "C": "CLIENT", "N": "NAMES"}
 
@@ -109,6 +114,29 @@ def limits(book):
 
 def told_pattern(text):
     return re.escape(text).replace(r"\(N\)", r"([\d_,]+\d|\d)")
+
+
+def numbers_in(text):
+    """Each number of a text, in digits or as a power of two."""
+    found = re.findall(r"(?<!\w)(?<!\d\.)(?:(2) ?\^ ?|(1) << ?|)(\d[\d_,]*\d|\d)(?!\w)", text)
+    return [1 << int(digits) if two or one else int(re.sub("[_,]", "", digits)) for two, one, digits in found if digits.isdigit() or not (two or one)]
+
+
+def named(book):
+    """No source, no definition, no proof and no edit of a crate spells the number of such a limit, but where it is defined, and where `limits` and `explained`
+    compare it."""
+    by_name = {it.name: it.value for it in book.protocol.limits.values()}
+    numbers = {by_name[it] for it in NAMED}
+    meanings = [f'"{it.means}"' for family in book.protocol.codes.values() for it in family]
+    for path in sorted(os.path.relpath(it, ROOT) for kind in ("rt", "antt", "edit") for it in glob.glob(f"{ROOT}/crates/*/*/**/*.{kind}", recursive=True)):
+        if "/out/" in path or path in ("crates/ipc_words/src/limits.rt", "crates/ipc_words/specs/Limits.antt"):
+            continue
+        text = book.source(path).text
+        for told in [*OF_ITS_OWN, *(it for place, it, _ in TOLD if place == path)]:
+            text = re.sub(told_pattern(told), "", text)
+        for meaning in meanings if path == "crates/l4sh_explain/src/codes.rt" else []:
+            text = text.replace(meaning, "")
+        book.same(path, "what it spells of limits that have a name in ipc_words", sorted(numbers & set(numbers_in(text))), [])
 
 
 def fields_named(frame):
@@ -325,7 +353,7 @@ def main():
         book.protocol = load()
     except Bad as wrong:
         sys.exit(f"{wrong}\n0 compared, 1 differ")
-    for look in (made, limits, outcome_definitions, frame_definitions, field_names, frame_sources, codes, explained, lines, kinds_by_hand):
+    for look in (made, limits, named, outcome_definitions, frame_definitions, field_names, frame_sources, codes, explained, lines, kinds_by_hand):
         try:
             look(book)
         except (Lost, Bad, ValueError, KeyError, AttributeError, TypeError, IndexError) as wrong:

@@ -61,8 +61,8 @@ fn takes_strings(rt: &impl Abort, alloc: Global, count: usize, size: usize) -> b
 #[test]
 fn strings_are_bounded(rt: HostRuntime) {
     for (count, size, is_taken) in [
-        (1, 1_048_576, true),
-        (1, 1_048_577, false),
+        (1, MAX_STRING_BYTES, true),
+        (1, MAX_STRING_BYTES + 1, false),
         (31, 0, true),
         (32, 0, false),
     ] {
@@ -138,16 +138,21 @@ fn first_fault_decides(rt: HostRuntime) {
     }
 }
 
-// As many items, each of which names all of a payload of 65,536 bytes.
+// Of the bytes that a message may have, the 16th part, and the descriptor that names it.
+const SHARE: usize = MAX_STRING_BYTES / 16;
+
+const SHARE_DESCRIPTOR: u64 = 1024 * SHARE as u64;
+
+// As many items, each of which names all of a payload of a share.
 fn whole_payloads(rt: &impl Abort, alloc: Global, count: usize) -> Result<StringList, ItemFault> {
     let mut words = Vec::new(alloc);
     for _ in 0..count {
         words
-            .extend_from_slice(&[0x400_0000, 0])
+            .extend_from_slice(&[SHARE_DESCRIPTOR, 0])
             .expect(rt, "memory");
     }
     assert!(*rt; words.len() <= MAX_MESSAGE_WORDS);
-    StringList::read(alloc, &words, &bytes(rt, alloc, 65_536))
+    StringList::read(alloc, &words, &bytes(rt, alloc, SHARE))
 }
 
 // 32 pointers to the first byte.
@@ -166,7 +171,12 @@ fn assert_counts(rt: &impl Abort, spelled: Result<StringList, ItemFault>, count:
 #[test]
 fn string_bytes_are_counted(rt: HostRuntime) {
     let alloc = rt.alloc();
-    assert_counts(&rt, whole_payloads(&rt, alloc, 16), 16, 1_048_576);
+    assert_counts(
+        &rt,
+        whole_payloads(&rt, alloc, 16),
+        16,
+        MAX_STRING_BYTES as u64,
+    );
     same(&rt, fault_number(whole_payloads(&rt, alloc, 17)), 8);
     assert_counts(&rt, read(&rt, alloc, &MANY_POINTERS), 1, 32);
 }

@@ -8,6 +8,7 @@ use crate::vectors::{
 use ipc_frame::{
     Decoder, Encoder, Frame, FrameFault, IpcFrame, IpcParts, Side, WireVersion, decode, encode,
 };
+use ipc_words::limits::MAX_FRAME_BODY;
 use ipc_words::{MsgTag, ThreadId, Timeouts};
 use std::alloc::Global;
 use std::process::Abort;
@@ -286,10 +287,10 @@ fn fault_of_parts(parts: IpcParts) -> u8 {
 
 // A tag, so many words and so many bytes of a call, and the number of the fault.
 const SIZES: &[(u64, usize, usize, u8)] = &[
-    (0x3f, 63, 2_097_152 - 550, 0),
-    (0x3f, 63, 2_097_152 - 549, 1),
-    (0x3f, 62, 2_097_152, 3),
-    (0x7f, 63, 2_097_152, 4),
+    (0x3f, 63, MAX_FRAME_BODY - 550, 0),
+    (0x3f, 63, MAX_FRAME_BODY - 549, 1),
+    (0x3f, 62, MAX_FRAME_BODY, 3),
+    (0x7f, 63, MAX_FRAME_BODY, 4),
 ];
 
 #[test]

@@ -2,6 +2,7 @@
 use Rattle.std.proofs.Common.{◌≡◌, ℕ, ◌+◌, ◌-◌, ◌<◌, ◌≤◌, false, List, [], ◌++◌, length, take, Option, Some, None, Result, Ok, Err, refl, sym, ap, ◌∙◌, arith, length-append}
 use Rattle.std.proofs.lemmas.List.{append-nil, append_assoc, take-append-le, take-take, nil_from_length}
 use Rattle.std.proofs.Math.Seq.{take-append-add}
+use Rattle.ipc_ports.specs.Ports.{Input}
 use Rattle.ipc_ports.specs.declared.fault.PortFault.{PortFault}
 use Rattle.ipc_frame.specs.declared.kind.Side.TheVariants.{Server}
 use Rattle.ipc_frame.specs.Reading.{Short, reading}
@@ -23,7 +24,7 @@ front_is front read behind rest len count size l c s =
     ∙ ap (λ xs. front ++ xs) (take-append-le count read behind c))))
 
 -- the bytes of a frame, those of its payload read on
-module _ (input input_now : Option (List ℕ)) (start old new : List ℕ) (most wanted : ℕ) (short : reading Server (start ++ old) ≡ Short wanted) (less : most < wanted) where
+module _ (input input_now : Input) (start old new : List ℕ) (most wanted : ℕ) (short : reading Server (start ++ old) ≡ Short wanted) (less : most < wanted) where
   pub keeps_on : (result : Option (Result ℕ PortFault)) → ReadsInto input input_now old new most result → KeepsOn input input_now (record { bytes = start ++ old; lost = 0 }) (record { bytes = start ++ new; lost = 0 }) result
   keeps_on None same = ap (λ xs. record { bytes = start ++ xs; lost = 0 }) same
   keeps_on (Some (Err fault)) same = ap (λ xs. record { bytes = start ++ xs; lost = 0 }) same
@@ -31,10 +32,10 @@ module _ (input input_now : Option (List ℕ)) (start old new : List ℕ) (most 
       let r = read.1 in
       let behind : start ++ new ≡ (start ++ old) ++ r.more = ap (λ xs. start ++ xs) r.behind ∙ sym (append_assoc start old r.more) in
       let still = (short_is_exact Server (start ++ old) r.more wanted short).1 (omega (arith, r.counted, read.0, less)) in
-      (refl, refl, (wanted - length r.more, ap (reading Server) behind ∙ still), record { more = r.more; counted = r.counted; behind = behind; consumed = r.consumed; at_end = r.at_end })
+      (refl, refl, (wanted - length r.more, ap (reading Server) behind ∙ still), record { more = r.more; counted = r.counted; behind = behind; gave = r.gave; at_end = r.at_end })
 
 -- and a decoder
-module _ (input input_now : Option (List ℕ)) (old new : Kept) where
+module _ (input input_now : Input) (old new : Kept) where
   abbrev decoding : Kept → Decoding
   decoding held = record { kept = held.bytes; lost = held.lost; spent = false }
 
@@ -45,7 +46,7 @@ module _ (input input_now : Option (List ℕ)) (old new : Kept) where
   takes_on (Some (Ok count)) kept =
       let r = kept.3 in record {
         more = r.more;
-        consumed = r.consumed;
+        gave = r.gave;
         at_end = r.at_end;
         takes = λ bytes holds.
             let none = nil_from_length holds.gone (holds.counted ∙ kept.0) in

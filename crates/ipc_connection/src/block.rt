@@ -1,5 +1,6 @@
 //! The memory of a payload that comes in pieces.
 ghost use Rattle.std.specs.Prelude.{◌≡◌, ℕ, true, ◌<◌, ◌≤◌, ◌+◌, ◌^◌, ◌++◌, ◌==◌, [], length, take, OnErr, OnOk};
+ghost use Rattle.ipc_ports.specs.Ports.{input_of};
 ghost use Rattle.ipc_connection.specs.ReadOn.{Fails, ReadsInto};
 
 use crate::blocks::Blocks;
@@ -124,11 +125,12 @@ impl Block {
     ) -> Option<Result<usize, PortFault>>
         requires some { 0 < most }
         requires few { length self.old + most < 2 ^ 32 }
-        ensures read { ReadsInto (P.remaining port.old) (P.remaining port.new) self.old
-            self.new most result }
+        ensures read { ReadsInto (input_of (P.came port.old) (P.remaining port.old))
+            (input_of (P.came port.new) (P.remaining port.new)) self.old self.new most result }
         ensures within { length self.new ≤ length self.old + most }
-        ensures fails { Fails (P.remaining port.old) (P.remaining port.new) (P.failures port.old)
-            (P.failures port.new) result }
+        ensures fails { Fails (input_of (P.came port.old) (P.remaining port.old))
+            (input_of (P.came port.new) (P.remaining port.new))
+            (P.failures port.old) (P.failures port.new) result }
     {
         let end = self.filled + most;
         if !make_room(&mut self.bytes, end) {

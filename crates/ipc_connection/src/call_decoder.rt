@@ -1,5 +1,6 @@
 ghost use Rattle.std.specs.Prelude.{◌≡◌, ℕ, List, [], true, false, Ok, Err};
 ghost use Rattle.ipc_connection.specs.Holding.{ForGone, FillsUp};
+ghost use Rattle.ipc_ports.specs.Ports.{input_of};
 ghost use Rattle.ipc_connection.specs.ReadOn.{Fails, TakesOn};
 ghost use Rattle.ipc_connection.specs.Taking.{Holds, IsUnfinished, Takes, Finishes};
 
@@ -141,10 +142,11 @@ impl CallDecoder {
     ///
     /// F10, F11: as the port says, and nothing was read.
     pub fn read_on<P: PortRead>(&mut self, port: &mut P) -> Option<Result<usize, PortFault>>
-        ensures taken { TakesOn (P.remaining port.old) (P.remaining port.new)
-            self.old self.new result }
-        ensures fails { Fails (P.remaining port.old) (P.remaining port.new) (P.failures port.old)
-            (P.failures port.new) result }
+        ensures taken { TakesOn (input_of (P.came port.old) (P.remaining port.old))
+            (input_of (P.came port.new) (P.remaining port.new)) self.old self.new result }
+        ensures fails { Fails (input_of (P.came port.old) (P.remaining port.old))
+            (input_of (P.came port.new) (P.remaining port.new))
+            (P.failures port.old) (P.failures port.new) result }
     {
         if self.spent {
             return None;

@@ -4,6 +4,7 @@ ghost use Rattle.ipc_frame.specs.Numbers.{IsBytes, number_in, words_in};
 ghost use Rattle.ipc_frame.specs.Parts.{IpcParts};
 ghost use Rattle.ipc_connection.specs.CallOf.{call_of, asks_memory, has_time_point};
 ghost use Rattle.ipc_connection.specs.Reads.{Reads};
+ghost use Rattle.ipc_ports.specs.Ports.{input_of};
 ghost use Rattle.ipc_connection.specs.ReadOn.{Fails, KeepsOn};
 ghost use Rattle.ipc_connection.specs.Holding.{Keeps, ForGone, AreGone, IsWhole, TellsOf, IpcAt};
 ghost use Rattle.ipc_connection.specs.Holding.{FrameAt, HearsOf, head_in, max_start, start_size, version_at};
@@ -246,10 +247,11 @@ impl Held {
     /// Reads on from a port straight into the memory of a payload of which some has come, less than what is left of it. None where
     /// nothing is read.
     pub(crate) fn read_on<P: PortRead>(&mut self, port: &mut P) -> Option<Result<usize, PortFault>>
-        ensures read { KeepsOn (P.remaining port.old) (P.remaining port.new)
-            self.old self.new result }
-        ensures fails { Fails (P.remaining port.old) (P.remaining port.new) (P.failures port.old)
-            (P.failures port.new) result }
+        ensures read { KeepsOn (input_of (P.came port.old) (P.remaining port.old))
+            (input_of (P.came port.new) (P.remaining port.new)) self.old self.new result }
+        ensures fails { Fails (input_of (P.came port.old) (P.remaining port.old))
+            (input_of (P.came port.new) (P.remaining port.new))
+            (P.failures port.old) (P.failures port.new) result }
     {
         let wanted = match self.judge() {
             Judgement::Short(wanted) => wanted,

@@ -1,7 +1,8 @@
 //! The two kinds of port.
-ghost use Rattle.std.specs.Prelude.{◌≡◌, ◌<◌, ℕ, Bool, true, List, Option, Some, IfOk, OnOk, OnErr, length};
+ghost use Rattle.std.specs.Prelude.{◌≡◌, ◌<◌, ℕ, Bool, true, List, Option, Some, None, IfOk, OnOk, OnErr, length};
 ghost use Rattle.std.specs.Io.{ReadsAtMost, WritesAtMost};
 ghost use Rattle.std.specs.Io.KnownBytes.{Keeps, ReadConsumes, WriteAppends};
+ghost use Rattle.ipc_ports.specs.Ports.{ReadAppends};
 
 use crate::fault::PortFault;
 
@@ -9,6 +10,9 @@ use crate::fault::PortFault;
 pub trait PortRead {
     // The bytes that reads will give from here on, where they are known.
     ghost remaining: { Self → Option (List ℕ) };
+
+    // The bytes that reads have given so far, where they are known.
+    ghost came: { Self → Option (List ℕ) } = { λ _. None };
 
     // How often the device failed. It has no last value.
     ghost failures: { Self → ℕ };
@@ -25,6 +29,7 @@ pub trait PortRead {
     fn read(&mut self, buf: &mut [u8]) -> Result<usize, PortFault>
         ensures bound { ReadsAtMost result buf.new }
         ensures bytes { ReadConsumes (remaining self.old) (remaining self.new) result buf.new }
+        ensures came { ReadAppends (came self.old) (came self.new) result buf.new }
         ensures failed { OnErr result (failures self.old < failures self.new) }
         ensures kept { OnOk result (failures self.new ≡ failures self.old) }
         ensures fewer { IfOk result (λ n. 0 < n → reads_left self.new < reads_left self.old) };
@@ -68,6 +73,8 @@ pub trait PortWrite {
 
 impl<P: PortRead> PortRead for &mut P {
     ghost remaining = { λ p. P.remaining p.now };
+
+    ghost came = { λ p. P.came p.now };
 
     ghost failures = { λ p. P.failures p.now };
 

@@ -2,8 +2,7 @@
 use Rattle.std.specs.Prelude.{⊤}
 use Rattle.std.proofs.Common.{◌≡◌, ◌≢◌, ◌⊎◌, inl, inr, ℕ, ◌-◌, ◌<◌, ◌≤◌, List, [], ◌∷◌, ◌++◌, map, Option, Result, Ok, Err, refl, sym, ap, subst, ◌∙◌, length, drop, take, arith, length-drop}
 use Rattle.std.proofs.lemmas.List.{append-nil, append_assoc, map-append}
-use Rattle.std.proofs.KnownBytes.{Consumes-trans}
-use Rattle.std.specs.Io.KnownBytes.{Consumes, IsAtEnd}
+use Rattle.std.specs.Io.KnownBytes.{IsAtEnd}
 use Rattle.ipc_frame.specs.Reading.{reading}
 use Rattle.ipc_frame.specs.Stream.{End, Rest, Stream, put_front, stream_of}
 use Rattle.ipc_frame.specs.declared.fault.FrameFault.{FrameFault}
@@ -74,11 +73,6 @@ served_then a b c first between after bytes left piece left_now one two =
       serves = rw (whole, map-append heard_of front back) (chain_both Steps (map heard_of front) (map heard_of back) (On first) (On between) (On after) one.calls two.calls one.serves two.serves);
       rest = ap (λ (s : Stream). s.end) whole ∙ two.rest;
     }
-
--- a read of no bytes
-pub consumes_none : (a b c : Option (List ℕ)) (bytes : List ℕ) (count : ℕ) (buffer : List ℕ) → Consumes a b bytes → Consumes b c (take count buffer) → count ≡ 0 → Consumes a c bytes
-consumes_none a b c bytes count buffer h k none =
-    subst (λ (l : List ℕ). Consumes a c l) (append-nil bytes) (Consumes-trans a b c bytes [] h (subst (λ (n : ℕ). Consumes b c (take n buffer)) none k))
 
 -- frames in front of what was heard
 heard_then : (whole stream : Stream) (frames : List Frame) (input : Option (List ℕ)) (heard : List (Result Heard FrameFault)) → whole ≡ put_front frames stream → HeardUpTo stream input heard → HeardUpTo whole input (map heard_of frames ++ heard)

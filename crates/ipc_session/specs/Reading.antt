@@ -1,6 +1,7 @@
 -- What a reader did with the bytes that it read, and how it ends by them.
 use Rattle.std.specs.Prelude.{◌≡◌, ◌<◌, ◌⊎◌, ℕ, List, [], ◌∷◌, ◌++◌, map, Option, Result, Ok, Err}
-use Rattle.std.specs.Io.KnownBytes.{Consumes, IsAtEnd}
+use Rattle.std.specs.Io.KnownBytes.{IsAtEnd}
+use Rattle.ipc_ports.specs.Ports.{Gives, Input}
 use Rattle.ipc_frame.specs.Stream.{End, Rest, Stopped, Stream, put_front, stream_of}
 use Rattle.ipc_frame.specs.declared.fault.FrameFault.{FrameFault}
 use Rattle.ipc_frame.specs.declared.fault.FrameFault.TheVariants.{Unfinished}
@@ -112,21 +113,20 @@ Leaves (Over ending) old new bytes input decoder = EndsSo ending old new bytes i
 
 -- what a reader has read and served from a beginning on, one more read included. That read ends it
 -- for a failure of the device, at the end of the input, or by what it heard
-pub record HasRead (start input : Option (List ℕ)) (old new : Log) (decoder : Decoding)
+pub record HasRead (start input : Input) (old new : Log) (decoder : Decoding)
     (failures failures_now : ℕ) (turned : Turned) : Type 0 where
   pub bytes : List ℕ
-  pub consumed : Consumes start input bytes
-  pub leaves : Leaves turned old new bytes input decoder
+  pub gave : Gives start input bytes
+  pub leaves : Leaves turned old new bytes input.left decoder
   pub device : turned ≡ Over Device → failures < failures_now
   pub kept : (stage : Stage) → turned ≡ On stage → failures_now ≡ failures
-  pub ended : turned ≡ Over EndOfInput → IsAtEnd input
+  pub ended : turned ≡ Over EndOfInput → IsAtEnd input.left
   pub not_stopped : turned ≡ Over Halted → ⊥
 
 -- one read, whatever was read and served before it
-abbrev pub ReadsOn : Option (List ℕ) → Option (List ℕ) → Log → Log → Decoding → Decoding → ℕ → ℕ
-    → Stage → Turned → Type 0
+abbrev pub ReadsOn : Input → Input → Log → Log → Decoding → Decoding → ℕ → ℕ → Stage → Turned → Type 0
 ReadsOn input input_now log log_now decoder decoder_now failures failures_now stage turned =
-    (start : Option (List ℕ)) → (first : Log) → (bytes left : List ℕ)
-    → Consumes start input bytes → Holds decoder left
+    (start : Input) → (first : Log) → (bytes left : List ℕ)
+    → Gives start input bytes → Holds decoder left
     → HasServed first log Greeting bytes left stage []
     → HasRead start input_now first log_now decoder_now failures failures_now turned

@@ -1,5 +1,6 @@
 ghost use Rattle.std.specs.Prelude.{◌≡◌, ◌≢◌, ◌<◌, ℕ, List, [], ◌∷◌, ◌++◌, Option, length, true};
-ghost use Rattle.std.specs.Io.KnownBytes.{Consumes, IsAtEnd};
+ghost use Rattle.std.specs.Io.KnownBytes.{IsAtEnd};
+ghost use Rattle.ipc_ports.specs.Ports.{Gives, input_of};
 ghost use Rattle.ipc_connection.specs.Taking.{Holds};
 ghost use Rattle.ipc_connection.specs.KernelCalls.{Breaks};
 ghost use Rattle.ipc_session.specs.Reading.{EndsSo, HasServed, Log, ReadsOn, ServesPiece};
@@ -28,7 +29,8 @@ pub fn read_loop<P: PortRead, K: KernelPort, G: Gate, B: Blocks>(
     gate: &mut G,
     blocks: &mut B,
 ) -> Ending
-    ensures calls { (bytes : List ℕ) × Consumes (P.remaining port.old) (P.remaining port.new) bytes
+    ensures calls { (bytes : List ℕ) × Gives (input_of (P.came port.old) (P.remaining port.old))
+        (input_of (P.came port.new) (P.remaining port.new)) bytes
         × EndsSo result (K.log kernel_port.old) (K.log kernel_port.new) bytes
         (P.remaining port.new) (Breaks ∷ []) }
     ensures device { result ≡ Ending.Device → P.failures port.old < P.failures port.new }
@@ -48,7 +50,8 @@ fn read_all<P: PortRead, K: KernelPort, G: Gate, B: Blocks>(
     gate: &mut G,
     blocks: &mut B,
 ) -> Ending
-    ensures calls { (bytes : List ℕ) × Consumes (P.remaining port.old) (P.remaining port.new) bytes
+    ensures calls { (bytes : List ℕ) × Gives (input_of (P.came port.old) (P.remaining port.old))
+        (input_of (P.came port.new) (P.remaining port.new)) bytes
         × EndsSo result (K.log kernel_port.old) (K.log kernel_port.new) bytes
         (P.remaining port.new) [] }
     ensures device { result ≡ Ending.Device → P.failures port.old < P.failures port.new }
@@ -68,7 +71,8 @@ fn read_turns<P: PortRead, K: KernelPort, G: Gate, B: Blocks>(
     blocks: &mut B,
 ) -> Ending
     requires { Holds decoder.old [] }
-    ensures calls { (bytes : List ℕ) × Consumes (P.remaining port.old) (P.remaining port.new) bytes
+    ensures calls { (bytes : List ℕ) × Gives (input_of (P.came port.old) (P.remaining port.old))
+        (input_of (P.came port.new) (P.remaining port.new)) bytes
         × EndsSo result (K.log kernel_port.old) (K.log kernel_port.new) bytes
         (P.remaining port.new) [] }
     ensures device { result ≡ Ending.Device → P.failures port.old < P.failures port.new }
@@ -99,7 +103,8 @@ fn read_next<P: PortRead, K: KernelPort, B: Blocks>(
     blocks: &mut B,
 ) -> (Turned, bool)
     requires { stage ≢ Stage.Finished }
-    ensures { ReadsOn (P.remaining port.old) (P.remaining port.new)
+    ensures { ReadsOn (input_of (P.came port.old) (P.remaining port.old))
+        (input_of (P.came port.new) (P.remaining port.new))
         (K.log kernel_port.old) (K.log kernel_port.new) decoder.old decoder.new
         (P.failures port.old) (P.failures port.new) stage result.0 }
 {
@@ -121,7 +126,8 @@ fn read_piece<P: PortRead, K: KernelPort, B: Blocks>(
     blocks: &mut B,
 ) -> (Turned, bool)
     requires { stage ≢ Stage.Finished }
-    ensures { ReadsOn (P.remaining port.old) (P.remaining port.new)
+    ensures { ReadsOn (input_of (P.came port.old) (P.remaining port.old))
+        (input_of (P.came port.new) (P.remaining port.new))
         (K.log kernel_port.old) (K.log kernel_port.new) decoder.old decoder.new
         (P.failures port.old) (P.failures port.new) stage result.0 }
 {
@@ -143,7 +149,8 @@ fn read_long<P: PortRead, K: KernelPort, B: Blocks>(
     blocks: &mut B,
 ) -> (Turned, bool)
     requires { stage ≢ Stage.Finished }
-    ensures { ReadsOn (P.remaining port.old) (P.remaining port.new)
+    ensures { ReadsOn (input_of (P.came port.old) (P.remaining port.old))
+        (input_of (P.came port.new) (P.remaining port.new))
         (K.log kernel_port.old) (K.log kernel_port.new) decoder.old decoder.new
         (P.failures port.old) (P.failures port.new) stage result.0 }
 {
@@ -162,7 +169,8 @@ fn read_turn<P: PortRead, K: KernelPort, B: Blocks>(
 ) -> (Turned, bool)
     requires goes_on { stage ≢ Stage.Finished }
     requires some { 0 < length buffer.old }
-    ensures { ReadsOn (P.remaining port.old) (P.remaining port.new)
+    ensures { ReadsOn (input_of (P.came port.old) (P.remaining port.old))
+        (input_of (P.came port.new) (P.remaining port.new))
         (K.log kernel_port.old) (K.log kernel_port.new) decoder.old decoder.new
         (P.failures port.old) (P.failures port.new) stage result.0 }
 {

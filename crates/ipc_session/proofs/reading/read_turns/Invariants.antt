@@ -1,6 +1,6 @@
 -- All whole frames of the bytes read were served, and the device has not failed.
 use Rattle.std.proofs.Common.{◌≡◌, ℕ, List, []}
-use Rattle.std.specs.Io.KnownBytes.{Consumes}
+use Rattle.ipc_ports.specs.Ports.{Gives, input_of}
 use Rattle.ipc_connection.specs.Taking.{Holds}
 use Rattle.ipc_connection.specs.declared.stage.Stage.TheVariants.{Greeting}
 use Rattle.ipc_session.specs.Reading.{HasServed}
@@ -10,7 +10,7 @@ abbrev pub invariant-turns : goal.invariant-turns
 invariant-turns g l = record {
   bytes : List ℕ;
   left : List ℕ;
-  consumed : Consumes (g.P.PortRead.remaining l.fn.port) (g.P.PortRead.remaining l.port) bytes;
+  gave : Gives (input_of (g.P.PortRead.came l.fn.port) (g.P.PortRead.remaining l.fn.port)) (input_of (g.P.PortRead.came l.port) (g.P.PortRead.remaining l.port)) bytes;
   holds : Holds l.decoder left;
   served : HasServed (g.K.KernelPort.log l.fn.kernel_port) (g.K.KernelPort.log l.kernel_port) Greeting bytes left l.stage [];
   kept : g.P.PortRead.failures l.port ≡ g.P.PortRead.failures l.fn.port;

@@ -23,7 +23,7 @@ returns-in-Ok-clause-read g c =
         more = take count read;
         counted = sym bound.1;
         behind = front_is _ read _ _ filled count list.len len bound.0 (omega (arith, bound.0, room, there, list.ok)) ∙ ap (λ xs. xs ++ take count read) (front ∙ c.self.view_is);
-        consumed = c.in-Ok.ensures.bytes.0;
+        gave = record { came = c.in-Ok.ensures.came; consumed = c.in-Ok.ensures.bytes.0 };
         at_end = λ none. c.in-Ok.ensures.bytes.1 none (omega (arith, room, c.requires.some));
       },
     )

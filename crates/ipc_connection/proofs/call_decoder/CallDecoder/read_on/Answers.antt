@@ -1,4 +1,5 @@
 use Rattle.std.proofs.Common.{false, sym, ap, subst, ◌∙◌}
+use Rattle.ipc_ports.specs.Ports.{input_of}
 use Rattle.ipc_connection.specs.ReadOn.{TakesOn}
 use Rattle.ipc_connection.specs.Taking.{Decoding}
 use Rattle.ipc_connection.proofs.ReadOnLemmas.{takes_on}
@@ -6,8 +7,8 @@ use Rattle.ipc_connection.proofs.call_decoder.CallDecoder.read_on.Goals as goal
 
 pub returns-clause-taken : goal.returns-clause-taken
 returns-clause-taken g c =
-    let input = g.P.PortRead.remaining c.args.port.now in
-    let left = g.P.PortRead.remaining c.read_on.new.port in
+    let input = input_of (g.P.PortRead.came c.args.port.now) (g.P.PortRead.remaining c.args.port.now) in
+    let left = input_of (g.P.PortRead.came c.read_on.new.port) (g.P.PortRead.remaining c.read_on.new.port) in
     let old = c.self.inside.held in
     let new = c.read_on.new.self in
     let result = c.read_on.result in

@@ -1,6 +1,7 @@
 use Rattle.std.proofs.Common.{◌≡◌, ◌<◌, ◌++◌, [], length, take, replicate, sym, ap, subst, ◌∙◌, arith, length-append}
 use Rattle.std.proofs.lemmas.Bool.{eqb-false}
 use Rattle.std.proofs.lemmas.List.{append-nil}
+use Rattle.ipc_ports.specs.Ports.{input_of}
 use Rattle.ipc_frame.specs.declared.kind.Side.TheVariants.{Server}
 use Rattle.ipc_frame.specs.Reading.{reading}
 use Rattle.ipc_frame.proofs.ShortLemmas.{short_within}
@@ -28,8 +29,8 @@ invariant_of-self g c =
 
 pub returns-clause-read : goal.returns-clause-read
 returns-clause-read g c =
-    let input = g.P.PortRead.remaining c.args.port.now in
-    let left = g.P.PortRead.remaining c.read_behind.new.port in
+    let input = input_of (g.P.PortRead.came c.args.port.now) (g.P.PortRead.remaining c.args.port.now) in
+    let left = input_of (g.P.PortRead.came c.read_behind.new.port) (g.P.PortRead.remaining c.read_behind.new.port) in
     let start = take c.self.inside.len c.self.inside.start in
     let old = c.self.inside.payload in
     let new = c.read_behind.new.self in

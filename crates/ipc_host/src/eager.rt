@@ -1,12 +1,10 @@
 //! The reading side of a socket that may look for a little while before it sleeps.
-ghost use Rattle.std.specs.Prelude.{◌≤◌, IfSome, length};
-ghost use Rattle.libc.specs.Io.{Moved};
+ghost use Rattle.std.specs.Prelude.{◌≡◌, ◌≤◌, ◌++◌, [], Some, None, take, length, IfSome, MatchOption};
+ghost use Rattle.ipc_ports.specs.Ports.{max_reads};
 
 use crate::clock::ServerClock;
-use libc::net as c;
-use std::io;
-use std::io::Read;
-use std::os::fd::AsRawFd;
+use crate::inlet::Inlet;
+use ipc_ports::{MAX_READS, PortFault, PortRead};
 use std::os::unix::net::UnixStream;
 use std::rt::Clock;
 use std::sync::atomic::{AtomicBool, Ordering};
@@ -20,37 +18,18 @@ const MOST_LOOKS: u32 = 1_000;
 /// How many reads sleep at once, at most, where those that looked found nothing.
 const MOST_SLEEPS: u32 = 64;
 
-/// What a client sends. Where its answer went out at once, its next frame may come soon: the next read then looks for it for 30
-/// microseconds before it sleeps. After a look that found nothing one such read sleeps at once, after the next one two, and up to 64.
+/// Whether a read looks for bytes before it sleeps.
 #[derive(Drop)]
-pub struct EagerStream<'a, R: Clock> {
+struct Lookout<'a, R: Clock> {
     rt: &'a R,
     clock: ServerClock,
-    stream: &'a UnixStream,
     soon: &'a AtomicBool,
     // so many reads sleep at once after the next look that finds nothing, and so many still do
     pause: u32,
     sleeps: u32,
 }
 
-impl<'a, R: Clock> EagerStream<'a, R> {
-    /// The reading side of a socket. `soon` is set where the next frame may come soon.
-    pub fn new(
-        rt: &'a R,
-        clock: ServerClock,
-        stream: &'a UnixStream,
-        soon: &'a AtomicBool,
-    ) -> EagerStream<'a, R> {
-        EagerStream {
-            rt,
-            clock,
-            stream,
-            soon,
-            pause: 1,
-            sleeps: 0,
-        }
-    }
-
+impl<R: Clock> Lookout<'_, R> {
     /// Whether the next read is to look for bytes.
     fn is_to_look(&mut self) -> bool {
         if !self.soon.swap(false, Ordering::SeqCst) {
@@ -62,10 +41,12 @@ impl<'a, R: Clock> EagerStream<'a, R> {
     }
 
     /// Looks for bytes, and notes whether some came. None where the time is over, or the system says why there are none.
-    fn look_once(&mut self, buf: &mut [u8]) -> Option<usize>
-        ensures { IfSome result (λ count. count ≤ length buf.new) }
+    fn look_once(&mut self, inlet: &mut Inlet<'_>, buf: &mut [u8]) -> Option<usize>
+        ensures bound { IfSome result (λ count. count ≤ length buf.new) }
+        ensures came { MatchOption result (inlet.new.came ≡ inlet.old.came)
+            (λ count. inlet.new.came ≡ inlet.old.came ++ take count buf.new) }
     {
-        let found = self.look(buf);
+        let found = self.look(inlet, buf);
         if found.is_some() {
             self.pause = 1;
         } else {
@@ -76,14 +57,15 @@ impl<'a, R: Clock> EagerStream<'a, R> {
     }
 
     /// Looks for bytes until some are there. None where the time is over, or the system says why there are none.
-    fn look(&self, buf: &mut [u8]) -> Option<usize>
-        ensures { IfSome result (λ count. count ≤ length buf.new) }
+    fn look(&self, inlet: &mut Inlet<'_>, buf: &mut [u8]) -> Option<usize>
+        ensures bound { IfSome result (λ count. count ≤ length buf.new) }
+        ensures came { MatchOption result (inlet.new.came ≡ inlet.old.came)
+            (λ count. inlet.new.came ≡ inlet.old.came ++ take count buf.new) }
     {
         let end = self.clock.now(self.rt).saturating_add(LOOK);
         'looks: for _ in 0..MOST_LOOKS {
-            let count = receive_at_once(self.stream, buf);
-            if count >= 0 {
-                return Some(count as usize);
+            if let Some(count) = inlet.take_at_once(buf) {
+                return Some(count);
             }
             if os::errno() != libc::EAGAIN || self.clock.now(self.rt) >= end {
                 return None;
@@ -93,21 +75,75 @@ impl<'a, R: Clock> EagerStream<'a, R> {
     }
 }
 
-/// How many bytes the system has now; -1 where it has none.
-fn receive_at_once(stream: &UnixStream, buf: &mut [u8]) -> isize
-    ensures { Moved (length buf.old) result }
-{
-    unsafe { c::recv(stream.as_raw_fd(), buf, c::MSG_DONTWAIT) }
+/// What a client sends. Where its answer went out at once, its next frame may come soon: the next read then looks for it for 30
+/// microseconds before it sleeps. After a look that found nothing one such read sleeps at once, after the next one two, and up to 64.
+/// Contracts see the bytes that the system said it gave.
+#[derive(Drop)]
+pub struct EagerStream<'a, R: Clock> {
+    lookout: Lookout<'a, R>,
+    inlet: Inlet<'a>,
+    failures: u64,
+    reads: u64,
+    ghost within: { reads ≤ max_reads },
 }
 
-impl<R: Clock> Read for EagerStream<'_, R> {
-    fn read(&mut self, buf: &mut [u8]) -> io::Result<usize> {
-        if self.is_to_look() {
-            if let Some(count) = self.look_once(buf) {
+impl<'a, R: Clock> EagerStream<'a, R> {
+    /// The reading side of a socket of which nothing was read. `soon` is set where the next frame may come soon.
+    pub fn new(
+        rt: &'a R,
+        clock: ServerClock,
+        stream: &'a UnixStream,
+        soon: &'a AtomicBool,
+    ) -> EagerStream<'a, R>
+        ensures { result.inlet.came ≡ [] }
+    {
+        EagerStream {
+            lookout: Lookout {
+                rt,
+                clock,
+                soon,
+                pause: 1,
+                sleeps: 0,
+            },
+            inlet: Inlet::new(stream),
+            failures: 0,
+            reads: 0,
+        }
+    }
+}
+
+impl<R: Clock> PortRead for EagerStream<'_, R> {
+    ghost use Rattle.std.specs.Prelude.{◌-◌};
+
+    ghost remaining = { λ _. None };
+
+    ghost came = { λ port. Some port.inlet.came };
+
+    ghost failures = { λ port. port.failures };
+
+    ghost reads_left = { λ port. max_reads - port.reads };
+
+    fn read(&mut self, buf: &mut [u8]) -> Result<usize, PortFault> {
+        // after 2^64 - 1 failures, which no run has, it gives none
+        if self.failures == u64::MAX {
+            return Ok(0);
+        }
+        if self.reads >= MAX_READS {
+            self.failures += 1;
+            return Err(PortFault::DeviceFailed);
+        }
+        self.reads += 1;
+        if self.lookout.is_to_look() {
+            if let Some(count) = self.lookout.look_once(&mut self.inlet, buf) {
                 return Ok(count);
             }
         }
-        let mut stream = self.stream;
-        stream.read(buf)
+        match self.inlet.take(buf) {
+            Ok(count) => Ok(count),
+            Err(fault) => {
+                self.failures += 1;
+                Err(fault)
+            }
+        }
     }
 }

@@ -1,7 +1,8 @@
 //! The socket of a connection, as the port of its pen.
-ghost use Rattle.std.specs.Prelude.{◌≡◌, ◌≤◌, ℕ, List, [], ◌++◌, Some, length, take};
+ghost use Rattle.std.specs.Prelude.{◌≡◌, ◌≤◌, [], ◌++◌, Some, length, take};
 ghost use Rattle.libc.specs.Io.{Moved};
 
+use crate::noting::with_more;
 use ipc_base::Past;
 use ipc_pen::{Patience, PenPort};
 use ipc_ports::PortFault;
@@ -38,14 +39,6 @@ impl SocketPort {
     {
         self.taken = with_more(&self.taken, buf, count);
     }
-}
-
-/// What was taken so far, and behind it so many of these bytes. Only proofs see them.
-fn with_more(taken: &Past<u8>, buf: &[u8], count: usize) -> Past<u8>
-    ghost bytes: { List ℕ }
-    ensures { result ≡ bytes }
-{
-    Past::told()
 }
 
 /// How many of these bytes the system takes; -1 where it takes none. A client that is gone is told by the answer, and not by a signal.

@@ -21,5 +21,6 @@ pub use newline::line_end;
 pub use piece::PieceBuffer;
 pub use port::{PortRead, PortWrite};
 pub use reading::ReadPort;
+pub use turns::read_turn;
 pub use whole::write_all;
 pub use writing::WritePort;

@@ -9,8 +9,12 @@ use std::io::{ErrorKind, Read, Write};
 // So many interrupted turns in a row are a fault.
 pub(crate) const MAX_INTERRUPTED: u32 = 1000;
 
-// Reads once.
-pub(crate) fn read_turn<R: Read>(reader: &mut R, buf: &mut [u8]) -> Result<usize, PortFault>
+/// Reads once from a reader of std. None comes only at the end of the input, or where `buf` has no room.
+///
+/// # Errors
+///
+/// F10, F11: no byte was taken.
+pub fn read_turn<R: Read>(reader: &mut R, buf: &mut [u8]) -> Result<usize, PortFault>
     ensures bound { ReadsAtMost result buf.new }
     ensures bytes { ReadConsumes (R.remaining reader.old) (R.remaining reader.new) result buf.new }
 {

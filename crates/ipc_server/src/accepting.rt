@@ -1,23 +1,23 @@
 //! The workers of a server beside those of its connections and of its trace: one for each path, the ticker and the mover.
-ghost use Rattle.std.specs.Prelude.{◌≡◌, ◌<◌, []};
+ghost use Rattle.std.specs.Prelude.{◌≡◌, [], Some, map};
+ghost use Rattle.ipc_session.specs.Keeping.{call_of};
+ghost use Rattle.ipc_session.specs.Sessions.{MayAskFor};
 
 use crate::control::answer_askers;
 use crate::counters::counters_now;
 use crate::host::Host;
 use crate::paths::Listener;
 use crate::server::Server;
-use crate::serving::{Ports, serve_connection, start_worker};
+use crate::serving::{Ports, Served, serve_connection, start_worker};
 use crate::socket::{Guest, SocketGate};
 use crate::working::{Alarm, OverGate, Worker};
 use ipc_host::{Admission, EagerStream, Notice, SocketPort};
-use ipc_ports::{Failures, ReadPort};
 use ipc_session::{Open, move_loop, tick_loop};
 use std::io::ErrorKind;
-use std::marker::Brand;
 use std::os::unix::net::UnixStream;
 use std::rt::Clock;
 use std::sync::atomic::{AtomicBool, Ordering};
-use std::sync::ledger::{Blank, Ledger};
+use std::sync::ledger::Ledger;
 use std::sync::{Arc, Wait};
 use std::thread::{Scope, Threads};
 use std::time::Duration;
@@ -254,9 +254,9 @@ fn miss<C: Ledger, T: Ledger, R: Wait + Clock + Eprint>(
 }
 
 /// Serves a connection to its end.
-fn serve_guest<C, T, R>(
-    server: &Server<'_, C, T, SocketPort, R>,
-    host: &Host,
+fn serve_guest<'a, C, T, R>(
+    server: &Server<'a, C, T, SocketPort, R>,
+    host: &'a Host,
     space: u64,
     ticket: u64,
     stream: Arc<UnixStream>,
@@ -275,53 +275,33 @@ where
         soon: &soon,
     };
     if let Ok(kept) = Arc::try_clone(&stream) {
-        serve_socket(server, &guest, &stream, SocketPort::new(kept));
+        let _ = serve_stream(server, &guest, &stream, SocketPort::new(kept));
     }
     drop(stream);
     host.guests.leave(server.rt, ticket);
 }
 
-/// Serves a socket, with a count of the failures of its reads.
-fn serve_socket<C, T, R>(
-    server: &Server<'_, C, T, SocketPort, R>,
-    guest: &Guest<'_, R>,
-    stream: &UnixStream,
+/// Serves a socket. What came through it asked for what was asked.
+fn serve_stream<'a, C, T, R>(
+    server: &Server<'a, C, T, SocketPort, R>,
+    guest: &Guest<'a, R>,
+    stream: &'a UnixStream,
     writer: SocketPort,
-)
+) -> Served<EagerStream<'a, R>>
 where
     C: Ledger + Send,
     T: Ledger + Send,
     R: Threads + Wait + Clock + Eprint + Sync,
     requires { writer.taken ≡ [] }
+    ensures { MayAskFor (Some []) (Some result.reader.inlet.came) (map call_of result.asked) }
 {
-    serve_stream::<C, T, Brand, R>(server, guest, stream, writer, Blank::new(1));
-}
-
-/// Serves a socket. The count of failures begins as a blank.
-fn serve_stream<C, T, L, R>(
-    server: &Server<'_, C, T, SocketPort, R>,
-    guest: &Guest<'_, R>,
-    stream: &UnixStream,
-    writer: SocketPort,
-    reads: Blank,
-)
-where
-    C: Ledger + Send,
-    T: Ledger + Send,
-    L: Ledger + Send + Sync,
-    R: Threads + Wait + Clock + Eprint + Sync,
-    requires reads_name { reads.name ≡ L.name }
-    requires reads_parts { (reads.parts ≡ L.parts) × (0 < reads.parts) }
-    requires empty { writer.taken ≡ [] }
-{
-    let eager = EagerStream::new(server.rt, server.clock, stream, guest.soon);
     let ports = Ports {
         space: guest.space,
-        reader: ReadPort::new(eager, Failures::<L>::new(reads)),
+        reader: EagerStream::new(server.rt, server.clock, stream, guest.soon),
         writer,
         reads: SocketGate::new(stream, guest),
         writes: SocketGate::new(stream, guest),
         kernel_port: SocketGate::new(stream, guest),
     };
-    serve_connection(server, ports);
+    serve_connection(server, ports)
 }

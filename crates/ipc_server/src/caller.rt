@@ -1,5 +1,7 @@
-ghost use Rattle.std.specs.Prelude.{None};
+ghost use Rattle.std.specs.Prelude.{◌≡◌, [], Some, map};
+ghost use Rattle.ipc_session.specs.Keeping.{call_of};
 
+use crate::noted::NotedEnd;
 use crate::server::Server;
 use crate::serving::Link;
 use ipc_connection::{Request, Told, reply};
@@ -13,11 +15,11 @@ use std::rt::Clock;
 use std::sync::Wait;
 use std::sync::ledger::Ledger;
 
-/// The kernel port of a connection's reader: the shared kernel, by the connection's own end. It tells no calls.
+/// The kernel port of a connection's reader: the shared kernel, by the connection's own end.
 #[derive(Drop)]
 pub struct Caller<'a, C: Ledger, T: Ledger, P: PenPort + Drop, R: Wait + Clock, G: Link> {
     server: &'a Server<'a, C, T, P, R>,
-    end: PostEnd<C>,
+    pub(crate) end: NotedEnd<C>,
     space: u64,
     thread: Option<ThreadId>,
     link: G,
@@ -32,18 +34,22 @@ where
     G: Link + Drop,
 {
     /// A port that opens its thread in a space.
-    pub fn new(server: &'a Server<'a, C, T, P, R>, end: PostEnd<C>, space: u64, link: G) -> Self {
+    pub fn new(server: &'a Server<'a, C, T, P, R>, end: PostEnd<C>, space: u64, link: G) -> Self
+        ensures { result.end.deeds ≡ [] }
+    {
         Caller {
             server,
-            end,
+            end: NotedEnd::new(end),
             space,
             thread: None,
             link,
         }
     }
 
-    /// Its end, once its reader has ended.
-    pub fn into_end(self) -> PostEnd<C> {
+    /// Its end, once its reader has ended, and what was asked by it.
+    pub fn into_end(self) -> NotedEnd<C>
+        ensures { result.deeds ≡ self.entry.end.deeds }
+    {
         let Caller { end, .. } = self;
         end
     }
@@ -81,26 +87,25 @@ where
     R: Wait + Clock,
     G: Link,
 {
-    ghost log = { λ _. None };
+    ghost log = { λ port. Some (map call_of port.end.deeds) };
 
-    #[tactic(auto, using(crate::proofs::AnswerLemmas::asked_answers))]
+    #[tactic(auto, using(crate::proofs::NotedLemmas::tells_asked))]
     fn ask(&mut self, request: Request) -> Told {
-        let Server { rt, shared, .. } = *self.server;
-        let now = self.server.now();
-        let (told, entered) = shared.ask(rt, now, &mut self.end, request, self.space);
+        let (told, entered) = self.end.ask(self.server, request, self.space);
         let answer = told;
         note(&self.link, &mut self.thread, told, entered);
         answer
     }
 
+    #[tactic(auto, using(crate::proofs::NotedLemmas::tells_posted))]
     fn post(&mut self, told: Told) {
         let posted = told;
         say(&self.link, told, self.thread);
-        self.server.shared.post(self.server.rt, &self.end, posted);
+        self.end.post(self.server, posted);
     }
 
+    #[tactic(auto, using(crate::proofs::NotedLemmas::tells_broke))]
     fn broke(&mut self) {
-        let now = self.server.now();
-        self.server.shared.hang_up(self.server.rt, now, &self.end);
+        self.end.hang_up(self.server);
     }
 }

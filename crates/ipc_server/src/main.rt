@@ -10,6 +10,7 @@ mod counters;
 mod exit;
 mod host;
 mod meter;
+mod noted;
 mod part_answer;
 mod parts;
 mod paths;

@@ -1,13 +1,18 @@
 //! The two workers of a connection.
+ghost use Rattle.std.specs.Prelude.{◌≡◌, [], map};
 ghost use Rattle.ipc_pen.specs.Pens.{BeginsEmpty};
+ghost use Rattle.ipc_session.specs.Keeping.{call_of};
+ghost use Rattle.ipc_session.specs.Sessions.{AsksFor, MayAskFor};
 
 use crate::caller::Caller;
+use crate::noted::NotedEnd;
 use crate::server::Server;
+use ipc_base::Past;
 use ipc_host::Notice;
 use ipc_lock::{Loaded, PostEnd, TakeEnd};
 use ipc_pen::{Patience, PenPort};
 use ipc_ports::PortRead;
-use ipc_session::{Gate, read_loop};
+use ipc_session::{Deed, Gate, read_loop};
 use ipc_words::ThreadId;
 use std::rt::Clock;
 use std::sync::Wait;
@@ -76,9 +81,22 @@ struct Reading<I: PortRead, G: Gate + Link> {
     kernel_port: G,
 }
 
+/// What was made of a connection: the port that was read, and what was asked for it, with the answers, in order. Proofs alone know what
+/// was asked.
+#[derive(Drop)]
+pub struct Served<I: PortRead> {
+    /// The port that was read.
+    pub reader: I,
+    /// What was asked of the kernel.
+    pub asked: Past<Deed>,
+}
+
 /// Serves one connection to its end: reads in this thread, and in one that it starts writes what no other thread could. Where that
-/// cannot be started, or there is no memory for a box, the link is shut down.
-pub fn serve_connection<C, T, P, R, I, G>(server: &Server<'_, C, T, P, R>, ports: Ports<P, I, G>)
+/// cannot be started, or there is no memory for a box, the link is shut down. What came asked for what was asked.
+pub fn serve_connection<C, T, P, R, I, G>(
+    server: &Server<'_, C, T, P, R>,
+    ports: Ports<P, I, G>,
+) -> Served<I>
 where
     C: Ledger + Send,
     T: Ledger + Send,
@@ -87,6 +105,7 @@ where
     I: PortRead + Drop,
     G: Gate + Link + Drop + Send,
     requires { BeginsEmpty (P.written ports.writer) }
+    ensures { MayAskFor (I.came ports.reader) (I.came result.reader) (map call_of result.asked) }
 {
     let Ports {
         space,
@@ -104,13 +123,24 @@ where
     };
     match server.shared.connect(server.rt, writer) {
         Ok((posts, takes)) => {
-            let posts = serve_both_ways(server, posts, takes, reading, writes);
+            let (posts, served) = serve_both_ways(server, posts, takes, reading, writes);
             server.shared.release(server.rt, posts);
+            served
         }
-        Err(_) => {
-            reading.reads.shut_down();
-            drop(reading);
-        }
+        Err(_) => turn_away(reading),
+    }
+}
+
+/// A connection that is not served.
+fn turn_away<I: PortRead + Drop, G: Gate + Link + Drop>(reading: Reading<I, G>) -> Served<I>
+    ensures came { I.came result.reader ≡ I.came reading.reader }
+    ensures asked { result.asked ≡ [] }
+{
+    reading.reads.shut_down();
+    let Reading { reader, .. } = reading;
+    Served {
+        reader,
+        asked: Past::new(),
     }
 }
 
@@ -121,7 +151,7 @@ fn serve_both_ways<C, T, P, R, I, G>(
     takes: TakeEnd,
     reading: Reading<I, G>,
     writes: G,
-) -> PostEnd<C>
+) -> (PostEnd<C>, Served<I>)
 where
     C: Ledger + Send,
     T: Ledger + Send,
@@ -129,25 +159,23 @@ where
     R: Threads + Wait + Clock + Sync,
     I: PortRead + Drop,
     G: Gate + Link + Drop + Send,
+    ensures { MayAskFor (I.came reading.reader) (I.came result.1.reader)
+        (map call_of result.1.asked) }
 {
     thread::scope(thread::scope_env(), server.rt, |scope| {
         match start_worker(scope, move || write_to_the_end(server, takes, writes)) {
             Ok(()) => read_to_the_end(server, posts, reading),
-            Err(_) => {
-                reading.reads.shut_down();
-                drop(reading);
-                posts
-            }
+            Err(_) => (posts, turn_away(reading)),
         }
     })
 }
 
-/// Reads what the client sends, and then stops reading.
+/// Reads what the client sends, and then stops reading. Answers the end of its box.
 fn read_to_the_end<C, T, P, R, I, G>(
     server: &Server<'_, C, T, P, R>,
     posts: PostEnd<C>,
     reading: Reading<I, G>,
-) -> PostEnd<C>
+) -> (PostEnd<C>, Served<I>)
 where
     C: Ledger,
     T: Ledger,
@@ -155,6 +183,7 @@ where
     R: Wait + Clock,
     I: PortRead + Drop,
     G: Gate + Link + Drop,
+    ensures { AsksFor (I.came reading.reader) (I.came result.1.reader) (map call_of result.1.asked) }
 {
     let Reading {
         space,
@@ -164,9 +193,15 @@ where
     } = reading;
     let mut kernel_port = Caller::new(server, posts, space, kernel_port);
     read_with(server, &mut reader, &mut kernel_port, &mut reads);
-    drop(reader);
     drop(reads);
-    kernel_port.into_end()
+    let NotedEnd { end, deeds } = kernel_port.into_end();
+    (
+        end,
+        Served {
+            reader,
+            asked: deeds,
+        },
+    )
 }
 
 /// The same by ports that somebody else has.
@@ -183,6 +218,8 @@ where
     R: Wait + Clock,
     I: PortRead,
     G: Gate + Link,
+    requires { kernel_port.old.end.deeds ≡ [] }
+    ensures { AsksFor (I.came reader.old) (I.came reader.new) (map call_of kernel_port.new.end.deeds) }
 {
     let mut blocks = server.blocks();
     let _ = read_loop(server.alloc, reader, kernel_port, reads, &mut blocks);

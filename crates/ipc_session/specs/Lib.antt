@@ -3,4 +3,5 @@ pub mod Keeping
 pub mod Laws
 pub mod Reading
 pub mod Serving
+pub mod Sessions
 pub mod Taking

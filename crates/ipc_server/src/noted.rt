@@ -1,0 +1,102 @@
+//! The end of a connection's reader, and what was asked by it.
+ghost use Rattle.std.specs.Prelude.{◌≡◌, List, [], ◌∷◌, ◌++◌};
+ghost use Rattle.ipc_session.specs.Serving.{IsAnswer};
+ghost use Rattle.ipc_session.specs.Sessions.{deeds_left};
+ghost use Rattle.ipc_session.specs.declared.deed.Deed.TheVariants as deed;
+
+use crate::server::Server;
+use ipc_base::Past;
+use ipc_connection::{Request, Told};
+use ipc_lock::{Entered, PostEnd};
+use ipc_pen::PenPort;
+use ipc_session::Deed;
+use std::rt::Clock;
+use std::sync::Wait;
+use std::sync::ledger::Ledger;
+
+/// The end by which a connection's reader asks the shared kernel. Contracts see all that was asked by it, with the answers, in order.
+#[derive(Drop)]
+pub(crate) struct NotedEnd<C: Ledger> {
+    pub(crate) end: PostEnd<C>,
+    pub(crate) deeds: Past<Deed>,
+}
+
+impl<C: Ledger> NotedEnd<C> {
+    /// An end by which nothing was asked.
+    pub(crate) fn new(end: PostEnd<C>) -> NotedEnd<C>
+        ensures { result.deeds ≡ [] }
+    {
+        NotedEnd {
+            end,
+            deeds: Past::new(),
+        }
+    }
+
+    /// Asks for a connection from a space, now. Also says how far a call is that was entered.
+    #[tactic(auto, using(crate::proofs::AnswerLemmas::asked_answers))]
+    pub(crate) fn ask<T, P, R>(
+        &mut self,
+        server: &Server<'_, C, T, P, R>,
+        request: Request,
+        space: u64,
+    ) -> (Told, Entered)
+    where
+        T: Ledger,
+        P: PenPort + Drop,
+        R: Wait + Clock,
+        ensures asked { self.new.deeds ≡ self.old.deeds ++ deed.Asked request result.0 ∷ [] }
+        ensures answer { IsAnswer request result.0 }
+    {
+        let mut asked = Past::new();
+        asked.add(&request);
+        let now = server.now();
+        let answered = server
+            .shared
+            .ask(server.rt, now, &mut self.end, request, space);
+        let told = answered.0;
+        self.deeds = with_asked(&self.deeds, &asked, told);
+        answered
+    }
+
+    /// Posts the frame of what is told.
+    pub(crate) fn post<T, P, R>(&mut self, server: &Server<'_, C, T, P, R>, told: Told)
+    where
+        T: Ledger,
+        P: PenPort + Drop,
+        R: Wait + Clock,
+        ensures { self.new.deeds ≡ self.old.deeds ++ deeds_left told }
+    {
+        let posted = told;
+        server.shared.post(server.rt, &self.end, posted);
+        self.deeds = with_posted(&self.deeds, told);
+    }
+
+    /// Ends its thread, if there is one, now.
+    pub(crate) fn hang_up<T, P, R>(&mut self, server: &Server<'_, C, T, P, R>)
+    where
+        T: Ledger,
+        P: PenPort + Drop,
+        R: Wait + Clock,
+        ensures { self.new.deeds ≡ self.old.deeds ++ deed.Broke ∷ [] }
+    {
+        let now = server.now();
+        server.shared.hang_up(server.rt, now, &self.end);
+        self.deeds.add(&Deed::Broke);
+    }
+}
+
+/// What was done so far, and behind it that this was asked, and told so.
+fn with_asked(deeds: &Past<Deed>, asked: &Past<Request>, told: Told) -> Past<Deed>
+    ghost all: { List Deed }
+    ensures { result ≡ all }
+{
+    Past::told()
+}
+
+/// What was done so far, and behind it that this was left to be posted.
+fn with_posted(deeds: &Past<Deed>, told: Told) -> Past<Deed>
+    ghost all: { List Deed }
+    ensures { result ≡ all }
+{
+    Past::told()
+}

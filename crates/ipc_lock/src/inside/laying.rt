@@ -1,0 +1,68 @@
+//! Pens are laid down in their boxes, and taken out by their writers.
+ghost use Rattle.std.specs.Prelude.{slice_get};
+ghost use Rattle.ipc_lock.specs.Boxes.{OnlyTakes};
+ghost use Rattle.ipc_lock.specs.Places.{LaysAt, LooksAgain, TakesBack, WorksAt};
+
+use super::Inside;
+use crate::errands::Errands;
+use crate::post_box::{Loaded, Work};
+use ipc_pen::PenPort;
+use std::sync::ledger::Ledger;
+
+impl<C: Ledger, T: Ledger, P: PenPort + Drop> Inside<C, T, P> {
+    /// Lays pens down, each in its own box, and takes those out again for which something came meanwhile.
+    #[tactic(auto, using(crate::proofs::Moves::only_both))]
+    pub(crate) fn take_back(&mut self, errands: &mut Errands<P>)
+        ensures takes { TakesBack self.old.locked.kernel self.new.locked.kernel
+            self.old.boxes.items self.new.boxes.items errands.old errands.new }
+        ensures only { OnlyTakes self.old.locked.kernel self.new.locked.kernel }
+    {
+        self.look_again(&mut errands.first);
+        self.look_again(&mut errands.second);
+        self.look_again(&mut errands.third);
+    }
+
+    /// Lays a pen down in its own box, and takes it out again where something came meanwhile.
+    #[tactic(auto, using(crate::proofs::Moves::only_none))]
+    fn look_again(&mut self, pen: &mut Option<Loaded<P>>)
+        ensures looks { LooksAgain self.old.locked.kernel self.new.locked.kernel
+            self.old.boxes.items self.new.boxes.items pen.old pen.new }
+        ensures only { OnlyTakes self.old.locked.kernel self.new.locked.kernel }
+    {
+        let Some(own) = pen.take() else {
+            return;
+        };
+        if let Some(again) = self.lay_down(own) {
+            drop(pen.replace(again));
+        }
+    }
+
+    /// Lays a pen down in its own box. It comes out again where something came meanwhile.
+    #[tactic(auto, using(crate::proofs::Moves::only_none, crate::proofs::Moves::set_same, crate::proofs::Moves::there, crate::proofs::Moves::none_there))]
+    fn lay_down(&mut self, pen: Loaded<P>) -> Option<Loaded<P>>
+        ensures lays { LaysAt self.old.locked.kernel self.new.locked.kernel self.old.boxes.items
+            self.new.boxes.items pen (slice_get self.old.boxes.items pen.place) result }
+        ensures only { OnlyTakes self.old.locked.kernel self.new.locked.kernel }
+    {
+        let Inside { locked, boxes, .. } = self;
+        let Some(post_box) = boxes.get_mut(pen.place()) else {
+            drop(pen);
+            return None;
+        };
+        post_box.look_again(locked, pen)
+    }
+
+    /// What a box's writer does next; None while there is nothing to do.
+    #[tactic(auto, using(crate::proofs::Moves::only_none, crate::proofs::Moves::there, crate::proofs::Moves::none_there))]
+    pub(crate) fn work(&mut self, place: usize) -> Option<Work<P>>
+        ensures works { WorksAt self.old.locked.kernel self.new.locked.kernel self.old.boxes.items
+            self.new.boxes.items place (slice_get self.old.boxes.items place) result }
+        ensures only { OnlyTakes self.old.locked.kernel self.new.locked.kernel }
+    {
+        let Inside { locked, boxes, .. } = self;
+        match boxes.get_mut(place) {
+            Some(post_box) => post_box.work(locked),
+            None => Some(Work::Over),
+        }
+    }
+}

@@ -1,0 +1,148 @@
+//! The pens of those whom a step told something are taken out of their boxes.
+ghost use Rattle.std.specs.Prelude.{◌≡◌, ◌&&◌, Some, map, slice_get};
+ghost use Rattle.ipc_lock.specs.Alarms.{WakesBefore};
+ghost use Rattle.ipc_lock.specs.Boxes.{OnlyTakes};
+ghost use Rattle.ipc_lock.specs.Places.{LoadsAt, LoadsOne, LoadsRow, OnlyLoads, owner_in, place_at, place_of, places_told};
+
+use super::{After, Inside};
+use crate::errands::Errands;
+use ipc_pen::PenPort;
+use std::sync::ledger::Ledger;
+
+impl<C: Ledger, T: Ledger, P: PenPort + Drop> Inside<C, T, P> {
+    /// Who is to be woken after the last step. The pens of those whom it told something are taken out, first that of this box.
+    #[tactic(auto, using(crate::proofs::Moves::only_both, crate::proofs::Moves::loads_both))]
+    pub(crate) fn after(&mut self, own: Option<usize>, errands: &mut Errands<P>) -> After
+        ensures loads { LoadsRow (places_told own self.old.owners.items self.old.finished.items)
+            self.old.locked.kernel self.new.locked.kernel self.old.boxes.items
+            self.new.boxes.items errands.old errands.new }
+        ensures trace { result.tells_trace ≡ (self.old.is_awaited && self.old.has_grown) }
+        ensures begun { result.begun ≡ self.old.has_begun }
+        ensures wakes { WakesBefore self.old.locked.kernel.history self.old.alarm
+            result.wakes_ticker }
+        ensures only { OnlyTakes self.old.locked.kernel self.new.locked.kernel }
+        ensures stay { OnlyLoads self.old.boxes.items self.new.boxes.items }
+        ensures upkeep { self.new.upkeep ≡ self.old.upkeep }
+    {
+        let begun = self.has_begun;
+        let tells_trace = self.tells_trace();
+        let wakes_ticker = self.wakes_ticker();
+        self.gather(own, errands);
+        After {
+            strays: self.strays,
+            tells_trace,
+            wakes_ticker,
+            begun,
+        }
+    }
+
+    /// The pens of this box, and of those whose calls the last step finished.
+    fn gather(&mut self, own: Option<usize>, errands: &mut Errands<P>)
+        ensures loads { LoadsRow (places_told own self.old.owners.items self.old.finished.items)
+            self.old.locked.kernel self.new.locked.kernel self.old.boxes.items
+            self.new.boxes.items errands.old errands.new }
+        ensures only { OnlyTakes self.old.locked.kernel self.new.locked.kernel }
+        ensures stay { OnlyLoads self.old.boxes.items self.new.boxes.items }
+        ensures upkeep { self.new.upkeep ≡ self.old.upkeep }
+    {
+        self.load_own(own, errands);
+        self.load_finished(errands);
+    }
+
+    /// The pen of this box.
+    #[tactic(auto, using(crate::proofs::Moves::only_none, crate::proofs::Moves::loads_none))]
+    fn load_own(&mut self, own: Option<usize>, errands: &mut Errands<P>)
+        ensures loads { LoadsOne own self.old.locked.kernel self.new.locked.kernel
+            self.old.boxes.items self.new.boxes.items errands.old errands.new }
+        ensures owners { self.new.owners ≡ self.old.owners }
+        ensures finished { self.new.finished ≡ self.old.finished }
+        ensures only { OnlyTakes self.old.locked.kernel self.new.locked.kernel }
+        ensures stay { OnlyLoads self.old.boxes.items self.new.boxes.items }
+        ensures upkeep { self.new.upkeep ≡ self.old.upkeep }
+    {
+        if let Some(place) = own {
+            self.load_more(place, errands);
+        }
+    }
+
+    /// The pens of those whose calls the last step finished.
+    fn load_finished(&mut self, errands: &mut Errands<P>)
+        ensures loads { LoadsRow (map (place_of self.old.owners.items) self.old.finished.items)
+            self.old.locked.kernel self.new.locked.kernel self.old.boxes.items
+            self.new.boxes.items errands.old errands.new }
+        ensures only { OnlyTakes self.old.locked.kernel self.new.locked.kernel }
+        ensures stay { OnlyLoads self.old.boxes.items self.new.boxes.items }
+        ensures upkeep { self.new.upkeep ≡ self.old.upkeep }
+    {
+        'finished: for index in 0..self.finished.len() {
+            self.load_for(index, errands);
+        }
+    }
+
+    /// The pen of one box more.
+    fn load_more(&mut self, place: usize, errands: &mut Errands<P>)
+        ensures loads { LoadsOne (Some place) self.old.locked.kernel self.new.locked.kernel
+            self.old.boxes.items self.new.boxes.items errands.old errands.new }
+        ensures owners { self.new.owners ≡ self.old.owners }
+        ensures finished { self.new.finished ≡ self.old.finished }
+        ensures only { OnlyTakes self.old.locked.kernel self.new.locked.kernel }
+        ensures stay { OnlyLoads self.old.boxes.items self.new.boxes.items }
+        ensures upkeep { self.new.upkeep ≡ self.old.upkeep }
+    {
+        self.load(place, errands);
+    }
+
+    /// The pen of one whose call the last step finished.
+    #[tactic(auto, using(crate::proofs::Moves::only_none, crate::proofs::Moves::loads_none))]
+    fn load_for(&mut self, index: usize, errands: &mut Errands<P>)
+        ensures loads { LoadsOne (place_at self.old.owners.items
+            (slice_get self.old.finished.items index)) self.old.locked.kernel
+            self.new.locked.kernel self.old.boxes.items self.new.boxes.items errands.old
+            errands.new }
+        ensures owners { self.new.owners ≡ self.old.owners }
+        ensures finished { self.new.finished ≡ self.old.finished }
+        ensures only { OnlyTakes self.old.locked.kernel self.new.locked.kernel }
+        ensures stay { OnlyLoads self.old.boxes.items self.new.boxes.items }
+        ensures upkeep { self.new.upkeep ≡ self.old.upkeep }
+    {
+        let Some(thread) = self.finished.get(index) else {
+            return;
+        };
+        match self.owner_of(thread.number()) {
+            None => self.strays = true,
+            Some(place) => self.load_more(place, errands),
+        }
+    }
+
+    /// Takes a box's pen out, where it lies there and something is to be told. Where no more pens have room the writer is woken.
+    #[tactic(auto, using(crate::proofs::Moves::only_none, crate::proofs::Moves::set_same, crate::proofs::Moves::there, crate::proofs::Moves::none_there))]
+    pub(crate) fn load(&mut self, place: usize, errands: &mut Errands<P>)
+        ensures loads { LoadsAt self.old.locked.kernel self.new.locked.kernel self.old.boxes.items
+            self.new.boxes.items place (slice_get self.old.boxes.items place) errands.old
+            errands.new }
+        ensures owners { self.new.owners ≡ self.old.owners }
+        ensures finished { self.new.finished ≡ self.old.finished }
+        ensures only { OnlyTakes self.old.locked.kernel self.new.locked.kernel }
+        ensures upkeep { self.new.upkeep ≡ self.old.upkeep }
+    {
+        let Inside { locked, boxes, .. } = self;
+        let Some(post_box) = boxes.get_mut(place) else {
+            return;
+        };
+        if errands.is_full() {
+            post_box.ring();
+            return;
+        }
+        if let Some(pen) = post_box.load(locked) {
+            // it has room
+            let _ = errands.add(pen);
+        }
+    }
+
+    /// The box of a thread's number.
+    fn owner_of(&self, number: u32) -> Option<usize>
+        ensures { result ≡ owner_in (slice_get self.now.owners.items number) }
+    {
+        *self.owners.get(number as usize)?
+    }
+}

@@ -1,0 +1,159 @@
+//! Connections: their boxes, what their readers ask for, and what their writers write.
+ghost use Rattle.std.specs.Prelude.{◌≡◌, IfSome, IfErr, false, true, slice_get};
+ghost use Rattle.std.specs.Sync.Mutex.{mutex_guard_value};
+ghost use Rattle.ipc_lock.specs.Above.{AsksOrRefuses};
+ghost use Rattle.ipc_lock.specs.Acting.{Asked};
+ghost use Rattle.ipc_lock.specs.Places.{is_empty_in, is_shut_in};
+ghost use Rattle.ipc_pen.specs.Pens.{BeginsEmpty};
+
+use super::SharedKernel;
+use crate::ends::{PostEnd, TakeEnd};
+use crate::entered::Entered;
+use crate::errands::Errands;
+use crate::inside::Inside;
+use crate::post_box::{Loaded, Work};
+use ipc_connection::{Request, Told};
+use ipc_core::Refusal;
+use ipc_pen::PenPort;
+use std::mem::replace;
+use std::sync::ledger::Ledger;
+use std::sync::{MutexGuard, Wait};
+
+impl<C: Ledger, T: Ledger, P: PenPort + Drop> SharedKernel<C, T, P> {
+    /// Makes an empty box for the connection of a port, to which nothing was written, and answers its two ends. The only refusal is K4.
+    pub fn connect<R: Wait>(&self, rt: &R, port: P) -> Result<(PostEnd<C>, TakeEnd), Refusal>
+        requires { BeginsEmpty (P.written port) }
+        ensures { IfErr result (λ refusal. refusal ≡ Refusal.NoMemory) }
+    {
+        match self.inside(rt).connect(port) {
+            Ok(place) => Ok((PostEnd { place, seat: None }, TakeEnd { place })),
+            Err(_) => Err(Refusal::NoMemory),
+        }
+    }
+
+    /// Gives a connection's box back, once its writer has ended.
+    pub fn release<R: Wait>(&self, rt: &R, end: PostEnd<C>) {
+        self.inside(rt).release(end.place);
+    }
+
+    /// Asks the kernel for a connection from a space, 1 to `MAX_SPACE`, at a moment, in microseconds, and tells at once what it accepted:
+    /// that a thread was opened, or what ExchangeRegisters answers. Also says how far a call is that was entered. A call and an
+    /// ExchangeRegisters are by the end's own seat.
+    ///
+    /// # Errors
+    ///
+    /// `Refused`, and the end is then as before: of an open K1, K2, K3, K5, K4; of a call K6, K7, K8, K5, K4; of an ExchangeRegisters K6,
+    /// K7, K5, K4. K6 also where the box was shut, and where this is not the end's own thread.
+    #[tactic(auto, unfolding(crate::specs::Acting::Asked), using(crate::proofs::Steps::still, crate::proofs::Above::asks_some))]
+    pub fn ask<R: Wait>(
+        &self,
+        rt: &R,
+        now: u64,
+        end: &mut PostEnd<C>,
+        request: Request,
+        space: u64,
+    ) -> (Told, Entered)
+        ensures place { end.new.place ≡ end.old.place }
+        ensures asked { Asked result.0 request end.old.seat end.new.seat }
+        ensures asks { AsksOrRefuses now end.old.seat request space result.0 }
+    {
+        let Some(mut inside) = self.when_empty(rt, end.place) else {
+            return (Told::Refused(Refusal::NoThread), Entered::Open);
+        };
+        let (told, seat) = inside.ask(now, end.place, end.seat.take(), request, space);
+        drop(replace(&mut end.seat, seat));
+        let mut errands = Errands::none();
+        let after = inside.after(Some(end.place), &mut errands);
+        drop(inside);
+        let begun = after.begun;
+        let entered = errands.entered(end.place);
+        self.settle(rt, after, &mut errands);
+        if begun {
+            self.move_blocks(rt, now);
+        }
+        (told, entered)
+    }
+
+    /// Tells it by its frame. A shut box drops it.
+    pub fn post<R: Wait>(&self, rt: &R, end: &PostEnd<C>, told: Told) {
+        let Some(mut inside) = self.when_empty(rt, end.place) else {
+            return;
+        };
+        inside.post(end.place, told);
+        let mut errands = Errands::none();
+        inside.load(end.place, &mut errands);
+        drop(inside);
+        self.carry(rt, &mut errands);
+    }
+
+    /// Ends the thread of a reader's end, if there is one, and shuts its box.
+    pub fn hang_up<R: Wait>(&self, rt: &R, now: u64, end: &PostEnd<C>) {
+        self.end_at(rt, now, end.place);
+    }
+
+    /// Ends the thread of a writer's end, if there is one, and shuts its box.
+    pub fn leave<R: Wait>(&self, rt: &R, now: u64, end: &TakeEnd) {
+        self.end_at(rt, now, end.place);
+    }
+
+    fn end_at<R: Wait>(&self, rt: &R, now: u64, place: usize) {
+        let mut errands = Errands::none();
+        let mut inside = self.inside(rt);
+        let ended = inside.end_at(now, place, &mut errands);
+        drop(inside);
+        if let Some(after) = ended {
+            self.wake_mover(&after);
+            self.settle(rt, after, &mut errands);
+        }
+    }
+
+    /// Waits until a box's pen lies there with something to write that nobody else has taken, and takes it out. None once nothing more
+    /// comes, or the device has failed.
+    pub fn wait_pen<R: Wait>(&self, rt: &R, end: &TakeEnd) -> Option<Loaded<P>> {
+        let mut inside = self.inside(rt);
+        let Some(bell) = inside.bell(end.place) else {
+            return None;
+        };
+        for _ in rt.forever() {
+            match inside.work(end.place) {
+                Some(Work::Write(pen)) => return Some(pen),
+                Some(Work::Over) => return None,
+                None => {}
+            }
+            inside = bell.wait(rt, inside);
+        }
+        None
+    }
+
+    /// Lays a pen down in its box. What came meanwhile is written first, as far as the device has room.
+    pub fn give_back<R: Wait>(&self, rt: &R, pen: Loaded<P>) {
+        let mut errands = Errands::of(pen);
+        self.inside(rt).take_back(&mut errands);
+        self.carry(rt, &mut errands);
+    }
+
+    /// Takes the lock once the box is empty. None once it is shut.
+    fn when_empty<'a, R: Wait>(
+        &'a self,
+        rt: &R,
+        place: usize,
+    ) -> Option<MutexGuard<'a, Inside<C, T, P>>>
+        ensures shut { IfSome result (λ inside.
+            is_shut_in (slice_get (mutex_guard_value inside).boxes.items place) ≡ false) }
+        ensures empty { IfSome result (λ inside.
+            is_empty_in (slice_get (mutex_guard_value inside).boxes.items place) ≡ true) }
+    {
+        let mut inside = self.inside(rt);
+        for _ in rt.forever() {
+            if inside.is_shut(place) {
+                return None;
+            }
+            if inside.is_empty(place) {
+                return Some(inside);
+            }
+            let emptied = inside.emptied(place)?;
+            inside = emptied.wait(rt, inside);
+        }
+        None
+    }
+}

@@ -1,0 +1,125 @@
+//! The mover and the ticker.
+
+use super::SharedKernel;
+use crate::inside::After;
+use crate::rest::Rest;
+use crate::seated::Answered;
+use ipc_core::{Advance, Answer, Command};
+use ipc_pen::PenPort;
+use ipc_words::limits::{BLOCK_BYTES, MAX_STRING_BYTES};
+use std::hint::spin_loop;
+use std::rt::Clock;
+use std::sync::ledger::Ledger;
+use std::sync::{CondvarTimeouts, Wait};
+use std::time::{Duration, Instant};
+
+/// How many blocks of a transfer the thread copies that began it: those of the longest message, and one. The mover copies what is left.
+const MOST_BLOCKS: usize = MAX_STRING_BYTES / BLOCK_BYTES as usize + 1;
+
+/// How long before its moment the ticker is awake, in microseconds: a thread that sleeps until a moment comes late.
+const LAST_MICROS: u64 = 100;
+
+/// How often the ticker looks at the clock at most, while it waits for its moment.
+const MOST_LOOKS: u32 = 100_000;
+
+/// Looks at the clock until so much time has passed.
+fn look_on<R: Clock>(rt: &R, time: Duration) {
+    let Ok(began) = Instant::now(rt) else {
+        return;
+    };
+    for _ in 0..MOST_LOOKS {
+        match began.elapsed(rt) {
+            Ok(passed) if passed < time => spin_loop(),
+            _ => return,
+        }
+    }
+}
+
+/// Whether a step copied a block.
+fn has_moved<C: Ledger, T: Ledger>(answered: &Answered<C, T>) -> bool {
+    matches!(answered.answer(), Answer::Advanced(Advance::Moved))
+}
+
+impl<C: Ledger, T: Ledger, P: PenPort + Drop> SharedKernel<C, T, P> {
+    /// Wakes the mover where a transfer has begun.
+    pub(super) fn wake_mover(&self, after: &After) {
+        if after.begun {
+            self.work.notify_one();
+        }
+    }
+
+    /// Copies blocks of what is in transfer until nothing is. Where that are many the mover goes on.
+    pub(super) fn move_blocks<R: Wait>(&self, rt: &R, now: u64) {
+        for _ in 0..MOST_BLOCKS {
+            if !self.move_block(rt, now) {
+                return;
+            }
+        }
+        self.work.notify_one();
+    }
+
+    /// Copies a block of what is in transfer; false where nothing is.
+    fn move_block<R: Wait>(&self, rt: &R, now: u64) -> bool {
+        let answered = self.step(rt, now, None, Command::Advance, false);
+        let moved = has_moved(&answered);
+        drop(answered);
+        moved
+    }
+
+    /// Rests until a phase is due, or an earlier one comes, at the longest until the work is over. `now` is the moment, in microseconds. It
+    /// ends a little before that moment; who rests then once more is awake when it comes.
+    pub fn rest<R: Wait + Clock>(&self, rt: &R, now: u64) {
+        let mut inside = self.inside(rt);
+        if inside.is_work_over() {
+            return;
+        }
+        match inside.rest(now) {
+            Rest::Not => {}
+            Rest::For(micros) if micros <= LAST_MICROS => {
+                drop(inside);
+                look_on(rt, Duration::from_micros(micros));
+            }
+            Rest::For(micros) => {
+                let time = Duration::from_micros(micros - LAST_MICROS);
+                let (inside, _) = self.ticker.wait_timeout(rt, inside, time);
+                drop(inside);
+            }
+            Rest::Long => drop(self.ticker.wait(rt, inside)),
+        }
+    }
+
+    /// Waits until a transfer has begun; false once the work is over or the kernel was closed.
+    pub fn wait_work<R: Wait>(&self, rt: &R) -> bool {
+        let mut inside = self.inside(rt);
+        for _ in rt.forever() {
+            if inside.is_work_over() {
+                return false;
+            }
+            if inside.has_begun() {
+                return true;
+            }
+            inside = self.work.wait(rt, inside);
+        }
+        false
+    }
+
+    /// Ends the waiting of the mover and the rest of the ticker. Called once, after all sessions were joined.
+    pub fn end_work<R: Wait>(&self, rt: &R) {
+        let mut inside = self.inside(rt);
+        inside.end_work();
+        drop(inside);
+        self.work.notify_all();
+        self.ticker.notify_all();
+    }
+
+    /// Ends the waiting of the trace, and of the mover if it still waits. Called once, after sessions, ticker and
+    /// mover were joined, so that no entry comes behind it.
+    pub fn close<R: Wait>(&self, rt: &R) {
+        let mut inside = self.inside(rt);
+        inside.close();
+        drop(inside);
+        self.work.notify_all();
+        self.ticker.notify_all();
+        self.trace.notify_all();
+    }
+}

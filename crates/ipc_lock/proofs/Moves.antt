@@ -76,10 +76,10 @@ only_nothing old new thread amount h = go (amount == taken_by old thread) h
     go false same = subst (λ (k : KernelParts). OnlyTakes old k) (sym same) (only_none old)
 
 pub same_box : (box : BoxParts) → SameBox box box
-same_box box = record { place = refl; version = refl; shut = refl; thread = refl }
+same_box box = record { place = refl; number = refl; version = refl; shut = refl; thread = refl }
 
 pub same_both : (box between after : BoxParts) → SameBox box between → SameBox between after → SameBox box after
-same_both box between after h k = record { place = k.place ∙ h.place; version = k.version ∙ h.version; shut = k.shut ∙ h.shut; thread = k.thread ∙ h.thread }
+same_both box between after h k = record { place = k.place ∙ h.place; number = k.number ∙ h.number; version = k.version ∙ h.version; shut = k.shut ∙ h.shut; thread = k.thread ∙ h.thread }
 
 abbrev box_or : BoxParts → Option BoxParts → BoxParts
 box_or box None = box
@@ -172,7 +172,7 @@ same_told : (old new : KernelParts) (box left : BoxParts) → TellsNothing old n
 same_told old new box left h = go (is_idle box.pen) h
   where
     go : (b : Bool) → MatchBool b (HasNothing old new box × (left ≡ record box { posted = None })) ((new ≡ old) × (left ≡ box)) → SameBox box left
-    go true h = subst (λ (x : BoxParts). SameBox box x) (sym h.1) (record { place = refl; version = refl; shut = refl; thread = refl })
+    go true h = subst (λ (x : BoxParts). SameBox box x) (sym h.1) (record { place = refl; number = refl; version = refl; shut = refl; thread = refl })
     go false h = subst (λ (x : BoxParts). SameBox box x) (sym h.1) (same_box box)
 
 risen_thread : (seat : Option TakeParts) → thread_at_seat (risen seat) ≡ thread_at_seat seat
@@ -180,9 +180,9 @@ risen_thread None = refl
 risen_thread (Some seat) = refl
 
 same_next : (box left : BoxParts) (next : Given) → left ≡ record (told_box box (Some next)) { pen = None } → SameBox box left
-same_next box left (given.Frame frame) h = subst (λ (x : BoxParts). SameBox box x) (sym h) (record { place = refl; version = refl; shut = refl; thread = refl })
+same_next box left (given.Frame frame) h = subst (λ (x : BoxParts). SameBox box x) (sym h) (record { place = refl; number = refl; version = refl; shut = refl; thread = refl })
 same_next box left (given.Outcome version outcome) h =
-    subst (λ (x : BoxParts). SameBox box x) (sym h) (record { place = refl; version = refl; shut = refl; thread = risen_thread box.seat })
+    subst (λ (x : BoxParts). SameBox box x) (sym h) (record { place = refl; number = refl; version = refl; shut = refl; thread = risen_thread box.seat })
 
 same_looked : (old new : KernelParts) (box left : BoxParts) (out : Option Page) → LooksInto old new box left out → SameBox box left
 same_looked old new box left None h = same_told old new box left h

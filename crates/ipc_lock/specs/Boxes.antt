@@ -1,5 +1,5 @@
 -- What a box gives its pen next, what becomes of its seat, and what a reader's end is told.
-use Rattle.std.specs.Prelude.{◌≡◌, ◌==◌, ◌+◌, ◌++◌, ◌||◌, ℕ, List, Option, Some, None, Bool, MatchBool, true, false, if◌then◌else◌, is_some, slice_get, slice_set}
+use Rattle.std.specs.Prelude.{◌≡◌, ◌==◌, ◌+◌, ◌++◌, ◌||◌, ◌&&◌, ℕ, List, Option, Some, None, Bool, MatchBool, true, false, if◌then◌else◌, is_some, slice_get, slice_set}
 use Rattle.ipc_core.specs.KernelParts.{KernelParts}
 use Rattle.ipc_core.specs.Effects.{Gives}
 use Rattle.ipc_frame.specs.declared.frame.Frame.{Frame}
@@ -29,10 +29,11 @@ abbrev pub seat_parts : {T : Type 0} → Option (TakeSeat T) → Option TakePart
 seat_parts None = None
 seat_parts (Some seat) = Some (take_parts seat)
 
--- what contracts see of a box: its number, the version in which its client is answered, what was posted, whether it is shut, the seat of its
--- thread's outcomes, and its pen where that lies there
+-- what contracts see of a box: its place, the number of its connection if it has one, the version in which its client is answered, what was
+-- posted, whether it is shut, the seat of its thread's outcomes, and its pen where that lies there
 pub record BoxParts : Type 0 where
   pub place : ℕ
+  pub number : Option ℕ
   pub version : WireVersion
   pub posted : Option Told
   pub shut : Bool
@@ -48,12 +49,17 @@ abbrev pub thread_of : BoxParts → Option ℕ
 thread_of box = thread_at_seat box.seat
 
 -- the box of a new connection
-abbrev pub new_box : ℕ → Page → BoxParts
-new_box place pen = record { place = place; version = One; posted = None; shut = false; seat = None; pen = Some pen }
+abbrev pub new_box : ℕ → ℕ → Page → BoxParts
+new_box place number pen = record { place = place; number = Some number; version = One; posted = None; shut = false; seat = None; pen = Some pen }
+
+-- the connection of a box, if it has one, has this number
+abbrev pub is_of : ℕ → Option ℕ → Bool
+is_of number None = false
+is_of number (Some own) = own == number
 
 -- nothing of the connection is left
 abbrev pub cleared : BoxParts → BoxParts
-cleared box = record box { posted = None; shut = true; seat = None; pen = None }
+cleared box = record box { number = None; posted = None; shut = true; seat = None; pen = None }
 
 -- no more is posted
 abbrev pub is_full : BoxParts → Bool
@@ -166,10 +172,14 @@ Works old new box after next =
     MatchBool (has_failed box.pen) ((new ≡ old) × EndsWork box after next)
     (MatchBool (is_idle box.pen) (Begins old new box after next) ((new ≡ old) × WritesOn box after next))
 
--- a pen that lies in this box is its own
-abbrev pub is_own : Option Page → ℕ → Bool
-is_own None place = true
-is_own (Some pen) place = pen.place == place
+-- a pen that lies in the box of a place, of the connection of a number, is its own
+abbrev pub is_own : Option Page → ℕ → Option ℕ → Bool
+is_own None place number = true
+is_own (Some pen) place number = (pen.place == place) && is_of pen.number number
+
+-- it is a pen of the connection of this box
+abbrev pub is_pen_of : Page → BoxParts → Bool
+is_pen_of pen box = is_own (Some pen) box.place box.number
 
 -- the boxes, once that of a place is this one
 abbrev pub put_at : List BoxParts → ℕ → Option BoxParts → List BoxParts

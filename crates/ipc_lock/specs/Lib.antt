@@ -2,6 +2,7 @@ pub mod Groups
 pub mod Opens
 pub mod Seats
 pub mod Acting
+pub mod Numbering
 pub mod Boxes
 pub mod Places
 pub mod Alarms
@@ -9,3 +10,4 @@ pub mod Upkeeping
 pub mod Noting
 pub mod Above
 pub mod Parting
+pub mod Telling

@@ -1,5 +1,5 @@
 -- What becomes of the boxes under the lock: in which box something is told, and that all others are as they were.
-use Rattle.std.specs.Prelude.{◌≡◌, ◌≢◌, ◌==◌, ◌<◌, ◌++◌, ◌⊎◌, ℕ, List, [], ◌∷◌, length, Option, Some, None, Bool, MatchBool, true, false, is_some, map, ◌≤◌, not, if◌then◌else◌, slice_get, slice_set, ⊤}
+use Rattle.std.specs.Prelude.{◌≡◌, ◌==◌, ◌++◌, ◌⊎◌, ℕ, List, [], ◌∷◌, length, Option, Some, None, Bool, MatchBool, true, false, is_some, map, ◌≤◌, not, if◌then◌else◌, slice_get, slice_set, ⊤}
 use Rattle.ipc_words.specs.ThreadId.{number_of}
 use Rattle.ipc_core.specs.KernelParts.{KernelParts}
 use Rattle.ipc_core.specs.Again.{MayObeyAgain}
@@ -9,7 +9,7 @@ use Rattle.ipc_core.specs.declared.command.Command.TheVariants.{Broke}
 use Rattle.ipc_connection.specs.declared.replying.Told.{Told}
 use Rattle.ipc_connection.specs.declared.replying.Told.TheVariants as told
 use Rattle.ipc_pen.specs.Pens.{Page, Passes, rest_of}
-use Rattle.ipc_lock.specs.Boxes.{BoxParts, LooksInto, OnlyTakes, TakeParts, Works, changed_at, posted_to, thread_of, welcomed}
+use Rattle.ipc_lock.specs.Boxes.{BoxParts, LooksInto, OnlyTakes, TakeParts, Works, changed_at, cleared, is_of, is_pen_of, posted_to, thread_of, welcomed}
 use Rattle.ipc_lock.specs.Upkeeping.{LetsGo}
 use Rattle.ipc_lock.specs.declared.entered.Entered.{Entered}
 use Rattle.ipc_lock.specs.declared.entered.Entered.TheVariants.{Open, Over}
@@ -35,9 +35,23 @@ abbrev pub new_seat : Told → Option TakeParts
 new_seat (told.Opened thread version) = Some (record { thread = thread; taken = 0 })
 new_seat said = None
 
--- nothing more is posted in it
-abbrev pub shut_box : BoxParts → BoxParts
-shut_box box = record box { shut = true }
+-- nothing more is posted in it, where it is the box of the connection of this number
+abbrev pub shut_for : ℕ → BoxParts → BoxParts
+shut_for number box = if is_of number box.number then record box { shut = true } else box
+
+-- nothing is left in it, and it has no connection any more, where it was that of this number
+abbrev pub gives_back : ℕ → BoxParts → BoxParts
+gives_back number box = if is_of number box.number then cleared box else box
+
+-- a box is there, and is that of the connection of this number
+abbrev pub is_in : ℕ → Option BoxParts → Bool
+is_in number None = false
+is_in number (Some box) = is_of number box.number
+
+-- a box is there, and is no connection's
+abbrev pub is_free_in : Option BoxParts → Bool
+is_free_in None = false
+is_free_in (Some box) = not (is_some box.number)
 
 -- nothing is posted in a box; one that is not there counts as empty
 abbrev pub is_empty_in : Option BoxParts → Bool
@@ -54,10 +68,10 @@ abbrev pub owner_in : Option (Option ℕ) → Option ℕ
 owner_in None = None
 owner_in (Some owner) = owner
 
--- the thread whose outcomes are told in a box
-abbrev pub thread_in : Option BoxParts → Option ℕ
-thread_in None = None
-thread_in (Some box) = thread_of box
+-- the thread whose outcomes are told in a box, where that is the box of the connection of this number
+abbrev pub thread_for : ℕ → Option BoxParts → Option ℕ
+thread_for number None = None
+thread_for number (Some box) = if is_of number box.number then thread_of box else None
 
 -- the box of a place was looked into: its pen came out with what is told next, or none did, and all other boxes are as they were
 pub record LooksAt (old new : KernelParts) (boxes after : List BoxParts) (place : ℕ) (box : BoxParts) (out : Option Page) : Type 0 where
@@ -70,9 +84,10 @@ pub record StaysAll (old new : KernelParts) (boxes after : List BoxParts) : Type
   pub no_step : new ≡ old
   pub no_change : after ≡ boxes
 
--- nothing changed of a box that is not told of: its number, its version, whether it is shut, and whose outcomes are told there
+-- nothing changed of a box that is not told of: its place, its number, its version, whether it is shut, and whose outcomes are told there
 pub record SameBox (box after : BoxParts) : Type 0 where
   pub place : after.place ≡ box.place
+  pub number : after.number ≡ box.number
   pub version : after.version ≡ box.version
   pub shut : after.shut ≡ box.shut
   pub thread : thread_of after ≡ thread_of box
@@ -94,7 +109,7 @@ added (Some pen) errands = if is_some errands.first then (if is_some errands.sec
 abbrev pub OnlyWrites : Option Page → Option Page → Type 0
 OnlyWrites None None = ⊤
 OnlyWrites (Some pen) (Some after) =
-    (after.place ≡ pen.place) × (after.given ≡ pen.given) × Passes pen.out after.out (rest_of pen.rest) (rest_of after.rest)
+    (after.place ≡ pen.place) × (after.number ≡ pen.number) × (after.given ≡ pen.given) × Passes pen.out after.out (rest_of pen.rest) (rest_of after.rest)
 OnlyWrites _ _ = ⊥
 
 -- a call is over where the first pen that came out is that of the box of who entered it
@@ -133,12 +148,13 @@ LoadsRow {P} (place ∷ places) old new boxes after errands errands_now =
     (kernel : KernelParts) × (between : List BoxParts) × (next : Errands P)
     × LoadsOne place old kernel boxes between errands next × LoadsRow places kernel new between after next errands_now
 
--- a pen was laid down in its own box, and came out again with what is told next; where there is no such box it is gone, and all stays
+-- a pen was laid down in the box of its connection, and came out again with what is told next; where that has no box any more it is gone, and
+-- all stays
 abbrev pub LaysAt : KernelParts → KernelParts → List BoxParts → List BoxParts → Page → Option BoxParts → Option Page → Type 0
 LaysAt old new boxes after pen None again = StaysAll old new boxes after × (again ≡ None)
 LaysAt old new boxes after pen (Some box) again =
-    (pen.place ≡ box.place → LooksAt old new boxes after pen.place (record box { pen = Some pen }) again)
-    × (pen.place ≢ box.place → StaysAll old new boxes after × (again ≡ None))
+    (is_pen_of pen box ≡ true → LooksAt old new boxes after pen.place (record box { pen = Some pen }) again)
+    × (is_pen_of pen box ≡ false → StaysAll old new boxes after × (again ≡ None))
 
 -- the same of a pen that is on an errand, if there is one
 abbrev pub LooksAgain : KernelParts → KernelParts → List BoxParts → List BoxParts → Option Page → Option Page → Type 0
@@ -155,10 +171,14 @@ pub record TakesBack {P : Type 0} (old new : KernelParts) (boxes after : List Bo
   pub second : LooksAgain kernel_first kernel_second boxes_first boxes_second errands.second errands_now.second
   pub third : LooksAgain kernel_second new boxes_second after errands.third errands_now.third
 
--- what the writer of the box of a place does, while all other boxes are as they were; without a box it ends
-abbrev pub WorksAt : {P : Type 0} → KernelParts → KernelParts → List BoxParts → List BoxParts → ℕ → Option BoxParts → Option (Work P) → Type 0
-WorksAt old new boxes after place None next = StaysAll old new boxes after × (next ≡ Some work.Over)
-WorksAt old new boxes after place (Some box) next = (left : BoxParts) × Works old new box left next × (after ≡ slice_set boxes place left)
+-- what the writer of the connection of a number does, whose box is that of a place, while all other boxes are as they were; where that has no
+-- such box any more it ends
+abbrev pub WorksFor : {P : Type 0} → KernelParts → KernelParts → List BoxParts → List BoxParts → ℕ → ℕ → Option BoxParts → Option (Work P) → Type 0
+WorksFor old new boxes after place number None next = StaysAll old new boxes after × (next ≡ Some work.Over)
+WorksFor old new boxes after place number (Some box) next =
+    MatchBool (is_of number box.number)
+    ((left : BoxParts) × Works old new box left next × (after ≡ slice_set boxes place left))
+    (StaysAll old new boxes after × (next ≡ Some work.Over))
 
 -- a connection's end: memory lets go of entries where that is due, the clock is read, and the thread is broken; behind that outcomes are taken
 -- for those whom it concerns
@@ -177,10 +197,10 @@ abbrev pub EndsAt : Upkeep → Upkeep → KernelParts → KernelParts → ℕ �
 EndsAt upkeep after old new now None = (new ≡ old) × (after ≡ upkeep)
 EndsAt upkeep after old new now (Some thread) = Ends upkeep after old new now thread
 
--- a connection's box: one that was given back last, which is free no more, or a further one
+-- a connection's box: one that was given back last and is no connection's, and that is free no more, or a further one
 abbrev pub ConnectsAt : List ℕ → List ℕ → List BoxParts → List BoxParts → ℕ → BoxParts → Type 0
 ConnectsAt free free_now boxes after place box =
-    ((free ≡ free_now ++ place ∷ []) × (place < length boxes) × (after ≡ slice_set boxes place box))
+    ((free ≡ free_now ++ place ∷ []) × (is_free_in (slice_get boxes place) ≡ true) × (after ≡ slice_set boxes place box))
     ⊎ ((place ≡ length boxes) × (after ≡ boxes ++ box ∷ []))
 
 -- a place is free once more, if a list of so many, and with so much room, has memory to note it

@@ -15,8 +15,10 @@ mod laying;
 mod loading;
 mod parting;
 mod reading;
+mod telling;
 mod waking;
 
+use crate::numbers::Numbers;
 use crate::post_box::PostBox;
 use crate::seated::{Answered, CallSeat, Locked};
 use crate::upkeep::Upkeep;
@@ -40,13 +42,15 @@ pub(crate) struct After {
     pub(crate) begun: bool,
 }
 
-/// The kernel with its books, the boxes, which of them are free, and for each thread number the box where its outcomes are told.
+/// The kernel with its books, the boxes, which of them are free, for each thread number the box where its outcomes are told, and the
+/// numbers of connections.
 #[derive(Drop)]
 pub(crate) struct Inside<C: Ledger, T: Ledger, P: PenPort + Drop> {
     locked: Locked<C, T>,
     boxes: Vec<PostBox<T, P>>,
     free: Vec<usize>,
     owners: Vec<Option<usize>>,
+    numbers: Numbers,
     finished: Vec<ThreadId>,
     // whether a transfer goes on, and whether the last step began one
     begun: bool,
@@ -103,6 +107,7 @@ impl<C: Ledger, T: Ledger, P: PenPort + Drop> Inside<C, T, P> {
             boxes: Vec::new(alloc),
             free: Vec::new(alloc),
             owners: vec![in alloc; None; TABLE_SLOTS]?,
+            numbers: Numbers::new(),
             finished: Vec::with_capacity(alloc, 2 * TABLE_SLOTS)?,
             begun: false,
             has_begun: false,
@@ -118,12 +123,7 @@ impl<C: Ledger, T: Ledger, P: PenPort + Drop> Inside<C, T, P> {
     }
 
     /// Makes one step: a command of the kernel, by a seat where a thread calls.
-    pub(crate) fn act(
-        &mut self,
-        now: u64,
-        seat: Option<CallSeat<C>>,
-        command: Command,
-    ) -> Answered<C, T>
+    fn act(&mut self, now: u64, seat: Option<CallSeat<C>>, command: Command) -> Answered<C, T>
         ensures acts { ActsOn self.old.upkeep self.new.upkeep self.old.locked.kernel
             self.new.locked.kernel now seat command
             result.answer }

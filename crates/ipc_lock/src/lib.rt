@@ -9,6 +9,7 @@ mod inside;
 pub mod laws;
 mod not_given;
 mod noting;
+mod numbers;
 mod part;
 mod post_box;
 mod rest;

@@ -1,6 +1,7 @@
 //! The box of a connection: what its client is told next, and the pen that writes it.
-ghost use Rattle.std.specs.Prelude.{◌≡◌, ◌≢◌, None, Some, true, false, IfOk, OnOk, OnErr, IfErr, IfSome, IfNone, is_some, not};
-ghost use Rattle.ipc_lock.specs.Boxes.{Begins, ComesOut, EndsWork, LooksFirst, LooksInto, OnlyTakes, Works, WritesOn, cleared, has_failed, is_full, is_idle, new_box, posted_to, take_parts, thread_of, told_box, welcomed};
+ghost use Rattle.std.specs.Prelude.{◌≡◌, None, Some, true, false, IfOk, OnOk, OnErr, IfErr, IfSome, IfNone, is_some, not};
+ghost use Rattle.ipc_lock.specs.Boxes.{Begins, ComesOut, EndsWork, LooksFirst, LooksInto, OnlyTakes, Works, WritesOn, cleared, has_failed, is_full, is_idle, is_of, is_pen_of, new_box, posted_to, take_parts, thread_of, told_box, welcomed};
+ghost use Rattle.ipc_lock.specs.Places.{gives_back, shut_for};
 ghost use Rattle.ipc_pen.specs.Pens.{BeginsEmpty, new_page};
 
 mod loaded;
@@ -25,10 +26,12 @@ pub(crate) enum Work<P: PenPort + Drop> {
     Over,
 }
 
-/// The box of one connection: an answer that its reader left, the seat of its thread's outcomes, and the pen where nobody has it.
+/// The box of one connection, or of none once it was given back: an answer that its reader left, the seat of its thread's outcomes, and the pen where nobody has it.
 #[derive(Drop)]
 pub(crate) struct PostBox<T: Ledger, P: PenPort + Drop> {
     place: usize,
+    // that of its connection, which no other connection has
+    number: Option<u64>,
     // the version in which its client is answered; until a HELLO is accepted all answers are the same in each
     version: WireVersion,
     posted: Option<Told>,
@@ -47,6 +50,7 @@ impl<T: Ledger, P: PenPort + Drop> Model for PostBox<T, P> {
 
     ghost view = { λ b. record {
       place = b.place;
+      number = b.number;
       version = b.version;
       posted = b.posted;
       shut = b.shut;
@@ -54,7 +58,7 @@ impl<T: Ledger, P: PenPort + Drop> Model for PostBox<T, P> {
       pen = b.pen;
     } };
 
-    ghost invariant = { λ b. is_own b.pen b.place ≡ true };
+    ghost invariant = { λ b. is_own b.pen b.place b.number ≡ true };
 }
 
 /// A bell for a box's writer, and one for its reader.
@@ -65,42 +69,55 @@ fn two_bells(alloc: Global) -> Result<(Arc<Condvar>, Arc<Condvar>), AllocError> 
 }
 
 impl<T: Ledger, P: PenPort + Drop> PostBox<T, P> {
-    /// An empty box of this number, in which the pen of a port lies.
-    pub(crate) fn new(alloc: Global, port: P, place: usize) -> Result<Self, AllocError>
+    /// An empty box of this place for the connection of this number, in which the pen of its port lies.
+    pub(crate) fn new(alloc: Global, port: P, place: usize, number: u64) -> Result<Self, AllocError>
         requires { BeginsEmpty (P.written port) }
         ensures { IfOk result (λ b. b
-            ≡ new_box place (new_page place (P.written port) (P.failures port))) }
+            ≡ new_box place number (new_page place number (P.written port) (P.failures port))) }
     {
         let (bell, emptied) = two_bells(alloc)?;
         Ok(PostBox {
             place,
+            number: Some(number),
             version: WireVersion::One,
             posted: None,
             shut: false,
             seat: None,
-            pen: Some(Pen::new(port, place)),
+            pen: Some(Pen::new(port, place, number)),
             bell,
             emptied,
         })
     }
 
     /// Makes a box that was given back ready for another connection.
-    pub(crate) fn reopen(&mut self, port: P, place: usize)
+    pub(crate) fn reopen(&mut self, port: P, place: usize, number: u64)
         requires { BeginsEmpty (P.written port) }
-        ensures { self.new ≡ new_box place (new_page place (P.written port) (P.failures port)) }
+        ensures { self.new
+            ≡ new_box place number (new_page place number (P.written port) (P.failures port)) }
     {
         self.clear();
         self.place = place;
+        self.number = Some(number);
         self.version = WireVersion::One;
         self.shut = false;
-        let pen = Pen::new(port, place);
+        let pen = Pen::new(port, place, number);
         drop(self.pen.replace(pen));
     }
 
+    /// Lets go of what the connection of this number leaves behind. The box of another one stays as it is.
+    pub(crate) fn give_back(&mut self, number: u64)
+        ensures { self.new ≡ gives_back number self.old }
+    {
+        if self.is_of(number) {
+            self.clear()
+        }
+    }
+
     /// Lets go of what a connection leaves behind.
-    pub(crate) fn clear(&mut self)
+    fn clear(&mut self)
         ensures { self.new ≡ cleared self.old }
     {
+        self.number = None;
         self.shut = true;
         self.posted = None;
         drop(self.seat.take());
@@ -130,13 +147,40 @@ impl<T: Ledger, P: PenPort + Drop> PostBox<T, P> {
         drop(self.seat.replace(seat));
     }
 
-    /// Nothing more can be posted. What is in it can still be taken.
-    pub(crate) fn shut(&mut self)
-        ensures { self.new ≡ record self.old { shut = true } }
+    /// Nothing more can be posted, where it is the box of the connection of this number. What is in it can still be taken.
+    pub(crate) fn shut_for(&mut self, number: u64)
+        ensures { self.new ≡ shut_for number self.old }
     {
+        if !self.is_of(number) {
+            return;
+        }
         self.shut = true;
         self.bell.notify_one();
         self.emptied.notify_one();
+    }
+
+    /// Whether it is the box of the connection of this number.
+    pub(crate) fn is_of(&self, number: u64) -> bool
+        ensures { result ≡ is_of number self.now.number }
+    {
+        match self.number {
+            Some(own) => own == number,
+            None => false,
+        }
+    }
+
+    /// Whether it is no connection's box.
+    pub(crate) fn is_free(&self) -> bool
+        ensures { result ≡ not (is_some self.now.number) }
+    {
+        self.number.is_none()
+    }
+
+    /// Whether this is a pen of its connection.
+    fn has_for_pen(&self, pen: &Loaded<P>) -> bool
+        ensures { result ≡ is_pen_of pen.now self.now }
+    {
+        pen.place() == self.place && self.is_of(pen.number())
     }
 
     /// Whether there is no answer in it.
@@ -200,7 +244,7 @@ impl<T: Ledger, P: PenPort + Drop> PostBox<T, P> {
     #[tactic(auto, using(crate::proofs::Moves::only_none))]
     pub(crate) fn load<C: Ledger>(&mut self, locked: &mut Locked<C, T>) -> Option<Loaded<P>>
         ensures looks { LooksInto locked.old.kernel locked.new.kernel self.old self.new result }
-        ensures own { IfSome result (λ pen. pen.place ≡ self.old.place) }
+        ensures own { IfSome result (λ pen. is_pen_of pen self.old ≡ true) }
         ensures only { OnlyTakes locked.old.kernel locked.new.kernel }
     {
         if !self.is_idle() {
@@ -212,21 +256,22 @@ impl<T: Ledger, P: PenPort + Drop> PostBox<T, P> {
         Some(Loaded::of(pen))
     }
 
-    /// Lays the box's own pen down, and takes it out again where something came meanwhile. That of another box goes, and all stays.
+    /// Lays the pen of the box's connection down, and takes it out again where something came meanwhile. That of another connection goes,
+    /// and all stays.
     #[tactic(auto, using(crate::proofs::Moves::only_none))]
     pub(crate) fn look_again<C: Ledger>(
         &mut self,
         locked: &mut Locked<C, T>,
         pen: Loaded<P>,
     ) -> Option<Loaded<P>>
-        ensures own { pen.place ≡ self.old.place → LooksInto locked.old.kernel locked.new.kernel
+        ensures own { is_pen_of pen self.old ≡ true → LooksInto locked.old.kernel locked.new.kernel
             (record self.old { pen = Some pen }) self.new result }
-        ensures other { pen.place ≢ self.old.place → (result ≡ None)
+        ensures other { is_pen_of pen self.old ≡ false → (result ≡ None)
             × (locked.new.kernel ≡ locked.old.kernel) × (self.new ≡ self.old) }
         ensures only { OnlyTakes locked.old.kernel locked.new.kernel }
     {
         match self.lay(pen) {
-            // the box is its own
+            // the box is its connection's
             Some(other) => {
                 drop(other);
                 None
@@ -289,15 +334,15 @@ impl<T: Ledger, P: PenPort + Drop> PostBox<T, P> {
         Some(Work::Over)
     }
 
-    /// Lays the box's own pen down; that of another box is handed back. Its writer is woken where a frame is not at its end, where the
+    /// Lays the pen of the box's connection down; that of another one is handed back. Its writer is woken where a frame is not at its end, where the
     /// device failed, and where the box is shut.
     pub(crate) fn lay(&mut self, pen: Loaded<P>) -> Option<Loaded<P>>
-        ensures laid { IfNone result ((pen.place ≡ self.old.place)
+        ensures laid { IfNone result ((is_pen_of pen self.old ≡ true)
             × (self.new ≡ record self.old { pen = Some pen })) }
         ensures back { IfSome result (λ back. (back ≡ pen) × (self.new ≡ self.old)) }
-        ensures other { IfSome result (λ _. pen.place ≢ self.old.place) }
+        ensures other { IfSome result (λ _. is_pen_of pen self.old ≡ false) }
     {
-        if pen.place() != self.place {
+        if !self.has_for_pen(&pen) {
             return Some(pen);
         }
         let is_for_writer = self.shut || !pen.is_ready();

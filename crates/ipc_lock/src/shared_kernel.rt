@@ -85,8 +85,7 @@ impl<C: Ledger, T: Ledger, P: PenPort + Drop> SharedKernel<C, T, P> {
     {
         let mut errands = Errands::none();
         let mut inside = self.inside(rt);
-        let answered = inside.act(now, seat, command);
-        let after = inside.after(None, &mut errands);
+        let (answered, after) = inside.act_and_tell(now, seat, command, &mut errands);
         drop(inside);
         if wakes_mover {
             self.wake_mover(&after);

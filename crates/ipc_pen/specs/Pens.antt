@@ -46,19 +46,20 @@ abbrev pub BeginsEmpty : Option (List ℕ) → Type 0
 BeginsEmpty None = ⊤
 BeginsEmpty (Some out) = out ≡ []
 
--- a pen: the number of its box, what went out, how often its device failed, what it was given, the rest of that, and whether a write of
--- it failed
+-- a pen: its box, the number of its connection, what went out, how often its device failed, what it was given, the rest of that, and
+-- whether a write of it failed
 pub record Page : Type 0 where
   pub place : ℕ
+  pub number : ℕ
   pub out : Option (List ℕ)
   pub failures : ℕ
   pub given : List Given
   pub rest : Option (List ℕ)
   pub failed : Bool
 
--- a pen of this box, to which nothing was given, over a port that tells this
-abbrev pub new_page : ℕ → Option (List ℕ) → ℕ → Page
-new_page place out failures = record { place = place; out = out; failures = failures; given = []; rest = None; failed = false }
+-- a pen of this box and this connection, to which nothing was given, over a port that tells this
+abbrev pub new_page : ℕ → ℕ → Option (List ℕ) → ℕ → Page
+new_page place number out failures = record { place = place; number = number; out = out; failures = failures; given = []; rest = None; failed = false }
 
 -- a pen that was given this, behind all that it was given before
 abbrev pub given_next : Page → Given → Page

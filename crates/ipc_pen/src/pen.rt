@@ -15,6 +15,7 @@ use std::marker::Model;
 #[derive(Drop)]
 pub struct Pen<P: PenPort> {
     place: usize,
+    number: u64,
     port: P,
     given: Past<Given>,
     rest: Option<Encoder>,
@@ -29,6 +30,7 @@ impl<P: PenPort> Model for Pen<P> {
 
     ghost view = { λ pen. record {
       place = pen.place;
+      number = pen.number;
       out = P.written pen.port;
       failures = P.failures pen.port;
       given = pen.given;
@@ -40,14 +42,15 @@ impl<P: PenPort> Model for Pen<P> {
 }
 
 impl<P: PenPort> Pen<P> {
-    /// A pen of the box of this number, to which nothing was given.
+    /// A pen of this box and of the connection of this number, to which nothing was given.
     #[tactic(auto, using(crate::proofs::PenLemmas::follows_nothing))]
-    pub fn new(port: P, place: usize) -> Pen<P>
+    pub fn new(port: P, place: usize, number: u64) -> Pen<P>
         requires { BeginsEmpty (P.written port) }
-        ensures { result ≡ new_page place (P.written port) (P.failures port) }
+        ensures { result ≡ new_page place number (P.written port) (P.failures port) }
     {
         Pen {
             place,
+            number,
             port,
             given: Past::new(),
             rest: None,
@@ -56,11 +59,18 @@ impl<P: PenPort> Pen<P> {
         }
     }
 
-    /// The number of its box.
+    /// Its box.
     pub fn place(&self) -> usize
         ensures { result ≡ self.now.place }
     {
         self.place
+    }
+
+    /// The number of its connection.
+    pub fn number(&self) -> u64
+        ensures { result ≡ self.now.number }
+    {
+        self.number
     }
 
     /// Whether all that was given is written, and the device has not failed: it can be given more.
@@ -113,6 +123,7 @@ impl<P: PenPort> Pen<P> {
         ensures kept { result ≢ Turn.Failed → self.new.failures ≡ self.old.failures }
         ensures given { self.new.given ≡ self.old.given }
         ensures place { self.new.place ≡ self.old.place }
+        ensures number { self.new.number ≡ self.old.number }
     {
         if self.has_failed {
             return Turn::Failed;

@@ -19,8 +19,7 @@ use std::sync::ledger::Ledger;
 #[derive(Drop)]
 pub struct Caller<'a, C: Ledger, T: Ledger, P: PenPort + Drop, R: Wait + Clock, G: Link> {
     server: &'a Server<'a, C, T, P, R>,
-    pub(crate) end: NotedEnd<C>,
-    space: u64,
+    end: PostEnd<C>,
     thread: Option<ThreadId>,
     link: G,
 }
@@ -33,14 +32,11 @@ where
     R: Wait + Clock,
     G: Link + Drop,
 {
-    /// A port that opens its thread in a space.
-    pub fn new(server: &'a Server<'a, C, T, P, R>, end: PostEnd<C>, space: u64, link: G) -> Self
-        ensures { result.end.deeds ≡ [] }
-    {
+    /// A port that opens its thread in the end's space.
+    pub fn new(server: &'a Server<'a, C, T, P, R>, end: PostEnd<C>, link: G) -> Self {
         Caller {
             server,
-            end: NotedEnd::new(end),
-            space,
+            end,
             thread: None,
             link,
         }
@@ -91,7 +87,9 @@ where
 
     #[tactic(auto, using(crate::proofs::NotedLemmas::tells_asked))]
     fn ask(&mut self, request: Request) -> Told {
-        let (told, entered) = self.end.ask(self.server, request, self.space);
+        let Server { rt, shared, .. } = *self.server;
+        let now = self.server.now();
+        let (told, entered) = shared.ask(rt, now, &mut self.end, request);
         let answer = told;
         note(&self.link, &mut self.thread, told, entered);
         answer

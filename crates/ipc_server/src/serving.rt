@@ -75,7 +75,6 @@ pub(crate) fn start_worker<'s, E, F: FnOnce() + Send + Drop + 's>(
 /// What the worker that reads has of a connection's ports.
 #[derive(Drop)]
 struct Reading<I: PortRead, G: Gate + Link> {
-    space: u64,
     reader: I,
     reads: G,
     kernel_port: G,
@@ -116,12 +115,11 @@ where
         kernel_port,
     } = ports;
     let reading = Reading {
-        space,
         reader,
         reads,
         kernel_port,
     };
-    match server.shared.connect(server.rt, writer) {
+    match server.shared.connect(server.rt, writer, space) {
         Ok((posts, takes)) => {
             let (posts, served) = serve_both_ways(server, posts, takes, reading, writes);
             server.shared.release(server.rt, posts);
@@ -186,12 +184,11 @@ where
     ensures { AsksFor (I.came reading.reader) (I.came result.1.reader) (map call_of result.1.asked) }
 {
     let Reading {
-        space,
         mut reader,
         mut reads,
         kernel_port,
     } = reading;
-    let mut kernel_port = Caller::new(server, posts, space, kernel_port);
+    let mut kernel_port = Caller::new(server, posts, kernel_port);
     read_with(server, &mut reader, &mut kernel_port, &mut reads);
     drop(reads);
     let NotedEnd { end, deeds } = kernel_port.into_end();

@@ -442,7 +442,9 @@ fn connect<C: Ledger, T: Ledger, R: Wait + Abort>(
     kernel: &SharedKernel<C, T, SlowPort>,
     is_open: bool,
 ) -> (PostEnd<C>, TakeEnd) {
-    kernel.connect(rt, slow(alloc, is_open)).expect(rt, "a box")
+    kernel
+        .connect(rt, slow(alloc, is_open), 1)
+        .expect(rt, "a box")
 }
 
 fn ask<C: Ledger, T: Ledger, R: Wait>(
@@ -451,7 +453,7 @@ fn ask<C: Ledger, T: Ledger, R: Wait>(
     posts: &mut PostEnd<C>,
     request: Request,
 ) -> (Told, Entered) {
-    kernel.ask(rt, 0, posts, request, 1)
+    kernel.ask(rt, 0, posts, request)
 }
 
 // WELCOME 1.1, the outcome of a call to nobody, and REFUSED K8.

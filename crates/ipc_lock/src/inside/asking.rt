@@ -1,9 +1,10 @@
 //! What a reader asks for, and what is told in its box.
 ghost use Rattle.ipc_connection.specs.Asking.{command_of, version_asked};
-ghost use Rattle.std.specs.Prelude.{◌≡◌, Some, slice_set};
+ghost use Rattle.std.specs.Prelude.{◌≡◌, Some, slice_set, vec_capacity};
 ghost use Rattle.ipc_history.specs.Legal.{Legal};
 ghost use Rattle.ipc_lock.specs.Acting.{Asked, AsksOn};
 ghost use Rattle.ipc_lock.specs.Boxes.{changed_at, posted_to, seat_parts, take_parts, welcomed};
+ghost use Rattle.ipc_lock.specs.Noting.{NotesOn};
 ghost use Rattle.ipc_lock.specs.Places.{new_seat, owned_by, told_in};
 ghost use Rattle.ipc_words.specs.ThreadId.{number_of};
 
@@ -18,7 +19,7 @@ impl<C: Ledger, T: Ledger, P: PenPort + Drop> Inside<C, T, P> {
     /// Makes the step of a reader's request, and tells in its box what the kernel accepted. The outcomes of a thread that is opened so
     /// are told in this box from here on.
     #[tactic(auto, using(crate::proofs::Steps::asked_so, crate::proofs::Moves::told_so, crate::proofs::Moves::owned_so))]
-    pub(crate) fn ask(
+    pub(super) fn ask(
         &mut self,
         now: u64,
         place: usize,
@@ -31,6 +32,9 @@ impl<C: Ledger, T: Ledger, P: PenPort + Drop> Inside<C, T, P> {
             (version_asked request WireVersion.One) (command_of request space) result.0 }
         ensures asked { Asked result.0 request seat result.1 }
         ensures legal { Legal self.new.locked.kernel.history }
+        ensures finished { NotesOn self.old.upkeep self.new.upkeep self.old.locked.kernel
+            self.new.locked.kernel now (command_of request space) self.new.finished.items
+            (vec_capacity self.old.finished) }
         ensures told { self.new.boxes.items
             ≡ told_in result.0 (new_seat result.0) self.old.boxes.items place }
         ensures owners { self.new.owners.items
@@ -52,6 +56,7 @@ impl<C: Ledger, T: Ledger, P: PenPort + Drop> Inside<C, T, P> {
             ≡ told_in told (seat_parts takes) self.old.boxes.items place }
         ensures owners { self.new.owners.items
             ≡ owned_by told (seat_parts takes) self.old.owners.items place }
+        ensures finished { self.new.finished ≡ self.old.finished }
         ensures locked { self.new.locked ≡ self.old.locked }
         ensures upkeep { self.new.upkeep ≡ self.old.upkeep }
     {
@@ -73,6 +78,7 @@ impl<C: Ledger, T: Ledger, P: PenPort + Drop> Inside<C, T, P> {
             self.old.boxes.items place }
         ensures owners { self.new.owners.items
             ≡ slice_set self.old.owners.items (number_of seat.thread) (Some place) }
+        ensures finished { self.new.finished ≡ self.old.finished }
         ensures locked { self.new.locked ≡ self.old.locked }
         ensures upkeep { self.new.upkeep ≡ self.old.upkeep }
     {
@@ -90,6 +96,7 @@ impl<C: Ledger, T: Ledger, P: PenPort + Drop> Inside<C, T, P> {
         ensures posted { self.new.boxes.items
             ≡ changed_at (posted_to told) self.old.boxes.items place }
         ensures owners { self.new.owners ≡ self.old.owners }
+        ensures finished { self.new.finished ≡ self.old.finished }
         ensures locked { self.new.locked ≡ self.old.locked }
         ensures upkeep { self.new.upkeep ≡ self.old.upkeep }
     {

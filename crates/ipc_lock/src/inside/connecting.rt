@@ -1,7 +1,8 @@
 //! The boxes of connections: made, given back, and looked at.
-ghost use Rattle.std.specs.Prelude.{◌≡◌, IfOk, OnErr, map, slice_get, vec_capacity, vec_len};
-ghost use Rattle.ipc_lock.specs.Boxes.{changed_at, cleared, new_box};
-ghost use Rattle.ipc_lock.specs.Places.{ConnectsAt, Frees, disowned, is_empty_in, is_shut_in};
+ghost use Rattle.std.specs.Prelude.{◌≡◌, ◌++◌, ◌∷◌, [], IfOk, MatchBool, OnErr, false, if◌then◌else◌, map, slice_get, vec_capacity, vec_len};
+ghost use Rattle.ipc_lock.specs.Boxes.{changed_at, new_box};
+ghost use Rattle.ipc_lock.specs.Numbering.{is_taken};
+ghost use Rattle.ipc_lock.specs.Places.{ConnectsAt, Frees, disowned, gives_back, is_empty_in, is_free_in, is_in, is_shut_in};
 ghost use Rattle.ipc_pen.specs.Pens.{BeginsEmpty, new_page};
 
 use super::Inside;
@@ -63,42 +64,105 @@ impl<C: Ledger, T: Ledger, P: PenPort + Drop> Inside<C, T, P> {
         self.boxes.get(place)?.emptied()
     }
 
-    /// An empty box with the pen of a port: one that was given back, else a new one.
-    pub(crate) fn connect(&mut self, port: P) -> Result<usize, AllocError>
+    /// A number that no connection had, and an empty box with the pen of its port: one that was given back, else a new one.
+    pub(crate) fn connect(&mut self, port: P) -> Result<(usize, u64), AllocError>
         requires { BeginsEmpty (P.written port) }
-        ensures fresh { IfOk result (λ place. ConnectsAt self.old.free.items self.new.free.items
-            self.old.boxes.items self.new.boxes.items place
-            (new_box place (new_page place (P.written port) (P.failures port)))) }
+        ensures fresh { IfOk result (λ own. ConnectsAt self.old.free.items self.new.free.items
+            self.old.boxes.items self.new.boxes.items own.0
+            (new_box own.0 own.1 (new_page own.0 own.1 (P.written port) (P.failures port)))) }
+        ensures is_new { IfOk result (λ own. is_taken own.1 self.old.numbers ≡ false) }
+        ensures counts { IfOk result (λ own. self.new.numbers ≡ self.old.numbers ++ own.1 ∷ []) }
         ensures err { OnErr result (self.new.boxes.items ≡ self.old.boxes.items) }
         ensures owners { self.new.owners ≡ self.old.owners }
         ensures locked { self.new.locked ≡ self.old.locked }
     {
+        let Some(number) = self.numbers.take() else {
+            return Err(AllocError);
+        };
+        let place = self.place_for(port, number)?;
+        Ok((place, number))
+    }
+
+    /// An empty box with the pen of a port, for the connection of this number.
+    fn place_for(&mut self, port: P, number: u64) -> Result<usize, AllocError>
+        requires { BeginsEmpty (P.written port) }
+        ensures fresh { IfOk result (λ place. ConnectsAt self.old.free.items self.new.free.items
+            self.old.boxes.items self.new.boxes.items place
+            (new_box place number (new_page place number (P.written port) (P.failures port)))) }
+        ensures err { OnErr result (self.new.boxes.items ≡ self.old.boxes.items) }
+        ensures owners { self.new.owners ≡ self.old.owners }
+        ensures locked { self.new.locked ≡ self.old.locked }
+        ensures numbers { self.new.numbers ≡ self.old.numbers }
+    {
         if let Some(place) = self.free.pop() {
-            if let Some(post_box) = self.boxes.get_mut(place) {
-                post_box.reopen(port, place);
-                return Ok(place);
+            if self.is_free(place) {
+                if let Some(post_box) = self.boxes.get_mut(place) {
+                    post_box.reopen(port, place, number);
+                    return Ok(place);
+                }
             }
         }
         let place = self.boxes.len();
         // so that giving a box back takes no memory
         self.free.reserve(place.saturating_add(1))?;
-        self.boxes.push(PostBox::new(self.alloc, port, place)?)?;
+        self.boxes
+            .push(PostBox::new(self.alloc, port, place, number)?)?;
         Ok(place)
     }
 
-    /// Gives a box back that nobody uses any more.
+    /// Whether the box of a place is there, and is no connection's.
+    #[tactic(auto, using(crate::proofs::Moves::there, crate::proofs::Moves::none_there))]
+    fn is_free(&self, place: usize) -> bool
+        ensures { result ≡ is_free_in (slice_get self.now.boxes.items place) }
+    {
+        match self.boxes.get(place) {
+            Some(post_box) => post_box.is_free(),
+            None => false,
+        }
+    }
+
+    /// Gives the box of a connection back that nobody uses any more. Where it is that of another one all stays.
     #[tactic(auto, using(crate::proofs::Moves::changed_there, crate::proofs::Moves::changed_none))]
-    pub(crate) fn release(&mut self, place: usize)
-        ensures cleared { self.new.boxes.items ≡ changed_at cleared self.old.boxes.items place }
-        ensures free { Frees self.old.free.items self.new.free.items place
+    pub(crate) fn release(&mut self, place: usize, number: u64)
+        ensures clears { self.new.boxes.items
+            ≡ changed_at (gives_back number) self.old.boxes.items place }
+        ensures frees { MatchBool (is_in number (slice_get self.old.boxes.items place))
+            (Frees self.old.free.items self.new.free.items place (vec_len self.old.free)
+            (vec_capacity self.old.free)) (self.new.free.items ≡ self.old.free.items) }
+        ensures disowns { self.new.owners.items
+            ≡ (if is_in number (slice_get self.old.boxes.items place)
+            then map (disowned place) self.old.owners.items else self.old.owners.items) }
+        ensures locked { self.new.locked ≡ self.old.locked }
+    {
+        let is_its = self.is_in(place, number);
+        if let Some(post_box) = self.boxes.get_mut(place) {
+            post_box.give_back(number);
+        }
+        if is_its {
+            self.free_up(place);
+        }
+    }
+
+    /// Whether the box of a place is that of the connection of this number.
+    #[tactic(auto, using(crate::proofs::Moves::there, crate::proofs::Moves::none_there))]
+    fn is_in(&self, place: usize, number: u64) -> bool
+        ensures { result ≡ is_in number (slice_get self.now.boxes.items place) }
+    {
+        match self.boxes.get(place) {
+            Some(post_box) => post_box.is_of(number),
+            None => false,
+        }
+    }
+
+    /// A box is free again, and no thread is told there any more.
+    fn free_up(&mut self, place: usize)
+        ensures frees { Frees self.old.free.items self.new.free.items place
             (vec_len self.old.free) (vec_capacity self.old.free) }
-        ensures owners { self.new.owners.items ≡ map (disowned place) self.old.owners.items }
+        ensures disowns { self.new.owners.items ≡ map (disowned place) self.old.owners.items }
+        ensures boxes { self.new.boxes ≡ self.old.boxes }
         ensures locked { self.new.locked ≡ self.old.locked }
     {
         self.disown(place);
-        if let Some(post_box) = self.boxes.get_mut(place) {
-            post_box.clear();
-        }
         // its room was made with the box
         let _ = self.free.push(place);
     }

@@ -1,7 +1,7 @@
 //! The end of a connection.
 ghost use Rattle.std.specs.Prelude.{◌≡◌, None, IfNone, slice_get};
 ghost use Rattle.ipc_lock.specs.Boxes.{changed_at};
-ghost use Rattle.ipc_lock.specs.Places.{Ends, EndsAt, OnlyLoads, shut_box, thread_in};
+ghost use Rattle.ipc_lock.specs.Places.{Ends, EndsAt, OnlyLoads, shut_for, thread_for};
 
 use super::{After, Inside};
 use crate::errands::Errands;
@@ -11,55 +11,64 @@ use ipc_words::ThreadId;
 use std::sync::ledger::Ledger;
 
 impl<C: Ledger, T: Ledger, P: PenPort + Drop> Inside<C, T, P> {
-    /// Shuts a box, and ends the thread that is told there. None where there is none.
+    /// Shuts the box of the connection of this number, and ends the thread that is told there. None where there is none.
     #[tactic(auto, using(crate::proofs::Moves::loads_none))]
     pub(crate) fn end_at(
         &mut self,
         now: u64,
         place: usize,
+        number: u64,
         errands: &mut Errands<P>,
     ) -> Option<After>
         ensures ends { EndsAt self.old.upkeep self.new.upkeep self.old.locked.kernel
             self.new.locked.kernel now
-            (thread_in (slice_get self.old.boxes.items place)) }
+            (thread_for number (slice_get self.old.boxes.items place)) }
         ensures none { IfNone result
-            (thread_in (slice_get self.old.boxes.items place) ≡ None) }
-        ensures shut { OnlyLoads (changed_at shut_box self.old.boxes.items place)
+            (thread_for number (slice_get self.old.boxes.items place) ≡ None) }
+        ensures shut { OnlyLoads (changed_at (shut_for number) self.old.boxes.items place)
             self.new.boxes.items }
     {
-        let told_here = self.thread_at(place);
-        self.shut(place);
+        let told_here = self.thread_at(place, number);
+        self.shut(place, number);
         let thread = told_here?;
         Some(self.end_thread(now, thread, errands))
     }
 
     /// Ends a thread.
+    #[tactic(auto, using(crate::proofs::Telling::ends_told))]
     fn end_thread(&mut self, now: u64, thread: ThreadId, errands: &mut Errands<P>) -> After
         ensures ends { Ends self.old.upkeep self.new.upkeep self.old.locked.kernel
             self.new.locked.kernel now thread }
         ensures stay { OnlyLoads self.old.boxes.items self.new.boxes.items }
     {
-        drop(self.act(now, None, Command::Broke(thread)));
-        self.after(None, errands)
+        let (answered, after) = self.act_and_tell(now, None, Command::Broke(thread), errands);
+        drop(answered);
+        after
     }
 
-    /// Shuts a box.
+    /// Shuts the box of a place, where it is that of the connection of this number.
     #[tactic(auto, using(crate::proofs::Moves::changed_there, crate::proofs::Moves::changed_none))]
-    fn shut(&mut self, place: usize)
-        ensures shut { self.new.boxes.items ≡ changed_at shut_box self.old.boxes.items place }
+    fn shut(&mut self, place: usize, number: u64)
+        ensures shut { self.new.boxes.items
+            ≡ changed_at (shut_for number) self.old.boxes.items place }
         ensures locked { self.new.locked ≡ self.old.locked }
         ensures upkeep { self.new.upkeep ≡ self.old.upkeep }
     {
         if let Some(post_box) = self.boxes.get_mut(place) {
-            post_box.shut();
+            post_box.shut_for(number);
         }
     }
 
-    /// The thread whose outcomes are told in a box.
+    /// The thread whose outcomes are told in the box of a place, where that is the box of the connection of this number.
     #[tactic(auto, using(crate::proofs::Moves::there, crate::proofs::Moves::none_there))]
-    pub(crate) fn thread_at(&self, place: usize) -> Option<ThreadId>
-        ensures { result ≡ thread_in (slice_get self.now.boxes.items place) }
+    fn thread_at(&self, place: usize, number: u64) -> Option<ThreadId>
+        ensures { result ≡ thread_for number (slice_get self.now.boxes.items place) }
     {
-        self.boxes.get(place)?.thread()
+        let post_box = self.boxes.get(place)?;
+        if post_box.is_of(number) {
+            post_box.thread()
+        } else {
+            None
+        }
     }
 }

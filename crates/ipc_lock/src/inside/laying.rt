@@ -1,7 +1,7 @@
 //! Pens are laid down in their boxes, and taken out by their writers.
 ghost use Rattle.std.specs.Prelude.{slice_get};
 ghost use Rattle.ipc_lock.specs.Boxes.{OnlyTakes};
-ghost use Rattle.ipc_lock.specs.Places.{LaysAt, LooksAgain, TakesBack, WorksAt};
+ghost use Rattle.ipc_lock.specs.Places.{LaysAt, LooksAgain, TakesBack, WorksFor};
 
 use super::Inside;
 use crate::errands::Errands;
@@ -52,17 +52,22 @@ impl<C: Ledger, T: Ledger, P: PenPort + Drop> Inside<C, T, P> {
         post_box.look_again(locked, pen)
     }
 
-    /// What a box's writer does next; None while there is nothing to do.
-    #[tactic(auto, using(crate::proofs::Moves::only_none, crate::proofs::Moves::there, crate::proofs::Moves::none_there))]
-    pub(crate) fn work(&mut self, place: usize) -> Option<Work<P>>
-        ensures works { WorksAt self.old.locked.kernel self.new.locked.kernel self.old.boxes.items
-            self.new.boxes.items place (slice_get self.old.boxes.items place) result }
+    /// What the writer of the connection of a number does next, whose box is that of a place; None while there is nothing to do. It ends
+    /// where that has no such box any more.
+    #[tactic(auto, using(crate::proofs::Moves::only_none, crate::proofs::Moves::set_same, crate::proofs::Moves::there, crate::proofs::Moves::none_there))]
+    pub(crate) fn work(&mut self, place: usize, number: u64) -> Option<Work<P>>
+        ensures works { WorksFor self.old.locked.kernel self.new.locked.kernel
+            self.old.boxes.items self.new.boxes.items place number
+            (slice_get self.old.boxes.items place) result }
         ensures only { OnlyTakes self.old.locked.kernel self.new.locked.kernel }
     {
         let Inside { locked, boxes, .. } = self;
-        match boxes.get_mut(place) {
-            Some(post_box) => post_box.work(locked),
-            None => Some(Work::Over),
+        let Some(post_box) = boxes.get_mut(place) else {
+            return Some(Work::Over);
+        };
+        if !post_box.is_of(number) {
+            return Some(Work::Over);
         }
+        post_box.work(locked)
     }
 }

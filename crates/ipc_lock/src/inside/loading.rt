@@ -12,7 +12,7 @@ use std::sync::ledger::Ledger;
 impl<C: Ledger, T: Ledger, P: PenPort + Drop> Inside<C, T, P> {
     /// Who is to be woken after the last step. The pens of those whom it told something are taken out, first that of this box.
     #[tactic(auto, using(crate::proofs::Moves::only_both, crate::proofs::Moves::loads_both))]
-    pub(crate) fn after(&mut self, own: Option<usize>, errands: &mut Errands<P>) -> After
+    pub(super) fn after(&mut self, own: Option<usize>, errands: &mut Errands<P>) -> After
         ensures loads { LoadsRow (places_told own self.old.owners.items self.old.finished.items)
             self.old.locked.kernel self.new.locked.kernel self.old.boxes.items
             self.new.boxes.items errands.old errands.new }

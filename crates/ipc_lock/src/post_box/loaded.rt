@@ -36,11 +36,18 @@ impl<P: PenPort> Loaded<P> {
         pen
     }
 
-    /// The number of its box.
+    /// Its box.
     pub fn place(&self) -> usize
         ensures { result ≡ self.now.place }
     {
         self.pen.place()
+    }
+
+    /// The number of its connection.
+    pub fn number(&self) -> u64
+        ensures { result ≡ self.now.number }
+    {
+        self.pen.number()
     }
 
     /// Whether all that it was given is written, and the device has not failed.
@@ -63,6 +70,7 @@ impl<P: PenPort> Loaded<P> {
     pub fn write(&mut self, patience: Patience) -> Turn
         ensures given { self.new.given ≡ self.old.given }
         ensures place { self.new.place ≡ self.old.place }
+        ensures number { self.new.number ≡ self.old.number }
         ensures wrote { Passes self.old.out self.new.out (rest_of self.old.rest)
             (rest_of self.new.rest) }
         ensures done { result ≡ Turn.Written → self.new.rest ≡ None }

@@ -1,7 +1,7 @@
 //! Connections: their boxes, what their readers ask for, and what their writers write.
-ghost use Rattle.std.specs.Prelude.{◌≡◌, IfSome, IfErr, false, true, slice_get};
+ghost use Rattle.std.specs.Prelude.{◌≡◌, None, IfOk, IfSome, IfErr, false, true, slice_get};
 ghost use Rattle.std.specs.Sync.Mutex.{mutex_guard_value};
-ghost use Rattle.ipc_lock.specs.Above.{AsksOrRefuses};
+ghost use Rattle.ipc_lock.specs.Above.{AsksOrRefuses, ConnectsSome, EndsSome, LaysSome, ReleasesSome, TakesOutSome};
 ghost use Rattle.ipc_lock.specs.Acting.{Asked};
 ghost use Rattle.ipc_lock.specs.Places.{is_empty_in, is_shut_in};
 ghost use Rattle.ipc_pen.specs.Pens.{BeginsEmpty};
@@ -20,25 +20,48 @@ use std::sync::ledger::Ledger;
 use std::sync::{MutexGuard, Wait};
 
 impl<C: Ledger, T: Ledger, P: PenPort + Drop> SharedKernel<C, T, P> {
-    /// Makes an empty box for the connection of a port, to which nothing was written, and answers its two ends. The only refusal is K4.
-    pub fn connect<R: Wait>(&self, rt: &R, port: P) -> Result<(PostEnd<C>, TakeEnd), Refusal>
+    /// Makes an empty box for the connection of a port, to which nothing was written, and answers its two ends. Its thread will be of this
+    /// space, 1 to `MAX_SPACE`. The only refusal is K4.
+    #[tactic(auto, using(crate::proofs::Above::connects_some))]
+    pub fn connect<R: Wait>(
+        &self,
+        rt: &R,
+        port: P,
+        space: u64,
+    ) -> Result<(PostEnd<C>, TakeEnd), Refusal>
         requires { BeginsEmpty (P.written port) }
-        ensures { IfErr result (λ refusal. refusal ≡ Refusal.NoMemory) }
+        ensures space { IfOk result (λ ends. ends.0.space ≡ space) }
+        ensures seat { IfOk result (λ ends. ends.0.seat ≡ None) }
+        ensures place { IfOk result (λ ends. ends.1.place ≡ ends.0.place) }
+        ensures number { IfOk result (λ ends. ends.1.number ≡ ends.0.number) }
+        ensures fresh { IfOk result (λ ends. ConnectsSome ends.0.place ends.0.number) }
+        ensures err { IfErr result (λ refusal. refusal ≡ Refusal.NoMemory) }
     {
         match self.inside(rt).connect(port) {
-            Ok(place) => Ok((PostEnd { place, seat: None }, TakeEnd { place })),
+            Ok((place, number)) => {
+                let posts = PostEnd {
+                    place,
+                    number,
+                    space,
+                    seat: None,
+                };
+                Ok((posts, TakeEnd { place, number }))
+            }
             Err(_) => Err(Refusal::NoMemory),
         }
     }
 
     /// Gives a connection's box back, once its writer has ended.
-    pub fn release<R: Wait>(&self, rt: &R, end: PostEnd<C>) {
-        self.inside(rt).release(end.place);
+    #[tactic(auto, using(crate::proofs::Above::releases_some))]
+    pub fn release<R: Wait>(&self, rt: &R, end: PostEnd<C>)
+        ensures releases { ReleasesSome end.place end.number }
+    {
+        self.inside(rt).release(end.place, end.number);
     }
 
-    /// Asks the kernel for a connection from a space, 1 to `MAX_SPACE`, at a moment, in microseconds, and tells at once what it accepted:
-    /// that a thread was opened, or what ExchangeRegisters answers. Also says how far a call is that was entered. A call and an
-    /// ExchangeRegisters are by the end's own seat.
+    /// Asks the kernel for a connection at a moment, in microseconds, and tells at once what it accepted: that a thread was opened, or what
+    /// ExchangeRegisters answers. Also says how far a call is that was entered. A call and an ExchangeRegisters are by the end's own seat,
+    /// and from the end's space.
     ///
     /// # Errors
     ///
@@ -51,19 +74,27 @@ impl<C: Ledger, T: Ledger, P: PenPort + Drop> SharedKernel<C, T, P> {
         now: u64,
         end: &mut PostEnd<C>,
         request: Request,
-        space: u64,
     ) -> (Told, Entered)
         ensures place { end.new.place ≡ end.old.place }
+        ensures number { end.new.number ≡ end.old.number }
+        ensures space { end.new.space ≡ end.old.space }
         ensures asked { Asked result.0 request end.old.seat end.new.seat }
-        ensures asks { AsksOrRefuses now end.old.seat request space result.0 }
+        ensures asks { AsksOrRefuses now end.old.place end.old.seat request end.old.space result.0 }
     {
         let Some(mut inside) = self.when_empty(rt, end.place) else {
             return (Told::Refused(Refusal::NoThread), Entered::Open);
         };
-        let (told, seat) = inside.ask(now, end.place, end.seat.take(), request, space);
-        drop(replace(&mut end.seat, seat));
         let mut errands = Errands::none();
-        let after = inside.after(Some(end.place), &mut errands);
+        let own = end.seat.take();
+        let (told, seat, after) = inside.ask_and_tell(
+            now,
+            end.place,
+            own,
+            request,
+            end.space,
+            &mut errands,
+        );
+        drop(replace(&mut end.seat, seat));
         drop(inside);
         let begun = after.begun;
         let entered = errands.entered(end.place);
@@ -87,19 +118,26 @@ impl<C: Ledger, T: Ledger, P: PenPort + Drop> SharedKernel<C, T, P> {
     }
 
     /// Ends the thread of a reader's end, if there is one, and shuts its box.
-    pub fn hang_up<R: Wait>(&self, rt: &R, now: u64, end: &PostEnd<C>) {
-        self.end_at(rt, now, end.place);
+    pub fn hang_up<R: Wait>(&self, rt: &R, now: u64, end: &PostEnd<C>)
+        ensures ends { EndsSome now end.now.place end.now.number }
+    {
+        self.end_at(rt, now, end.place, end.number);
     }
 
     /// Ends the thread of a writer's end, if there is one, and shuts its box.
-    pub fn leave<R: Wait>(&self, rt: &R, now: u64, end: &TakeEnd) {
-        self.end_at(rt, now, end.place);
+    pub fn leave<R: Wait>(&self, rt: &R, now: u64, end: &TakeEnd)
+        ensures ends { EndsSome now end.now.place end.now.number }
+    {
+        self.end_at(rt, now, end.place, end.number);
     }
 
-    fn end_at<R: Wait>(&self, rt: &R, now: u64, place: usize) {
+    /// Ends the thread that is told in the box of a connection, if there is one, and shuts it.
+    fn end_at<R: Wait>(&self, rt: &R, now: u64, place: usize, number: u64)
+        ensures ends { EndsSome now place number }
+    {
         let mut errands = Errands::none();
         let mut inside = self.inside(rt);
-        let ended = inside.end_at(now, place, &mut errands);
+        let ended = inside.end_at(now, place, number, &mut errands);
         drop(inside);
         if let Some(after) = ended {
             self.wake_mover(&after);
@@ -109,13 +147,16 @@ impl<C: Ledger, T: Ledger, P: PenPort + Drop> SharedKernel<C, T, P> {
 
     /// Waits until a box's pen lies there with something to write that nobody else has taken, and takes it out. None once nothing more
     /// comes, or the device has failed.
-    pub fn wait_pen<R: Wait>(&self, rt: &R, end: &TakeEnd) -> Option<Loaded<P>> {
+    #[tactic(auto, using(crate::proofs::Working::takes_out))]
+    pub fn wait_pen<R: Wait>(&self, rt: &R, end: &TakeEnd) -> Option<Loaded<P>>
+        ensures takes { IfSome result (λ pen. TakesOutSome end.now.place end.now.number pen) }
+    {
         let mut inside = self.inside(rt);
         let Some(bell) = inside.bell(end.place) else {
             return None;
         };
         for _ in rt.forever() {
-            match inside.work(end.place) {
+            match inside.work(end.place, end.number) {
                 Some(Work::Write(pen)) => return Some(pen),
                 Some(Work::Over) => return None,
                 None => {}
@@ -126,7 +167,10 @@ impl<C: Ledger, T: Ledger, P: PenPort + Drop> SharedKernel<C, T, P> {
     }
 
     /// Lays a pen down in its box. What came meanwhile is written first, as far as the device has room.
-    pub fn give_back<R: Wait>(&self, rt: &R, pen: Loaded<P>) {
+    #[tactic(auto, using(crate::proofs::Working::lays_some))]
+    pub fn give_back<R: Wait>(&self, rt: &R, pen: Loaded<P>)
+        ensures lays { LaysSome pen }
+    {
         let mut errands = Errands::of(pen);
         self.inside(rt).take_back(&mut errands);
         self.carry(rt, &mut errands);

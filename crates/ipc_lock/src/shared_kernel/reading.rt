@@ -2,7 +2,7 @@
 ghost use Rattle.std.specs.Prelude.{List, IfOk};
 ghost use Rattle.ipc_history.specs.declared.entry.Entry.{Entry};
 ghost use Rattle.ipc_history.specs.Legal.{Legal};
-ghost use Rattle.ipc_lock.specs.Above.{EntryOfSome, GroupOfSome, LeftOfSome};
+ghost use Rattle.ipc_lock.specs.Above.{EntryOfSome, GroupOfSome, LeftOfSome, MarksSome};
 ghost use Rattle.l4sh_state.specs.States.{IsStateOf};
 
 use super::SharedKernel;
@@ -69,13 +69,17 @@ impl<C: Ledger, T: Ledger, P: PenPort + Drop> SharedKernel<C, T, P> {
 
     /// The entries before a place of the history, counted from 0, are not read any more: a later step may let go of them, and of their
     /// strings. Until then all are held.
-    pub fn mark<R: Wait>(&self, rt: &R, upto: usize) {
+    #[tactic(auto, using(crate::proofs::Above::marks_some))]
+    pub fn mark<R: Wait>(&self, rt: &R, upto: usize)
+        ensures marks { MarksSome upto }
+    {
         self.inside(rt).mark(upto);
     }
 
     /// As [`SharedKernel::mark`], and answers how many entries stand at that place and behind it. So a trace takes the lock once for both.
-    #[tactic(auto, using(crate::proofs::Above::left_some))]
+    #[tactic(auto, using(crate::proofs::Above::left_some, crate::proofs::Above::marks_some))]
     pub fn mark_traced<R: Wait>(&self, rt: &R, upto: usize) -> usize
+        ensures marks { MarksSome upto }
         ensures left { LeftOfSome upto result }
     {
         self.inside(rt).mark_traced(upto)

@@ -1,0 +1,43 @@
+-- A step under the lock with what it tells: behind it the boxes are looked into of those whom it concerns.
+use Rattle.std.specs.Prelude.{ℕ, List, Option, Some, None}
+use Rattle.ipc_connection.specs.Asking.{command_of, version_asked}
+use Rattle.ipc_connection.specs.declared.asking.Request.{Request}
+use Rattle.ipc_connection.specs.declared.replying.Told.{Told}
+use Rattle.ipc_core.specs.KernelParts.{KernelParts}
+use Rattle.ipc_core.specs.declared.command.Answer.{Answer}
+use Rattle.ipc_core.specs.declared.command.Command.{Command}
+use Rattle.ipc_frame.specs.declared.version.WireVersion.TheVariants.{One}
+use Rattle.ipc_history.specs.Legal.{Legal}
+use Rattle.ipc_lock.specs.Acting.{ActsOn, AsksOn}
+use Rattle.ipc_lock.specs.Boxes.{BoxParts, OnlyTakes}
+use Rattle.ipc_lock.specs.Noting.{NotesOn}
+use Rattle.ipc_lock.specs.Places.{LoadsRow, OnlyLoads, new_seat, owned_by, places_told, told_in}
+use Rattle.ipc_lock.specs.declared.errands.Errands.{Errands}
+use Rattle.ipc_lock.specs.declared.seated.seats.CallSeat.{CallSeat}
+use Rattle.ipc_lock.specs.declared.upkeep.Upkeep.{Upkeep}
+
+-- a step was made, and the boxes of the threads whose calls it finished were looked into
+pub record ActsAndTells {C P : Type 0} (upkeep after : Upkeep) (old new : KernelParts) (now : ℕ) (seat : Option (CallSeat C)) (command : Command)
+    (answer : Answer) (owners : List (Option ℕ)) (boxes boxes_now : List BoxParts) (errands errands_now : Errands P) : Type 0 where
+  pub stepped : KernelParts
+  pub finished : List ℕ
+  pub room : ℕ
+  pub acts : ActsOn upkeep after old stepped now seat command answer
+  pub legal : Legal stepped.history
+  pub notes : NotesOn upkeep after old stepped now command finished room
+  pub tells : LoadsRow (places_told None owners finished) stepped new boxes boxes_now errands errands_now
+  pub only : OnlyTakes stepped new
+
+-- a reader's step was made, and told in its box; that box was looked into first, and then those of the threads whose calls it finished
+pub record AsksAndTells {C P : Type 0} (upkeep after : Upkeep) (old new : KernelParts) (now : ℕ) (seat : Option (CallSeat C)) (asked : Request) (space : ℕ)
+    (said : Told) (owners : List (Option ℕ)) (place : ℕ) (boxes boxes_now : List BoxParts) (errands errands_now : Errands P) : Type 0 where
+  pub stepped : KernelParts
+  pub finished : List ℕ
+  pub room : ℕ
+  pub asks : AsksOn upkeep after old stepped now seat (version_asked asked One) (command_of asked space) said
+  pub legal : Legal stepped.history
+  pub notes : NotesOn upkeep after old stepped now (command_of asked space) finished room
+  pub tells : LoadsRow (places_told (Some place) (owned_by said (new_seat said) owners place) finished) stepped new
+      (told_in said (new_seat said) boxes place) boxes_now errands errands_now
+  pub stay : OnlyLoads (told_in said (new_seat said) boxes place) boxes_now
+  pub only : OnlyTakes stepped new

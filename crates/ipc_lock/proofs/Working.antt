@@ -19,9 +19,9 @@ abbrev IsOver : {P : Type 0} → Option (Work P) → Type 0
 IsOver next = next ≡ Some work.Over
 
 -- what a writer that goes on has from a box
-comes_out : {P : Type 0} (old new : KernelParts) (box left : BoxParts) (pen : Page) → Works {P = P} old new box left (Some (work.Write pen))
+comes_out : (P : Type 0) (old new : KernelParts) (box left : BoxParts) (pen : Page) → Works {P = P} old new box left (Some (work.Write pen))
     → Loads old new box left pen ⊎ ((box.pen ≡ Some pen) × (left ≡ record box { pen = None }))
-comes_out {P} old new box left pen h = by_failed (has_failed box.pen) h
+comes_out P old new box left pen h = by_failed (has_failed box.pen) h
   where
     by_idle : (b : Bool) → MatchBool b (Begins {P = P} old new box left (Some (work.Write pen))) ((new ≡ old) × WritesOn {P = P} box left (Some (work.Write pen)))
         → Loads old new box left pen ⊎ ((box.pen ≡ Some pen) × (left ≡ record box { pen = None }))
@@ -34,9 +34,9 @@ comes_out {P} old new box left pen h = by_failed (has_failed box.pen) h
     by_failed true h = absurd (subst (λ (next : Option (Work P)). GoesOn next) h.1.0 tt)
     by_failed false h = by_idle (is_idle box.pen) h
 
-pub takes_out : {P : Type 0} (old new : KernelParts) (boxes after : List BoxParts) (place number : ℕ) (pen : Page)
+pub takes_out : (P : Type 0) (old new : KernelParts) (boxes after : List BoxParts) (place number : ℕ) (pen : Page)
     → WorksFor {P = P} old new boxes after place number (slice_get boxes place) (Some (work.Write pen)) → TakesOutSome place number pen
-takes_out {P} old new boxes after place number pen h = go (slice_get boxes place) refl h
+takes_out P old new boxes after place number pen h = go (slice_get boxes place) refl h
   where
     by_number : (box : BoxParts) → slice_get boxes place ≡ Some box → (b : Bool) → is_of number box.number ≡ b
         → MatchBool b ((left : BoxParts) × Works {P = P} old new box left (Some (work.Write pen)) × (after ≡ slice_set boxes place left))
@@ -51,7 +51,7 @@ takes_out {P} old new boxes after place number pen h = go (slice_get boxes place
       left = h.0;
       there = is;
       is_its = its;
-      comes = comes_out old new box h.0 pen h.1.0;
+      comes = comes_out P old new box h.0 pen h.1.0;
     }
 
     go : (o : Option BoxParts) → slice_get boxes place ≡ o → WorksFor {P = P} old new boxes after place number o (Some (work.Write pen)) → TakesOutSome place number pen

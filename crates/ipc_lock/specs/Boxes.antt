@@ -178,7 +178,7 @@ is_own None place number = true
 is_own (Some pen) place number = (pen.place == place) && is_of pen.number number
 
 -- it is a pen of the connection of this box
-abbrev pub is_pen_of : Page → BoxParts → Bool
+unfoldable pub is_pen_of : Page → BoxParts → Bool
 is_pen_of pen box = is_own (Some pen) box.place box.number
 
 -- the boxes, once that of a place is this one

@@ -177,6 +177,7 @@ impl<T: Ledger, P: PenPort + Drop> PostBox<T, P> {
     }
 
     /// Whether this is a pen of its connection.
+    #[tactic(auto, unfolding(crate::specs::Boxes::is_pen_of))]
     fn has_for_pen(&self, pen: &Loaded<P>) -> bool
         ensures { result ≡ is_pen_of pen.now self.now }
     {
@@ -241,7 +242,7 @@ impl<T: Ledger, P: PenPort + Drop> PostBox<T, P> {
     }
 
     /// Takes the pen out with what the client is told next. None where the pen is out or not at its end, or nothing is there.
-    #[tactic(auto, using(crate::proofs::Moves::only_none))]
+    #[tactic(auto, unfolding(crate::specs::Boxes::is_pen_of), using(crate::proofs::Moves::only_none))]
     pub(crate) fn load<C: Ledger>(&mut self, locked: &mut Locked<C, T>) -> Option<Loaded<P>>
         ensures looks { LooksInto locked.old.kernel locked.new.kernel self.old self.new result }
         ensures own { IfSome result (λ pen. is_pen_of pen self.old ≡ true) }
@@ -336,6 +337,7 @@ impl<T: Ledger, P: PenPort + Drop> PostBox<T, P> {
 
     /// Lays the pen of the box's connection down; that of another one is handed back. Its writer is woken where a frame is not at its end, where the
     /// device failed, and where the box is shut.
+    #[tactic(auto, unfolding(crate::specs::Boxes::is_pen_of))]
     pub(crate) fn lay(&mut self, pen: Loaded<P>) -> Option<Loaded<P>>
         ensures laid { IfNone result ((is_pen_of pen self.old ≡ true)
             × (self.new ≡ record self.old { pen = Some pen })) }

@@ -35,7 +35,6 @@ impl<C: Ledger, T: Ledger, P: PenPort + Drop> Inside<C, T, P> {
     }
 
     /// Ends a thread.
-    #[tactic(auto, using(crate::proofs::Telling::ends_told))]
     fn end_thread(&mut self, now: u64, thread: ThreadId, errands: &mut Errands<P>) -> After
         ensures ends { Ends self.old.upkeep self.new.upkeep self.old.locked.kernel
             self.new.locked.kernel now thread }

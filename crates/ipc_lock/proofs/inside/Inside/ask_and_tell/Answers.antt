@@ -3,5 +3,5 @@ use Rattle.ipc_lock.proofs.inside.Inside.ask_and_tell.Goals as goal
 
 pub returns-clause-asks : goal.returns-clause-asks
 returns-clause-asks g c =
-    asks_and_tells _ _ _ _ _ _ _ _ _ _ _ _ _ _ _ _ _ _ _ _ _ c.ask.ensures.asks c.ask.ensures.legal c.ask.ensures.finished
-    c.after-after.ensures.upkeep c.ask.ensures.owners c.ask.ensures.told c.after-after.ensures.only c.after-after.ensures.stay c.after-after.ensures.loads
+    asks_and_tells _ _ _ _ _ _ _ _ _ _ _ _ _ _ _ _ _ _ _ _ _ c.ask-told.ensures.asks c.ask-told.ensures.legal c.ask-told.ensures.finished
+    c.after-after.ensures.upkeep c.ask-told.ensures.owners c.ask-told.ensures.told c.after-after.ensures.only c.after-after.ensures.stay c.after-after.ensures.loads

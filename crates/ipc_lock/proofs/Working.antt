@@ -51,7 +51,7 @@ takes_out P old new boxes after place number pen h = go (slice_get boxes place) 
       left = h.0;
       there = is;
       is_its = its;
-      comes = comes_out P old new box h.0 pen h.1.0;
+      comes = comes_out P old new box h.0 pen h.1;
     }
 
     go : (o : Option BoxParts) → slice_get boxes place ≡ o → WorksFor {P = P} old new boxes after place number o (Some (work.Write pen)) → TakesOutSome place number pen

@@ -1,86 +1,15 @@
 //! The files of one history: a trace, and the parts behind it.
-ghost use Rattle.std.specs.Prelude.{◌≡◌, ◌<◌};
-
+use crate::ending::{Ending, told};
 use crate::exit::Exit;
-use crate::{Ending, Task, look};
-use ipc_chain::{ChainVerdict, Put, check_chain, lines_before, put_behind};
+use crate::files::{History, read_files};
+use ipc_chain::{ChainVerdict, Put, check_chain, put_behind};
 use ipc_history::{Entry, Output};
 use ipc_lines::entry_line;
-use ipc_part::{Part, PartFault, PartRead, read_part};
-use ipc_ports::{Failures, PortRead, PortWrite};
+use ipc_ports::PortWrite;
 use ipc_shell::put;
-use ipc_trace::{PutFault, TraceEnd, TraceRead, TraceVersion, TraceWriter, read_trace};
+use ipc_trace::{PutFault, TraceVersion, TraceWriter};
 use std::alloc::{AllocError, Global};
-use std::marker::Brand;
 use std::rt::Files;
-use std::sync::ledger::{Blank, Ledger};
-
-/// What was read of the first file.
-#[derive(Drop)]
-struct FirstFile {
-    read: Option<TraceRead>,
-}
-
-impl Task for FirstFile {
-    fn perform<R: PortRead, W: PortWrite>(
-        &mut self,
-        alloc: Global,
-        reader: &mut R,
-        _writer: &mut W,
-    ) -> Exit {
-        let read = read_trace(alloc, reader);
-        let exit = match read.end {
-            TraceEnd::Whole | TraceEnd::Torn => Exit::Done,
-            TraceEnd::BadLine(number) => Exit::BadLine(number),
-            TraceEnd::UnknownVersion => Exit::UnknownVersion,
-            TraceEnd::DeviceFailed => Exit::DeviceFailed,
-            TraceEnd::NoMemory => Exit::NoMemory,
-        };
-        self.read = Some(read);
-        exit
-    }
-}
-
-/// What was read of a further file, or why it is no part.
-#[derive(Drop)]
-struct NextFile {
-    read: Option<PartRead>,
-    fault: Option<PartFault>,
-}
-
-impl Task for NextFile {
-    fn perform<R: PortRead, W: PortWrite>(
-        &mut self,
-        alloc: Global,
-        reader: &mut R,
-        _writer: &mut W,
-    ) -> Exit {
-        match read_part(alloc, reader) {
-            Ok(read) => {
-                self.read = Some(read);
-                Exit::Done
-            }
-            Err(PartFault::NoMemory) => Exit::NoMemory,
-            Err(PartFault::DeviceFailed) => Exit::DeviceFailed,
-            Err(fault) => {
-                self.fault = Some(fault);
-                Exit::Done
-            }
-        }
-    }
-}
-
-/// What was read of the files of one history.
-#[derive(Drop)]
-struct History {
-    version: TraceVersion,
-    entries: Vec<Entry>,
-    parts: Vec<Part>,
-    /// By part, how many lines stand before the entries that came since.
-    before: Vec<u64>,
-    /// Whether a line that lacks its newline stands behind the last file.
-    is_torn: bool,
-}
 
 /// Checks whether several files are one history, and prints `yes`, or `no FILE N EXPECTED`: line N of FILE is the first that does not follow,
 /// and EXPECTED the line that is to stand there, or `input`. Behind a `yes` or a `no`, `torn` tells of a last line of the last file without its
@@ -183,14 +112,6 @@ fn early_text(alloc: Global, output: Output) -> Result<String, AllocError> {
     format!(in alloc; "l4sh: no part begins before the line that comes next: {line}")
 }
 
-/// The text and the status of an ending.
-fn told(status: u8, text: Result<String, AllocError>) -> Ending {
-    match text {
-        Ok(text) => Ending::Told { status, text },
-        Err(_) => Ending::from(Exit::NoMemory),
-    }
-}
-
 /// Prints a text, where there was memory for it.
 fn print_text<W: PortWrite>(
     text: Result<String, AllocError>,
@@ -256,170 +177,4 @@ fn line_of(version: TraceVersion, before: &[u64], file: usize, index: usize) -> 
         Some(lines) => lines.saturating_add(index as u64).saturating_add(1),
         None => version.line_of(index),
     }
-}
-
-/// Reads the files of one history; how that ended, where it failed.
-fn read_files<R: Files + Input, W: PortWrite>(
-    rt: &R,
-    alloc: Global,
-    files: &[&str],
-    writer: &mut W,
-) -> Result<History, Ending> {
-    let mut history = History {
-        version: TraceVersion::One,
-        entries: Vec::new(alloc),
-        parts: Vec::new(alloc),
-        before: Vec::new(alloc),
-        is_torn: false,
-    };
-    for place in 0..files.len() {
-        let file = files[place];
-        if history.is_torn {
-            return Err(torn_before(alloc, file));
-        }
-        if place == 0 {
-            history.read_first(rt, alloc, file, writer)?;
-        } else {
-            history.read_next(rt, alloc, file, writer)?;
-        }
-    }
-    Ok(history)
-}
-
-impl History {
-    /// Reads the first file.
-    fn read_first<R: Files + Input, W: PortWrite>(
-        &mut self,
-        rt: &R,
-        alloc: Global,
-        file: &str,
-        writer: &mut W,
-    ) -> Result<(), Ending> {
-        let mut first = FirstFile { read: None };
-        let ending = look_anew(rt, alloc, &FilePath { path: file }, &mut first, writer);
-        let FirstFile { read } = first;
-        match (read, ending) {
-            (
-                Some(read),
-                Ending::Alone {
-                    exit: Exit::Done,
-                    ..
-                },
-            ) => {
-                self.is_torn = matches!(read.end, TraceEnd::Torn);
-                self.version = read.version;
-                self.entries = read.entries;
-                Ok(())
-            }
-            (_, ending) => Err(of_file(alloc, file, ending)),
-        }
-    }
-
-    /// Reads a further file.
-    fn read_next<R: Files + Input, W: PortWrite>(
-        &mut self,
-        rt: &R,
-        alloc: Global,
-        file: &str,
-        writer: &mut W,
-    ) -> Result<(), Ending> {
-        let mut next = NextFile {
-            read: None,
-            fault: None,
-        };
-        let ending = look_anew(rt, alloc, &FilePath { path: file }, &mut next, writer);
-        let NextFile { read, fault } = next;
-        match read {
-            Some(read) => self.add(read),
-            None => match fault {
-                Some(fault) => Err(told(2, fault_text(alloc, file, fault))),
-                None => Err(of_file(alloc, file, ending)),
-            },
-        }
-    }
-
-    /// Adds a part.
-    fn add(&mut self, read: PartRead) -> Result<(), Ending> {
-        let before = lines_before(&read.part.base, read.part.kept.as_slice());
-        self.is_torn = read.is_torn;
-        if self.before.push(before).is_err() || self.parts.push(read.part).is_err() {
-            return Err(Ending::from(Exit::NoMemory));
-        }
-        Ok(())
-    }
-}
-
-/// A file stands behind one that is torn.
-fn torn_before(alloc: Global, file: &str) -> Ending {
-    let text = format!(in alloc;
-        "l4sh: torn: the file before {file} ends with a line that lacks its newline"
-    );
-    told(5, text)
-}
-
-/// Why a file is no part.
-fn fault_text(alloc: Global, file: &str, fault: PartFault) -> Result<String, AllocError> {
-    match fault {
-        PartFault::BadLine(1) => format!(in alloc;
-            "l4sh: bad line 1 of {file}: it is no part; a part begins with l4part 1, and the trace comes first"
-        ),
-        PartFault::BadLine(number) => {
-            format!(in alloc; "l4sh: bad line {number} of {file}: no part has it there")
-        }
-        _ => format!(in alloc; "l4sh: {file} ends before the line since"),
-    }
-}
-
-/// The same ending, whose reason begins with the file; that of a device that failed names it already.
-fn of_file(alloc: Global, file: &str, ending: Ending) -> Ending {
-    match ending {
-        Ending::Alone {
-            exit: Exit::DeviceFailed,
-            reason,
-        } => Ending::Alone {
-            exit: Exit::DeviceFailed,
-            reason,
-        },
-        Ending::Alone { exit, reason } => {
-            let reason = match reason {
-                Some(reason) => format!(in alloc; "{file}: {reason}").ok(),
-                None => format!(in alloc; "{file}").ok(),
-            };
-            Ending::Alone { exit, reason }
-        }
-        other => other,
-    }
-}
-
-/// The path of a file of a history.
-#[derive(Clone, Copy)]
-struct FilePath<'a> {
-    path: &'a str,
-}
-
-/// Opens a file, and does this with it. Its count of failures is its own.
-fn look_anew<T: Task, R: Files + Input, W: PortWrite>(
-    rt: &R,
-    alloc: Global,
-    file: &FilePath<'_>,
-    task: &mut T,
-    writer: &mut W,
-) -> Ending {
-    look_over::<T, Brand, R, _>(rt, alloc, file, task, Blank::new(1), writer)
-}
-
-/// The same. The count of failures begins as a blank.
-fn look_over<T: Task, L: Ledger, R: Files + Input, W: PortWrite>(
-    rt: &R,
-    alloc: Global,
-    file: &FilePath<'_>,
-    task: &mut T,
-    reads: Blank,
-    writer: &mut W,
-) -> Ending
-    requires name { reads.name ≡ L.name }
-    requires parts { (reads.parts ≡ L.parts) × (0 < reads.parts) }
-{
-    let FilePath { path } = *file;
-    look(rt, alloc, path, task, Failures::<L>::new(reads), writer)
 }

@@ -1,0 +1,103 @@
+//! What is read from standard input and is no trace: scripts, and what is typed.
+ghost use Rattle.std.specs.Prelude.{◌≡◌};
+ghost use Rattle.ipc_words.specs.Limits.{max_calls, max_entries};
+
+use crate::bad_lines::with_reason;
+use crate::ending::Ending;
+use crate::exit::Exit;
+use crate::kept::KeptPort;
+use crate::live::talk_to_server;
+use crate::talk::talk_with;
+use crate::terminal::{is_told_at_terminal, prompt};
+use crate::watched::WatchedPort;
+use ipc_core::{Limits, MAX_CALLS, MAX_ENTRIES};
+use ipc_ports::{Failures, PortWrite, ReadPort};
+use ipc_shell::{run_script, wire_script};
+use l4sh_options::{ScriptLimits, TalkOptions};
+use l4sh_reasons::Grammar;
+use std::alloc::Global;
+use std::net::Net;
+use std::sync::ledger::Ledger;
+
+/// Runs the script of standard input. Of a p that is dropped it is told on standard error, where that is a terminal.
+pub(crate) fn run_input<L: Ledger, R: Input + Eprint, W: PortWrite>(
+    rt: &R,
+    alloc: Global,
+    limits: &ScriptLimits,
+    reads: Failures<L>,
+    writer: &mut W,
+) -> Ending {
+    if is_told_at_terminal() {
+        let mut watched = WatchedPort::new(rt, alloc, writer);
+        run_input_into(rt, alloc, limits, reads, &mut watched)
+    } else {
+        run_input_into(rt, alloc, limits, reads, writer)
+    }
+}
+
+/// The same, and prints to this writer.
+fn run_input_into<L: Ledger, R: Input, W: PortWrite>(
+    rt: &R,
+    alloc: Global,
+    limits: &ScriptLimits,
+    reads: Failures<L>,
+    writer: &mut W,
+) -> Ending {
+    let mut reader = KeptPort::new(alloc, ReadPort::new(rt.reader(), reads));
+    let exit = run_script(alloc, kernel_limits(limits), &mut reader, writer);
+    with_reason(alloc, Exit::from(exit), Grammar::Script, reader.tail())
+}
+
+/// Runs the wire script of standard input.
+pub(crate) fn wire_input<L: Ledger, R: Input, W: PortWrite>(
+    rt: &R,
+    alloc: Global,
+    reads: Failures<L>,
+    writer: &mut W,
+) -> Ending {
+    let mut reader = KeptPort::new(alloc, ReadPort::new(rt.reader(), reads));
+    let exit = wire_script(alloc, greatest_limits(), &mut reader, writer);
+    with_reason(alloc, Exit::from(exit), Grammar::Wire, reader.tail())
+}
+
+/// Talks over standard input, with a kernel of its own.
+pub(crate) fn talk_over_input<L: Ledger, R: Input, W: PortWrite>(
+    rt: &R,
+    alloc: Global,
+    reads: Failures<L>,
+    writer: &mut W,
+) -> Ending {
+    let mut reader = ReadPort::new(rt.reader(), reads);
+    Ending::from(talk_with(alloc, greatest_limits(), prompt(), &mut reader, writer))
+}
+
+/// Talks from standard input with a live server.
+pub(crate) fn talk_from_input<L: Ledger, R: Input + Net, W: PortWrite>(
+    rt: &R,
+    alloc: Global,
+    options: &TalkOptions<'_>,
+    reads: Failures<L>,
+    writer: &mut W,
+) -> Ending {
+    let mut reader = ReadPort::new(rt.reader(), reads);
+    Ending::WithServer(talk_to_server(rt, alloc, options, &mut reader, writer))
+}
+
+fn kernel_limits(limits: &ScriptLimits) -> Limits
+    ensures { result ≡ record { entries = limits.now.entries; calls = limits.now.calls } }
+{
+    Limits {
+        entries: u64::from(limits.entries),
+        calls: u64::from(limits.calls),
+    }
+}
+
+/// The greatest limits that a kernel takes.
+fn greatest_limits() -> Limits
+    ensures { result ≡ record { entries = max_entries; calls = max_calls } }
+{
+    Limits {
+        entries: MAX_ENTRIES,
+        calls: MAX_CALLS,
+    }
+}

@@ -1,0 +1,59 @@
+//! What each subcommand does.
+use crate::ending::Ending;
+use crate::history::part_files;
+use crate::inputs::{run_input, talk_from_input, talk_over_input, wire_input};
+use crate::looking::{Look, print_answer};
+use crate::migrating::{Migration, migrate_file};
+use crate::printing::{chart_file, check_of, count_of, follow_file, look_at_file, state_of};
+use ipc_ports::{Failures, PortWrite};
+use l4sh_explain::{Told, answer_period, answer_tag, explain};
+use l4sh_options::ShellOptions;
+use std::alloc::{AllocError, Global};
+use std::net::Net;
+use std::rt::Files;
+use std::sync::ledger::Ledger;
+
+/// Does what was asked for, and prints to a writer.
+pub(crate) fn obey_into<L: Ledger, R: Files + Input + Eprint + Net, W: PortWrite>(
+    rt: &R,
+    alloc: Global,
+    options: &ShellOptions<'_>,
+    reads: Failures<L>,
+    writer: &mut W,
+) -> Ending {
+    match options {
+        ShellOptions::Run(limits) => run_input(rt, alloc, limits, reads, writer),
+        ShellOptions::Wire => wire_input(rt, alloc, reads, writer),
+        ShellOptions::Check { files } => check_of(rt, alloc, files.as_slice(), reads, writer),
+        ShellOptions::Part { files, is_untaken } => {
+            part_files(rt, alloc, files.as_slice(), *is_untaken, writer)
+        }
+        ShellOptions::Chart(chart) => chart_file(rt, alloc, chart, reads, writer),
+        ShellOptions::State(state) => state_of(rt, alloc, state, reads, writer),
+        ShellOptions::Script { file } => {
+            look_at_file(rt, alloc, *file, Look::Script, reads, writer)
+        }
+        ShellOptions::Count { file, is_json } => {
+            count_of(rt, alloc, *file, *is_json, reads, writer)
+        }
+        ShellOptions::Follow(follow) => follow_file(rt, alloc, follow, reads, writer),
+        ShellOptions::Migrate { old, new } => {
+            let files = Migration {
+                old: *old,
+                new: *new,
+            };
+            migrate_file(rt, alloc, &files, reads, writer)
+        }
+        ShellOptions::Talk => talk_over_input(rt, alloc, reads, writer),
+        ShellOptions::TalkTo(talk) => talk_from_input(rt, alloc, talk, reads, writer),
+        ShellOptions::Explain { word } => answer_word(explain(alloc, *word), writer),
+        ShellOptions::Tag { word } => answer_word(answer_tag(alloc, *word), writer),
+        ShellOptions::Period { word } => answer_word(answer_period(alloc, *word), writer),
+    }
+}
+
+/// Prints the answer to a word, or gives the reason why there is none.
+fn answer_word<W: PortWrite>(told: Result<Told, AllocError>, writer: &mut W) -> Ending {
+    let (exit, reason) = print_answer(told, writer);
+    Ending::Alone { exit, reason }
+}

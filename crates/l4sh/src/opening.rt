@@ -1,0 +1,101 @@
+//! The file of a trace, or standard input, is opened, and something is done with it.
+use crate::bad_lines::with_reason;
+use crate::ending::Ending;
+use crate::exit::Exit;
+use crate::kept::KeptPort;
+use ipc_ports::{Failures, PortRead, PortWrite, ReadPort};
+use l4sh_reasons::Grammar;
+use std::alloc::Global;
+use std::fs::{self, File};
+use std::io;
+use std::rt::Files;
+use std::sync::ledger::Ledger;
+
+/// What is done with the trace of a reader.
+pub(crate) trait Task {
+    /// Does it, and says how it ended.
+    fn perform<R: PortRead, W: PortWrite>(
+        &mut self,
+        alloc: Global,
+        reader: &mut R,
+        writer: &mut W,
+    ) -> Exit;
+}
+
+/// Opens the file of a trace, or takes standard input for `-`, and does this with it.
+pub(crate) fn look<T: Task, L: Ledger, R: Files + Input, W: PortWrite>(
+    rt: &R,
+    alloc: Global,
+    file: &str,
+    task: &mut T,
+    reads: Failures<L>,
+    writer: &mut W,
+) -> Ending {
+    if file == "-" {
+        return look_at_input(rt, alloc, task, reads, writer);
+    }
+    match File::open(rt, file) {
+        Ok(opened) => look_at_opened(rt, alloc, file, opened, task, reads, writer),
+        Err(error) => not_opened(alloc, file, &error),
+    }
+}
+
+/// Does this with the trace of standard input.
+fn look_at_input<T: Task, L: Ledger, R: Input, W: PortWrite>(
+    rt: &R,
+    alloc: Global,
+    task: &mut T,
+    reads: Failures<L>,
+    writer: &mut W,
+) -> Ending {
+    let mut reader = KeptPort::new(alloc, ReadPort::new(rt.reader(), reads));
+    let exit = task.perform(alloc, &mut reader, writer);
+    with_reason(alloc, exit, Grammar::Trace, reader.tail())
+}
+
+/// Does this with the trace of a file that was opened.
+fn look_at_opened<T: Task, L: Ledger, R: Files, W: PortWrite>(
+    rt: &R,
+    alloc: Global,
+    file: &str,
+    opened: R::File,
+    task: &mut T,
+    reads: Failures<L>,
+    writer: &mut W,
+) -> Ending {
+    let mut reader = KeptPort::new(alloc, ReadPort::new(opened, reads));
+    let exit = task.perform(alloc, &mut reader, writer);
+    match exit {
+        Exit::DeviceFailed => device_failed(rt, alloc, file),
+        _ => with_reason(alloc, exit, Grammar::Trace, reader.tail()),
+    }
+}
+
+/// A device failed. The reason is the file where that is a folder, which can be opened and not read. Without memory
+/// there is no reason.
+fn device_failed<R: Files>(rt: &R, alloc: Global, file: &str) -> Ending {
+    let exit = Exit::DeviceFailed;
+    if is_folder(rt, file) {
+        let reason = format!(in alloc; "{file}: is a folder").ok();
+        Ending::Alone { exit, reason }
+    } else {
+        Ending::from(exit)
+    }
+}
+
+/// Whether a path is that of a folder.
+pub(crate) fn is_folder<R: Files>(rt: &R, file: &str) -> bool {
+    match fs::metadata(rt, file) {
+        Ok(found) => found.is_dir(),
+        Err(_) => false,
+    }
+}
+
+/// A file that cannot be opened is a device that failed, and the reason names it. Without memory there is no reason.
+pub(crate) fn not_opened(alloc: Global, file: &str, error: &io::Error) -> Ending {
+    let reason = format!(in alloc; "{file}: {error}");
+    Ending::Alone {
+        exit: Exit::DeviceFailed,
+        reason: reason.ok(),
+    }
+}

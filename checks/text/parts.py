@@ -4,7 +4,10 @@
 The histories are those of the scripts in checks/scripts/run and of the examples, cut into two and three files: `l4sh part` writes where each further one
 begins, with the outcomes taken or not. Of the files of one history `l4sh check` has to say `yes`. Then one line at a time of a base, or of what is kept, is
 changed, left out or put twice; the files come in another order, one comes twice, one is empty, torn, or no part; and an entry does not follow. Each time the
-file and the line have to be told that are at fault, and for an entry what the whole trace is told. The last line is `N passed, M failed`."""
+file and the line have to be told that are at fault, and for an entry what the whole trace is told.
+
+Of the files of one history `state`, `count`, `chart`, `follow` and `script` print what they print of the trace in one file; of files that are no history
+nothing, and the words of `check`. The last line is `N passed, M failed`."""
 
 import glob
 import os
@@ -20,6 +23,8 @@ from runs import ended, stored, trace_of, version_line
 HERE = f"{ROOT}/checks"
 NUMBERED = re.compile(rb"\d+")
 COUNT = re.compile(rb"no 1 \d+ (number|over) ")
+READERS = (["state"], ["state", "--at", "5"], ["count"], ["count", "--json"], ["chart", "--text"], ["chart", "--from", "3", "--html"], ["follow"],
+           ["follow", "--failures"], ["script"])
 # how many of the histories are cut at each of their places, and how many places of the others are tried
 PLACES = 12
 
@@ -42,6 +47,11 @@ class Files:
         """What `check` prints of these, with each name as its place; its status; and what it says on standard error."""
         printed, status, told = ended([self.l4sh, "check", *self.put(contents)])
         return printed.replace(self.room.encode() + b"/", b""), status, told
+
+    def read(self, words, *contents):
+        """The same of another command."""
+        printed, status, told = ended([self.l4sh, *words, *self.put(contents)])
+        return printed, status, told.replace(self.room.encode() + b"/", b"")
 
     def part(self, *contents, untaken=False):
         """The part that begins behind these; None where none does."""
@@ -156,6 +166,37 @@ def faults_of_orders(files, first, second):
             yield f"{name}: {there}"
 
 
+def faults_of_readers(files, whole, contents):
+    """What another command tells of these files, and not of the trace that is whole."""
+    for words in READERS:
+        alone, there = files.read(words, whole), files.read(words, *contents)
+        if there != alone:
+            yield f"{words}: {there}, wanted is {alone}"
+
+
+def faults_of_bad_files(files, first, second):
+    """What another command tells of files that are no history, or torn."""
+    verdict = files.check(first, second, second)[0].rstrip(b"\n")
+    last = second.count(b"\n")
+    for words in READERS:
+        whole = files.read(words, first, second)
+        if whole[1] != 0:
+            # an option that asks for more entries than there are
+            continue
+        rows = [
+            ("a part twice", (first, second, second), (b"", 3, b"l4sh: " + verdict + b"\n")),
+            ("a torn last file", (first, second + b"o"), (whole[0], 5, b"l4sh: torn: what came after line %d of 1 is not here\n" % last)),
+            ("a torn file before another", (first + b"o", second), (b"", 5, b"l4sh: torn: the file before 1 ends with a line that lacks its newline\n")),
+        ]
+        for name, contents, wanted in rows:
+            there = files.read(words, *contents)
+            if there != wanted:
+                yield f"{words}: {name}: {there}, wanted is {wanted}"
+        printed, status, told = files.read(words, second)
+        if (printed, status) != (b"", 2) or b"name the files before it" not in told:
+            yield f"{words}: a part alone: {(printed, status, told)}"
+
+
 def main():
     l4sh = sys.argv[1] if len(sys.argv) > 1 else f"{ROOT}/l4sh"
     passed = failed = 0
@@ -168,10 +209,12 @@ def main():
             begun = files.part(first, untaken=True)
             if begun is not None and len(lines) < 60:
                 rest = b"".join(lines[place:])
+                faults += faults_of_readers(files, header + b"".join(lines), (first, begun + rest))
                 faults += faults_of_bases(files, first, begun, rest)
                 faults += faults_of_entries(files, header, lines, place, begun, first)
                 if b"number" in begun and rest:
                     faults += faults_of_orders(files, first, begun + rest)
+                    faults += faults_of_bad_files(files, first, begun + rest)
             for fault in faults[:5]:
                 print(f"{name}: {fault}")
             passed, failed = (passed, failed + 1) if faults else (passed + 1, failed)

@@ -13,6 +13,8 @@ pub(crate) enum Question {
     State,
     /// What the server counts.
     Counters,
+    /// When moment 0 was.
+    Began,
 }
 
 impl Question {
@@ -21,6 +23,7 @@ impl Question {
         match self {
             Question::State => b"state\n",
             Question::Counters => b"counters\n",
+            Question::Began => b"began\n",
         }
     }
 }

@@ -13,6 +13,7 @@ use l4sh_chart::{Emptiness, Scene, Selection, scene_of};
 use l4sh_draw::{draw_html, draw_svg, draw_text};
 use l4sh_options::ChartOptions;
 use l4sh_threads::read_threads;
+use l4sh_times::Times;
 use std::alloc::{AllocError, Global};
 
 /// Draws the trace of a reader as a sequence chart and prints it, over the whole lines where the last
@@ -24,6 +25,7 @@ use std::alloc::{AllocError, Global};
 pub fn chart_trace<R: PortRead, W: PortWrite>(
     alloc: Global,
     options: &ChartOptions<'_>,
+    times: Times,
     reader: &mut R,
     writer: &mut W,
 ) -> Exit
@@ -34,7 +36,7 @@ pub fn chart_trace<R: PortRead, W: PortWrite>(
     ensures silent { IsSilent result → W.written writer.new ≡ W.written writer.old }
 {
     match selection_of(alloc, options) {
-        Ok(Some(selection)) => chart_selected(alloc, options, &selection, reader, writer),
+        Ok(Some(selection)) => chart_selected(alloc, options, &selection, times, reader, writer),
         Ok(None) => Exit::BadThreads,
         Err(_) => Exit::NoMemory,
     }
@@ -45,6 +47,7 @@ fn chart_selected<R: PortRead, W: PortWrite>(
     alloc: Global,
     options: &ChartOptions<'_>,
     selection: &Selection,
+    times: Times,
     reader: &mut R,
     writer: &mut W,
 ) -> Exit
@@ -56,15 +59,30 @@ fn chart_selected<R: PortRead, W: PortWrite>(
 {
     let read = read_trace(alloc, reader);
     match read.end {
-        TraceEnd::Whole => print_chart(alloc, &read, options, selection, writer),
+        TraceEnd::Whole => print_chart(alloc, &read, options, selection, times, writer),
         TraceEnd::Torn => {
-            let exit = print_chart(alloc, &read, options, selection, writer);
+            let exit = print_chart(alloc, &read, options, selection, times, writer);
             torn_behind(&read, exit)
         }
         TraceEnd::BadLine(number) => Exit::BadLine(number),
         TraceEnd::UnknownVersion => Exit::UnknownVersion,
         TraceEnd::DeviceFailed => Exit::DeviceFailed,
         TraceEnd::NoMemory => Exit::NoMemory,
+    }
+}
+
+/// Draws the entries that were read as `chart_trace` does.
+pub(crate) fn chart_read<W: PortWrite>(
+    alloc: Global,
+    options: &ChartOptions<'_>,
+    times: Times,
+    read: &TraceRead,
+    writer: &mut W,
+) -> Exit {
+    match selection_of(alloc, options) {
+        Ok(Some(selection)) => print_chart(alloc, read, options, &selection, times, writer),
+        Ok(None) => Exit::BadThreads,
+        Err(_) => Exit::NoMemory,
     }
 }
 
@@ -98,6 +116,7 @@ fn print_chart<W: PortWrite>(
     read: &TraceRead,
     options: &ChartOptions<'_>,
     selection: &Selection,
+    times: Times,
     writer: &mut W,
 ) -> Exit
     ensures drawn { IsDrawnOf read.now.version (take options.now.to read.now.entries.items) result }
@@ -106,7 +125,7 @@ fn print_chart<W: PortWrite>(
         → W.written writer.new ≡ W.written writer.old }
 {
     match check(front(&read.entries, options.to as usize)) {
-        Verdict::Yes => print_legal(alloc, &read.entries, options, selection, writer),
+        Verdict::Yes => print_legal(alloc, &read.entries, options, selection, times, writer),
         Verdict::No { index, .. } => illegal_at(read.version, index),
     }
 }
@@ -117,6 +136,7 @@ fn print_legal<W: PortWrite>(
     entries: &[Entry],
     options: &ChartOptions<'_>,
     selection: &Selection,
+    times: Times,
     writer: &mut W,
 ) -> Exit
     ensures ends { MayDraw result }
@@ -125,7 +145,7 @@ fn print_legal<W: PortWrite>(
         → W.written writer.new ≡ W.written writer.old }
 {
     match scene_of(alloc, entries, selection, !options.is_unfolded) {
-        Ok(scene) => print_scene(alloc, &scene, entries, options, selection, writer),
+        Ok(scene) => print_scene(alloc, &scene, entries, options, selection, times, writer),
         Err(_) => Exit::NoMemory,
     }
 }
@@ -137,6 +157,7 @@ fn print_scene<W: PortWrite>(
     entries: &[Entry],
     options: &ChartOptions<'_>,
     selection: &Selection,
+    times: Times,
     writer: &mut W,
 ) -> Exit
     ensures ends { MayDraw result }
@@ -148,7 +169,7 @@ fn print_scene<W: PortWrite>(
     if let Some(emptiness) = selection.emptiness(count, scene.rows.len()) {
         return Exit::NoChart(fault_of(emptiness, count));
     }
-    let Ok(picture) = picture_of(alloc, scene, entries, options) else {
+    let Ok(picture) = picture_of(alloc, scene, entries, options, times) else {
         return Exit::NoMemory;
     };
     match put(writer, picture.as_bytes()) {
@@ -170,13 +191,14 @@ fn picture_of(
     scene: &Scene,
     entries: &[Entry],
     options: &ChartOptions<'_>,
+    times: Times,
 ) -> Result<String, AllocError> {
     if options.is_text {
-        draw_text(alloc, scene, entries, options.width as usize)
+        draw_text(alloc, scene, entries, options.width as usize, times)
     } else if options.is_html || options.page > 0 {
-        draw_html(alloc, scene, entries, options.page as usize)
+        draw_html(alloc, scene, entries, options.page as usize, times)
     } else {
-        draw_svg(alloc, scene, entries)
+        draw_svg(alloc, scene, entries, times)
     }
 }
 

@@ -5,7 +5,6 @@ use crate::ending::{Ending, told};
 use crate::exit::Exit;
 use crate::opening::{Task, look};
 use ipc_chain::lines_before;
-use ipc_history::Entry;
 use ipc_part::{Part, PartFault, PartRead, read_part};
 use ipc_ports::{Failures, PortRead, PortWrite};
 use ipc_trace::{TraceEnd, TraceRead, TraceVersion, read_trace};
@@ -72,8 +71,7 @@ impl Task for NextFile {
 /// What was read of the files of one history.
 #[derive(Drop)]
 pub(crate) struct History {
-    pub(crate) version: TraceVersion,
-    pub(crate) entries: Vec<Entry>,
+    pub(crate) first: TraceRead,
     pub(crate) parts: Vec<Part>,
     /// By part, how many lines stand before the entries that came since.
     pub(crate) before: Vec<u64>,
@@ -89,8 +87,11 @@ pub(crate) fn read_files<R: Files + Input, W: PortWrite>(
     writer: &mut W,
 ) -> Result<History, Ending> {
     let mut history = History {
-        version: TraceVersion::One,
-        entries: Vec::new(alloc),
+        first: TraceRead {
+            version: TraceVersion::One,
+            entries: Vec::new(alloc),
+            end: TraceEnd::Whole,
+        },
         parts: Vec::new(alloc),
         before: Vec::new(alloc),
         is_torn: false,
@@ -130,8 +131,7 @@ impl History {
                 },
             ) => {
                 self.is_torn = matches!(read.end, TraceEnd::Torn);
-                self.version = read.version;
-                self.entries = read.entries;
+                self.first = read;
                 Ok(())
             }
             (_, ending) => Err(of_file(alloc, file, ending)),

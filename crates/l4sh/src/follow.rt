@@ -9,6 +9,7 @@ use ipc_words::ThreadId;
 use l4sh_follow::{Follower, Selection, read_label};
 use l4sh_options::FollowOptions;
 use l4sh_threads::read_threads;
+use l4sh_times::Times;
 use std::alloc::Global;
 
 /// Tells the entries of the trace of a reader in words, each as soon as its line is there, to the end of the
@@ -19,6 +20,7 @@ use std::alloc::Global;
 pub fn follow_trace<R: PortRead, W: PortWrite>(
     alloc: Global,
     options: &FollowOptions<'_>,
+    times: Times,
     reader: &mut R,
     writer: &mut W,
 ) -> Exit
@@ -28,7 +30,7 @@ pub fn follow_trace<R: PortRead, W: PortWrite>(
 {
     match selection_of(alloc, options) {
         Ok(selection) => {
-            let mut follower = Follower::new(alloc, selection);
+            let mut follower = Follower::new(alloc, selection, times);
             follow_with(alloc, &mut follower, reader, writer)
         }
         Err(fault) => fault.exit(),
@@ -81,6 +83,33 @@ fn follow_lines<R: PortRead, W: PortWrite>(
             LineEnd::NoMemory => return Exit::NoMemory,
         }
     }
+}
+
+/// Tells these entries in words.
+pub(crate) fn follow_entries<W: PortWrite>(
+    alloc: Global,
+    options: &FollowOptions<'_>,
+    times: Times,
+    entries: &[Entry],
+    writer: &mut W,
+) -> Exit {
+    match selection_of(alloc, options) {
+        Ok(selection) => {
+            let mut follower = Follower::new(alloc, selection, times);
+            tell_entries(&mut follower, entries, writer)
+        }
+        Err(fault) => fault.exit(),
+    }
+}
+
+// The same by this follower.
+fn tell_entries<W: PortWrite>(follower: &mut Follower, entries: &[Entry], writer: &mut W) -> Exit {
+    for entry in entries {
+        if let Some(exit) = tell_entry(follower, entry, writer) {
+            return exit;
+        }
+    }
+    Exit::Done
 }
 
 // Why nothing is told.

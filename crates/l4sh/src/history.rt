@@ -7,7 +7,7 @@ use ipc_history::{Entry, Output};
 use ipc_lines::entry_line;
 use ipc_ports::PortWrite;
 use ipc_shell::put;
-use ipc_trace::{PutFault, TraceVersion, TraceWriter};
+use ipc_trace::{PutFault, TraceRead, TraceVersion, TraceWriter};
 use std::alloc::{AllocError, Global};
 use std::rt::Files;
 
@@ -48,12 +48,16 @@ fn check_history<W: PortWrite>(
     writer: &mut W,
 ) -> Ending {
     let History {
-        version,
-        entries,
+        first,
         parts,
         before,
         is_torn,
     } = history;
+    let TraceRead {
+        version,
+        entries,
+        ..
+    } = first;
     let Ok(verdict) = check_chain(alloc, entries, parts) else {
         return Ending::from(Exit::NoMemory);
     };
@@ -73,12 +77,16 @@ fn part_history<W: PortWrite>(
     writer: &mut W,
 ) -> Ending {
     let History {
-        version,
-        entries,
+        first,
         parts,
         before,
         is_torn,
     } = history;
+    let TraceRead {
+        version,
+        entries,
+        ..
+    } = first;
     if is_torn {
         return told(
             5,
@@ -128,7 +136,7 @@ fn print_text<W: PortWrite>(
 }
 
 /// The lines of a verdict.
-fn verdict_text(
+pub(crate) fn verdict_text(
     alloc: Global,
     files: &[&str],
     version: TraceVersion,
@@ -168,7 +176,7 @@ fn verdict_text(
 }
 
 /// The number of the line of an entry of a file.
-fn line_of(version: TraceVersion, before: &[u64], file: usize, index: usize) -> u64 {
+pub(crate) fn line_of(version: TraceVersion, before: &[u64], file: usize, index: usize) -> u64 {
     let part = match file.checked_sub(1) {
         Some(place) => before.get(place),
         None => None,

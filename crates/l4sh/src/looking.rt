@@ -11,10 +11,11 @@ use ipc_history::Entry;
 use ipc_ports::{PortRead, PortWrite};
 use ipc_shell::put;
 use ipc_trace::{TraceEnd, TraceRead, TraceVersion, read_trace};
-use l4sh_count::{CountFault, Event, events_of, grouped, json_of, tell_counts};
+use l4sh_count::{CountFault, Event, Span, events_of, grouped, json_of, span_of, tell_counts};
 use l4sh_explain::Told;
 use l4sh_script::script_of;
 use l4sh_state::{State, drops_of, state_of, tell_state};
+use l4sh_times::{Times, timed_state};
 use std::alloc::{AllocError, Global};
 
 /// What is asked of a trace.
@@ -37,6 +38,7 @@ pub enum Look {
 pub fn look_at_trace<R: PortRead, W: PortWrite>(
     alloc: Global,
     look: Look,
+    times: Times,
     reader: &mut R,
     writer: &mut W,
 ) -> Exit
@@ -48,9 +50,9 @@ pub fn look_at_trace<R: PortRead, W: PortWrite>(
 {
     let read = read_trace(alloc, reader);
     match read.end {
-        TraceEnd::Whole => tell(alloc, look, &read, writer),
+        TraceEnd::Whole => tell(alloc, look, times, &read, writer),
         TraceEnd::Torn => {
-            let exit = tell(alloc, look, &read, writer);
+            let exit = tell(alloc, look, times, &read, writer);
             torn_behind(&read, exit)
         }
         TraceEnd::BadLine(number) => Exit::BadLine(number),
@@ -60,8 +62,14 @@ pub fn look_at_trace<R: PortRead, W: PortWrite>(
     }
 }
 
-// Prints what is asked of the entries that were read.
-fn tell<W: PortWrite>(alloc: Global, look: Look, read: &TraceRead, writer: &mut W) -> Exit
+// Prints what is asked of the entries that were read, with moments by these times.
+pub(crate) fn tell<W: PortWrite>(
+    alloc: Global,
+    look: Look,
+    times: Times,
+    read: &TraceRead,
+    writer: &mut W,
+) -> Exit
     ensures said { IsSaidOf read.now.version (shown_of look read.now.entries.items) result }
     ensures failed { result ≡ Exit.DeviceFailed → W.failures writer.old < W.failures writer.new }
     ensures silent { result ≢ Exit.Done → result ≢ Exit.DeviceFailed
@@ -70,8 +78,10 @@ fn tell<W: PortWrite>(alloc: Global, look: Look, read: &TraceRead, writer: &mut 
     let (version, entries) = (read.version, read.entries.as_slice());
     match look {
         Look::Script => print_script(alloc, version, entries, writer),
-        Look::StateAt(count) => print_state(alloc, version, front(entries, count), writer),
-        Look::Counts { is_json } => print_counts(alloc, version, entries, is_json, writer),
+        Look::StateAt(count) => print_state(alloc, version, front(entries, count), times, writer),
+        Look::Counts { is_json } => {
+            print_counts(alloc, version, entries, is_json, times, writer)
+        }
     }
 }
 
@@ -81,6 +91,7 @@ fn print_counts<W: PortWrite>(
     version: TraceVersion,
     entries: &[Entry],
     is_json: bool,
+    times: Times,
     writer: &mut W,
 ) -> Exit
     ensures said { IsSaidOf version entries.now result }
@@ -89,19 +100,36 @@ fn print_counts<W: PortWrite>(
         → W.written writer.new ≡ W.written writer.old }
 {
     match events_of(alloc, entries) {
-        Ok(events) => print(counts_text(alloc, &events, is_json), writer),
+        Ok(events) => {
+            let span = timed_span(entries, times);
+            print(counts_text(alloc, &events, is_json, span), writer)
+        }
         Err(CountFault::Illegal(index)) => illegal_at(version, index),
         Err(CountFault::NoMemory) => Exit::NoMemory,
     }
 }
 
+// From when to when the entries go, where that is told as times of day.
+fn timed_span(entries: &[Entry], times: Times) -> Option<Span> {
+    if times.are_of_day() {
+        Some(span_of(entries, times))
+    } else {
+        None
+    }
+}
+
 // The counts of events, in JSON or in words.
-fn counts_text(alloc: Global, events: &[Event], is_json: bool) -> Result<String, AllocError> {
+fn counts_text(
+    alloc: Global,
+    events: &[Event],
+    is_json: bool,
+    span: Option<Span>,
+) -> Result<String, AllocError> {
     let groups = grouped(alloc, events)?;
     if is_json {
-        json_of(alloc, &groups, events)
+        json_of(alloc, &groups, events, span)
     } else {
-        tell_counts(alloc, &groups, events)
+        tell_counts(alloc, &groups, events, span)
     }
 }
 
@@ -128,6 +156,7 @@ fn print_state<W: PortWrite>(
     alloc: Global,
     version: TraceVersion,
     entries: &[Entry],
+    times: Times,
     writer: &mut W,
 ) -> Exit
     ensures said { IsSaidOf version entries.now result }
@@ -136,17 +165,23 @@ fn print_state<W: PortWrite>(
         → W.written writer.new ≡ W.written writer.old }
 {
     match state_of(entries) {
-        Ok(state) => print(state_text(alloc, &state, entries), writer),
+        Ok(state) => print(state_text(alloc, &state, entries, times), writer),
         Err(index) => illegal_at(version, index),
     }
 }
 
 // The state of the threads after these entries, in words.
-fn state_text(alloc: Global, state: &State, entries: &[Entry]) -> Result<String, AllocError> {
+fn state_text(
+    alloc: Global,
+    state: &State,
+    entries: &[Entry],
+    times: Times,
+) -> Result<String, AllocError> {
     let drops = drops_of(alloc, entries)?;
-    let text = tell_state(alloc, state, &drops);
+    let told = tell_state(alloc, state, &drops);
     drop(drops);
-    text
+    let text = told?;
+    timed_state(alloc, text.as_str(), times)
 }
 
 // The first entries, so many, or all where there are fewer.

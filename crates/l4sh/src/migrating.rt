@@ -32,8 +32,15 @@ impl<N: PortWrite> Task for TraceWriter<N> {
 /// The files of a migration: the trace that is read, and the one that is written.
 #[derive(Clone, Copy)]
 pub(crate) struct Migration<'a> {
-    pub(crate) old: &'a str,
-    pub(crate) new: &'a str,
+    old: &'a str,
+    new: &'a str,
+}
+
+impl<'a> Migration<'a> {
+    /// That of the first file into the second.
+    pub(crate) fn new(old: &'a str, new: &'a str) -> Migration<'a> {
+        Migration { old, new }
+    }
 }
 
 /// Writes the trace of a file, or of standard input, anew into a file, which is made at its first write.

@@ -2,9 +2,9 @@
 use crate::ending::Ending;
 use crate::history::part_files;
 use crate::inputs::{run_input, talk_from_input, talk_over_input, wire_input};
-use crate::looking::{Look, print_answer};
+use crate::looking::print_answer;
 use crate::migrating::{Migration, migrate_file};
-use crate::printing::{chart_file, check_of, count_of, follow_file, look_at_file, state_of};
+use crate::printing::{chart_of, check_of, count_of, follow_of, script_in, state_of};
 use ipc_ports::{Failures, PortWrite};
 use l4sh_explain::{Told, answer_period, answer_tag, explain};
 use l4sh_options::ShellOptions;
@@ -28,21 +28,21 @@ pub(crate) fn obey_into<L: Ledger, R: Files + Input + Eprint + Net, W: PortWrite
         ShellOptions::Part { files, is_untaken } => {
             part_files(rt, alloc, files.as_slice(), *is_untaken, writer)
         }
-        ShellOptions::Chart(chart) => chart_file(rt, alloc, chart, reads, writer),
-        ShellOptions::State(state) => state_of(rt, alloc, state, reads, writer),
-        ShellOptions::Script { file } => {
-            look_at_file(rt, alloc, *file, Look::Script, reads, writer)
+        ShellOptions::Chart { files, chart } => {
+            chart_of(rt, alloc, files.as_slice(), chart, reads, writer)
         }
-        ShellOptions::Count { file, is_json } => {
-            count_of(rt, alloc, *file, *is_json, reads, writer)
+        ShellOptions::State { files, state } => {
+            state_of(rt, alloc, files.as_slice(), state, reads, writer)
         }
-        ShellOptions::Follow(follow) => follow_file(rt, alloc, follow, reads, writer),
+        ShellOptions::Script { files } => script_in(rt, alloc, files.as_slice(), reads, writer),
+        ShellOptions::Count { files, count } => {
+            count_of(rt, alloc, files.as_slice(), count, reads, writer)
+        }
+        ShellOptions::Follow { files, follow } => {
+            follow_of(rt, alloc, files.as_slice(), follow, reads, writer)
+        }
         ShellOptions::Migrate { old, new } => {
-            let files = Migration {
-                old: *old,
-                new: *new,
-            };
-            migrate_file(rt, alloc, &files, reads, writer)
+            migrate_file(rt, alloc, &Migration::new(*old, *new), reads, writer)
         }
         ShellOptions::Talk => talk_over_input(rt, alloc, reads, writer),
         ShellOptions::TalkTo(talk) => talk_from_input(rt, alloc, talk, reads, writer),

@@ -1,17 +1,22 @@
 //! What is printed of a trace, or of a live server.
 use crate::asking::{Question, ask_server};
-use crate::chart::{chart_reason, chart_trace, has_two_forms};
+use crate::began::times_of;
+use crate::chart::{chart_read, chart_reason, chart_trace, has_two_forms};
 use crate::ending::{Ending, exit_alone};
 use crate::exit::{ChartFault, Exit};
-use crate::follow::follow_trace;
+use crate::follow::{follow_entries, follow_trace};
 use crate::history::check_files;
-use crate::looking::{Look, look_at_trace};
+use crate::live_state::live_state;
+use crate::looking::{Look, look_at_trace, tell};
 use crate::opening::{Task, is_folder, look};
+use crate::several::print_files;
 use crate::threads::{label_reason, threads_reason};
 use ipc_ports::{Failures, PortRead, PortWrite};
 use ipc_shell::check_trace;
+use ipc_trace::TraceRead;
 use ipc_words::limits::MAX_CHART_ENTRY;
-use l4sh_options::{ChartOptions, FollowOptions, StateOptions};
+use l4sh_options::{ChartOptions, CountOptions, FollowOptions, StateOptions};
+use l4sh_times::Times;
 use std::alloc::Global;
 use std::net::Net;
 use std::rt::Files;
@@ -20,10 +25,27 @@ use std::sync::ledger::Ledger;
 /// What is printed of a trace.
 #[derive(Clone, Copy)]
 pub(crate) enum Printing<'a> {
-    Check,
-    Chart(ChartOptions<'a>),
-    Look(Look),
-    Follow(FollowOptions<'a>),
+    Chart(ChartOptions<'a>, Times),
+    Look(Look, Times),
+    Follow(FollowOptions<'a>, Times),
+}
+
+impl Printing<'_> {
+    /// Prints it of a trace that was read.
+    pub(crate) fn print<W: PortWrite>(
+        &self,
+        alloc: Global,
+        read: &TraceRead,
+        writer: &mut W,
+    ) -> Exit {
+        match self {
+            Printing::Chart(options, times) => chart_read(alloc, options, *times, read, writer),
+            Printing::Look(look, times) => tell(alloc, *look, *times, read, writer),
+            Printing::Follow(options, times) => {
+                follow_entries(alloc, options, *times, &read.entries, writer)
+            }
+        }
+    }
 }
 
 impl Task for Printing<'_> {
@@ -33,12 +55,30 @@ impl Task for Printing<'_> {
         reader: &mut R,
         writer: &mut W,
     ) -> Exit {
-        match self {
-            Printing::Check => Exit::from(check_trace(alloc, reader, writer)),
-            Printing::Chart(options) => chart_trace(alloc, options, reader, writer),
-            Printing::Look(look) => look_at_trace(alloc, *look, reader, writer),
-            Printing::Follow(options) => follow_trace(alloc, options, reader, writer),
+        match *self {
+            Printing::Chart(options, times) => {
+                chart_trace(alloc, &options, times, reader, writer)
+            }
+            Printing::Look(look, times) => look_at_trace(alloc, look, times, reader, writer),
+            Printing::Follow(options, times) => {
+                follow_trace(alloc, &options, times, reader, writer)
+            }
         }
+    }
+}
+
+/// A trace is checked.
+#[derive(Clone, Copy)]
+struct Checking;
+
+impl Task for Checking {
+    fn perform<R: PortRead, W: PortWrite>(
+        &mut self,
+        alloc: Global,
+        reader: &mut R,
+        writer: &mut W,
+    ) -> Exit {
+        Exit::from(check_trace(alloc, reader, writer))
     }
 }
 
@@ -51,46 +91,61 @@ pub(crate) fn check_of<L: Ledger, R: Files + Input, W: PortWrite>(
     writer: &mut W,
 ) -> Ending {
     match files {
-        [file] => print_of(rt, alloc, *file, Printing::Check, reads, writer),
+        [file] => look(rt, alloc, *file, &mut Checking, reads, writer),
         _ => check_files(rt, alloc, files, writer),
     }
 }
 
-/// Tells the state of the threads of a trace, or of a live server where a folder is named.
+/// Tells the state of the threads of a history, or of a live server where a folder is named.
 pub(crate) fn state_of<L: Ledger, R: Files + Input + Net, W: PortWrite>(
     rt: &R,
     alloc: Global,
-    options: &StateOptions<'_>,
+    files: &[&str],
+    options: &StateOptions,
     reads: Failures<L>,
     writer: &mut W,
 ) -> Ending {
-    if !is_folder(rt, options.file) {
-        return state_of_file(rt, alloc, options, reads, writer);
-    }
+    let Some(dir) = folder_in(rt, files) else {
+        let look = Look::StateAt(options.at as usize);
+        return look_at_files(rt, alloc, files, look, options.is_timed, reads, writer);
+    };
     if u64::from(options.at) < MAX_CHART_ENTRY {
-        return only_of_traces(alloc, options.file, "--at");
+        return only_of_traces(alloc, dir, "--at");
     }
-    let (exit, reason) = ask_server(rt, alloc, options.file, Question::State, writer);
-    Ending::Alone { exit, reason }
+    live_state(rt, alloc, dir, options.is_timed, writer)
 }
 
-/// Counts what a trace tells, or tells the counters of a live server where a folder is named.
+/// Counts what a history tells, or tells the counters of a live server where a folder is named.
 pub(crate) fn count_of<L: Ledger, R: Files + Input + Net, W: PortWrite>(
     rt: &R,
     alloc: Global,
-    file: &str,
-    is_json: bool,
+    files: &[&str],
+    options: &CountOptions,
     reads: Failures<L>,
     writer: &mut W,
 ) -> Ending {
-    if !is_folder(rt, file) {
-        return look_at_file(rt, alloc, file, Look::Counts { is_json }, reads, writer);
+    let Some(dir) = folder_in(rt, files) else {
+        let look = Look::Counts {
+            is_json: options.is_json,
+        };
+        return look_at_files(rt, alloc, files, look, options.is_timed, reads, writer);
+    };
+    if options.is_json {
+        return only_of_traces(alloc, dir, "--json");
     }
-    if is_json {
-        return only_of_traces(alloc, file, "--json");
+    if options.is_timed {
+        return only_of_traces(alloc, dir, "--time");
     }
-    let (exit, reason) = ask_server(rt, alloc, file, Question::Counters, writer);
+    let (exit, reason) = ask_server(rt, alloc, dir, Question::Counters, writer);
     Ending::Alone { exit, reason }
+}
+
+/// The folder that stands in place of files.
+fn folder_in<'a, R: Files>(rt: &R, files: &[&'a str]) -> Option<&'a str> {
+    match files {
+        [file] if is_folder(rt, *file) => Some(*file),
+        _ => None,
+    }
 }
 
 /// An option that a live server does not take. Without memory there is no reason.
@@ -101,46 +156,54 @@ fn only_of_traces(alloc: Global, file: &str, option: &str) -> Ending {
     }
 }
 
-/// Tells the state of the threads of a trace.
-fn state_of_file<L: Ledger, R: Files + Input, W: PortWrite>(
+/// Prints the script whose history these files are.
+pub(crate) fn script_in<L: Ledger, R: Files + Input, W: PortWrite>(
     rt: &R,
     alloc: Global,
-    options: &StateOptions<'_>,
+    files: &[&str],
     reads: Failures<L>,
     writer: &mut W,
 ) -> Ending {
-    let look = Look::StateAt(options.at as usize);
-    look_at_file(rt, alloc, options.file, look, reads, writer)
+    look_at_files(rt, alloc, files, Look::Script, false, reads, writer)
 }
 
-/// Prints what is asked of the trace of a file, or of standard input.
-pub(crate) fn look_at_file<L: Ledger, R: Files + Input, W: PortWrite>(
+/// Prints what is asked of the history of files, or of standard input.
+fn look_at_files<L: Ledger, R: Files + Input, W: PortWrite>(
     rt: &R,
     alloc: Global,
-    file: &str,
+    files: &[&str],
     look: Look,
+    is_timed: bool,
     reads: Failures<L>,
     writer: &mut W,
 ) -> Ending {
-    print_of(rt, alloc, file, Printing::Look(look), reads, writer)
+    match times_of(rt, alloc, files, is_timed) {
+        Ok(times) => print_of(rt, alloc, files, Printing::Look(look, times), reads, writer),
+        Err(ending) => ending,
+    }
 }
 
-/// Prints this of the trace of a file, or of standard input.
+/// Prints this of the history of files, or of standard input.
 fn print_of<L: Ledger, R: Files + Input, W: PortWrite>(
     rt: &R,
     alloc: Global,
-    file: &str,
-    mut printing: Printing<'_>,
+    files: &[&str],
+    printing: Printing<'_>,
     reads: Failures<L>,
     writer: &mut W,
 ) -> Ending {
-    look(rt, alloc, file, &mut printing, reads, writer)
+    let mut printing = printing;
+    match files {
+        [file] => look(rt, alloc, *file, &mut printing, reads, writer),
+        _ => print_files(rt, alloc, files, &printing, writer),
+    }
 }
 
-/// Draws the trace of a file, or of standard input.
-pub(crate) fn chart_file<L: Ledger, R: Files + Input, W: PortWrite>(
+/// Draws the history of files, or of standard input.
+pub(crate) fn chart_of<L: Ledger, R: Files + Input, W: PortWrite>(
     rt: &R,
     alloc: Global,
+    files: &[&str],
     options: &ChartOptions<'_>,
     reads: Failures<L>,
     writer: &mut W,
@@ -148,21 +211,30 @@ pub(crate) fn chart_file<L: Ledger, R: Files + Input, W: PortWrite>(
     if has_two_forms(options) {
         return no_chart(alloc, options, ChartFault::TwoForms);
     }
-    let printing = Printing::Chart(*options);
-    let ending = print_of(rt, alloc, options.file, printing, reads, writer);
+    let times = match times_of(rt, alloc, files, options.is_timed) {
+        Ok(times) => times,
+        Err(ending) => return ending,
+    };
+    let printing = Printing::Chart(*options, times);
+    let ending = print_of(rt, alloc, files, printing, reads, writer);
     told_chart(alloc, options, &ending).unwrap_or(ending)
 }
 
-/// Tells the trace of a file, or of standard input, in words.
-pub(crate) fn follow_file<L: Ledger, R: Files + Input, W: PortWrite>(
+/// Tells the history of files, or of standard input, in words.
+pub(crate) fn follow_of<L: Ledger, R: Files + Input, W: PortWrite>(
     rt: &R,
     alloc: Global,
+    files: &[&str],
     options: &FollowOptions<'_>,
     reads: Failures<L>,
     writer: &mut W,
 ) -> Ending {
-    let printing = Printing::Follow(*options);
-    let ending = print_of(rt, alloc, options.file, printing, reads, writer);
+    let times = match times_of(rt, alloc, files, options.is_timed) {
+        Ok(times) => times,
+        Err(ending) => return ending,
+    };
+    let printing = Printing::Follow(*options, times);
+    let ending = print_of(rt, alloc, files, printing, reads, writer);
     told_follow(alloc, options, &ending).unwrap_or(ending)
 }
 

@@ -1,15 +1,29 @@
 use crate::event::Event;
 use crate::groups::Groups;
 use crate::row::{Row, Waits, row_of};
+use crate::span::Span;
 use ipc_lines::IdText;
 use ipc_words::ThreadId;
 use std::alloc::{AllocError, Global};
 
-/// The counts as a JSON object: `pairs`, an object for each pair of threads in the order of their words,
-/// and `all`, all together. Times are in microseconds; null without a message.
-pub fn json_of(alloc: Global, groups: &Groups, events: &[Event]) -> Result<String, AllocError> {
+/// The counts as a JSON object: `first` and `last`, when the first and the last entry came, where that is told; `pairs`, an object for each
+/// pair of threads in the order of their words; and `all`, all together. Times are in microseconds; null without a message.
+pub fn json_of(
+    alloc: Global,
+    groups: &Groups,
+    events: &[Event],
+    span: Option<Span>,
+) -> Result<String, AllocError> {
     let mut text = String::new(alloc);
-    text.push_str("{\"pairs\": [")?;
+    text.push_str("{")?;
+    if let Some(span) = span {
+        write!(
+            text,
+            "\"first\": \"{}\", \"last\": \"{}\", ",
+            span.first, span.last
+        )?;
+    }
+    text.push_str("\"pairs\": [")?;
     let mut is_first = true;
     for (pair, of_pair) in groups {
         text.push_str(if is_first { "\n" } else { ",\n" })?;

@@ -1,6 +1,7 @@
 use crate::event::Event;
 use crate::groups::Groups;
 use crate::row::{Row, Waits, row_of};
+use crate::span::Span;
 use ipc_lines::IdText;
 use ipc_words::ThreadId;
 use std::alloc::{AllocError, Global};
@@ -19,10 +20,18 @@ const HEADS: [(&str, usize); 7] = [
     ("sends took", WIDTHS[6]),
 ];
 
-/// The counts in words: what the times are, a line of heads, a line for each pair of threads in the order
-/// of their words, and one for all together. Times are in microseconds.
-pub fn tell_counts(alloc: Global, groups: &Groups, events: &[Event]) -> Result<String, AllocError> {
+/// The counts in words: from when to when, where that is told, what the times are, a line of heads, a line for each pair of threads in the
+/// order of their words, and one for all together. Times are in microseconds.
+pub fn tell_counts(
+    alloc: Global,
+    groups: &Groups,
+    events: &[Event],
+    span: Option<Span>,
+) -> Result<String, AllocError> {
     let mut text = String::new(alloc);
+    if let Some(span) = span {
+        write!(text, "from {} to {}\n", span.first, span.last)?;
+    }
     tell_heads(&mut text)?;
     for (pair, of_pair) in groups {
         let (from, to) = *pair;

@@ -5,12 +5,19 @@ use crate::words::{call_of, put_receiver, put_shown, put_waits_after, thread_at}
 use ipc_history::{Call, Entry};
 use ipc_words::{Period, ThreadId};
 use l4sh_chart::{Mark, Row, Scene};
+use l4sh_times::Times;
 
 /// What is told of a row where it is pointed at: its entry, its moment, its threads, and of a call the words of its message and its
 /// timeouts, a line each.
-pub(crate) fn put_details(ink: &mut Ink, scene: &Scene, entries: &[Entry], row: &Row) {
+pub(crate) fn put_details(
+    ink: &mut Ink,
+    scene: &Scene,
+    entries: &[Entry],
+    row: &Row,
+    times: Times,
+) {
     ink.between("entry ", (row.place as u64).saturating_add(1), ", at ");
-    ink.between("", row.moment, " µs");
+    ink.moment(row.moment, times);
     put_threads(ink, scene, row);
     put_waits_after(ink, "\n", row);
     if let Some((number, call)) = call_of(entries, row) {

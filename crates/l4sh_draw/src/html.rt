@@ -7,6 +7,7 @@ use crate::style::{PAGE_STYLE, SCRIPT, STYLE};
 use crate::svg::{put_head, put_paper};
 use ipc_history::Entry;
 use l4sh_chart::Scene;
+use l4sh_times::Times;
 use std::alloc::{AllocError, Global};
 
 /// So many rows are on a page where it is not said.
@@ -23,16 +24,17 @@ const FIELDS: &str = "</head>\n<body>\n<header>\n<label>Find <input id=\"field\"
     <label>Page <input id=\"page\" type=\"number\" style=\"width: 6em\" ";
 
 /// Draws a scene of these entries as an HTML page that needs nothing else: a field that finds rows, a legend, and a picture for each so
-/// many rows; 0: 200.
+/// many rows; 0: 200. Moments are told by these times.
 pub fn draw_html(
     alloc: Global,
     scene: &Scene,
     entries: &[Entry],
     rows: usize,
+    times: Times,
 ) -> Result<String, AllocError> {
     let rows = if rows == 0 { ROWS_OF_PAGE } else { rows };
     let mut ink = Ink::new(alloc);
-    let done = draw_page(alloc, &mut ink, scene, entries, rows);
+    let done = draw_page(alloc, &mut ink, scene, entries, rows, times);
     ink.keep(done);
     ink.finish()
 }
@@ -43,33 +45,37 @@ fn draw_page(
     scene: &Scene,
     entries: &[Entry],
     rows: usize,
+    times: Times,
 ) -> Result<(), AllocError> {
     let layout = Layout::of(alloc, scene, entries)?;
     let pages = pages_of(alloc, &scene.folds, rows)?;
     put_top(ink, pages.len() as u64);
     put_legend(alloc, ink, scene, &layout);
-    let done = draw_pictures(alloc, ink, scene, entries, layout, &pages);
+    let done = match Sheet::new(alloc, scene, layout, 0, times) {
+        Ok(sheet) => draw_pictures(ink, scene, entries, sheet, &pages),
+        Err(lost) => Err(lost),
+    };
     drop(pages);
     ink.put(SCRIPT);
     ink.put("</body>\n</html>\n");
     done
 }
 
-// A picture for each of these pages.
+// A picture for each of these pages, drawn on this sheet.
 fn draw_pictures(
-    alloc: Global,
     ink: &mut Ink,
     scene: &Scene,
     entries: &[Entry],
-    layout: Layout,
+    sheet: Sheet,
     pages: &[Page],
 ) -> Result<(), AllocError> {
-    let mut sheet = Sheet::new(alloc, scene, layout, 0)?;
+    let mut sheet = sheet;
+    let width = sheet.width();
     for (place, page) in pages.iter().enumerate() {
         sheet.draw(scene, entries, page);
         let height = sheet.bottom().saturating_add(8);
         put_page_head(ink, scene, page, (place as u64).saturating_add(1), height);
-        put_head(ink, layout.width, height);
+        put_head(ink, width, height);
         put_paper(ink);
         sheet.end_page(ink, 0);
         ink.put("</svg>\n</section>\n");

@@ -1,6 +1,7 @@
 use ipc_lines::{HexText, IdText};
 use ipc_words::ThreadId;
 use l4sh_chart::Wait;
+use l4sh_times::Times;
 use std::alloc::{AllocError, Global};
 
 /// A length of an element: its name, and how many pixels.
@@ -70,6 +71,12 @@ impl Ink {
 
     pub(crate) fn hex(&mut self, number: u64) {
         let done = write!(self.text, "{}", HexText(number));
+        self.keep(done);
+    }
+
+    /// A moment by these times.
+    pub(crate) fn moment(&mut self, moment: u64, times: Times) {
+        let done = write!(self.text, "{}", times.moment(moment));
         self.keep(done);
     }
 

@@ -11,6 +11,7 @@ use crate::text::{end_of, first_moment, last_row, moment_behind, put_copies};
 use crate::words::label_of;
 use ipc_history::Entry;
 use l4sh_chart::{Column, Fold, Row, Scene};
+use l4sh_times::Times;
 use std::alloc::{AllocError, Global};
 
 // Heights in pixels: of a row, and of a line with the names of the threads.
@@ -28,6 +29,7 @@ const MOMENT: u64 = 140;
 pub(crate) struct Sheet {
     alloc: Global,
     layout: Layout,
+    times: Times,
     // what lies below the marks, and the marks
     under: Ink,
     over: Ink,
@@ -51,11 +53,13 @@ impl Sheet {
         scene: &Scene,
         layout: Layout,
         top: u64,
+        times: Times,
     ) -> Result<Sheet, AllocError> {
         let strands = strands_of(alloc, &scene.columns, top)?;
         Ok(Sheet {
             alloc,
             layout,
+            times,
             under: Ink::new(alloc),
             over: Ink::new(alloc),
             strands,
@@ -94,6 +98,11 @@ impl Sheet {
         self.y = top;
     }
 
+    /// The width of the whole.
+    pub(crate) fn width(&self) -> u64 {
+        self.layout.width
+    }
+
     /// The height below what was drawn.
     pub(crate) fn bottom(&self) -> u64 {
         self.y
@@ -130,11 +139,22 @@ impl Sheet {
     fn names(&mut self, scene: &Scene, moment: u64) {
         let top = self.y;
         self.over.rect("names", (0, top), self.layout.width, NAMES);
-        draw_time(&mut self.over, "", moment, top.saturating_add(17));
+        self.moment_of_names(moment, top.saturating_add(17));
         for (place, column) in scene.columns.iter().enumerate() {
             draw_name(&mut self.over, column, self.layout.middle(place), top);
         }
         self.y = top.saturating_add(NAMES);
+    }
+
+    // A moment beside names. A time of day begins at the left, as it is longer.
+    fn moment_of_names(&mut self, moment: u64, low: u64) {
+        if self.times.are_of_day() {
+            self.over.begin_words("w", 6, low);
+            self.over.moment(moment, self.times);
+            self.over.end_words();
+        } else {
+            draw_time(&mut self.over, "", moment, low);
+        }
     }
 
     // The number of an entry, its moment, what it says, and its mark.
@@ -156,7 +176,7 @@ impl Sheet {
     fn begin_row(&mut self, scene: &Scene, entries: &[Entry], row: &Row) {
         self.stripe();
         self.over.put("<g class=\"row\"><title>");
-        put_details(&mut self.over, scene, entries, row);
+        put_details(&mut self.over, scene, entries, row, self.times);
         self.over.put("</title>\n");
         self.over.rect("band", (0, self.y), self.layout.width, ROW);
     }

@@ -6,12 +6,19 @@ use crate::sheet::Sheet;
 use crate::style::STYLE;
 use ipc_history::Entry;
 use l4sh_chart::Scene;
+use l4sh_times::Times;
 use std::alloc::{AllocError, Global};
 
-/// Draws a scene of these entries as one SVG picture: a column for each thread, bars where it waits, a row for each entry, and a legend.
-pub fn draw_svg(alloc: Global, scene: &Scene, entries: &[Entry]) -> Result<String, AllocError> {
+/// Draws a scene of these entries as one SVG picture: a column for each thread, bars where it waits, a row for each entry, and a legend. Moments
+/// are told by these times.
+pub fn draw_svg(
+    alloc: Global,
+    scene: &Scene,
+    entries: &[Entry],
+    times: Times,
+) -> Result<String, AllocError> {
     let mut ink = Ink::new(alloc);
-    let done = draw_picture(alloc, &mut ink, scene, entries);
+    let done = draw_picture(alloc, &mut ink, scene, entries, times);
     ink.keep(done);
     ink.finish()
 }
@@ -22,28 +29,32 @@ fn draw_picture(
     ink: &mut Ink,
     scene: &Scene,
     entries: &[Entry],
+    times: Times,
 ) -> Result<(), AllocError> {
     let layout = Layout::of(alloc, scene, entries)?;
     let mut legend = Ink::new(alloc);
     let top = draw_legend(&mut legend, scene, &layout, 16);
-    let done = draw_below(alloc, ink, scene, entries, layout, &legend, top);
+    let done = match Sheet::new(alloc, scene, layout, top, times) {
+        Ok(sheet) => draw_below(alloc, ink, scene, entries, sheet, &legend),
+        Err(lost) => Err(lost),
+    };
     drop(legend);
     done
 }
 
-// The head, the legend, and the rows from that height on.
+// The head, the legend, and the rows on this sheet below it.
 fn draw_below(
     alloc: Global,
     ink: &mut Ink,
     scene: &Scene,
     entries: &[Entry],
-    layout: Layout,
+    sheet: Sheet,
     legend: &Ink,
-    top: u64,
 ) -> Result<(), AllocError> {
-    let mut sheet = Sheet::new(alloc, scene, layout, top)?;
+    let mut sheet = sheet;
     let done = draw_rows(alloc, &mut sheet, scene, entries);
-    put_picture(ink, &mut sheet, legend, layout.width);
+    let width = sheet.width();
+    put_picture(ink, &mut sheet, legend, width);
     drop(sheet);
     done
 }

@@ -8,6 +8,7 @@ use crate::words::{put_label, put_waits_after};
 use ipc_history::Entry;
 use ipc_words::ThreadId;
 use l4sh_chart::{Column, Fold, Mark, Row, Scene};
+use l4sh_times::Times;
 use std::alloc::{AllocError, Global};
 
 // Widths in characters: of the numbers, of the moments, of a lane where there are few or many, and of the words where lines are cut.
@@ -31,20 +32,22 @@ struct Drawing {
     // the characters of a lane, and of a line; 0: as many as it needs
     lane: usize,
     width: usize,
+    times: Times,
     // the moment of the row before
     moment: u64,
 }
 
 /// Draws a scene of these entries as text: a line for each row, with its number, how long after the row before it comes, a lane for each
-/// thread, and what it says. A line of more characters than the width is cut; 0: none is.
+/// thread, and what it says. A line of more characters than the width is cut; 0: none is. Moments are told by these times.
 pub fn draw_text(
     alloc: Global,
     scene: &Scene,
     entries: &[Entry],
     width: usize,
+    times: Times,
 ) -> Result<String, AllocError> {
     let mut ink = Ink::new(alloc);
-    let done = draw_lines(alloc, &mut ink, scene, entries, width);
+    let done = draw_lines(alloc, &mut ink, scene, entries, width, times);
     ink.keep(done);
     put_legend_text(&mut ink, scene, width);
     ink.finish()
@@ -56,6 +59,7 @@ fn draw_lines(
     scene: &Scene,
     entries: &[Entry],
     width: usize,
+    times: Times,
 ) -> Result<(), AllocError> {
     let lane = lane_width(alloc, &scene.columns, width)?;
     let lanes = lanes_of(alloc, &scene.columns)?;
@@ -65,6 +69,7 @@ fn draw_lines(
         next: 0,
         lane,
         width,
+        times,
         moment: first_moment(scene),
     };
     let done = draw_rows(alloc, ink, &mut drawing, scene, entries);
@@ -162,11 +167,17 @@ impl Drawing {
         }
     }
 
-    // The names of the threads over their lanes, and the moment of the row behind.
+    // The names of the threads over their lanes, and the moment of the row behind; above them, where it is a time of day.
     fn names(&self, ink: &mut Ink, scene: &Scene, moment: u64) {
         let mut line = Ink::new(self.alloc);
-        put_spaces(&mut line, NUMBERS);
-        put_time_right(self.alloc, &mut line, "", moment);
+        if self.times.are_of_day() {
+            ink.moment(moment, self.times);
+            ink.put("\n");
+            put_spaces(&mut line, NUMBERS + MOMENTS + 2);
+        } else {
+            put_spaces(&mut line, NUMBERS);
+            put_time_right(self.alloc, &mut line, "", moment);
+        }
         for column in &scene.columns {
             put_name(self.alloc, &mut line, self.lane, column.thread);
         }

@@ -4,6 +4,7 @@ use crate::telling::tell_entry;
 use ipc_history::{Entry, Input, Output};
 use ipc_words::ThreadId;
 use l4sh_threads::Spaces;
+use l4sh_times::Times;
 use std::alloc::{AllocError, Global};
 
 /// The entries of a history so far, as far as the next one speaks of them.
@@ -11,6 +12,7 @@ use std::alloc::{AllocError, Global};
 pub struct Follower {
     alloc: Global,
     selection: Selection,
+    times: Times,
     notes: Notes,
     spaces: Spaces,
     // the moment, in microseconds
@@ -20,11 +22,12 @@ pub struct Follower {
 }
 
 impl Follower {
-    /// A history of no entry, of which this is to be told.
-    pub fn new(alloc: Global, selection: Selection) -> Follower {
+    /// A history of no entry, of which this is to be told, with its moments by these times.
+    pub fn new(alloc: Global, selection: Selection, times: Times) -> Follower {
         Follower {
             alloc,
             selection,
+            times,
             notes: Notes::new(alloc),
             spaces: Spaces::new(alloc),
             moment: 0,
@@ -32,7 +35,7 @@ impl Follower {
         }
     }
 
-    /// The next entry in words, as a line with its newline: its number from 1, the moment in microseconds,
+    /// The next entry in words, as a line with its newline: its number from 1, the moment,
     /// and what it says. None where it is not to be told, as a moment by itself, or where it names a call
     /// that never came.
     pub fn tell(&mut self, entry: &Entry) -> Result<Option<String>, AllocError> {
@@ -41,8 +44,8 @@ impl Follower {
         let told = match subject_of(entry, &self.notes) {
             Some(subject) if self.selection.tells(&subject) => {
                 let mut text = String::new(self.alloc);
-                let (number, moment) = (self.number, self.moment);
-                write!(text, "{number}  {moment} µs  ")?;
+                let number = self.number;
+                write!(text, "{number}  {}  ", self.times.moment(self.moment))?;
                 tell_entry(&mut text, entry, &self.notes)?;
                 text.push_str("\n")?;
                 Some(text)

@@ -3,7 +3,7 @@ use Rattle.std.proofs.Common.{◌≡◌, Bool, List, codes, false, inl, inr, ref
 use Rattle.std.proofs.lemmas.Slice.Eq.{bytes_eq-Decides}
 use Rattle.std.specs.Str.{bytes_eq}
 use Rattle.clap.specs.Words.{Row, Text}
-use Rattle.l4sh_options.specs.Shell.{Reads, ReadsAsChart, ReadsAsCheck, ReadsAsFiles, ReadsAsMigrate, ReadsAsRun, ReadsAsState, ReadsAsTalk}
+use Rattle.l4sh_options.specs.Shell.{Reads, ReadsAsChart, ReadsAsFiles, ReadsAsMigrate, ReadsAsRun, ReadsAsState, ReadsAsTalk}
 
 -- a name is not two different ones
 never : (a b name : Text) → name ≡ a → name ≡ b → bytes_eq a b ≡ false → ⊥
@@ -97,7 +97,7 @@ reads_state name rows e (inr (inr (inr (inr (inr (inr (inr (inr (inr (inr (inl i
 reads_state name rows e (inr (inr (inr (inr (inr (inr (inr (inr (inr (inr (inr (inl is), reads))))))))))) = absurd (never _ _ name e is refl)
 reads_state name rows e (inr (inr (inr (inr (inr (inr (inr (inr (inr (inr (inr (inr is), reads))))))))))) = absurd (never _ _ name e is refl)
 
-pub reads_script : (name : Text) (rows : List Row) → name ≡ codes "script" → Reads name rows → ReadsAsCheck rows
+pub reads_script : (name : Text) (rows : List Row) → name ≡ codes "script" → Reads name rows → ReadsAsFiles rows
 unfolding Reads
 reads_script name rows e (inl (is, reads)) = absurd (never _ _ name e is refl)
 reads_script name rows e (inr (inl is)) = absurd (never _ _ name e is refl)
@@ -114,7 +114,7 @@ reads_script name rows e (inr (inr (inr (inr (inr (inr (inr (inr (inr (inr (inl 
 reads_script name rows e (inr (inr (inr (inr (inr (inr (inr (inr (inr (inr (inr (inl is), reads))))))))))) = absurd (never _ _ name e is refl)
 reads_script name rows e (inr (inr (inr (inr (inr (inr (inr (inr (inr (inr (inr (inr is), reads))))))))))) = absurd (never _ _ name e is refl)
 
-pub reads_count : (name : Text) (rows : List Row) → name ≡ codes "count" → Reads name rows → ReadsAsCheck rows
+pub reads_count : (name : Text) (rows : List Row) → name ≡ codes "count" → Reads name rows → ReadsAsFiles rows
 unfolding Reads
 reads_count name rows e (inl (is, reads)) = absurd (never _ _ name e is refl)
 reads_count name rows e (inr (inl is)) = absurd (never _ _ name e is refl)
@@ -131,7 +131,7 @@ reads_count name rows e (inr (inr (inr (inr (inr (inr (inr (inr (inr (inr (inl i
 reads_count name rows e (inr (inr (inr (inr (inr (inr (inr (inr (inr (inr (inr (inl is), reads))))))))))) = absurd (never _ _ name e is refl)
 reads_count name rows e (inr (inr (inr (inr (inr (inr (inr (inr (inr (inr (inr (inr is), reads))))))))))) = absurd (never _ _ name e is refl)
 
-pub reads_follow : (name : Text) (rows : List Row) → name ≡ codes "follow" → Reads name rows → ReadsAsCheck rows
+pub reads_follow : (name : Text) (rows : List Row) → name ≡ codes "follow" → Reads name rows → ReadsAsFiles rows
 unfolding Reads
 reads_follow name rows e (inl (is, reads)) = absurd (never _ _ name e is refl)
 reads_follow name rows e (inr (inl is)) = absurd (never _ _ name e is refl)

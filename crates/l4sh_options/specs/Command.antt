@@ -95,10 +95,6 @@ number_rule id most default = record (new_rule id) {
   defaults = default ∷ [];
 }
 
--- FILE, which has to be there
-abbrev pub file_rule : Rule
-file_rule = record (new_rule (codes "file")) { value_names = 1; required = true }
-
 -- FILE, once or more
 abbrev pub files_rule : Rule
 files_rule = record (new_rule (codes "file")) { value_names = 1; required = true; action = Some Append }
@@ -138,9 +134,9 @@ check_app = with_rule (new_app (codes "check")) files_rule
 abbrev pub part_app : App
 part_app = with_rule (with_rule (new_app (codes "part")) files_rule) (flag_rule (codes "untaken"))
 
--- `chart` with its file and the entries that it shows
+-- `chart` with its files and the entries that it shows
 abbrev pub chart_places_app : App
-chart_places_app = with_rule (with_rule (with_rule (new_app (codes "chart")) file_rule)
+chart_places_app = with_rule (with_rule (with_rule (new_app (codes "chart")) files_rule)
     (number_rule (codes "from") max_chart_entry (codes "1")))
     (number_rule (codes "to") max_chart_entry max_chart_entry_text)
 
@@ -150,30 +146,31 @@ chart_forms_app = with_rule (with_rule (with_rule (with_rule chart_places_app th
     (flag_rule (codes "html"))) (flag_rule (codes "unfolded"))
 
 abbrev pub chart_app : App
-chart_app = with_rule (with_rule chart_forms_app
+chart_app = with_rule (with_rule (with_rule chart_forms_app
     (number_rule (codes "page") max_chart_entry (codes "0")))
-    (number_rule (codes "width") max_chart_entry (codes "0"))
+    (number_rule (codes "width") max_chart_entry (codes "0"))) (flag_rule (codes "time"))
 
 abbrev pub script_app : App
-script_app = with_rule (new_app (codes "script")) file_rule
+script_app = with_rule (new_app (codes "script")) files_rule
 
--- `state` with its file and the entry after which it is
+-- `state` with its files and the entry after which it is
 abbrev pub state_app : App
-state_app = with_rule (with_rule (new_app (codes "state")) file_rule)
-    (number_rule (codes "at") max_chart_entry max_chart_entry_text)
+state_app = with_rule (with_rule (with_rule (new_app (codes "state")) files_rule)
+    (number_rule (codes "at") max_chart_entry max_chart_entry_text)) (flag_rule (codes "time"))
 
--- `count` with its file
+-- `count` with its files
 abbrev pub count_app : App
-count_app = with_rule (with_rule (new_app (codes "count")) file_rule) (flag_rule (codes "json"))
+count_app = with_rule (with_rule (with_rule (new_app (codes "count")) files_rule) (flag_rule (codes "json")))
+    (flag_rule (codes "time"))
 
 -- `--label LABEL`
 abbrev pub label_rule : Rule
 label_rule = record (new_rule (codes "label")) { long = Some (codes "label"); value_names = 1 }
 
--- `follow` with its file and what is told
+-- `follow` with its files and what is told
 abbrev pub follow_app : App
-follow_app = with_rule (with_rule (with_rule (with_rule (new_app (codes "follow")) file_rule)
-    threads_rule) label_rule) (flag_rule (codes "failures"))
+follow_app = with_rule (with_rule (with_rule (with_rule (with_rule (new_app (codes "follow")) files_rule)
+    threads_rule) label_rule) (flag_rule (codes "failures"))) (flag_rule (codes "time"))
 
 -- DIR, which may be there
 abbrev pub folder_rule : Rule

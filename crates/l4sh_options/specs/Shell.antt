@@ -8,14 +8,15 @@ use Rattle.clap.specs.Values.{kind_of}
 use Rattle.clap.specs.declared.error.Error.{Error}
 use Rattle.clap.specs.declared.error.kind.ErrorKind.TheVariants.{DisplayVersion, OutOfMemory}
 use Rattle.l4sh_options.specs.Command.{shell_app}
-use Rattle.l4sh_options.specs.declared.shell.ChartOptions.{ChartOptions}
-use Rattle.l4sh_options.specs.declared.shell.FollowOptions.{FollowOptions}
-use Rattle.l4sh_options.specs.declared.shell.ScriptLimits.{ScriptLimits}
-use Rattle.l4sh_options.specs.declared.shell.ShellOptions.{ShellOptions}
-use Rattle.l4sh_options.specs.declared.shell.ShellOptions.TheVariants.{Run, Wire, Check, Part, Chart, State}
-use Rattle.l4sh_options.specs.declared.shell.ShellOptions.TheVariants.{Script, Explain, Tag, Period, Count, Follow, Talk, TalkTo, Migrate}
-use Rattle.l4sh_options.specs.declared.shell.StateOptions.{StateOptions}
-use Rattle.l4sh_options.specs.declared.shell.TalkOptions.{TalkOptions}
+use Rattle.l4sh_options.specs.declared.asked.ChartOptions.{ChartOptions}
+use Rattle.l4sh_options.specs.declared.asked.CountOptions.{CountOptions}
+use Rattle.l4sh_options.specs.declared.asked.FollowOptions.{FollowOptions}
+use Rattle.l4sh_options.specs.declared.asked.ScriptLimits.{ScriptLimits}
+use Rattle.l4sh_options.specs.declared.asked.ShellOptions.{ShellOptions}
+use Rattle.l4sh_options.specs.declared.asked.ShellOptions.TheVariants.{Run, Wire, Check, Part, Chart, State}
+use Rattle.l4sh_options.specs.declared.asked.ShellOptions.TheVariants.{Script, Explain, Tag, Period, Count, Follow, Talk, TalkTo, Migrate}
+use Rattle.l4sh_options.specs.declared.asked.StateOptions.{StateOptions}
+use Rattle.l4sh_options.specs.declared.asked.TalkOptions.{TalkOptions}
 
 -- each number is within its limit
 abbrev pub AreWithinLimits : ScriptLimits → Type 0
@@ -35,14 +36,14 @@ IsWithinLimits (Run limits) = AreWithinLimits limits
 IsWithinLimits Wire = ⊤
 IsWithinLimits (Check files) = ⊤
 IsWithinLimits (Part files is_untaken) = ⊤
-IsWithinLimits (Chart chart) = ⊤
-IsWithinLimits (State state) = ⊤
-IsWithinLimits (Script file) = ⊤
+IsWithinLimits (Chart files chart) = ⊤
+IsWithinLimits (State files state) = ⊤
+IsWithinLimits (Script files) = ⊤
 IsWithinLimits (Explain word) = ⊤
 IsWithinLimits (Tag word) = ⊤
 IsWithinLimits (Period word) = ⊤
-IsWithinLimits (Count file is_json) = ⊤
-IsWithinLimits (Follow follow) = ⊤
+IsWithinLimits (Count files count) = ⊤
+IsWithinLimits (Follow files follow) = ⊤
 IsWithinLimits Talk = ⊤
 IsWithinLimits (TalkTo talk) = AreNumbersWithin talk
 IsWithinLimits (Migrate old new) = ⊤
@@ -66,8 +67,7 @@ AreFilesIn rows files = option_map (λ texts. map (λ text. text.now) texts) fil
 
 -- the options of `chart` are those of its matches
 abbrev pub HasChartIn : List Row → ChartOptions → Type 0
-HasChartIn rows chart = (first_of (codes "file") rows ≡ Some chart.file.now)
-    × (number_in rows (codes "from") ≡ Some chart.from)
+HasChartIn rows chart = (number_in rows (codes "from") ≡ Some chart.from)
     × (number_in rows (codes "to") ≡ Some chart.to)
     × (first_of (codes "threads") rows ≡ option_map (λ list. list.now) chart.threads)
     × IsFlagIn rows (codes "text") chart.is_text
@@ -75,18 +75,24 @@ HasChartIn rows chart = (first_of (codes "file") rows ≡ Some chart.file.now)
     × IsFlagIn rows (codes "unfolded") chart.is_unfolded
     × (number_in rows (codes "page") ≡ Some chart.page)
     × (number_in rows (codes "width") ≡ Some chart.width)
+    × IsFlagIn rows (codes "time") chart.is_timed
 
 -- the options of `state` are those of its matches
 abbrev pub HasStateIn : List Row → StateOptions → Type 0
-HasStateIn rows state = (first_of (codes "file") rows ≡ Some state.file.now)
-    × (number_in rows (codes "at") ≡ Some state.at)
+HasStateIn rows state = (number_in rows (codes "at") ≡ Some state.at)
+    × IsFlagIn rows (codes "time") state.is_timed
+
+-- the options of `count` are those of its matches
+abbrev pub HasCountIn : List Row → CountOptions → Type 0
+HasCountIn rows count = IsFlagIn rows (codes "json") count.is_json
+    × IsFlagIn rows (codes "time") count.is_timed
 
 -- the options of `follow` are those of its matches
 abbrev pub HasFollowIn : List Row → FollowOptions → Type 0
-HasFollowIn rows follow = (first_of (codes "file") rows ≡ Some follow.file.now)
-    × (first_of (codes "threads") rows ≡ option_map (λ list. list.now) follow.threads)
+HasFollowIn rows follow = (first_of (codes "threads") rows ≡ option_map (λ list. list.now) follow.threads)
     × (first_of (codes "label") rows ≡ option_map (λ label. label.now) follow.label)
     × IsFlagIn rows (codes "failures") follow.failures
+    × IsFlagIn rows (codes "time") follow.is_timed
 
 -- the number that an option has, which is 1 up to most
 abbrev pub IsCountIn : List Row → Text → ℕ → ℕ → Type 0
@@ -116,19 +122,21 @@ HasMatchesIn name rows Wire = name ≡ codes "wire"
 HasMatchesIn name rows (Check files) = (name ≡ codes "check") × HasFilesIn rows files.items
 HasMatchesIn name rows (Part files is_untaken) = (name ≡ codes "part") × HasFilesIn rows files.items
     × IsFlagIn rows (codes "untaken") is_untaken
-HasMatchesIn name rows (Chart chart) = (name ≡ codes "chart") × HasChartIn rows chart
-HasMatchesIn name rows (State state) = (name ≡ codes "state") × HasStateIn rows state
-HasMatchesIn name rows (Script file) = (name ≡ codes "script")
-    × (first_of (codes "file") rows ≡ Some file.now)
+HasMatchesIn name rows (Chart files chart) = (name ≡ codes "chart") × HasFilesIn rows files.items
+    × HasChartIn rows chart
+HasMatchesIn name rows (State files state) = (name ≡ codes "state") × HasFilesIn rows files.items
+    × HasStateIn rows state
+HasMatchesIn name rows (Script files) = (name ≡ codes "script") × HasFilesIn rows files.items
 HasMatchesIn name rows (Explain word) = (name ≡ codes "explain")
     × (first_of (codes "word") rows ≡ Some word.now)
 HasMatchesIn name rows (Tag word) = (name ≡ codes "tag")
     × (first_of (codes "word") rows ≡ Some word.now)
 HasMatchesIn name rows (Period word) = (name ≡ codes "period")
     × (first_of (codes "word") rows ≡ Some word.now)
-HasMatchesIn name rows (Count file is_json) = (name ≡ codes "count")
-    × (first_of (codes "file") rows ≡ Some file.now) × IsFlagIn rows (codes "json") is_json
-HasMatchesIn name rows (Follow follow) = (name ≡ codes "follow") × HasFollowIn rows follow
+HasMatchesIn name rows (Count files count) = (name ≡ codes "count") × HasFilesIn rows files.items
+    × HasCountIn rows count
+HasMatchesIn name rows (Follow files follow) = (name ≡ codes "follow") × HasFilesIn rows files.items
+    × HasFollowIn rows follow
 HasMatchesIn name rows Talk = (name ≡ codes "talk") × HasNoServerIn rows
 HasMatchesIn name rows (TalkTo talk) = (name ≡ codes "talk") × HasTalkIn rows talk
 HasMatchesIn name rows (Migrate old new) = (name ≡ codes "migrate")
@@ -139,7 +147,7 @@ abbrev pub ReadsAsRun : List Row → Type 0
 ReadsAsRun rows = IsSomeAnd (one_of (codes "entries") rows) (IsUnsignedIn 0 max_entries)
     × IsSomeAnd (one_of (codes "calls") rows) (IsUnsignedIn 0 max_calls)
 
--- the matches have files, which is all that `check` and `part` need
+-- the matches have files, which is all that `check`, `part`, `script`, `count` and `follow` need
 abbrev pub ReadsAsFiles : List Row → Type 0
 ReadsAsFiles rows = IsSome (all_of (codes "file") rows)
 
@@ -147,21 +155,17 @@ ReadsAsFiles rows = IsSome (all_of (codes "file") rows)
 abbrev pub TakesFiles : Text → Type 0
 TakesFiles name = (name ≡ codes "check") ⊎ (name ≡ codes "part")
 
--- the matches have a file, which is all that `script`, `count` and `follow` need
-abbrev pub ReadsAsCheck : List Row → Type 0
-ReadsAsCheck rows = IsSome (first_of (codes "file") rows)
-
--- the matches of `chart` have a file, and a decimal number of 32 bits for each place and each size
+-- the matches of `chart` have files, and a decimal number of 32 bits for each place and each size
 abbrev pub ReadsAsChart : List Row → Type 0
-ReadsAsChart rows = ReadsAsCheck rows
+ReadsAsChart rows = ReadsAsFiles rows
     × IsSomeAnd (one_of (codes "from") rows) (IsUnsignedIn 0 max_chart_entry)
     × IsSomeAnd (one_of (codes "to") rows) (IsUnsignedIn 0 max_chart_entry)
     × IsSomeAnd (one_of (codes "page") rows) (IsUnsignedIn 0 max_chart_entry)
     × IsSomeAnd (one_of (codes "width") rows) (IsUnsignedIn 0 max_chart_entry)
 
--- the matches of `state` have a file, and a decimal number of 32 bits for the entry
+-- the matches of `state` have files, and a decimal number of 32 bits for the entry
 abbrev pub ReadsAsState : List Row → Type 0
-ReadsAsState rows = ReadsAsCheck rows
+ReadsAsState rows = ReadsAsFiles rows
     × IsSomeAnd (one_of (codes "at") rows) (IsUnsignedIn 0 max_chart_entry)
 
 -- the matches have a decimal number from 1 up to most for an option
@@ -194,9 +198,9 @@ Reads name rows = ((name ≡ codes "run") × ReadsAsRun rows)
     ⊎ (TakesFiles name × ReadsAsFiles rows)
     ⊎ ((name ≡ codes "chart") × ReadsAsChart rows)
     ⊎ ((name ≡ codes "state") × ReadsAsState rows)
-    ⊎ ((name ≡ codes "script") × ReadsAsCheck rows)
-    ⊎ ((name ≡ codes "count") × ReadsAsCheck rows)
-    ⊎ ((name ≡ codes "follow") × ReadsAsCheck rows)
+    ⊎ ((name ≡ codes "script") × ReadsAsFiles rows)
+    ⊎ ((name ≡ codes "count") × ReadsAsFiles rows)
+    ⊎ ((name ≡ codes "follow") × ReadsAsFiles rows)
     ⊎ ((name ≡ codes "talk") × ReadsAsTalk rows)
     ⊎ ((name ≡ codes "migrate") × ReadsAsMigrate rows)
     ⊎ (TakesWord name × ReadsAsWord rows)

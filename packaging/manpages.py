@@ -21,13 +21,14 @@ OF_L4SH = ["Run and wire", "Looking at a trace", "Talking to a kernel", "Questio
 FORMATS = ["Words", "Frames", "Text lines", "The script of `l4sh run`", "The script of `l4sh wire`", "Traces", "Codes", "Limits", "Glossary"]
 FILES = {
     "l4d": [("DIR/spaceN", "the path of space N, a Unix socket, which is there as long as l4d runs"),
+            ("FILE.began", "when moment 0 of the trace FILE was, which l4d writes beside it"),
             ("/run/l4d", "DIR of the unit l4d.service"),
             ("PREFIX/lib/hashkarst/l4d", "the program itself, which l4d starts with SIGINT and SIGTERM blocked")],
     "l4sh": [("DIR/spaceN", "the path of space N of a live l4d, as whose thread `l4sh talk DIR` speaks")],
     "l4x": [("DIR/space1", "the path of the l4d whose thread it is"), ("/run/l4d", "DIR of the unit l4d-names.service")],
 }
 ENVIRONMENT = [("NOTIFY_SOCKET", "the socket of a service manager, which is told READY=1 once clients can connect")]
-OPTION = re.compile(r"^ +((?:-\w, +)?--[\w-]+(?: <\w+>)?|[\[<]\w+[\]>])(?:  +(\S.*))?$")
+OPTION = re.compile(r"^ +((?:-\w, +)?--[\w-]+(?: <\w+>)?|[\[<]\w+[\]>](?:\.\.\.)?)(?:  +(\S.*))?$")
 COMMAND = re.compile(r"^  ([a-z]\w*) +(\S.*)$")
 
 

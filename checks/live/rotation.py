@@ -291,7 +291,8 @@ def check_kept(l4d, l4sh):
         for client in pair:
             client.bye()
         tally.same("it ends well", server.end()[:2], (0, "closed\n"))
-        tally.same("two older files are kept", sorted(it for it in os.listdir(folder) if it.startswith("trace")), ["trace", "trace.1", "trace.2"])
+        tally.same("two older files are kept", sorted(it for it in os.listdir(folder) if it.startswith("trace")),
+                   sorted(f"trace{place}{beside}" for place in ("", ".1", ".2") for beside in ("", ".began")))
         tally.same("each is a part", [lines_of(file)[0] for file in chain(server.trace)], 3 * ["l4part 1"])
         shutil.copytree(folder, f"{room}/before")
         again = Server(l4d, "--trace-keep", "3", "--connections", "2", folder=folder, trace=True)
@@ -306,7 +307,7 @@ def check_kept(l4d, l4sh):
         check("the new file is a trace of its own", *is_legal(l4sh, server.trace))
         plain = Server(l4d, "--connections", "2", "--probe", folder=folder, trace=True)
         tally.same("it ends well without older ones", plain.end()[:2], (0, "probe 0x7\nclosed\n"))
-        tally.same("without --trace-keep the file is emptied", len([it for it in os.listdir(folder) if it.startswith("trace")]), 4)
+        tally.same("without --trace-keep the file is emptied", len([it for it in os.listdir(folder) if it.startswith("trace") and not it.endswith(".began")]), 4)
 
 
 def check_asked_for(l4d, l4sh):

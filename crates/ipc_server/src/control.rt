@@ -1,4 +1,5 @@
 //! Those who ask what the server does: they connect to the path `control`, say a word, and are answered with a text.
+use crate::began::began_text;
 use crate::counters::{CounterLines, counters_now};
 use crate::host::Host;
 use crate::part_answer::answer_with_part;
@@ -33,7 +34,7 @@ const WORD_READS: usize = 64;
 const STACK: usize = 4_194_304;
 
 /// What is said to a word that asks for nothing.
-const UNKNOWN: &str = "unknown: one of state, counters, trace, rotate\n";
+const UNKNOWN: &str = "unknown: one of state, counters, trace, rotate, began\n";
 
 /// What is said where there is no memory for an answer.
 pub(crate) const NO_MEMORY: &str = "no memory\n";
@@ -159,6 +160,8 @@ enum Asked {
     Trace,
     /// That the trace goes on in a further file.
     Rotate,
+    /// When moment 0 was.
+    Began,
     /// Nothing that is known.
     Unknown,
 }
@@ -192,6 +195,7 @@ fn asked_by(bytes: &[u8]) -> Asked {
         b"counters" | b"counters\n" => Asked::Counters,
         b"trace" | b"trace\n" => Asked::Trace,
         b"rotate" | b"rotate\n" => Asked::Rotate,
+        b"began" | b"began\n" => Asked::Began,
         _ => Asked::Unknown,
     }
 }
@@ -209,6 +213,7 @@ fn answer_to<C: Ledger, T: Ledger, R: Wait + Clock>(
             Ok(Some(CounterLines(counters).to_string(server.alloc)?))
         }
         Asked::Rotate => Ok(Some(String::from_str(server.alloc, rotated(host))?)),
+        Asked::Began => Ok(Some(began_text(server)?)),
         Asked::Trace | Asked::Unknown => Ok(None),
     }
 }

@@ -4,6 +4,7 @@
 ghost use Rattle.std.specs.Prelude.{◌≡◌, ◌^◌};
 
 mod accepting;
+mod began;
 mod caller;
 mod control;
 mod counters;

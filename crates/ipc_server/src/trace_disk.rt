@@ -14,6 +14,9 @@ pub trait TraceDisk {
     /// Whether a file is there.
     fn has_file(&self, path: &str) -> io::Result<bool>;
 
+    /// Whether a regular file is there.
+    fn is_regular(&self, path: &str) -> bool;
+
     /// Gives a file another name.
     fn rename_file(&self, from: &str, to: &str) -> io::Result<()>;
 
@@ -34,6 +37,13 @@ impl TraceDisk for HostRuntime {
 
     fn has_file(&self, path: &str) -> io::Result<bool> {
         fs::exists(self, path)
+    }
+
+    fn is_regular(&self, path: &str) -> bool {
+        match fs::metadata(self, path) {
+            Ok(found) => found.is_file(),
+            Err(_) => false,
+        }
     }
 
     fn rename_file(&self, from: &str, to: &str) -> io::Result<()> {

@@ -1,6 +1,7 @@
 //! The files of a trace, one behind the other: FILE is written, and FILE.1, FILE.2 and so on are the older ones.
 ghost use Rattle.std.specs.Prelude.{◌≡◌, ◌<◌};
 
+use crate::began::{drop_began, put_began, rename_began};
 use crate::host::Host;
 use crate::meter::{Meter, MeteredFile};
 use crate::server::Server;
@@ -10,6 +11,7 @@ use crate::tracing::{Next, Trace};
 use ipc_host::SocketPort;
 use ipc_ports::{Failures, PortWrite, WritePort};
 use l4sh_options::ServerOptions;
+use l4sh_times::Start;
 use std::alloc::{AllocError, Global};
 use std::io;
 use std::io::BufWriter;
@@ -34,15 +36,22 @@ pub struct TraceFiles<'a> {
     /// How many older files are kept; None where all are.
     keep: Option<u32>,
     meter: &'a Meter,
+    /// When moment 0 was; None where that is not known.
+    start: Option<Start>,
 }
 
 impl<'a> TraceFiles<'a> {
-    /// Those that were asked for.
-    pub fn new(options: &ServerOptions<'a>, meter: &'a Meter) -> TraceFiles<'a> {
+    /// Those that were asked for, of a server whose moment 0 was then.
+    pub fn new(
+        options: &ServerOptions<'a>,
+        meter: &'a Meter,
+        start: Option<Start>,
+    ) -> TraceFiles<'a> {
         TraceFiles {
             path: options.trace.unwrap_or(""),
             keep: options.trace_keep.map(u32::from),
             meter,
+            start,
         }
     }
 
@@ -143,6 +152,7 @@ impl<'a> TraceFiles<'a> {
             Ok(file) => MeteredFile::new(file, self.meter),
             Err(error) => return Err(TraceFault::device(Failed::Opening, error)),
         };
+        put_began(rt, alloc, self.path, self.start);
         let Ok(file) = BufWriter::with_capacity(alloc, BUFFER, file) else {
             return Err(TraceFault::from(AllocError));
         };
@@ -171,7 +181,9 @@ impl<'a> TraceFiles<'a> {
             self.rename(rt, alloc, count - behind)?;
         }
         let first = self.name(alloc, 1)?;
-        rt.rename_file(self.path, first.as_str())
+        rt.rename_file(self.path, first.as_str())?;
+        rename_began(rt, alloc, self.path, first.as_str());
+        Ok(())
     }
 
     /// How many older files there are, from FILE.1 on.
@@ -189,10 +201,14 @@ impl<'a> TraceFiles<'a> {
     fn rename<R: TraceDisk>(self, rt: &R, alloc: Global, number: u32) -> io::Result<()> {
         let name = self.name(alloc, number)?;
         if !self.keeps(number) {
+            // one that is not there is as well
+            let _ = drop_began(rt, alloc, name.as_str());
             return rt.drop_file(name.as_str());
         }
         let next = self.name(alloc, number.saturating_add(1))?;
-        rt.rename_file(name.as_str(), next.as_str())
+        rt.rename_file(name.as_str(), next.as_str())?;
+        rename_began(rt, alloc, name.as_str(), next.as_str());
+        Ok(())
     }
 
     /// Whether one more than so many older files are kept.

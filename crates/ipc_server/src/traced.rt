@@ -1,6 +1,7 @@
 //! Serving beside a worker that writes the trace.
 ghost use Rattle.std.specs.Prelude.{◌≡◌, ◌<◌};
 
+use crate::began::start_of;
 use crate::exit::Exit;
 use crate::host::Host;
 use crate::serve_and_close;
@@ -85,7 +86,7 @@ where
     requires writes_name { writes.name ≡ L.name }
     requires writes_parts { (writes.parts ≡ L.parts) × (0 < writes.parts) }
 {
-    let files = TraceFiles::new(options, &host.meter);
+    let files = TraceFiles::new(options, &host.meter, start_of(server));
     match files.begin(server.rt, server.alloc, Failures::<L>::new(writes)) {
         Ok(trace) => serve_beside(server, host, options, files, trace),
         Err(fault) => {

@@ -16,7 +16,7 @@ mod table;
 mod trouble;
 
 use calling::{Search, Server};
-use ipc_client::Client;
+use ipc_client::{Client, PatientStream};
 use ipc_ports::{Failures, PortRead, PortWrite, ReadPort, WritePort};
 use ipc_words::ThreadId;
 use role::{Role, Task};
@@ -27,6 +27,7 @@ use std::net::Net;
 use std::os::unix::net::UnixStream;
 use std::process::ExitCode;
 use std::sync::Wait;
+use std::sync::atomic::{AtomicBool, Ordering};
 use std::sync::ledger::{Blank, Ledger};
 use trouble::{Trouble, USAGE};
 
@@ -34,7 +35,7 @@ fn main(rt: HostRuntime) -> io::Result<ExitCode> {
     let alloc = rt.alloc();
     match words_of(&rt, alloc) {
         Some(words) => obey_words(&rt, alloc, &words),
-        None => ended(&rt, &Trouble::NoMemory),
+        None => ended(&rt, "", &Trouble::NoMemory),
     }
 }
 
@@ -56,7 +57,15 @@ fn obey_words<R: Net + Wait + Print + Eprint>(
     }
     match obey(rt, alloc, words) {
         Ok(()) => Ok(ExitCode::from(0)),
-        Err(trouble) => ended(rt, &trouble),
+        Err(trouble) => ended(rt, folder_of(words), &trouble),
+    }
+}
+
+/// The folder of the server.
+fn folder_of(words: &[String]) -> &str {
+    match words {
+        [_, dir, ..] => dir.as_str(),
+        _ => "",
     }
 }
 
@@ -89,7 +98,7 @@ fn connect<R: Net>(rt: &R, alloc: Global, dir: &str) -> Result<UnixStream, Troub
     }
 }
 
-/// Plays a role over a connection. Each count of failures begins as a blank.
+/// Plays a role over a connection. Each count of failures begins as a blank. A server that does not say WELCOME in its time is silent.
 fn start<L: Ledger, M: Ledger, R: Wait + Print>(
     rt: &R,
     alloc: Global,
@@ -103,11 +112,16 @@ fn start<L: Ledger, M: Ledger, R: Wait + Print>(
     requires writes_name { writes.name ≡ M.name }
     requires writes_parts { (writes.parts ≡ M.parts) × (0 < writes.parts) }
 {
-    let reader = ReadPort::new(stream, Failures::<L>::new(reads));
+    let is_silent = AtomicBool::new(false);
+    let from_server = PatientStream::new(stream, &is_silent);
+    let reader = ReadPort::new(from_server, Failures::<L>::new(reads));
     let writer = WritePort::new(stream, Failures::<M>::new(writes));
     let mut client = Client::new(alloc, reader, writer);
     let played = play(rt, alloc, &mut client, task);
     drop(client);
+    if is_silent.load(Ordering::SeqCst) {
+        return Err(Trouble::Silent);
+    }
     played
 }
 
@@ -250,8 +264,11 @@ fn say_names<R: Print>(rt: &R, own: ThreadId) -> Result<(), Trouble> {
     said.or(Err(Trouble::NoOutput))
 }
 
-/// Says on standard error why a role ended.
-fn ended<R: Eprint>(rt: &R, trouble: &Trouble) -> io::Result<ExitCode> {
-    rt.eprintln(trouble)?;
+/// Says on standard error why a role ended; of a silent server with its path in a folder.
+fn ended<R: Eprint>(rt: &R, dir: &str, trouble: &Trouble) -> io::Result<ExitCode> {
+    match trouble {
+        Trouble::Silent => eprintln!(rt; "{dir}/space1: {trouble}")?,
+        other => rt.eprintln(other)?,
+    }
     Ok(ExitCode::from(trouble.status()))
 }

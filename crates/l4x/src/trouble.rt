@@ -1,6 +1,6 @@
 //! Why a role ends.
 use crate::naming::NameError;
-use ipc_client::{BufferFault, ClientError, MessageFault};
+use ipc_client::{BufferFault, ClientError, MessageFault, PATIENCE};
 use std::fmt;
 
 /// The words that name a role.
@@ -26,6 +26,8 @@ pub enum Trouble {
     NoMemory,
     /// Nobody listens in the folder.
     NoServer,
+    /// The server does not say WELCOME in its time.
+    Silent,
     /// Standard output failed.
     NoOutput,
     /// The connection ended.
@@ -95,6 +97,10 @@ impl fmt::Display for Trouble {
     fn fmt<W: fmt::Write>(&self, f: &mut fmt::Formatter<W>) -> fmt::Result {
         match self {
             Trouble::Client(error) => write!(f, "{error}"),
+            Trouble::Silent => write!(
+                f,
+                "no WELCOME within {PATIENCE} seconds: the server is full, or does not answer"
+            ),
             Trouble::Refused(number) => write!(f, "refused: K{number}"),
             Trouble::Failed(code) => write!(f, "the call failed: error {code:#x}"),
             Trouble::Name(error) => write!(f, "the name server answered: {error}"),

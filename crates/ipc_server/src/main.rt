@@ -18,6 +18,7 @@ mod paths;
 mod probe;
 mod ready;
 mod server;
+mod service;
 mod serving;
 mod shared_blocks;
 mod socket;
@@ -29,7 +30,6 @@ mod traced;
 mod tracing;
 mod working;
 
-use accepting::serve_all;
 use exit::Exit;
 use host::{Bound, Host};
 use ipc_core::{Limits, MAX_CALLS, MAX_ENTRIES};
@@ -38,11 +38,8 @@ use ipc_lock::SharedKernel;
 use l4sh_options::{ServerOptions, server_options};
 use meter::Meter;
 use parts::Parts;
-use paths::{Door, Listener, control, listen, path_of, remove, remove_door};
-use probe::probe;
-use ready::tell_ready;
+use paths::{Door, Listener, control, listen, remove, remove_door};
 use server::Server;
-use serving::start_worker;
 use std::alloc::Global;
 use std::fs::File;
 use std::marker::Brand;
@@ -50,7 +47,7 @@ use std::net::{Net, TcpListener, TcpStream};
 use std::process::ExitCode;
 use std::rt::{Clock, Env, Files};
 use std::sync::Wait;
-use std::sync::atomic::{AtomicBool, AtomicU64, Ordering};
+use std::sync::atomic::AtomicU64;
 use std::sync::ledger::{Blank, Ledger};
 use std::thread::Threads;
 use std::{io, thread};
@@ -342,135 +339,6 @@ fn most_connections<R: Files>(rt: &R, alloc: Global, options: &ServerOptions<'_>
 /// How long a connection has for its HELLO, in microseconds.
 fn within(options: &ServerOptions<'_>) -> u64 {
     u64::from(options.hello_within) * SECOND
-}
-
-/// Serves the paths, and closes the kernel once all workers but the trace's were joined.
-pub(crate) fn serve_and_close<C: Ledger + Send, T: Ledger + Send, R>(
-    server: &Server<'_, C, T, SocketPort, R>,
-    host: &Host,
-    options: &ServerOptions<'_>,
-) -> Result<(), Exit>
-where
-    R: Threads
-        + Wait
-        + Clock
-        + Net<Listener = TcpListener, Stream = TcpStream>
-        + Print
-        + Eprint
-        + Sync,
-{
-    let served = serve(server, host, options);
-    server.shared.close(server.rt);
-    served
-}
-
-/// Serves the paths until all connections have ended, with the client of the program's own where it is asked for.
-fn serve<C: Ledger + Send, T: Ledger + Send, R>(
-    server: &Server<'_, C, T, SocketPort, R>,
-    host: &Host,
-    options: &ServerOptions<'_>,
-) -> Result<(), Exit>
-where
-    R: Threads
-        + Wait
-        + Clock
-        + Net<Listener = TcpListener, Stream = TcpStream>
-        + Print
-        + Eprint
-        + Sync,
-{
-    let rt = server.rt;
-    println!(rt; "listening {}", options.spaces)?;
-    tell_ready(rt, server.alloc, host, options.spaces);
-    if host.is_logged {
-        tell_paths(rt, &host.listeners);
-    }
-    if options.probe {
-        serve_with_client(server, host, options)
-    } else {
-        served(serve_all(server, host))
-    }
-}
-
-/// Says on standard error where the server listens.
-fn tell_paths<R: Eprint>(rt: &R, listeners: &[Listener]) {
-    for listener in listeners {
-        let path = &listener.door.path;
-        // where standard error fails nothing is told
-        let _ = eprintln!(rt; "l4d: listens on {path}");
-    }
-}
-
-/// Serves the paths beside the client of the program's own.
-fn serve_with_client<C: Ledger + Send, T: Ledger + Send, R>(
-    server: &Server<'_, C, T, SocketPort, R>,
-    host: &Host,
-    options: &ServerOptions<'_>,
-) -> Result<(), Exit>
-where
-    R: Threads
-        + Wait
-        + Clock
-        + Net<Listener = TcpListener, Stream = TcpStream>
-        + Print
-        + Eprint
-        + Sync,
-{
-    let path = path_of(server.alloc, options.dir, 1)?;
-    let (started, is_told) = serve_probed(server, host, path.as_str());
-    drop(path);
-    probed(started, is_told)
-}
-
-/// What came of serving beside the program's own client.
-fn probed(started: bool, is_told: bool) -> Result<(), Exit> {
-    match (started, is_told) {
-        (false, _) => Err(Exit::NoWorker),
-        (true, false) => Err(Exit::ProbeFailed),
-        (true, true) => Ok(()),
-    }
-}
-
-fn served(started: bool) -> Result<(), Exit> {
-    if started { Ok(()) } else { Err(Exit::NoWorker) }
-}
-
-/// Serves beside a client that sends one word and prints it as soon as it has come. Answers whether the workers could be started, and
-/// whether the word was printed.
-fn serve_probed<C: Ledger + Send, T: Ledger + Send, R>(
-    server: &Server<'_, C, T, SocketPort, R>,
-    host: &Host,
-    path: &str,
-) -> (bool, bool)
-where
-    R: Threads
-        + Wait
-        + Clock
-        + Net<Listener = TcpListener, Stream = TcpStream>
-        + Print
-        + Eprint
-        + Sync,
-{
-    let rt = server.rt;
-    let alloc = server.alloc;
-    let is_told = AtomicBool::new(false);
-    let told = &is_told;
-    let started = thread::scope(thread::scope_env(), rt, |scope| {
-        let client = start_worker(scope, move || tell_probe(rt, alloc, path, told));
-        client.is_ok() && serve_all(server, host)
-    });
-    (started, is_told.load(Ordering::SeqCst))
-}
-
-/// Prints the word that the program's own client gets, and notes that it was printed.
-fn tell_probe<R>(rt: &R, alloc: Global, path: &str, told: &AtomicBool)
-where
-    R: Threads + Wait + Net<Listener = TcpListener, Stream = TcpStream> + Print + Sync,
-{
-    if let Some(word) = probe(rt, alloc, path) {
-        let printed = println!(rt; "probe {word:#x}").is_ok();
-        told.store(printed, Ordering::SeqCst);
-    }
 }
 
 /// Says on standard error why the server ended, where it did not end well, and answers its status.

@@ -22,8 +22,10 @@ sys.path[1:1] = [f"{sys.path[0]}/../lib", f"{sys.path[0]}/../../clients/python/s
 
 from arguments import programs_of
 from counting import Tally
+from frames import hello
 from l4ipc import L4Error, Message, Thread, ThreadId
-from serving import rest_of
+from protocol_tables import K_NUMBER_TAKEN, REFUSED
+from serving import Client, rest_of
 
 SECONDS = 60
 CROWD = 40
@@ -138,6 +140,28 @@ def check_counters(l4d, l4sh):
         check("counters are told", (status, error) == (0, "") and all(value.isdigit() for value in counters.values()), (status, told, error))
         check("they count", counters.get("threads") == "2" and counters.get("connections") == "2" and counters.get("calls_over") == "10", counters)
         check("without a trace none lags", "trace_entries_behind" not in counters, counters)
+    check_told(l4d)
+
+
+def check_told(l4d):
+    """What clients are told is counted without --log, too."""
+    with Server(l4d, "--live", "3") as server:
+        one, two = Client(f"{server.folder}/space1", 1), Client(f"{server.folder}/space1")
+        tally.same("a number that is taken", two.ask(hello(1)), (REFUSED, bytes([K_NUMBER_TAKEN])))
+        one.exreg(one.thread, 0)
+        bad = Client(f"{server.folder}/space1")
+        bad.line.sendall(b"\xff" * 64)
+        bad.to_the_end()
+        held, waits = (Client(f"{server.folder}/space1") for _ in range(2))
+        wanted = {"refusals_k2": "1", "exchanges": "1", "faults": "1", "waited_for_room": "1"}
+        told = wait_until(lambda: wanted.items() <= counters_of(server).items())
+        check("refusals, exchanges, faults and waits are counted", told, counters_of(server))
+        held.line.close()
+        waits.line.close()
+
+
+def counters_of(server):
+    return dict(line.split(" ") for line in server.ask(b"counters\n").splitlines())
 
 
 def check_askers(l4d):

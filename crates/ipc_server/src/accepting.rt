@@ -219,15 +219,17 @@ fn ticket_of<R: Wait + Clock + Eprint>(
     None
 }
 
-/// Tells that a connection waits for room: once a minute that the server is full, and to the log each such connection once.
+/// Tells that a connection waits for room: once a minute that the server is full. Each such connection is counted once, and told to the log.
 fn tell_wait<R: Wait + Clock + Eprint>(rt: &R, host: &Host, space: u64, is_told: bool) {
     host.tell_full(rt);
-    if is_told || !host.is_logged {
+    if is_told {
         return;
     }
     host.guests.count(rt, Notice::Waits);
-    // where standard error fails the line is lost
-    let _ = eprintln!(rt; "l4d: {} for a connection of space {space}", Notice::Waits);
+    if host.is_logged {
+        // where standard error fails the line is lost
+        let _ = eprintln!(rt; "l4d: {} for a connection of space {space}", Notice::Waits);
+    }
 }
 
 /// Lets go of a connection for which no worker can be started.

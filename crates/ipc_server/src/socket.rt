@@ -12,7 +12,7 @@ use std::os::unix::net::UnixStream;
 use std::sync::Wait;
 use std::sync::atomic::{AtomicBool, Ordering};
 
-/// A connection that is there. It is counted, and where that is asked for, what it is told is said on standard error.
+/// A connection that is there. What it is told is counted, and said on standard error where that is asked for.
 #[derive(Drop)]
 pub struct Guest<'a, R: Wait + Eprint> {
     pub(crate) rt: &'a R,
@@ -97,10 +97,10 @@ impl<R: Wait + Eprint> Link for SocketGate<'_, R> {
     }
 
     fn tells(&self, notice: Notice, thread: Option<ThreadId>) {
+        self.guest.host.guests.count(self.guest.rt, notice);
         if !self.guest.host.is_logged {
             return;
         }
-        self.guest.host.guests.count(self.guest.rt, notice);
         // where standard error fails the line is lost
         let _ = match (notice, thread) {
             (Notice::Fault(_, _), Some(thread)) => self.guest.tell_of_thread(notice, thread),

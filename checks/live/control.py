@@ -171,7 +171,7 @@ def check_askers(l4d):
         check("a word in pieces", state in server.ask(b"st", b"ate", b"\n"), "")
         for word in (b"\n", b"states\n", b"STATE\n", b"state \n", b"\0" * 64, b"x" * 64, b"counters\r\n"):
             told = server.ask(word)
-            check(f"{word[:12]!r} is unknown", told == "unknown: one of state, counters, trace, rotate, began\n", told)
+            check(f"{word[:12]!r} is unknown", told == "unknown: one of state, counters, trace, trace follow, rotate, began\n", told)
         crowd = [server.connect() for _ in range(CROWD)]
         time.sleep(0.2)
         closed = sum(1 for asker in crowd if is_closed(asker))

@@ -1,6 +1,7 @@
 //! Those who ask what the server does: they connect to the path `control`, say a word, and are answered with a text.
 use crate::began::began_text;
 use crate::counters::{CounterLines, counters_now};
+use crate::following::follow;
 use crate::host::Host;
 use crate::part_answer::answer_with_part;
 use crate::paths::Door;
@@ -34,7 +35,7 @@ const WORD_READS: usize = 64;
 const STACK: usize = 4_194_304;
 
 /// What is said to a word that asks for nothing.
-const UNKNOWN: &str = "unknown: one of state, counters, trace, rotate, began\n";
+const UNKNOWN: &str = "unknown: one of state, counters, trace, trace follow, rotate, began\n";
 
 /// What is said where there is no memory for an answer.
 pub(crate) const NO_MEMORY: &str = "no memory\n";
@@ -137,16 +138,25 @@ fn answer_over<C: Ledger, T: Ledger, R: Wait + Clock>(
     let patience = Duration::from_millis(PATIENCE);
     stream.set_read_timeout(Some(patience))?;
     stream.set_write_timeout(Some(patience))?;
-    let asked = hear(stream)?;
-    if asked == Asked::Trace {
-        return answer_with_part(server, host, stream);
+    match hear(stream)? {
+        Asked::Trace => answer_with_part(server, host, stream),
+        Asked::Follow => follow(server, host, stream),
+        asked => match answer_to(server, host, asked) {
+            Ok(Some(answer)) => say(stream, answer.as_str()),
+            Ok(None) => say(stream, UNKNOWN),
+            Err(_) => say(stream, NO_MEMORY),
+        },
     }
+}
+
+/// Says a text to one who asks.
+///
+/// # Errors
+///
+/// The system's; he was too slow.
+pub(crate) fn say(stream: &UnixStream, text: &str) -> io::Result<()> {
     let mut writer = stream;
-    match answer_to(server, host, asked) {
-        Ok(Some(answer)) => writer.write_all(answer.as_bytes()),
-        Ok(None) => writer.write_all(UNKNOWN.as_bytes()),
-        Err(_) => writer.write_all(NO_MEMORY.as_bytes()),
-    }
+    writer.write_all(text.as_bytes())
 }
 
 /// What may be asked.
@@ -158,6 +168,8 @@ enum Asked {
     Counters,
     /// The part of a trace that begins now.
     Trace,
+    /// The same, and then each further entry.
+    Follow,
     /// That the trace goes on in a further file.
     Rotate,
     /// When moment 0 was.
@@ -194,6 +206,7 @@ fn asked_by(bytes: &[u8]) -> Asked {
         b"state" | b"state\n" => Asked::State,
         b"counters" | b"counters\n" => Asked::Counters,
         b"trace" | b"trace\n" => Asked::Trace,
+        b"trace follow" | b"trace follow\n" => Asked::Follow,
         b"rotate" | b"rotate\n" => Asked::Rotate,
         b"began" | b"began\n" => Asked::Began,
         _ => Asked::Unknown,
@@ -214,7 +227,7 @@ fn answer_to<C: Ledger, T: Ledger, R: Wait + Clock>(
         }
         Asked::Rotate => Ok(Some(String::from_str(server.alloc, rotated(host))?)),
         Asked::Began => Ok(Some(began_text(server)?)),
-        Asked::Trace | Asked::Unknown => Ok(None),
+        Asked::Trace | Asked::Follow | Asked::Unknown => Ok(None),
     }
 }
 

@@ -1,4 +1,5 @@
 //! What the workers of a server share beside the kernel.
+use crate::followers::Followers;
 use crate::meter::Meter;
 use crate::parts::Parts;
 use crate::paths::{Door, Listener};
@@ -33,6 +34,8 @@ pub struct Host {
     pub(crate) meter: Meter,
     /// Where those who ask for a part of a trace get it.
     pub(crate) parts: Parts,
+    /// Those who follow the trace.
+    pub(crate) followers: Followers,
     /// Where the worker of signals reads which have come.
     pub(crate) signals: Option<ProcessStatus>,
     /// Where the worker of counters reads how much memory there is.

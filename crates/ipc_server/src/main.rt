@@ -9,6 +9,8 @@ mod caller;
 mod control;
 mod counters;
 mod exit;
+mod followers;
+mod following;
 mod host;
 mod meter;
 mod noted;
@@ -31,6 +33,7 @@ mod tracing;
 mod working;
 
 use exit::Exit;
+use followers::Followers;
 use host::{Bound, Host};
 use ipc_core::{Limits, MAX_CALLS, MAX_ENTRIES};
 use ipc_host::{Guests, ProcessStatus, Readiness, ServerClock, SocketPort, descriptors, room};
@@ -264,6 +267,7 @@ fn host_of<C: Ledger, T: Ledger, R: Threads + Files<File = File>>(
         traced: nothing_traced(options),
         meter: Meter::new(options.trace_size),
         parts: Parts::new(),
+        followers: Followers::new(server.alloc),
         signals: ProcessStatus::open(server.rt),
         memory: ProcessStatus::open(server.rt),
     }

@@ -1,7 +1,7 @@
 //! The part of a trace that begins now, for one who asks.
 ghost use Rattle.std.specs.Prelude.{◌≡◌, ◌<◌};
 
-use crate::control::NO_MEMORY;
+use crate::control::{NO_MEMORY, say};
 use crate::host::Host;
 use crate::server::Server;
 use crate::tracing::put_held;
@@ -26,7 +26,7 @@ const BUFFER: usize = 65_536;
 const WHILE: u64 = 10;
 
 /// What is said where a trace is written, and so slowly that no part was made.
-const SLOW: &str = "the trace is slow: ask again\n";
+pub(crate) const SLOW: &str = "the trace is slow: ask again\n";
 
 /// Answers with the part that begins now. Its entries were copied, so that nothing waits for who is slow.
 ///
@@ -43,11 +43,6 @@ pub(crate) fn answer_with_part<C: Ledger, T: Ledger, R: Wait + Clock>(
         Ok(None) => say(stream, SLOW),
         Err(_) => say(stream, NO_MEMORY),
     }
-}
-
-fn say(stream: &UnixStream, text: &str) -> io::Result<()> {
-    let mut writer = stream;
-    writer.write_all(text.as_bytes())
 }
 
 /// A stream to one who has to read all within a while.
@@ -74,7 +69,11 @@ impl<R: Clock> Write for HurriedStream<'_, R> {
 }
 
 /// Writes a part, with a count of the failures of its writes.
-fn write_part<C: Ledger, T: Ledger, R: Wait + Clock>(
+///
+/// # Errors
+///
+/// The system's; he was too slow.
+pub(crate) fn write_part<C: Ledger, T: Ledger, R: Wait + Clock>(
     server: &Server<'_, C, T, SocketPort, R>,
     stream: &UnixStream,
     part: &HeldPart,
@@ -99,7 +98,9 @@ fn write_counted<L: Ledger, R: Clock>(
     let buffered = BufWriter::with_capacity(alloc, BUFFER, stream)?;
     let port = WritePort::new(buffered, Failures::<L>::new(writes));
     let mut writer = TraceWriter::new(alloc, port);
-    // who has left, or is too slow, gets no more
-    let _ = put_held(alloc, &mut writer, part);
-    Ok(())
+    match put_held(alloc, &mut writer, part) {
+        Ok(()) => Ok(()),
+        // who has left, or is too slow, gets no more
+        Err(_) => Err(io::Error::from(ErrorKind::TimedOut)),
+    }
 }

@@ -15,11 +15,18 @@ const LOOKS: u32 = 500;
 /// How long he sleeps between two looks, in milliseconds.
 const LOOK: u64 = 2;
 
+/// A part, and how many entries stand before it.
+#[derive(Drop)]
+pub struct PlacedPart {
+    pub(crate) part: HeldPart,
+    pub(crate) place: usize,
+}
+
 /// Whether somebody waits for a part, and the one that was made for him.
 #[derive(Drop)]
 struct Desk {
     is_wanted: bool,
-    made: Option<Result<HeldPart, AllocError>>,
+    made: Option<Result<PlacedPart, AllocError>>,
 }
 
 /// Where parts are asked for, one after the other.
@@ -46,12 +53,16 @@ impl Parts {
         self.desk.lock(rt).is_wanted
     }
 
-    /// Hands a part to who waits for it, or that there is no memory for it.
-    pub(crate) fn hand<R: Wait>(&self, rt: &R, part: Option<HeldPart>) {
+    /// Hands a part to who waits for it, or that there is no memory for it. So many entries stand before it.
+    pub(crate) fn hand<R: Wait>(&self, rt: &R, part: Option<HeldPart>, place: usize) {
         let mut desk = self.desk.lock(rt);
         if desk.is_wanted {
             desk.is_wanted = false;
-            drop(desk.made.replace(part.ok_or(AllocError)));
+            let made = match part {
+                Some(part) => Ok(PlacedPart { part, place }),
+                None => Err(AllocError),
+            };
+            drop(desk.made.replace(made));
         }
     }
 
@@ -79,10 +90,41 @@ impl Parts {
         for _ in 0..LOOKS {
             thread::sleep(server.rt, Duration::from_millis(LOOK));
             if let Some(made) = self.take(server.rt) {
-                return Ok(Some(made?));
+                let PlacedPart { part, .. } = made?;
+                return Ok(Some(part));
             }
             if let Some(part) = server.shared.part(server.rt)? {
                 return Ok(Some(part));
+            }
+        }
+        Ok(None)
+    }
+
+    /// The part that begins behind the last entry, and its place. None where the trace is so slow that nobody made it within a second.
+    pub(crate) fn ask_placed<C: Ledger, T: Ledger, R: Wait + Clock>(
+        &self,
+        server: &Server<'_, C, T, SocketPort, R>,
+    ) -> Result<Option<PlacedPart>, AllocError> {
+        let turn = self.turn.lock(server.rt);
+        let part = self.wait_placed(server);
+        self.want(server.rt, false);
+        drop(turn);
+        part
+    }
+
+    /// Waits for the part, which is made here where no entry comes meanwhile.
+    fn wait_placed<C: Ledger, T: Ledger, R: Wait + Clock>(
+        &self,
+        server: &Server<'_, C, T, SocketPort, R>,
+    ) -> Result<Option<PlacedPart>, AllocError> {
+        self.want(server.rt, true);
+        for _ in 0..LOOKS {
+            if let Some(made) = made_here(server)? {
+                return Ok(Some(made));
+            }
+            thread::sleep(server.rt, Duration::from_millis(LOOK));
+            if let Some(made) = self.take(server.rt) {
+                return Ok(Some(made?));
             }
         }
         Ok(None)
@@ -96,7 +138,22 @@ impl Parts {
     }
 
     /// The part that was made.
-    fn take<R: Wait>(&self, rt: &R) -> Option<Result<HeldPart, AllocError>> {
+    fn take<R: Wait>(&self, rt: &R) -> Option<Result<PlacedPart, AllocError>> {
         self.desk.lock(rt).made.take()
     }
+}
+
+/// The part that begins behind the last entry. None where an entry is not marked, or came while it was made, so that its place is not known.
+fn made_here<C: Ledger, T: Ledger, R: Wait + Clock>(
+    server: &Server<'_, C, T, SocketPort, R>,
+) -> Result<Option<PlacedPart>, AllocError> {
+    let place = server.shared.entries(server.rt);
+    let Some(part) = server.shared.part(server.rt)? else {
+        return Ok(None);
+    };
+    if server.shared.entries(server.rt) != place {
+        drop(part);
+        return Ok(None);
+    }
+    Ok(Some(PlacedPart { part, place }))
 }

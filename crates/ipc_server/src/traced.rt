@@ -63,6 +63,7 @@ where
         + Sync,
 {
     server.keep_nothing();
+    host.followers.close(server.rt);
     exit_of(serve_and_close(server, host, options), is_whole)
 }
 
@@ -175,6 +176,7 @@ where
         Err(fault) => {
             tell(server.rt, fault.with_reason(host.meter.reason()));
             server.keep_nothing();
+            host.followers.close(server.rt);
             if is_required {
                 host.stop(server.rt);
             }

@@ -125,7 +125,7 @@ impl<P: PortWrite> Trace<P> {
         host: &Host,
     ) -> Result<Option<Next>, TraceFault> {
         for _ in server.rt.forever() {
-            if self.put_group(server)? == 0 {
+            if self.put_group(server, host)? == 0 {
                 return Ok(None);
             }
             host.note_traced(self.count);
@@ -145,7 +145,7 @@ impl<P: PortWrite> Trace<P> {
     ) -> Result<Option<HeldPart>, PutFault> {
         if host.parts.is_wanted(server.rt) {
             let part = self.part_here(server, host)?;
-            host.parts.hand(server.rt, part);
+            host.parts.hand(server.rt, part, self.count);
         }
         if !host.meter.is_full() {
             return Ok(None);
@@ -163,6 +163,7 @@ impl<P: PortWrite> Trace<P> {
             return Err(PutFault::NoMemory);
         };
         let (rest, part) = behind.into_parts();
+        host.followers.hand(server.rt, self.count, &rest);
         self.put_lines(&rest)?;
         drop(rest);
         host.note_traced(self.count);
@@ -174,19 +175,22 @@ impl<P: PortWrite> Trace<P> {
     fn put_group<C: Ledger, T: Ledger, R: Wait + Clock + Eprint>(
         &mut self,
         server: &Server<'_, C, T, SocketPort, R>,
+        host: &Host,
     ) -> Result<usize, PutFault> {
         match server.shared.wait_entries(server.rt, self.count) {
-            Ok(group) => self.put_entries(server, &group),
+            Ok(group) => self.put_entries(server, host, &group),
             Err(_) => Err(PutFault::NoMemory),
         }
     }
 
-    // Puts these entries, and answers how many they are.
+    // Hands these entries to those who follow, puts them, and answers how many they are.
     fn put_entries<C: Ledger, T: Ledger, R: Wait + Clock + Eprint>(
         &mut self,
         server: &Server<'_, C, T, SocketPort, R>,
+        host: &Host,
         group: &[Entry],
     ) -> Result<usize, PutFault> {
+        host.followers.hand(server.rt, self.count, group);
         self.put_lines(group)?;
         let left = server.shared.mark_traced(server.rt, self.count);
         self.tell_when_far_behind(server.rt, left);

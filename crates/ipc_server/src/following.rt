@@ -1,0 +1,165 @@
+//! Following the trace: who asks gets the part that begins now, and then the line of each further entry, until he leaves.
+use crate::control::{NO_MEMORY, say};
+use crate::followers::{Given, Unfollowed};
+use crate::host::Host;
+use crate::part_answer::{SLOW, write_part};
+use crate::parts::PlacedPart;
+use crate::server::Server;
+use ipc_host::SocketPort;
+use std::io;
+use std::io::{ErrorKind, Read, Write};
+use std::os::unix::net::UnixStream;
+use std::rt::Clock;
+use std::sync::Wait;
+use std::sync::ledger::Ledger;
+use std::time::Duration;
+
+/// How long is looked whether who follows has left, in milliseconds.
+const GLANCE: u64 = 1;
+
+/// What is said where no trace is written.
+const UNTRACED: &str = "no trace: start l4d with --trace, as --trace /dev/null\n";
+
+/// What is said where as many follow as may.
+const FULL: &str = "full: 4 follow already\n";
+
+/// What is said where the trace stops.
+const STOPPED: &str = "the trace has stopped\n";
+
+/// What is said to one who gets no more lines.
+const CUT: &str = "cut off: too slow\n";
+
+/// Answers with the part that begins now, and then with the line of each entry that comes, until he leaves or the service ends.
+///
+/// # Errors
+///
+/// The system's; he has left, or was too slow.
+pub(crate) fn follow<C: Ledger, T: Ledger, R: Wait + Clock>(
+    server: &Server<'_, C, T, SocketPort, R>,
+    host: &Host,
+    stream: &UnixStream,
+) -> io::Result<()> {
+    match host.followers.enter(server.rt) {
+        Ok(ticket) => {
+            let followed = follow_as(server, host, stream, ticket);
+            host.followers.leave(server.rt, ticket);
+            followed
+        }
+        Err(Unfollowed::NoTrace) => say(stream, UNTRACED),
+        Err(Unfollowed::Full) => say(stream, FULL),
+        Err(Unfollowed::NoMemory) => say(stream, NO_MEMORY),
+    }
+}
+
+/// The same by a ticket.
+fn follow_as<C: Ledger, T: Ledger, R: Wait + Clock>(
+    server: &Server<'_, C, T, SocketPort, R>,
+    host: &Host,
+    stream: &UnixStream,
+    ticket: u64,
+) -> io::Result<()> {
+    match host.parts.ask_placed(server) {
+        Ok(Some(placed)) => {
+            host.followers.start(server.rt, ticket, placed.place);
+            begin(server, stream, placed)?;
+            send_lines(server, host, stream, ticket)
+        }
+        Ok(None) => say(stream, SLOW),
+        Err(_) => say(stream, NO_MEMORY),
+    }
+}
+
+/// Sends the part, whose strings are held no longer.
+fn begin<C: Ledger, T: Ledger, R: Wait + Clock>(
+    server: &Server<'_, C, T, SocketPort, R>,
+    stream: &UnixStream,
+    placed: PlacedPart,
+) -> io::Result<()> {
+    let written = write_part(server, stream, &placed.part);
+    drop(placed);
+    written?;
+    stream.set_read_timeout(Some(Duration::from_millis(GLANCE)))
+}
+
+/// Sends lines as they come.
+fn send_lines<C: Ledger, T: Ledger, R: Wait + Clock>(
+    server: &Server<'_, C, T, SocketPort, R>,
+    host: &Host,
+    stream: &UnixStream,
+    ticket: u64,
+) -> io::Result<()> {
+    for _ in server.rt.forever() {
+        // what comes before this stands among the lines that are given then
+        let is_over = has_all(server, host);
+        match host.followers.wait(server.rt, ticket) {
+            Given::Lines(lines, skipped) => {
+                let his = &lines[skipped.min(lines.len())..];
+                send(server, host, stream, ticket, his)?;
+            }
+            Given::Nothing if is_over || has_left(stream) => return Ok(()),
+            Given::Nothing => {}
+            Given::Cut => return say(stream, CUT),
+            Given::Over => return say(stream, STOPPED),
+        }
+    }
+    Ok(())
+}
+
+/// Whether the service has ended, and the trace has all entries.
+fn has_all<C: Ledger, T: Ledger, R: Wait + Clock>(
+    server: &Server<'_, C, T, SocketPort, R>,
+    host: &Host,
+) -> bool {
+    let entries = server.shared.entries(server.rt) as u64;
+    host.guests
+        .wait_finished(server.rt, Duration::from_millis(0))
+        && host.behind(entries) == Some(0)
+}
+
+/// Sends lines. Where he does not read, that is waited for until he is cut off, or the service ends.
+fn send<C: Ledger, T: Ledger, R: Wait + Clock>(
+    server: &Server<'_, C, T, SocketPort, R>,
+    host: &Host,
+    stream: &UnixStream,
+    ticket: u64,
+    lines: &[u8],
+) -> io::Result<()> {
+    let mut writer = stream;
+    let mut sent = 0usize;
+    for _ in server.rt.forever() {
+        let rest = &lines[sent.min(lines.len())..];
+        if rest.is_empty() {
+            return Ok(());
+        }
+        match writer.write(rest) {
+            Ok(count) => sent = sent.saturating_add(count),
+            Err(error) => {
+                if !has_to_wait(&error)
+                    || host.followers.is_cut(server.rt, ticket)
+                    || host.guests.is_stopping(server.rt)
+                {
+                    return Err(error);
+                }
+            }
+        }
+    }
+    Ok(())
+}
+
+/// Whether who follows has closed his connection.
+fn has_left(stream: &UnixStream) -> bool {
+    let mut reader = stream;
+    let mut byte = [0u8; 1];
+    match reader.read(&mut byte) {
+        Ok(count) => count == 0,
+        Err(error) => !has_to_wait(&error),
+    }
+}
+
+/// Whether a call came to nothing in its time.
+fn has_to_wait(error: &io::Error) -> bool {
+    matches!(
+        error.kind(),
+        ErrorKind::WouldBlock | ErrorKind::TimedOut | ErrorKind::Interrupted
+    )
+}

@@ -1,10 +1,13 @@
 //! A live server is asked what it does.
 use crate::exit::Exit;
+use ipc_client::{PATIENCE, is_late};
 use ipc_ports::{PortWrite, write_all};
 use std::alloc::Global;
+use std::fmt;
 use std::io::{self, Read, Write};
 use std::net::Net;
 use std::os::unix::net::UnixStream;
+use std::time::Duration;
 
 /// What a server can be asked: the words of its path `control`.
 #[derive(Clone, Copy)]
@@ -15,17 +18,27 @@ pub(crate) enum Question {
     Counters,
     /// When moment 0 was.
     Began,
+    /// Its trace from now on.
+    Trace,
 }
 
-impl Question {
-    /// The word that asks it, with its newline.
-    fn word(self) -> &'static [u8] {
-        match self {
-            Question::State => b"state\n",
-            Question::Counters => b"counters\n",
-            Question::Began => b"began\n",
-        }
+impl fmt::Display for Question {
+    fn fmt<W: fmt::Write>(&self, f: &mut fmt::Formatter<W>) -> fmt::Result {
+        f.write_str(match self {
+            Question::State => "state",
+            Question::Counters => "counters",
+            Question::Began => "began",
+            Question::Trace => "trace follow",
+        })
     }
+}
+
+/// A server that was asked, and the path by which.
+#[derive(Drop)]
+pub(crate) struct Asked {
+    pub(crate) path: String,
+    pub(crate) stream: UnixStream,
+    question: Question,
 }
 
 /// How many bytes of an answer are read at once, at most.
@@ -42,27 +55,64 @@ pub(crate) fn ask_server<R: Net, W: PortWrite>(
     question: Question,
     writer: &mut W,
 ) -> (Exit, Option<String>) {
-    let Ok(path) = format!(in alloc; "{dir}/control") else {
-        return (Exit::NoMemory, None);
-    };
-    match UnixStream::connect(rt, path.as_str()) {
-        Ok(stream) => print_answer_of(alloc, path, &stream, question, writer),
-        Err(error) => not_asked(alloc, path, &error),
+    match ask(rt, alloc, dir, question) {
+        Ok(asked) => print_answer_of(alloc, &asked, writer),
+        Err(told) => told,
     }
 }
 
-/// Asks over a connection to this path, and prints what is answered.
-fn print_answer_of<W: PortWrite>(
+/// Asks the server of a folder. It has a while for each piece of its answer.
+///
+/// # Errors
+///
+/// How that ended, and the reason.
+pub(crate) fn ask<R: Net>(
+    rt: &R,
+    alloc: Global,
+    dir: &str,
+    question: Question,
+) -> Result<Asked, (Exit, Option<String>)> {
+    let Ok(path) = format!(in alloc; "{dir}/control") else {
+        return Err((Exit::NoMemory, None));
+    };
+    match UnixStream::connect(rt, path.as_str()) {
+        Ok(stream) => ask_over(alloc, path, stream, question),
+        Err(error) => Err(not_asked(alloc, path.as_str(), question, &error)),
+    }
+}
+
+/// Asks over a connection to this path.
+fn ask_over(
     alloc: Global,
     path: String,
-    stream: &UnixStream,
+    stream: UnixStream,
     question: Question,
+) -> Result<Asked, (Exit, Option<String>)> {
+    match put_question(alloc, &stream, question) {
+        Ok(()) => Ok(Asked {
+            path,
+            stream,
+            question,
+        }),
+        Err(error) => Err(not_asked(alloc, path.as_str(), question, &error)),
+    }
+}
+
+/// Says the word that asks it.
+fn put_question(alloc: Global, stream: &UnixStream, question: Question) -> io::Result<()> {
+    stream.set_read_timeout(Some(Duration::from_secs(PATIENCE)))?;
+    let mut server = stream;
+    let word = format!(in alloc; "{question}\n")?;
+    server.write_all(word.as_bytes())
+}
+
+/// Prints what is answered.
+fn print_answer_of<W: PortWrite>(
+    alloc: Global,
+    asked: &Asked,
     writer: &mut W,
 ) -> (Exit, Option<String>) {
-    let mut server = stream;
-    if let Err(error) = server.write_all(question.word()) {
-        return not_asked(alloc, path, &error);
-    }
+    let mut server = &asked.stream;
     let mut bytes = [0u8; PIECE];
     for _ in 0..MOST_PIECES {
         match server.read(&mut bytes) {
@@ -72,7 +122,7 @@ fn print_answer_of<W: PortWrite>(
                     return (Exit::DeviceFailed, None);
                 }
             }
-            Err(error) => return not_asked(alloc, path, &error),
+            Err(error) => return not_asked(alloc, asked.path.as_str(), asked.question, &error),
         }
     }
     match writer.flush() {
@@ -82,7 +132,23 @@ fn print_answer_of<W: PortWrite>(
 }
 
 /// The server cannot be asked, and the reason names its path. Without memory there is no reason.
-fn not_asked(alloc: Global, path: String, error: &io::Error) -> (Exit, Option<String>) {
-    let reason = format!(in alloc; "{path}: {error}").ok();
-    (Exit::DeviceFailed, reason)
+fn not_asked(
+    alloc: Global,
+    path: &str,
+    question: Question,
+    error: &io::Error,
+) -> (Exit, Option<String>) {
+    if is_late(error) {
+        return silent(alloc, path, question);
+    }
+    (
+        Exit::DeviceFailed,
+        format!(in alloc; "{path}: {error}").ok(),
+    )
+}
+
+/// The server does not answer in its time, and the reason names its path and what was asked. Without memory there is no reason.
+pub(crate) fn silent(alloc: Global, path: &str, question: Question) -> (Exit, Option<String>) {
+    let reason = format!(in alloc; "{path}: no answer to {question} within {PATIENCE} seconds");
+    (Exit::DeviceFailed, reason.ok())
 }

@@ -1,6 +1,6 @@
 ghost use Rattle.std.specs.Prelude.{◌≡◌, ◌+◌, ◌<◌};
 
-use ipc_client::Client;
+use ipc_client::{Client, PATIENCE, PatientStream};
 use ipc_ports::{Failures, PortRead, PortWrite, ReadPort, WritePort};
 use l4sh_live::{Ending, talk_to};
 use l4sh_options::TalkOptions;
@@ -8,6 +8,7 @@ use std::alloc::{AllocError, Global};
 use std::marker::Brand;
 use std::net::Net;
 use std::os::unix::net::UnixStream;
+use std::sync::atomic::{AtomicBool, Ordering};
 use std::sync::ledger::{Blank, Ledger};
 
 /// How a talk with a server ended, and why, where that is known.
@@ -55,7 +56,7 @@ fn talk_at<N: Net, R: PortRead, W: PortWrite>(
         < R.failures reader.new + W.failures writer.new }
 {
     match UnixStream::connect(rt, path) {
-        Ok(stream) => talk_along(alloc, &stream, number, reader, writer),
+        Ok(stream) => talk_along(alloc, path, &stream, number, reader, writer),
         Err(error) => Talked {
             ending: Ending::NoServer,
             reason: format!(in alloc; "{path}: {error}").ok(),
@@ -63,9 +64,10 @@ fn talk_at<N: Net, R: PortRead, W: PortWrite>(
     }
 }
 
-// Talks over a socket as the thread of this number.
+// Talks over a socket as the thread of this number. A server that does not say WELCOME in its time counts as none.
 fn talk_along<R: PortRead, W: PortWrite>(
     alloc: Global,
+    path: &str,
     stream: &UnixStream,
     number: u16,
     reader: &mut R,
@@ -76,11 +78,33 @@ fn talk_along<R: PortRead, W: PortWrite>(
         < R.failures reader.new + W.failures writer.new }
 {
     let (reads, writes) = (Blank::new(1), Blank::new(1));
+    let is_silent = AtomicBool::new(false);
+    let from_server = PatientStream::new(stream, &is_silent);
     let ending = talk_over::<Brand, Brand, _, _>(
-        alloc, stream, number, reader, writer, reads, writes,
+        alloc,
+        from_server,
+        stream,
+        number,
+        reader,
+        writer,
+        reads,
+        writes,
     );
+    if is_silent.load(Ordering::SeqCst) {
+        return Talked {
+            ending: Ending::NoServer,
+            reason: silent_reason(alloc, path).ok(),
+        };
+    }
     let reason = ending.reason(alloc).unwrap_or(None);
     Talked { ending, reason }
+}
+
+// Why a server counts as none that does not answer.
+fn silent_reason(alloc: Global, path: &str) -> Result<String, AllocError> {
+    format!(in alloc;
+        "{path}: no WELCOME within {PATIENCE} seconds: the server is full, or does not answer"
+    )
 }
 
 // The path of a space: `DIR/spaceN`.
@@ -89,9 +113,10 @@ fn path_of(alloc: Global, options: &TalkOptions<'_>) -> Result<String, AllocErro
     format!(in alloc; "{dir}/space{space}")
 }
 
-// Talks over a socket. The counts of its failures begin as blanks.
+// Talks over a socket, by what is read of it and by itself. The counts of its failures begin as blanks.
 fn talk_over<I: Ledger, O: Ledger, R: PortRead, W: PortWrite>(
     alloc: Global,
+    from_server: PatientStream<'_>,
     stream: &UnixStream,
     number: u16,
     reader: &mut R,
@@ -107,7 +132,7 @@ fn talk_over<I: Ledger, O: Ledger, R: PortRead, W: PortWrite>(
         → R.failures reader.old + W.failures writer.old
         < R.failures reader.new + W.failures writer.new }
 {
-    let from_server = ReadPort::new(stream, Failures::<I>::new(reads));
+    let from_server = ReadPort::new(from_server, Failures::<I>::new(reads));
     let to_server = WritePort::new(stream, Failures::<O>::new(writes));
     let mut client = Client::new(alloc, from_server, to_server);
     talk_to(alloc, number, &mut client, reader, writer)

@@ -112,9 +112,9 @@ fn tell_entries<W: PortWrite>(follower: &mut Follower, entries: &[Entry], writer
     Exit::Done
 }
 
-// Why nothing is told.
+/// Why nothing is told.
 #[derive(Clone, Copy)]
-enum Unselected {
+pub(crate) enum Unselected {
     BadThreads,
     BadLabel,
     NoMemory,
@@ -123,7 +123,7 @@ enum Unselected {
 impl Unselected {
     ghost use Rattle.std.specs.Prelude.{◌≢◌};
 
-    fn exit(self) -> Exit
+    pub(crate) fn exit(self) -> Exit
         ensures { result ≢ Exit.DeviceFailed }
     {
         match self {
@@ -134,8 +134,11 @@ impl Unselected {
     }
 }
 
-// What is told.
-fn selection_of(alloc: Global, options: &FollowOptions<'_>) -> Result<Selection, Unselected> {
+/// What is told.
+pub(crate) fn selection_of(
+    alloc: Global,
+    options: &FollowOptions<'_>,
+) -> Result<Selection, Unselected> {
     Ok(Selection {
         threads: threads_of(alloc, options.threads)?,
         label: label_of(options.label)?,
@@ -188,8 +191,12 @@ fn follow_line<W: PortWrite>(
     }
 }
 
-// Tells an entry. None where the next one may come.
-fn tell_entry<W: PortWrite>(follower: &mut Follower, entry: &Entry, writer: &mut W) -> Option<Exit>
+/// Tells an entry. None where the next one may come.
+pub(crate) fn tell_entry<W: PortWrite>(
+    follower: &mut Follower,
+    entry: &Entry,
+    writer: &mut W,
+) -> Option<Exit>
     ensures failed { result ≡ Some Exit.DeviceFailed
         → W.failures writer.old < W.failures writer.new }
     ensures kept { result ≢ Some Exit.DeviceFailed

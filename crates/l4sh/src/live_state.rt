@@ -55,7 +55,12 @@ fn put_state<W: PortWrite>(alloc: Global, answer: &[u8], times: Times, writer: &
 }
 
 /// How the moments of a server are told: where that is as times of day, it says when it began; else the ending says that no time is known.
-fn live_times<R: Net>(rt: &R, alloc: Global, dir: &str, is_timed: bool) -> Result<Times, Ending> {
+pub(crate) fn live_times<R: Net>(
+    rt: &R,
+    alloc: Global,
+    dir: &str,
+    is_timed: bool,
+) -> Result<Times, Ending> {
     if !is_timed {
         return Ok(Times::Micros);
     }

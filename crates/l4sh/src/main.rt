@@ -14,6 +14,7 @@ mod ending;
 mod exit;
 mod files;
 mod follow;
+mod following;
 mod history;
 mod inputs;
 mod kept;

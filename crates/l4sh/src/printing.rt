@@ -5,6 +5,7 @@ use crate::chart::{chart_read, chart_reason, chart_trace, has_two_forms};
 use crate::ending::{Ending, exit_alone};
 use crate::exit::{ChartFault, Exit};
 use crate::follow::{follow_entries, follow_trace};
+use crate::following::follow_server;
 use crate::history::check_files;
 use crate::live_state::live_state;
 use crate::looking::{Look, look_at_trace, tell};
@@ -220,8 +221,8 @@ pub(crate) fn chart_of<L: Ledger, R: Files + Input, W: PortWrite>(
     told_chart(alloc, options, &ending).unwrap_or(ending)
 }
 
-/// Tells the history of files, or of standard input, in words.
-pub(crate) fn follow_of<L: Ledger, R: Files + Input, W: PortWrite>(
+/// Tells the history of files, or of standard input, in words, or what a live server does where a folder is named.
+pub(crate) fn follow_of<L: Ledger, R: Files + Input + Net, W: PortWrite>(
     rt: &R,
     alloc: Global,
     files: &[&str],
@@ -229,13 +230,29 @@ pub(crate) fn follow_of<L: Ledger, R: Files + Input, W: PortWrite>(
     reads: Failures<L>,
     writer: &mut W,
 ) -> Ending {
-    let times = match times_of(rt, alloc, files, options.is_timed) {
-        Ok(times) => times,
-        Err(ending) => return ending,
+    let ending = match folder_in(rt, files) {
+        Some(dir) => follow_server(rt, alloc, dir, options, reads, writer),
+        None => follow_files(rt, alloc, files, options, reads, writer),
     };
-    let printing = Printing::Follow(*options, times);
-    let ending = print_of(rt, alloc, files, printing, reads, writer);
     told_follow(alloc, options, &ending).unwrap_or(ending)
+}
+
+/// Tells the history of files, or of standard input, in words.
+fn follow_files<L: Ledger, R: Files + Input, W: PortWrite>(
+    rt: &R,
+    alloc: Global,
+    files: &[&str],
+    options: &FollowOptions<'_>,
+    reads: Failures<L>,
+    writer: &mut W,
+) -> Ending {
+    match times_of(rt, alloc, files, options.is_timed) {
+        Ok(times) => {
+            let printing = Printing::Follow(*options, times);
+            print_of(rt, alloc, files, printing, reads, writer)
+        }
+        Err(ending) => ending,
+    }
 }
 
 /// The ending with the option that is at fault, where one is.

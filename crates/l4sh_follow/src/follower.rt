@@ -35,6 +35,20 @@ impl Follower {
         }
     }
 
+    /// Takes note of what was before the first entry: the moment, in microseconds, and the entries that are kept. They count as none.
+    ///
+    /// # Errors
+    ///
+    /// There is no memory.
+    pub fn begin(&mut self, moment: u64, kept: &[Entry]) -> Result<(), AllocError> {
+        for entry in kept {
+            self.note(entry)?;
+            self.forget(entry);
+        }
+        self.moment = moment;
+        Ok(())
+    }
+
     /// The next entry in words, as a line with its newline: its number from 1, the moment,
     /// and what it says. None where it is not to be told, as a moment by itself, or where it names a call
     /// that never came.
@@ -52,10 +66,15 @@ impl Follower {
             }
             _ => None,
         };
+        self.forget(entry);
+        Ok(told)
+    }
+
+    // Lets go of the call of a thread that has ended.
+    fn forget(&mut self, entry: &Entry) {
         if let Entry::Given(Input::Broke(thread)) = entry {
             self.notes.leave(*thread);
         }
-        Ok(told)
     }
 
     // Takes note of what the entry and those after it say.

@@ -268,7 +268,7 @@ pub(crate) const SUBCOMMANDS: [Subcommand; 14] = [
     Subcommand {
         name: "follow",
         about: "Tells a trace in words as it comes; FILE may be - for standard input",
-        arguments: &[FILES, THREADS, LABEL, FAILURES, TIME],
+        arguments: &[FILES_OR_FOLDER, THREADS, LABEL, FAILURES, TIME],
     },
     Subcommand {
         name: "talk",

@@ -3,7 +3,7 @@
 
 - Each block of commands that a block of text follows is run, in the order of the page, in a folder that has `l4sh` and `examples`.
   The lines of the text stand in what is printed, one behind the other.
-- Each command in the first table of TOOLS ends well, but for those that talk to a live server or follow a trace without an end.
+- Each command in the first table of TOOLS ends well, but for those that want a live server.
 - Each script of connections in FORMATS prints what stands behind it.
 - Each code that `l4sh explain` knows has its row in FORMATS; each ErrorCode and each period there is one that l4sh reads so.
 
@@ -23,10 +23,10 @@ from page_text import dialogues, text_of
 
 PAGES = ["docs/TOOLS.md", "docs/FORMATS.md", "examples/README.md"]
 SHOWN = re.compile(r"```sh\n(.*?)```\n(?:\n[^`\n|#][^\n]*\n)?(?=\n```text\n(.*?)```)?", re.S)
-# They never end by themselves, or want a live server.
-LIVE = ("tail -c", "l4sh talk meet")
+# They want a live server.
+LIVE = ("l4sh talk meet",)
 # What asks a live server, of whose folder the name of a trace begins with the same letters.
-ASKS = "l4sh state meet"
+ASKS = ("l4sh state meet", "l4sh follow --failures meet")
 FEWEST = {"blocks": 6, "commands": 12, "connections": 2, "codes": 45, "words": 10}
 
 
@@ -66,7 +66,7 @@ def commands_of_tools(book, folder):
     shell("./l4sh part trace.1 > trace", folder)
     for row in re.findall(r"^\| `(.*?)` \|(.*)\|$", table, re.M):
         command = row[0].replace("\\|", "|")
-        if command.startswith(LIVE) or command == ASKS:
+        if command.startswith(LIVE) or command in ASKS:
             continue
         ran = shell(command.replace("l4sh ", "./l4sh ", 1), folder)
         prints = re.search(r"`(\w+)`\s*$", row[1])

@@ -47,7 +47,7 @@ from written import Written
 
 HERE = f"{ROOT}/checks"
 EXAMPLES = f"{ROOT}/examples"
-OF_A_SERVER = ("state", "count")
+OF_A_SERVER = ("state", "count", "follow")
 OF_AN_OPTION = ("threads", "label")
 OF_INPUT = ("run", "wire", "talk")
 # What has more bytes is not read in small pieces.
@@ -205,7 +205,7 @@ def faults_of_codes(l4sh, _):
 
 
 def faults_of_folder(l4sh, path):
-    """A folder is no trace. `state` and `count` ask the server of a folder, and here there is none."""
+    """A folder is no trace. `state`, `count` and `follow` ask the server of a folder, and here there is none."""
     for command in OF_A_FILE:
         there = ended([l4sh, command, path])
         why = f"{path}/control: No such file or directory (os error 2)" if command in OF_A_SERVER else f"{path}: is a folder"

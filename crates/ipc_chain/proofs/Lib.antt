@@ -3,3 +3,4 @@ pub mod Keeping
 pub mod Taking
 pub mod Joining
 pub mod Walking
+pub mod Each

@@ -10,8 +10,8 @@ use Rattle.ipc_check.proofs.After.{fault_after}
 use Rattle.ipc_compact.specs.Compact.{Base, base_of, kept_of}
 use Rattle.ipc_compact.specs.Later.{AreAmong}
 use Rattle.ipc_part.specs.Parts.{PartParts}
-use Rattle.ipc_chain.specs.Chains.{BeginsAt, ChainFrom, IsCount, callers_kept}
-use Rattle.ipc_chain.specs.Judging.{AreBooks, ChainParts, GoesOn, IsSure, Joins, TakesSure, Walks}
+use Rattle.ipc_chain.specs.Chains.{BeginsAt, ChainFrom, IsChain, IsCount, begun, callers_kept}
+use Rattle.ipc_chain.specs.Judging.{AreBooks, ChainParts, GoesOn, IsFirstFile, IsSure, Joins, TakesSure, Walks}
 use Rattle.ipc_chain.proofs.Others.{sure_on}
 
 pub walks_none : (start : ChainParts) → Walks start start []
@@ -35,6 +35,36 @@ walks_more start between after entries e legal walks on = record {
     ];
   };
   told = on.told ∙ walks.told;
+}
+
+-- the entries of the first file so far, and one more
+pub first_more : (old new : ChainParts) (e : Entry) → Legal old.past → GoesOn old new e → IsFirstFile old → IsFirstFile new
+first_more old new e legal on first = record {
+  sure = record {
+    more = λ n among. on.taken.more n (first.sure.more n among);
+    sure = λ n among. elim (on.taken.sure n among) [
+      | inr sure ↦ inr sure
+      | inl was ↦ elim (first.sure.sure n was) [
+        | inl none ↦ inl none
+        | inr sure ↦ inr (subst (λ l. IsSure l n) (sym on.past) (sure_on old.past legal e on.follows n sure))
+      ]
+    ];
+  };
+  untold = on.told ∙ first.untold;
+}
+
+-- and where nothing came
+pub first_same : (old new : ChainParts) → new.past ≡ old.past → new.taken ≡ old.taken → new.told ≡ old.told → IsFirstFile old → IsFirstFile new
+first_same old new past taken told first = record {
+  sure = subst (λ l. TakesSure l [] new.taken) (sym past) (subst (λ t. TakesSure old.past [] t) (sym taken) first.sure);
+  untold = told ∙ first.untold;
+}
+
+-- nothing has come yet
+pub first_none : (new : ChainParts) → new.past ≡ [] → new.taken ≡ [] → new.told ≡ 0 → IsFirstFile new
+first_none new past taken told = record {
+  sure = subst (λ t. TakesSure new.past [] t) (sym taken) (record { more = λ n among. among; sure = λ n among. inl among });
+  untold = told;
 }
 
 -- a chain is a legal history
@@ -105,6 +135,10 @@ module _ (old between new : ChainParts) (part : PartParts) (rest : List PartPart
   part_broken refused (_, (took, begins, chain)) =
       refused (subst (λ l. Legal (l ++ part.entries)) (sym joins.past) (chain_legal (old.past ++ part.entries) took part.base.takes rest chain))
 
+  -- before its entries
+  pub part_begun : ChainFrom old.past old.taken old.told (begun part ∷ [])
+  part_begun = (legal, (between.taken, joins.begins, subst Legal (sym (append-nil old.past)) legal))
+
 -- Where an iterator over a list stands
 
 module _ (X done rest : List Entry) (e : Entry) (i : ℕ) (whole : X ≡ done ++ e ∷ rest) (place : i ≡ length done) where
@@ -154,6 +188,18 @@ module _ (start mid : ChainParts) (entries : List Entry) (past : start.past ≡ 
   first_back chain =
       subst (λ k. ChainFrom entries [] k parts) told_is (subst (λ l. ChainFrom l [] mid.told parts) past_is
       (chain_less mid.past [] mid.taken mid.told parts (λ n among. absurd (false≢true among)) chain))
+
+-- behind the entries of a first file stands what stands behind a trace of them
+module _ (chain : ChainParts) (first : IsFirstFile chain) (parts : List PartParts) where
+  pub behind_first : ChainFrom chain.past chain.taken chain.told parts → IsChain chain.past parts
+  behind_first behind =
+      subst (λ k. ChainFrom chain.past [] k parts) first.untold
+      (chain_less chain.past [] chain.taken chain.told parts (λ n among. absurd (false≢true among)) behind)
+
+  pub first_behind : IsChain chain.past parts → ChainFrom chain.past chain.taken chain.told parts
+  first_behind whole =
+      chain_sure chain.past [] chain.taken chain.told parts first.sure
+      (subst (λ k. ChainFrom chain.past [] k parts) (sym first.untold) whole)
 
 -- a part behind a chain makes it longer
 pub chain_longer : (chain : ChainParts) (part : PartParts) (taken : List ℕ) → Legal chain.past → part.entries ≡ [] → BeginsAt chain.past chain.taken chain.told part.base part.kept taken → ChainFrom chain.past chain.taken chain.told (part ∷ [])

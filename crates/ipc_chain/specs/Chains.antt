@@ -1,5 +1,5 @@
 -- Our choice (docs/FORMATS.md): a history whose entries stand in several files, the first from its beginning, each further one as a part.
-use Rattle.std.specs.Prelude.{◌≡◌, ℕ, ◌+◌, ◌≤◌, List, [], ◌∷◌, ◌++◌, Option, Some, None, filter_map, length, if◌then◌else◌, IsTrue}
+use Rattle.std.specs.Prelude.{◌≡◌, ℕ, ◌+◌, ◌≤◌, List, [], ◌∷◌, ◌++◌, Bool, true, false, Option, Some, None, filter_map, length, if◌then◌else◌, IsTrue}
 use Rattle.ipc_history.specs.Calls.{calls_made, is_called}
 use Rattle.ipc_history.specs.Legal.{Legal, Quiet}
 use Rattle.ipc_history.specs.Phases.{is_over}
@@ -11,6 +11,8 @@ use Rattle.ipc_compact.specs.Later.{AreAmong}
 use Rattle.ipc_partners.specs.Kept.{TookOthers}
 use Rattle.ipc_part.specs.Parts.{PartParts}
 use Rattle.ipc_part.specs.declared.part.Part.{Part}
+use Rattle.ipc_chain.specs.declared.verdict.ChainVerdict.{ChainVerdict}
+use Rattle.ipc_chain.specs.declared.verdict.ChainVerdict.TheVariants.{NoPart}
 
 -- the thread that makes a call by an entry, where that call does not count as over: it is open, or its outcome is to be taken
 abbrev pub caller_kept : List ℕ → Entry → Option ℕ
@@ -58,3 +60,26 @@ parts_of part = record { base = part.base; kept = part.kept.items; entries = par
 -- the entries of a trace and of these parts are one history
 abbrev pub IsChain : List Entry → List PartParts → Type 0
 IsChain entries parts = ChainFrom entries [] 0 parts
+
+-- a part before the entries that came since
+abbrev pub begun : PartParts → PartParts
+begun part = record { base = part.base; kept = part.kept; entries = [] }
+
+-- behind some history that ends as the first of these parts says, they are one history with it
+abbrev pub HasBefore : List PartParts → Type 0
+HasBefore parts = (before : List Entry) × IsChain before parts
+
+-- behind some history that ends as a part says, its entries and the parts behind it are none
+abbrev pub BreaksBehind : PartParts → List PartParts → Type 0
+BreaksBehind first parts = (before : List Entry) × (IsChain before (begun first ∷ []) × (IsChain before (first ∷ parts) → ⊥))
+
+-- the entries of a part follow whatever history ends as it says
+abbrev pub FollowsEach : PartParts → Type 0
+FollowsEach part =
+    (before : List Entry) (old taken : List ℕ) (told : ℕ) → Legal before → BeginsAt before old told part.base part.kept taken
+    → Legal (before ++ part.entries)
+
+-- a part begins where the files before it end
+abbrev pub has_joined : Option ChainVerdict → Bool
+has_joined (Some (NoPart file difference)) = false
+has_joined verdict = true

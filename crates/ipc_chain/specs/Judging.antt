@@ -63,6 +63,11 @@ pub record Walks (old new : ChainParts) (entries : List Entry) : Type 0 where
   pub taken : TakesSure new.past old.taken new.taken
   pub told : new.told ≡ old.told
 
+-- the entries so far are those of the first file: no part has joined them, and no more outcomes were taken than surely were
+pub record IsFirstFile (chain : ChainParts) : Type 0 where
+  pub sure : TakesSure chain.past [] chain.taken
+  pub untold : chain.told ≡ 0
+
 -- one more outcome was taken, that of the last call of a live thread; or none was, where there is none to take
 pub record TakesLast (H : List Entry) (t : ℕ) (old new : List ℕ) : Type 0 where
   pub more : AreAmong old new

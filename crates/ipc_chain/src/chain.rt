@@ -84,6 +84,11 @@ impl Chain {
         })
     }
 
+    /// What the history says of each thread number.
+    pub(crate) fn slots(&self) -> &Slots {
+        &self.slots
+    }
+
     /// The history is legal.
     pub(crate) fn legal(&self)
         ensures { Legal self.now.past }

@@ -6,8 +6,9 @@ mod chain;
 mod difference;
 mod same;
 mod verdict;
+mod witness;
 
 pub use behind::{Put, put_behind};
 pub use chain::Chain;
 pub use difference::{Difference, lines_before};
-pub use verdict::{ChainVerdict, check_chain};
+pub use verdict::{ChainVerdict, check_chain, check_parts};

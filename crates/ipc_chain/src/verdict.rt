@@ -1,12 +1,13 @@
-ghost use Rattle.std.specs.Prelude.{◌≡◌, ◌≢◌, ◌↔◌, [], ◌∷◌, ◌++◌, List, map, IfOk, IfSome, None};
+ghost use Rattle.std.specs.Prelude.{◌≡◌, ◌≢◌, ◌↔◌, [], ◌∷◌, ◌++◌, List, map, IfOk, IfSome, IsTrue, None, Some};
 ghost use Rattle.ipc_check.specs.Faults.{IsFirstFaultAfter};
 ghost use Rattle.ipc_part.specs.Parts.{PartParts};
-ghost use Rattle.ipc_chain.specs.Chains.{ChainFrom, IsChain, parts_of};
+ghost use Rattle.ipc_chain.specs.Chains.{BreaksBehind, ChainFrom, FollowsEach, HasBefore, IsChain, begun, has_joined, parts_of};
 ghost use Rattle.ipc_chain.specs.Judging.{Walks};
 ghost use Rattle.ipc_chain.specs.declared.verdict.ChainVerdict.TheVariants.{NoEntry, Yes};
 
 use crate::chain::{Chain, NotNext};
 use crate::difference::Difference;
+use crate::witness::seek;
 use ipc_history::{Entry, Output};
 use ipc_part::Part;
 use std::alloc::{AllocError, Global};
@@ -66,6 +67,44 @@ pub fn check_chain(
     }
 }
 
+/// Whether the entries of parts, each in its turn, are one history with one that ends as the first part says, and each further part has the
+/// base and the kept entries of what stands before it. None where no history was found that ends so: there may be one. The verdict counts the
+/// first part as file 0.
+///
+/// # Errors
+///
+/// Where memory is refused.
+pub fn check_parts(
+    alloc: Global,
+    first: Part,
+    parts: Vec<Part>,
+) -> Result<Option<ChainVerdict>, AllocError>
+    // A yes is said of a history that is there.
+    ensures yes { IfOk result (λ verdict. verdict ≡ Some Yes
+        → HasBefore (parts_of first ∷ map parts_of parts.items)) }
+    // And the entries of the first part follow each history that ends as it says.
+    ensures each { IfOk result (λ verdict. verdict ≡ Some Yes → FollowsEach (parts_of first)) }
+    // A no is said of entries behind a history that ends as the first part says.
+    ensures no { IfOk result (λ verdict. IfSome verdict (λ verdict. verdict ≢ Yes
+        → BreaksBehind (parts_of first) (map parts_of parts.items))) }
+{
+    let mut chain = Chain::new(alloc)?;
+    if !seek(alloc, &mut chain, &first.base, &first.kept)? {
+        return Ok(None);
+    }
+    match walk_part(&mut chain, 0, first)? {
+        Some(ChainVerdict::NoPart { .. }) => Ok(None),
+        Some(verdict) => Ok(Some(verdict)),
+        None => match walk_parts(&mut chain, parts)? {
+            Some(verdict) => Ok(Some(verdict)),
+            None => {
+                chain.legal();
+                Ok(Some(ChainVerdict::Yes))
+            }
+        },
+    }
+}
+
 // Takes the entries of files, one after the other; a verdict where they are not one history.
 pub(crate) fn walk_files(
     chain: &mut Chain,
@@ -118,6 +157,8 @@ fn walk_part(chain: &mut Chain, file: usize, part: Part) -> Result<Option<ChainV
     ensures no { IfOk result (λ verdict. IfSome verdict (λ verdict. (verdict ≢ Yes)
         × ((rest : List PartParts)
         → ChainFrom chain.old.past chain.old.taken chain.old.told (parts_of part ∷ rest) → ⊥))) }
+    ensures begins { IfOk result (λ verdict. IsTrue (has_joined verdict)
+        → ChainFrom chain.old.past chain.old.taken chain.old.told (begun (parts_of part) ∷ [])) }
 {
     let Part {
         base,

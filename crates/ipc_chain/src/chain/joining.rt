@@ -93,7 +93,7 @@ impl Chain {
     }
 
     /// The output that is still to come of the history.
-    pub(super) fn next(&self) -> Option<Output>
+    pub(crate) fn next(&self) -> Option<Output>
         ensures { result ≡ next_output self.now.past }
     {
         next_output(&self.slots, &self.history.whole())
@@ -162,7 +162,7 @@ impl Chain {
     }
 
     /// Lets go of what is not kept of the history, and says its base.
-    pub(super) fn compacted(&mut self) -> Result<Base, AllocError>
+    pub(crate) fn compacted(&mut self) -> Result<Base, AllocError>
         ensures past { self.new.past ≡ self.old.past }
         ensures taken { self.new.taken ≡ self.old.taken }
         ensures told { self.new.told ≡ self.old.told }

@@ -1,0 +1,135 @@
+// Calls that are ended, of which a part keeps no end: those that count as over, and those that it tells to have failed.
+use super::calls::sending_call;
+use super::guide::{Guide, Turn, is_receiving, live};
+use ipc_history::{Entry, Input, Output};
+use ipc_rules::is_free;
+use ipc_slots::{Slots, Standing};
+use ipc_words::limits::TABLE_SLOTS;
+use ipc_words::{ErrorKind, IpcError, MaskedControl, Phase, ThreadId};
+use std::alloc::AllocError;
+
+impl Guide<'_> {
+    /// Ends a call that is open and that no kept entry needs any more, where that is possible.
+    pub(super) fn end_call(&mut self, slots: &Slots) -> Result<Option<Entry>, AllocError> {
+        for number in 1..TABLE_SLOTS {
+            if let Some(call) = slots.call_at(number) {
+                if !self.is_wanted(&call) {
+                    if let Some(entry) = self.end(slots, &call)? {
+                        return Ok(Some(entry));
+                    }
+                }
+            }
+        }
+        Ok(None)
+    }
+
+    /// Ends an open call: it is cancelled, or gets a message, or who can cancel it opens.
+    fn end(&mut self, slots: &Slots, call: &Standing) -> Result<Option<Entry>, AllocError> {
+        if let Some(entry) = cancel(slots, call.caller) {
+            return Ok(Some(entry));
+        }
+        if let Some(entry) = self.answer(slots, call)? {
+            return Ok(Some(entry));
+        }
+        if slots.is_live(call.caller) {
+            return Ok(self.spare(slots, slots.space_of(call.caller)));
+        }
+        Ok(None)
+    }
+
+    /// A call that receives gets a message of a thread that has calls to make.
+    fn answer(&mut self, slots: &Slots, call: &Standing) -> Result<Option<Entry>, AllocError> {
+        if !is_receiving(call) || self.room(slots) == 0 {
+            return Ok(None);
+        }
+        for number in 1..TABLE_SLOTS {
+            if let Some(thread) = live(slots, number) {
+                if self.can_answer(slots, thread, call) && self.budget.take(thread) {
+                    let next = slots.calls_made().saturating_add(1);
+                    return Ok(Some(sending_call(self.alloc, next, thread, call.caller)?));
+                }
+            }
+        }
+        Ok(None)
+    }
+
+    /// Whether a live thread may send a message to a call that receives.
+    fn can_answer(&self, slots: &Slots, thread: ThreadId, call: &Standing) -> bool {
+        is_free(slots, thread)
+            && self.budget.left(thread) > 0
+            && (call.awaited == ThreadId::ANYTHREAD || call.awaited == thread)
+    }
+
+    /// What brings an output that is kept and does not come by itself.
+    pub(super) fn bring(&self, slots: &Slots, output: &Output) -> Turn {
+        match output {
+            Output::Failed(number, code) => self.fail(slots, *number, *code),
+            Output::Aborted(sending, _, _) => self.fail(
+                slots,
+                *sending,
+                IpcError::cancelled(Phase::Send),
+            ),
+            _ => Turn::Lost,
+        }
+    }
+
+    /// What brings the failure of an open call.
+    fn fail(&self, slots: &Slots, number: u64, code: IpcError) -> Turn {
+        let Some(call) = open_call(slots, number) else {
+            return Turn::Lost;
+        };
+        let entry = match code.kind() {
+            Some(ErrorKind::Cancelled) => match cancel(slots, call.caller) {
+                Some(entry) => Some(entry),
+                None if slots.is_live(call.caller) => {
+                    self.spare(slots, slots.space_of(call.caller))
+                }
+                None => None,
+            },
+            Some(ErrorKind::NonExistingPartner) => self.end_partner(slots, &call),
+            _ => None,
+        };
+        match entry {
+            Some(entry) => Turn::Entry(entry),
+            None => Turn::Lost,
+        }
+    }
+
+    /// The partner of an open call ends, where it is to end.
+    fn end_partner(&self, slots: &Slots, call: &Standing) -> Option<Entry> {
+        let partner = call.partner();
+        if slots.is_live(partner) && !self.budget.lasts(partner) {
+            Some(Entry::Given(Input::Broke(partner)))
+        } else {
+            None
+        }
+    }
+}
+
+/// The open call of a number.
+fn open_call(slots: &Slots, number: u64) -> Option<Standing> {
+    for place in 1..TABLE_SLOTS {
+        if let Some(call) = slots.call_at(place) {
+            if call.number == number {
+                return Some(call);
+            }
+        }
+    }
+    None
+}
+
+/// A free thread of its space stops a thread in both phases.
+fn cancel(slots: &Slots, thread: ThreadId) -> Option<Entry> {
+    if !slots.is_live(thread) {
+        return None;
+    }
+    for number in 1..TABLE_SLOTS {
+        if let Some(other) = live(slots, number) {
+            if is_free(slots, other) && slots.is_live_beside(other, thread) {
+                let control = MaskedControl::of(true, true);
+                return Some(Entry::Given(Input::Exreg(other, thread, control)));
+            }
+        }
+    }
+    None
+}

@@ -26,8 +26,10 @@ struct Own {
     lasting: ThreadId,
     /// How many calls it has to make.
     left: u64,
-    /// The number of its kept call that is open at the end, or is not taken; before that they are made.
+    /// The number of its kept call that is open at the end, or is not taken.
     last: u64,
+    /// That of its next kept call, before which it is free.
+    next: u64,
 }
 
 impl Budget {
@@ -45,6 +47,11 @@ impl Budget {
         }
         for entry in wanted.kept {
             budget.note(wanted, entry);
+        }
+        for entry in wanted.kept {
+            if let Entry::Given(Input::Opened(thread, _)) = entry {
+                budget.set_next(wanted, 0, *thread);
+            }
         }
         for step in steps {
             if let Step::Receive(receipt) = step {
@@ -66,6 +73,7 @@ impl Budget {
             lasting: ThreadId::NILTHREAD,
             left,
             last: end,
+            next: end,
         })?;
         Ok(())
     }
@@ -88,6 +96,14 @@ impl Budget {
     fn set_lasting(&mut self, thread: ThreadId, lasting: ThreadId) {
         if let Some(own) = self.numbers.get_mut(thread.number() as usize) {
             own.lasting = lasting;
+        }
+    }
+
+    /// Notes the next kept calls of a thread, of those from a place on.
+    pub fn set_next(&mut self, wanted: Wanted<'_>, place: usize, thread: ThreadId) {
+        let end = wanted.base.calls().saturating_add(1);
+        if let Some(own) = self.numbers.get_mut(thread.number() as usize) {
+            own.next = wanted.call_from(place, thread).unwrap_or(end);
         }
     }
 
@@ -181,10 +197,10 @@ impl Budget {
         self.others
     }
 
-    /// The number of the call before which a thread has to make its calls.
+    /// The number of the call before which a thread has to make its calls, or as many as there is time for.
     pub fn limit(&self, thread: ThreadId) -> u64 {
         match self.numbers.get(thread.number() as usize) {
-            Some(own) if own.lasting == thread => own.last,
+            Some(own) if own.lasting == thread => own.next,
             _ => self.closing_call,
         }
     }

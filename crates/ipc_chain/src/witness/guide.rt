@@ -110,6 +110,10 @@ impl<'a> Guide<'a> {
     /// A kept entry has come.
     fn pass(&mut self, place: usize) {
         self.passed = place.saturating_add(1);
+        let wanted = self.wanted;
+        if let Some(Entry::Given(Input::Called(_, caller, _))) = wanted.kept.get(place) {
+            self.budget.set_next(wanted, self.passed, *caller);
+        }
         self.go_on();
     }
 

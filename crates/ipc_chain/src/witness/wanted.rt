@@ -1,6 +1,7 @@
 // How a history is to end: what a part says of it.
 use ipc_compact::Base;
 use ipc_history::{Entry, Input, Output};
+use ipc_words::ThreadId;
 
 /// The base and the kept entries of a part.
 #[derive(Clone, Copy)]
@@ -73,6 +74,18 @@ impl Wanted<'_> {
             }
         }
         call
+    }
+
+    /// The number of the first kept call of a thread from a place on.
+    pub fn call_from(&self, place: usize, thread: ThreadId) -> Option<u64> {
+        for at in place..self.kept.len() {
+            if let Entry::Given(Input::Called(number, caller, _)) = &self.kept[at] {
+                if *caller == thread {
+                    return Some(*number);
+                }
+            }
+        }
+        None
     }
 
     /// The space of the first kept thread.

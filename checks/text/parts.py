@@ -4,7 +4,8 @@
 The histories are those of the scripts in checks/scripts/run and of the examples, cut into two and three files: `l4sh part` writes where each further one
 begins, with the outcomes taken or not. Of the files of one history `l4sh check` has to say `yes`. Then one line at a time of a base, or of what is kept, is
 changed, left out or put twice; the files come in another order, one comes twice, one is empty, torn, or no part; and an entry does not follow. Each time the
-file and the line have to be told that are at fault, and for an entry what the whole trace is told.
+file and the line have to be told that are at fault, and for an entry what the whole trace is told. For nearly all parts that stand alone a history is found that ends
+as they say.
 
 Of the files of one history `state`, `count`, `chart`, `follow` and `script` print what they print of the trace in one file; of files that are no history
 nothing, and the words of `check`. The last line is `N passed, M failed`."""
@@ -25,6 +26,8 @@ NUMBERED = re.compile(rb"\d+")
 COUNT = re.compile(rb"no 1 \d+ (number|over) ")
 READERS = (["state"], ["state", "--at", "5"], ["count"], ["count", "--json"], ["chart", "--text"], ["chart", "--from", "3", "--html"], ["follow"],
            ["follow", "--failures"], ["script"])
+# of how many parts that stand alone a history has to be found, at least
+FOUND = 0.8
 # how many of the histories are cut at each of their places, and how many places of the others are tried
 PLACES = 12
 
@@ -97,6 +100,20 @@ def faults_of_cuts(files, header, lines):
                     yield f"cut at {place} and {later}: {there}"
 
 
+def faults_of_parts_alone(files, header, lines):
+    """What is wrong with the parts that begin at the places of this history, where they stand alone; behind it whether a history was found each time."""
+    for place in places_of(len(lines)):
+        for untaken in (False, True):
+            begun = files.part(header + b"".join(lines[:place]), untaken=untaken)
+            if begun is None:
+                continue
+            printed, status, told = files.check(begun + b"".join(lines[place:]))
+            found = (printed, status, told) == (b"yes from 0\n", 0, b"")
+            if not found and ((printed, status) != (b"", 6) or b"no history was found" not in told):
+                yield False, f"alone from {place}: {(printed, status, told)}"
+            yield found, ""
+
+
 def with_greater(line):
     """The line with its last number one greater."""
     found = list(NUMBERED.finditer(line))[-1]
@@ -148,7 +165,8 @@ def faults_of_orders(files, first, second):
     """What is told of files in another order, and of what is no part."""
     rows = [
         ("the other order", (second, first), b"", 2, b"bad line 1"),
-        ("a part alone", (second,), b"", 2, b"name the files before it"),
+        ("a part and then no part", (second, b"hello\n"), b"", 2, b"it is no part"),
+        ("a part alone with another moment", (second.replace(b"moment ", b"moment 1", 1),), b"", 6, b"no history was found that ends as 0 says"),
         ("the trace twice", (first, first), b"", 2, b"it is no part"),
         ("an empty file", (first, b""), b"", 2, b"ends before the line since"),
         ("an empty trace before a part", (b"", second), b"no 1 ", 3, b""),
@@ -199,7 +217,7 @@ def faults_of_bad_files(files, first, second):
 
 def main():
     l4sh = sys.argv[1] if len(sys.argv) > 1 else f"{ROOT}/l4sh"
-    passed = failed = 0
+    passed = failed = alone = found = 0
     with tempfile.TemporaryDirectory() as room:
         files = Files(l4sh, room)
         for name, header, lines in histories(l4sh):
@@ -215,9 +233,15 @@ def main():
                 if b"number" in begun and rest:
                     faults += faults_of_orders(files, first, begun + rest)
                     faults += faults_of_bad_files(files, first, begun + rest)
+            for is_found, fault in faults_of_parts_alone(files, header, lines):
+                faults += [fault] if fault else []
+                alone, found = alone + 1, found + is_found
             for fault in faults[:5]:
                 print(f"{name}: {fault}")
             passed, failed = (passed, failed + 1) if faults else (passed + 1, failed)
+    if found < FOUND * alone:
+        failed += 1
+    print(f"of {alone} parts that stand alone a history was found for {found}")
     print(f"{passed} passed, {failed} failed")
     return 1 if failed else 0
 

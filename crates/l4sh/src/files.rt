@@ -73,7 +73,7 @@ impl Task for NextFile {
 pub(crate) struct History {
     pub(crate) first: TraceRead,
     pub(crate) parts: Vec<Part>,
-    /// By part, how many lines stand before the entries that came since.
+    /// By file, how many lines stand before the entries that came since.
     pub(crate) before: Vec<u64>,
     /// Whether a line that lacks its newline stands behind the last file.
     pub(crate) is_torn: bool,
@@ -86,16 +86,7 @@ pub(crate) fn read_files<R: Files + Input, W: PortWrite>(
     files: &[&str],
     writer: &mut W,
 ) -> Result<History, Ending> {
-    let mut history = History {
-        first: TraceRead {
-            version: TraceVersion::One,
-            entries: Vec::new(alloc),
-            end: TraceEnd::Whole,
-        },
-        parts: Vec::new(alloc),
-        before: Vec::new(alloc),
-        is_torn: false,
-    };
+    let mut history = History::new(alloc);
     for place in 0..files.len() {
         let file = files[place];
         if history.is_torn {
@@ -110,7 +101,79 @@ pub(crate) fn read_files<R: Files + Input, W: PortWrite>(
     Ok(history)
 }
 
+/// Reads files of one history of which the first is a part, too; None where it is none.
+pub(crate) fn read_parts<R: Files + Input, W: PortWrite>(
+    rt: &R,
+    alloc: Global,
+    files: &[&str],
+    writer: &mut W,
+) -> Result<Option<History>, Ending> {
+    let mut history = History::new(alloc);
+    for place in 0..files.len() {
+        let file = files[place];
+        if history.is_torn {
+            return Err(torn_before(alloc, file));
+        }
+        match read_as_part(rt, alloc, file, writer) {
+            Ok(read) => history.add(read)?,
+            Err(unread) if unread.is_other && place == 0 => return Ok(None),
+            Err(unread) => return Err(unread.ending),
+        }
+    }
+    Ok(Some(history))
+}
+
+/// Why a file was not read as a part.
+#[derive(Drop)]
+struct Unread {
+    /// Whether its first line is not that of a part.
+    is_other: bool,
+    ending: Ending,
+}
+
+/// Reads a file as a part.
+fn read_as_part<R: Files + Input, W: PortWrite>(
+    rt: &R,
+    alloc: Global,
+    file: &str,
+    writer: &mut W,
+) -> Result<PartRead, Unread> {
+    let mut next = NextFile {
+        read: None,
+        fault: None,
+    };
+    let ending = look_anew(rt, alloc, &FilePath { path: file }, &mut next, writer);
+    let NextFile { read, fault } = next;
+    match read {
+        Some(read) => Ok(read),
+        None => match fault {
+            Some(fault) => Err(Unread {
+                is_other: matches!(fault, PartFault::BadLine(1)),
+                ending: told(2, fault_text(alloc, file, fault)),
+            }),
+            None => Err(Unread {
+                is_other: false,
+                ending: of_file(alloc, file, ending),
+            }),
+        },
+    }
+}
+
 impl History {
+    /// No file was read.
+    fn new(alloc: Global) -> History {
+        History {
+            first: TraceRead {
+                version: TraceVersion::One,
+                entries: Vec::new(alloc),
+                end: TraceEnd::Whole,
+            },
+            parts: Vec::new(alloc),
+            before: Vec::new(alloc),
+            is_torn: false,
+        }
+    }
+
     /// Reads the first file.
     fn read_first<R: Files + Input, W: PortWrite>(
         &mut self,
@@ -130,9 +193,10 @@ impl History {
                     ..
                 },
             ) => {
+                let before = read.version.line_of(0).saturating_sub(1);
                 self.is_torn = matches!(read.end, TraceEnd::Torn);
                 self.first = read;
-                Ok(())
+                self.stand_behind(before)
             }
             (_, ending) => Err(of_file(alloc, file, ending)),
         }
@@ -146,18 +210,9 @@ impl History {
         file: &str,
         writer: &mut W,
     ) -> Result<(), Ending> {
-        let mut next = NextFile {
-            read: None,
-            fault: None,
-        };
-        let ending = look_anew(rt, alloc, &FilePath { path: file }, &mut next, writer);
-        let NextFile { read, fault } = next;
-        match read {
-            Some(read) => self.add(read),
-            None => match fault {
-                Some(fault) => Err(told(2, fault_text(alloc, file, fault))),
-                None => Err(of_file(alloc, file, ending)),
-            },
+        match read_as_part(rt, alloc, file, writer) {
+            Ok(read) => self.add(read),
+            Err(unread) => Err(unread.ending),
         }
     }
 
@@ -165,10 +220,18 @@ impl History {
     fn add(&mut self, read: PartRead) -> Result<(), Ending> {
         let before = lines_before(&read.part.base, read.part.kept.as_slice());
         self.is_torn = read.is_torn;
-        if self.before.push(before).is_err() || self.parts.push(read.part).is_err() {
+        if self.parts.push(read.part).is_err() {
             return Err(Ending::from(Exit::NoMemory));
         }
-        Ok(())
+        self.stand_behind(before)
+    }
+
+    /// So many lines stand before the entries of the file that was read.
+    fn stand_behind(&mut self, lines: u64) -> Result<(), Ending> {
+        match self.before.push(lines) {
+            Ok(()) => Ok(()),
+            Err(_) => Err(Ending::from(Exit::NoMemory)),
+        }
     }
 }
 

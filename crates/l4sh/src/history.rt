@@ -7,7 +7,7 @@ use ipc_history::{Entry, Output};
 use ipc_lines::entry_line;
 use ipc_ports::PortWrite;
 use ipc_shell::put;
-use ipc_trace::{PutFault, TraceRead, TraceVersion, TraceWriter};
+use ipc_trace::{PutFault, TraceRead, TraceWriter};
 use std::alloc::{AllocError, Global};
 use std::rt::Files;
 
@@ -53,15 +53,11 @@ fn check_history<W: PortWrite>(
         before,
         is_torn,
     } = history;
-    let TraceRead {
-        version,
-        entries,
-        ..
-    } = first;
+    let TraceRead { entries, .. } = first;
     let Ok(verdict) = check_chain(alloc, entries, parts) else {
         return Ending::from(Exit::NoMemory);
     };
-    let text = verdict_text(alloc, files, version, &before, &verdict, is_torn);
+    let text = verdict_text(alloc, files, &before, &verdict, is_torn);
     match verdict {
         ChainVerdict::Yes => print_text(text, Exit::Done, writer),
         _ => print_text(text, Exit::Illegal, writer),
@@ -82,11 +78,7 @@ fn part_history<W: PortWrite>(
         before,
         is_torn,
     } = history;
-    let TraceRead {
-        version,
-        entries,
-        ..
-    } = first;
+    let TraceRead { entries, .. } = first;
     if is_torn {
         return told(
             5,
@@ -103,7 +95,7 @@ fn part_history<W: PortWrite>(
     match put {
         Ok(Put::Done) => Ending::from(Exit::Done),
         Ok(Put::No(verdict)) => {
-            let text = verdict_text(alloc, files, version, &before, &verdict, false);
+            let text = verdict_text(alloc, files, &before, &verdict, false);
             print_text(text, Exit::Illegal, writer)
         }
         Ok(Put::Early(output)) => told(3, early_text(alloc, output)),
@@ -121,7 +113,7 @@ fn early_text(alloc: Global, output: Output) -> Result<String, AllocError> {
 }
 
 /// Prints a text, where there was memory for it.
-fn print_text<W: PortWrite>(
+pub(crate) fn print_text<W: PortWrite>(
     text: Result<String, AllocError>,
     exit: Exit,
     writer: &mut W,
@@ -139,7 +131,6 @@ fn print_text<W: PortWrite>(
 pub(crate) fn verdict_text(
     alloc: Global,
     files: &[&str],
-    version: TraceVersion,
     before: &[u64],
     verdict: &ChainVerdict,
     is_torn: bool,
@@ -152,7 +143,7 @@ pub(crate) fn verdict_text(
             index,
             expected,
         } => {
-            let line = line_of(version, before, *file, *index);
+            let line = line_of(before, *file, *index);
             let path = files.get(*file).unwrap_or(&"");
             write!(text, "no {path} {line} ")?;
             match expected {
@@ -175,14 +166,8 @@ pub(crate) fn verdict_text(
     Ok(text)
 }
 
-/// The number of the line of an entry of a file.
-pub(crate) fn line_of(version: TraceVersion, before: &[u64], file: usize, index: usize) -> u64 {
-    let part = match file.checked_sub(1) {
-        Some(place) => before.get(place),
-        None => None,
-    };
-    match part {
-        Some(lines) => lines.saturating_add(index as u64).saturating_add(1),
-        None => version.line_of(index),
-    }
+/// The number of the line of an entry of a file, before whose entries so many lines stand.
+pub(crate) fn line_of(before: &[u64], file: usize, index: usize) -> u64 {
+    let lines = before.get(file).unwrap_or(&0);
+    lines.saturating_add(index as u64).saturating_add(1)
 }

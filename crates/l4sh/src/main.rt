@@ -9,6 +9,7 @@ ghost use Rattle.std.specs.Prelude.{◌≡◌, ◌<◌};
 mod asking;
 mod bad_lines;
 mod began;
+mod begun;
 mod chart;
 mod ending;
 mod exit;

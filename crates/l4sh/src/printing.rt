@@ -1,6 +1,7 @@
 //! What is printed of a trace, or of a live server.
 use crate::asking::{Question, ask_server};
 use crate::began::times_of;
+use crate::begun::check_begun;
 use crate::chart::{chart_read, chart_reason, chart_trace, has_two_forms};
 use crate::ending::{Ending, exit_alone};
 use crate::exit::{ChartFault, Exit};
@@ -91,10 +92,11 @@ pub(crate) fn check_of<L: Ledger, R: Files + Input, W: PortWrite>(
     reads: Failures<L>,
     writer: &mut W,
 ) -> Ending {
-    match files {
+    let ending = match files {
         [file] => look(rt, alloc, *file, &mut Checking, reads, writer),
         _ => check_files(rt, alloc, files, writer),
-    }
+    };
+    check_begun(rt, alloc, files, ending, writer)
 }
 
 /// Tells the state of the threads of a history, or of a live server where a folder is named.

@@ -101,15 +101,11 @@ fn no_history(alloc: Global, files: &[&str], history: History) -> Option<Ending>
         before,
         ..
     } = history;
-    let TraceRead {
-        version,
-        entries,
-        ..
-    } = first;
+    let TraceRead { entries, .. } = first;
     match check_chain(alloc, entries, parts) {
         Ok(ChainVerdict::Yes) => None,
         Ok(verdict) => {
-            let text = verdict_text(alloc, files, version, &before, &verdict, false);
+            let text = verdict_text(alloc, files, &before, &verdict, false);
             Some(told(3, named(alloc, text)))
         }
         Err(_) => Some(Ending::from(Exit::NoMemory)),
@@ -142,12 +138,7 @@ fn torn_line(history: &History) -> Option<u64> {
         Some(part) => part.entries.len(),
         None => history.first.entries.len(),
     };
-    let next = line_of(
-        history.first.version,
-        &history.before,
-        history.parts.len(),
-        count,
-    );
+    let next = line_of(&history.before, history.parts.len(), count);
     Some(next.saturating_sub(1))
 }
 

@@ -76,7 +76,7 @@ module _ (P Q : List Entry) (legal : Legal P) (legal' : Legal Q) where
 
 -- so do the entries of a part
 pub each_follows : (first : PartParts) (parts : List PartParts) → HasBefore (first ∷ parts) → FollowsEach first
-each_follows first parts (P, (legal, (one, (begins, rest)))) Q old other told legal' begins' =
+each_follows first parts (P, (legal, (one, begins, rest))) Q old other told legal' begins' =
     follow_compact P Q one other legal legal' begins.quiet begins'.quiet
     (same_begun P Q legal legal' first.base first.kept one other _ old _ told begins begins') first.entries
     (chain_legal (P ++ first.entries) one first.base.takes parts rest)

@@ -1,5 +1,5 @@
 //! A history that ends as a part says, where one is found. Nothing is said of how it is looked for: each entry is judged as any other.
-ghost use Rattle.std.specs.Prelude.{OnOk};
+ghost use Rattle.std.specs.Prelude.{IfOk, IsTrue, OnOk};
 ghost use Rattle.ipc_chain.specs.Judging.{IsFirstFile};
 
 mod budget;
@@ -28,7 +28,7 @@ pub(crate) fn seek(
     kept: &[Entry],
 ) -> Result<bool, AllocError>
     requires first { IsFirstFile chain.old }
-    ensures first { OnOk result (IsFirstFile chain.new) }
+    ensures first { IfOk result (λ found. IsTrue found → IsFirstFile chain.new) }
 {
     let mut guide = Guide::new(alloc, Wanted { base, kept })?;
     'turns: for _ in 0..guide.most() {
@@ -51,7 +51,7 @@ pub(crate) fn seek(
 /// Takes an entry; whether it follows.
 fn step(chain: &mut Chain, entry: Entry) -> Result<bool, AllocError>
     requires first { IsFirstFile chain.old }
-    ensures first { OnOk result (IsFirstFile chain.new) }
+    ensures first { IfOk result (λ follows. IsTrue follows → IsFirstFile chain.new) }
 {
     chain.legal();
     match chain.go_on(entry)? {

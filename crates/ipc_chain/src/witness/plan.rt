@@ -66,7 +66,8 @@ impl Planner<'_> {
         if let Entry::Given(Input::Called(number, _, call)) = entry {
             self.following = *number;
             self.await_message(place, *number, call.call())?;
-            self.stand_before(self.wanted.call_before(place))?;
+            let before = self.wanted.call_before(place);
+            self.stand_before(before)?;
         }
         Ok(())
     }

@@ -93,8 +93,13 @@ pub fn check_parts(
         return Ok(None);
     }
     match walk_part(&mut chain, 0, first)? {
-        Some(ChainVerdict::NoPart { .. }) => Ok(None),
-        Some(verdict) => Ok(Some(verdict)),
+        Some(verdict) => {
+            if joins(&verdict) {
+                Ok(Some(verdict))
+            } else {
+                Ok(None)
+            }
+        }
         None => match walk_parts(&mut chain, parts)? {
             Some(verdict) => Ok(Some(verdict)),
             None => {
@@ -102,6 +107,16 @@ pub fn check_parts(
                 Ok(Some(ChainVerdict::Yes))
             }
         },
+    }
+}
+
+// Whether the part of a verdict begins where the history before it ends.
+fn joins(verdict: &ChainVerdict) -> bool
+    ensures { result ≡ has_joined (Some verdict.now) }
+{
+    match verdict {
+        ChainVerdict::Yes | ChainVerdict::NoEntry { .. } => true,
+        ChainVerdict::NoPart { .. } => false,
     }
 }
 

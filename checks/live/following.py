@@ -37,9 +37,9 @@ tally = Tally()
 check = tally.check
 
 
-def served(l4d, *words, trace=True):
+def served(l4d, *words, trace=True, **more):
     """A server that SIGTERM ends as it does a service."""
-    return Server(l4d, "--keep-open", *words, trace=trace, before=(sys.executable, "-c", BLOCKED))
+    return Server(l4d, "--keep-open", *words, trace=trace, before=(sys.executable, "-c", BLOCKED), **more)
 
 
 def asker(server, word="trace follow"):

@@ -170,7 +170,7 @@ def waiting(path, number):
 
 def check_server(l4d, l4sh):
     before = now()
-    with Server(l4d, "--keep-open", "--trace-size", "300", "--trace-keep", "20", trace=True) as server, tempfile.TemporaryDirectory() as room:
+    with Server(l4d, "--keep-open", "--trace-size", "300", "--trace-keep", "1000", trace=True) as server, tempfile.TemporaryDirectory() as room:
         listens = now()
         partner = Thread(server.folder, 1)
         for number in range(2, 2 + ENTRIES):

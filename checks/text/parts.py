@@ -166,7 +166,7 @@ def faults_of_orders(files, first, second):
     rows = [
         ("the other order", (second, first), b"", 2, b"bad line 1"),
         ("a part and then no part", (second, b"hello\n"), b"", 2, b"it is no part"),
-        ("a part alone with another moment", (second.replace(b"moment ", b"moment 1", 1),), b"", 6, b"no history was found that ends as 0 says"),
+        ("a part alone with another moment", (second.replace(b"moment ", b"moment 1", 1),), b"", 6, b"no history was found that ends as"),
         ("the trace twice", (first, first), b"", 2, b"it is no part"),
         ("an empty file", (first, b""), b"", 2, b"ends before the line since"),
         ("an empty trace before a part", (b"", second), b"no 1 ", 3, b""),

@@ -1,5 +1,5 @@
 -- What was asked by an end, as calls of a kernel port.
-use Rattle.std.proofs.Common.{◌≡◌, List, [], ◌∷◌, ◌++◌, map, Option, Some, None, refl, ap, subst, ◌∙◌, ℕ}
+use Rattle.std.proofs.Common.{◌≡◌, List, [], ◌∷◌, ◌++◌, map, Option, Some, None, refl, ap, subst, ◌∙◌, ℕ, inl, inr}
 use Rattle.std.proofs.lemmas.List.{map-append}
 use Rattle.ipc_frame.specs.declared.frame.Frame.{Frame}
 use Rattle.ipc_connection.specs.KernelCalls.{Asks, Breaks, KernelCall, TellsMore, left_to_post, post_of, posted}
@@ -8,7 +8,7 @@ use Rattle.ipc_connection.specs.declared.replying.Told.{Told}
 use Rattle.ipc_ports.specs.Ports.{Gives, input_of}
 use Rattle.ipc_session.specs.Keeping.{call_of}
 use Rattle.ipc_session.specs.Reading.{EndsSo}
-use Rattle.ipc_session.specs.Sessions.{AsksFor, deed_of, deeds_left}
+use Rattle.ipc_session.specs.Sessions.{AsksFor, MayAskFor, deed_of, deeds_left}
 use Rattle.ipc_session.specs.declared.deed.Deed.{Deed}
 use Rattle.ipc_session.specs.declared.deed.Deed.TheVariants as deed
 use Rattle.ipc_session.specs.declared.ending.Ending.{Ending}
@@ -40,3 +40,10 @@ asks_for came came_now left left_now ending old new none h = record {
   left = left_now;
   ends = subst (λ (l : List Deed). EndsSo ending (Some (map call_of l)) (Some (map call_of new)) h.0 left_now (Breaks ∷ [])) none h.2;
 }
+
+-- a connection that was read, or turned away
+pub may_ask : (old new : Option (List ℕ)) (asked : List Deed) → AsksFor old new (map call_of asked) → MayAskFor old new (map call_of asked)
+may_ask old new asked asks = inl asks
+
+pub asks_nothing : (old new : Option (List ℕ)) (asked : List Deed) → new ≡ old → asked ≡ [] → MayAskFor old new (map call_of asked)
+asks_nothing old new asked same none = inr (same, ap (map call_of) none)

@@ -256,9 +256,9 @@ fn miss<C: Ledger, T: Ledger, R: Wait + Clock + Eprint>(
 }
 
 /// Serves a connection to its end.
-fn serve_guest<'a, C, T, R>(
-    server: &Server<'a, C, T, SocketPort, R>,
-    host: &'a Host,
+fn serve_guest<C, T, R>(
+    server: &Server<'_, C, T, SocketPort, R>,
+    host: &Host,
     space: u64,
     ticket: u64,
     stream: Arc<UnixStream>,
@@ -285,7 +285,7 @@ where
 
 /// Serves a socket. What came through it asked for what was asked.
 fn serve_stream<'a, C, T, R>(
-    server: &Server<'a, C, T, SocketPort, R>,
+    server: &Server<'_, C, T, SocketPort, R>,
     guest: &Guest<'a, R>,
     stream: &'a UnixStream,
     writer: SocketPort,
@@ -299,7 +299,7 @@ where
 {
     let ports = Ports {
         space: guest.space,
-        reader: EagerStream::new(server.rt, server.clock, stream, guest.soon),
+        reader: EagerStream::new(guest.rt, server.clock, stream, guest.soon),
         writer,
         reads: SocketGate::new(stream, guest),
         writes: SocketGate::new(stream, guest),

@@ -19,7 +19,7 @@ use std::sync::ledger::Ledger;
 #[derive(Drop)]
 pub struct Caller<'a, C: Ledger, T: Ledger, P: PenPort + Drop, R: Wait + Clock, G: Link> {
     server: &'a Server<'a, C, T, P, R>,
-    end: PostEnd<C>,
+    pub(crate) end: NotedEnd<C>,
     thread: Option<ThreadId>,
     link: G,
 }
@@ -33,10 +33,12 @@ where
     G: Link + Drop,
 {
     /// A port that opens its thread in the end's space.
-    pub fn new(server: &'a Server<'a, C, T, P, R>, end: PostEnd<C>, link: G) -> Self {
+    pub fn new(server: &'a Server<'a, C, T, P, R>, end: PostEnd<C>, link: G) -> Self
+        ensures { result.end.deeds ≡ [] }
+    {
         Caller {
             server,
-            end,
+            end: NotedEnd::new(end),
             thread: None,
             link,
         }
@@ -87,9 +89,7 @@ where
 
     #[tactic(auto, using(crate::proofs::NotedLemmas::tells_asked))]
     fn ask(&mut self, request: Request) -> Told {
-        let Server { rt, shared, .. } = *self.server;
-        let now = self.server.now();
-        let (told, entered) = shared.ask(rt, now, &mut self.end, request);
+        let (told, entered) = self.end.ask(self.server, request);
         let answer = told;
         note(&self.link, &mut self.thread, told, entered);
         answer

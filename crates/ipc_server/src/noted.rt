@@ -32,13 +32,12 @@ impl<C: Ledger> NotedEnd<C> {
         }
     }
 
-    /// Asks for a connection from a space, now. Also says how far a call is that was entered.
+    /// Asks for a connection, now. Also says how far a call is that was entered.
     #[tactic(auto, using(crate::proofs::AnswerLemmas::asked_answers))]
     pub(crate) fn ask<T, P, R>(
         &mut self,
         server: &Server<'_, C, T, P, R>,
         request: Request,
-        space: u64,
     ) -> (Told, Entered)
     where
         T: Ledger,
@@ -50,9 +49,7 @@ impl<C: Ledger> NotedEnd<C> {
         let mut asked = Past::new();
         asked.add(&request);
         let now = server.now();
-        let answered = server
-            .shared
-            .ask(server.rt, now, &mut self.end, request, space);
+        let answered = server.shared.ask(server.rt, now, &mut self.end, request);
         let told = answered.0;
         self.deeds = with_asked(&self.deeds, &asked, told);
         answered

@@ -92,6 +92,7 @@ pub struct Served<I: PortRead> {
 
 /// Serves one connection to its end: reads in this thread, and in one that it starts writes what no other thread could. Where that
 /// cannot be started, or there is no memory for a box, the link is shut down. What came asked for what was asked.
+#[tactic(auto, using(crate::proofs::NotedLemmas::asks_nothing))]
 pub fn serve_connection<C, T, P, R, I, G>(
     server: &Server<'_, C, T, P, R>,
     ports: Ports<P, I, G>,
@@ -160,12 +161,45 @@ where
     ensures { MayAskFor (I.came reading.reader) (I.came result.1.reader)
         (map call_of result.1.asked) }
 {
-    thread::scope(thread::scope_env(), server.rt, |scope| {
-        match start_worker(scope, move || write_to_the_end(server, takes, writes)) {
-            Ok(()) => read_to_the_end(server, posts, reading),
-            Err(_) => (posts, turn_away(reading)),
-        }
-    })
+    thread::scope(
+        thread::scope_env(),
+        server.rt,
+        |scope|
+            ensures { MayAskFor (I.came reading.reader) (I.came result.1.reader)
+                (map call_of result.1.asked) }
+        {
+            let is_started = start_worker(
+                scope,
+                move || write_to_the_end(server, takes, writes),
+            ).is_ok();
+            read_if(is_started, server, posts, reading)
+        },
+    )
+}
+
+/// Reads what the client sends where its writer has started; else the connection is turned away.
+#[tactic(auto, using(crate::proofs::NotedLemmas::may_ask, crate::proofs::NotedLemmas::asks_nothing))]
+fn read_if<C, T, P, R, I, G>(
+    is_started: bool,
+    server: &Server<'_, C, T, P, R>,
+    posts: PostEnd<C>,
+    reading: Reading<I, G>,
+) -> (PostEnd<C>, Served<I>)
+where
+    C: Ledger,
+    T: Ledger,
+    P: PenPort + Drop,
+    R: Wait + Clock,
+    I: PortRead + Drop,
+    G: Gate + Link + Drop,
+    ensures { MayAskFor (I.came reading.reader) (I.came result.1.reader)
+        (map call_of result.1.asked) }
+{
+    if is_started {
+        read_to_the_end(server, posts, reading)
+    } else {
+        (posts, turn_away(reading))
+    }
 }
 
 /// Reads what the client sends, and then stops reading. Answers the end of its box.

@@ -1,4 +1,4 @@
-//! The signs of lanes and marks in a chart as text.
+//! The signs of lanes, marks and arrows in a chart of text.
 use crate::lanes::Lane;
 use l4sh_chart::{Mark, Wait};
 use std::alloc::AllocError;

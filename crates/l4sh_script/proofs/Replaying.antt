@@ -30,7 +30,7 @@ unfolding now
 now_nothing = refl
 
 none_called : TookOthers [] []
-unfolding TookOthers is_called call_at
+unfolding is_called call_at
 none_called n called = absurd (false≢true called)
 
 module _ (entries_limit calls_limit : ℕ) where

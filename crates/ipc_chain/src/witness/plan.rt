@@ -44,7 +44,7 @@ pub(super) fn plan(alloc: Global, wanted: Wanted<'_>) -> Result<Vec<Step>, Alloc
         following: wanted.base.calls().saturating_add(1),
     };
     for place in (0..wanted.kept.len()).rev() {
-        planner.enter(place)?;
+        planner.enter(place, &wanted.kept[place])?;
     }
     let Planner { steps, .. } = planner;
     let mut steps = steps;
@@ -54,11 +54,7 @@ pub(super) fn plan(alloc: Global, wanted: Wanted<'_>) -> Result<Vec<Step>, Alloc
 
 impl Planner<'_> {
     /// Enters the kept entry at a place.
-    fn enter(&mut self, place: usize) -> Result<(), AllocError> {
-        let wanted = self.wanted;
-        let Some(entry) = wanted.kept.get(place) else {
-            return Ok(());
-        };
+    fn enter(&mut self, place: usize, entry: &Entry) -> Result<(), AllocError> {
         if let Entry::Given(Input::Opened(thread, _)) = entry {
             self.stand_for(*thread)?;
         }

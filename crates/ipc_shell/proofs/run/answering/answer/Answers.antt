@@ -8,7 +8,7 @@ returns c =
     let new = c.obey-answer.new.self in
     let told = answer_text c.obey-answer.result in
     let lines = entries_text c.entries_from.result.now in
-    let entries = c.in_ok-write_entries.ensures ∙ ap (λ bytes. bytes ++ lines) c.new-text.ensures.bytes in
+    let entries = c.in_ok-write_entries.ensures ∙ ap (λ bytes. bytes ++ lines) c.in_ok-text.ensures.bytes in
     let all = c.in_ok-push_str.ensures.bytes ∙ ap (λ bytes. bytes ++ 10 ∷ []) (c.in_ok-write_answer.ensures ∙ ap (λ front. front ++ told) entries) in
     let written = c.entries_from.ensures ∙ ap (λ before. drop before new.history) c.total-before.ensures in
     record {

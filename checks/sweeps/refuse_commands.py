@@ -9,7 +9,7 @@ page. Then come the options of each program: help, version, and words that are r
 - do the same, where the program can do without;
 - do the same, but tell the first line alone of what it tells on standard error: there was no memory for the reason;
 - refuse one command of `talk` with `! K4`: what it printed before is as otherwise;
-- end with `no memory` on standard error and status 1, and what it printed is then a front of what it prints otherwise.
+- end with `no memory` on standard error, behind it the file that was read in a line of its own or not, and status 1, and what it printed is then a front of what it prints otherwise.
 Anything else is told, and the status is then 1. With --every N it refuses each N-th growth, of each case others. It needs a C compiler (cc). The last line
 is `N runs, M failed`."""
 
@@ -61,7 +61,8 @@ class Case:
         before, refused_line, _ = printed.partition(b"! K4 ")
         if self.words[:1] == ["talk"] and (status, told) == (usual[0], usual[2]) and refused_line:
             return "refused", None if usual[1].startswith(before) and printed.count(refused_line) == 1 else "it is not as otherwise"
-        if status == 1 and told == NO_MEMORY[os.path.basename(self.program)]:
+        no_memory = NO_MEMORY[os.path.basename(self.program)]
+        if status == 1 and told in (no_memory, *(no_memory + os.fsencode(word) + b"\n" for word in self.words)):
             return "ended", None if usual[1].startswith(printed) else "what is printed is no front of the usual"
         return "wrong", f"it ends by {status} and tells {told[:200]!r}"
 

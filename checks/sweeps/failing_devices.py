@@ -156,17 +156,20 @@ def trace_wrongs(shim, l4sh, l4d):
         return wrong or (None if is_so else f"{ran}")
 
     on = {"fail_kind": "write", "fail_on": "file"}
-    # how many writes come depends on the moments at which the trace's worker looks; one write comes at least
+    # the first write is that of trace.began, which stops no trace; how many come behind it depends on the moments at which the trace's worker
+    # looks; one comes at least
     for number in (errno.EIO, errno.ENOSPC, 0):
+        ran, wrong, size = serve(fail_at=1, fail_errno=number, **on)
+        yield f"the write of trace.began fails with {number}", wrong or (None if ran == good and size else f"{ran}, a trace of {size} bytes")
         for place in (1, 2, 3):
-            ran, wrong, size = serve(fail_at=place, fail_errno=number, **on)
+            ran, wrong, size = serve(fail_at=1 + place, fail_errno=number, **on)
             # where so many writes did not come the trace is whole
             yield f"write {place} of the trace fails with {number}", wrong if place > 1 and ran == good else is_told(ran, wrong)
     ran, wrong, size = serve(one_byte=1, **on)
     yield "each write of the trace moves one byte", wrong or (None if ran == good and size else f"{ran}")
     # between the trace and its file is a buffer of std, which tries again however often it is interrupted
     for times in (MANY - 1, 2 * MANY):
-        ran, wrong, size = serve(fail_at=1, fail_errno=errno.EINTR, fail_times=times, **on)
+        ran, wrong, size = serve(fail_at=2, fail_errno=errno.EINTR, fail_times=times, **on)
         yield f"a write of the trace is interrupted {times} times", wrong or (None if ran == good and size else f"{ran}")
     for place in (1, 2, 3):
         (status, out, told), wrong, size = serve(trace=False, fail_kind="write", fail_on=1, fail_at=place)

@@ -1,3 +1,6 @@
+ghost use Rattle.std.specs.Prelude.{IfSome};
+ghost use Rattle.l4sh_times.specs.Times.{IsBegan};
+
 use jiff::Timestamp;
 use std::fmt;
 use std::time::Clock;
@@ -19,7 +22,9 @@ impl Start {
     }
 
     /// The one that the text of a file `FILE.began` tells: its one line. None where it is another text.
-    pub fn read(text: &str) -> Option<Start> {
+    pub fn read(text: &str) -> Option<Start>
+        ensures began { IfSome result (λ start. IsBegan text.now) }
+    {
         let line = text.strip_suffix("\n")?;
         let told = line.strip_prefix("began ")?;
         match told.parse::<Timestamp>() {

@@ -1,3 +1,6 @@
+ghost use Rattle.std.specs.Prelude.{◌≡◌};
+ghost use Rattle.l4sh_times.specs.Times.{are_of_day};
+
 use crate::start::Start;
 use std::fmt;
 
@@ -20,12 +23,17 @@ pub struct MomentText {
 
 impl Times {
     /// Whether they are of the day.
-    pub fn are_of_day(self) -> bool {
+    pub fn are_of_day(self) -> bool
+        ensures { result ≡ are_of_day self }
+    {
         matches!(self, Times::OfDay(_))
     }
 
     /// A moment, in microseconds, as it is told.
-    pub fn moment(self, moment: u64) -> MomentText {
+    pub fn moment(self, moment: u64) -> MomentText
+        ensures times { result.times ≡ self }
+        ensures moment { result.moment ≡ moment }
+    {
         MomentText {
             times: self,
             moment,

@@ -2,6 +2,7 @@
 """Looks at the form of the documents: their width, their length, their dates, their links, and what they count.
 
 - No line has more than 100 columns, but for the rows of tables and what stands in a block of code.
+- Nor has a comment of a source or a definition, but for a table's row.
 - All pages together have at most so many words as `MOST_WORDS` says. A word has a letter or a digit: the bars of a table are none.
 - A date stands only in bench/README.md and CHANGELOG.md: a page tells how things are.
 - No path of somebody's machine stands anywhere.
@@ -45,6 +46,7 @@ WHOLE = re.compile(r"`[^`]{1,90}`|\[[^\]`]{1,40}\]\([^)]*\)")
 # (`no edits` and `one step` tell nothing of the tree.)
 NUMBERS = {word: number for number, word in enumerate("two three four five six seven eight nine ten eleven twelve".split(), 2)}
 COUNTED = re.compile(rf"\b(\d[\d,]*|{'|'.join(NUMBERS)}) (crates|checks|edits|examples|roles|scripts|steps)\b", re.I)
+COMMENT = re.compile(r"\s*(?://[/!]?|--)(?![/!]? ?\|)")
 WORD = re.compile(r"\S*[A-Za-z0-9]\S*")
 
 
@@ -153,6 +155,15 @@ def faults_of(path, counts):
                 yield f"{path}:{number}: {fault}"
 
 
+def faults_of_comments():
+    """The comments of sources and definitions that are too wide."""
+    for path in sorted(glob.glob("crates/*/src/**/*.rt", recursive=True) + glob.glob("crates/*/specs/**/*.antt", recursive=True)):
+        with open(path, encoding="utf-8") as file:
+            for number, line in enumerate(file.read().split("\n"), 1):
+                if len(line) > WIDTH and COMMENT.match(line):
+                    yield f"{path}:{number}: a comment of {len(line)} columns"
+
+
 def length_of(pages):
     """How many words all pages have together."""
     count = 0
@@ -204,7 +215,8 @@ def main():
     counts = counts_of_the_tree()
     pages = documents()
     words = length_of(pages)
-    faults = [fault for path in pages for fault in faults_of(path, counts)] + list(faults_of_layers())
+    faults = [fault for path in pages for fault in faults_of(path, counts)] 
+    faults += [*faults_of_layers(), *faults_of_comments()]
     if words > MOST_WORDS:
         faults.append(f"the pages have {words:,} words together, where {MOST_WORDS:,} are the most")
     for fault in faults:

@@ -1,4 +1,5 @@
-//! What every crate may stand on: memory as a bound that contracts can speak of, and lists that proofs alone know.
+//! What every crate may stand on: memory as a bound that contracts can speak of, and lists that
+//! proofs alone know.
 #![tactic(auto)]
 
 mod log;

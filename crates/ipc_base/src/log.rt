@@ -4,7 +4,8 @@ ghost use Rattle.std.specs.Borrow.{ftrue};
 
 use std::marker::{Model, PhantomData};
 
-/// What came so far, oldest first. It takes no memory, and adding to it does nothing at run time. A clause reads it as `items`.
+/// What came so far, oldest first. It takes no memory, and adding to it does nothing at run time. A
+/// clause reads it as `items`.
 #[derive(Drop)]
 pub(crate) struct Log<T> {
     of: PhantomData<T>,

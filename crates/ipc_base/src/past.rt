@@ -3,7 +3,8 @@ ghost use Rattle.std.specs.Prelude.{◌≡◌, List, [], ◌∷◌, ◌++◌};
 use crate::log::Log;
 use std::marker::Model;
 
-/// All that came so far, oldest first, which proofs alone know. It takes no memory, and adding to it does nothing at run time.
+/// All that came so far, oldest first, which proofs alone know. It takes no memory, and adding to
+/// it does nothing at run time.
 #[derive(Drop)]
 pub struct Past<T> {
     log: Log<T>,
@@ -25,7 +26,8 @@ impl<T> Past<T> {
         Past { log: Log::new() }
     }
 
-    /// What came is what the caller's proof names. For a past that began elsewhere: no code picks it.
+    /// What came is what the caller's proof names. For a past that began elsewhere: no code picks
+    /// it.
     pub fn told() -> Past<T>
         ghost items: { List T }
         ensures { result ≡ items }

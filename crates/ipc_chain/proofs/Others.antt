@@ -113,7 +113,8 @@ module _ (H : List Entry) (legal : Legal H) where
         | inr among ↦ inr among
       ]
 
-  -- who calls has no open call, and behind the outcome of the call before is idle; that outcome was surely taken
+  -- who calls has no open call, and behind the outcome of the call before is idle; that outcome was
+  -- surely taken
   module _ (k t : ℕ) (call : CallParts) (follows : Follows H (Given (Called k t call))) (old new : List ℕ) (takes : TakesLast H t old new) where
     free : (is_live H t ≡ true) × (open_call H t ≡ None)
     unfolding Follows

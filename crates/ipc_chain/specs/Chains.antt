@@ -1,4 +1,5 @@
--- Our choice (docs/FORMATS.md): a history whose entries stand in several files, the first from its beginning, each further one as a part.
+-- Our choice (docs/FORMATS.md): a history whose entries stand in several files, the first from its
+-- beginning, each further one as a part.
 use Rattle.std.specs.Prelude.{◌≡◌, ℕ, ◌+◌, ◌≤◌, List, [], ◌∷◌, ◌++◌, Bool, true, false, Option, Some, None, filter_map, length, if◌then◌else◌, IsTrue}
 use Rattle.ipc_history.specs.Calls.{calls_made, is_called}
 use Rattle.ipc_history.specs.Legal.{Legal, Quiet}
@@ -14,7 +15,8 @@ use Rattle.ipc_part.specs.declared.part.Part.{Part}
 use Rattle.ipc_chain.specs.declared.verdict.ChainVerdict.{ChainVerdict}
 use Rattle.ipc_chain.specs.declared.verdict.ChainVerdict.TheVariants.{NoPart}
 
--- the thread that makes a call by an entry, where that call does not count as over: it is open, or its outcome is to be taken
+-- the thread that makes a call by an entry, where that call does not count as over: it is open, or
+-- its outcome is to be taken
 abbrev pub caller_kept : List ℕ → Entry → Option ℕ
 caller_kept over (Given (Called n thread call)) = (if is_among n over then None else Some thread)
 caller_kept over _ = None
@@ -23,21 +25,24 @@ caller_kept over _ = None
 abbrev pub callers_kept : Base → List Entry → List ℕ
 callers_kept base kept = filter_map (caller_kept base.over) kept
 
--- the outcomes of these calls may have been taken by the end of a history, where those before were taken already: of calls that are over,
--- and of each thread that of every call but its last, since a thread makes a call only behind the outcome of the one before
+-- the outcomes of these calls may have been taken by the end of a history, where those before were
+-- taken already: of calls that are over, and of each thread that of every call but its last, since
+-- a thread makes a call only behind the outcome of the one before
 pub record MayBeTaken (H : List Entry) (before taken : List ℕ) : Type 0 where
   pub more : AreAmong before taken
   pub called : (n : ℕ) → IsTrue (is_among n taken) → IsTrue (is_called H n)
   pub over : (n : ℕ) → IsTrue (is_among n taken) → IsTrue (is_over H n)
   pub others : TookOthers H taken
 
--- how many were taken the part alone tells, since a thread that has ended may have taken its last outcome or not: no fewer than the part
--- before it told, and with the calls that are kept, so many, no more than were made
+-- how many were taken the part alone tells, since a thread that has ended may have taken its last
+-- outcome or not: no fewer than the part before it told, and with the calls that are kept, so many,
+-- no more than were made
 pub record IsCount (H : List Entry) (told kept takes : ℕ) : Type 0 where
   pub least : told ≤ takes
   pub most : takes + kept ≤ calls_made H
 
--- a part with this base and these kept entries begins where a history ends, of which these outcomes were taken
+-- a part with this base and these kept entries begins where a history ends, of which these outcomes
+-- were taken
 pub record BeginsAt (H : List Entry) (before : List ℕ) (told : ℕ) (base : Base) (kept : List Entry) (taken : List ℕ) : Type 0 where
   pub quiet : Quiet H
   pub may : MayBeTaken H before taken
@@ -45,8 +50,8 @@ pub record BeginsAt (H : List Entry) (before : List ℕ) (told : ℕ) (base : Ba
   pub base_is : record (base_of H taken) { takes = base.takes } ≡ base
   pub count : IsCount H told (length (callers_kept base kept)) base.takes
 
--- these parts stand behind a history, of which these outcomes were taken, and so many were told: each begins where the entries before it
--- end, and all entries are one legal history
+-- these parts stand behind a history, of which these outcomes were taken, and so many were told:
+-- each begins where the entries before it end, and all entries are one legal history
 abbrev pub ChainFrom : List Entry → List ℕ → ℕ → List PartParts → Type 0
 ChainFrom H before told [] = Legal H
 ChainFrom H before told (part ∷ parts) =

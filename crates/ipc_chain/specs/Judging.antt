@@ -16,7 +16,8 @@ use Rattle.ipc_partners.specs.Kept.{TookOthers}
 use Rattle.ipc_partners.specs.PastPartners.{PastPartners}
 use Rattle.ipc_chain.specs.Chains.{BeginsAt}
 
--- the entries so far, what memory holds of them, the calls whose outcome was surely taken, and how many takes the last part told
+-- the entries so far, what memory holds of them, the calls whose outcome was surely taken, and how
+-- many takes the last part told
 pub record ChainParts : Type 0 where
   pub past : List Entry
   pub held : List Entry
@@ -63,12 +64,14 @@ pub record Walks (old new : ChainParts) (entries : List Entry) : Type 0 where
   pub taken : TakesSure new.past old.taken new.taken
   pub told : new.told ≡ old.told
 
--- the entries so far are those of the first file: no part has joined them, and no more outcomes were taken than surely were
+-- the entries so far are those of the first file: no part has joined them, and no more outcomes
+-- were taken than surely were
 pub record IsFirstFile (chain : ChainParts) : Type 0 where
   pub sure : TakesSure chain.past [] chain.taken
   pub untold : chain.told ≡ 0
 
--- one more outcome was taken, that of the last call of a live thread; or none was, where there is none to take
+-- one more outcome was taken, that of the last call of a live thread; or none was, where there is
+-- none to take
 pub record TakesLast (H : List Entry) (t : ℕ) (old new : List ℕ) : Type 0 where
   pub more : AreAmong old new
   pub only : (n : ℕ) → IsTrue (is_among n new) → IsTrue (is_among n old) ⊎ (last_call H t ≡ Some n)
@@ -89,7 +92,8 @@ pub record Joins (old new : ChainParts) (base : Base) (kept : List Entry) : Type
   pub past : new.past ≡ old.past
   pub told : new.told ≡ base.takes
 
--- the base, but for how many outcomes were taken, and the kept entries are those of a history of which these were taken
+-- the base, but for how many outcomes were taken, and the kept entries are those of a history of
+-- which these were taken
 pub record SaysAs (H : List Entry) (taken : List ℕ) (base : Base) (kept : List Entry) : Type 0 where
   pub kept_is : kept_of H taken ≡ kept
   pub base_is : record (base_of H taken) { takes = base.takes } ≡ base

@@ -27,8 +27,9 @@ pub enum Put {
     Failed(PutFault),
 }
 
-/// Writes the part that begins where these files end, without entries: behind them it stands as the next file of their history. Each live
-/// thread has taken its outcome there; where they are untaken, none did that the files do not tell.
+/// Writes the part that begins where these files end, without entries: behind them it stands as the
+/// next file of their history. Each live thread has taken its outcome there; where they are
+/// untaken, none did that the files do not tell.
 ///
 /// # Errors
 ///

@@ -24,8 +24,8 @@ use ipc_words::ThreadId;
 use std::alloc::{AllocError, Global};
 use std::marker::Model;
 
-/// A history that is judged entry by entry, of which no more is held than what parts behind it ask for: the entries that are kept, and those
-/// of the last file.
+/// A history that is judged entry by entry, of which no more is held than what parts behind it ask
+/// for: the entries that are kept, and those of the last file.
 #[derive(Drop)]
 pub struct Chain {
     alloc: Global,

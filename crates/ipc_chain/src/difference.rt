@@ -1,4 +1,5 @@
-//! Where a part says something else than the history before it: the line, and what is to stand there.
+//! Where a part says something else than the history before it: the line, and what is to stand
+//! there.
 use ipc_compact::Base;
 use ipc_history::{Entry, Output};
 use ipc_lines::entry_line;

@@ -1,4 +1,5 @@
-//! Whether the entries of several files are one history: those of a trace, and of the parts behind it.
+//! Whether the entries of several files are one history: those of a trace, and of the parts behind
+//! it.
 #![tactic(auto)]
 
 mod behind;

@@ -42,8 +42,8 @@ struct Fault {
     expected: Option<Output>,
 }
 
-/// Whether the entries of a trace, and of these parts, each in its turn, are one history, and each part has the base and the kept entries
-/// of what stands before it.
+/// Whether the entries of a trace, and of these parts, each in its turn, are one history, and each
+/// part has the base and the kept entries of what stands before it.
 ///
 /// # Errors
 ///
@@ -67,9 +67,10 @@ pub fn check_chain(
     }
 }
 
-/// Whether the entries of parts, each in its turn, are one history with one that ends as the first part says, and each further part has the
-/// base and the kept entries of what stands before it. None where no history was found that ends so: there may be one. The verdict counts the
-/// first part as file 0.
+/// Whether the entries of parts, each in its turn, are one history with one that ends as the first
+/// part says, and each further part has the base and the kept entries of what stands before it.
+/// None where no history was found that ends so: there may be one. The verdict counts the first
+/// part as file 0.
 ///
 /// # Errors
 ///

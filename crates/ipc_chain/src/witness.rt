@@ -1,4 +1,5 @@
-//! A history that ends as a part says, where one is found. Nothing is said of how it is looked for: each entry is judged as any other.
+//! A history that ends as a part says, where one is found. Nothing is said of how it is looked for:
+//! each entry is judged as any other.
 ghost use Rattle.std.specs.Prelude.{IfOk, IsTrue, OnOk};
 ghost use Rattle.ipc_chain.specs.Judging.{IsFirstFile};
 
@@ -20,7 +21,8 @@ use wanted::Wanted;
 /// How many entries come before those are let go of that nothing needs.
 const ENTRIES_HELD: u32 = 4_096;
 
-/// Looks for a history that ends with this base and these kept entries, behind the empty one; whether the search came to its end.
+/// Looks for a history that ends with this base and these kept entries, behind the empty one;
+/// whether the search came to its end.
 pub(crate) fn seek(
     alloc: Global,
     chain: &mut Chain,

@@ -51,7 +51,8 @@ compact_holds P taken legal =
     (take-length (kept_of P taken) ∙ sym (to_the_end P taken))
     (drop_whole (kept_of P taken) ∙ sym (drop_whole P))
 
--- the past and the entries before a place are legal, the slots are theirs, and what is held holds their open calls
+-- the past and the entries before a place are legal, the slots are theirs, and what is held holds
+-- their open calls
 pub record IsWalkedAfter (P kept X : List Entry) (i : ℕ) (past : List Entry) (slots : PastSlots) : Type 0 where
   pub walked : past ≡ P ++ take i X
   pub legal : Legal (P ++ take i X)

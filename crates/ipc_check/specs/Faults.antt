@@ -7,15 +7,16 @@ use Rattle.ipc_history.specs.declared.entry.Output.{Output}
 use Rattle.ipc_check.specs.declared.checker.Verdict.{Verdict}
 use Rattle.ipc_check.specs.declared.checker.Verdict.TheVariants.{Yes, No}
 
--- the entries before the place are legal, those up to it are not, and this is the output that the rules ask for there
+-- the entries before the place are legal, those up to it are not, and this is the output that the
+-- rules ask for there
 pub record IsFirstFault (H : List Entry) (index : ℕ) (expected : Option Output) : Type 0 where
   pub within : index < length H
   pub before : Legal (take index H)
   pub fault : Legal (take (index + 1) H) → ⊥
   pub told : expected ≡ next_output (take index H)
 
--- behind a past: with the entries before the place it is legal, with those up to it not, and this is the output that the rules ask for
--- there
+-- behind a past: with the entries before the place it is legal, with those up to it not, and this
+-- is the output that the rules ask for there
 pub record IsFirstFaultAfter (P H : List Entry) (index : ℕ) (expected : Option Output) : Type 0 where
   pub within : index < length H
   pub before : Legal (P ++ take index H)

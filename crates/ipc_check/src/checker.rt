@@ -26,7 +26,8 @@ pub enum Verdict {
 pub fn check(entries: &[Entry]) -> Verdict
     // A yes is said of the legal histories, and of them alone.
     ensures yes { (result ≡ Yes) ↔ Legal entries.now }
-    // A no names the first entry that does not follow those before it, and the output that is to stand there.
+    // A no names the first entry that does not follow those before it, and the output that is to
+    // stand there.
     ensures no { IfNo result (IsFirstFault entries.now) }
 {
     let mut slots = Slots::new();

@@ -7,7 +7,8 @@ use Rattle.std.proofs.lemmas.Bool.{cases_Bool, cases_lt, ne_eqb}
 use Rattle.ipc_words.specs.Time.{period_in, span}
 use Rattle.ipc_client.specs.Timeouts.{IsLeastPeriod}
 
--- so many microseconds, divided by a power of two and rounded up, where each lesser power leaves more than 1,023
+-- so many microseconds, divided by a power of two and rounded up, where each lesser power leaves
+-- more than 1,023
 pub record IsHalved (micros e m : ℕ) : Type 0 where
   pub upper : micros ≤ 2 ^ e * m
   pub lower : 2 ^ e * m < micros + 2 ^ e

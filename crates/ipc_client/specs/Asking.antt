@@ -36,7 +36,8 @@ abbrev pub registers_frame : Registers → Frame
 registers_frame (registers.Exchanged result control code moment) = frame.Exregr result control code moment
 registers_frame (registers.Refused number) = frame.Refused number
 
--- exactly the bytes of one frame went out, the next frame was read and no byte behind it, and no device failed
+-- exactly the bytes of one frame went out, the next frame was read and no byte behind it, and no
+-- device failed
 pub record Exchanges (old new : ClientParts) (asked answered : Frame) : Type 0 where
   pub was_open : old.is_closed ≡ false
   pub sent : Appends old.written new.written (spelling asked)
@@ -57,7 +58,8 @@ pub record FailsToSend (old new : ClientParts) (asked : Frame) (fault : FrameFau
   pub unread : new.remaining ≡ old.remaining
   pub reader : new.read_failures ≡ old.read_failures
 
--- the frame went out, and no frame came: the bytes that were read show the fault, or the reader failed
+-- the frame went out, and no frame came: the bytes that were read show the fault, or the reader
+-- failed
 pub record FailsToRead (old new : ClientParts) (asked : Frame) (fault : FrameFault) : Type 0 where
   pub sent : Appends old.written new.written (spelling asked)
   pub writer : new.write_failures ≡ old.write_failures

@@ -2,8 +2,8 @@
 use Rattle.std.specs.Prelude.{ℕ, List, Bool, Option}
 use Rattle.ipc_frame.specs.declared.version.WireVersion.{WireVersion}
 
--- the bytes that its reader will still give and those that its writer has, where they are known; how often each device failed;
--- the version in which it is answered; whether it is closed
+-- the bytes that its reader will still give and those that its writer has, where they are known;
+-- how often each device failed; the version in which it is answered; whether it is closed
 pub record ClientParts : Type 0 where
   pub remaining : Option (List ℕ)
   pub written : Option (List ℕ)

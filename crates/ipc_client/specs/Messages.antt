@@ -1,4 +1,5 @@
--- What a call brings (L4 X.2 manual, Ipc: MR0 to MR63 and BR0 to BR32), and the frame that asks for it.
+-- What a call brings (L4 X.2 manual, Ipc: MR0 to MR63 and BR0 to BR32), and the frame that asks for
+-- it.
 use Rattle.std.specs.Prelude.{ℕ, List, []}
 use Rattle.ipc_frame.specs.Parts.{IpcParts}
 

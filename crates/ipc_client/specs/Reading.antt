@@ -18,7 +18,8 @@ pub record TakesFrame (side : Side) (old new : Option (List ℕ)) (frame : Frame
 abbrev pub IsShort : Reading → Type 0
 IsShort shown = (wanted : ℕ) × (shown ≡ Short wanted)
 
--- what the bytes taken show where there is no frame: F9 only at the end of the input, another fault only where they show it
+-- what the bytes taken show where there is no frame: F9 only at the end of the input, another fault
+-- only where they show it
 abbrev pub ShowsFault : FrameFault → Reading → Option (List ℕ) → Type 0
 ShowsFault fault.Unfinished shown new = IsShort shown × IsAtEnd new
 ShowsFault fault.Device shown new = IsShort shown
@@ -29,7 +30,8 @@ ShowsFault other shown new = shown ≡ Bad other
 abbrev pub TakesNoFrame : Side → Option (List ℕ) → Option (List ℕ) → FrameFault → Type 0
 TakesNoFrame side old new fault = (bytes : List ℕ) × Consumes old new bytes × ShowsFault fault (reading side bytes) new
 
--- one read: at most so many bytes were taken, and at least one, and stand behind those that are held
+-- one read: at most so many bytes were taken, and at least one, and stand behind those that are
+-- held
 pub record TakesPart (old new : Option (List ℕ)) (before after : List ℕ) (wanted : ℕ) : Type 0 where
   pub part : List ℕ
   pub some : 0 < length part
@@ -37,7 +39,8 @@ pub record TakesPart (old new : Option (List ℕ)) (before after : List ℕ) (wa
   pub taken : Consumes old new part
   pub held : after ≡ before ++ part
 
--- or none: the input is at its end, the device failed, or there is no memory for those that were taken
+-- or none: the input is at its end, the device failed, or there is no memory for those that were
+-- taken
 abbrev pub TakesNoPart : Option (List ℕ) → Option (List ℕ) → FrameFault → Type 0
 TakesNoPart old new fault.Unfinished = Consumes old new [] × IsAtEnd new
 TakesNoPart old new fault.Device = Consumes old new []

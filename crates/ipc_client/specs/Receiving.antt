@@ -13,7 +13,8 @@ abbrev pub message_in : Answer → Result IpcrParts Failure
 message_in (answer.Outcome ipcr) = (if has_failed ipcr.tag then Err (failure.Failed ipcr.error) else Ok ipcr)
 message_in (answer.Refused number) = Err (failure.Refused number)
 
--- the strings of simple items: each takes so many of the bytes as bits 10 to 63 of its descriptor say
+-- the strings of simple items: each takes so many of the bytes as bits 10 to 63 of its descriptor
+-- say
 abbrev pub item_strings : List ℕ → List ℕ → List (List ℕ)
 item_strings [] bytes = []
 item_strings (descriptor ∷ []) bytes = []

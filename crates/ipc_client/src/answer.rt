@@ -14,7 +14,8 @@ pub enum Greeting {
 /// The answer to a call.
 #[derive(Drop)]
 pub enum Answer {
-    /// What became of the call: a message, the end of a call that receives nothing, or a failure (the flag E of the tag).
+    /// What became of the call: a message, the end of a call that receives nothing, or a failure
+    /// (the flag E of the tag).
     Outcome(IpcrFrame),
     /// The kernel refused the call: the number after K. The thread goes on.
     Refused(u8),

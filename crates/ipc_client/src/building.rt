@@ -51,11 +51,13 @@ fn lay_out(
 }
 
 impl Message {
-    /// A message of a label, untyped words and strings: the strings lie end to end in the payload, each with a simple item.
+    /// A message of a label, untyped words and strings: the strings lie end to end in the payload,
+    /// each with a simple item.
     ///
     /// # Errors
     ///
-    /// More than `MAX_MESSAGE_WORDS` words, each string taking two; else a label of more than 48 bits; else no memory.
+    /// More than `MAX_MESSAGE_WORDS` words, each string taking two; else a label of more than 48
+    /// bits; else no memory.
     pub fn of(
         alloc: Global,
         label: u64,

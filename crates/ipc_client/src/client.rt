@@ -27,10 +27,11 @@ use ipc_words::{Control, Period, ThreadId, Timeouts};
 use std::alloc::Global;
 use std::marker::Model;
 
-/// A connection to the server, over a port that it reads and one that it writes. Each call sends one frame and reads one.
+/// A connection to the server, over a port that it reads and one that it writes. Each call sends
+/// one frame and reads one.
 ///
-/// A call that the kernel refuses is answered, and so is one that fails. After an error, and after `bye`, every call answers
-/// `Closed` and writes nothing.
+/// A call that the kernel refuses is answered, and so is one that fails. After an error, and after
+/// `bye`, every call answers `Closed` and writes nothing.
 #[derive(Drop)]
 pub struct Client<R: PortRead, W: PortWrite> {
     alloc: Global,
@@ -179,7 +180,8 @@ impl<R: PortRead, W: PortWrite> Client<R, W> {
     }
 
     /// Says which thread number the connection wants, and in which version it is answered from the
-    /// WELCOME on, and answers the thread's id. An answer of the other version is then `Unexpected`.
+    /// WELCOME on, and answers the thread's id. An answer of the other version is then
+    /// `Unexpected`.
     ///
     /// # Errors
     ///
@@ -246,7 +248,8 @@ impl<R: PortRead, W: PortWrite> Client<R, W> {
         }
     }
 
-    /// ExchangeRegisters: cancels the send phase of a thread of the own space (S of the control word), or its receive phase (R).
+    /// ExchangeRegisters: cancels the send phase of a thread of the own space (S of the control
+    /// word), or its receive phase (R).
     ///
     /// # Errors
     ///
@@ -325,7 +328,8 @@ impl<R: PortRead, W: PortWrite> Client<R, W> {
     ///
     /// # Errors
     ///
-    /// As [`ClientError`] says; F4, F3 and F1 of a message past the limits before anything is written. The client is then closed.
+    /// As [`ClientError`] says; F4, F3 and F1 of a message past the limits before anything is
+    /// written. The client is then closed.
     pub fn send(
         &mut self,
         to: ThreadId,
@@ -354,7 +358,8 @@ impl<R: PortRead, W: PortWrite> Client<R, W> {
     ///
     /// # Errors
     ///
-    /// As [`ClientError`] says; F4 of more than 32 buffer words before anything is written. The client is then closed.
+    /// As [`ClientError`] says; F4 of more than 32 buffer words before anything is written. The
+    /// client is then closed.
     pub fn receive(
         &mut self,
         from: ThreadId,
@@ -383,7 +388,8 @@ impl<R: PortRead, W: PortWrite> Client<R, W> {
     ///
     /// # Errors
     ///
-    /// As [`ClientError`] says; F4, F3 and F1 of what is past the limits before anything is written. The client is then closed.
+    /// As [`ClientError`] says; F4, F3 and F1 of what is past the limits before anything is
+    /// written. The client is then closed.
     pub fn call(
         &mut self,
         to: ThreadId,
@@ -409,11 +415,13 @@ impl<R: PortRead, W: PortWrite> Client<R, W> {
         self.ipc_of(to, to, timeouts, message, buffers)
     }
 
-    /// Answers a thread that waits for it, with no time to wait, and then receives a message of any thread.
+    /// Answers a thread that waits for it, with no time to wait, and then receives a message of any
+    /// thread.
     ///
     /// # Errors
     ///
-    /// As [`ClientError`] says; F4, F3 and F1 of what is past the limits before anything is written. The client is then closed.
+    /// As [`ClientError`] says; F4, F3 and F1 of what is past the limits before anything is
+    /// written. The client is then closed.
     pub fn reply_wait(
         &mut self,
         to: ThreadId,

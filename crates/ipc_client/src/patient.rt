@@ -8,8 +8,8 @@ use std::time::Duration;
 /// How long a server has for its first answer, in seconds.
 pub const PATIENCE: u64 = 10;
 
-/// What a server sends. Its first bytes have to come within [`PATIENCE`]; once they have, it is waited for without end, since a call may
-/// wait for ever.
+/// What a server sends. Its first bytes have to come within [`PATIENCE`]; once they have, it is
+/// waited for without end, since a call may wait for ever.
 #[derive(Drop)]
 pub struct PatientStream<'a> {
     stream: &'a UnixStream,
@@ -18,7 +18,8 @@ pub struct PatientStream<'a> {
 }
 
 impl<'a> PatientStream<'a> {
-    /// The reading side of a connection on which the server has said nothing yet. `is_silent` is set where its time is over.
+    /// The reading side of a connection on which the server has said nothing yet. `is_silent` is
+    /// set where its time is over.
     pub fn new(stream: &'a UnixStream, is_silent: &'a AtomicBool) -> PatientStream<'a> {
         // where the system refuses this it is waited for without end
         let _ = stream.set_read_timeout(Some(Duration::from_secs(PATIENCE)));

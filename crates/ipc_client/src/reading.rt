@@ -46,12 +46,14 @@ fn read_part<P: PortRead>(
 
 /// Reads the next frame that a side is sent. Nothing behind it is taken from the port.
 ///
-/// Its bytes take one room of 128, and where the head names more than that, and shows no fault, one room for all of them.
+/// Its bytes take one room of 128, and where the head names more than that, and shows no fault, one
+/// room for all of them.
 ///
 /// # Errors
 ///
-/// F1 to F4: the fault that the bytes show, at the byte that shows it. F9: the input ends inside the frame, or before it. F10, F11:
-/// the count of failures rose in this call. F14: there is no memory.
+/// F1 to F4: the fault that the bytes show, at the byte that shows it. F9: the input ends inside
+/// the frame, or before it. F10, F11: the count of failures rose in this call. F14: there is no
+/// memory.
 pub fn read_frame<P: PortRead>(alloc: Global, side: Side, port: &mut P) -> Result<Frame, FrameFault>
     ensures ok { IfOk result (λ frame. TakesFrame side (P.remaining port.old)
         (P.remaining port.new) frame) }

@@ -11,7 +11,8 @@ use ipc_words::ThreadId;
 use std::alloc::{AllocError, Global};
 use std::marker::Model;
 
-/// A message that was received, or the end of a call that receives none; seen as the parts of its frame.
+/// A message that was received, or the end of a call that receives none; seen as the parts of its
+/// frame.
 #[derive(Drop)]
 pub struct Received {
     outcome: IpcrFrame,

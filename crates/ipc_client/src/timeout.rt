@@ -48,7 +48,8 @@ impl Timeout {
         Timeout { period }
     }
 
-    /// For so many microseconds, or as little longer as a period can be. From 2,196,875,771,905 on without an end.
+    /// For so many microseconds, or as little longer as a period can be. From 2,196,875,771,905 on
+    /// without an end.
     pub fn micros(micros: u64) -> Timeout
         ensures { IsLeastPeriod micros result }
     {

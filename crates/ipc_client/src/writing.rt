@@ -74,7 +74,8 @@ fn write_through<P: PortWrite>(port: &mut P, encoder: &mut Encoder) -> Result<()
 ///
 /// # Errors
 ///
-/// F10, F11: the count of failures rose in this call; a front of the frame stands written, or all of it.
+/// F10, F11: the count of failures rose in this call; a front of the frame stands written, or all
+/// of it.
 pub fn write_frame<P: PortWrite>(port: &mut P, frame: Frame) -> Result<(), FrameFault>
     ensures whole { OnOk result (Appends (P.written port.old) (P.written port.new)
         (spelling frame)) }

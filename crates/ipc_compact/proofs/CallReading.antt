@@ -1,4 +1,5 @@
--- A call is kept, or kept only for its message: what the kept entries say of it, and which threads stay for it.
+-- A call is kept, or kept only for its message: what the kept entries say of it, and which threads
+-- stay for it.
 use Rattle.std.proofs.lemmas.Bool.{false≢true, true≢false}
 use Rattle.std.proofs.Common.{◌≡◌, refl, sym, ap, ◌∙◌, ℕ, ◌==◌, eqb-true, eq-eqb, Bool, true, false, not, ◌&&◌, ◌||◌, List, [], ◌∷◌, filter, if◌then◌else◌, ◌⊎◌, inl, inr, arith}
 use Rattle.std.specs.List.{list_any}

@@ -1,4 +1,5 @@
--- The calls of a thread that are kept, and those that the base counts as dropped, are all that it made.
+-- The calls of a thread that are kept, and those that the base counts as dropped, are all that it
+-- made.
 use Rattle.std.proofs.Math.Nat.{add-sub_of_le}
 use Rattle.std.proofs.lemmas.List.Sums.{sum_by-cons}
 use Rattle.std.proofs.Common.{◌≡◌, refl, ℕ, ◌+◌, ◌-◌, ◌≤◌, Bool, true, false, List, [], ◌∷◌, sum_by, cond, if◌then◌else◌, arith}

@@ -1,4 +1,5 @@
--- What is read of the kept entries of a list is what is read of all, where those that are read are kept.
+-- What is read of the kept entries of a list is what is read of all, where those that are read are
+-- kept.
 use Rattle.std.proofs.lemmas.Bool.{false≢true, true≢false}
 use Rattle.std.proofs.lemmas.Option.{none-some}
 use Rattle.std.proofs.lemmas.List.Sums.{sum_by-cons}

@@ -1,4 +1,5 @@
--- What the kept entries say of the sender that a call shows, where its Called is kept, and the threads that it names stay.
+-- What the kept entries say of the sender that a call shows, where its Called is kept, and the
+-- threads that it names stay.
 use Rattle.std.proofs.lemmas.Bool.{false≢true, true≢false}
 use Rattle.std.proofs.Common.{◌≡◌, refl, sym, ap, ◌∙◌, ℕ, ◌==◌, Bool, true, false, ◌&&◌, ◌||◌, List, [], ◌∷◌, Option, None, unwrap_or, if◌then◌else◌, ◌⊎◌, inl, inr, arith}
 use Rattle.std.specs.List.{list_any}

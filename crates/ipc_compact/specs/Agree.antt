@@ -36,8 +36,8 @@ pub record SamePartner (P Q : List Entry) (k : ℕ) : Type 0 where
   pub broken : has_broken P (caller_of P k) ≡ has_broken Q (caller_of Q k)
   pub bytes : moved_bytes P k ≡ moved_bytes Q k
 
--- the moment, how many calls there were, which are open, which threads live where, the versions, and the open calls with their
--- partners
+-- the moment, how many calls there were, which are open, which threads live where, the versions,
+-- and the open calls with their partners
 pub record Agree (P Q : List Entry) : Type 0 where
   pub moment : now P ≡ now Q
   pub made : calls_made P ≡ calls_made Q

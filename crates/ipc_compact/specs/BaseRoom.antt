@@ -2,7 +2,8 @@
 use Rattle.std.specs.Prelude.{ℕ, ◌*◌, ◌≤◌, List, []}
 use Rattle.ipc_words.specs.Limits.{table_slots}
 
--- what was written of a base: by thread numbers from 0 on the last version and how many calls were dropped; and calls that count as over
+-- what was written of a base: by thread numbers from 0 on the last version and how many calls were
+-- dropped; and calls that count as over
 pub record BaseParts : Type 0 where
   pub versions : List ℕ
   pub dropped : List ℕ

@@ -8,8 +8,8 @@ use Rattle.ipc_history.specs.declared.entry.Entry.{Entry}
 use Rattle.ipc_slots.specs.Slots.{live_of}
 use Rattle.ipc_compact.specs.Compact.{dropped_of, further_calls, is_among, kept_calls, kept_of, last_version, made_in}
 
--- the version before the next one of a number: 0 where that is the first, and the last one of all where the number is worn out. No
--- version has low six bits that are all zero
+-- the version before the next one of a number: 0 where that is the first, and the last one of all
+-- where the number is worn out. No version has low six bits that are all zero
 abbrev pub version_before : Option ℕ → ℕ
 version_before None = 0xffff_ffff
 version_before (Some next) = (if next == 1 then 0 else (if (next - 1) % 64 == 0 then next - 2 else next - 1))

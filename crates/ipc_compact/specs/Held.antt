@@ -1,4 +1,5 @@
--- What is held of a past after a compaction: the entries that it kept, and those that came since. It is enough for the next one.
+-- What is held of a past after a compaction: the entries that it kept, and those that came since.
+-- It is enough for the next one.
 use Rattle.std.specs.Prelude.{◌≡◌, ℕ, List, ◌++◌, ◌||◌, IsTrue}
 use Rattle.ipc_history.specs.Calls.{call_at}
 use Rattle.ipc_history.specs.Legal.{Legal}
@@ -13,7 +14,8 @@ pub record SaysOf (K H : List Entry) (n : ℕ) : Type 0 where
   pub call : call_at K n ≡ call_at H n
   pub shown : shown_sender K n ≡ shown_sender H n
 
--- the calls that an entry names beside a call that the next compaction keeps are named so by an entry that is held
+-- the calls that an entry names beside a call that the next compaction keeps are named so by an
+-- entry that is held
 abbrev pub FurtherHeld : Type 0
 FurtherHeld =
     (P X : List Entry) (taken later : List ℕ) → Legal (P ++ X) → AreAmong taken later → (n : ℕ)

@@ -8,8 +8,8 @@ use Rattle.ipc_history.specs.declared.entry.Entry.{Entry}
 use Rattle.ipc_compact.specs.Compact.{is_kept, kept_before, kept_of, kept_places}
 use Rattle.ipc_compact.specs.Later.{AreAmong}
 
--- the entries before a place that are held were kept by a compaction up to it, when the history was shorter and fewer outcomes were
--- taken
+-- the entries before a place that are held were kept by a compaction up to it, when the history was
+-- shorter and fewer outcomes were taken
 pub record WasKept (H : List Entry) (taken : List ℕ) (front : List Entry) (place : ℕ) : Type 0 where
   pub past : List Entry
   pub since : List Entry
@@ -36,7 +36,8 @@ pub record WasPlaced (H : List Entry) (taken : List ℕ) (front : List Entry) (p
   pub was : WasKept H taken front place
   pub places_are : places ≡ kept_places was.past was.took place
 
--- then the places of what the next compaction keeps of what is held are those of what it keeps of all
+-- then the places of what the next compaction keeps of what is held are those of what it keeps of
+-- all
 abbrev pub PlacesKept : Type 0
 PlacesKept =
     (H : List Entry) (taken : List ℕ) (front : List Entry) (places : List ℕ) (place upto : ℕ)

@@ -55,7 +55,8 @@ neither = record {
 abbrev calls_in : ℕ → ℕ → ℕ → CallParts → Entry
 calls_in n k v call = Given (Called n (id_of k v) call)
 
--- a message of one word is received; nothing taken: all is kept; both taken: the opens alone, and again
+-- a message of one word is received; nothing taken: all is kept; both taken: the opens alone, and
+-- again
 abbrev received : List Entry
 received =
     opened 1 1 ∷ opened 2 1 ∷ calls_in 1 1 1 (receives 0 None) ∷ calls_in 2 2 1 (sends (id_of 1 1) 1 (7 ∷ []) [])
@@ -97,7 +98,8 @@ MomentsRow =
     × (kept_of (timed ++ later) (1 ∷ 3 ∷ [])
     ≡ opened 1 1 ∷ opened 2 1 ∷ Given (At 5) ∷ calls_in 2 1 1 (receives 0xa None) ∷ Given (At 8) ∷ [])
 
--- strings that were copied: the sender has taken its outcome, and its call is kept for its message alone
+-- strings that were copied: the sender has taken its outcome, and its call is kept for its message
+-- alone
 abbrev buffers : List (List Substring)
 buffers =
     (record { length = 3; pointer = 0x1000 } ∷ [])
@@ -114,7 +116,8 @@ copied =
 abbrev pub StringsRow : Type 0
 StringsRow = (kept_of copied (2 ∷ []) ≡ copied) × (further_calls copied (2 ∷ []) ≡ 2 ∷ [])
 
--- a send waits that shows its VirtualSender: that thread has ended since, and its Opened and Broke stay
+-- a send waits that shows its VirtualSender: that thread has ended since, and its Opened and Broke
+-- stay
 abbrev virtual : CallParts
 virtual = record {
   to = id_of 1 1;

@@ -1,4 +1,5 @@
--- What is kept says of the open calls what a checker keeps of them: enough to go on from what is kept.
+-- What is kept says of the open calls what a checker keeps of them: enough to go on from what is
+-- kept.
 use Rattle.std.specs.Prelude.{◌≡◌, ℕ, List, IsFalse, IsTrue}
 use Rattle.ipc_history.specs.Legal.{Legal}
 use Rattle.ipc_history.specs.Phases.{is_over}

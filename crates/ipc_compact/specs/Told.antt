@@ -6,7 +6,8 @@ use Rattle.ipc_history.specs.Outcomes.{outcome_of}
 use Rattle.ipc_history.specs.declared.entry.Entry.{Entry}
 use Rattle.ipc_compact.specs.Compact.{compact, is_among, kept_calls}
 
--- of each kept call of the one, and of each call of what follows, the outcome is the same after both
+-- of each kept call of the one, and of each call of what follows, the outcome is the same after
+-- both
 abbrev pub OutcomesAgree : Type 0
 OutcomesAgree =
     (P Q : List Entry) (one other : List ℕ) → Legal P → Legal Q → Quiet P → Quiet Q

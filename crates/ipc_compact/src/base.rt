@@ -38,8 +38,9 @@ impl Model for Base {
 }
 
 impl Base {
-    /// By thread number from 0 on the last version, 0 where there was none, and how many calls of the live thread were dropped; the
-    /// moment; how many calls were made, and how many outcomes taken; and the calls that count as over.
+    /// By thread number from 0 on the last version, 0 where there was none, and how many calls of
+    /// the live thread were dropped; the moment; how many calls were made, and how many outcomes
+    /// taken; and the calls that count as over.
     pub fn new(
         versions: Vec<u32>,
         dropped: Vec<u64>,
@@ -109,7 +110,8 @@ impl Base {
         self.takes
     }
 
-    /// The room of this base, for another one; the base itself where that is not enough for every base, as it may be where it was read.
+    /// The room of this base, for another one; the base itself where that is not enough for every
+    /// base, as it may be where it was read.
     pub fn into_room(self) -> Result<BaseRoom, Base>
         ensures room { IfOk result (λ room. room ≡ nothing_written) }
         ensures back { IfErr result (λ base. base ≡ self) }

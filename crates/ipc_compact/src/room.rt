@@ -9,7 +9,8 @@ use ipc_words::limits::TABLE_SLOTS;
 use std::alloc::AllocError;
 use std::marker::Model;
 
-/// Room for the base of every history, and what was written of one. Writing into it takes no memory.
+/// Room for the base of every history, and what was written of one. Writing into it takes no
+/// memory.
 #[derive(Drop)]
 pub struct BaseRoom {
     versions: Vec<u32>,
@@ -28,7 +29,8 @@ impl Model for BaseRoom {
     ghost invariant = { λ r. HasBaseRoom (vec_capacity r.versions) (vec_capacity r.dropped) (vec_capacity r.over) };
 }
 
-/// The most calls that count as over: each kept call met at most two others, and a thread has at most one kept call.
+/// The most calls that count as over: each kept call met at most two others, and a thread has at
+/// most one kept call.
 const MOST_OVER: usize = 2 * TABLE_SLOTS;
 
 impl BaseRoom {
@@ -57,7 +59,8 @@ impl BaseRoom {
         self.over.clear();
     }
 
-    /// Writes of the next thread number its last version, which is told by the next one, and how many calls were dropped.
+    /// Writes of the next thread number its last version, which is told by the next one, and how
+    /// many calls were dropped.
     pub fn add_number(&mut self, next_version: Option<u32>, dropped: u64)
         requires versions { length self.old.versions < table_slots }
         requires dropped { length self.old.dropped < table_slots }
@@ -78,7 +81,8 @@ impl BaseRoom {
         self.over.push_reserved(number);
     }
 
-    /// The base that was written, with its moment, and how many calls were made and how many outcomes taken.
+    /// The base that was written, with its moment, and how many calls were made and how many
+    /// outcomes taken.
     pub fn into_base(self, moment: u64, calls: u64, takes: u64) -> Base
         ensures { result ≡ record {
           versions = self.versions;
@@ -119,7 +123,8 @@ impl BaseRoom {
     }
 }
 
-/// The version before the next one of a thread number: 0 where that is the first, the last one of all where there is no next.
+/// The version before the next one of a thread number: 0 where that is the first, the last one of
+/// all where there is no next.
 fn version_before(next: Option<u32>) -> u32
     ensures { result ≡ version_before next }
 {

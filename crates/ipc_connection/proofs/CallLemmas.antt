@@ -33,7 +33,8 @@ asked false h = let no : false ≡ true = h refl in absurd (cc)
 abbrev bad : (X F : Type 0) → F → Result X F
 bad X F fault = Err fault
 
--- what is known where a reading was answered by a fault: it is that of the reading, or memory was asked for
+-- what is known where a reading was answered by a fault: it is that of the reading, or memory was
+-- asked for
 pub record IsBad (A X : Type 0) (S : Result A ItemFault) (asks : Bool) (fault : ItemFault) : Type 0 where
   pub fault_is : IfErr S (λ f. bad X ItemFault fault ≡ Err f)
   pub memory : IsOk S → fault ≡ item.NoMemory

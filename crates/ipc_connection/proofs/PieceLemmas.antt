@@ -148,7 +148,8 @@ piece_is_heard new bytes piece heard up = go up
     go (hears between new bytes piece used heard rest takes later) = step_hears between new bytes piece used heard rest (reading Server (bytes ++ piece)) refl takes (go later)
     go (fails new bytes piece fault takes) = step_fails new bytes piece fault (reading Server (bytes ++ piece)) refl takes
 
--- a whole frame that a piece ends: what is heard of the bytes held and the piece is what it says, and then what the rest says
+-- a whole frame that a piece ends: what is heard of the bytes held and the piece is what it says,
+-- and then what the rest says
 pub record IsHeardFirst (bytes piece : List ℕ) (used : ℕ) (heard : Heard) (new : Decoding) : Type 0 where
   pub frame : Frame
   pub stream : stream_of Server (bytes ++ piece) ≡ put_front (frame ∷ []) (stream_of Server (drop used piece))

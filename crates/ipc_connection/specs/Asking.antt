@@ -1,4 +1,5 @@
--- What is done for what a connection says, and what it asks of the kernel. Our choice (docs/PROFILE.md): the rules of a connection.
+-- What is done for what a connection says, and what it asks of the kernel. Our choice
+-- (docs/PROFILE.md): the rules of a connection.
 use Rattle.std.specs.Prelude.{ℕ, Result, Ok, Err}
 use Rattle.ipc_frame.specs.declared.fault.FrameFault.{FrameFault}
 use Rattle.ipc_frame.specs.declared.version.WireVersion.{WireVersion}

@@ -31,7 +31,8 @@ heard_behind (Stopped fault) = Err fault ∷ []
 abbrev pub heard_in : Stream → List (Result Heard FrameFault)
 heard_in stream = map heard_of stream.frames ++ heard_behind stream.end
 
--- the first frames of a stream are heard, and in place of what the next one says, if such a frame may lack memory, that there is none
+-- the first frames of a stream are heard, and in place of what the next one says, if such a frame
+-- may lack memory, that there is none
 pub record IsCut (May : Frame → Type 0) (stream : Stream) (heard : List (Result Heard FrameFault)) : Type 0 where
   pub front : List Frame
   pub frame : Frame

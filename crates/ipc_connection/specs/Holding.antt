@@ -52,7 +52,8 @@ Keeps old more new =
     ((old.lost ≡ 0) × (new.lost ≡ 0) × (new.bytes ≡ old.bytes ++ more))
     ⊎ ((new.bytes ≡ old.bytes) × (new.lost ≡ old.lost + length more))
 
--- by what the bytes and the piece show: all of the piece is taken; or there is a fault; or the frame's bytes are held
+-- by what the bytes and the piece show: all of the piece is taken; or there is a fault; or the
+-- frame's bytes are held
 abbrev pub Fills : Reading → List ℕ → List ℕ → Kept → Result (ℕ × Bool) FrameFault → Type 0
 Fills (Short wanted) old piece new result = (result ≡ Ok (length piece, false)) × HoldsIn new (old ++ piece)
 Fills (Bad fault) old piece new result = result ≡ Err fault

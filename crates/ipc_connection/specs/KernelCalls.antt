@@ -15,7 +15,8 @@ use Rattle.ipc_connection.specs.declared.heard.Heard.{Heard}
 use Rattle.ipc_connection.specs.declared.replying.Told.{Told}
 use Rattle.ipc_connection.specs.declared.replying.Told.TheVariants.{Opened, Entered, Exchanged, Refused, Faulted, Left}
 
--- a call of a kernel port: a request with its answer, a frame that is posted, or the end of the thread
+-- a call of a kernel port: a request with its answer, a frame that is posted, or the end of the
+-- thread
 pub data KernelCall : Type 0 where
   Asks : Request → Told → KernelCall
   Posts : Frame → KernelCall

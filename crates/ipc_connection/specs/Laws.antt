@@ -29,7 +29,8 @@ to_fault [] = []
 to_fault (Ok heard ∷ rest) = Ok heard ∷ to_fault rest
 to_fault (Err fault ∷ rest) = Err fault ∷ []
 
--- all that is said up to the first fault was heard; or the first frames of it, and want of memory in place of a call that may want it
+-- all that is said up to the first fault was heard; or the first frames of it, and want of memory
+-- in place of a call that may want it
 abbrev pub IsHeardOf : Stream → List (Result Heard FrameFault) → Type 0
 IsHeardOf stream heard = (heard ≡ to_fault (heard_in stream)) ⊎ IsCut MayLack stream heard
 
@@ -40,7 +41,8 @@ StandsAt [] (Stopped fault) decoder = ⊥
 StandsAt (Ok heard ∷ rest) end decoder = StandsAt rest end decoder
 StandsAt (Err fault ∷ rest) end decoder = decoder.spent ≡ true
 
--- what is heard of a piece, call by call, is what it says behind the bytes held, however they are cut
+-- what is heard of a piece, call by call, is what it says behind the bytes held, however they are
+-- cut
 abbrev pub PieceIsHeard : Type 0
 PieceIsHeard = (new : Decoding) (bytes piece : List ℕ) (heard : List (Result Heard FrameFault))
     → TakesUp bytes piece heard new

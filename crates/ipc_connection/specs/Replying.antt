@@ -15,7 +15,8 @@ use Rattle.ipc_connection.specs.declared.stage.Stage.TheVariants.{Serving, Finis
 use Rattle.ipc_connection.specs.declared.replying.Told.{Told}
 use Rattle.ipc_connection.specs.declared.replying.Told.TheVariants.{Opened, Entered, Exchanged, Refused, Faulted, Left}
 
--- what a kernel's answer tells a connection, where its request named this version, and the kernel's moment after it is this
+-- what a kernel's answer tells a connection, where its request named this version, and the kernel's
+-- moment after it is this
 abbrev pub told_of : WireVersion → ℕ → Answer → Told
 told_of version moment (answer.Opened thread) = Opened thread version
 told_of version moment (answer.Entered number) = Entered

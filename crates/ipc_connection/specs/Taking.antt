@@ -1,4 +1,5 @@
--- A decoder of what the server is sent: what it holds between two pieces, and what it hears of a piece.
+-- A decoder of what the server is sent: what it holds between two pieces, and what it hears of a
+-- piece.
 use Rattle.std.specs.Prelude.{◌≡◌, ◌⊎◌, ℕ, ◌-◌, ◌<◌, ◌≤◌, Bool, true, false, List, [], ◌∷◌, ◌++◌}
 use Rattle.std.specs.Prelude.{length, drop, Option, Some, None, Result, Ok, Err, IsOk, IsTrue, ⊤}
 use Rattle.ipc_frame.specs.Numbers.{IsBytes}
@@ -12,8 +13,8 @@ use Rattle.ipc_connection.specs.CallOf.{call_of, has_time_point, asks_memory}
 use Rattle.ipc_connection.specs.Hearing.{heard_of}
 use Rattle.ipc_connection.specs.declared.heard.Heard.{Heard}
 
--- the bytes since the last whole frame, as far as they are kept; how many bytes of a payload were counted off behind them, where
--- there was no memory for it; whether a fault was answered
+-- the bytes since the last whole frame, as far as they are kept; how many bytes of a payload were
+-- counted off behind them, where there was no memory for it; whether a fault was answered
 pub record Decoding : Type 0 where
   pub kept : List ℕ
   pub lost : ℕ
@@ -53,7 +54,8 @@ pub record Ends (frame : Frame) (used : ℕ) (new : Decoding) (result : Result (
   pub answer : (result ≡ answer_of used (heard_of frame)) ⊎ ((result ≡ Err NoMemory) × MayLack frame)
   pub after : StandsAfter new result
 
--- by what the bytes held and the piece show: all of the piece is used; or there is a fault; or a frame ends in it
+-- by what the bytes held and the piece show: all of the piece is used; or there is a fault; or a
+-- frame ends in it
 abbrev pub TakesBy : Reading → List ℕ → List ℕ → Decoding → Result (ℕ × Option Heard) FrameFault → Type 0
 TakesBy (Short wanted) bytes piece new result = (result ≡ Ok (length piece, None)) × Holds new (bytes ++ piece)
 TakesBy (Bad fault) bytes piece new result = (result ≡ Err fault) × (new.spent ≡ true)

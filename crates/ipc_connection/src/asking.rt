@@ -37,8 +37,9 @@ pub enum Reaction {
     Nothing,
 }
 
-/// What is to be done at a stage for what was heard there. The faults of a frame and of its items come
-/// first, then a frame that has no place there (S1); K7 and the other refusals are the kernel's.
+/// What is to be done at a stage for what was heard there. The faults of a frame and of its items
+/// come first, then a frame that has no place there (S1); K7 and the other refusals are the
+/// kernel's.
 #[tactic(auto, unfolding(crate::specs::Asking::asks))]
 pub fn asks(stage: Stage, heard: Result<Heard, FrameFault>) -> Reaction
     ensures { result ≡ asks stage heard }
@@ -83,8 +84,9 @@ fn served(thread: ThreadId, said: Heard) -> Reaction
     }
 }
 
-/// The version in which a connection is answered that makes a request: a HELLO names it, and another
-/// request leaves it as it was. Before a HELLO is accepted all answers are the same in each version.
+/// The version in which a connection is answered that makes a request: a HELLO names it, and
+/// another request leaves it as it was. Before a HELLO is accepted all answers are the same in each
+/// version.
 pub fn version_asked(request: &Request, version: WireVersion) -> WireVersion
     ensures { result ≡ version_asked request.now version }
 {
@@ -94,7 +96,8 @@ pub fn version_asked(request: &Request, version: WireVersion) -> WireVersion
     }
 }
 
-/// The command of the kernel that a request of a connection is which came from a space, 1 to `MAX_SPACE`.
+/// The command of the kernel that a request of a connection is which came from a space, 1 to
+/// `MAX_SPACE`.
 pub fn command_of(request: Request, space: u64) -> Command
     ensures { result ≡ command_of request space }
 {

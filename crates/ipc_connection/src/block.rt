@@ -8,11 +8,12 @@ use ipc_ports::{PortFault, PortRead};
 use std::alloc::{AllocError, Global};
 use std::marker::Model;
 
-/// A payload of which no more bytes than these are wanted is short: they are not read straight into its memory, and it gets new memory.
+/// A payload of which no more bytes than these are wanted is short: they are not read straight into
+/// its memory, and it gets new memory.
 pub(crate) const FEW: usize = 16_384;
 
-/// The bytes of a payload that have come, and behind them room that was written before: it holds zeros, or bytes of an older payload.
-/// Seen as the bytes that have come.
+/// The bytes of a payload that have come, and behind them room that was written before: it holds
+/// zeros, or bytes of an older payload. Seen as the bytes that have come.
 #[derive(Drop)]
 pub(crate) struct Block {
     bytes: Vec<u8>,
@@ -30,7 +31,8 @@ impl Model for Block {
     ghost invariant = { λ b. b.filled ≤ length b.bytes.items };
 }
 
-// Puts bytes behind the first ones of a list. Where there are no first ones, it gets its room at once.
+// Puts bytes behind the first ones of a list. Where there are no first ones, it gets its room at
+// once.
 fn append(list: &mut Vec<u8>, filled: usize, bytes: &[u8], wanted: usize) -> Result<(), AllocError>
     requires { filled ≤ length list.old.items }
     ensures ok { OnOk result (list.new.items ≡ take filled list.old.items ++ bytes.now) }
@@ -85,7 +87,8 @@ impl Block {
         &self.bytes[..self.filled]
     }
 
-    /// Where no bytes have come and many are wanted, takes up a block for them that was used before, if there is one.
+    /// Where no bytes have come and many are wanted, takes up a block for them that was used
+    /// before, if there is one.
     fn begin<B: Blocks>(&mut self, wanted: usize, blocks: &mut B)
         ensures { self.new ≡ self.old }
     {
@@ -116,8 +119,8 @@ impl Block {
         Ok(())
     }
 
-    /// Reads from a port behind the bytes that have come, at most so many. None where there is no memory for them. Room that was written
-    /// before is not written again.
+    /// Reads from a port behind the bytes that have come, at most so many. None where there is no
+    /// memory for them. Room that was written before is not written again.
     pub(crate) fn read_behind<P: PortRead>(
         &mut self,
         port: &mut P,

@@ -13,7 +13,8 @@ use ipc_ports::{PortFault, PortRead};
 use std::alloc::Global;
 use std::marker::Model;
 
-// Takes bytes from the front of a piece up to the end of the frame that has begun: how many, and whether the frame is whole.
+// Takes bytes from the front of a piece up to the end of the frame that has begun: how many, and
+// whether the frame is whole.
 pub(crate) fn fill<B: Blocks>(
     held: &mut Held,
     piece: &[u8],
@@ -50,7 +51,8 @@ fn keep_strings<B: Blocks>(heard: &Heard, blocks: &mut B) {
     }
 }
 
-/// Reads what clients send from a stream that comes in pieces of any size. It holds the bytes since the last whole frame.
+/// Reads what clients send from a stream that comes in pieces of any size. It holds the bytes since
+/// the last whole frame.
 #[derive(Drop)]
 pub struct CallDecoder {
     alloc: Global,
@@ -82,11 +84,13 @@ impl CallDecoder {
         }
     }
 
-    /// Reads a piece up to the end of the first frame in it, and answers how many of its bytes were used and what the frame says.
-    /// Without a whole frame it uses all of the piece and answers None.
+    /// Reads a piece up to the end of the first frame in it, and answers how many of its bytes were
+    /// used and what the frame says. Without a whole frame it uses all of the piece and answers
+    /// None.
     ///
-    /// Err at the byte that shows it: F1 to F4 of a frame; when the frame is whole F12, then F5 to F8 of its items; F14 where there
-    /// is no memory for its call, or was none for its payload. After an error it is F13 for good.
+    /// Err at the byte that shows it: F1 to F4 of a frame; when the frame is whole F12, then F5 to
+    /// F8 of its items; F14 where there is no memory for its call, or was none for its payload.
+    /// After an error it is F13 for good.
     pub fn take(&mut self, piece: &[u8]) -> Result<(usize, Option<Heard>), FrameFault>
         ensures taken { (bytes : List ℕ) → Holds self.old bytes
             → IsUnfinished bytes × Takes bytes piece.now self.new result }
@@ -96,8 +100,8 @@ impl CallDecoder {
         self.take_in(piece, &mut NoBlocks)
     }
 
-    /// As [`CallDecoder::take`]: a long payload is kept in a block that was used before, if there is one, and its strings are told to those
-    /// that give blocks.
+    /// As [`CallDecoder::take`]: a long payload is kept in a block that was used before, if there
+    /// is one, and its strings are told to those that give blocks.
     pub fn take_in<B: Blocks>(
         &mut self,
         piece: &[u8],
@@ -134,9 +138,10 @@ impl CallDecoder {
         }
     }
 
-    /// Reads on from a port, straight into the memory of a long payload of which some has come. It reads less than the rest of the
-    /// frame, so no frame ends in what it reads; none only at the end of the input. None where the next bytes are to be taken as a piece:
-    /// then nothing is read.
+    /// Reads on from a port, straight into the memory of a long payload of which some has come. It
+    /// reads less than the rest of the frame, so no frame ends in what it reads; none only at the
+    /// end of the input. None where the next bytes are to be taken as a piece: then nothing is
+    /// read.
     ///
     /// # Errors
     ///

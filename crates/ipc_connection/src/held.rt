@@ -33,7 +33,8 @@ const MAX_START: usize = HEAD + 8 * (MAX_MESSAGE_WORDS + MAX_BUFFER_WORDS);
 /// The most bytes that are read straight into the memory of a payload at once.
 const MANY: usize = BLOCK_BYTES as usize;
 
-/// The bytes of a frame that have come so far, a payload counted off where there was no memory for it.
+/// The bytes of a frame that have come so far, a payload counted off where there was no memory for
+/// it.
 #[derive(Drop)]
 pub(crate) struct Held {
     start: [u8; MAX_START],
@@ -218,8 +219,8 @@ impl Held {
         judge(Side::Server, start, self.payload.len() + self.lost)
     }
 
-    /// Takes bytes from the front of these, at least one, where so many are wanted, and says how many. A long payload is kept in a block that
-    /// was used before, if there is one.
+    /// Takes bytes from the front of these, at least one, where so many are wanted, and says how
+    /// many. A long payload is kept in a block that was used before, if there is one.
     pub(crate) fn keep<B: Blocks>(&mut self, bytes: &[u8], wanted: usize, blocks: &mut B) -> usize
         requires some { 0 < length bytes.now }
         requires few { length self.old.bytes + self.old.lost + length bytes.now < 2 ^ 32 }
@@ -244,8 +245,8 @@ impl Held {
         bytes.len()
     }
 
-    /// Reads on from a port straight into the memory of a payload of which some has come, less than what is left of it. None where
-    /// nothing is read.
+    /// Reads on from a port straight into the memory of a payload of which some has come, less than
+    /// what is left of it. None where nothing is read.
     pub(crate) fn read_on<P: PortRead>(&mut self, port: &mut P) -> Option<Result<usize, PortFault>>
         ensures read { KeepsOn (input_of (P.came port.old) (P.remaining port.old))
             (input_of (P.came port.new) (P.remaining port.new)) self.old self.new result }

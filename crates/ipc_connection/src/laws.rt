@@ -1,6 +1,7 @@
 ghost use Rattle.ipc_connection.specs.Laws.{FramesAddUp, FrameIsHeard, PieceIsHeard};
 
-/// What is heard of a stream that goes on is what was heard of it, and then what is heard of its last bytes with the new ones.
+/// What is heard of a stream that goes on is what was heard of it, and then what is heard of its
+/// last bytes with the new ones.
 pub fn frames_add_up()
     ensures { FramesAddUp }
 {}

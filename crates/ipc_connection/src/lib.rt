@@ -1,5 +1,6 @@
-//! The rules of a connection: what a frame to the server asks for, in normal form, read from a stream in any pieces; what that
-//! asks of the kernel, how its answer is told, what stage comes next.
+//! The rules of a connection: what a frame to the server asks for, in normal form, read from a
+//! stream in any pieces; what that asks of the kernel, how its answer is told, what stage comes
+//! next.
 #![tactic(auto)]
 
 mod asking;

@@ -12,7 +12,8 @@ use ipc_words::{Control, ThreadId};
 /// connection ends.
 #[derive(Clone, Copy, PartialEq, Eq, Debug)]
 pub enum Told {
-    /// The thread that was opened, and the version in which the connection is answered from here on.
+    /// The thread that was opened, and the version in which the connection is answered from here
+    /// on.
     Opened(ThreadId, WireVersion),
     /// The call was entered: its outcome is told later.
     Entered,
@@ -26,9 +27,9 @@ pub enum Told {
     Left,
 }
 
-/// What a kernel's answer tells a connection, where its request named this version, and the kernel's
-/// moment after it is this, in microseconds. What answers no request tells it nothing, as an entered
-/// call does.
+/// What a kernel's answer tells a connection, where its request named this version, and the
+/// kernel's moment after it is this, in microseconds. What answers no request tells it nothing, as
+/// an entered call does.
 pub fn told_of(version: WireVersion, moment: u64, answer: Answer) -> Told
     ensures { result ≡ told_of version moment answer }
 {
@@ -45,7 +46,8 @@ pub fn told_of(version: WireVersion, moment: u64, answer: Answer) -> Told
     }
 }
 
-/// The frame that tells it in a version, if any. K7 is a fault; K6 is told to nobody, as the thread is gone.
+/// The frame that tells it in a version, if any. K7 is a fault; K6 is told to nobody, as the thread
+/// is gone.
 #[tactic(auto, unfolding(crate::specs::Replying::reply))]
 pub fn reply(version: WireVersion, told: Told) -> Option<Frame>
     ensures { result ≡ reply version told }
@@ -92,8 +94,8 @@ fn refused(refusal: Refusal) -> Option<Frame>
     }
 }
 
-/// Whether a kernel port leaves this to be posted: it posts itself what it accepted, so a refusal that is told to
-/// somebody, or a fault.
+/// Whether a kernel port leaves this to be posted: it posts itself what it accepted, so a refusal
+/// that is told to somebody, or a fault.
 #[tactic(auto, unfolding(crate::specs::Replying::reply))]
 pub fn is_posted(told: Told) -> bool
     ensures { result ≡ is_some (posted told) }

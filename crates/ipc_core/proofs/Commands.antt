@@ -166,7 +166,8 @@ now_written P (output ∷ outputs) = ap now (sym (append_assoc P (Written output
 pub now_settled : (P Q : List Entry) → Settled P Q → now Q ≡ now P
 now_settled P Q settled = ap now settled.appended ∙ now_written P settled.outputs
 
--- an output of a legal history keeps it legal, needs no room that was not owed, and lowers the steps that are left
+-- an output of a legal history keeps it legal, needs no room that was not owed, and lowers the
+-- steps that are left
 pub output_legal : (H : List Entry) (output : Output) → Legal H → next_output H ≡ Some output → Legal (H ++ Written output ∷ [])
 output_legal H output legal next = legal_push H (Written output) legal (output_follows H output next)
 

@@ -106,7 +106,8 @@ any_left p q (x ∷ xs) passes h = go (q x) refl (any_left p q xs passes)
     go true e rest = rw e (elim (or_cases (p x) (list_any p xs) h) [ inl a ↦ or_left (p x) _ a | inr b ↦ or_right (p x) _ (rest b) ])
     go false e rest = rw e (elim (or_cases (p x) (list_any p xs) h) [ inl a ↦ not_both (passes x a) e | inr b ↦ rest b ])
 
--- an entry makes the finished ones more, where it is not by one of them that it opens, calls or ends
+-- an entry makes the finished ones more, where it is not by one of them that it opens, calls or
+-- ends
 module _ (P more H : List Entry) (e : Entry) (legal : Legal H) (whole : H ≡ P ++ more) (follows : Follows H e) (t : ℕ) (fresh : is_of t e ≡ true → finished_from P H t ≡ false) where
   abbrev K : List Entry
   K = H ++ e ∷ []

@@ -1,4 +1,5 @@
--- What a command does depends neither on the room that is seen of a kernel, nor on where the command before began.
+-- What a command does depends neither on the room that is seen of a kernel, nor on where the
+-- command before began.
 use Rattle.std.proofs.Common.{◌≡◌, ℕ, refl, ap, arith}
 use Rattle.ipc_history.specs.declared.entry.Input.{Input}
 use Rattle.ipc_core.specs.KernelParts.{KernelParts, without_room}

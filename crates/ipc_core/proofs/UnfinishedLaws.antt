@@ -38,7 +38,8 @@ use Rattle.ipc_core.proofs.BusyLaws.{Keeps, does_keeps}
 use Rattle.ipc_core.proofs.NewCalls.{takes_grows, ticks_grows}
 use Rattle.ipc_core.proofs.OutcomeCall.{outcome_call}
 
--- the history goes on from where the command began, and of the thread's last call no outcome is taken
+-- the history goes on from where the command began, and of the thread's last call no outcome is
+-- taken
 record GoesOn (old new : KernelParts) (t : ℕ) : Type 0 where
   pub more : List Entry
   pub whole : new.history ≡ old.history ++ more

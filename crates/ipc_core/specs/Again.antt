@@ -24,13 +24,15 @@ says_history_full _ = false
 abbrev pub lacks_entries : KernelParts → Command → Bool
 lacks_entries kernel command = is_history_full (cause_of kernel command)
 
--- before a command: where K5 is the first cause to refuse it, a compaction up to a place; else nothing changes
+-- before a command: where K5 is the first cause to refuse it, a compaction up to a place; else
+-- nothing changes
 abbrev pub MakesRoom : ℕ → KernelParts → Command → KernelParts → Type 0
 MakesRoom upto old command roomy =
     MatchBool (lacks_entries old command) ((done : Compacted) × Compacts old roomy upto done) (roomy ≡ old)
 
--- after that the command is obeyed, or refused for want of memory. So K5 is answered only where there is no room after the compaction
--- either, and of a command that is not refused with K5 at first nothing is let go
+-- after that the command is obeyed, or refused for want of memory. So K5 is answered only where
+-- there is no room after the compaction either, and of a command that is not refused with K5 at
+-- first nothing is let go
 pub record MayObeyAgain (upto : ℕ) (old : KernelParts) (command : Command) (answer : Answer) (new : KernelParts) : Type 0 where
   pub roomy : KernelParts
   pub makes_room : MakesRoom upto old command roomy

@@ -5,7 +5,8 @@ use Rattle.ipc_history.specs.declared.entry.Entry.{Entry}
 pub use Rattle.ipc_partners.specs.Kept.{TookOthers}
 use Rattle.ipc_core.specs.Outcomes.{IsTaken}
 
--- each call that was taken was made and is over, and none was taken twice; of each thread every call but its last was taken
+-- each call that was taken was made and is over, and none was taken twice; of each thread every
+-- call but its last was taken
 pub record AreBooks (H : List Entry) (taken : List ℕ) (since : ℕ) : Type 0 where
   pub taken_are : All (IsTaken H) taken
   pub once : IsDistinct (λ a b. a == b) taken

@@ -1,4 +1,5 @@
--- The room that an input needs with the At before it and all that it brings about, beyond what is owed.
+-- The room that an input needs with the At before it and all that it brings about, beyond what is
+-- owed.
 use Rattle.std.specs.Prelude.{ℕ, Bool, true, false}
 use Rattle.ipc_history.specs.declared.entry.Input.{Input}
 use Rattle.ipc_history.specs.declared.entry.Input.TheVariants.{At, Opened, Called, Exreg}

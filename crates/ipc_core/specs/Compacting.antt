@@ -6,8 +6,9 @@ use Rattle.ipc_compact.specs.Compact.{kept_before, kept_of, kept_places}
 use Rattle.ipc_core.specs.KernelParts.{KernelParts, history_of}
 use Rattle.ipc_core.specs.declared.answers.Compacted.{Compacted}
 
--- what is held where these outcomes were taken: of the entries before the place what the compact keeps (ipc_compact), with their places, and
--- all from it on. Where the place is the end, that is the compact. The mark stays
+-- what is held where these outcomes were taken: of the entries before the place what the compact
+-- keeps (ipc_compact), with their places, and all from it on. Where the place is the end, that is
+-- the compact. The mark stays
 abbrev pub kept_to : List ℕ → ℕ → HistoryParts → HeldParts
 kept_to taken upto history = record {
   front = kept_before history.entries taken (reached upto history);
@@ -20,7 +21,8 @@ kept_to taken upto history = record {
 abbrev pub most_entries : ℕ
 most_entries = 2 ^ 63 - 1
 
--- a compaction up to a place: the history stays, and all that any command asks; what was let go counts no longer
+-- a compaction up to a place: the history stays, and all that any command asks; what was let go
+-- counts no longer
 pub record Compacts (old new : KernelParts) (upto : ℕ) (done : Compacted) : Type 0 where
   pub history : new.history ≡ old.history
   pub held : new.held ≡ kept_to old.taken upto (history_of old)
@@ -33,7 +35,8 @@ pub record Compacts (old new : KernelParts) (upto : ℕ) (done : Compacted) : Ty
   pub moment : new.moment ≡ old.moment
   pub calls_limit : new.calls_limit ≡ old.calls_limit
 
--- behind a compaction that went up to the end memory holds the compact: to it belongs the base of the history (ipc_compact)
+-- behind a compaction that went up to the end memory holds the compact: to it belongs the base of
+-- the history (ipc_compact)
 abbrev pub HoldsCompact : Type 0
 HoldsCompact =
     (old new : KernelParts) (upto : ℕ) (done : Compacted) → Compacts old new upto done

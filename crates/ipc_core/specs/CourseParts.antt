@@ -7,8 +7,8 @@ use Rattle.ipc_history.specs.declared.entry.Input.TheVariants.{Called}
 use Rattle.ipc_desks.specs.CallsOf.{is_busy}
 use Rattle.ipc_desks.specs.Messages.{PreparedParts, prepared}
 
--- the entries, what memory holds of them and for how many there is room, the calls whose outcome was taken, the length before the last command, and the threads
--- whose calls it finished
+-- the entries, what memory holds of them and for how many there is room, the calls whose outcome
+-- was taken, the length before the last command, and the threads whose calls it finished
 pub record CourseParts : Type 0 where
   pub entries : List Entry
   pub held : HeldParts

@@ -1,4 +1,5 @@
--- An input that is a call of words which reaches a receiving call: its transfer begins and ends with it.
+-- An input that is a call of words which reaches a receiving call: its transfer begins and ends
+-- with it.
 use Rattle.std.specs.Prelude.{ℕ, List, [], ◌∷◌, ◌++◌, Bool, false}
 use Rattle.ipc_history.specs.declared.entry.Entry.{Entry}
 use Rattle.ipc_history.specs.declared.entry.Entry.TheVariants.{Given, Written}

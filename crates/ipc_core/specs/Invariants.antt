@@ -19,7 +19,8 @@ use Rattle.ipc_core.specs.Books.{AreBooks}
 use Rattle.ipc_core.specs.CourseParts.{CourseParts, history_of}
 use Rattle.ipc_core.specs.Outcomes.{finished_from, is_among}
 
--- a course: a legal history, who waits in it, desks that are of it, and the threads whose calls the last command finished, each once
+-- a course: a legal history, who waits in it, desks that are of it, and the threads whose calls the
+-- last command finished, each once
 pub record IsCourse (H : List Entry) (waiting : Waiting) (desks : PastDesks) (since : ℕ) (finished : List ℕ) (width : ℕ) : Type 0 where
   pub legal : Legal H
   pub waits_in : waiting.slots.past ≡ H
@@ -30,8 +31,8 @@ pub record IsCourse (H : List Entry) (waiting : Waiting) (desks : PastDesks) (si
   pub begun : since ≤ length H
   pub wide : table_slots ≤ width
 
--- a course, with the calls that met the last ones, and how many outcomes were taken; memory holds all entries of the last command, and of
--- those before a place what a compaction kept
+-- a course, with the calls that met the last ones, and how many outcomes were taken; memory holds
+-- all entries of the last command, and of those before a place what a compaction kept
 pub record IsHeldCourse (history : HistoryParts) (waiting : Waiting) (desks : PastDesks) (partners : PastPartners) (takes since : ℕ)
     (finished : List ℕ) (width : ℕ) : Type 0 where
   pub course : IsCourse history.entries waiting desks since finished width
@@ -40,8 +41,8 @@ pub record IsHeldCourse (history : HistoryParts) (waiting : Waiting) (desks : Pa
   pub counted : takes ≡ length desks.taken
   pub kept : WasPlaced history.entries desks.taken history.held.front history.held.places history.held.whole_from
 
--- a kernel's history is legal and quiet, within its limit with all that is owed; its moment is not before
--- the history's, and no phase is due then
+-- a kernel's history is legal and quiet, within its limit with all that is owed; its moment is not
+-- before the history's, and no phase is due then
 pub record Stands (H : List Entry) (limit moment : ℕ) : Type 0 where
   pub legal : Legal H
   pub quiet : Quiet H
@@ -50,16 +51,16 @@ pub record Stands (H : List Entry) (limit moment : ℕ) : Type 0 where
   pub in_range : moment < last_moment + 1
   pub undue : list_any (is_due_at H moment) (numbers H) ≡ false
 
--- a kernel stands, has room for all that is owed, and its limits are within the greatest: that of entries counts with those that were
--- let go
+-- a kernel stands, has room for all that is owed, and its limits are within the greatest: that of
+-- entries counts with those that were let go
 pub record IsKernel (entries_limit calls_limit moment : ℕ) (course : CourseParts) : Type 0 where
   pub stands : Stands course.entries entries_limit moment
   pub room : length course.entries + room_owed course.entries ≤ course.room
   pub few_entries : entries_limit < 2 ^ 63
   pub few_calls : calls_limit ≤ max_calls
 
--- a whole kernel: with its books. Its limit of entries is raised by those that were let go, and by no more: so memory never has to hold more
--- than the greatest limit
+-- a whole kernel: with its books. Its limit of entries is raised by those that were let go, and by
+-- no more: so memory never has to hold more than the greatest limit
 pub record IsWhole (entries_limit calls_limit moment : ℕ) (course : CourseParts) : Type 0 where
   pub kernel : IsKernel entries_limit calls_limit moment course
   pub books : AreBooks course.entries course.taken course.since

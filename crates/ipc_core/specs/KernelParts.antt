@@ -3,9 +3,10 @@ use Rattle.std.specs.Prelude.{ℕ, List, []}
 use Rattle.ipc_history.specs.HistoryParts.{HeldParts, HistoryParts}
 use Rattle.ipc_history.specs.declared.entry.Entry.{Entry}
 
--- the greatest number of entries, with those that were let go, and of calls, the moment in microseconds, the history, what memory
--- holds of it, the numbers of the calls whose outcome was taken, in that order, how long the history was before the last command that
--- was obeyed, and for how many entries the history has room, with those that were let go
+-- the greatest number of entries, with those that were let go, and of calls, the moment in
+-- microseconds, the history, what memory holds of it, the numbers of the calls whose outcome was
+-- taken, in that order, how long the history was before the last command that was obeyed, and for
+-- how many entries the history has room, with those that were let go
 pub record KernelParts : Type 0 where
   pub entries_limit : ℕ
   pub calls_limit : ℕ

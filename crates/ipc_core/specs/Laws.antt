@@ -14,8 +14,9 @@ use Rattle.ipc_core.specs.Steps.{Enters, taken_after}
 use Rattle.ipc_core.specs.declared.command.Command.{Command}
 use Rattle.ipc_core.specs.declared.command.Command.TheVariants.{Enter, Take}
 
--- what is true of a kernel between commands: its history is legal and quiet; each call that was taken was made and is over, and
--- none was taken twice; of each thread every call but its last was taken; and the history has not become shorter
+-- what is true of a kernel between commands: its history is legal and quiet; each call that was
+-- taken was made and is over, and none was taken twice; of each thread every call but its last was
+-- taken; and the history has not become shorter
 pub record IsSound (kernel : KernelParts) : Type 0 where
   pub legal : Legal kernel.history
   pub quiet : Quiet kernel.history
@@ -30,7 +31,8 @@ StaysSound =
     (old : KernelParts) (command : Command) (answer : Answer) (new : KernelParts)
     → IsSound old → MayObey old command answer new → IsSound new
 
--- the same commands, each obeyed, have one list of answers and one end, in all that is seen but the room
+-- the same commands, each obeyed, have one list of answers and one end, in all that is seen but the
+-- room
 abbrev pub RunsOnce : Type 0
 RunsOnce =
     (old one other : KernelParts) (commands : List Command) (answers others : List Answer)
@@ -72,8 +74,8 @@ abbrev pub is_take_of : ℕ → Command → Bool
 is_take_of thread (Take taker) = taker == thread
 is_take_of thread _ = false
 
--- a live thread that the finished ones do not name has to take what it had to take before a command that is
--- no call and no take of it
+-- a live thread that the finished ones do not name has to take what it had to take before a command
+-- that is no call and no take of it
 abbrev pub UnfinishedKeeps : Type 0
 UnfinishedKeeps =
     (old : KernelParts) (command : Command) (answer : Answer) (new : KernelParts)

@@ -54,18 +54,20 @@ abbrev pub ObeysOr : Option Refusal → KernelParts → Command → Answer → K
 ObeysOr (Some refusal) old command answer new = (answer ≡ Refused refusal) × (new ≡ old)
 ObeysOr None old command answer new = Does old command answer new
 
--- a command with a cause to be refused is refused with it, and changes nothing; any other does what it says
+-- a command with a cause to be refused is refused with it, and changes nothing; any other does what
+-- it says
 unfoldable pub Obeys : KernelParts → Command → Answer → KernelParts → Type 0
 Obeys old command answer new = ObeysOr (cause_of old command) old command answer new
 
--- what an open or an ExchangeRegisters takes memory for: more room in the history. A call takes it for its copies too, so of a call
--- nothing is said
+-- what an open or an ExchangeRegisters takes memory for: more room in the history. A call takes it
+-- for its copies too, so of a call nothing is said
 abbrev pub LacksRoom : KernelParts → Command → Type 0
 LacksRoom kernel (Open number space) = LacksRoomFor kernel open_need
 LacksRoom kernel (Exreg thread target control) = LacksRoomFor kernel exreg_need
 LacksRoom kernel _ = Unit {0}
 
--- a command that may take memory, and has no other cause to be refused, may be refused for want of it; then it changes nothing
+-- a command that may take memory, and has no other cause to be refused, may be refused for want of
+-- it; then it changes nothing
 pub record LacksMemory (old : KernelParts) (command : Command) (answer : Answer) (new : KernelParts) : Type 0 where
   pub takes_memory : IsTrue (takes_memory command)
   pub no_other_cause : cause_of old command ≡ None

@@ -11,17 +11,20 @@ use Rattle.ipc_desks.specs.CallsOf.{last_call}
 pub use Rattle.ipc_desks.specs.CallsOf.{is_among}
 use Rattle.ipc_core.specs.KernelParts.{KernelParts}
 
--- the outcome of a call is still to be taken, once it is over: its caller lives, and it was not taken
+-- the outcome of a call is still to be taken, once it is over: its caller lives, and it was not
+-- taken
 unfoldable pub is_untaken : KernelParts → ℕ → Bool
 is_untaken kernel n =
     is_called kernel.history n && is_live kernel.history (caller_of kernel.history n) && not (is_among n kernel.taken)
 
--- the outcome that a thread may take: that of its last call, where the thread is live, the call is over and it was not yet taken
+-- the outcome that a thread may take: that of its last call, where the thread is live, the call is
+-- over and it was not yet taken
 unfoldable pub outcome_to_take : KernelParts → ℕ → Option OutcomeParts
 outcome_to_take kernel thread =
     (if is_live kernel.history thread then calls.outcome_to_take kernel.history kernel.taken thread else None)
 
--- a thread has an outcome to take, or will have: it is live, and the outcome of its last call was not taken
+-- a thread has an outcome to take, or will have: it is live, and the outcome of its last call was
+-- not taken
 unfoldable pub has_untaken : KernelParts → ℕ → Bool
 has_untaken kernel thread = is_live kernel.history thread && calls.is_busy kernel.history kernel.taken thread
 

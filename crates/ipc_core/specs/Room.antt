@@ -5,8 +5,8 @@ use Rattle.ipc_history.specs.CallParts.{CallParts}
 use Rattle.ipc_laws.specs.Counting.{blocks_of, pledged}
 use Rattle.ipc_core.specs.KernelParts.{KernelParts}
 
--- the entries that an open, a call and an ExchangeRegisters may need with all that they bring about; every other command needs none
--- that is not pledged
+-- the entries that an open, a call and an ExchangeRegisters may need with all that they bring
+-- about; every other command needs none that is not pledged
 abbrev pub open_need : ℕ
 open_need = need_of_open
 

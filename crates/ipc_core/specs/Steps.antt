@@ -26,9 +26,9 @@ at_if_later H moment = (if nat_lt (now H) moment then Given (At moment) ∷ [] e
 abbrev pub with_input : List Entry → ℕ → Input → List Entry
 with_input H moment input = H ++ at_if_later H moment ++ Given input ∷ []
 
--- the kernel took an input: after the old history come the At of the moment where that is later, the input, the outputs until none
--- applies, and nothing else; a legal history stays legal; limits and moment stay, and memory lets go of no
--- entry; its room does not shrink
+-- the kernel took an input: after the old history come the At of the moment where that is later,
+-- the input, the outputs until none applies, and nothing else; a legal history stays legal; limits
+-- and moment stay, and memory lets go of no entry; its room does not shrink
 pub record Takes (old new : KernelParts) (input : Input) : Type 0 where
   pub history : Settled (with_input old.history old.moment input) new.history
   pub legal : Legal old.history → Legal new.history

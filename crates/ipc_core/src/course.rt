@@ -42,7 +42,8 @@ use ipc_words::{Control, ThreadId};
 use std::alloc::AllocError;
 use std::marker::Model;
 
-/// A legal history, what it says of each thread now, what is kept for each thread, and which outcomes were taken.
+/// A legal history, what it says of each thread now, what is kept for each thread, and which
+/// outcomes were taken.
 #[derive(Drop)]
 pub(crate) struct Course {
     history: History,
@@ -141,7 +142,8 @@ impl Course {
         self.history.held()
     }
 
-    /// The base of the history, where memory holds its compact. It is written into a room. Takes no memory.
+    /// The base of the history, where memory holds its compact. It is written into a room. Takes no
+    /// memory.
     pub(crate) fn base(&self, room: BaseRoom) -> Base
         requires others { TookOthers self.now.entries self.now.taken }
         requires compact { held_of (history_of self.now) ≡ kept_of self.now.entries self.now.taken }
@@ -173,7 +175,8 @@ impl Course {
         self.history.entries_from(place)
     }
 
-    /// The entry of a place, counted from 0. None where memory holds it no more, or it was not written yet.
+    /// The entry of a place, counted from 0. None where memory holds it no more, or it was not
+    /// written yet.
     pub(crate) fn entry(&self, place: usize) -> Option<&Entry>
         ensures { option_copied result ≡ held_entry self.now.held self.now.entries place }
     {
@@ -283,7 +286,8 @@ impl Course {
         self.waiting.next_output(&self.history.whole())
     }
 
-    /// What is pledged for the open calls: some entries for each, and more for each block of its strings.
+    /// What is pledged for the open calls: some entries for each, and more for each block of its
+    /// strings.
     pub(crate) fn pledged_for_calls(&self) -> u128
         ensures { result ≡ sum_by (pledge_of self.now.entries) (numbers self.now.entries) }
     {

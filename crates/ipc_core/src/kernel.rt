@@ -40,7 +40,8 @@ use std::marker::Model;
 /// How many entries and calls a kernel takes; more than the greatest counts as that.
 #[derive(Clone, Copy)]
 pub struct Limits {
-    /// The most entries that the history may hold before a command, with all that is pledged and that the command needs.
+    /// The most entries that the history may hold before a command, with all that is pledged and
+    /// that the command needs.
     pub entries: u64,
     /// The greatest number of a call.
     pub calls: u64,
@@ -86,7 +87,8 @@ impl Kernel {
         Kernel::new_in(alloc, limits)
     }
 
-    /// A kernel as [`Kernel::new`] makes it, with memory that is lent. Where it is ample K4 does not come.
+    /// A kernel as [`Kernel::new`] makes it, with memory that is lent. Where it is ample K4 does
+    /// not come.
     pub fn new_in<M: Memory>(memory: M, limits: Limits) -> Result<Kernel, Refusal>
         ensures ok { IfOk result (λ kernel. kernel
             ≡ empty_kernel (min limits.entries max_entries) (min limits.calls max_calls)) }
@@ -110,7 +112,8 @@ impl Kernel {
         self.alloc
     }
 
-    /// The moment, in microseconds. The history's last At is not after it, and no phase is due at it.
+    /// The moment, in microseconds. The history's last At is not after it, and no phase is due at
+    /// it.
     pub fn now(&self) -> u64
         ensures moment { result ≡ self.now.moment }
         ensures past { now self.now.history ≤ self.now.moment }
@@ -121,8 +124,9 @@ impl Kernel {
         self.moment
     }
 
-    /// The least moment, in microseconds, at which a phase of an open call is due (L4 X.2 manual, Ipc: timeouts): it is after [`Kernel::now`],
-    /// and a clock reading before it brings nothing. None where no clock reading makes a phase due. Looks at no thread.
+    /// The least moment, in microseconds, at which a phase of an open call is due (L4 X.2 manual,
+    /// Ipc: timeouts): it is after [`Kernel::now`], and a clock reading before it brings nothing.
+    /// None where no clock reading makes a phase due. Looks at no thread.
     pub fn least_due(&self) -> Option<u64>
         ensures least { IsLeastDue self.now.history result }
         ensures later { IfSome result (λ moment. self.now.moment < moment) }
@@ -130,7 +134,8 @@ impl Kernel {
         self.course.least_due()
     }
 
-    /// The history, oldest entry first. Memory holds what [`Kernel::entries_from`] gives, and what the last compaction kept.
+    /// The history, oldest entry first. Memory holds what [`Kernel::entries_from`] gives, and what
+    /// the last compaction kept.
     pub fn history(&self) -> Entries<'_>
         ensures entries { result ≡ self.now.history }
         ensures legal { Legal self.now.history }
@@ -146,7 +151,8 @@ impl Kernel {
         self.course.whole()
     }
 
-    /// What the history says of each thread number now: which thread is live, and where its open call stands.
+    /// What the history says of each thread number now: which thread is live, and where its open
+    /// call stands.
     pub fn slots(&self) -> &Slots
         ensures { result.now.past ≡ self.now.history }
     {
@@ -167,16 +173,18 @@ impl Kernel {
         self.course.held_len()
     }
 
-    /// The entries that memory holds, oldest first: those that the last compaction kept, and all since.
+    /// The entries that memory holds, oldest first: those that the last compaction kept, and all
+    /// since.
     pub fn held_entries(&self) -> &[Entry]
         ensures { result.now ≡ held_of (history_of self.now) }
     {
         self.course.held()
     }
 
-    /// The base of the history, which stands beside the entries that memory holds: with them it says all that what follows can ask of the
-    /// past. That is so directly behind a compaction up to the end, and as long as no command follows that changes the history or takes an
-    /// outcome ([`crate::laws::holds_compact`]). The base is written into a room. Takes no memory.
+    /// The base of the history, which stands beside the entries that memory holds: with them it
+    /// says all that what follows can ask of the past. That is so directly behind a compaction up
+    /// to the end, and as long as no command follows that changes the history or takes an outcome
+    /// ([`crate::laws::holds_compact`]). The base is written into a room. Takes no memory.
     pub fn base(&self, room: BaseRoom) -> Base
         requires { held_of (history_of self.now) ≡ kept_of self.now.history self.now.taken }
         ensures { result ≡ base_of self.now.history self.now.taken }
@@ -184,7 +192,8 @@ impl Kernel {
         self.course.base(room)
     }
 
-    /// The place, counted from 0, from which on memory holds all entries: at most the length of the history before the last command.
+    /// The place, counted from 0, from which on memory holds all entries: at most the length of the
+    /// history before the last command.
     pub fn whole_from(&self) -> usize
         ensures place { result ≡ self.now.held.whole_from }
         ensures front { result ≤ self.now.since }
@@ -193,7 +202,8 @@ impl Kernel {
         self.course.whole_from()
     }
 
-    /// The entries from a place on, counted from 0, oldest first. Memory holds them from [`Kernel::whole_from`] on.
+    /// The entries from a place on, counted from 0, oldest first. Memory holds them from
+    /// [`Kernel::whole_from`] on.
     pub fn entries_from(&self, place: usize) -> &[Entry]
         requires { self.now.held.whole_from ≤ place }
         ensures { result.now ≡ drop place self.now.history }
@@ -201,8 +211,8 @@ impl Kernel {
         self.course.entries_from(place)
     }
 
-    /// The entry of a place, counted from 0: the number of entries that were written before it. None where memory holds it no more, or it was
-    /// not written yet. Takes no memory.
+    /// The entry of a place, counted from 0: the number of entries that were written before it.
+    /// None where memory holds it no more, or it was not written yet. Takes no memory.
     pub fn entry(&self, place: usize) -> Option<&Entry>
         ensures { option_copied result ≡ held_entry self.now.held self.now.history place }
     {

@@ -1,4 +1,5 @@
-// The laws of a kernel. Each function is a theorem: it does nothing, and its contract holds of every kernel.
+// The laws of a kernel. Each function is a theorem: it does nothing, and its contract holds of
+// every kernel.
 ghost use Rattle.ipc_core.specs.Again.{ObeysAgainOnce, StaysSoundAgain};
 ghost use Rattle.ipc_core.specs.Compacting.{HoldsCompact};
 ghost use Rattle.ipc_core.specs.Laws.{EnteredIsBusy, IdleHasNothing, RunsOnce, StaysIdle, StaysSound, TakenIsIdle, UnfinishedKeeps};
@@ -8,13 +9,14 @@ pub fn stays_sound()
     ensures { StaysSound }
 {}
 
-/// The same commands, each obeyed, have one list of answers and one end, in all that is seen but the room.
+/// The same commands, each obeyed, have one list of answers and one end, in all that is seen but
+/// the room.
 pub fn runs_once()
     ensures { RunsOnce }
 {}
 
-/// A command that is obeyed once more after a compaction keeps what is sound, and has one answer and one end, in all that is seen but the
-/// room.
+/// A command that is obeyed once more after a compaction keeps what is sound, and has one answer
+/// and one end, in all that is seen but the room.
 pub fn obeyed_again()
     ensures sound { StaysSoundAgain }
     ensures once { ObeysAgainOnce }
@@ -25,8 +27,8 @@ pub fn idle_has_nothing()
     ensures { IdleHasNothing }
 {}
 
-/// Which threads are busy after a command: one whose call was entered, and none that was not busy before or whose
-/// outcome was taken.
+/// Which threads are busy after a command: one whose call was entered, and none that was not busy
+/// before or whose outcome was taken.
 pub fn busy_by_its_calls()
     ensures idle { StaysIdle }
     ensures entered { EnteredIsBusy }
@@ -38,7 +40,8 @@ pub fn unfinished_keeps()
     ensures { UnfinishedKeeps }
 {}
 
-/// Behind a compaction that went up to the end memory holds the compact of the history, and no other entry.
+/// Behind a compaction that went up to the end memory holds the compact of the history, and no
+/// other entry.
 pub fn holds_compact()
     ensures { HoldsCompact }
 {}

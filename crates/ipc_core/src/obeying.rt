@@ -18,8 +18,8 @@ use ipc_words::{Control, ThreadId};
 use std::alloc::Global;
 
 impl Kernel {
-    /// Obeys a command and answers it. A command that is refused changes nothing; one that is not writes at most `MAX_COMMAND_ENTRIES`. Memory
-    /// lets go of none.
+    /// Obeys a command and answers it. A command that is refused changes nothing; one that is not
+    /// writes at most `MAX_COMMAND_ENTRIES`. Memory lets go of none.
     pub fn obey(&mut self, command: Command) -> Answer
         ensures obeys { MayObey self.old command result self.new }
         ensures few { length self.new.history ≤ length self.old.history + max_command_entries }
@@ -29,7 +29,8 @@ impl Kernel {
         self.obey_in(alloc, command)
     }
 
-    /// Obeys a command as [`Kernel::obey`] does, with memory that is lent. Where it is ample K4 does not come.
+    /// Obeys a command as [`Kernel::obey`] does, with memory that is lent. Where it is ample K4
+    /// does not come.
     pub fn obey_in<M: Memory>(&mut self, memory: M, command: Command) -> Answer
         ensures obeys { MayObey self.old command result self.new }
         ensures few { length self.new.history ≤ length self.old.history + max_command_entries }
@@ -134,9 +135,10 @@ impl Kernel {
 }
 
 impl Kernel {
-    /// Obeys a command and answers it, as [`Kernel::obey`] does. Where it is refused with K5, memory lets go of the entries before a place,
-    /// counted from 0, but of those that entered the open calls ([`Kernel::compact`]), and the command is obeyed once more. So K5 is answered only
-    /// where there is no room after that either. Each other refusal changes nothing.
+    /// Obeys a command and answers it, as [`Kernel::obey`] does. Where it is refused with K5,
+    /// memory lets go of the entries before a place, counted from 0, but of those that entered the
+    /// open calls ([`Kernel::compact`]), and the command is obeyed once more. So K5 is answered
+    /// only where there is no room after that either. Each other refusal changes nothing.
     pub fn obey_again(&mut self, command: Command, upto: usize) -> Answer
         ensures obeys { MayObeyAgain upto self.old command result self.new }
         ensures few { length self.new.history ≤ length self.old.history + max_command_entries }
@@ -145,7 +147,8 @@ impl Kernel {
         self.obey_again_in(alloc, command, upto)
     }
 
-    /// Obeys a command as [`Kernel::obey_again`] does, with memory that is lent. Where it is ample K4 does not come.
+    /// Obeys a command as [`Kernel::obey_again`] does, with memory that is lent. Where it is ample
+    /// K4 does not come.
     pub fn obey_again_in<M: Memory>(&mut self, memory: M, command: Command, upto: usize) -> Answer
         ensures obeys { MayObeyAgain upto self.old command result self.new }
         ensures few { length self.new.history ≤ length self.old.history + max_command_entries }
@@ -252,12 +255,14 @@ impl Answer {
 }
 
 impl Kernel {
-    /// Runs commands, one after the other, on a new kernel, and answers each. The only refusal is K4, of the whole.
+    /// Runs commands, one after the other, on a new kernel, and answers each. The only refusal is
+    /// K4, of the whole.
     ///
-    /// Whatever the commands are, the history has the promise (`paired`): successful send phases and received messages pair one to
-    /// one; each received message is, whole, that of one send to that thread, showing its caller or a permitted originator; one
-    /// caller's messages to one receiver come in sending order; a send that ended otherwise is received by nobody; no ended thread
-    /// takes part. And no other legal, quiet history has its inputs (`only`).
+    /// Whatever the commands are, the history has the promise (`paired`): successful send phases
+    /// and received messages pair one to one; each received message is, whole, that of one send to
+    /// that thread, showing its caller or a permitted originator; one caller's messages to one
+    /// receiver come in sending order; a send that ended otherwise is received by nobody; no ended
+    /// thread takes part. And no other legal, quiet history has its inputs (`only`).
     pub fn run(
         alloc: Global,
         limits: Limits,
@@ -277,7 +282,8 @@ impl Kernel {
         Kernel::run_in(alloc, limits, commands)
     }
 
-    /// Runs commands as [`Kernel::run`] does, with memory that is lent. Where it is ample K4 does not come.
+    /// Runs commands as [`Kernel::run`] does, with memory that is lent. Where it is ample K4 does
+    /// not come.
     pub fn run_in<M: Memory>(
         memory: M,
         limits: Limits,

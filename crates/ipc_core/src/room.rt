@@ -5,7 +5,8 @@ use ipc_history::Call;
 use ipc_words::ThreadId;
 use ipc_words::limits::{BLOCK_BYTES, NEED_OF_BLOCK, NEED_OF_CALL};
 
-/// How many entries a call may need with all that it brings about: some, and more for each block of its strings.
+/// How many entries a call may need with all that it brings about: some, and more for each block of
+/// its strings.
 pub(crate) fn call_need(call: &Call) -> u64
     ensures { result ≡ call_need call.now }
 {

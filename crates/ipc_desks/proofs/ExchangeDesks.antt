@@ -141,7 +141,8 @@ module _ (P : List Entry) (n t r : ℕ) (call : CallParts) (legal : Legal P) (fo
           subst (λ v. is_named (record { first = None; second = Some v }) thread ≡ finishes R (Written (Ended n r)) thread) receiver
           (tells_one R n r legal_two ends (standing_of R n) (standing_of R r) refl refl thread (ap (λ f. not (f == nilthread)) from_is ∙ ap not e))
 
-  -- the desks as they are between the call and the beginning of its transfer, where its message is handed out at once
+  -- the desks as they are between the call and the beginning of its transfer, where its message is
+  -- handed out at once
   abbrev pub between : List Desk → List Desk
   between old = slice_set old (number_of t) (entered (now P) n call (prepared call) (desk_at old (number_of t)))
 

@@ -1,4 +1,5 @@
--- The calls of one thread: the last one, how many it made, and how many of those had their outcome taken.
+-- The calls of one thread: the last one, how many it made, and how many of those had their outcome
+-- taken.
 use Rattle.std.specs.Prelude.{ℕ, List, Bool, false, not, ◌==◌, Option, None, if◌then◌else◌, count_by, option_and_then}
 use Rattle.std.specs.Option.{option_map_or}
 pub use Rattle.ipc_history.specs.Entries.{number_by}

@@ -23,7 +23,8 @@ is_unsent H n = not (is_over H n || is_sent H n || (to_of H n == nilthread))
 abbrev pub message_at : List Entry → ℕ → Option MessageParts
 message_at H n = (if is_unsent H n then Some (message_of H n) else None)
 
--- what is to be told of n: nothing where it was taken; its outcome; or its buffer strings, while it is open
+-- what is to be told of n: nothing where it was taken; its outcome; or its buffer strings, while it
+-- is open
 abbrev pub told_at : List Entry → List ℕ → ℕ → Told
 told_at H taken n =
     (if is_among n taken then Nothing
@@ -48,8 +49,9 @@ desk_of H taken k = option_map_or (thread_desk H taken) (live_of H k) blank_desk
 abbrev pub desk_at : List Desk → ℕ → Desk
 desk_at desks k = slice_index_or desks k blank_desk
 
--- the desks are those of the history, where the outcomes of these calls were taken; only outcomes of calls that were over were
--- taken, and of each thread as many as it made calls, but for the last one where the thread is busy
+-- the desks are those of the history, where the outcomes of these calls were taken; only outcomes
+-- of calls that were over were taken, and of each thread as many as it made calls, but for the last
+-- one where the thread is busy
 pub record Keeps (H : List Entry) (taken : List ℕ) (desks : List Desk) : Type 0 where
   pub size : length desks ≡ table_slots
   pub table : (k : ℕ) → desk_at desks k ≡ desk_of H taken k

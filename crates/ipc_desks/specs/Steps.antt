@@ -81,7 +81,8 @@ pub record Failing (i j : ℕ) (first second : OutcomeParts) (old new : List Des
   pub receiver : desk_at new j ≡ finished second (desk_at old j)
   pub beside : (k : ℕ) → k ≢ i → k ≢ j → desk_at new k ≡ desk_at old k
 
--- the message at one place and the buffer strings at another were moved out, and no other desk changed
+-- the message at one place and the buffer strings at another were moved out, and no other desk
+-- changed
 pub record Moved (i j : ℕ) (old new : List Desk) : Type 0 where
   pub size : length new ≡ length old
   pub sender : i ≢ j → desk_at new i ≡ emptied (desk_at old i)

@@ -24,8 +24,8 @@ pub(crate) enum Told {
     Ready(Outcome),
 }
 
-/// What is kept for a thread: its message that is still to be sent, what it is to be told, and how many calls it made and how many
-/// outcomes of them were taken.
+/// What is kept for a thread: its message that is still to be sent, what it is to be told, and how
+/// many calls it made and how many outcomes of them were taken.
 #[derive(Drop)]
 pub(crate) struct Desk {
     pub(crate) message: Option<Message>,
@@ -201,7 +201,8 @@ pub(crate) fn nothing(alloc: Global, moment: u64, call: u64) -> Outcome
     }
 }
 
-/// What a call is told that received a message at this moment, of a caller, which shows a sender. Takes no memory.
+/// What a call is told that received a message at this moment, of a caller, which shows a sender.
+/// Takes no memory.
 pub(crate) fn delivered(
     moment: u64,
     number: u64,

@@ -30,7 +30,8 @@ use ipc_words::{IpcError, Phase as FailedPhase, ThreadId};
 use std::alloc::AllocError;
 use std::marker::Model;
 
-/// A desk for each thread number; the history that they are of, and the calls whose outcome was taken, which proofs alone know.
+/// A desk for each thread number; the history that they are of, and the calls whose outcome was
+/// taken, which proofs alone know.
 #[derive(Drop)]
 pub struct Desks {
     past: Past<Entry>,
@@ -109,8 +110,8 @@ impl Desks {
         self.kept().desk(self.place_of_thread(thread)).taken
     }
 
-    /// Moves the outcome out that a live thread may take: that of its last call, where it is over and was not taken yet. Takes no
-    /// memory. Where there is none nothing changes.
+    /// Moves the outcome out that a live thread may take: that of its last call, where it is over
+    /// and was not taken yet. Takes no memory. Where there is none nothing changes.
     pub fn take(&mut self, thread: ThreadId) -> Option<Outcome>
         requires { IsTrue (is_live self.old.past thread) }
         ensures past { self.new.past ≡ self.old.past }
@@ -311,7 +312,8 @@ impl Desks {
         Finished::NONE
     }
 
-    /// Takes note of the next entry of the history, any but a call, and says whose call it ended. Takes no memory.
+    /// Takes note of the next entry of the history, any but a call, and says whose call it ended.
+    /// Takes no memory.
     pub fn note(&mut self, slots: &Slots, entry: &Entry) -> Finished
         requires past { slots.now.past ≡ self.old.past }
         requires follows { Follows self.old.past entry.now }
@@ -326,8 +328,8 @@ impl Desks {
         }
     }
 
-    /// Takes note of a call, whose copies these are, and says whether it is over at once: its caller is then told nothing. Takes no
-    /// memory.
+    /// Takes note of a call, whose copies these are, and says whether it is over at once: its
+    /// caller is then told nothing. Takes no memory.
     pub fn note_called(
         &mut self,
         slots: &Slots,

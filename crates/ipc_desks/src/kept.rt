@@ -28,9 +28,11 @@ use ipc_words::limits::TABLE_SLOTS;
 use std::alloc::{AllocError, Global};
 use std::marker::Model;
 
-/// A desk for each thread number, seen as their list. That they are those of a history is said elsewhere.
+/// A desk for each thread number, seen as their list. That they are those of a history is said
+/// elsewhere.
 ///
-/// A desk keeps the message of its thread's call until that was sent, and what the thread is to be told of the call.
+/// A desk keeps the message of its thread's call until that was sent, and what the thread is to be
+/// told of the call.
 #[derive(Drop)]
 pub struct KeptDesks {
     alloc: Global,
@@ -190,8 +192,8 @@ impl KeptDesks {
         }
     }
 
-    /// Moves the message of a sending call and the buffer strings of a receiving call into the outcome of the receiving one, which is
-    /// over at this moment.
+    /// Moves the message of a sending call and the buffer strings of a receiving call into the
+    /// outcome of the receiving one, which is over at this moment.
     pub(crate) fn hand_over(
         &mut self,
         slots: &Slots,
@@ -238,7 +240,8 @@ pub(crate) fn standing(slots: &Slots, number: u64, place: usize) -> Standing
     call
 }
 
-/// What the receiver is told where its sender is told an error of the send phase: bit 0 is the phase.
+/// What the receiver is told where its sender is told an error of the send phase: bit 0 is the
+/// phase.
 fn in_receive_phase(error: IpcError) -> IpcError
     requires { error < 2 ^ 32 }
     ensures { result ≡ error + 1 }

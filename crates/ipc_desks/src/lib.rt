@@ -1,4 +1,5 @@
-//! What is kept for each thread number, so that the outcome of its call is handed out without memory and without the history.
+//! What is kept for each thread number, so that the outcome of its call is handed out without
+//! memory and without the history.
 #![tactic(auto)]
 
 mod desk;

@@ -73,8 +73,8 @@ impl Message {
         self.strings.len()
     }
 
-    /// What the receiver gets: the untyped words, followed by a simple item of two words for each string, and the strings.
-    /// Takes no memory.
+    /// What the receiver gets: the untyped words, followed by a simple item of two words for each
+    /// string, and the strings. Takes no memory.
     pub(crate) fn into_received(self, buffers: &BufferList) -> (Vec<u64>, StringList)
         requires { length self.strings ≤ length buffers.now }
         ensures words { result.0.items ≡ self.words ++ simple_items buffers.now self.strings }
@@ -90,7 +90,8 @@ impl Message {
     }
 }
 
-/// The copies that entering a call wants: its message and its buffer strings. They are made before anything changes.
+/// The copies that entering a call wants: its message and its buffer strings. They are made before
+/// anything changes.
 #[derive(Drop)]
 pub struct Prepared {
     pub(crate) message: Message,

@@ -174,7 +174,8 @@ serves_by old last place said reaction is serves =
     let same : reaction ≡ asks (connection_at (connections_of old.connections) place).stage said = is ∙ ap (λ (l : ConnectionParts). asks l.stage said) (sym (connection_there old.connections place)) in
     (serves.0, subst (λ r. ServesBy MayLack (service_of old) place r serves.0 (service_of last)) same serves.1)
 
--- the connection in a place is told something, and the table names the connection of a thread that was opened
+-- the connection in a place is told something, and the table names the connection of a thread that
+-- was opened
 module _ (s now : RoomyService) (place : ℕ) (told : Told) (read new : RoomyConnection)
     (can : CanTell s place told) (placed : now ≡ record s { table = table_told told place s.table })
     (there : read ≡ slice_index_or now.connections place read)

@@ -32,14 +32,16 @@ in_front front old = record {
 abbrev pub NoneCame : (ℕ → List ℕ) → List ConnectionParts → Type 0
 NoneCame front connections = (place : ℕ) → length connections ≤ place → front place ≡ []
 
--- where these bytes went out, an exchange as it is, and as it would be if all of them waited: the one is the other but for the
--- bytes in front; so what went out on a connection, followed by what waits, is all that the other has there
+-- where these bytes went out, an exchange as it is, and as it would be if all of them waited: the
+-- one is the other but for the bytes in front; so what went out on a connection, followed by what
+-- waits, is all that the other has there
 pub record IsApart (went : ℕ → List ℕ) (now all : ExchangeParts) : Type 0 where
   pub all_is : all ≡ in_front went now
   pub out : (place : ℕ) → went place ++ (connection_at now.service.connections place).out ≡ (connection_at all.service.connections place).out
   pub none : NoneCame went now.service.connections
 
--- an output and then an event are the event and then the output: bytes that went out change nothing that happens
+-- an output and then an event are the event and then the output: bytes that went out change nothing
+-- that happens
 abbrev pub OutputApart : Type 0
 OutputApart = (memory : Memory) (old new : ExchangeParts) (event : Event) (asked : List Asked) (place count : ℕ)
     → count ≤ length (connection_at old.service.connections place).out

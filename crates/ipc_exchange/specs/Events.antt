@@ -22,7 +22,8 @@ pub record ExchangeParts : Type 0 where
 abbrev pub held_at : ExchangeParts → ℕ → List ℕ
 held_at exchange place = slice_index_or exchange.held place []
 
--- what may happen: a connection comes from a space; a piece of bytes comes on one, or its end; a clock reading; a copy
+-- what may happen: a connection comes from a space; a piece of bytes comes on one, or its end; a
+-- clock reading; a copy
 pub data Event : Type 0 where
   Connect : ℕ → Event
   Piece : ℕ → List ℕ → Event
@@ -42,7 +43,8 @@ holding old service place bytes = record {
   held = slice_set old.held place (kept (connection_at service.connections place).stage bytes);
 }
 
--- a piece: what the bytes held and the piece say is served, one after the other, and what is left is held
+-- a piece: what the bytes held and the piece say is served, one after the other, and what is left
+-- is held
 pub record Feeds (memory : Memory) (old : ExchangeParts) (place : ℕ) (piece : List ℕ)
     (asked : List Asked) (new : ExchangeParts) : Type 0 where
   pub heard : List (Result Heard FrameFault)

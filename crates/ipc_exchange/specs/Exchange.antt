@@ -23,14 +23,15 @@ no_decoder = record { kept = []; lost = 0; spent = true }
 abbrev pub decoder_at : List Decoding → ℕ → Decoding
 decoder_at decoders place = slice_index_or decoders place no_decoder
 
--- the bytes that came on a connection since its last whole frame: its decoder holds them; of one that has ended none are held
+-- the bytes that came on a connection since its last whole frame: its decoder holds them; of one
+-- that has ended none are held
 abbrev pub ShowsHeld : Stage → Decoding → List ℕ → Type 0
 ShowsHeld Finished decoder bytes = bytes ≡ []
 ShowsHeld Greeting decoder bytes = Holds decoder bytes
 ShowsHeld (Serving thread) decoder bytes = Holds decoder bytes
 
--- an exchange stands for these parts. Where there was no memory for a payload, its bytes are counted
--- and not kept, so that there may be more than one
+-- an exchange stands for these parts. Where there was no memory for a payload, its bytes are
+-- counted and not kept, so that there may be more than one
 pub record Shows (exchange : RoomyExchange) (parts : ExchangeParts) : Type 0 where
   pub service : parts.service ≡ service_of exchange.service
   pub long : length parts.held ≡ length exchange.decoders
@@ -44,7 +45,8 @@ pub record IsExchange (exchange : RoomyExchange) : Type 0 where
   pub parts : ExchangeParts
   pub shows : Shows exchange parts
 
--- an event happened: whatever parts the exchange stood for, it stands now for what they are after it
+-- an event happened: whatever parts the exchange stood for, it stands now for what they are after
+-- it
 abbrev pub Happened : RoomyExchange → Event → RoomyExchange → Type 0
 Happened old event new = (parts : ExchangeParts) → Shows old parts
     → (asked : List Asked) × (after : ExchangeParts) × Happens MayLack parts event asked after × Shows new after

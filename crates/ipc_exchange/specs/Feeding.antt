@@ -36,7 +36,8 @@ HoldsFor Finished decoder bytes = ⊤
 HoldsFor Greeting decoder bytes = Holds decoder bytes
 HoldsFor (Serving thread) decoder bytes = Holds decoder bytes
 
--- what the bytes held and a piece say is served, one after the other, and the decoder holds what is left
+-- what the bytes held and a piece say is served, one after the other, and the decoder holds what is
+-- left
 pub record FeedsConnection (old : ServiceParts) (place : ℕ) (bytes piece : List ℕ)
     (new : ServiceParts) (decoder : Decoding) : Type 0 where
   pub heard : List (Result Heard FrameFault)

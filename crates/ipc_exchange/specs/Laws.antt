@@ -64,8 +64,8 @@ without_history_room old = record {
   held = old.held;
 }
 
--- without want of memory each list of events has one end, in all that is seen but the room of the history, and one trace of commands
--- and answers
+-- without want of memory each list of events has one end, in all that is seen but the room of the
+-- history, and one trace of commands and answers
 abbrev pub HappenOnce : Type 0
 HappenOnce = (old one other : ExchangeParts) (events : List Event) (asked others : List Asked)
     → Legal old.service.kernel.history
@@ -77,8 +77,8 @@ pub record Begins (front whole : List ℕ) : Type 0 where
   pub rest : List ℕ
   pub whole_is : whole ≡ front ++ rest
 
--- what waits on a connection gets more at its end alone. So what went out on it, followed by what waits,
--- is all that was told it, in order
+-- what waits on a connection gets more at its end alone. So what went out on it, followed by what
+-- waits, is all that was told it, in order
 abbrev pub OutGrows : Type 0
 OutGrows = (memory : Memory) (old new : ExchangeParts) (events : List Event) (asked : List Asked)
     → HappenAll memory old events asked new

@@ -27,7 +27,8 @@ pub record RoomyConnection : Type 0 where
   pub connection : ConnectionParts
   pub free : ℕ
 
--- the kernel, the connections, and for each thread number the connection that had it last, 0 where none had it
+-- the kernel, the connections, and for each thread number the connection that had it last, 0 where
+-- none had it
 pub record RoomyService : Type 0 where
   pub kernel : KernelParts
   pub connections : List RoomyConnection
@@ -79,7 +80,8 @@ pub record Ready (service : RoomyService) : Type 0 where
   pub table : length service.table ≡ table_slots
   pub room : (place : ℕ) → HasRoom service.kernel (roomy_at service.connections place)
 
--- a thread that the connection in a place may get: it is live, and no other connection has its number
+-- a thread that the connection in a place may get: it is live, and no other connection has its
+-- number
 pub record IsFresh (kernel : KernelParts) (connections : List RoomyConnection) (place thread : ℕ) : Type 0 where
   pub live : IsTrue (is_live kernel.history thread)
   pub within : number_of thread < table_slots

@@ -22,8 +22,8 @@ pub record Turn : Type 0 where
   pub event : Event
   pub reply : Reply
 
--- what happens by an event with this answer: nothing where a connection is refused, where bytes go out, or
--- for the number 0, which no connection has
+-- what happens by an event with this answer: nothing where a connection is refused, where bytes go
+-- out, or for the number 0, which no connection has
 abbrev pub happening : Event → Reply → List events.Event
 happening (Connect space) (Connected number) = events.Connect space ∷ []
 happening (Connect space) (Refused why) = []
@@ -43,14 +43,15 @@ abbrev pub puts : Event → Reply → ℕ → List ℕ
 puts (Output (suc place) room) (Put bytes) other = bytes_at place bytes.items other
 puts event reply other = []
 
--- that happens, with the commands that the kernel was given for it; or bytes go out, and nothing else happens
+-- that happens, with the commands that the kernel was given for it; or bytes go out, and nothing
+-- else happens
 abbrev pub Goes : ExchangeParts → Event → Reply → List Asked → ExchangeParts → Type 0
 Goes old (Output (suc place) room) (Put bytes) asked new =
     (asked ≡ []) × (new ≡ put_out place (length bytes.items) old)
 Goes old event reply asked new = HappenAll MayLack old (happening event reply) asked new
 
--- the answer: a new connection's number, or why it was refused; whether the connection of a piece goes on;
--- the bytes that went out, as many as there were and had room
+-- the answer: a new connection's number, or why it was refused; whether the connection of a piece
+-- goes on; the bytes that went out, as many as there were and had room
 abbrev pub RepliesTo : ExchangeParts → Event → Reply → ExchangeParts → Type 0
 RepliesTo old (Connect space) (Connected number) new = number ≡ length old.service.connections + 1
 RepliesTo old (Connect space) (Refused why) new =
@@ -85,10 +86,10 @@ happened turns = flat_map (λ (turn : Turn). happening turn.event turn.reply) tu
 abbrev pub went_out : List Turn → ℕ → List ℕ
 went_out turns place = flat_map (λ (turn : Turn). puts turn.event turn.reply place) turns
 
--- events happened from these parts on, one after the other, each with its answer, and the exchange stands
--- for what came of it. By the rules alone, with no output, those events give `all`: and so what went out on
--- a connection, followed by what waits, is its bytes by the rules (`apart`). What was asked of the kernel,
--- and answered, gave the calls of the history
+-- events happened from these parts on, one after the other, each with its answer, and the exchange
+-- stands for what came of it. By the rules alone, with no output, those events give `all`: and so
+-- what went out on a connection, followed by what waits, is its bytes by the rules (`apart`). What
+-- was asked of the kernel, and answered, gave the calls of the history
 pub record Ran (first : ExchangeParts) (events : List Event) (replies : List Reply)
     (exchange : RoomyExchange) : Type 0 where
   pub turns : List Turn

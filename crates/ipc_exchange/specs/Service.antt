@@ -1,5 +1,5 @@
--- A service: one kernel, and the connections, each with its space, its stage, the version in which it is answered, and the
--- bytes that it has to put out.
+-- A service: one kernel, and the connections, each with its space, its stage, the version in which
+-- it is answered, and the bytes that it has to put out.
 use Rattle.std.specs.Prelude.{ℕ, zero, suc, Bool, false, ◌==◌, List, [], ◌∷◌, ◌++◌, drop, Option}
 use Rattle.std.specs.Prelude.{Some, None, slice_index_or, slice_set, option_map}
 use Rattle.std.specs.List.{position_or_len}
@@ -101,7 +101,8 @@ serves_number number Finished = false
 unfoldable pub place_of : ℕ → List ConnectionParts → ℕ
 place_of number connections = position_or_len (λ (connection : ConnectionParts). serves_number number connection.stage) connections
 
--- the connections of the first so many thread numbers, in order, are told the outcomes that their threads may take
+-- the connections of the first so many thread numbers, in order, are told the outcomes that their
+-- threads may take
 unfoldable pub delivered_to : ℕ → ServiceParts → ServiceParts
 delivered_to zero service = service
 delivered_to (suc number) service =

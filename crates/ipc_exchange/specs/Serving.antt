@@ -46,8 +46,9 @@ every_entry = 2 ^ 64 - 1
 abbrev pub first_kernel : ℕ → ℕ → KernelParts
 first_kernel entries_limit calls_limit = record (empty_kernel entries_limit calls_limit) { held = marked_to every_entry nothing_held }
 
--- a command is obeyed. Where K5 is the first cause to refuse it, memory first lets go of what is marked and need not be held; the history stays what
--- it was. Between commands a kernel is seen at rest
+-- a command is obeyed. Where K5 is the first cause to refuse it, memory first lets go of what is
+-- marked and need not be held; the history stays what it was. Between commands a kernel is seen at
+-- rest
 pub record ObeysIn (memory : Memory) (old : KernelParts) (command : Command) (answer : Answer) (new : KernelParts) : Type 0 where
   pub roomy : KernelParts
   pub makes_room : MakesRoom old.held.mark old command roomy
@@ -62,8 +63,8 @@ Leaves memory old (Some thread) asked new = (answer : Answer)
     × (asked ≡ record { command = command.Broke thread; answer = answer } ∷ [])
     × ObeysIn memory old (command.Broke thread) answer new
 
--- something is told to the connection in a place: its frame goes out; where the connection ends so, its
--- thread ends; then each thread is told its outcome
+-- something is told to the connection in a place: its frame goes out; where the connection ends so,
+-- its thread ends; then each thread is told its outcome
 pub record Tells (memory : Memory) (old : ServiceParts) (place : ℕ) (told : Told)
     (asked : List Asked) (new : ServiceParts) : Type 0 where
   pub kernel : KernelParts
@@ -71,7 +72,8 @@ pub record Tells (memory : Memory) (old : ServiceParts) (place : ℕ) (told : To
       (next_stage (connection_at old.connections place).stage told)) asked kernel
   pub new_is : new ≡ delivered kernel (slice_set old.connections place (told_connection told (connection_at old.connections place)))
 
--- the kernel obeys a command for the connection in a place that named a version, and its answer is told, at the moment after it
+-- the kernel obeys a command for the connection in a place that named a version, and its answer is
+-- told, at the moment after it
 pub record Does (memory : Memory) (old : ServiceParts) (place : ℕ) (version : WireVersion) (command : Command)
     (asked : List Asked) (new : ServiceParts) : Type 0 where
   pub answer : Answer
@@ -107,12 +109,13 @@ abbrev pub ServesAll : Memory → ServiceParts → ℕ → List (Result Heard Fr
 ServesAll memory old place heard asked new =
     Chain (λ before one told after. Serves memory before place one told after) old heard asked new
 
--- there may be no memory for what a frame says: for the room that serving it wants, which BYE does not want, or for its call
+-- there may be no memory for what a frame says: for the room that serving it wants, which BYE does
+-- not want, or for its call
 abbrev pub MayWant : Frame → Type 0
 MayWant frame = WantsRoom (heard_of frame) ⊎ taking.MayLack frame
 
--- what is heard of a stream: all that it says; where a growth was refused the first of it, and then, in the place of what such a
--- frame says, that there is no memory
+-- what is heard of a stream: all that it says; where a growth was refused the first of it, and
+-- then, in the place of what such a frame says, that there is no memory
 abbrev pub Hears : Memory → Stream → List (Result Heard FrameFault) → Type 0
 Hears Ample stream heard = heard ≡ heard_in stream
 Hears MayLack stream heard = (heard ≡ heard_in stream) ⊎ IsCut MayWant stream heard

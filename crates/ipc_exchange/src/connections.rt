@@ -142,8 +142,8 @@ impl Connections {
         self.pending.insert(place);
     }
 
-    /// Puts the next bytes of the connection in a place into the slice, as many as there are and as have
-    /// room, and says how many. Takes no memory.
+    /// Puts the next bytes of the connection in a place into the slice, as many as there are and as
+    /// have room, and says how many. Takes no memory.
     pub(crate) fn output(&mut self, place: usize, out: &mut [u8]) -> usize
         requires { place < length self.old }
         ensures count { result ≡ min (length out.old)

@@ -37,7 +37,8 @@ impl Model for Exchange {
 }
 
 impl Exchange {
-    /// An exchange without connections, whose kernel has these limits. Err, F14: there is no memory.
+    /// An exchange without connections, whose kernel has these limits. Err, F14: there is no
+    /// memory.
     pub fn new(alloc: Global, limits: Limits) -> Result<Exchange, AllocError>
         ensures { IfOk result (λ exchange. Shows exchange
             (empty_exchange (min limits.entries max_entries) (min limits.calls max_calls))) }
@@ -50,7 +51,8 @@ impl Exchange {
         })
     }
 
-    /// One more connection, from a space, 1 to `MAX_SPACE`; answers its number. A refused one uses up no number.
+    /// One more connection, from a space, 1 to `MAX_SPACE`; answers its number. A refused one uses
+    /// up no number.
     pub fn connect(&mut self, space: u32) -> Result<usize, ConnectRefused>
         ensures ok { IfOk result (λ number. number ≡ length self.old.service.connections + 1) }
         ensures happened { IfOk result (λ number. Happened self.old (Connect space) self.new) }
@@ -75,7 +77,8 @@ impl Exchange {
         Ok(count + 1)
     }
 
-    /// A piece of bytes comes on a connection. A connection that was never given, or has ended, takes no input.
+    /// A piece of bytes comes on a connection. A connection that was never given, or has ended,
+    /// takes no input.
     pub fn feed(&mut self, connection: usize, piece: &[u8]) -> Progress
         ensures happened { (place : ℕ) → connection ≡ place + 1
             → Happened self.old (Piece place piece.now) self.new }
@@ -95,7 +98,8 @@ impl Exchange {
         self.progress_at(place)
     }
 
-    /// The input of a connection ends. A connection that was never given, or has ended, takes no input.
+    /// The input of a connection ends. A connection that was never given, or has ended, takes no
+    /// input.
     pub fn end(&mut self, connection: usize)
         ensures happened { (place : ℕ) → connection ≡ place + 1
             → Happened self.old (Finish place) self.new }
@@ -147,8 +151,8 @@ impl Exchange {
         self.service.output(connection - 1, out)
     }
 
-    /// The first connection behind one that may have bytes to put out; the first of all behind 0. It
-    /// looks at no connection that has none.
+    /// The first connection behind one that may have bytes to put out; the first of all behind 0.
+    /// It looks at no connection that has none.
     pub fn next_output(&self, behind: usize) -> Option<usize>
         ensures some { IfSome result (λ connection. (behind < connection)
             × (connection ≤ length self.now.service.connections)) }

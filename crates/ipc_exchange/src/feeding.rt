@@ -16,7 +16,8 @@ fn is_bye(heard: &Heard) -> bool
     matches!(heard, Heard::Bye)
 }
 
-/// What a frame says, once there is room for what serving it may want; BYE wants none. F14: there is no memory.
+/// What a frame says, once there is room for what serving it may want; BYE wants none. F14: there
+/// is no memory.
 fn admit(service: &mut Service, place: usize, heard: Heard) -> Result<Heard, FrameFault>
     requires within { place < length service.old.connections }
     requires ready { Ready service.old }
@@ -34,7 +35,8 @@ fn admit(service: &mut Service, place: usize, heard: Heard) -> Result<Heard, Fra
     }
 }
 
-/// Serves what a frame says, or the fault that stands in its place. Where there is no memory that is F14.
+/// Serves what a frame says, or the fault that stands in its place. Where there is no memory that
+/// is F14.
 fn hear(service: &mut Service, place: usize, said: Result<Heard, FrameFault>)
     requires within { place < length service.old.connections }
     requires ready { Ready service.old }
@@ -48,8 +50,8 @@ fn hear(service: &mut Service, place: usize, said: Result<Heard, FrameFault>)
     service.serve(place, heard);
 }
 
-/// Serves the first frame that ends in a piece, and answers how many bytes of the piece it used; None
-/// where the piece is used up, or the connection has ended.
+/// Serves the first frame that ends in a piece, and answers how many bytes of the piece it used;
+/// None where the piece is used up, or the connection has ended.
 fn feed_first(
     service: &mut Service,
     place: usize,

@@ -16,8 +16,8 @@ pub fn legal_stays()
     ensures { LegalStays }
 {}
 
-/// Where no growth is refused, each list of events has one end, in all that is seen but the room of the history, and one trace of
-/// commands and answers.
+/// Where no growth is refused, each list of events has one end, in all that is seen but the room of
+/// the history, and one trace of commands and answers.
 pub fn happen_once()
     ensures { HappenOnce }
 {}
@@ -27,7 +27,8 @@ pub fn out_grows()
     ensures { OutGrows }
 {}
 
-/// An output and then an event are the event and then the output: bytes that went out change nothing that happens.
+/// An output and then an event are the event and then the output: bytes that went out change
+/// nothing that happens.
 pub fn output_apart()
     ensures { OutputApart }
 {}

@@ -84,7 +84,8 @@ impl MarkedKernel {
         self.due[number]
     }
 
-    /// Obeys a command, and answers it; where it is refused with K5, once more after memory let go of all that need not be held.
+    /// Obeys a command, and answers it; where it is refused with K5, once more after memory let go
+    /// of all that need not be held.
     pub(crate) fn obey(&mut self, command: Command) -> Answer
         ensures obeys { MayObeyAgain self.old.held.mark self.old command result self.new }
     {

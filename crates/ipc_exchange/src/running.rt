@@ -41,12 +41,12 @@ impl Exchange {
         }
     }
 
-    /// Lets events happen, one after the other, to a new exchange, and answers each. Err: there is no
-    /// memory for the exchange or for the answers.
+    /// Lets events happen, one after the other, to a new exchange, and answers each. Err: there is
+    /// no memory for the exchange or for the answers.
     ///
-    /// Whatever the events are, the history has the promise (`paired`), and its calls are those that the
-    /// kernel accepted, in order (`ran`). What went out on a connection, followed by what waits on it, is its
-    /// bytes by the rules (`ran`, field `apart`).
+    /// Whatever the events are, the history has the promise (`paired`), and its calls are those
+    /// that the kernel accepted, in order (`ran`). What went out on a connection, followed by what
+    /// waits on it, is its bytes by the rules (`ran`, field `apart`).
     pub fn run(
         alloc: Global,
         limits: Limits,

@@ -274,7 +274,8 @@ impl Service {
         told_of(version, self.kernel.now(), answer)
     }
 
-    /// Something is told to the connection in a place. Where the connection ends so, its thread ends.
+    /// Something is told to the connection in a place. Where the connection ends so, its thread
+    /// ends.
     fn tell(&mut self, place: usize, told: Told)
         requires { CanTell self.old place told }
         ensures told { (asked : List Asked) × Tells MayLack (service_of self.old) place told asked

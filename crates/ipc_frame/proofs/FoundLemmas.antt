@@ -263,7 +263,8 @@ whole_if_shown : (fault : FrameFault) (size : ℕ) (o : Option Frame) (f : Frame
 whole_if_shown fault size None f n e = absurd (cc)
 whole_if_shown fault size (Some g) f n e = (cc, cc)
 
--- what a reading of a whole frame has gone through, stage by stage: its numbers, and what comes after them
+-- what a reading of a whole frame has gone through, stage by stage: its numbers, and what comes
+-- after them
 pub record FieldsShown (kind : FrameKind) (size : ℕ) (fields rest : List ℕ) (f : Frame) (n : ℕ) : Type 0 where
   pub few_words : has_too_many_words kind fields ≡ false
   pub room : least_size_with kind fields ≤ size

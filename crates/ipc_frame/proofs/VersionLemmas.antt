@@ -1,4 +1,5 @@
--- What each version tells of a call. The lemmas of the first part have a line for each version; what follows from them speaks of all.
+-- What each version tells of a call. The lemmas of the first part have a line for each version;
+-- what follows from them speaks of all.
 use Rattle.std.proofs.Common.{◌≡◌, ℕ, zero, suc, ◌+◌, ◌*◌, ◌<◌, ◌≤◌, ◌==◌, inl, inr, Bool, true, false, List, [], ◌∷◌, ◌++◌, length, drop, map, sum, replicate, slice_index, nat_lt, Option, Some, None, refl, sym, ap, subst, ◌∙◌, arith}
 use Rattle.std.specs.List.{AllByRecursion}
 use Rattle.std.proofs.Math.Seq.{get_or-append_seam}

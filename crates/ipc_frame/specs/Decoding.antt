@@ -12,8 +12,8 @@ use Rattle.ipc_frame.specs.Parts.{end_size}
 use Rattle.ipc_frame.specs.Reading.{Reading, Short, Bad, Whole, is_longer, frame_of, ipcr_in}
 use Rattle.ipc_frame.specs.Stream.{Stream, Rest, Stopped, put_front, stream_of}
 
--- F9 for a prefix that shows no fault, the fault that it shows, or the frame and its length; F14 only for IPC and IPCR, which
--- alone take memory
+-- F9 for a prefix that shows no fault, the fault that it shows, or the frame and its length; F14
+-- only for IPC and IPCR, which alone take memory
 abbrev pub Decodes : Reading → Result (Frame × ℕ) FrameFault → Type 0
 Decodes (Short wanted) result = result ≡ Err Unfinished
 Decodes (Bad fault) result = result ≡ Err fault

@@ -11,7 +11,8 @@ use Rattle.ipc_frame.specs.Replies.{pieces_told}
 abbrev pub lent_last : ℕ → List ℕ → List ℕ
 lent_last left text = (if nat_le left (length text) then drop (length text - left) text else [])
 
--- from a place in the text of pieces on, the rest of the piece's bytes that it is in; none where it is in a pointer or a length
+-- from a place in the text of pieces on, the rest of the piece's bytes that it is in; none where it
+-- is in a pointer or a length
 abbrev pub lent_piece : ℕ → List PlacedBytes → List ℕ
 lent_piece place [] = []
 lent_piece place (piece ∷ pieces) =

@@ -1,4 +1,5 @@
--- What is wrong with the parts of a frame: too many words first, then a count that is not that of the words, then the length.
+-- What is wrong with the parts of a frame: too many words first, then a count that is not that of
+-- the words, then the length.
 use Rattle.std.specs.Prelude.{◌==◌, ◌||◌, Bool, not, nat_lt, length, Option, Some, None, if◌then◌else◌}
 use Rattle.ipc_words.specs.Limits.{max_message_words, max_buffer_words, max_frame_body, max_pieces}
 use Rattle.ipc_frame.specs.declared.fault.FrameFault.{FrameFault}

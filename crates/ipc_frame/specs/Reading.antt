@@ -1,4 +1,5 @@
--- What the bytes of a stream show of its first frame, and when: each test is made as soon as the bytes that it looks at are there.
+-- What the bytes of a stream show of its first frame, and when: each test is made as soon as the
+-- bytes that it looks at are there.
 use Rattle.std.specs.Prelude.{◌≡◌, ℕ, zero, suc, ◌+◌, ◌-◌, ◌*◌, ◌==◌, ◌||◌, ◌&&◌, Bool, true, false}
 use Rattle.std.specs.Prelude.{not, nat_lt, List, [], ◌∷◌, length, take, drop, slice_index, sum}
 use Rattle.std.specs.Prelude.{Option, Some, None, option_map, if◌then◌else◌}
@@ -74,7 +75,8 @@ is_longer _ = false
 abbrev pub is_wrong_size : FrameKind → ℕ → Bool
 is_wrong_size kind size = nat_lt size (least_size kind) || (not (is_longer kind) && nat_lt (least_size kind) size)
 
--- the numbers after the kind: IPC has the tag in place 4 and b in place 6, IPCR the tag behind the words of its version
+-- the numbers after the kind: IPC has the tag in place 4 and b in place 6, IPCR the tag behind the
+-- words of its version
 abbrev pub has_too_many_words : FrameKind → List ℕ → Bool
 has_too_many_words Ipc fields =
     nat_lt max_message_words (words_of (slice_index fields 4))
@@ -140,7 +142,8 @@ ipcr_in end fields tail =
     let rest = drop (8 * words_of (slice_index fields 0)) tail in
     option_map (λ pieces. frame.Ipcr (ipcr_parts end fields tail pieces)) (pieces_in (number_in 1 rest) (drop 1 rest))
 
--- the frame of a kind, of its numbers and what comes after them; none where pieces don't end there, or a version is not there
+-- the frame of a kind, of its numbers and what comes after them; none where pieces don't end there,
+-- or a version is not there
 abbrev pub frame_of : FrameKind → List ℕ → List ℕ → Option Frame
 frame_of Hello fields tail = Some (frame.Hello (slice_index fields 0) One)
 frame_of HelloTwo fields tail = option_map (frame.Hello (slice_index fields 0)) (version_of (slice_index fields 1))
@@ -168,7 +171,8 @@ whole_if fault size (Some frame) = Whole frame (4 + size)
 unfoldable pub body_known : FrameKind → ℕ → List ℕ → List ℕ → Reading
 body_known kind size fields tail = whole_if (missing kind) size (frame_of kind fields tail)
 
--- the numbers after the kind are there: F4, and F3 for a body that is too short for its words and its count byte
+-- the numbers after the kind are there: F4, and F3 for a body that is too short for its words and
+-- its count byte
 unfoldable pub fields_known : FrameKind → ℕ → List ℕ → List ℕ → Reading
 fields_known kind size fields rest =
     bad_if (has_too_many_words kind fields) TooManyWords (

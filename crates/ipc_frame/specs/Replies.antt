@@ -1,4 +1,5 @@
--- An outcome as it is sent (L4 X.2 manual, Ipc: output parameters): its words, and the pieces of its strings in order.
+-- An outcome as it is sent (L4 X.2 manual, Ipc: output parameters): its words, and the pieces of
+-- its strings in order.
 use Rattle.std.specs.Prelude.{List}
 use Rattle.std.specs.List.{flat_map}
 use Rattle.ipc_items.specs.Pieces.{PlacedBytes}

@@ -1,5 +1,6 @@
--- Our choice (docs/FORMATS.md): the versions of the wire protocol, and what each tells of a call before the numbers of an outcome that
--- all versions tell. These numbers are words: what follows knows how many they are, and nothing else of them.
+-- Our choice (docs/FORMATS.md): the versions of the wire protocol, and what each tells of a call
+-- before the numbers of an outcome that all versions tell. These numbers are words: what follows
+-- knows how many they are, and nothing else of them.
 use Rattle.std.specs.Prelude.{ℕ, ◌==◌, Bool, true, false, List, [], ◌∷◌, slice_index, replicate, Option, Some, None, if◌then◌else◌}
 use Rattle.ipc_history.specs.Outcomes.{OutcomeParts}
 use Rattle.ipc_frame.specs.declared.version.CallEnd.{CallEnd}

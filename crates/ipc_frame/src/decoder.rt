@@ -11,7 +11,8 @@ use std::marker::Model;
 
 /// Reads frames from a stream that comes in pieces, cut anywhere.
 ///
-/// It is seen as its side, the bytes behind the last whole frame, and whether it has answered a fault.
+/// It is seen as its side, the bytes behind the last whole frame, and whether it has answered a
+/// fault.
 #[derive(Drop)]
 pub struct Decoder {
     alloc: Global,
@@ -41,10 +42,11 @@ impl Decoder {
         }
     }
 
-    /// Takes a piece, and appends each frame that is whole now, those before a fault too. The frames so far and the bytes
-    /// behind them are those of the stream so far and the piece.
+    /// Takes a piece, and appends each frame that is whole now, those before a fault too. The
+    /// frames so far and the bytes behind them are those of the stream so far and the piece.
     ///
-    /// F1 to F4 and F15: the fault that the stream shows; F14: no memory. After an error it answers F13 for good.
+    /// F1 to F4 and F15: the fault that the stream shows; F14: no memory. After an error it answers
+    /// F13 for good.
     pub fn feed(&mut self, piece: &[u8], frames: &mut Vec<Frame>) -> Result<(), FrameFault>
         ensures fed { self.old.is_spent ≡ false →
             Feeds (more self.old.side (stream_at frames.old.items self.old.bytes) piece.now)
@@ -82,7 +84,8 @@ impl Decoder {
         }
     }
 
-    /// The stream has ended: F9 where it ends inside a frame. After an error it answers F13 for good.
+    /// The stream has ended: F9 where it ends inside a frame. After an error it answers F13 for
+    /// good.
     pub fn finish(&mut self) -> Result<(), FrameFault>
         ensures whole { self.old.is_spent ≡ false → self.old.bytes ≡ [] → (result ≡ Ok tt)
             × (self.new ≡ self.old) }

@@ -208,8 +208,8 @@ fn whole_frame(alloc: Global, side: Side, bytes: &[u8]) -> Result<(Frame, usize)
 
 /// The frame that the bytes begin with, as a side reads them, and how many bytes it has.
 ///
-/// F1 to F4 and F15: the fault that the bytes show. F9: they end before a frame does. F14: there is no memory for the words, the
-/// payload or the pieces of an IPC or IPCR frame.
+/// F1 to F4 and F15: the fault that the bytes show. F9: they end before a frame does. F14: there is
+/// no memory for the words, the payload or the pieces of an IPC or IPCR frame.
 pub fn decode(alloc: Global, side: Side, bytes: &[u8]) -> Result<(Frame, usize), FrameFault>
     ensures { Decodes (reading side bytes.now) result }
 {

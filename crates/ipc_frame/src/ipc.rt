@@ -89,7 +89,8 @@ fn fault_of(parts: &IpcParts) -> Option<FrameFault>
 }
 
 impl IpcFrame {
-    /// The frame of these parts. Where it answers F4, F3 or F1, in this order, the parts are dropped.
+    /// The frame of these parts. Where it answers F4, F3 or F1, in this order, the parts are
+    /// dropped.
     pub fn new(parts: IpcParts) -> Result<IpcFrame, FrameFault>
         ensures frame { IfNone (ipc_fault parts) (result ≡ Ok parts) }
         ensures fault { IfSome (ipc_fault parts) (λ fault. result ≡ Err fault) }

@@ -133,7 +133,8 @@ fn pieces_within(pieces: &[Placed], most: usize) -> bool
     true
 }
 
-// How many bytes of the body are neither words nor pieces: the kind, the numbers and the count of the pieces.
+// How many bytes of the body are neither words nor pieces: the kind, the numbers and the count of
+// the pieces.
 fn head_of(end: Option<CallEnd>) -> usize
     ensures count { result ≡ 34 + end_size end }
     ensures few { result ≤ 98 }

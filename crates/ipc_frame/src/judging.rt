@@ -211,8 +211,8 @@ fn judge_body(side: Side, size: usize, body: &[u8], behind: usize) -> Judgement
     judge_kind(size, kind, rest, behind)
 }
 
-/// What the bytes that a side was sent show of the frame that they begin with. Behind them so many more bytes of an IPC
-/// frame's payload may have come, which need not be at hand.
+/// What the bytes that a side was sent show of the frame that they begin with. Behind them so many
+/// more bytes of an IPC frame's payload may have come, which need not be at hand.
 pub fn judge(side: Side, held: &[u8], behind: usize) -> Judgement
     requires server { side ≡ Side.Client → behind ≡ 0 }
     requires head { 0 < behind → 50 ≤ length held.now }

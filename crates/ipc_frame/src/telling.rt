@@ -112,7 +112,8 @@ pub(crate) fn put_reply(
     put_reply_parts(window, out, version, outcome);
 }
 
-// From a place in the text of a piece on, the rest of its bytes; none where that is in its pointer or its length.
+// From a place in the text of a piece on, the rest of its bytes; none where that is in its pointer
+// or its length.
 fn lend_bytes(bytes: &[u8], place: usize) -> &[u8]
     requires { place < 12 + length bytes.now }
     ensures { result.now ≡ (if nat_lt place 12 then [] else drop (place - 12) bytes.now) }
@@ -139,7 +140,8 @@ fn lend_piece(outcome: &Outcome, place: usize) -> &[u8]
     &[]
 }
 
-/// So many bytes before the end of an outcome's pieces, the rest of the string's bytes that stand there.
+/// So many bytes before the end of an outcome's pieces, the rest of the string's bytes that stand
+/// there.
 pub(crate) fn lend_pieces(outcome: &Outcome, left: usize) -> &[u8]
     ensures { result.now ≡ lent_pieces left (pieces_told outcome.now) }
 {

@@ -165,7 +165,8 @@ kept_holds P held now test behind kept holds keeps front rest =
 called_both : (xs ys : List Entry) (n : ℕ) → is_called (xs ++ ys) n ≡ (is_called xs n || is_called ys n)
 called_both xs ys n = some_any n (xs ++ ys) ∙ (any_append _ xs ys ∙ rw (some_any n xs, some_any n ys) refl)
 
--- the entries that are held in two pieces: those of each are of the past, and each open call is in one
+-- the entries that are held in two pieces: those of each are of the past, and each open call is in
+-- one
 module _ (P held since : List Entry) (holds : Holds P (held ++ since)) where
   pub first_among : All (Contains P) held
   first_among = subst (All (Contains P)) (take-append_seam held since) (All-take (Contains P) (length held) (held ++ since) holds.among)

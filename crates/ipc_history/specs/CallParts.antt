@@ -8,8 +8,9 @@ use Rattle.ipc_words.specs.Limits.{max_message_words, max_string_bytes, max_subs
 use Rattle.ipc_items.specs.Strings.{size_of}
 use Rattle.ipc_items.specs.declared.buffer_list.Substring.{Substring}
 
--- the parts of a call: the receiver of its send phase, its FromSpecifier, the two periods, the tag, the VirtualSender, the
--- untyped words, the strings, and the buffer strings; no buffer strings at all where it accepts no strings
+-- the parts of a call: the receiver of its send phase, its FromSpecifier, the two periods, the tag,
+-- the VirtualSender, the untyped words, the strings, and the buffer strings; no buffer strings at
+-- all where it accepts no strings
 pub record CallParts : Type 0 where
   pub to : ℕ
   pub from : ℕ
@@ -39,14 +40,16 @@ is_empty_send call = (call.tag == 0) && (call.send_period == 0)
 abbrev pub is_empty_receive : CallParts → Bool
 is_empty_receive call = (call.receive_period == 0) && is_none call.buffers
 
--- the limits of buffer strings: each has a substring, each length is below its limit, and so is their number together
+-- the limits of buffer strings: each has a substring, each length is below its limit, and so is
+-- their number together
 abbrev pub is_buffer : List Substring → Bool
 is_buffer parts = nat_lt 0 (length parts) && list_all (λ part. nat_lt part.length substring_length_limit) parts
 
 abbrev pub are_buffers : List (List Substring) → Bool
 are_buffers buffers = list_all is_buffer buffers && nat_le (sum_by (λ parts. length parts) buffers) max_substrings
 
--- Our choice (docs/PROFILE.md): the normal form, within the limits of a call. A message has at most max_string_bytes bytes of strings
+-- Our choice (docs/PROFILE.md): the normal form, within the limits of a call. A message has at most
+-- max_string_bytes bytes of strings
 unfoldable pub is_normal : CallParts → Bool
 is_normal call =
     is_tag_normal call

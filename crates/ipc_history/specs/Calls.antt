@@ -1,4 +1,5 @@
--- The calls of a history, by their numbers. A call that is not there has no parts: its thread ids are nilthread, its lists empty.
+-- The calls of a history, by their numbers. A call that is not there has no parts: its thread ids
+-- are nilthread, its lists empty.
 use Rattle.std.specs.Prelude.{ℕ, List, [], Bool, Option, option_map, is_some, unwrap_or, filter_map, length}
 use Rattle.ipc_words.specs.ThreadId.{nilthread}
 use Rattle.ipc_items.specs.Strings.{size_of}

@@ -1,4 +1,5 @@
--- In which phases a thread is, as ExchangeRegisters tells it (L4 X.2 manual, ExchangeRegisters: S and R).
+-- In which phases a thread is, as ExchangeRegisters tells it (L4 X.2 manual, ExchangeRegisters: S
+-- and R).
 use Rattle.std.specs.Prelude.{ℕ, ◌+◌, List, Bool, false, ◌||◌, if◌then◌else◌}
 use Rattle.std.specs.Option.{option_map_or}
 use Rattle.ipc_history.specs.Phases.{receiver_of, sender_of, open_call, is_sending, is_transferring, is_receiving}

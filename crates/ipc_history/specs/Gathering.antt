@@ -3,8 +3,8 @@ use Rattle.std.specs.Prelude.{◌≡◌, ℕ, ◌<◌, ◌≤◌, List, length, 
 use Rattle.ipc_history.specs.Keeping.{keeps_at, kept_ahead, places_ahead}
 use Rattle.ipc_history.specs.declared.entry.Entry.{Entry}
 
--- of the entries from a place on, and before another one, those that are kept were moved to the end of the front, and those before it
--- are as they were
+-- of the entries from a place on, and before another one, those that are kept were moved to the end
+-- of the front, and those before it are as they were
 pub record IsGathered (test : Entry → Bool) (old now : List Entry) (behind place first : ℕ) (wanted : Bool) : Type 0 where
   pub size : length now ≡ length old
   pub within : first ≤ behind

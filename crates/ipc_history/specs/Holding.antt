@@ -37,7 +37,8 @@ abbrev pub Rise : ℕ → ℕ → List ℕ → Type 0
 Rise low behind [] = Unit {0}
 Rise low behind (place ∷ places) = (low ≤ place) × (place < behind) × Rise (place + 1) behind places
 
--- the entries in front have their places; there is room for so many entries, for that of the places too
+-- the entries in front have their places; there is room for so many entries, for that of the places
+-- too
 pub record IsPlaced (P held : List Entry) (places : List ℕ) (kept gone room entries_room places_room : ℕ) : Type 0 where
   pub beside : length places ≡ kept
   pub at : AreAt P (take kept held) places
@@ -50,7 +51,8 @@ pub record IsPlaced (P held : List Entry) (places : List ℕ) (kept gone room en
 abbrev pub held_of : HistoryParts → List Entry
 held_of history = history.held.front ++ drop history.held.whole_from history.entries
 
--- where compacting up to a place ends: not behind the last entry, and not before the place that was reached
+-- where compacting up to a place ends: not behind the last entry, and not before the place that was
+-- reached
 abbrev pub reached : ℕ → HistoryParts → ℕ
 reached upto history =
     (if nat_lt upto history.held.whole_from
@@ -67,7 +69,8 @@ abbrev pub places_before : ℕ → HistoryParts → List ℕ
 places_before upto history =
     history.held.places ++ range_with_len history.held.whole_from (reached upto history - history.held.whole_from)
 
--- what is held where of the entries before that place those are kept that pass a test, with the moments that are looked at
+-- what is held where of the entries before that place those are kept that pass a test, with the
+-- moments that are looked at
 abbrev pub compacted : (Entry → Bool) → ℕ → HistoryParts → HeldParts
 compacted test upto history = record {
   front = kept_ahead test (held_before upto history) (drop (reached upto history) history.entries);
@@ -76,11 +79,13 @@ compacted test upto history = record {
   mark = history.held.mark;
 }
 
--- the entry of a place is held: from one place on all are, and before it those of the places that are named
+-- the entry of a place is held: from one place on all are, and before it those of the places that
+-- are named
 abbrev pub is_held : HeldParts → ℕ → Bool
 is_held held place = not (nat_lt place held.whole_from) || list_any (λ p. p == place) held.places
 
--- the entry of a place of the past, counted from 0; None where it is held no more, or was not written yet
+-- the entry of a place of the past, counted from 0; None where it is held no more, or was not
+-- written yet
 abbrev pub held_entry : HeldParts → List Entry → ℕ → Option Entry
 held_entry held entries place = (if is_held held place then slice_get entries place else None)
 

@@ -1,4 +1,5 @@
--- Which entries of a list are kept where it is compacted by a test: those that pass it; and of the moments those that are looked at.
+-- Which entries of a list are kept where it is compacted by a test: those that pass it; and of the
+-- moments those that are looked at.
 use Rattle.std.specs.Prelude.{ℕ, List, [], ◌∷◌, ◌++◌, Bool, true, false, ◌&&◌, ◌||◌, not, if◌then◌else◌}
 use Rattle.std.specs.List.{list_any}
 use Rattle.ipc_history.specs.Words.{before}
@@ -12,7 +13,8 @@ abbrev pub is_at : Entry → Bool
 is_at (Given (At moment)) = true
 is_at _ = false
 
--- an entry that names a call and may begin or end one of its phases, but Began and Turned: the moment before it is looked at
+-- an entry that names a call and may begin or end one of its phases, but Began and Turned: the
+-- moment before it is looked at
 abbrev pub has_moment : Entry → Bool
 has_moment (Given (Called n thread call)) = true
 has_moment (Written (Ended n m)) = true
@@ -21,7 +23,8 @@ has_moment (Written (Aborted n m count)) = true
 has_moment (Written (Failed n code)) = true
 has_moment _ = false
 
--- an At before these entries is kept where no At follows, or a kept entry whose moment is looked at before the next At
+-- an At before these entries is kept where no At follows, or a kept entry whose moment is looked at
+-- before the next At
 abbrev pub keeps_at : (Entry → Bool) → List Entry → Bool
 keeps_at test rest = not (list_any is_at rest) || list_any (λ e. has_moment e && test e) (before is_at rest)
 

@@ -28,7 +28,8 @@ is_free P thread = is_live P thread && is_none (open_call P thread)
 unfoldable pub next_moving : List Entry → Option ℕ
 next_moving P = find (λ n. option_map_or (is_transferring P n) (receiver_of P n) false) (numbers P)
 
--- a number within its limit that is not taken opens with its next version, in a space within its limit
+-- a number within its limit that is not taken opens with its next version, in a space within its
+-- limit
 unfoldable pub may_open : List Entry → ℕ → ℕ → Bool
 may_open P thread space =
     nat_le 1 (number_of thread)
@@ -42,8 +43,9 @@ may_open P thread space =
 unfoldable pub may_move : List Entry → ℕ → ℕ → Bool
 may_move P n count = option_map_or (λ k. k == n) (next_moving P) false && (count == block_of P n)
 
--- which inputs may follow a quiet history: a later moment; an open; a call in normal form, of a free thread, with the next number;
--- an ExchangeRegisters of a free thread; the break of a live thread; a copy
+-- which inputs may follow a quiet history: a later moment; an open; a call in normal form, of a
+-- free thread, with the next number; an ExchangeRegisters of a free thread; the break of a live
+-- thread; a copy
 unfoldable pub is_admissible : List Entry → Input → Bool
 is_admissible P (At moment) = nat_lt (now P) moment && nat_lt moment (last_moment + 1)
 is_admissible P (Opened thread space) = may_open P thread space
@@ -52,7 +54,8 @@ is_admissible P (Exreg thread target control) = is_free P thread && is_masked co
 is_admissible P (Broke thread) = is_live P thread
 is_admissible P (Moved n count) = may_move P n count
 
--- an output follows where it is the next output; an input where there is none and the input is admissible
+-- an output follows where it is the next output; an input where there is none and the input is
+-- admissible
 unfoldable pub Follows : List Entry → Entry → Type 0
 Follows P (Written output) = next_output P ≡ Some output
 Follows P (Given input) = Quiet P × IsTrue (is_admissible P input)

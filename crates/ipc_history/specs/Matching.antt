@@ -1,4 +1,5 @@
--- Which send phase meets which receive phase (L4 X.2 manual, Ipc: FromSpecifier, propagation, VirtualSender and ActualSender).
+-- Which send phase meets which receive phase (L4 X.2 manual, Ipc: FromSpecifier, propagation,
+-- VirtualSender and ActualSender).
 use Rattle.std.specs.Prelude.{ℕ, List, Bool, true, ◌&&◌, not, find, unwrap_or, Option, ◌==◌, if◌then◌else◌}
 use Rattle.ipc_words.specs.ThreadId.{anythread, anylocalthread}
 use Rattle.ipc_words.specs.MsgTag.{propagates}
@@ -21,15 +22,18 @@ is_propagated P n =
     && is_live (before_call P n) (originator_of P n)
     && (space_of (before_call P n) (originator_of P n) == space_of (before_call P n) (caller_of P n))
 
--- the sender that the receiver sees: the VirtualSender where the propagation is permitted, else the caller
+-- the sender that the receiver sees: the VirtualSender where the propagation is permitted, else the
+-- caller
 unfoldable pub shown_sender : List Entry → ℕ → ℕ
 shown_sender P n = (if is_propagated P n then originator_of P n else caller_of P n)
 
--- the FromSpecifier of the receive phase of m as it stands: that of the last Turned, else as it was given
+-- the FromSpecifier of the receive phase of m as it stands: that of the last Turned, else as it was
+-- given
 unfoldable pub from_specifier : List Entry → ℕ → ℕ
 from_specifier P m = unwrap_or (last_some (turned_in m) P) (from_of P m)
 
--- m accepts a sender: anythread every one, anylocalthread those of its own space, another id that thread alone
+-- m accepts a sender: anythread every one, anylocalthread those of its own space, another id that
+-- thread alone
 unfoldable pub accepts : List Entry → ℕ → ℕ → Bool
 accepts P m sender =
     (if from_specifier P m == anythread then true

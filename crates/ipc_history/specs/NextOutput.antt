@@ -38,7 +38,8 @@ abort_receive P m =
     (λ n. if is_transferring P n m then Some (Aborted n m (moved_bytes P n)) else None)
     (sender_of P m)
 
--- what S and R stop in the open call c: a waiting phase fails, cancelled by another thread (e=3); a transfer is aborted (e=7)
+-- what S and R stop in the open call c: a waiting phase fails, cancelled by another thread (e=3); a
+-- transfer is aborted (e=7)
 unfoldable pub stop_send : List Entry → ℕ → Option Output
 stop_send P c = (if is_sending P c then Some (Failed c (failure_code Send kind.Cancelled 0)) else abort_send P c)
 
@@ -59,7 +60,8 @@ stop_after P (Given (Exreg thread target control)) =
     else None)
 stop_after P _ = None
 
--- 2. the last entry began a propagated message: an originator that waits for the sender waits for its receiver from now on
+-- 2. the last entry began a propagated message: an originator that waits for the sender waits for
+--    its receiver from now on
 -- (L4 X.2 manual, propagation)
 unfoldable pub turn_after : List Entry → Entry → Option Output
 turn_after P (Written (Began n m)) =
@@ -114,7 +116,8 @@ partner_gone_code P n =
 unfoldable pub partner_gone_of : List Entry → ℕ → Option Output
 partner_gone_of P n = option_map (λ code. Failed n code) (partner_gone_code P n)
 
--- 5. n meets a receiving call: their transfer begins, or both fail where a string does not fit its buffer (e=4)
+-- 5. n meets a receiving call: their transfer begins, or both fail where a string does not fit its
+--    buffer (e=4)
 unfoldable pub meeting : List Entry → ℕ → ℕ → Output
 meeting P n m = option_map_or (λ offset. Overflowed n m offset) (overflow_offset (strings_of P n) (buffers_of P m)) (Began n m)
 

@@ -20,8 +20,9 @@ use Rattle.ipc_history.specs.declared.entry.Entry.{Entry}
 use Rattle.ipc_history.specs.declared.entry.Entry.TheVariants.{Written}
 use Rattle.ipc_history.specs.declared.entry.Output.TheVariants.{Ended, Overflowed, Aborted, Failed}
 
--- the number of the call, the moment at which it was over, the tag, the sender that is shown, the ActualSender, the ErrorCode, MR1 on,
--- and the strings that were received with the buffer strings that they fill
+-- the number of the call, the moment at which it was over, the tag, the sender that is shown, the
+-- ActualSender, the ErrorCode, MR1 on, and the strings that were received with the buffer strings
+-- that they fill
 pub record OutcomeParts : Type 0 where
   pub call : ℕ
   pub moment : ℕ
@@ -42,7 +43,8 @@ pub record HasItsWords (tag : ℕ) (words : List ℕ) : Type 0 where
 abbrev pub pieces_in : OutcomeParts → List (List PlacedBytes)
 pieces_in outcome = pieces_of_all outcome.buffers outcome.strings
 
--- What the entries tell of a call, but for the moment, which stands at 0 there. A failure: the flag E and an ErrorCode
+-- What the entries tell of a call, but for the moment, which stands at 0 there. A failure: the flag
+-- E and an ErrorCode
 abbrev pub failure : ℕ → ℕ → OutcomeParts
 failure n error = record {
   call = n;
@@ -70,8 +72,8 @@ nothing n = record {
   buffers = [];
 }
 
--- what m is told of the message of n: its tag, with two typed words for each string; its untyped words, then for each string a
--- simple item
+-- what m is told of the message of n: its tag, with two typed words for each string; its untyped
+-- words, then for each string a simple item
 abbrev pub received : List Entry → ℕ → ℕ → OutcomeParts
 received H n m = record {
   call = m;
@@ -97,8 +99,9 @@ outcome_in H n (Written (Aborted k m count)) =
 outcome_in H n (Written (Ended k m)) = (if m == n then Some (received H k n) else None)
 outcome_in H n _ = None
 
--- the entry after which the call n is over, where these are its to and from, while its caller lives: the one that closes it; the end of
--- its send phase, where it has no receive phase; its Called, where it has neither phase
+-- the entry after which the call n is over, where these are its to and from, while its caller
+-- lives: the one that closes it; the end of its send phase, where it has no receive phase; its
+-- Called, where it has neither phase
 abbrev pub is_last_of : ℕ → ℕ → ℕ → Entry → Bool
 is_last_of to from n e = closes n e || ((from == nilthread) && (ends_send n e || ((to == nilthread) && calls n e)))
 

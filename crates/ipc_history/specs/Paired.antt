@@ -1,6 +1,7 @@
--- The promise of the product, over a history H, in six clauses: successful send phases and received messages pair one to one; each
--- received message is, whole, that of one send to that thread, showing its caller or a permitted originator; one caller's messages
--- to one receiver come in sending order; a send that ended otherwise is received by nobody; no ended thread takes part.
+-- The promise of the product, over a history H, in six clauses: successful send phases and received
+-- messages pair one to one; each received message is, whole, that of one send to that thread,
+-- showing its caller or a permitted originator; one caller's messages to one receiver come in
+-- sending order; a send that ended otherwise is received by nobody; no ended thread takes part.
 use Rattle.std.specs.Prelude.{◌≡◌, ℕ, ◌*◌, ◌<◌, ◌≤◌, List, ◌∷◌, ◌++◌, Some, None, IsTrue, IsFalse}
 use Rattle.std.specs.Prelude.{◌≢◌, ◌⊎◌, count_by, take, map, length}
 use Rattle.std.specs.List.{list_any}
@@ -35,19 +36,22 @@ pub record Delivers (H : List Entry) (n m : ℕ) : Type 0 where
   pub strings : map joined (pieces_in told) ≡ strings_of H n
   pub sender : told.sender ≡ shown_sender H n
 
--- the message of n came whole, and to the thread that it was sent to; m's caller is told of it unless that caller has ended
+-- the message of n came whole, and to the thread that it was sent to; m's caller is told of it
+-- unless that caller has ended
 pub record IsWhole (H : List Entry) (n m : ℕ) : Type 0 where
   pub to_caller : to_of H n ≡ caller_of H m
   pub all_moved : moved_bytes H n ≡ message_size H n
   pub fitted : overflow_offset (strings_of H n) (buffers_of H m) ≡ None
   pub delivered : IsFalse (has_broken H (caller_of H m)) → Delivers H n m
 
--- the originator of n may be shown in the place of its caller: when n was called it was live and of the caller's space
+-- the originator of n may be shown in the place of its caller: when n was called it was live and of
+-- the caller's space
 pub record IsPermitted (H : List Entry) (n : ℕ) : Type 0 where
   pub live : IsTrue (is_live (before_call H n) (originator_of H n))
   pub same_space : space_of (before_call H n) (originator_of H n) ≡ space_of (before_call H n) (caller_of H n)
 
--- the message of n shows its caller or a permitted originator, and m accepted that sender when the transfer began
+-- the message of n shows its caller or a permitted originator, and m accepted that sender when the
+-- transfer began
 pub record IsShown (H : List Entry) (n m : ℕ) : Type 0 where
   pub who : (shown_sender H n ≡ caller_of H n) ⊎ ((shown_sender H n ≡ originator_of H n) × IsPermitted H n)
   pub front : List Entry

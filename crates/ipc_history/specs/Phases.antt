@@ -1,4 +1,5 @@
--- In which phase a call is (L4 X.2 manual, Ipc: the send phase comes first; if it fails there is no receive phase).
+-- In which phase a call is (L4 X.2 manual, Ipc: the send phase comes first; if it fails there is no
+-- receive phase).
 use Rattle.std.specs.Prelude.{ℕ, List, Bool, false, ◌&&◌, ◌||◌, not, Option, filter, find, is_none, sum_by, ◌==◌}
 use Rattle.std.specs.List.{list_any}
 use Rattle.std.specs.Option.{option_map_or}
@@ -20,7 +21,8 @@ receiver_of P n = first_some (receiver_in n) P
 unfoldable pub sender_of : List Entry → ℕ → Option ℕ
 sender_of P m = first_some (sender_in m) P
 
--- n is over: an entry closed it; its caller ended; its send phase ended and it has no receive phase; it has neither phase
+-- n is over: an entry closed it; its caller ended; its send phase ended and it has no receive
+-- phase; it has neither phase
 unfoldable pub is_over : List Entry → ℕ → Bool
 is_over P n =
     list_any (closes n) P

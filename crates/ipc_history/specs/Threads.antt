@@ -1,4 +1,5 @@
--- The clock and the threads. Our choice (docs/PROFILE.md): a thread is a connection; it is live from its open to its break.
+-- The clock and the threads. Our choice (docs/PROFILE.md): a thread is a connection; it is live
+-- from its open to its break.
 use Rattle.std.specs.Prelude.{ℕ, List, Bool, ◌&&◌, not, Option, Some, unwrap_or, filter_map}
 use Rattle.std.specs.List.{list_any}
 use Rattle.std.specs.Option.{option_map_or}
@@ -32,6 +33,7 @@ space_of P thread = unwrap_or (first_some (space_in thread) P) 0
 unfoldable pub is_taken : List Entry → ℕ → Bool
 is_taken P number = list_any (is_live P) (filter_map (thread_in number) P)
 
--- the next version of a number: 1, or what follows the version of its last Opened; none where the number is worn out
+-- the next version of a number: 1, or what follows the version of its last Opened; none where the
+-- number is worn out
 unfoldable pub next_version : List Entry → ℕ → Option ℕ
 next_version P number = option_map_or (λ thread. next_version_of (version_of thread)) (last_some (thread_in number) P) (Some 1)

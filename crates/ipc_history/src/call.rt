@@ -51,9 +51,10 @@ impl Model for Call {
 }
 
 impl Call {
-    /// The call of these parts where they are in normal form: the tag counts the words and the strings (t is twice their number,
-    /// u + t at most 63), E, X and r are 0, and the originator is nilthread unless p is set; without a send phase the tag and the
-    /// send period are 0; without a receive phase the receive period is 0 and there are no buffers. None for others, which are
+    /// The call of these parts where they are in normal form: the tag counts the words and the
+    /// strings (t is twice their number, u + t at most 63), E, X and r are 0, and the originator is
+    /// nilthread unless p is set; without a send phase the tag and the send period are 0; without a
+    /// receive phase the receive period is 0 and there are no buffers. None for others, which are
     /// dropped.
     #[tactic(auto, unfolding(crate::specs::CallParts::is_normal))]
     pub fn new(fields: CallFields) -> Option<Call>

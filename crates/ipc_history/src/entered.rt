@@ -4,7 +4,8 @@ use crate::call::Call;
 use ipc_base::Memory;
 use std::marker::Model;
 
-/// A call that was entered, behind one pointer: an entry that has one is moved without it. Seen as the call's parts.
+/// A call that was entered, behind one pointer: an entry that has one is moved without it. Seen as
+/// the call's parts.
 #[derive(Drop)]
 pub struct EnteredCall {
     call: Box<Call>,
@@ -19,7 +20,8 @@ impl Model for EnteredCall {
 }
 
 impl EnteredCall {
-    /// Moves a call there; its lists are not copied. Where memory is refused the call is handed back, and where it is ample that does not come.
+    /// Moves a call there; its lists are not copied. Where memory is refused the call is handed
+    /// back, and where it is ample that does not come.
     pub fn new<M: Memory>(memory: M, call: Call) -> Result<EnteredCall, Call>
         ensures ok { IfOk result (λ entered. entered ≡ call) }
         ensures back { IfErr result (λ refused. refused ≡ call) }

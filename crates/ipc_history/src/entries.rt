@@ -11,8 +11,8 @@ use ipc_base::Past;
 use ipc_words::ThreadId;
 use std::marker::Model;
 
-/// The entries of a history: seen as the whole past, of which a program reads the calls that are open. Memory holds the
-/// entries of these, and may hold others.
+/// The entries of a history: seen as the whole past, of which a program reads the calls that are
+/// open. Memory holds the entries of these, and may hold others.
 #[derive(Drop)]
 pub struct Entries<'a> {
     past: &'a Past<Entry>,
@@ -93,7 +93,8 @@ impl<'a> Entries<'a> {
         }
     }
 
-    /// A past, and what memory holds of it in two pieces: entries of it alone, and that of each open call.
+    /// A past, and what memory holds of it in two pieces: entries of it alone, and that of each
+    /// open call.
     pub fn of_pieces(past: &'a Past<Entry>, held: &'a [Entry], since: &'a [Entry]) -> Entries<'a>
         requires { Holds past.now (held.now ++ since.now) }
         ensures { result ≡ past.now }
@@ -101,8 +102,8 @@ impl<'a> Entries<'a> {
         Entries { past, held, since }
     }
 
-    /// The caller and the parts of an open call, whose entry is looked for first at a place among those that memory holds. Any
-    /// place will do: a wrong one costs time alone.
+    /// The caller and the parts of an open call, whose entry is looked for first at a place among
+    /// those that memory holds. Any place will do: a wrong one costs time alone.
     pub fn call(&self, number: u64, hint: usize) -> (ThreadId, &Call)
         requires legal { Legal self.now }
         requires open { IsFalse (is_over self.now number) }
@@ -125,7 +126,8 @@ impl<'a> Entries<'a> {
         }
     }
 
-    /// Where memory will hold the next entry: the place for [`Entries::call`], where that enters a call.
+    /// Where memory will hold the next entry: the place for [`Entries::call`], where that enters a
+    /// call.
     pub fn next_place(&self) -> usize {
         self.held.len().saturating_add(self.since.len())
     }

@@ -12,8 +12,9 @@ use ipc_base::{Memory, Past};
 use std::alloc::{AllocError, Global};
 use std::marker::Model;
 
-/// A history: the whole past, oldest entry first, and how many entries it has room for. Memory holds the entries of the open calls,
-/// and from a place on all. A mark says up to which place the entries were handed on; the history keeps it for its owner.
+/// A history: the whole past, oldest entry first, and how many entries it has room for. Memory
+/// holds the entries of the open calls, and from a place on all. A mark says up to which place the
+/// entries were handed on; the history keeps it for its owner.
 #[derive(Drop)]
 pub struct History {
     past: Past<Entry>,
@@ -148,8 +149,9 @@ impl History {
         self.entries.len()
     }
 
-    /// Makes room for so many more entries. The room grows by doubling. Where memory is refused nothing changes; where it is ample that does
-    /// not come, but for more than 2^32 entries, those that are held among them.
+    /// Makes room for so many more entries. The room grows by doubling. Where memory is refused
+    /// nothing changes; where it is ample that does not come, but for more than 2^32 entries, those
+    /// that are held among them.
     pub fn reserve<M: Memory>(&mut self, memory: M, more: usize) -> Result<(), AllocError>
         ensures entries { self.new.entries ≡ self.old.entries }
         ensures held { self.new.held ≡ self.old.held }

@@ -5,7 +5,8 @@ ghost use Rattle.ipc_history.specs.declared.entry.Entry.{Entry};
 
 use crate::entry::{Entry, Input, Output};
 
-/// What says which entries of a history are kept where it is compacted. An At is not asked about: it is kept for the entries behind it.
+/// What says which entries of a history are kept where it is compacted. An At is not asked about:
+/// it is kept for the entries behind it.
 pub trait Keeps {
     ghost test: { Self → Entry → Bool };
 
@@ -63,8 +64,9 @@ pub(crate) fn number(places: &mut Vec<usize>, from: usize, upto: usize)
     }
 }
 
-/// Moves those of so many first entries that are kept to the end of these, in their order, and their places likewise, and says where
-/// they begin. Is told whether an At before the others is kept.
+/// Moves those of so many first entries that are kept to the end of these, in their order, and
+/// their places likewise, and says where they begin. Is told whether an At before the others is
+/// kept.
 fn gather<K: Keeps>(
     entries: &mut Vec<Entry>,
     places: &mut Vec<usize>,
@@ -111,8 +113,8 @@ fn gather<K: Keeps>(
     first
 }
 
-/// Keeps of so many first entries those that are to be kept, with their places, and all behind them, and says how many of the first were
-/// kept. Takes no memory.
+/// Keeps of so many first entries those that are to be kept, with their places, and all behind
+/// them, and says how many of the first were kept. Takes no memory.
 pub(crate) fn keep_before<K: Keeps>(
     entries: &mut Vec<Entry>,
     places: &mut Vec<usize>,

@@ -24,8 +24,8 @@ struct Address {
     pub ghost within: { length ≤ 128 },
 }
 
-/// The address of a path. A name that begins with `@` is in the system's own space of names, where a byte 0 stands for the `@`. None:
-/// it is empty or too long.
+/// The address of a path. A name that begins with `@` is in the system's own space of names, where
+/// a byte 0 stands for the `@`. None: it is empty or too long.
 fn address_of(path: &str) -> Option<Address> {
     let name = path.as_bytes();
     let first = *name.first()?;

@@ -40,7 +40,8 @@ impl<R: Clock> Lookout<'_, R> {
         looks
     }
 
-    /// Looks for bytes, and notes whether some came. None where the time is over, or the system says why there are none.
+    /// Looks for bytes, and notes whether some came. None where the time is over, or the system
+    /// says why there are none.
     fn look_once(&mut self, inlet: &mut Inlet<'_>, buf: &mut [u8]) -> Option<usize>
         ensures bound { IfSome result (λ count. count ≤ length buf.new) }
         ensures came { MatchOption result (inlet.new.came ≡ inlet.old.came)
@@ -56,7 +57,8 @@ impl<R: Clock> Lookout<'_, R> {
         found
     }
 
-    /// Looks for bytes until some are there. None where the time is over, or the system says why there are none.
+    /// Looks for bytes until some are there. None where the time is over, or the system says why
+    /// there are none.
     fn look(&self, inlet: &mut Inlet<'_>, buf: &mut [u8]) -> Option<usize>
         ensures bound { IfSome result (λ count. count ≤ length buf.new) }
         ensures came { MatchOption result (inlet.new.came ≡ inlet.old.came)
@@ -75,9 +77,10 @@ impl<R: Clock> Lookout<'_, R> {
     }
 }
 
-/// What a client sends. Where its answer went out at once, its next frame may come soon: the next read then looks for it for 30
-/// microseconds before it sleeps. After a look that found nothing one such read sleeps at once, after the next one two, and up to 64.
-/// Contracts see the bytes that the system said it gave.
+/// What a client sends. Where its answer went out at once, its next frame may come soon: the next
+/// read then looks for it for 30 microseconds before it sleeps. After a look that found nothing one
+/// such read sleeps at once, after the next one two, and up to 64. Contracts see the bytes that the
+/// system said it gave.
 #[derive(Drop)]
 pub struct EagerStream<'a, R: Clock> {
     lookout: Lookout<'a, R>,
@@ -88,7 +91,8 @@ pub struct EagerStream<'a, R: Clock> {
 }
 
 impl<'a, R: Clock> EagerStream<'a, R> {
-    /// The reading side of a socket of which nothing was read. `soon` is set where the next frame may come soon.
+    /// The reading side of a socket of which nothing was read. `soon` is set where the next frame
+    /// may come soon.
     pub fn new(
         rt: &'a R,
         clock: ServerClock,

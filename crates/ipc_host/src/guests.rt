@@ -82,7 +82,8 @@ impl Guest {
         let _ = self.stream.shutdown(Shutdown::Both);
     }
 
-    /// Shuts it down once it has had its time for a HELLO and is no thread, and says whether it did.
+    /// Shuts it down once it has had its time for a HELLO and is no thread, and says whether it
+    /// did.
     fn close_overdue(&mut self, now: u64, within: u64) -> bool {
         let is_overdue = self.is_overdue(now, within);
         if is_overdue {
@@ -117,7 +118,8 @@ impl Table {
         self.stage == Stage::Finished
     }
 
-    /// Whether there is room for one more connection. Where there is none, the oldest one that has had its time is shut down.
+    /// Whether there is room for one more connection. Where there is none, the oldest one that has
+    /// had its time is shut down.
     fn make_room(&mut self, most: u64, now: u64, within: u64) -> bool {
         let has_room = (self.guests.len() as u64) < most;
         if !has_room {
@@ -193,8 +195,8 @@ impl Table {
         (self.guests.len(), self.threads(), self.counts)
     }
 
-    /// Whether something that is told once a minute at most may be told now; it then counts as told. How many connections are there
-    /// beside it.
+    /// Whether something that is told once a minute at most may be told now; it then counts as
+    /// told. How many connections are there beside it.
     fn may_tell(&mut self, now: u64) -> (bool, usize) {
         let may = is_quiet(self.told, now);
         if may {
@@ -222,8 +224,8 @@ fn is_quiet(told: Option<u64>, now: u64) -> bool {
 }
 
 impl Guests {
-    /// No connection so far. At most `most` may be there at one time; one that is no thread after `within` microseconds may be
-    /// closed for a newer one.
+    /// No connection so far. At most `most` may be there at one time; one that is no thread after
+    /// `within` microseconds may be closed for a newer one.
     pub fn new(alloc: Global, most: u64, within: u64, clock: ServerClock) -> Guests {
         let table = Table {
             guests: Vec::new(alloc),
@@ -370,8 +372,8 @@ impl Guests {
         state
     }
 
-    /// Whether something that is told once a minute at most may be told now; it then counts as told. How many connections are
-    /// there beside it.
+    /// Whether something that is told once a minute at most may be told now; it then counts as
+    /// told. How many connections are there beside it.
     pub fn may_tell<R: Wait + Clock>(&self, rt: &R) -> (bool, usize) {
         let now = self.clock.now(rt);
         let mut table = self.table.lock(rt);
@@ -380,8 +382,8 @@ impl Guests {
         answer
     }
 
-    /// Whether it may be told now that there is no room, which is told once a minute at most; it then counts as told. How many
-    /// connections are there beside it.
+    /// Whether it may be told now that there is no room, which is told once a minute at most; it
+    /// then counts as told. How many connections are there beside it.
     pub fn may_tell_full<R: Wait + Clock>(&self, rt: &R) -> (bool, usize) {
         let now = self.clock.now(rt);
         let mut table = self.table.lock(rt);

@@ -1,4 +1,5 @@
-//! What `l4d` needs of the system: the port of a socket, a clock, limits, signals, the connections that are there, whom to tell of them, and why something fails.
+//! What `l4d` needs of the system: the port of a socket, a clock, limits, signals, the connections
+//! that are there, whom to tell of them, and why something fails.
 #![tactic(auto)]
 
 mod admission;

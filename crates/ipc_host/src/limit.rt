@@ -11,8 +11,8 @@ pub const SPARE: u64 = 16;
 /// How many descriptors a process has where its limits cannot be read.
 const USUAL: u64 = 1024;
 
-/// How many connections there may be, where so many are asked for and so many of these descriptors are
-/// used otherwise: as many as both allow with [`SPARE`] left over, and at least one.
+/// How many connections there may be, where so many are asked for and so many of these descriptors
+/// are used otherwise: as many as both allow with [`SPARE`] left over, and at least one.
 pub fn room(asked: u64, descriptors: u64, used: u64) -> u64
     requires counted { used < 2 ^ 32 }
     ensures some { 1 ≤ result }

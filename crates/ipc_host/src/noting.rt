@@ -3,7 +3,8 @@ ghost use Rattle.std.specs.Prelude.{◌≡◌, ◌≤◌, ℕ, List, ◌++◌, l
 
 use ipc_base::Past;
 
-/// What was moved so far, and behind it so many of these bytes: the system answered that it moved them.
+/// What was moved so far, and behind it so many of these bytes: the system answered that it moved
+/// them.
 pub(crate) fn with_more(moved: &Past<u8>, buf: &[u8], count: usize) -> Past<u8>
     requires { count ≤ length buf.now }
     ensures { result ≡ moved.now ++ take count buf.now }

@@ -67,8 +67,8 @@ impl fmt::Display for Obstacle {
 /// What the system says to a datagram socket that wants to connect to a socket of another kind.
 const OTHER_KIND: i32 = 91;
 
-/// Why listening on a path failed with this error. Where a socket stands there, it is found out whether somebody has it open, without a
-/// connection that its server would take.
+/// Why listening on a path failed with this error. Where a socket stands there, it is found out
+/// whether somebody has it open, without a connection that its server would take.
 pub fn obstacle_at<R: Files + Net>(rt: &R, path: &str, error: Error) -> Obstacle {
     if path.len() > MOST_BYTES {
         return Obstacle::TooLong;
@@ -96,8 +96,8 @@ fn occupant<R: Files + Net>(rt: &R, path: &str) -> Obstacle {
     }
 }
 
-/// Who has the socket of a path. A datagram socket cannot connect to one that listens, and is told why: so no server takes a connection
-/// for it.
+/// Who has the socket of a path. A datagram socket cannot connect to one that listens, and is told
+/// why: so no server takes a connection for it.
 fn listener<R: Net>(rt: &R, path: &str) -> Obstacle {
     match DatagramSocket::new(rt).and_then(|socket| socket.connect(path)) {
         Ok(()) => Obstacle::InUse,

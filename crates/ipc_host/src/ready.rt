@@ -11,7 +11,8 @@ const MANAGER: &str = "NOTIFY_SOCKET";
 /// What a service manager is told.
 const READY: &[u8] = b"READY=1";
 
-/// Whom to tell that the server listens: who started it, on a descriptor of his, and a service manager.
+/// Whom to tell that the server listens: who started it, on a descriptor of his, and a service
+/// manager.
 #[derive(Drop)]
 pub struct Readiness {
     fd: Option<u16>,
@@ -19,7 +20,8 @@ pub struct Readiness {
 }
 
 impl Readiness {
-    /// The descriptor that was asked for, where one was, and the manager that the environment names, where it names one.
+    /// The descriptor that was asked for, where one was, and the manager that the environment
+    /// names, where it names one.
     pub fn of<R: Env + Alloc<A = Global>>(rt: &R, fd: Option<u16>) -> Readiness {
         Readiness {
             fd,
@@ -27,8 +29,8 @@ impl Readiness {
         }
     }
 
-    /// The descriptor that was asked for and is not open for writing; None where there is nothing wrong. To be asked before this process
-    /// opens anything, which could get that number.
+    /// The descriptor that was asked for and is not open for writing; None where there is nothing
+    /// wrong. To be asked before this process opens anything, which could get that number.
     pub fn fault(&self) -> Option<u16> {
         let fd = self.fd?;
         if libc::write(i32::from(fd), &[]) == 0 {
@@ -38,7 +40,8 @@ impl Readiness {
         }
     }
 
-    /// Says on the descriptor, where one was asked for, that clients can connect to so many spaces, and closes it.
+    /// Says on the descriptor, where one was asked for, that clients can connect to so many spaces,
+    /// and closes it.
     ///
     /// # Errors
     ///

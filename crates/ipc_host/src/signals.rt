@@ -7,7 +7,8 @@ use std::alloc::Global;
 /// SIGINT (2) and SIGTERM (15) in a mask of signals, where bit 0 stands for signal 1.
 const ENDING: u64 = (1 << 1) | (1 << 14);
 
-/// Whether SIGINT or SIGTERM may be blocked: one that is not ends the process by itself. Where it cannot be read, both may be.
+/// Whether SIGINT or SIGTERM may be blocked: one that is not ends the process by itself. Where it
+/// cannot be read, both may be.
 pub fn may_be_blocked(status: &ProcessStatus, alloc: Global) -> bool {
     mask(status, alloc, "SigBlk:").map_or(true, |blocked| blocked & ENDING != 0)
 }

@@ -11,7 +11,8 @@ use std::os::fd::AsRawFd;
 use std::os::unix::net::UnixStream;
 use std::sync::Arc;
 
-/// The port to a client. It keeps the socket open, beside the connection's reader. Contracts see the bytes that the system said it took.
+/// The port to a client. It keeps the socket open, beside the connection's reader. Contracts see
+/// the bytes that the system said it took.
 #[derive(Drop)]
 pub struct SocketPort {
     stream: Arc<UnixStream>,
@@ -41,7 +42,8 @@ impl SocketPort {
     }
 }
 
-/// How many of these bytes the system takes; -1 where it takes none. A client that is gone is told by the answer, and not by a signal.
+/// How many of these bytes the system takes; -1 where it takes none. A client that is gone is told
+/// by the answer, and not by a signal.
 fn send(stream: &UnixStream, buf: &[u8], patience: Patience) -> isize
     ensures { Moved (length buf.now) result }
 {

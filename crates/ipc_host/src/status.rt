@@ -27,7 +27,8 @@ fn behind<'a>(line: &'a str, name: &str) -> Option<&'a str> {
     Some(rest.trim())
 }
 
-/// What the system tells of this process, read anew each time. A reading moves the place in the file, so each thread has one of its own.
+/// What the system tells of this process, read anew each time. A reading moves the place in the
+/// file, so each thread has one of its own.
 #[derive(Drop)]
 pub struct ProcessStatus {
     file: File,

@@ -17,7 +17,8 @@ use ipc_words::limits::{MAX_SUBSTRINGS, SUBSTRING_LENGTH_LIMIT};
 use std::alloc::AllocError;
 use std::marker::Model;
 
-/// A substring of a buffer string: how many bytes it holds, and the pointer that is handed back with them.
+/// A substring of a buffer string: how many bytes it holds, and the pointer that is handed back
+/// with them.
 #[derive(Clone, Copy, Debug, PartialEq, Eq)]
 pub struct Substring {
     /// In bytes.
@@ -75,7 +76,8 @@ impl BufferList {
         }
     }
 
-    /// No buffer strings, with room for as many buffer strings and as many substrings in all of them.
+    /// No buffer strings, with room for as many buffer strings and as many substrings in all of
+    /// them.
     pub fn with_capacity<M: Memory>(
         memory: M,
         buffers: usize,
@@ -112,8 +114,8 @@ impl BufferList {
         Ok(Some(list))
     }
 
-    /// The buffer strings that buffer items spell, or the first fault. There are at most as many words as
-    /// a frame has for them.
+    /// The buffer strings that buffer items spell, or the first fault. There are at most as many
+    /// words as a frame has for them.
     pub fn read<M: Memory>(memory: M, words: &[u64]) -> Result<Self, ItemFault>
         requires { length words.now ≤ max_buffer_words }
         ensures ok { IfOk result (λ list. buffer_reading words.now ≡ Ok list) }
@@ -127,7 +129,8 @@ impl BufferList {
         Ok(BufferList { rows })
     }
 
-    /// Adds a buffer string, and says whether it is within the limits: past them, the list stays as it was.
+    /// Adds a buffer string, and says whether it is within the limits: past them, the list stays as
+    /// it was.
     pub fn push_buffer<M: Memory>(
         &mut self,
         memory: M,

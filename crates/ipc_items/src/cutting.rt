@@ -61,7 +61,8 @@ impl Cuts {
         Ok(())
     }
 
-    // Appends so many bytes of the payload from a place on to the last list, if they are the next ones.
+    // Appends so many bytes of the payload from a place on to the last list, if they are the next
+    // ones.
     fn extend_last(&mut self, start: usize, count: usize) -> bool
         requires { 0 < length self.old.rows }
         ensures rows { result ≡ true → self.new.rows
@@ -128,8 +129,9 @@ impl Cuts {
     }
 }
 
-// The strings of string items that have no fault. Where they are the payload, end to end, they stay in its memory; else they are copied, with
-// room for their bytes. So no list holds much more memory than its strings need.
+// The strings of string items that have no fault. Where they are the payload, end to end, they stay
+// in its memory; else they are copied, with room for their bytes. So no list holds much more memory
+// than its strings need.
 pub(crate) fn cut_rows<M: Memory>(
     memory: M,
     words: &[u64],

@@ -16,7 +16,8 @@ pub const MAX_FREE_BYTES: usize = 4 * MAX_STRING_BYTES;
 /// So many lists are looked at for a block.
 const LOOKS: u32 = 4;
 
-/// Lists of strings whose memory is used again once nobody else has them, the oldest first; seen as these lists.
+/// Lists of strings whose memory is used again once nobody else has them, the oldest first; seen as
+/// these lists.
 ///
 /// There are at most [`MAX_FREE_BLOCKS`], of at most [`MAX_FREE_BYTES`] together.
 #[derive(Drop)]
@@ -78,8 +79,9 @@ impl FreeBlocks {
         Some(list)
     }
 
-    /// A block of at least so many bytes, and of room for at most twice as many, from a list that nobody else has. It looks at the oldest lists
-    /// only, at most four, and those that it leaves are the newest then.
+    /// A block of at least so many bytes, and of room for at most twice as many, from a list that
+    /// nobody else has. It looks at the oldest lists only, at most four, and those that it leaves
+    /// are the newest then.
     pub fn take(&mut self, wanted: usize) -> Option<Vec<u8>>
         ensures { IfSome result (λ block. wanted ≤ length block.items) }
     {

@@ -80,7 +80,8 @@ impl<T> Kept<T> {
 }
 
 impl<T> Kept<T> {
-    // The same rows once more, without memory; None where they have one owner by themselves, or the owners cannot be counted.
+    // The same rows once more, without memory; None where they have one owner by themselves, or the
+    // owners cannot be counted.
     pub(crate) fn share(&self) -> Option<Self>
         ensures { IfSome result (λ kept. kept ≡ self.now) }
     {

@@ -9,8 +9,8 @@ use crate::string_list::StringList;
 use std::alloc::{AllocError, Global};
 use std::marker::Model;
 
-/// The pieces in which all strings of a message go into their buffer strings, as far as they are left to give, in order. Pieces without
-/// bytes are left out.
+/// The pieces in which all strings of a message go into their buffer strings, as far as they are
+/// left to give, in order. Pieces without bytes are left out.
 #[derive(Drop)]
 pub struct Scattered<'a> {
     buffers: &'a BufferList,

@@ -81,8 +81,8 @@ impl StringList {
         }))
     }
 
-    /// The strings that string items spell over a payload, or the first fault. There are at most as many words as a
-    /// message has.
+    /// The strings that string items spell over a payload, or the first fault. There are at most as
+    /// many words as a message has.
     pub fn read<M: Memory>(memory: M, words: &[u64], payload: &[u8]) -> Result<Self, ItemFault>
         requires { length words.now ≤ max_message_words }
         ensures ok { IfOk result (λ list. string_reading words.now payload.now ≡ Ok list) }
@@ -99,8 +99,8 @@ impl StringList {
         })
     }
 
-    /// As [`StringList::read`], of a payload that is given away: where its strings are the whole of it, one behind the other, they stay in
-    /// its memory.
+    /// As [`StringList::read`], of a payload that is given away: where its strings are the whole of
+    /// it, one behind the other, they stay in its memory.
     pub fn cut<M: Memory>(memory: M, words: &[u64], payload: Vec<u8>) -> Result<Self, ItemFault>
         requires { length words.now ≤ max_message_words }
         ensures ok { IfOk result (λ list. string_reading words.now payload.items ≡ Ok list) }
@@ -118,7 +118,8 @@ impl StringList {
         })
     }
 
-    /// Adds a string, and says whether it is within the limits: past them, the list stays as it was.
+    /// Adds a string, and says whether it is within the limits: past them, the list stays as it
+    /// was.
     pub fn push<M: Memory>(&mut self, memory: M, string: &[u8]) -> Result<bool, AllocError>
         ensures within { IfOk result (λ fits.
             IsTrue fits ↔ AreStrings (self.old ++ string.now ∷ [])) }
@@ -141,7 +142,8 @@ impl StringList {
         self.rows.clear();
     }
 
-    /// A list of the same strings. Takes no memory where they were read from a payload and the memory to share them was there.
+    /// A list of the same strings. Takes no memory where they were read from a payload and the
+    /// memory to share them was there.
     pub fn copy<M: Memory>(&self, memory: M) -> Result<Self, AllocError>
         ensures same { IfOk result (λ list. list ≡ self.now) }
         ensures ample { M.is_ample → IsOk result }
@@ -160,7 +162,8 @@ impl StringList {
         })
     }
 
-    /// The memory of the strings, which stand in it one behind the other. Where somebody else has the list, it comes back.
+    /// The memory of the strings, which stand in it one behind the other. Where somebody else has
+    /// the list, it comes back.
     pub fn into_block(self) -> Result<Vec<u8>, Self>
         ensures ok { IfOk result (λ block. block.items ≡ concat self) }
         ensures err { IfErr result (λ list. list ≡ self) }
@@ -171,7 +174,8 @@ impl StringList {
         }
     }
 
-    /// As [`StringList::into_block`], where it has at least so many bytes, and room for at most twice as many.
+    /// As [`StringList::into_block`], where it has at least so many bytes, and room for at most
+    /// twice as many.
     #[tactic(auto, using(crate::proofs::RowLemmas::length_concat))]
     pub(crate) fn into_block_for(self, wanted: usize) -> Result<Vec<u8>, Self>
         ensures ok { IfOk result (λ block. wanted ≤ length block.items) }
@@ -234,7 +238,8 @@ impl StringList {
         }
     }
 
-    /// Where not every string fits its buffer, the sum of the lengths of those before the first that doesn't.
+    /// Where not every string fits its buffer, the sum of the lengths of those before the first
+    /// that doesn't.
     pub fn overflow(&self, buffers: Option<&BufferList>) -> Option<u64>
         ensures exact { result ≡ overflow_offset self.now (accepted (option_copied buffers.entry)) }
         ensures within { IfSome result (λ offset. offset ≤ size_of self.now) }

@@ -1,5 +1,5 @@
--- What stood before a call, and before the end of its send phase, stays: so does the sender that it shows, and when its receive
--- phase began.
+-- What stood before a call, and before the end of its send phase, stays: so does the sender that it
+-- shows, and when its receive phase began.
 use Rattle.std.proofs.lemmas.Bool.{false≢true}
 use Rattle.std.proofs.Common.{◌≡◌, refl, ap, ℕ, Bool, true, false, ◌||◌, ◌==◌, eq-eqb, if◌then◌else◌, List, [], ◌∷◌, ◌++◌}
 use Rattle.std.specs.List.{list_any}
@@ -29,7 +29,8 @@ before_kept test (x ∷ xs) ys h = go (test x) h (before_kept test xs ys)
 pub called_any : (P : List Entry) (n : ℕ) → is_called P n ≡ true → list_any (calls n) P ≡ true
 called_any P n c = let made = called_place P n c in any_at (calls n) P _ made.at (eq-eqb n n refl)
 
--- of a function of one of two lists, where the first is the same, and the second one is where it is taken
+-- of a function of one of two lists, where the first is the same, and the second one is where it is
+-- taken
 chosen : (t s : Bool) (f : List Entry → ℕ) (a b c d : List Entry) → b ≡ a → (s ≡ true → d ≡ c) → (t || s) ≡ true → f (if t then b else d) ≡ f (if t then a else c)
 chosen true s f a b c d p q h = ap f p
 chosen false s f a b c d p q h = ap f (q h)

@@ -1,5 +1,5 @@
--- A caller's calls come one after the other: an open call is its caller's last one, and once an entry names a call of a caller,
--- none names an earlier one of it.
+-- A caller's calls come one after the other: an open call is its caller's last one, and once an
+-- entry names a call of a caller, none names an earlier one of it.
 use Rattle.std.proofs.lemmas.Bool.{cases_order, false_from_ne_true, true_from_ne_false, false≢true}
 use Rattle.std.proofs.Common.{◌≡◌, refl, sym, ap, ◌∙◌, ℕ, ◌+◌, ◌<◌, ◌≤◌, Bool, true, false, not, ◌&&◌, ◌==◌, eq-eqb, eqb-true, List, ◌∷◌, ◌++◌, Option, Some, None, find, inl, inr, arith}
 use Rattle.std.specs.List.{list_any}

@@ -1,4 +1,5 @@
--- What closes calls makes nothing possible: so after a Broke come only failures of its partners, after an At of what is due.
+-- What closes calls makes nothing possible: so after a Broke come only failures of its partners,
+-- after an At of what is due.
 use Rattle.std.proofs.lemmas.Bool.{false≢true, or_right}
 use Rattle.std.proofs.lemmas.Option.{none-some, same_Some}
 use Rattle.std.proofs.Common.{◌≡◌, refl, sym, subst, ◌∙◌, ℕ, ◌≤◌, zero-le, true, false, ◌&&◌, ◌==◌, if◌then◌else◌, List, [], ◌∷◌, ◌++◌, append_assoc, length, map, Some, None, inl, inr, arith}

@@ -1,4 +1,5 @@
--- What comes after an input: what an ExchangeRegisters stops, else an output of the later rules, which says why it comes.
+-- What comes after an input: what an ExchangeRegisters stops, else an output of the later rules,
+-- which says why it comes.
 use Rattle.std.proofs.Common.{◌≡◌, refl, ℕ, ◌&&◌, ◌==◌, eqb-true, List, [], ◌∷◌, ◌++◌, Option, Some, None, option_and_then, ◌⊎◌, inl, inr, find}
 use Rattle.std.specs.Option.{option_or}
 use Rattle.ipc_history.specs.Words.{first_some, last}

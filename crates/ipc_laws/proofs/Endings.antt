@@ -1,4 +1,5 @@
--- A call is closed at most once; a send that ended otherwise is not received; an ended thread takes no part.
+-- A call is closed at most once; a send that ended otherwise is not received; an ended thread takes
+-- no part.
 use Rattle.std.proofs.lemmas.Bool.{false≢true, false_from_ne_true, or_left, or_right, or_from}
 use Rattle.std.proofs.Common.{◌≡◌, refl, sym, ap, ◌∙◌, ℕ, ◌≤◌, true, false, eqb-true, eq-eqb, List, [], ◌∷◌, ◌++◌, inl, inr, count_by, arith}
 use Rattle.std.specs.List.{list_any}

@@ -1,4 +1,5 @@
--- What any entry leaves: threads that it doesn't end, spaces of threads that were there, and partners that it doesn't end.
+-- What any entry leaves: threads that it doesn't end, spaces of threads that were there, and
+-- partners that it doesn't end.
 use Rattle.std.proofs.lemmas.Bool.{false≢true, or_cases, or_left, or_right, true_from_ne_false, true≢false}
 use Rattle.std.proofs.lemmas.Option.{none-some}
 use Rattle.std.proofs.Common.{◌≡◌, refl, sym, ap, ◌∙◌, ℕ, Bool, true, false, not, ◌||◌, ◌&&◌, ◌==◌, if◌then◌else◌, List, [], ◌∷◌, ◌++◌, Option, Some, None, is_some, unwrap_or, inl, inr, arith}

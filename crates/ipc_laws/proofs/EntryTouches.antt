@@ -1,5 +1,5 @@
--- What one more entry makes possible, it touches: of a call that it doesn't name, whose partner it doesn't end, and that isn't due
--- by it, nothing is possible that wasn't before.
+-- What one more entry makes possible, it touches: of a call that it doesn't name, whose partner it
+-- doesn't end, and that isn't due by it, nothing is possible that wasn't before.
 use Rattle.std.proofs.lemmas.Bool.{false≢true, or_left, or_right}
 use Rattle.std.proofs.Common.{◌≡◌, refl, sym, ap, ◌∙◌, ℕ, ◌+◌, ◌*◌, Bool, true, false, ◌||◌, ◌==◌, eq-eqb, eqb-true, if◌then◌else◌, List, [], ◌∷◌, ◌++◌, Option, Some, None, unwrap_or, add-zero, ◌⊎◌, inl, inr}
 use Rattle.std.specs.List.{list_any}

@@ -1,4 +1,5 @@
--- A call of words that reaches a receiver: its transfer begins and ends, and then nothing comes where its receive phase rests.
+-- A call of words that reaches a receiver: its transfer begins and ends, and then nothing comes
+-- where its receive phase rests.
 use Rattle.std.proofs.lemmas.Bool.{false≢true, false_from_ne_true, true_from_ne_false, or_cases, or_right, leb-true}
 use Rattle.std.proofs.lemmas.Option.{none-some, same_Some}
 use Rattle.std.proofs.Common.{◌≡◌, ◌≢◌, refl, sym, ap, ◌∙◌, subst, ℕ, ◌+◌, ◌==◌, ◌||◌, ◌&&◌, not, eq-eqb, eqb-true, nat_le, Bool, true, false, List, [], ◌∷◌, ◌++◌, Option, Some, None, inl, inr, ◌⊎◌, arith}

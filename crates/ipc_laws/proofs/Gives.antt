@@ -1,4 +1,5 @@
--- `Gives Q o`: what o gives, if anything, has the property Q. One lemma for each word that definitions of outputs use.
+-- `Gives Q o`: what o gives, if anything, has the property Q. One lemma for each word that
+-- definitions of outputs use.
 use Rattle.std.proofs.Common.{◌≡◌, refl, subst, Bool, true, false, if◌then◌else◌, List, [], ◌∷◌, Option, Some, None, option_map, option_and_then, find}
 use Rattle.std.specs.Option.{option_or, option_map_or}
 use Rattle.ipc_history.specs.Words.{first_some}

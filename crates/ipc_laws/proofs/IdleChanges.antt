@@ -1,4 +1,5 @@
--- An input that touches neither a call nor a thread, an At or an ExchangeRegisters, changes nothing but the moment.
+-- An input that touches neither a call nor a thread, an At or an ExchangeRegisters, changes nothing
+-- but the moment.
 use Rattle.std.proofs.lemmas.List.Folds.{list_any-append}
 use Rattle.std.proofs.Common.{◌≡◌, refl, ap, ◌∙◌, ℕ, ◌+◌, true, false, List, [], ◌∷◌, None, unwrap_or, add-zero}
 use Rattle.std.specs.List.{list_any}

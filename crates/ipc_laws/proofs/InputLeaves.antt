@@ -1,4 +1,5 @@
--- What an input leaves as it was. Each fact says of a call that was there: what holds of it behind the input held before.
+-- What an input leaves as it was. Each fact says of a call that was there: what holds of it behind
+-- the input held before.
 use Rattle.std.proofs.lemmas.Bool.{or_cases, or_left, or_right}
 use Rattle.std.proofs.Common.{◌≡◌, refl, sym, ap, ◌∙◌, ℕ, Bool, true, false, ◌||◌, ◌&&◌, ◌==◌, eq-eqb, List, [], ◌∷◌, ◌++◌, None, unwrap_or, inl, inr}
 use Rattle.std.specs.List.{list_any}

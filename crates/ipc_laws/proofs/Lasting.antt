@@ -1,4 +1,5 @@
--- An outcome stays: no later entry speaks of a call that is over, and what was said of it stays what it was.
+-- An outcome stays: no later entry speaks of a call that is over, and what was said of it stays
+-- what it was.
 use Rattle.std.proofs.lemmas.Bool.{false_from_ne_true}
 use Rattle.std.proofs.Common.{◌≡◌, refl, sym, ap, ap₂, ◌∙◌, ℕ, Bool, true, false, ◌==◌, if◌then◌else◌, List, ◌++◌, Some, None}
 use Rattle.std.specs.List.{list_any}

@@ -1,4 +1,5 @@
--- The bytes of a call: never more than it has, and in a quiet history some are left while it is transferring.
+-- The bytes of a call: never more than it has, and in a quiet history some are left while it is
+-- transferring.
 use Rattle.std.proofs.lemmas.Bool.{cases_order}
 use Rattle.std.proofs.lemmas.Option.{none-some}
 use Rattle.std.proofs.lemmas.List.Sums.{sum_by_push}
@@ -26,7 +27,8 @@ use Rattle.ipc_laws.proofs.Places.{first_none}
 use Rattle.ipc_laws.proofs.Steps.{call_at_push}
 use Rattle.ipc_laws.proofs.Tests.{not_both, right}
 
--- What it says that a history is quiet: of no call has a transfer to end, or a failure or a meeting to come
+-- What it says that a history is quiet: of no call has a transfer to end, or a failure or a meeting
+-- to come
 
 pub record Rests (P : List Entry) (n : ℕ) : Type 0 where
   pub ends : end_of P n ≡ None

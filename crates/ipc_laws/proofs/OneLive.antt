@@ -1,4 +1,5 @@
--- Each number has at most one live thread, the last one that was opened of it, and no thread is opened twice.
+-- Each number has at most one live thread, the last one that was opened of it, and no thread is
+-- opened twice.
 use Rattle.std.proofs.lemmas.Bool.{false≢true, false_from_ne_true, or_cases}
 use Rattle.std.proofs.lemmas.Option.{none-some, same_Some}
 use Rattle.std.proofs.Common.{◌≡◌, refl, sym, ap, ◌∙◌, ℕ, ◌+◌, ◌%◌, ◌<◌, ◌≤◌, le_refl, Bool, true, false, not, ◌||◌, ◌&&◌, ◌==◌, eq-eqb, eqb-true, if◌then◌else◌, List, [], ◌∷◌, ◌++◌, Some, None, ◌⊎◌, inl, inr, count_by, arith}

@@ -35,7 +35,8 @@ start : AreTogether []
 unfolding receiver_of
 start n m pair running = absurd (none-some m pair)
 
--- the call x stays open where an entry neither closes it nor ends its send, and doesn't break its caller
+-- the call x stays open where an entry neither closes it nor ends its send, and doesn't break its
+-- caller
 stays_open : (P : List Entry) (e : Entry) (x : ℕ) → is_over P x ≡ false → closes x e ≡ false → ends_send x e ≡ false → has_broken (P ++ e ∷ []) (caller_of (P ++ e ∷ []) x) ≡ false → is_over (P ++ e ∷ []) x ≡ false
 stays_open P e x o c s lives =
     let called = open_is_called P x o in

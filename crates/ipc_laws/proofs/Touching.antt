@@ -1,4 +1,5 @@
--- What an input makes possible: an output that comes after it, but was not to come before, is of a call that the input touches.
+-- What an input makes possible: an output that comes after it, but was not to come before, is of a
+-- call that the input touches.
 use Rattle.std.proofs.lemmas.Bool.{false≢true}
 use Rattle.std.proofs.Common.{◌≡◌, refl, sym, ap, ◌∙◌, ℕ, ◌+◌, ◌*◌, Bool, true, false, not, ◌&&◌, List, [], ◌∷◌, ◌++◌, Some, None, add-zero, arith}
 use Rattle.std.specs.List.{list_any}

@@ -36,7 +36,8 @@ receive_steps P n = phase_steps (is_over P n || (from_of P n == nilthread)) (is_
 unfoldable pub steps_left : List Entry → ℕ → ℕ
 steps_left P n = send_steps P n + receive_steps P n
 
--- a Began may be followed by one Turned, which ends no phase; but it took a step of each of two calls
+-- a Began may be followed by one Turned, which ends no phase; but it took a step of each of two
+-- calls
 abbrev pub is_began : Entry → Bool
 is_began (Written (Began n m)) = true
 is_began _ = false
@@ -55,11 +56,13 @@ blocks_left P n = (if to_of P n == nilthread then 0 else blocks (message_size P 
 abbrev pub blocks_of : CallParts → ℕ
 blocks_of call = (if call.to == nilthread then 0 else blocks (size_of call.strings))
 
--- what an open call may still need: its outputs, an At before it is due, an At and a Moved for each block
+-- what an open call may still need: its outputs, an At before it is due, an At and a Moved for each
+-- block
 unfoldable pub room_of : List Entry → ℕ → ℕ
 room_of P n = (if is_over P n then 0 else 1 + 2 * blocks_left P n) + steps_left P n
 
--- the threads in the order in which they were opened, and how many live: each may need an At and its Broke
+-- the threads in the order in which they were opened, and how many live: each may need an At and
+-- its Broke
 unfoldable pub threads : List Entry → List ℕ
 threads P = filter_map opened_in P
 
@@ -83,7 +86,8 @@ StepsFall =
 abbrev pub StepsBound : Type 0
 StepsBound = (P : List Entry) (outputs : List Output) → Legal (P ++ map Written outputs) → length outputs ≤ all_steps_left P
 
--- a call is open for a live thread of its own, so after an input at most four outputs for each of these follow
+-- a call is open for a live thread of its own, so after an input at most four outputs for each of
+-- these follow
 abbrev pub OpenBound : Type 0
 OpenBound = (P : List Entry) → Legal P → open_calls P ≤ live_threads P
 
@@ -93,7 +97,8 @@ OutputsBound =
     → Legal (P ++ Given input ∷ map Written outputs)
     → length outputs ≤ 4 * live_threads (P ++ Given input ∷ [])
 
--- each number has at most one live thread, so after an input come at most four outputs for each number
+-- each number has at most one live thread, so after an input come at most four outputs for each
+-- number
 abbrev pub LiveBound : Type 0
 LiveBound = (P : List Entry) → Legal P → live_threads P ≤ max_thread_number
 
@@ -102,7 +107,8 @@ OutputsMost =
     (P : List Entry) (input : Input) (outputs : List Output)
     → Legal (P ++ Given input ∷ map Written outputs) → length outputs ≤ max_outputs
 
--- the room that an input needs with its own entry, and the room that it gives back. An At that stands before it needs one more
+-- the room that an input needs with its own entry, and the room that it gives back. An At that
+-- stands before it needs one more
 abbrev pub room_for : Input → ℕ
 room_for (At moment) = 1
 room_for (Opened thread space) = 3
@@ -129,7 +135,8 @@ AtRoom =
     → length (P ++ Given (At moment) ∷ Written output ∷ [])
     + room_owed (P ++ Given (At moment) ∷ Written output ∷ []) ≤ length P + room_owed P
 
--- what is pledged covers what is owed: something for each live thread, each open call, and each block of each open call
+-- what is pledged covers what is owed: something for each live thread, each open call, and each
+-- block of each open call
 unfoldable pub pledge_of : List Entry → ℕ → ℕ
 pledge_of P n =
     (if is_over P n
@@ -155,7 +162,8 @@ abbrev pub room_need : Entry → ℕ
 room_need (Given input) = room_for input
 room_need (Written output) = 0
 
--- what a command appends, an At, its input and outputs, fits where the pledge and what its inputs need fitted
+-- what a command appends, an At, its input and outputs, fits where the pledge and what its inputs
+-- need fitted
 abbrev pub CommandFits : Type 0
 CommandFits =
     (P Q : List Entry) (limit : ℕ) → Legal (P ++ Q)

@@ -1,4 +1,5 @@
--- A call of words that meets as soon as it is entered, and one that meets nobody: what comes of it, without a rule being asked.
+-- A call of words that meets as soon as it is entered, and one that meets nobody: what comes of it,
+-- without a rule being asked.
 use Rattle.std.specs.Prelude.{◌≡◌, ◌≢◌, ℕ, List, [], ◌∷◌, ◌++◌, Bool, true, ◌||◌, ◌==◌, Some, IsTrue, IsFalse, ◌⊎◌, if◌then◌else◌}
 use Rattle.ipc_words.specs.ThreadId.{nilthread, anythread, anylocalthread}
 use Rattle.ipc_words.specs.MsgTag.{propagates}
@@ -24,7 +25,8 @@ use Rattle.ipc_laws.specs.Locality.{Possible}
 abbrev pub Around : List Entry → ℕ → Type 0
 Around P x = (output : Output) → Possible P output → IsTrue (names x (Written output))
 
--- a call that a thread makes after P reaches the receiving call r, which waits and takes it; it has no strings, and is not propagated
+-- a call that a thread makes after P reaches the receiving call r, which waits and takes it; it has
+-- no strings, and is not propagated
 pub record Reaches (P : List Entry) (thread : ℕ) (call : CallParts) (r : ℕ) : Type 0 where
   pub sends : IsFalse (call.to == nilthread)
   pub receives : IsTrue (is_receiving P r)
@@ -39,7 +41,8 @@ lets_in P from thread sender =
     (if from == anythread then true
     else (if from == anylocalthread then space_of P sender == space_of P thread else from == sender))
 
--- and its receive phase rests: its partner is there, it has time, and nobody that it lets in waits for the thread
+-- and its receive phase rests: its partner is there, it has time, and nobody that it lets in waits
+-- for the thread
 pub record Rests (P : List Entry) (thread : ℕ) (call : CallParts) : Type 0 where
   pub partner : IsTrue ((call.from == anythread) || (call.from == anylocalthread) || is_live P call.from)
   pub patient : span call.receive_period ≢ Some 0
@@ -56,8 +59,8 @@ begun P n thread call r = called P n thread call ++ Written (Began n r) ∷ []
 abbrev pub exchanged : List Entry → ℕ → ℕ → CallParts → ℕ → List Entry
 exchanged P n thread call r = begun P n thread call r ++ Written (Ended n r) ∷ []
 
--- so it goes on; all that may come then is of the call, and no end of a transfer; and the history has settled where the call has no
--- receive phase, or that rests
+-- so it goes on; all that may come then is of the call, and no end of a transfer; and the history
+-- has settled where the call has no receive phase, or that rests
 pub record Exchanges (P : List Entry) (n thread : ℕ) (call : CallParts) (r : ℕ) : Type 0 where
   pub begins : next_output (called P n thread call) ≡ Some (Began n r)
   pub ends : next_output (begun P n thread call r) ≡ Some (Ended n r)
@@ -85,14 +88,15 @@ CallExchangesLater =
     → IsTrue (is_admissible P (Called n thread call)) → Reaches P thread call r
     → ExchangesLater P moment n thread call r
 
--- a transfer without bytes ends as soon as it has begun, wherever it begins, but for a propagated message
+-- a transfer without bytes ends as soon as it has begun, wherever it begins, but for a propagated
+-- message
 abbrev pub BeganEnds : Type 0
 BeganEnds =
     (P : List Entry) (n m : ℕ) → Legal P → next_output P ≡ Some (Began n m) → message_size P n ≡ 0
     → shown_sender P n ≡ caller_of P n → next_output (P ++ Written (Began n m) ∷ []) ≡ Some (Ended n m)
 
--- a call that a thread makes after P meets nobody: its receiver lives, is another thread, and has no receive phase that waits and
--- takes it; and the call has time, and is not propagated
+-- a call that a thread makes after P meets nobody: its receiver lives, is another thread, and has
+-- no receive phase that waits and takes it; and the call has time, and is not propagated
 pub record Waits (P : List Entry) (thread : ℕ) (call : CallParts) : Type 0 where
   pub sends : IsFalse (call.to == nilthread)
   pub lives : IsTrue (is_live P call.to)

@@ -37,7 +37,8 @@ CallsAreNormal =
     (H : List Entry) → Legal H → (n thread : ℕ) (call : CallParts)
     → call_at H n ≡ Some (thread, call) → IsTrue (is_normal call)
 
--- so the tag of n counts its words and strings, and its strings have at most max_string_bytes bytes; without a call there is nothing
+-- so the tag of n counts its words and strings, and its strings have at most max_string_bytes
+-- bytes; without a call there is nothing
 pub record IsNormalMessage (H : List Entry) (n : ℕ) : Type 0 where
   pub untyped : untyped_of (tag_of H n) ≡ length (words_of H n)
   pub typed : typed_of (tag_of H n) ≡ 2 * length (strings_of H n)
@@ -57,7 +58,8 @@ OutcomesStay =
     (P Q : List Entry) → Legal (P ++ Q) → (n : ℕ) → IsTrue (is_called P n) → IsTrue (is_over P n)
     → IsFalse (has_broken (P ++ Q) (caller_of (P ++ Q) n)) → outcome_of (P ++ Q) n ≡ outcome_of P n
 
--- a moment is that of the shortest front of a history after which the call, which stands there, is over
+-- a moment is that of the shortest front of a history after which the call, which stands there, is
+-- over
 pub record IsTimed (H : List Entry) (n moment : ℕ) : Type 0 where
   pub front : List Entry
   pub entry : Entry
@@ -96,8 +98,8 @@ pub record IsOpenCall (H : List Entry) (n : ℕ) : Type 0 where
 abbrev pub OpenCallIsLast : Type 0
 OpenCallIsLast = (H : List Entry) → Legal H → (n : ℕ) → IsFalse (is_over H n) → IsOpenCall H n
 
--- call order and entry order agree for each caller: where an entry names a later call of it, an earlier one is over, and neither
--- that entry nor one behind it names the earlier one
+-- call order and entry order agree for each caller: where an entry names a later call of it, an
+-- earlier one is over, and neither that entry nor one behind it names the earlier one
 abbrev pub EntriesInOrder : Type 0
 EntriesInOrder =
     (H : List Entry) → Legal H → (n k : ℕ) → n < k → caller_of H n ≡ caller_of H k
@@ -115,7 +117,8 @@ one_if b = (if b then 1 else 0)
 abbrev pub ClosedOnce : Type 0
 ClosedOnce = (H : List Entry) → Legal H → (n : ℕ) → count_by (closes n) H ≤ 1
 
--- a call is in at most one phase: it waits to send, passes to m, waits to receive, or receives from k
+-- a call is in at most one phase: it waits to send, passes to m, waits to receive, or receives from
+-- k
 abbrev pub OnePhase : Type 0
 OnePhase =
     (H : List Entry) → Legal H → (n m k : ℕ)
@@ -168,7 +171,8 @@ AtMakesDue =
 unfoldable pub timeout_at : List Entry → ℕ → ℕ → Option Output
 timeout_at P moment n = (if is_due_at P moment n then Some (Failed n (timeout_code P n)) else None)
 
--- after a quiet history an At brings the failure of the least call that is due at that moment, so nothing where no call is
+-- after a quiet history an At brings the failure of the least call that is due at that moment, so
+-- nothing where no call is
 abbrev pub AtBrings : Type 0
 AtBrings =
     (P : List Entry) (moment : ℕ) → Quiet P

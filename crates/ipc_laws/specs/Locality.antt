@@ -21,8 +21,8 @@ use Rattle.ipc_history.specs.declared.entry.Input.TheVariants.{At, Opened, Calle
 use Rattle.ipc_history.specs.declared.entry.Output.{Output}
 use Rattle.ipc_history.specs.declared.entry.Output.TheVariants.{Ended, Failed}
 
--- an output that the calls make possible, whatever entry came last, and why: all bytes of a transfer are copied; a partner is
--- gone; a send meets a receive; a waiting phase is due
+-- an output that the calls make possible, whatever entry came last, and why: all bytes of a
+-- transfer are copied; a partner is gone; a send meets a receive; a waiting phase is due
 pub data Possible (P : List Entry) (output : Output) : Type 0 where
   Ends : (n m : ℕ) → IsTrue (is_transferring P n m) → moved_bytes P n ≡ message_size P n → output ≡ Ended n m → Possible P output
   LosesReceiver : (n : ℕ) → IsTrue (is_send_partner_gone P n)
@@ -36,7 +36,8 @@ pub data Possible (P : List Entry) (output : Output) : Type 0 where
   Meets : (n m : ℕ) → IsTrue (matches P n m) → output ≡ meeting P n m → Possible P output
   Expires : (n : ℕ) → IsTrue (is_due P n) → output ≡ Failed n (timeout_code P n) → Possible P output
 
--- the next output is what an ExchangeRegisters stops, a turn, or possible by the calls alone; in a quiet history none is possible
+-- the next output is what an ExchangeRegisters stops, a turn, or possible by the calls alone; in a
+-- quiet history none is possible
 abbrev pub NextIsPossible : Type 0
 NextIsPossible =
     (P : List Entry) (output : Output) → next_output P ≡ Some output
@@ -46,7 +47,8 @@ NextIsPossible =
 abbrev pub QuietRests : Type 0
 QuietRests = (P : List Entry) → Quiet P → (output : Output) → Possible P output → ⊥
 
--- why the call n fails when a thread ends, and with which code: it sends to it, waits for it, or is in transfer with a call of it
+-- why the call n fails when a thread ends, and with which code: it sends to it, waits for it, or is
+-- in transfer with a call of it
 pub data LosesPartner (P : List Entry) (thread n code : ℕ) : Type 0 where
   Sending : IsTrue (is_sending P n) → to_of P n ≡ thread
       → code ≡ failure_code Send kind.NonExistingPartner 0 → LosesPartner P thread n code
@@ -57,7 +59,8 @@ pub data LosesPartner (P : List Entry) (thread n code : ℕ) : Type 0 where
   Taking : (k : ℕ) → IsTrue (is_transferring P k n) → caller_of P k ≡ thread
       → code ≡ failure_code Receive kind.Aborted (moved_bytes P k) → LosesPartner P thread n code
 
--- an entry touches an output: both name one call; or the output fails a call that loses its partner, or that is due then
+-- an entry touches an output: both name one call; or the output fails a call that loses its
+-- partner, or that is due then
 pub data Touched (P : List Entry) (e : Entry) (output : Output) : Type 0 where
   Named : (n : ℕ) → IsTrue (names n e) → IsTrue (names n (Written output)) → Touched P e output
   Lost : (thread n code : ℕ) → IsTrue (breaks thread e) → LosesPartner P thread n code → output ≡ Failed n code → Touched P e output
@@ -70,20 +73,23 @@ EntriesTouch =
     (P : List Entry) (e : Entry) → Legal P → Follows P e → (output : Output)
     → Possible (P ++ e ∷ []) output → Possible P output ⊎ Touched P e output
 
--- so a failure, an overflow or an abort, which closes each call that it names, makes nothing possible
+-- so a failure, an overflow or an abort, which closes each call that it names, makes nothing
+-- possible
 abbrev pub ClosingsOpenNothing : Type 0
 ClosingsOpenNothing =
     (P : List Entry) (closing : Output) → Legal P → next_output P ≡ Some closing
     → ((n : ℕ) → IsTrue (names n (Written closing)) → IsTrue (closes n (Written closing)))
     → (output : Output) → Possible (P ++ Written closing ∷ []) output → Possible P output
 
--- So after a quiet history what comes of an input is of a call that it touches. One law for each input; of an At see `AtBrings`.
+-- So after a quiet history what comes of an input is of a call that it touches. One law for each
+-- input; of an At see `AtBrings`.
 
 -- an open makes nothing possible
 abbrev pub OpenedStaysQuiet : Type 0
 OpenedStaysQuiet = (P : List Entry) (thread space : ℕ) → Legal P → Quiet P → Quiet (P ++ Given (Opened thread space) ∷ [])
 
--- what can come of a new call n: it meets the receiving call m, the sending call k meets it, or it fails at once
+-- what can come of a new call n: it meets the receiving call m, the sending call k meets it, or it
+-- fails at once
 pub data MayCome (Q : List Entry) (n : ℕ) (output : Output) : Type 0 where
   Sends : (m : ℕ) → IsTrue (matches Q n m) → output ≡ meeting Q n m → MayCome Q n output
   Receives : (k : ℕ) → IsTrue (matches Q k n) → output ≡ meeting Q k n → MayCome Q n output
@@ -121,7 +127,8 @@ BrokeFails =
     → next_output (P ++ Given (Broke thread) ∷ []) ≡ Some output
     → (n : ℕ) × (code : ℕ) × (output ≡ Failed n code) × LosesPartner P thread n code
 
--- and all outputs up to the next input are such failures; after an At they are those of calls that are due at its moment
+-- and all outputs up to the next input are such failures; after an At they are those of calls that
+-- are due at its moment
 abbrev pub BrokeOnlyFails : Type 0
 BrokeOnlyFails =
     (P : List Entry) (thread : ℕ) (front rest : List Output) (output : Output)

@@ -15,7 +15,8 @@ use Rattle.ipc_history.specs.declared.entry.Entry.TheVariants.{Written}
 use Rattle.ipc_history.specs.declared.entry.Output.{Output}
 use Rattle.ipc_history.specs.declared.entry.Output.TheVariants.{Began, Turned, Ended, Overflowed, Aborted, Failed}
 
--- why n fails with this code: stopped, a partner that is gone, left in a transfer by the other caller, or due
+-- why n fails with this code: stopped, a partner that is gone, left in a transfer by the other
+-- caller, or due
 pub data WhyFailed (P : List Entry) (n code : ℕ) : Type 0 where
   StoppedSend : IsTrue (is_sending P n) → code ≡ failure_code Send kind.Cancelled 0 → WhyFailed P n code
   StoppedReceive : IsTrue (is_receiving P n) → code ≡ failure_code Receive kind.Cancelled 0 → WhyFailed P n code

@@ -1,4 +1,5 @@
-// The laws of histories. Each function is a theorem: it does nothing, and its contract holds of every history.
+// The laws of histories. Each function is a theorem: it does nothing, and its contract holds of
+// every history.
 ghost use Rattle.ipc_laws.specs.Laws.{OutputMeans, OverStays, NamesOpenCalls, OneOpenCall};
 ghost use Rattle.ipc_laws.specs.Laws.{BeginsOnce, ClosedOnce, OnePhase, EndedHadBegun, MeetsOne};
 ghost use Rattle.ipc_laws.specs.Laws.{MovesWithin, QuietMoves, AtMakesDue, AtBrings, AtStaysQuiet};
@@ -36,7 +37,8 @@ pub fn calls_last()
     ensures messages { MessagesAreNormal }
 {}
 
-/// What the caller of a call that is over is told stays so, and has the moment at which it was over.
+/// What the caller of a call that is over is told stays so, and has the moment at which it was
+/// over.
 pub fn outcomes_stay()
     ensures stay { OutcomesStay }
     ensures timed { OutcomesAreTimed }

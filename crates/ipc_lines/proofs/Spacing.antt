@@ -1,4 +1,5 @@
--- The fields of lines: none has a byte below 43, so no space and no newline, and a line is taken apart into them.
+-- The fields of lines: none has a byte below 43, so no space and no newline, and a line is taken
+-- apart into them.
 use Rattle.std.proofs.Common.{◌≡◌, ◌≢◌, ℕ, ◌<◌, ◌≤◌, List, [], ◌∷◌, length, codes, Option, Some, None, IfSome, refl, ap, ◌∙◌, arith}
 use Rattle.std.specs.List.{All}
 use Rattle.std.specs.Fmt.{decimal}

@@ -1,5 +1,5 @@
--- Our choice (docs/FORMATS.md): the lines of a history and of an outcome. A line is its fields with one space between each two;
--- its newline is not part of it.
+-- Our choice (docs/FORMATS.md): the lines of a history and of an outcome. A line is its fields with
+-- one space between each two; its newline is not part of it.
 use Rattle.std.specs.Prelude.{ℕ, List, [], ◌∷◌, ◌++◌, codes}
 use Rattle.std.specs.Fmt.{decimal}
 use Rattle.std.specs.List.{join_with_byte, flat_map}
@@ -21,7 +21,8 @@ spaced fields = join_with_byte 32 fields
 abbrev pub timeouts_of : CallParts → ℕ
 timeouts_of call = words.timeouts_of call.receive_period call.send_period
 
--- the fields of a call that are one word each: the thread that calls, to, from, the timeouts, the tag and the originator
+-- the fields of a call that are one word each: the thread that calls, to, from, the timeouts, the
+-- tag and the originator
 abbrev pub scalar_fields : ℕ → CallParts → List (List ℕ)
 scalar_fields thread call =
     id_text thread ∷ id_text call.to ∷ id_text call.from
@@ -68,8 +69,8 @@ entry_text entry = spaced (entry_fields entry)
 abbrev pub placed_in : OutcomeParts → List PlacedBytes
 placed_in outcome = flat_map (λ placed. placed) (pieces_in outcome)
 
--- the fields of an outcome that are one word each: the number of the call, the tag, the sender that is shown, the ActualSender and
--- the ErrorCode
+-- the fields of an outcome that are one word each: the number of the call, the tag, the sender that
+-- is shown, the ActualSender and the ErrorCode
 abbrev pub told_fields : OutcomeParts → List (List ℕ)
 told_fields outcome =
     decimal outcome.call ∷ hex_text outcome.tag ∷ id_text outcome.sender ∷ id_text outcome.actual

@@ -1,5 +1,5 @@
--- Our choice (docs/FORMATS.md): the spelling of numbers, thread ids, words, strings and buffers in a line. Decimals are std's
--- `decimal`, without leading zeros; 0 is `0`.
+-- Our choice (docs/FORMATS.md): the spelling of numbers, thread ids, words, strings and buffers in
+-- a line. Decimals are std's `decimal`, without leading zeros; 0 is `0`.
 use Rattle.std.specs.Prelude.{ℕ, ◌%◌, [], ◌∷◌, ◌++◌, ◌==◌}
 use Rattle.std.specs.Prelude.{List, false, Option, Some, None, map, codes, if◌then◌else◌}
 use Rattle.std.specs.Fmt.{decimal, digits}
@@ -13,7 +13,8 @@ use Rattle.ipc_items.specs.Pieces.{PlacedBytes}
 abbrev pub hex_text : ℕ → List ℕ
 hex_text n = codes "0x" ++ digits 16 false n
 
--- ID: a name for the ids that name no thread, `number.version` where the low six bits are not all zero, else HEX
+-- ID: a name for the ids that name no thread, `number.version` where the low six bits are not all
+-- zero, else HEX
 abbrev pub id_text : ℕ → List ℕ
 id_text id =
     if id == nilthread then codes "nil"
@@ -22,7 +23,8 @@ id_text id =
     else if id % 64 == 0 then hex_text id
     else decimal (number_of id) ++ codes "." ++ decimal (version_of id)
 
--- the texts of the elements with a byte between each two; where there is no element, a text of its own
+-- the texts of the elements with a byte between each two; where there is no element, a text of its
+-- own
 abbrev pub listed : {X : Type 0} → List ℕ → ℕ → (X → List ℕ) → List X → List ℕ
 listed none separator text [] = none
 listed none separator text (x ∷ xs) = join_with_byte separator (map text (x ∷ xs))
@@ -47,8 +49,8 @@ substring_text part = decimal part.length ++ codes "@" ++ hex_text part.pointer
 abbrev pub buffer_text : List Substring → List ℕ
 buffer_text parts = listed [] 43 substring_text parts
 
--- buffers: `-` where no strings are accepted, `s` where they are and there is no buffer string, else the buffer strings with
--- commas between
+-- buffers: `-` where no strings are accepted, `s` where they are and there is no buffer string,
+-- else the buffer strings with commas between
 abbrev pub buffers_text : Option (List (List Substring)) → List ℕ
 buffers_text None = codes "-"
 buffers_text (Some buffers) = listed (codes "s") 44 buffer_text buffers

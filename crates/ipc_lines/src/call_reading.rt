@@ -33,8 +33,8 @@ struct Lists {
     buffers: Option<BufferList>,
 }
 
-/// The send period and the receive period of a word of timeouts; `None` where one is a time point, and for any bytes that
-/// are no HEX of 32 bits.
+/// The send period and the receive period of a word of timeouts; `None` where one is a time point,
+/// and for any bytes that are no HEX of 32 bits.
 pub fn read_timeouts(bytes: &[u8]) -> Option<(Period, Period)>
     ensures found { IfSome result (λ periods.
         bytes.now ≡ hex_text (periods.0 * 2 ^ 16 + periods.1)) }
@@ -98,8 +98,8 @@ fn read_lists(alloc: Global, fields: &[&[u8]]) -> Result<Option<Lists>, AllocErr
     }))
 }
 
-/// The call that these nine fields spell, and its thread; `None` for any other fields, as for a call
-/// that is not in normal form.
+/// The call that these nine fields spell, and its thread; `None` for any other fields, as for a
+/// call that is not in normal form.
 pub fn read_call(alloc: Global, fields: &[&[u8]]) -> Result<Option<(ThreadId, Call)>, AllocError>
     ensures found { IfOk result (λ call. IfSome call (λ read.
         texts_of fields.now ≡ call_fields read.0 read.1)) }

@@ -204,8 +204,8 @@ fn read_buffer_list(alloc: Global, bytes: &[u8]) -> Result<Option<BufferList>, A
     }
 }
 
-/// The buffer strings that these bytes spell, within the limits of a call: `Some(None)` where no strings are accepted; `None`
-/// for any other bytes.
+/// The buffer strings that these bytes spell, within the limits of a call: `Some(None)` where no
+/// strings are accepted; `None` for any other bytes.
 pub fn read_buffers(alloc: Global, bytes: &[u8]) -> Result<Option<Option<BufferList>>, AllocError>
     ensures found { IfOk result (λ answer. IfSome answer (λ buffers.
         bytes.now ≡ buffers_text buffers)) }

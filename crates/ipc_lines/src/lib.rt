@@ -2,8 +2,9 @@
 //!
 //! A line is its fields with one space between each two; its newline is not part of it. Numbers are
 //! decimals without leading zeros. HEX is `0x` and lower-case digits without leading zeros; 0 is
-//! `0x0`. An id is `nil`, `any` or `local`; `number.version` in decimal where the low six bits of its
-//! word are not all zero; else HEX. No line of an entry has more than [`ipc_words::limits::MAX_LINE_BYTES`] bytes.
+//! `0x0`. An id is `nil`, `any` or `local`; `number.version` in decimal where the low six bits of
+//! its word are not all zero; else HEX. No line of an entry has more than
+//! [`ipc_words::limits::MAX_LINE_BYTES`] bytes.
 //!
 //! | Entry | Line |
 //! |---|---|

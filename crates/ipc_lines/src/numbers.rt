@@ -56,7 +56,8 @@ fn number(base: u8, bytes: &[u8]) -> Option<u64>
     append(base, high, low)
 }
 
-/// The number of 64 bits that these bytes spell in decimal, without leading zeros; `None` for any other bytes.
+/// The number of 64 bits that these bytes spell in decimal, without leading zeros; `None` for any
+/// other bytes.
 pub fn read_decimal(bytes: &[u8]) -> Option<u64>
     ensures found { IfSome result (λ value. bytes.now ≡ decimal value) }
     ensures only { (value : ℕ) → value < 2 ^ 64 → bytes.now ≡ decimal value → result ≡ Some value }
@@ -67,8 +68,8 @@ pub fn read_decimal(bytes: &[u8]) -> Option<u64>
     number(10, bytes)
 }
 
-/// The number of 64 bits that these bytes spell as HEX: `0x` and lower-case digits without leading zeros; `None` for any
-/// other bytes.
+/// The number of 64 bits that these bytes spell as HEX: `0x` and lower-case digits without leading
+/// zeros; `None` for any other bytes.
 pub fn read_hex(bytes: &[u8]) -> Option<u64>
     ensures found { IfSome result (λ value. bytes.now ≡ hex_text value) }
     ensures only { (value : ℕ) → value < 2 ^ 64 → bytes.now ≡ hex_text value → result ≡ Some value }
@@ -131,8 +132,8 @@ fn numbered(bytes: &[u8]) -> Option<u64>
     }
 }
 
-/// The thread id that these bytes spell: `nil`, `any`, `local`, `number.version` in decimal, or HEX; `None` for any other
-/// bytes, as for a second spelling of an id.
+/// The thread id that these bytes spell: `nil`, `any`, `local`, `number.version` in decimal, or
+/// HEX; `None` for any other bytes, as for a second spelling of an id.
 pub fn read_id(bytes: &[u8]) -> Option<ThreadId>
     ensures found { IfSome result (λ id. bytes.now ≡ id_text id) }
     ensures only { (id : ℕ) → id < 2 ^ 64 → bytes.now ≡ id_text id → result ≡ Some id }

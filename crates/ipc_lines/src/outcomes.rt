@@ -82,10 +82,10 @@ fn write_outcome(alloc: Global, out: &mut String, outcome: &Outcome) -> Result<(
 
 /// The line of an outcome, without its newline: `N TAG SENDER ACTUAL ERROR WORDS PIECES`.
 ///
-/// TAG and ERROR are HEX, SENDER and ACTUAL are ids. WORDS are all of MR1 on, as in [`crate::call_text`].
-/// PIECES are `-` where no byte was received, else for each piece of the received strings, in order, its
-/// pointer in HEX, `:`, `x` and two lower-case hex digits a byte, with commas between; pieces without
-/// bytes are left out. The error: memory was refused.
+/// TAG and ERROR are HEX, SENDER and ACTUAL are ids. WORDS are all of MR1 on, as in
+/// [`crate::call_text`]. PIECES are `-` where no byte was received, else for each piece of the
+/// received strings, in order, its pointer in HEX, `:`, `x` and two lower-case hex digits a byte,
+/// with commas between; pieces without bytes are left out. The error: memory was refused.
 pub fn outcome_line(alloc: Global, outcome: &Outcome) -> Result<String, AllocError>
     ensures { IfOk result (λ line. string_bytes line ≡ outcome_text outcome.now) }
 {

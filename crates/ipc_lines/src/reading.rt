@@ -419,8 +419,8 @@ pub enum LineFault {
     NoMemory,
 }
 
-/// The entry that a line spells, without its newline. `Bad` where no entry has this spelling, as for
-/// a second spelling of one and for a line of more than [`MAX_LINE_BYTES`] bytes.
+/// The entry that a line spells, without its newline. `Bad` where no entry has this spelling, as
+/// for a second spelling of one and for a line of more than [`MAX_LINE_BYTES`] bytes.
 pub fn read_entry(alloc: Global, line: &[u8]) -> Result<Entry, LineFault>
     ensures found { IfOk result (λ entry. line.now ≡ entry_text entry) }
     ensures only { (entry : Entry) → IsReadable entry → line.now ≡ entry_text entry

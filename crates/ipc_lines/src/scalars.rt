@@ -21,7 +21,8 @@ impl fmt::Display for HexText {
     }
 }
 
-/// A thread id: `nil`, `any` or `local`; `number.version` in decimal where the low six bits are not all zero; else HEX.
+/// A thread id: `nil`, `any` or `local`; `number.version` in decimal where the low six bits are not
+/// all zero; else HEX.
 #[derive(Clone, Copy)]
 pub struct IdText(pub ThreadId);
 

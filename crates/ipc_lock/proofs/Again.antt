@@ -20,7 +20,8 @@ use Rattle.ipc_lock.specs.Acting.{StepDoes}
 use Rattle.ipc_lock.specs.Seats.{ObeysRoomy, SeatObeys, SeatObeysAgain, SeatObeysRoomy}
 use Rattle.ipc_lock.specs.declared.seated.seats.CallSeat.{CallSeat}
 
--- a command that was refused with K5, which changed nothing, and obeyed once more behind a compaction
+-- a command that was refused with K5, which changed nothing, and obeyed once more behind a
+-- compaction
 pub once_more : (old full roomy : KernelParts) (done : Compacted) (command : Command) (first answer : Answer) (new : KernelParts)
     → full ≡ old → MayObey old command first full → says_history_full first ≡ true
     → Compacts full roomy full.held.mark done → MayObey roomy command answer new

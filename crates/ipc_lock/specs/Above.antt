@@ -1,5 +1,5 @@
--- What a caller above the lock is told: no contract there names the kernel that stands under the lock, so each says it of one that is of a
--- legal history.
+-- What a caller above the lock is told: no contract there names the kernel that stands under the
+-- lock, so each says it of one that is of a legal history.
 use Rattle.std.specs.Prelude.{◌≡◌, ◌⊎◌, ◌-◌, ◌++◌, ◌∷◌, [], ℕ, List, length, map, slice_get, Option, Some, None, MatchBool, false, true, if◌then◌else◌}
 use Rattle.ipc_connection.specs.Asking.{command_of, version_asked}
 use Rattle.ipc_connection.specs.declared.asking.Request.{Request}
@@ -33,8 +33,9 @@ pub record ActsSome {C : Type 0} (now : ℕ) (seat : Option (CallSeat C)) (comma
   pub acts : ActsOn upkeep after old new now seat command answer
   pub legal : Legal new.history
 
--- a reader's step was made: at this moment, by this seat, what this request asks for from this space, and it was told so, in the box of this
--- place; behind it something may have gone out of boxes
+-- a reader's step was made: at this moment, by this seat, what this request asks for from this
+-- space, and it was told so, in the box of this place; behind it something may have gone out of
+-- boxes
 pub record AsksSome {C : Type 0} (now place : ℕ) (seat : Option (CallSeat C)) (asked : Request) (space : ℕ) (said : Told) : Type 0 where
   pub upkeep : Upkeep
   pub after : Upkeep
@@ -74,7 +75,8 @@ pub record MarksSome (upto : ℕ) : Type 0 where
   pub new : KernelParts
   pub marks : new ≡ record old { held = marked_to upto old.held }
 
--- a connection got this number, which was never taken, and the box of this place, which was no connection's or is a further one, and is as new
+-- a connection got this number, which was never taken, and the box of this place, which was no
+-- connection's or is a further one, and is as new
 pub record ConnectsSome (place number : ℕ) : Type 0 where
   pub taken : List ℕ
   pub taken_now : List ℕ
@@ -87,8 +89,8 @@ pub record ConnectsSome (place number : ℕ) : Type 0 where
   pub counts : taken_now ≡ taken ++ number ∷ []
   pub connects : ConnectsAt free free_now boxes boxes_now place (new_box place number page)
 
--- the box of this place was given back, where it is that of the connection of this number: nothing is left in it, it is free, and no thread is
--- told there any more
+-- the box of this place was given back, where it is that of the connection of this number: nothing
+-- is left in it, it is free, and no thread is told there any more
 pub record ReleasesSome (place number : ℕ) : Type 0 where
   pub free : List ℕ
   pub free_now : List ℕ
@@ -102,8 +104,8 @@ pub record ReleasesSome (place number : ℕ) : Type 0 where
   pub frees : MatchBool (is_in number (slice_get boxes place)) (Frees free free_now place count room) (free_now ≡ free)
   pub disowns : owners_now ≡ (if is_in number (slice_get boxes place) then map (disowned place) owners else owners)
 
--- the box of this place, where it is that of the connection of this number, was shut, and the thread that was told there, if any, was broken at
--- this moment by one step
+-- the box of this place, where it is that of the connection of this number, was shut, and the
+-- thread that was told there, if any, was broken at this moment by one step
 pub record EndsSome (now place number : ℕ) : Type 0 where
   pub upkeep : Upkeep
   pub after : Upkeep
@@ -114,7 +116,8 @@ pub record EndsSome (now place number : ℕ) : Type 0 where
   pub ends : EndsAt upkeep after old new now (thread_for number (slice_get boxes place))
   pub shut : OnlyLoads (changed_at (shut_for number) boxes place) boxes_now
 
--- the pen of the connection of this number came out of the box of this place, with what is told next, or as it is, within a frame
+-- the pen of the connection of this number came out of the box of this place, with what is told
+-- next, or as it is, within a frame
 pub record TakesOutSome (place number : ℕ) (pen : Page) : Type 0 where
   pub old : KernelParts
   pub new : KernelParts
@@ -125,7 +128,8 @@ pub record TakesOutSome (place number : ℕ) (pen : Page) : Type 0 where
   pub is_its : is_of number box.number ≡ true
   pub comes : Loads old new box left pen ⊎ ((box.pen ≡ Some pen) × (left ≡ record box { pen = None }))
 
--- a pen was laid down in the box of its connection, if there is one, and came out again with what is told next, or did not
+-- a pen was laid down in the box of its connection, if there is one, and came out again with what
+-- is told next, or did not
 pub record LaysSome (pen : Page) : Type 0 where
   pub old : KernelParts
   pub new : KernelParts

@@ -1,4 +1,5 @@
--- What a step does to the kernel, and how it is answered. A step is a command of the kernel, and a seat where a thread calls.
+-- What a step does to the kernel, and how it is answered. A step is a command of the kernel, and a
+-- seat where a thread calls.
 use Rattle.std.specs.Prelude.{◌≡◌, ℕ, ◌+◌, ◌==◌, ◌&&◌, List, Option, Some, None, Bool, true, false, MatchBool, ⊤}
 use Rattle.ipc_words.specs.ThreadId.{number_of}
 use Rattle.ipc_core.specs.Effects.{Ticks}
@@ -60,7 +61,8 @@ abbrev pub is_seat_of : {C : Type 0} → List Entry → Option (CallSeat C) → 
 is_seat_of history None thread = false
 is_seat_of history (Some seat) thread = (seat.thread == thread) && (seat.made == made_by history thread)
 
--- a call and an ExchangeRegisters want their thread's seat, whose amount is the kernel's count; an outcome is taken by a take seat alone
+-- a call and an ExchangeRegisters want their thread's seat, whose amount is the kernel's count; an
+-- outcome is taken by a take seat alone
 abbrev pub has_right : {C : Type 0} → List Entry → Option (CallSeat C) → Command → Bool
 has_right history seat (Enter thread call) = is_seat_of history seat thread
 has_right history seat (Exreg thread target control) = is_seat_of history seat thread
@@ -70,8 +72,9 @@ has_right history seat (Broke thread) = true
 has_right history seat (At reading) = true
 has_right history seat Advance = true
 
--- what a step does after its clock reading: what the kernel may do and answer to the command, which is obeyed once more where K5 is the first
--- cause to refuse it, behind a compaction up to the mark; K6 where it has no right to it
+-- what a step does after its clock reading: what the kernel may do and answer to the command, which
+-- is obeyed once more where K5 is the first cause to refuse it, behind a compaction up to the mark;
+-- K6 where it has no right to it
 unfoldable pub StepDoes : {C : Type 0} → KernelParts → Option (CallSeat C) → Command → Answer → KernelParts → Type 0
 StepDoes old seat command answer new =
     MatchBool (has_right old.history seat command) (MayObeyAgain old.held.mark old command answer new)
@@ -98,7 +101,8 @@ pub record AsksOn {C : Type 0} (upkeep after : Upkeep) (old new : KernelParts) (
   pub acts : ActsOn upkeep after old new now seat command answer
   pub told_is : said ≡ told_of version new.moment answer
 
--- an answer to a step: of its kind and of its thread. The seat rises by an accepted call and stays else; an open makes one
+-- an answer to a step: of its kind and of its thread. The seat rises by an accepted call and stays
+-- else; an open makes one
 unfoldable pub AnswersStep : {C : Type 0} → Option (CallSeat C) → Command → Answer → Option (CallSeat C) → Type 0
 AnswersStep seat (Open number space) (Opened thread) after = Sits after thread × (number_of thread ≡ number)
 AnswersStep seat (Enter thread call) (Entered number) after = RisesFor thread seat after
@@ -124,7 +128,8 @@ abbrev pub HandsBack : Command → Answer → Option CallParts → Type 0
 HandsBack (Enter thread call) (Refused refusal) back = back ≡ Some call
 HandsBack command answer back = ⊤
 
--- a reader's request, what it was told, and the seat of its end: of the request's kind, and by the seat of its own thread
+-- a reader's request, what it was told, and the seat of its end: of the request's kind, and by the
+-- seat of its own thread
 unfoldable pub Asked : {C : Type 0} → Told → Request → Option (CallSeat C) → Option (CallSeat C) → Type 0
 Asked (told.Refused refusal) asked seat after = SitsStill seat after
 Asked (told.Opened thread named) (request.Open number version) seat after =

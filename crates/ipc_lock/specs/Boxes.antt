@@ -29,8 +29,9 @@ abbrev pub seat_parts : {T : Type 0} → Option (TakeSeat T) → Option TakePart
 seat_parts None = None
 seat_parts (Some seat) = Some (take_parts seat)
 
--- what contracts see of a box: its place, the number of its connection if it has one, the version in which its client is answered, what was
--- posted, whether it is shut, the seat of its thread's outcomes, and its pen where that lies there
+-- what contracts see of a box: its place, the number of its connection if it has one, the version
+-- in which its client is answered, what was posted, whether it is shut, the seat of its thread's
+-- outcomes, and its pen where that lies there
 pub record BoxParts : Type 0 where
   pub place : ℕ
   pub number : Option ℕ
@@ -78,12 +79,14 @@ abbrev pub risen : Option TakeParts → Option TakeParts
 risen None = None
 risen (Some seat) = Some (record seat { taken = seat.taken + 1 })
 
--- a box that told this: an outcome raises its seat, and anything else was posted, which is gone then
+-- a box that told this: an outcome raises its seat, and anything else was posted, which is gone
+-- then
 abbrev pub told_box : BoxParts → Option Given → BoxParts
 told_box box (Some (given.Outcome version outcome)) = record box { seat = risen box.seat }
 told_box box next = record box { posted = None }
 
--- an outcome goes first: it is that of the last call of the seat's thread, and where anything else comes there was none to take
+-- an outcome goes first: it is that of the last call of the seat's thread, and where anything else
+-- comes there was none to take
 abbrev pub LooksFirst : KernelParts → KernelParts → Option TakeParts → Option Given → Type 0
 LooksFirst old new None (Some (given.Outcome version outcome)) = ⊥
 LooksFirst old new None next = new ≡ old
@@ -139,7 +142,8 @@ pub record HasNothing (old new : KernelParts) (box : BoxParts) : Type 0 where
   pub first : LooksFirst old new box.seat None
   pub out : frame_posted box.version box.posted ≡ None
 
--- no pen comes out: it is out or not at its end, and nothing changed; or there is nothing to tell, and nothing is left in the box
+-- no pen comes out: it is out or not at its end, and nothing changed; or there is nothing to tell,
+-- and nothing is left in the box
 abbrev pub TellsNothing : KernelParts → KernelParts → BoxParts → BoxParts → Type 0
 TellsNothing old new box after =
     MatchBool (is_idle box.pen) (HasNothing old new box × (after ≡ record box { posted = None })) ((new ≡ old) × (after ≡ box))
@@ -149,14 +153,16 @@ abbrev pub LooksInto : KernelParts → KernelParts → BoxParts → BoxParts →
 LooksInto old new box after None = TellsNothing old new box after
 LooksInto old new box after (Some pen) = Loads old new box after pen
 
--- a writer whose pen is at its end takes it out with what is told next; where nothing is, it ends if the box is shut, and the pen goes
+-- a writer whose pen is at its end takes it out with what is told next; where nothing is, it ends
+-- if the box is shut, and the pen goes
 abbrev pub Begins : {P : Type 0} → KernelParts → KernelParts → BoxParts → BoxParts → Option (Work P) → Type 0
 Begins old new box after None = (box.shut ≡ false) × TellsNothing old new box after
 Begins old new box after (Some (work.Write pen)) = Loads old new box after pen
 Begins old new box after (Some work.Over) =
     (box.shut ≡ true) × ((left : BoxParts) × TellsNothing old new box left × (after ≡ record left { pen = None }))
 
--- a writer whose pen is not at its end takes it out as it is; where another has the pen nothing changes
+-- a writer whose pen is not at its end takes it out as it is; where another has the pen nothing
+-- changes
 abbrev pub WritesOn : {P : Type 0} → BoxParts → BoxParts → Option (Work P) → Type 0
 WritesOn box after None = (box.pen ≡ None) × (after ≡ box)
 WritesOn box after (Some (work.Write pen)) = (box.pen ≡ Some pen) × (after ≡ record box { pen = None })
@@ -166,7 +172,8 @@ WritesOn box after (Some work.Over) = ⊥
 abbrev pub EndsWork : {P : Type 0} → BoxParts → BoxParts → Option (Work P) → Type 0
 EndsWork box after next = (next ≡ Some work.Over) × (after ≡ record box { pen = None })
 
--- what a box's writer does: it ends where the device has failed, goes on with a frame that is not at its end, and else begins with what is next
+-- what a box's writer does: it ends where the device has failed, goes on with a frame that is not
+-- at its end, and else begins with what is next
 abbrev pub Works : {P : Type 0} → KernelParts → KernelParts → BoxParts → BoxParts → Option (Work P) → Type 0
 Works old new box after next =
     MatchBool (has_failed box.pen) ((new ≡ old) × EndsWork box after next)

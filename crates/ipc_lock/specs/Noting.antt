@@ -25,12 +25,13 @@ is_ended _ = false
 abbrev pub has_begun : List Entry → Bool
 has_begun entries = nat_lt (count_by is_ended entries) (count_by is_began entries)
 
--- the same of the entries from a place on; also where memory holds some of them no more, so that nothing is known of those
+-- the same of the entries from a place on; also where memory holds some of them no more, so that
+-- nothing is known of those
 abbrev pub has_begun_since : KernelParts → ℕ → Bool
 has_begun_since kernel before = nat_lt before kernel.held.whole_from || has_begun (drop before kernel.history)
 
--- the threads whose calls the last command finished, each once, came behind those that were there, where a list with so much room has room
--- for them
+-- the threads whose calls the last command finished, each once, came behind those that were there,
+-- where a list with so much room has room for them
 pub record Notes (kernel : KernelParts) (before after : List ℕ) (room : ℕ) : Type 0 where
   pub threads : List ℕ
   pub finished : (thread : ℕ) → is_among thread threads ≡ is_finished kernel thread
@@ -45,7 +46,8 @@ pub record NotesStep (old new : KernelParts) (now : ℕ) (before after : List �
   pub ticked : Notes between before middle room
   pub obeyed : Notes new middle after room
 
--- the same of a step, before which memory lets go of entries where that is due, in a list that was empty
+-- the same of a step, before which memory lets go of entries where that is due, in a list that was
+-- empty
 pub record NotesOn (upkeep after : Upkeep) (old new : KernelParts) (now : ℕ) (command : Command) (finished : List ℕ) (room : ℕ) : Type 0 where
   pub before : KernelParts
   pub lets_go : LetsGo (noted command upkeep) after old before

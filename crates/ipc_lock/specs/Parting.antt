@@ -1,4 +1,5 @@
--- A part of a trace that begins where the history ends: what stands beside it, and who has the entries before it.
+-- A part of a trace that begins where the history ends: what stands beside it, and who has the
+-- entries before it.
 use Rattle.std.specs.Prelude.{◌≡◌, ℕ, List, IfSome, drop, length}
 use Rattle.ipc_history.specs.Holding.{marked_to}
 use Rattle.ipc_history.specs.Legal.{Legal}

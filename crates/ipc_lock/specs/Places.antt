@@ -1,4 +1,5 @@
--- What becomes of the boxes under the lock: in which box something is told, and that all others are as they were.
+-- What becomes of the boxes under the lock: in which box something is told, and that all others are
+-- as they were.
 use Rattle.std.specs.Prelude.{◌≡◌, ◌==◌, ◌++◌, ◌⊎◌, ℕ, List, [], ◌∷◌, length, Option, Some, None, Bool, MatchBool, true, false, is_some, map, ◌≤◌, not, if◌then◌else◌, slice_get, slice_set, ⊤}
 use Rattle.ipc_words.specs.ThreadId.{number_of}
 use Rattle.ipc_core.specs.KernelParts.{KernelParts}
@@ -18,8 +19,8 @@ use Rattle.ipc_lock.specs.declared.post_box.Work.{Work}
 use Rattle.ipc_lock.specs.declared.post_box.Work.TheVariants as work
 use Rattle.ipc_lock.specs.declared.upkeep.Upkeep.{Upkeep}
 
--- the boxes, once what the kernel accepted was told in that of a place: that a thread was opened, with the seat of its outcomes, or what
--- ExchangeRegisters answers. All others are as they were
+-- the boxes, once what the kernel accepted was told in that of a place: that a thread was opened,
+-- with the seat of its outcomes, or what ExchangeRegisters answers. All others are as they were
 abbrev pub told_in : Told → Option TakeParts → List BoxParts → ℕ → List BoxParts
 told_in (told.Opened thread version) (Some seat) boxes place = changed_at (welcomed seat version) boxes place
 told_in (told.Exchanged result stopped code moment) seat boxes place = changed_at (posted_to (told.Exchanged result stopped code moment)) boxes place
@@ -68,12 +69,14 @@ abbrev pub owner_in : Option (Option ℕ) → Option ℕ
 owner_in None = None
 owner_in (Some owner) = owner
 
--- the thread whose outcomes are told in a box, where that is the box of the connection of this number
+-- the thread whose outcomes are told in a box, where that is the box of the connection of this
+-- number
 abbrev pub thread_for : ℕ → Option BoxParts → Option ℕ
 thread_for number None = None
 thread_for number (Some box) = if is_of number box.number then thread_of box else None
 
--- the box of a place was looked into: its pen came out with what is told next, or none did, and all other boxes are as they were
+-- the box of a place was looked into: its pen came out with what is told next, or none did, and all
+-- other boxes are as they were
 pub record LooksAt (old new : KernelParts) (boxes after : List BoxParts) (place : ℕ) (box : BoxParts) (out : Option Page) : Type 0 where
   pub left : BoxParts
   pub looks : LooksInto old new box left out
@@ -84,7 +87,8 @@ pub record StaysAll (old new : KernelParts) (boxes after : List BoxParts) : Type
   pub no_step : new ≡ old
   pub no_change : after ≡ boxes
 
--- nothing changed of a box that is not told of: its place, its number, its version, whether it is shut, and whose outcomes are told there
+-- nothing changed of a box that is not told of: its place, its number, its version, whether it is
+-- shut, and whose outcomes are told there
 pub record SameBox (box after : BoxParts) : Type 0 where
   pub place : after.place ≡ box.place
   pub number : after.number ≡ box.number
@@ -117,7 +121,8 @@ abbrev pub entered_of : Option Page → ℕ → Entered
 entered_of None own = Open
 entered_of (Some pen) own = if pen.place == own then Over else Open
 
--- a pen of the box of a place came out, as a further errand, or none did; where errands are full, and where there is no box, all stays
+-- a pen of the box of a place came out, as a further errand, or none did; where errands are full,
+-- and where there is no box, all stays
 abbrev pub LoadsAt : {P : Type 0} → KernelParts → KernelParts → List BoxParts → List BoxParts → ℕ → Option BoxParts → Errands P → Errands P → Type 0
 LoadsAt old new boxes after place None errands errands_now = StaysAll old new boxes after × (errands_now ≡ errands)
 LoadsAt old new boxes after place (Some box) errands errands_now =
@@ -132,7 +137,8 @@ abbrev pub place_at : List (Option ℕ) → Option ℕ → Option ℕ
 place_at owners None = None
 place_at owners (Some thread) = place_of owners thread
 
--- the boxes that are looked into behind a step, in this order: that of who made it, and those of the threads whose calls it finished
+-- the boxes that are looked into behind a step, in this order: that of who made it, and those of
+-- the threads whose calls it finished
 abbrev pub places_told : Option ℕ → List (Option ℕ) → List ℕ → List (Option ℕ)
 places_told own owners finished = own ∷ map (place_of owners) finished
 
@@ -148,8 +154,8 @@ LoadsRow {P} (place ∷ places) old new boxes after errands errands_now =
     (kernel : KernelParts) × (between : List BoxParts) × (next : Errands P)
     × LoadsOne place old kernel boxes between errands next × LoadsRow places kernel new between after next errands_now
 
--- a pen was laid down in the box of its connection, and came out again with what is told next; where that has no box any more it is gone, and
--- all stays
+-- a pen was laid down in the box of its connection, and came out again with what is told next;
+-- where that has no box any more it is gone, and all stays
 abbrev pub LaysAt : KernelParts → KernelParts → List BoxParts → List BoxParts → Page → Option BoxParts → Option Page → Type 0
 LaysAt old new boxes after pen None again = StaysAll old new boxes after × (again ≡ None)
 LaysAt old new boxes after pen (Some box) again =
@@ -171,8 +177,8 @@ pub record TakesBack {P : Type 0} (old new : KernelParts) (boxes after : List Bo
   pub second : LooksAgain kernel_first kernel_second boxes_first boxes_second errands.second errands_now.second
   pub third : LooksAgain kernel_second new boxes_second after errands.third errands_now.third
 
--- what the writer of the connection of a number does, whose box is that of a place, while all other boxes are as they were; where that has no
--- such box any more it ends
+-- what the writer of the connection of a number does, whose box is that of a place, while all other
+-- boxes are as they were; where that has no such box any more it ends
 abbrev pub WorksFor : {P : Type 0} → KernelParts → KernelParts → List BoxParts → List BoxParts → ℕ → ℕ → Option BoxParts → Option (Work P) → Type 0
 WorksFor old new boxes after place number None next = StaysAll old new boxes after × (next ≡ Some work.Over)
 WorksFor old new boxes after place number (Some box) next =
@@ -180,8 +186,8 @@ WorksFor old new boxes after place number (Some box) next =
     ((left : BoxParts) × Works old new box left next × (after ≡ slice_set boxes place left))
     (StaysAll old new boxes after × (next ≡ Some work.Over))
 
--- a connection's end: memory lets go of entries where that is due, the clock is read, and the thread is broken; behind that outcomes are taken
--- for those whom it concerns
+-- a connection's end: memory lets go of entries where that is due, the clock is read, and the
+-- thread is broken; behind that outcomes are taken for those whom it concerns
 pub record Ends (upkeep after : Upkeep) (old new : KernelParts) (now thread : ℕ) : Type 0 where
   pub before : KernelParts
   pub ticked : KernelParts
@@ -197,7 +203,8 @@ abbrev pub EndsAt : Upkeep → Upkeep → KernelParts → KernelParts → ℕ �
 EndsAt upkeep after old new now None = (new ≡ old) × (after ≡ upkeep)
 EndsAt upkeep after old new now (Some thread) = Ends upkeep after old new now thread
 
--- a connection's box: one that was given back last and is no connection's, and that is free no more, or a further one
+-- a connection's box: one that was given back last and is no connection's, and that is free no
+-- more, or a further one
 abbrev pub ConnectsAt : List ℕ → List ℕ → List BoxParts → List BoxParts → ℕ → BoxParts → Type 0
 ConnectsAt free free_now boxes after place box =
     ((free ≡ free_now ++ place ∷ []) × (is_free_in (slice_get boxes place) ≡ true) × (after ≡ slice_set boxes place box))

@@ -18,12 +18,14 @@ use Rattle.ipc_core.specs.declared.refusal.Refusal.TheVariants.{NoThread}
 abbrev pub SeatRefuses : ℕ → ℕ → Option Refusal → Refusal → Type 0
 SeatRefuses amount count cause refusal = MatchBool (amount == count) (MayRefuse cause refusal) (refusal ≡ NoThread)
 
--- K6 where the seat's amount is not the kernel's count for its thread; else what the kernel may do and answer to the command
+-- K6 where the seat's amount is not the kernel's count for its thread; else what the kernel may do
+-- and answer to the command
 abbrev pub SeatObeys : ℕ → ℕ → KernelParts → Command → Answer → KernelParts → Type 0
 SeatObeys amount count old command answer new =
     MatchBool (amount == count) (MayObey old command answer new) ((answer ≡ Refused NoThread) × (new ≡ old))
 
--- the same where the command is obeyed once more, behind a compaction up to the mark, when K5 is the first cause to refuse it
+-- the same where the command is obeyed once more, behind a compaction up to the mark, when K5 is
+-- the first cause to refuse it
 abbrev pub SeatObeysAgain : ℕ → ℕ → KernelParts → Command → Answer → KernelParts → Type 0
 SeatObeysAgain amount count old command answer new =
     MatchBool (amount == count) (MayObeyAgain old.held.mark old command answer new)
@@ -43,6 +45,7 @@ pub record SeatObeysRoomy (amount thread : ℕ) (old : KernelParts) (command : C
   pub compacts : Compacts old roomy old.held.mark done
   pub obeys : SeatObeys amount (made_by roomy.history thread) roomy command answer new
 
--- nothing is taken: the amount is not the kernel's count, and nothing changed; or there is nothing to take
+-- nothing is taken: the amount is not the kernel's count, and nothing changed; or there is nothing
+-- to take
 abbrev pub TakesNothing : KernelParts → KernelParts → ℕ → ℕ → Type 0
 TakesNothing old new thread amount = MatchBool (amount == taken_by old thread) (Gives old new thread None) (new ≡ old)

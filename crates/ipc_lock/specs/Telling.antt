@@ -1,4 +1,5 @@
--- A step under the lock with what it tells: behind it the boxes are looked into of those whom it concerns.
+-- A step under the lock with what it tells: behind it the boxes are looked into of those whom it
+-- concerns.
 use Rattle.std.specs.Prelude.{ℕ, List, Option, Some, None}
 use Rattle.ipc_connection.specs.Asking.{command_of, version_asked}
 use Rattle.ipc_connection.specs.declared.asking.Request.{Request}
@@ -28,7 +29,8 @@ pub record ActsAndTells {C P : Type 0} (upkeep after : Upkeep) (old new : Kernel
   pub tells : LoadsRow (places_told None owners finished) stepped new boxes boxes_now errands errands_now
   pub only : OnlyTakes stepped new
 
--- a reader's step was made, and told in its box; that box was looked into first, and then those of the threads whose calls it finished
+-- a reader's step was made, and told in its box; that box was looked into first, and then those of
+-- the threads whose calls it finished
 pub record AsksAndTells {C P : Type 0} (upkeep after : Upkeep) (old new : KernelParts) (now : ℕ) (seat : Option (CallSeat C)) (asked : Request) (space : ℕ)
     (said : Told) (owners : List (Option ℕ)) (place : ℕ) (boxes boxes_now : List BoxParts) (errands errands_now : Errands P) : Type 0 where
   pub stepped : KernelParts

@@ -9,8 +9,8 @@ use std::alloc::{AllocError, Global};
 /// The most entries of a group: so many are copied under the lock at once.
 const MOST_OF_A_GROUP: usize = 256;
 
-/// Copies of the first of these entries, as many as one group has: all of them, and at most [`MOST_OF_A_GROUP`]. A string that came in a frame is
-/// not copied, but gets one owner more.
+/// Copies of the first of these entries, as many as one group has: all of them, and at most
+/// [`MOST_OF_A_GROUP`]. A string that came in a frame is not copied, but gets one owner more.
 pub(crate) fn copy_group(alloc: Global, rest: &[Entry]) -> Result<Vec<Entry>, AllocError>
     ensures { IfOk result (λ group. IsGroupAt rest.now 0 group.items) }
 {

@@ -1,9 +1,10 @@
-//! The two ends of a connection's box. Neither has a copy, so no worker reaches the box of another connection.
+//! The two ends of a connection's box. Neither has a copy, so no worker reaches the box of another
+//! connection.
 use crate::seated::CallSeat;
 use std::sync::ledger::Ledger;
 
-/// The end of a connection's reader: the box that it posts to, the connection's number, the space that it opens its thread in, and the seat by which that thread
-/// calls, once it was opened.
+/// The end of a connection's reader: the box that it posts to, the connection's number, the space
+/// that it opens its thread in, and the seat by which that thread calls, once it was opened.
 #[derive(Drop)]
 pub struct PostEnd<C: Ledger> {
     pub(crate) place: usize,

@@ -6,15 +6,16 @@ use crate::entered::Entered;
 use crate::post_box::Loaded;
 use ipc_pen::{Patience, PenPort};
 
-/// The pens with which a thread writes what its step told, its own connection's first. At most three: the writers of the others are
-/// woken.
+/// The pens with which a thread writes what its step told, its own connection's first. At most
+/// three: the writers of the others are woken.
 pub(crate) struct Errands<P: PenPort + Drop> {
     pub(crate) first: Option<Loaded<P>>,
     pub(crate) second: Option<Loaded<P>>,
     pub(crate) third: Option<Loaded<P>>,
 }
 
-// Written out, and not derived, so that a function in which errands end calls this, and does not take three pens apart.
+// Written out, and not derived, so that a function in which errands end calls this, and does not
+// take three pens apart.
 impl<P: PenPort + Drop> Drop for Errands<P> {
     fn drop(self) {
         let Errands {

@@ -42,8 +42,8 @@ pub(crate) struct After {
     pub(crate) begun: bool,
 }
 
-/// The kernel with its books, the boxes, which of them are free, for each thread number the box where its outcomes are told, and the
-/// numbers of connections.
+/// The kernel with its books, the boxes, which of them are free, for each thread number the box
+/// where its outcomes are told, and the numbers of connections.
 #[derive(Drop)]
 pub(crate) struct Inside<C: Ledger, T: Ledger, P: PenPort + Drop> {
     locked: Locked<C, T>,

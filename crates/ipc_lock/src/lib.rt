@@ -1,4 +1,5 @@
-//! The kernel under a lock: seats that tie callers to its one history, and for each connection a box, whose pen is handed from thread to thread.
+//! The kernel under a lock: seats that tie callers to its one history, and for each connection a
+//! box, whose pen is handed from thread to thread.
 #![tactic(auto)]
 
 mod copying;

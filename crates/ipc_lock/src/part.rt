@@ -1,7 +1,8 @@
 use ipc_compact::Base;
 use ipc_history::Entry;
 
-/// What stands beside a history once memory has let go of all that need not be kept: its base, and the entries that are kept.
+/// What stands beside a history once memory has let go of all that need not be kept: its base, and
+/// the entries that are kept.
 #[derive(Drop)]
 pub struct HeldPart {
     base: Base,
@@ -34,7 +35,8 @@ impl HeldPart {
     }
 }
 
-/// The entries that a reader of the history has not read, and the part that begins behind them. None where there was no memory for it.
+/// The entries that a reader of the history has not read, and the part that begins behind them.
+/// None where there was no memory for it.
 #[derive(Drop)]
 pub struct Behind {
     rest: Vec<Entry>,

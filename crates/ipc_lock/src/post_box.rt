@@ -22,17 +22,20 @@ use std::sync::{Arc, Condvar};
 pub(crate) enum Work<P: PenPort + Drop> {
     /// It writes with the pen.
     Write(Loaded<P>),
-    /// Nothing more is written: the box is shut and empty, or the device has failed. The pen is gone.
+    /// Nothing more is written: the box is shut and empty, or the device has failed. The pen is
+    /// gone.
     Over,
 }
 
-/// The box of one connection, or of none once it was given back: an answer that its reader left, the seat of its thread's outcomes, and the pen where nobody has it.
+/// The box of one connection, or of none once it was given back: an answer that its reader left,
+/// the seat of its thread's outcomes, and the pen where nobody has it.
 #[derive(Drop)]
 pub(crate) struct PostBox<T: Ledger, P: PenPort + Drop> {
     place: usize,
     // that of its connection, which no other connection has
     number: Option<u64>,
-    // the version in which its client is answered; until a HELLO is accepted all answers are the same in each
+    // the version in which its client is answered; until a HELLO is accepted all answers are the
+    // same in each
     version: WireVersion,
     posted: Option<Told>,
     shut: bool,
@@ -69,7 +72,8 @@ fn two_bells(alloc: Global) -> Result<(Arc<Condvar>, Arc<Condvar>), AllocError> 
 }
 
 impl<T: Ledger, P: PenPort + Drop> PostBox<T, P> {
-    /// An empty box of this place for the connection of this number, in which the pen of its port lies.
+    /// An empty box of this place for the connection of this number, in which the pen of its port
+    /// lies.
     pub(crate) fn new(alloc: Global, port: P, place: usize, number: u64) -> Result<Self, AllocError>
         requires { BeginsEmpty (P.written port) }
         ensures { IfOk result (λ b. b
@@ -104,7 +108,8 @@ impl<T: Ledger, P: PenPort + Drop> PostBox<T, P> {
         drop(self.pen.replace(pen));
     }
 
-    /// Lets go of what the connection of this number leaves behind. The box of another one stays as it is.
+    /// Lets go of what the connection of this number leaves behind. The box of another one stays as
+    /// it is.
     pub(crate) fn give_back(&mut self, number: u64)
         ensures { self.new ≡ gives_back number self.old }
     {
@@ -138,7 +143,8 @@ impl<T: Ledger, P: PenPort + Drop> PostBox<T, P> {
         Ok(())
     }
 
-    /// Leaves that a seat's thread was opened, and keeps the seat. From here on the client is answered in this version.
+    /// Leaves that a seat's thread was opened, and keeps the seat. From here on the client is
+    /// answered in this version.
     pub(crate) fn welcome(&mut self, seat: TakeSeat<T>, version: WireVersion)
         ensures { self.new ≡ welcomed (take_parts seat) version self.old }
     {
@@ -147,7 +153,8 @@ impl<T: Ledger, P: PenPort + Drop> PostBox<T, P> {
         drop(self.seat.replace(seat));
     }
 
-    /// Nothing more can be posted, where it is the box of the connection of this number. What is in it can still be taken.
+    /// Nothing more can be posted, where it is the box of the connection of this number. What is in
+    /// it can still be taken.
     pub(crate) fn shut_for(&mut self, number: u64)
         ensures { self.new ≡ shut_for number self.old }
     {
@@ -241,7 +248,8 @@ impl<T: Ledger, P: PenPort + Drop> PostBox<T, P> {
         }
     }
 
-    /// Takes the pen out with what the client is told next. None where the pen is out or not at its end, or nothing is there.
+    /// Takes the pen out with what the client is told next. None where the pen is out or not at its
+    /// end, or nothing is there.
     #[tactic(auto, unfolding(crate::specs::Boxes::is_pen_of), using(crate::proofs::Moves::only_none))]
     pub(crate) fn load<C: Ledger>(&mut self, locked: &mut Locked<C, T>) -> Option<Loaded<P>>
         ensures looks { LooksInto locked.old.kernel locked.new.kernel self.old self.new result }
@@ -257,8 +265,8 @@ impl<T: Ledger, P: PenPort + Drop> PostBox<T, P> {
         Some(Loaded::of(pen))
     }
 
-    /// Lays the pen of the box's connection down, and takes it out again where something came meanwhile. That of another connection goes,
-    /// and all stays.
+    /// Lays the pen of the box's connection down, and takes it out again where something came
+    /// meanwhile. That of another connection goes, and all stays.
     #[tactic(auto, using(crate::proofs::Moves::only_none))]
     pub(crate) fn look_again<C: Ledger>(
         &mut self,
@@ -281,8 +289,8 @@ impl<T: Ledger, P: PenPort + Drop> PostBox<T, P> {
         }
     }
 
-    /// What the writer does next: it goes on with a frame that is not at its end, or takes the pen out with what is next. None while
-    /// there is nothing to do, or another thread has the pen.
+    /// What the writer does next: it goes on with a frame that is not at its end, or takes the pen
+    /// out with what is next. None while there is nothing to do, or another thread has the pen.
     #[tactic(auto, using(crate::proofs::Moves::only_none))]
     pub(crate) fn work<C: Ledger>(&mut self, locked: &mut Locked<C, T>) -> Option<Work<P>>
         ensures works { Works locked.old.kernel locked.new.kernel self.old self.new result }
@@ -297,7 +305,8 @@ impl<T: Ledger, P: PenPort + Drop> PostBox<T, P> {
         }
     }
 
-    /// What the writer does with a pen that is at its end: it takes the pen out with what is next, and ends where nothing comes any more.
+    /// What the writer does with a pen that is at its end: it takes the pen out with what is next,
+    /// and ends where nothing comes any more.
     fn begin<C: Ledger>(&mut self, locked: &mut Locked<C, T>) -> Option<Work<P>>
         ensures begins { Begins locked.old.kernel locked.new.kernel self.old self.new result }
         ensures only { OnlyTakes locked.old.kernel locked.new.kernel }
@@ -335,8 +344,8 @@ impl<T: Ledger, P: PenPort + Drop> PostBox<T, P> {
         Some(Work::Over)
     }
 
-    /// Lays the pen of the box's connection down; that of another one is handed back. Its writer is woken where a frame is not at its end, where the
-    /// device failed, and where the box is shut.
+    /// Lays the pen of the box's connection down; that of another one is handed back. Its writer is
+    /// woken where a frame is not at its end, where the device failed, and where the box is shut.
     #[tactic(auto, unfolding(crate::specs::Boxes::is_pen_of))]
     pub(crate) fn lay(&mut self, pen: Loaded<P>) -> Option<Loaded<P>>
         ensures laid { IfNone result ((is_pen_of pen self.old ≡ true)

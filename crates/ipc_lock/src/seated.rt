@@ -1,4 +1,5 @@
-//! What the lock keeps, and the calls that change it. Nobody else makes an [`Answered`] or a [`Taken`].
+//! What the lock keeps, and the calls that change it. Nobody else makes an [`Answered`] or a
+//! [`Taken`].
 ghost use Rattle.std.specs.Prelude.{◌≡◌, ◌+◌, ◌≤◌, ◌^◌, false, length, min};
 ghost use Rattle.std.specs.Prelude.{IfOk, IfErr, OnOk, OnErr};
 ghost use Rattle.ipc_history.specs.Calls.{calls_made};
@@ -28,7 +29,8 @@ use std::sync::ledger::{Blank, Book, Ledger, Share};
 
 /// A kernel, and two ledgers: of the calls that were entered, and of the outcomes that were taken.
 ///
-/// Each book counts what the kernel counts. A book moves only with a seat's share, so an older kernel cannot be put back.
+/// Each book counts what the kernel counts. A book moves only with a seat's share, so an older
+/// kernel cannot be put back.
 #[derive(Drop)]
 pub struct Locked<C: Ledger, T: Ledger> {
     kernel: Kernel,
@@ -44,7 +46,8 @@ pub struct Locked<C: Ledger, T: Ledger> {
     pub ghost no_takes_left: { takes_left.amount ≡ 0 },
 }
 
-/// An outcome that was taken: of which thread, and the how manieth it is. Only `take_seated` makes one.
+/// An outcome that was taken: of which thread, and the how manieth it is. Only `take_seated` makes
+/// one.
 #[derive(Drop)]
 pub struct Taken<T: Ledger> {
     thread: ThreadId,

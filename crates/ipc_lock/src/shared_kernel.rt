@@ -1,4 +1,5 @@
-//! The kernel and the boxes under one lock. Here it is only taken; what is done under it stands in its own files.
+//! The kernel and the boxes under one lock. Here it is only taken; what is done under it stands in
+//! its own files.
 ghost use Rattle.std.specs.Prelude.{◌≡◌, ◌^◌, IfSome, IfNone, IfErr, ◌+◌};
 ghost use Rattle.ipc_lock.specs.Above.{ActsSome, GivesSome};
 ghost use Rattle.ipc_lock.specs.Acting.{AnswersStep, GivesSeat, HandsBack};
@@ -18,7 +19,8 @@ use std::alloc::Global;
 use std::sync::ledger::{Blank, Ledger};
 use std::sync::{Condvar, Mutex, Wait};
 
-/// One kernel for all workers of a server, and a box for each connection, which has a pen of the port `P`.
+/// One kernel for all workers of a server, and a box for each connection, which has a pen of the
+/// port `P`.
 #[derive(Drop)]
 pub struct SharedKernel<C: Ledger, T: Ledger, P: PenPort + Drop> {
     inside: Mutex<Inside<C, T, P>>,
@@ -30,7 +32,8 @@ pub struct SharedKernel<C: Ledger, T: Ledger, P: PenPort + Drop> {
 }
 
 impl<C: Ledger, T: Ledger, P: PenPort + Drop> SharedKernel<C, T, P> {
-    /// An empty kernel without boxes, whose entries are all held until [`SharedKernel::mark`] is called. The only refusal is K4.
+    /// An empty kernel without boxes, whose entries are all held until [`SharedKernel::mark`] is
+    /// called. The only refusal is K4.
     pub fn new(alloc: Global, limits: Limits, calls: Blank, takes: Blank) -> Result<Self, Refusal>
         requires calls_name { calls.name ≡ C.name }
         requires calls_parts { calls.parts ≡ C.parts }
@@ -51,8 +54,8 @@ impl<C: Ledger, T: Ledger, P: PenPort + Drop> SharedKernel<C, T, P> {
         })
     }
 
-    /// Takes the lock, makes one step, and writes what it told to whom it concerns. A step is a command of the kernel at a moment, in
-    /// microseconds, by a seat where a thread calls.
+    /// Takes the lock, makes one step, and writes what it told to whom it concerns. A step is a
+    /// command of the kernel at a moment, in microseconds, by a seat where a thread calls.
     pub fn submit<R: Wait>(
         &self,
         rt: &R,
@@ -131,7 +134,8 @@ impl<C: Ledger, T: Ledger, P: PenPort + Drop> SharedKernel<C, T, P> {
         self.carry(rt, errands);
     }
 
-    /// Writes with pens, each as far as its device has room now, and lays them down; what came meanwhile is written, too.
+    /// Writes with pens, each as far as its device has room now, and lays them down; what came
+    /// meanwhile is written, too.
     fn carry<R: Wait>(&self, rt: &R, errands: &mut Errands<P>) {
         for _ in rt.forever() {
             if errands.is_empty() {

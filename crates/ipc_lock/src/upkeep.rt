@@ -11,12 +11,13 @@ const FEW_ENTRIES: usize = 4_096;
 /// So many bytes of strings come before any entry is let go, where the entries are few.
 const FEW_BYTES: usize = 4 * BLOCK_BYTES as usize;
 
-/// Four entries for each block that each thread may send: what the greatest number of threads may have pledged, and a step may need,
-/// with room to spare. A law says so.
+/// Four entries for each block that each thread may send: what the greatest number of threads may
+/// have pledged, and a step may need, with room to spare. A law says so.
 const NEAR_THE_LIMIT: usize = 4 * TABLE_SLOTS * (MAX_STRING_BYTES / BLOCK_BYTES as usize);
 
-/// When entries are let go: where as many are held as were left the last time, and as many again; where four blocks of strings came since;
-/// or near the limit, where many more may be let go than before.
+/// When entries are let go: where as many are held as were left the last time, and as many again;
+/// where four blocks of strings came since; or near the limit, where many more may be let go than
+/// before.
 #[derive(Drop)]
 pub(crate) struct Upkeep {
     // the mark of the last time
@@ -51,7 +52,8 @@ impl Upkeep {
         }
     }
 
-    /// Whether entries are to be let go now, where so many are held, and the history is marked up to a place.
+    /// Whether entries are to be let go now, where so many are held, and the history is marked up
+    /// to a place.
     pub(crate) fn is_due(&self, held: usize, marked: usize) -> bool
         ensures { result ≡ is_due self.now held marked }
     {
@@ -59,7 +61,8 @@ impl Upkeep {
         held >= self.next || self.bytes >= FEW_BYTES || held >= self.near && more >= FEW_ENTRIES
     }
 
-    /// Begins anew, where so many entries were left, and those before a place had their chance to go.
+    /// Begins anew, where so many entries were left, and those before a place had their chance to
+    /// go.
     pub(crate) fn restart(&mut self, left: usize, reached: usize)
         ensures { self.new ≡ restarted left reached self.old }
     {

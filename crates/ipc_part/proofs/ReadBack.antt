@@ -36,7 +36,8 @@ reads_append now mid later (read ∷ lines) more first second =
 abbrev with_lists : Base → List ℕ → List ℕ → Base
 with_lists base versions dropped = record base { versions = versions; dropped = dropped }
 
--- the lines of thread numbers were read: what is filled up to a place is what was filled, and those numbers
+-- the lines of thread numbers were read: what is filled up to a place is what was filled, and those
+-- numbers
 record NumbersRead (base : Base) (vs ds : List ℕ) (place : ℕ) (more_vs more_ds : List ℕ) : Type 0 where
   versions : List ℕ
   dropped : List ℕ

@@ -1,4 +1,5 @@
--- The texts of lines: none is that of a line of another kind which may stand in its place, and none is too long.
+-- The texts of lines: none is that of a line of another kind which may stand in its place, and none
+-- is too long.
 use Rattle.std.proofs.Common.{◌≡◌, Option, Some, ℕ, ◌≤◌, List, ◌∷◌, ◌++◌, codes, length, get_or, ap, arith, length-append}
 use Rattle.std.specs.Fmt.{decimal}
 use Rattle.ipc_words.specs.Limits.{max_line_bytes}

@@ -1,4 +1,5 @@
--- Our choice (docs/FORMATS.md): the lines of a part of a trace, where each may stand, and their texts.
+-- Our choice (docs/FORMATS.md): the lines of a part of a trace, where each may stand, and their
+-- texts.
 use Rattle.std.specs.Prelude.{ℕ, ◌^◌, ◌<◌, List, [], ◌∷◌, ◌++◌, Bool, true, false, codes}
 use Rattle.std.specs.Fmt.{decimal}
 use Rattle.ipc_lines.specs.Lines.{entry_text, spaced}

@@ -1,4 +1,5 @@
--- Our choice (docs/FORMATS.md): a part of a trace, which begins in the middle of a history, and its text.
+-- Our choice (docs/FORMATS.md): a part of a trace, which begins in the middle of a history, and its
+-- text.
 use Rattle.std.specs.Prelude.{◌≡◌, ℕ, ◌+◌, ◌^◌, ◌<◌, List, [], ◌∷◌, ◌++◌, ◌==◌, ◌&&◌, if◌then◌else◌, length, map}
 use Rattle.std.specs.List.{All, flat_map}
 use Rattle.ipc_words.specs.Limits.{table_slots}
@@ -10,7 +11,8 @@ use Rattle.ipc_part.specs.Lines.{line_text}
 use Rattle.ipc_part.specs.declared.line.PartLine.{PartLine}
 use Rattle.ipc_part.specs.declared.line.PartLine.TheVariants as line
 
--- the base of the history before it, the entries that are kept of that history, and the entries that came since
+-- the base of the history before it, the entries that are kept of that history, and the entries
+-- that came since
 pub record PartParts : Type 0 where
   pub base : Base
   pub kept : List Entry

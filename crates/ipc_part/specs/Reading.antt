@@ -68,7 +68,8 @@ pub record IsReadBack (part : PartParts) : Type 0 where
 abbrev pub PartsAreReadBack : Type 0
 PartsAreReadBack = (part : PartParts) → IsPart part → IsReadBack part
 
--- the lines of which this was read, and behind them the end of the bytes, or a line that lacks its newline
+-- the lines of which this was read, and behind them the end of the bytes, or a line that lacks its
+-- newline
 pub record HasLines (old new : Option (List ℕ)) (so_far : PartSoFar) (is_torn : Bool) : Type 0 where
   pub lines : List PartLine
   pub follow : Follow nothing_read lines
@@ -109,8 +110,8 @@ EndsSo old new so_far (lines_end.BadLine number) = HasBadLine old number
 EndsSo old new so_far lines_end.NoMemory = Unit {0}
 EndsSo old new so_far lines_end.DeviceFailed = Unit {0}
 
--- the bytes are the text of this part, which has each thread number that there is, and behind it their end, or a line that lacks its
--- newline
+-- the bytes are the text of this part, which has each thread number that there is, and behind it
+-- their end, or a line that lacks its newline
 pub record HasPart (old new : Option (List ℕ)) (part : PartParts) (is_torn : Bool) : Type 0 where
   pub all_versions : length part.base.versions ≡ table_slots
   pub all_dropped : length part.base.dropped ≡ table_slots

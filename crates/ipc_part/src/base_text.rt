@@ -36,8 +36,9 @@ impl<'a> Model for BaseNumbers<'a> {
 }
 
 impl<'a> BaseNumbers<'a> {
-    /// By thread number from 0 on the last version, 0 where there was none, and how many calls of the live thread are not among the
-    /// kept entries; the moment; how many calls were made, and how many outcomes taken; and the calls that count as over.
+    /// By thread number from 0 on the last version, 0 where there was none, and how many calls of
+    /// the live thread are not among the kept entries; the moment; how many calls were made, and
+    /// how many outcomes taken; and the calls that count as over.
     pub fn new(
         versions: &'a [u32],
         dropped: &'a [u64],

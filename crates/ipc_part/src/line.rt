@@ -25,7 +25,8 @@ pub enum PartLine {
     Calls(u64),
     /// How many outcomes were taken.
     Takes(u64),
-    /// A thread number, the version of its last thread, and how many calls of its live thread are not among the kept entries.
+    /// A thread number, the version of its last thread, and how many calls of its live thread are
+    /// not among the kept entries.
     Number(u64, u32, u64),
     /// A call that counts as over.
     Over(u64),
@@ -232,8 +233,9 @@ fn line_in(alloc: Global, stage: Stage, line: &[u8]) -> Result<PartLine, LineFau
     }
 }
 
-/// The line that a text spells, without its newline, where the part has come so far. `Bad` where none that may stand there has this
-/// spelling, as for a second spelling of one and for a line of more than [`MAX_LINE_BYTES`] bytes.
+/// The line that a text spells, without its newline, where the part has come so far. `Bad` where
+/// none that may stand there has this spelling, as for a second spelling of one and for a line of
+/// more than [`MAX_LINE_BYTES`] bytes.
 pub fn read_line(alloc: Global, stage: Stage, line: &[u8]) -> Result<PartLine, LineFault>
     ensures found { IfOk result (Spells stage line.now) }
     ensures only { (read : PartLine) → IsReadableLine read → Spells stage line.now read

@@ -32,12 +32,13 @@ pub(crate) enum LinesEnd {
     DeviceFailed,
 }
 
-/// Reads a part to its end, to its first bad line, or until the device or the memory fails. It keeps the part, and of the lines no
-/// more than the one that is being read.
+/// Reads a part to its end, to its first bad line, or until the device or the memory fails. It
+/// keeps the part, and of the lines no more than the one that is being read.
 ///
 /// # Errors
 ///
-/// Why no part was read. `DeviceFailed` comes only where the count of failures rose in this call, and else the count stays.
+/// Why no part was read. `DeviceFailed` comes only where the count of failures rose in this call,
+/// and else the count stays.
 pub fn read_part<P: PortRead>(alloc: Global, port: &mut P) -> Result<PartRead, PartFault>
     ensures read { MatchResult result
         (λ read. HasPart (P.remaining port.old) (P.remaining port.new)

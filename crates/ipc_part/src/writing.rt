@@ -11,11 +11,13 @@ use ipc_ports::PortWrite;
 use ipc_trace::{PutFault, TraceWriter};
 use std::alloc::Global;
 
-/// Writes a whole part: the lines of its base, of its kept entries and of those that came since, and makes the device hand them on.
+/// Writes a whole part: the lines of its base, of its kept entries and of those that came since,
+/// and makes the device hand them on.
 ///
 /// # Errors
 ///
-/// TR1, only where the count of failures rose in this call; TR2, where the trace had stopped before; TR5. A front of the part stands.
+/// TR1, only where the count of failures rose in this call; TR2, where the trace had stopped
+/// before; TR5. A front of the part stands.
 pub fn put_part<P: PortWrite>(
     alloc: Global,
     trace: &mut TraceWriter<P>,
@@ -39,7 +41,8 @@ pub fn put_part<P: PortWrite>(
     put
 }
 
-// Writes a text that ends with the line before the kept entries, these, and what stands behind them.
+// Writes a text that ends with the line before the kept entries, these, and what stands behind
+// them.
 fn put_lines<P: PortWrite>(
     trace: &mut TraceWriter<P>,
     base: &str,

@@ -26,7 +26,8 @@ pub record InOrder (kept : KeptParts) : Type 0 where
   pub partners : IsNonDecreasing kept.partners
   pub threads : IsNonDecreasing kept.threads
 
--- an entry that is no At is kept: it names one of these calls, it tells of one of their partners, or it opens or ends one of the threads
+-- an entry that is no At is kept: it names one of these calls, it tells of one of their partners,
+-- or it opens or ends one of the threads
 abbrev pub passes : KeptParts → Entry → Bool
 passes kept e =
     names_one kept.calls e

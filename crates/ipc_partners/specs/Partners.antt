@@ -12,8 +12,8 @@ use Rattle.ipc_history.specs.declared.entry.Output.TheVariants.{Began, Ended, Ov
 use Rattle.ipc_partners.specs.declared.partners.Joined.{Joined}
 use Rattle.ipc_partners.specs.declared.partners.Partner.{Partner}
 
--- the receiving call that the sending call n meets, and the sending call that the receiving call m meets: a transfer begins, or the
--- message does not fit
+-- the receiving call that the sending call n meets, and the sending call that the receiving call m
+-- meets: a transfer begins, or the message does not fit
 abbrev pub met_receiver : ℕ → Entry → Option ℕ
 met_receiver n (Written (Began k m)) = (if k == n then Some m else None)
 met_receiver n (Written (Overflowed k m offset)) = (if k == n then Some m else None)

@@ -149,7 +149,8 @@ fn write_over(
     }
 }
 
-/// The base of a history, where so many outcomes were taken and these entries are kept of it. It is written into a room. Takes no memory.
+/// The base of a history, where so many outcomes were taken and these entries are kept of it. It is
+/// written into a room. Takes no memory.
 pub fn base_of(
     takes: u64,
     slots: &Slots,

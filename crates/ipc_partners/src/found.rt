@@ -12,7 +12,8 @@ use ipc_words::limits::TABLE_SLOTS;
 use std::alloc::AllocError;
 use std::marker::Model;
 
-/// What is kept of a history, as it was found: numbers of calls and of their partners, and threads by their words.
+/// What is kept of a history, as it was found: numbers of calls and of their partners, and threads
+/// by their words.
 #[derive(Drop)]
 pub(crate) struct Found {
     calls: Vec<u64>,

@@ -28,8 +28,9 @@ fn have(numbers: &[u64], number: u64) -> bool
     numbers.binary_search(&number).is_ok()
 }
 
-/// Which entries a compaction keeps: the calls that are open or whose outcome was not taken, those that met them, and the threads
-/// that live or are shown. They are held in order, so that an entry is looked up by halves.
+/// Which entries a compaction keeps: the calls that are open or whose outcome was not taken, those
+/// that met them, and the threads that live or are shown. They are held in order, so that an entry
+/// is looked up by halves.
 #[derive(Drop)]
 pub struct Keeping {
     found: Found,

@@ -22,7 +22,8 @@ use ipc_words::limits::TABLE_SLOTS;
 use std::alloc::AllocError;
 use std::marker::Model;
 
-/// The last call of the live thread of each number, with the calls that it met. Of which history is said elsewhere.
+/// The last call of the live thread of each number, with the calls that it met. Of which history is
+/// said elsewhere.
 ///
 /// A place whose number has no live thread, or whose thread made no call, may say anything.
 #[derive(Drop)]
@@ -152,7 +153,8 @@ impl KeptPartners {
         }
     }
 
-    /// Takes note of the next entry of a legal history, where the slots are those before it. Takes no memory.
+    /// Takes note of the next entry of a legal history, where the slots are those before it. Takes
+    /// no memory.
     pub(crate) fn note(&mut self, slots: &Slots, entry: &Entry)
         requires follows { Follows slots.now.past entry.now }
         requires knows { Knows slots.now.past self.old }

@@ -1,4 +1,5 @@
-//! Which calls met which, by the last calls of the live threads; and so which entries a compaction keeps.
+//! Which calls met which, by the last calls of the live threads; and so which entries a compaction
+//! keeps.
 #![tactic(auto)]
 
 mod base;

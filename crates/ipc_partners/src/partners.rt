@@ -47,8 +47,8 @@ impl Joined {
     };
 }
 
-/// The last call of the live thread of each number, with the calls that it met; and the history that they are of, which proofs alone
-/// know.
+/// The last call of the live thread of each number, with the calls that it met; and the history
+/// that they are of, which proofs alone know.
 #[derive(Drop)]
 pub struct Partners {
     past: Past<Entry>,
@@ -91,7 +91,8 @@ impl Partners {
         &self.kept
     }
 
-    /// Takes note of the next entry of the history, where the slots are those before it. Takes no memory.
+    /// Takes note of the next entry of the history, where the slots are those before it. Takes no
+    /// memory.
     pub fn note(&mut self, slots: &Slots, entry: &Entry)
         requires past { slots.now.past ≡ self.old.past }
         requires follows { Follows self.old.past entry.now }

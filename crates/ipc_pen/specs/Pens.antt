@@ -46,8 +46,8 @@ abbrev pub BeginsEmpty : Option (List ℕ) → Type 0
 BeginsEmpty None = ⊤
 BeginsEmpty (Some out) = out ≡ []
 
--- a pen: its box, the number of its connection, what went out, how often its device failed, what it was given, the rest of that, and
--- whether a write of it failed
+-- a pen: its box, the number of its connection, what went out, how often its device failed, what it
+-- was given, the rest of that, and whether a write of it failed
 pub record Page : Type 0 where
   pub place : ℕ
   pub number : ℕ

@@ -1,5 +1,6 @@
-//! A pen: the port that a connection's client is written by, and the frame that is not yet written whole. Whoever has the pen writes, and
-//! gives it back; so no frame is overtaken and none is written twice, by however many threads.
+//! A pen: the port that a connection's client is written by, and the frame that is not yet written
+//! whole. Whoever has the pen writes, and gives it back; so no frame is overtaken and none is
+//! written twice, by however many threads.
 #![tactic(auto)]
 
 mod given;

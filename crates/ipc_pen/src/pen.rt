@@ -10,8 +10,9 @@ use ipc_base::Past;
 use ipc_frame::Encoder;
 use std::marker::Model;
 
-/// The port to a client, and the frame that it was given last, where that is not yet written whole. What went out, and then the rest of
-/// that frame, is the text of all that it was given, in order, each once: at every moment, whoever wrote.
+/// The port to a client, and the frame that it was given last, where that is not yet written whole.
+/// What went out, and then the rest of that frame, is the text of all that it was given, in order,
+/// each once: at every moment, whoever wrote.
 #[derive(Drop)]
 pub struct Pen<P: PenPort> {
     place: usize,
@@ -107,8 +108,9 @@ impl<P: PenPort> Pen<P> {
         self.rest = Some(given.into_encoder());
     }
 
-    /// Writes the rest of what was given last, until none is left or the device has no room. It fails exactly where the device failed, now
-    /// or before; after a failure nothing more is written.
+    /// Writes the rest of what was given last, until none is left or the device has no room. It
+    /// fails exactly where the device failed, now or before; after a failure nothing more is
+    /// written.
     #[tactic(auto, using(crate::proofs::PenLemmas::follows_passes, crate::proofs::PenLemmas::passes_none, crate::proofs::PenLemmas::grows_none))]
     pub fn write(&mut self, patience: Patience) -> Turn
         ensures follows { Follows self.new.out (rest_of self.new.rest) self.new.given }

@@ -22,7 +22,8 @@ pub trait PenPort {
     // How often the device failed. It has no last value.
     ghost failures: { Self → ℕ };
 
-    /// Writes a front of `buf`, and answers how many bytes. 0 where the device has no room now, which is no failure.
+    /// Writes a front of `buf`, and answers how many bytes. 0 where the device has no room now,
+    /// which is no failure.
     ///
     /// # Errors
     ///

@@ -9,10 +9,12 @@ use ipc_frame::Encoder;
 /// How many bytes are spelled at once.
 const SHORT: usize = 1024;
 
-/// How many bytes of a frame with strings are spelled at once. As many that stand in the memory of one string go out from there.
+/// How many bytes of a frame with strings are spelled at once. As many that stand in the memory of
+/// one string go out from there.
 const LONG: usize = 16_384;
 
-/// Writes the next bytes of an encoder, which passes just those that went out. None where it goes on.
+/// Writes the next bytes of an encoder, which passes just those that went out. None where it goes
+/// on.
 fn write_piece<P: PenPort>(
     port: &mut P,
     encoder: &mut Encoder,
@@ -65,8 +67,8 @@ fn write_pieces<P: PenPort>(
     Turn::Blocks
 }
 
-/// Writes the bytes of an encoder in long pieces. Their buffer stands on the stack of this function alone, which is never inlined. So a
-/// thread that writes little never touches it.
+/// Writes the bytes of an encoder in long pieces. Their buffer stands on the stack of this function
+/// alone, which is never inlined. So a thread that writes little never touches it.
 #[inline(never)]
 fn write_long<P: PenPort>(port: &mut P, encoder: &mut Encoder, patience: Patience) -> Turn
     ensures wrote { Passes (P.written port.old) (P.written port.new) encoder.old encoder.new }
@@ -77,7 +79,8 @@ fn write_long<P: PenPort>(port: &mut P, encoder: &mut Encoder, patience: Patienc
     write_pieces(port, encoder, patience, &mut [0u8; LONG])
 }
 
-/// Writes the bytes of an encoder, in long pieces or in short ones, until none is left or the device has no room.
+/// Writes the bytes of an encoder, in long pieces or in short ones, until none is left or the
+/// device has no room.
 pub(crate) fn write_rest<P: PenPort>(
     port: &mut P,
     encoder: &mut Encoder,

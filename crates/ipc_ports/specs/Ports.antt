@@ -6,7 +6,8 @@ use Rattle.std.specs.Io.KnownBytes.{Appends, Consumes, Keeps, WriteAppends}
 abbrev pub AppendsPart : Option (List ℕ) → Option (List ℕ) → List ℕ → Type 0
 AppendsPart old new bytes = (n : ℕ) × (n < length bytes) × Appends old new (take n bytes)
 
--- `read(buf)` put the n bytes that it gave behind those that had come at `Ok(n)`, and nothing at `Err`
+-- `read(buf)` put the n bytes that it gave behind those that had come at `Ok(n)`, and nothing at
+-- `Err`
 abbrev pub ReadAppends : {E : Type 0} → Option (List ℕ) → Option (List ℕ) → Result ℕ E → List ℕ → Type 0
 ReadAppends old new result buf = WriteAppends old new result buf
 
@@ -18,7 +19,8 @@ pub record Input : Type 0 where
 abbrev pub input_of : Option (List ℕ) → Option (List ℕ) → Input
 input_of came left = record { came = came; left = left }
 
--- a port gave these bytes: they came behind those before them, and were the first of those that were left
+-- a port gave these bytes: they came behind those before them, and were the first of those that
+-- were left
 pub record Gives (old new : Input) (bytes : List ℕ) : Type 0 where
   pub came : Appends old.came new.came bytes
   pub consumed : Consumes old.left new.left bytes

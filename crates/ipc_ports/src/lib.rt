@@ -1,4 +1,5 @@
-//! Ports: reads and writes of bytes, with a count of the device's failures that contracts alone see.
+//! Ports: reads and writes of bytes, with a count of the device's failures that contracts alone
+//! see.
 #![tactic(auto)]
 
 mod failures;

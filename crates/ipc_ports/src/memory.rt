@@ -50,7 +50,8 @@ impl<'a> MemoryPort<'a> {
         }
     }
 
-    /// The same port, whose call of this number, counted from 0 over reads, writes and flushes, meets trouble.
+    /// The same port, whose call of this number, counted from 0 over reads, writes and flushes,
+    /// meets trouble.
     pub fn with_trouble(self, call: u64, trouble: Trouble) -> MemoryPort<'a>
         ensures { result.input.now ≡ self.entry.input.now }
     {

@@ -9,7 +9,8 @@ use std::io::{ErrorKind, Read, Write};
 // So many interrupted turns in a row are a fault.
 pub(crate) const MAX_INTERRUPTED: u32 = 1000;
 
-/// Reads once from a reader of std. None comes only at the end of the input, or where `buf` has no room.
+/// Reads once from a reader of std. None comes only at the end of the input, or where `buf` has no
+/// room.
 ///
 /// # Errors
 ///

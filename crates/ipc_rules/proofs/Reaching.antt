@@ -1,4 +1,5 @@
--- The receiving call that a call of words reaches as soon as it is entered: the open call of the thread that it sends to.
+-- The receiving call that a call of words reaches as soon as it is entered: the open call of the
+-- thread that it sends to.
 use Rattle.std.proofs.lemmas.Option.{none-some, same_Some}
 use Rattle.std.proofs.Common.{◌≡◌, refl, sym, ap₂, ◌∙◌, subst, ℕ, ◌==◌, eqb-true, Bool, true, false, not, ◌&&◌, List, [], ◌∷◌, length, Some, None, option_map, arith}
 use Rattle.ipc_words.specs.ThreadId.{nilthread}

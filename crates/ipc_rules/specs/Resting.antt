@@ -1,4 +1,5 @@
--- What tells that nothing comes of a call as it is entered: its receive phase rests, or its send phase waits.
+-- What tells that nothing comes of a call as it is entered: its receive phase rests, or its send
+-- phase waits.
 use Rattle.std.specs.Prelude.{ℕ, List, Bool, true, false, not, ◌&&◌, ◌||◌, ◌==◌, if◌then◌else◌}
 use Rattle.std.specs.Option.{option_map_or}
 use Rattle.ipc_words.specs.ThreadId.{nilthread, anythread, anylocalthread}
@@ -28,7 +29,8 @@ lets_in_by from sender is_local =
 abbrev pub takes : List Entry → ℕ → ℕ → Bool
 takes P thread sender = option_map_or (λ r. is_receiving P r && accepts P r sender) (open_call P thread) false
 
--- the send phase of a call that a thread makes has time, goes to another thread, which lives, and is not propagated
+-- the send phase of a call that a thread makes has time, goes to another thread, which lives, and
+-- is not propagated
 abbrev pub may_wait : List Entry → ℕ → CallParts → Bool
 may_wait P thread call =
     not (call.to == nilthread)

@@ -138,7 +138,8 @@ in_receive_by is_live s = of s.phase
     of (Taking k by bytes) = is_live
     of phase = false
 
--- the open call r of the originator of n waits for the caller of n: it waits for its receiver from now on
+-- the open call r of the originator of n waits for the caller of n: it waits for its receiver from
+-- now on
 abbrev pub turned_by : List Entry → ℕ → ℕ → Option Output
 turned_by P n r =
     (if is_receiving P r && (from_specifier P r == caller_of P n) then Some (Turned r (to_of P n)) else None)

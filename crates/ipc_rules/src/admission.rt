@@ -40,7 +40,8 @@ pub fn may_open(slots: &Slots, thread: ThreadId, space: u64) -> bool
         && space <= u64::from(MAX_SPACE)
 }
 
-/// Whether so many bytes may be copied for a call: a block or the rest, of the least call in transfer.
+/// Whether so many bytes may be copied for a call: a block or the rest, of the least call in
+/// transfer.
 #[tactic(auto, unfolding(ipc_history::specs::Legal::may_move))]
 pub fn may_move(slots: &Slots, number: u64, count: u64) -> bool
     ensures { result ≡ may_move slots.now.past number count }

@@ -36,7 +36,8 @@ fn stop(call: &Standing, is_partner_live: bool, send: bool, receive: bool) -> Op
     }
 }
 
-/// The turn of a call, where it waits to receive from a caller whose message begins to pass to another thread.
+/// The turn of a call, where it waits to receive from a caller whose message begins to pass to
+/// another thread.
 fn turn(call: &Standing, caller: ThreadId, to: ThreadId) -> Option<Output>
     ensures { result ≡ turn_by caller to call.now }
 {

@@ -1,4 +1,5 @@
-//! What may come next of a history, by its slots: the rules of the next output, and what a call or a clock may add.
+//! What may come next of a history, by its slots: the rules of the next output, and what a call or
+//! a clock may add.
 #![tactic(auto)]
 
 mod admission;

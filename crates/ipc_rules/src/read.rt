@@ -18,7 +18,8 @@ use ipc_slots::{Slots, Standing};
 use ipc_words::ThreadId;
 use std::marker::Model;
 
-/// Slots beside what memory holds of their history, where two calls that meet are read as they were entered.
+/// Slots beside what memory holds of their history, where two calls that meet are read as they were
+/// entered.
 #[derive(Drop)]
 pub struct ReadSlots<'a> {
     slots: &'a Slots,
@@ -87,7 +88,8 @@ impl<'a> ReadSlots<'a> {
         }
     }
 
-    /// Of the best so far and the call in the slot at a place the first that meets a receiving call, with what comes of it.
+    /// Of the best so far and the call in the slot at a place the first that meets a receiving
+    /// call, with what comes of it.
     fn better_meeting(&self, place: usize, best: Option<(u64, Output)>) -> Option<(u64, Output)>
         ensures { result ≡ better_of (meeting_of self.now.past)
             (standing_in (slot_at self.now.kept.table place)) best }
@@ -117,7 +119,8 @@ impl<'a> ReadSlots<'a> {
         }
     }
 
-    /// The output of the open calls: of the rules in their order the first that applies, for the least call.
+    /// The output of the open calls: of the rules in their order the first that applies, for the
+    /// least call.
     fn waiting_output(&self) -> Option<Output>
         ensures { result ≡ waiting_output self.now.past }
     {

@@ -20,7 +20,8 @@ fn has_no_time(period: Period) -> bool
     }
 }
 
-/// Whether the receive phase of a call has time, and waits for every thread, for those of its space or for one that lives.
+/// Whether the receive phase of a call has time, and waits for every thread, for those of its space
+/// or for one that lives.
 pub fn is_patient(slots: &Slots, call: &Call) -> bool
     ensures { result ≡ is_patient slots.now.past call.now }
 {
@@ -44,7 +45,8 @@ fn lets_in_by(from: ThreadId, sender: ThreadId, is_local: bool) -> bool
     }
 }
 
-/// Whether a live thread that waits with this FromSpecifier lets in the sender that an open call shows.
+/// Whether a live thread that waits with this FromSpecifier lets in the sender that an open call
+/// shows.
 pub fn lets_in(slots: &Slots, from: ThreadId, thread: ThreadId, call: &Standing) -> bool
     requires live { IsTrue (is_live slots.now.past thread) }
     requires call { IsStanding slots.now.past call.now }
@@ -67,7 +69,8 @@ fn takes(slots: &Slots, thread: ThreadId, sender: ThreadId) -> bool
     }
 }
 
-/// Whether the send phase of a call that a thread makes has time, goes to another thread, which lives, and is not propagated.
+/// Whether the send phase of a call that a thread makes has time, goes to another thread, which
+/// lives, and is not propagated.
 fn may_wait(slots: &Slots, caller: ThreadId, call: &Call) -> bool
     ensures { result ≡ may_wait slots.now.past caller call.now }
 {

@@ -149,7 +149,8 @@ impl Rule {
         }
     }
 
-    /// Of the best so far and the call in the slot at a place the first for which it gives something, with that.
+    /// Of the best so far and the call in the slot at a place the first for which it gives
+    /// something, with that.
     pub fn better(
         &self,
         slots: &Slots,

@@ -1,4 +1,5 @@
-//! The workers of a server beside those of its connections and of its trace: one for each path, the ticker and the mover.
+//! The workers of a server beside those of its connections and of its trace: one for each path, the
+//! ticker and the mover.
 ghost use Rattle.std.specs.Prelude.{◌≡◌, [], Some, map};
 ghost use Rattle.ipc_session.specs.Keeping.{call_of};
 ghost use Rattle.ipc_session.specs.Sessions.{MayAskFor};
@@ -32,8 +33,8 @@ const LOG_TURN: u64 = 60;
 /// After how long a connection that waits for room is told of, in milliseconds.
 const ROOM_TURN: u64 = 100;
 
-/// Serves all paths until each has had its connections and these have ended, or the service was stopped. False where a worker could
-/// not be started.
+/// Serves all paths until each has had its connections and these have ended, or the service was
+/// stopped. False where a worker could not be started.
 pub fn serve_all<C: Ledger + Send, T: Ledger + Send, R>(
     server: &Server<'_, C, T, SocketPort, R>,
     host: &Host,
@@ -52,8 +53,8 @@ where
     })
 }
 
-/// Starts the workers that no space has: the ticker, the mover, and those of signals, of counters and of who asks, where they are wanted.
-/// False where one could not be started.
+/// Starts the workers that no space has: the ticker, the mover, and those of signals, of counters
+/// and of who asks, where they are wanted. False where one could not be started.
 fn start_others<'s, E, C: Ledger + Send, T: Ledger + Send, R>(
     scope: &Scope<'s, E>,
     server: &'s Server<'_, C, T, SocketPort, R>,
@@ -125,7 +126,8 @@ fn move_blocks<C: Ledger, T: Ledger, R: Wait + Clock>(server: &Server<'_, C, T, 
     let _ = move_loop(&mut work_port, &mut Open::new(u64::MAX));
 }
 
-/// One worker for each path, until all have ended. False where one could not be started; the others are then stopped.
+/// One worker for each path, until all have ended. False where one could not be started; the others
+/// are then stopped.
 fn accept_all<C: Ledger + Send, T: Ledger + Send, R>(
     server: &Server<'_, C, T, SocketPort, R>,
     host: &Host,
@@ -145,8 +147,9 @@ where
     })
 }
 
-/// Takes connections until the path has had its number, if it has one, or the service is stopped, and starts a worker for each. An accept that fails
-/// counts for nothing: it is tried again once a connection has ended, or after 10 milliseconds.
+/// Takes connections until the path has had its number, if it has one, or the service is stopped,
+/// and starts a worker for each. An accept that fails counts for nothing: it is tried again once a
+/// connection has ended, or after 10 milliseconds.
 fn accept<C: Ledger + Send, T: Ledger + Send, R>(
     server: &Server<'_, C, T, SocketPort, R>,
     host: &Host,
@@ -182,8 +185,8 @@ where
     });
 }
 
-/// Takes a connection in, once there is room for it, and answers its ticket. None: the server stops, or there is no memory; the connection
-/// is then closed.
+/// Takes a connection in, once there is room for it, and answers its ticket. None: the server
+/// stops, or there is no memory; the connection is then closed.
 fn admit<C: Ledger, T: Ledger, R: Wait + Clock + Eprint>(
     server: &Server<'_, C, T, SocketPort, R>,
     host: &Host,
@@ -195,7 +198,8 @@ fn admit<C: Ledger, T: Ledger, R: Wait + Clock + Eprint>(
     Some((ticket, stream))
 }
 
-/// Waits for room for a connection, tells it where that takes long, and answers its ticket. None: it is to be closed.
+/// Waits for room for a connection, tells it where that takes long, and answers its ticket. None:
+/// it is to be closed.
 fn ticket_of<R: Wait + Clock + Eprint>(
     rt: &R,
     host: &Host,
@@ -219,7 +223,8 @@ fn ticket_of<R: Wait + Clock + Eprint>(
     None
 }
 
-/// Tells that a connection waits for room: once a minute that the server is full. Each such connection is counted once, and told to the log.
+/// Tells that a connection waits for room: once a minute that the server is full. Each such
+/// connection is counted once, and told to the log.
 fn tell_wait<R: Wait + Clock + Eprint>(rt: &R, host: &Host, space: u64, is_told: bool) {
     host.tell_full(rt);
     if is_told {

@@ -30,7 +30,8 @@ pub(crate) fn began_text<C: Ledger, T: Ledger, R: Wait + Clock>(
     }
 }
 
-/// Writes when moment 0 was beside a file of a trace, where that is a regular one. Where it fails nobody is told: the trace is whole without it.
+/// Writes when moment 0 was beside a file of a trace, where that is a regular one. Where it fails
+/// nobody is told: the trace is whole without it.
 pub(crate) fn put_began<R: TraceDisk>(rt: &R, alloc: Global, path: &str, start: Option<Start>) {
     if !rt.is_regular(path) {
         return;
@@ -50,7 +51,8 @@ fn write_began<R: TraceDisk>(rt: &R, alloc: Global, path: &str, start: Start) ->
     file.write_all(line.as_bytes())
 }
 
-/// The file beside one of a trace gets the name beside that one's new name. Where it is not there, none stands there.
+/// The file beside one of a trace gets the name beside that one's new name. Where it is not there,
+/// none stands there.
 pub(crate) fn rename_began<R: TraceDisk>(rt: &R, alloc: Global, from: &str, to: &str) {
     if move_began(rt, alloc, from, to).is_err() {
         let _ = drop_began(rt, alloc, to);

@@ -1,4 +1,5 @@
-//! Those who ask what the server does: they connect to the path `control`, say a word, and are answered with a text.
+//! Those who ask what the server does: they connect to the path `control`, say a word, and are
+//! answered with a text.
 use crate::began::began_text;
 use crate::counters::{CounterLines, counters_now};
 use crate::following::follow;

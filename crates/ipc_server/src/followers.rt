@@ -13,7 +13,8 @@ use std::time::Duration;
 /// How many may follow at one time: half of those who may ask.
 const MOST_FOLLOWERS: usize = 4;
 
-/// How many bytes of lines one who follows may not have sent yet. The room for them is at most twice as much.
+/// How many bytes of lines one who follows may not have sent yet. The room for them is at most
+/// twice as much.
 const MOST_BYTES: usize = 4_194_304;
 
 /// How long who follows waits for lines in one turn, in milliseconds.
@@ -48,7 +49,8 @@ pub(crate) enum Unfollowed {
 struct Follower {
     ticket: u64,
     alloc: Global,
-    /// Before which place of the history, counted from 0, the entries are not his: they stand before his part.
+    /// Before which place of the history, counted from 0, the entries are not his: they stand
+    /// before his part.
     from: usize,
     /// Whether he gets no more lines.
     is_cut: bool,
@@ -224,7 +226,8 @@ impl Table {
     }
 }
 
-/// Those who follow the trace, whose worker hands them the lines of its entries and waits for nobody.
+/// Those who follow the trace, whose worker hands them the lines of its entries and waits for
+/// nobody.
 #[derive(Drop)]
 pub struct Followers {
     alloc: Global,
@@ -249,7 +252,8 @@ impl Followers {
         }
     }
 
-    /// Takes one more in, and answers his ticket. From here on he gets the lines of all entries that are handed.
+    /// Takes one more in, and answers his ticket. From here on he gets the lines of all entries
+    /// that are handed.
     pub(crate) fn enter<R: Wait>(&self, rt: &R) -> Result<u64, Unfollowed> {
         let mut table = self.table.lock(rt);
         let entered = table.enter(self.alloc);
@@ -260,7 +264,8 @@ impl Followers {
         entered
     }
 
-    /// The part of one begins at a place of the history: of what he has not got he gets no line of an entry before it.
+    /// The part of one begins at a place of the history: of what he has not got he gets no line of
+    /// an entry before it.
     pub(crate) fn start<R: Wait>(&self, rt: &R, ticket: u64, place: usize) {
         let mut table = self.table.lock(rt);
         table.start(ticket, place);
@@ -275,8 +280,8 @@ impl Followers {
         drop(table);
     }
 
-    /// Hands the lines of entries to all, of which the first stands at a place of the history. Who has too many is cut off, and without
-    /// memory for a line each is.
+    /// Hands the lines of entries to all, of which the first stands at a place of the history. Who
+    /// has too many is cut off, and without memory for a line each is.
     pub(crate) fn hand<R: Wait>(&self, rt: &R, place: usize, entries: &[Entry]) {
         if !self.is_followed.load(Ordering::SeqCst) {
             return;

@@ -1,4 +1,5 @@
-//! Following the trace: who asks gets the part that begins now, and then the line of each further entry, until he leaves.
+//! Following the trace: who asks gets the part that begins now, and then the line of each further
+//! entry, until he leaves.
 use crate::control::{NO_MEMORY, say};
 use crate::followers::{Given, Unfollowed};
 use crate::host::Host;
@@ -29,7 +30,8 @@ const STOPPED: &str = "the trace has stopped\n";
 /// What is said to one who gets no more lines.
 const CUT: &str = "cut off: too slow\n";
 
-/// Answers with the part that begins now, and then with the line of each entry that comes, until he leaves or the service ends.
+/// Answers with the part that begins now, and then with the line of each entry that comes, until he
+/// leaves or the service ends.
 ///
 /// # Errors
 ///
@@ -116,7 +118,8 @@ fn has_all<C: Ledger, T: Ledger, R: Wait + Clock>(
         && host.behind(entries) == Some(0)
 }
 
-/// Sends lines. Where he does not read, that is waited for until he is cut off, or the service ends.
+/// Sends lines. Where he does not read, that is waited for until he is cut off, or the service
+/// ends.
 fn send<C: Ledger, T: Ledger, R: Wait + Clock>(
     server: &Server<'_, C, T, SocketPort, R>,
     host: &Host,

@@ -26,7 +26,8 @@ pub struct Host {
     /// How many connections each path takes before it closes; None where it never does.
     pub(crate) connections: Option<u16>,
     pub(crate) is_logged: bool,
-    /// Whether a reader may look for a little while before it sleeps: where there are several processors.
+    /// Whether a reader may look for a little while before it sleeps: where there are several
+    /// processors.
     pub(crate) is_eager: bool,
     /// How many entries stand in the trace; None without one.
     pub(crate) traced: Option<AtomicU64>,
@@ -72,7 +73,8 @@ impl Host {
         }
     }
 
-    /// Whether SIGINT and SIGTERM may have been blocked where the program was started, so that they end the service.
+    /// Whether SIGINT and SIGTERM may have been blocked where the program was started, so that they
+    /// end the service.
     pub(crate) fn has_blocked_signals(&self, alloc: Global) -> bool {
         match &self.signals {
             Some(status) => may_be_blocked(status, alloc),
@@ -126,7 +128,8 @@ impl Host {
         }
     }
 
-    /// Tells that there is no room for a connection that waits, once a minute at most, and what helps.
+    /// Tells that there is no room for a connection that waits, once a minute at most, and what
+    /// helps.
     pub(crate) fn tell_full<R: Wait + Clock + Eprint>(&self, rt: &R) {
         let (may, live) = self.guests.may_tell_full(rt);
         if may {

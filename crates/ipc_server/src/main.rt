@@ -111,7 +111,8 @@ where
     }
 }
 
-/// Serves as the options say, and answers the status of the program. The ledgers of the seats begin as blanks.
+/// Serves as the options say, and answers the status of the program. The ledgers of the seats begin
+/// as blanks.
 fn obey<R>(rt: &R, alloc: Global, options: &ServerOptions<'_>) -> io::Result<ExitCode>
 where
     R: Threads
@@ -226,7 +227,8 @@ where
     }
 }
 
-/// Binds the paths of the spaces, and the one for those who ask. Where one cannot be bound the others are removed.
+/// Binds the paths of the spaces, and the one for those who ask. Where one cannot be bound the
+/// others are removed.
 fn bind_paths<
     C: Ledger,
     T: Ledger,
@@ -333,8 +335,8 @@ fn closed<R: Print>(rt: &R, exit: Exit) -> Exit {
     }
 }
 
-/// How many connections there may be at one time: as many as were asked for and the limit of descriptors leaves. Each path has its
-/// socket twice, and one connection that waits for room.
+/// How many connections there may be at one time: as many as were asked for and the limit of
+/// descriptors leaves. Each path has its socket twice, and one connection that waits for room.
 fn most_connections<R: Files>(rt: &R, alloc: Global, options: &ServerOptions<'_>) -> u64 {
     let used = u64::from(options.spaces) * PATH_DESCRIPTORS + OTHER_DESCRIPTORS;
     room(u64::from(options.live), descriptors(rt, alloc), used)

@@ -1,4 +1,5 @@
-//! What is known of the file of a trace: how much stands in it, where it ends, and why a call of it failed.
+//! What is known of the file of a trace: how much stands in it, where it ends, and why a call of it
+//! failed.
 use std::fs::File;
 use std::io;
 use std::io::Write;

@@ -14,7 +14,8 @@ use std::rt::Clock;
 use std::sync::Wait;
 use std::sync::ledger::Ledger;
 
-/// The end by which a connection's reader asks the shared kernel. Contracts see all that was asked by it, with the answers, in order.
+/// The end by which a connection's reader asks the shared kernel. Contracts see all that was asked
+/// by it, with the answers, in order.
 #[derive(Drop)]
 pub(crate) struct NotedEnd<C: Ledger> {
     pub(crate) end: PostEnd<C>,

@@ -28,7 +28,8 @@ const WHILE: u64 = 10;
 /// What is said where a trace is written, and so slowly that no part was made.
 pub(crate) const SLOW: &str = "the trace is slow: ask again\n";
 
-/// Answers with the part that begins now. Its entries were copied, so that nothing waits for who is slow.
+/// Answers with the part that begins now. Its entries were copied, so that nothing waits for who is
+/// slow.
 ///
 /// # Errors
 ///

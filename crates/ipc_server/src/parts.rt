@@ -1,4 +1,5 @@
-//! Parts of a trace for those who ask. While a trace is written its worker makes them, since it alone may let go of what it reads.
+//! Parts of a trace for those who ask. While a trace is written its worker makes them, since it
+//! alone may let go of what it reads.
 use crate::server::Server;
 use ipc_host::SocketPort;
 use ipc_lock::HeldPart;
@@ -53,7 +54,8 @@ impl Parts {
         self.desk.lock(rt).is_wanted
     }
 
-    /// Hands a part to who waits for it, or that there is no memory for it. So many entries stand before it.
+    /// Hands a part to who waits for it, or that there is no memory for it. So many entries stand
+    /// before it.
     pub(crate) fn hand<R: Wait>(&self, rt: &R, part: Option<HeldPart>, place: usize) {
         let mut desk = self.desk.lock(rt);
         if desk.is_wanted {
@@ -66,7 +68,8 @@ impl Parts {
         }
     }
 
-    /// The part that begins behind the last entry of this moment. None where the trace is so slow that nobody made it within a second.
+    /// The part that begins behind the last entry of this moment. None where the trace is so slow
+    /// that nobody made it within a second.
     pub(crate) fn ask<C: Ledger, T: Ledger, R: Wait + Clock>(
         &self,
         server: &Server<'_, C, T, SocketPort, R>,
@@ -100,7 +103,8 @@ impl Parts {
         Ok(None)
     }
 
-    /// The part that begins behind the last entry, and its place. None where the trace is so slow that nobody made it within a second.
+    /// The part that begins behind the last entry, and its place. None where the trace is so slow
+    /// that nobody made it within a second.
     pub(crate) fn ask_placed<C: Ledger, T: Ledger, R: Wait + Clock>(
         &self,
         server: &Server<'_, C, T, SocketPort, R>,
@@ -143,7 +147,8 @@ impl Parts {
     }
 }
 
-/// The part that begins behind the last entry. None where an entry is not marked, or came while it was made, so that its place is not known.
+/// The part that begins behind the last entry. None where an entry is not marked, or came while it
+/// was made, so that its place is not known.
 fn made_here<C: Ledger, T: Ledger, R: Wait + Clock>(
     server: &Server<'_, C, T, SocketPort, R>,
 ) -> Result<Option<PlacedPart>, AllocError> {

@@ -40,11 +40,13 @@ pub struct Listener {
     pub(crate) door: Door,
 }
 
-/// Listens on DIR/space1 to DIR/spaceN, each with the permissions that were asked for as soon as it is bound.
+/// Listens on DIR/space1 to DIR/spaceN, each with the permissions that were asked for as soon as it
+/// is bound.
 ///
 /// # Errors
 ///
-/// CannotListen with the path that cannot be bound and why, one already there too; the paths bound before it are removed.
+/// CannotListen with the path that cannot be bound and why, one already there too; the paths bound
+/// before it are removed.
 pub fn listen<R: Files + Net>(
     rt: &R,
     alloc: Global,
@@ -89,7 +91,8 @@ fn listener_of<R: Files + Net>(
     })
 }
 
-/// Where those connect who ask what the server does: DIR/control, of its owner alone. None where that is not wanted.
+/// Where those connect who ask what the server does: DIR/control, of its owner alone. None where
+/// that is not wanted.
 ///
 /// # Errors
 ///
@@ -119,7 +122,8 @@ fn door_at<R: Files + Net>(rt: &R, path: String, mode: u32, replace: bool) -> Re
     }
 }
 
-/// Binds a path and gives it its permissions, and answers its socket twice. Where they cannot be given the path is removed again.
+/// Binds a path and gives it its permissions, and answers its socket twice. Where they cannot be
+/// given the path is removed again.
 fn bind_guarded<R: Files + Net>(
     rt: &R,
     path: &str,
@@ -136,7 +140,8 @@ fn bind_guarded<R: Files + Net>(
     }
 }
 
-/// Binds a path. Where nobody answers at a socket that stands there it is removed first, if that was asked for.
+/// Binds a path. Where nobody answers at a socket that stands there it is removed first, if that
+/// was asked for.
 fn bind<R: Files + Net>(rt: &R, path: &str, replace: bool) -> Result<UnixListener, Obstacle> {
     let first = match UnixListener::bind(rt, path) {
         Ok(socket) => return Ok(socket),

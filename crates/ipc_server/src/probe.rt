@@ -15,8 +15,8 @@ const WORD: u64 = 7;
 /// How many reads an answer may take.
 const MOST_READS: u32 = 1000;
 
-/// Connects twice to a path, receives from anythread on the first connection while it sends a word from the second, and answers
-/// the word that came. None where anything else was told.
+/// Connects twice to a path, receives from anythread on the first connection while it sends a word
+/// from the second, and answers the word that came. None where anything else was told.
 pub fn probe<R: Threads + Wait + Net<Listener = TcpListener, Stream = TcpStream> + Sync>(
     rt: &R,
     alloc: Global,

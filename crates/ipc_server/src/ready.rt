@@ -4,7 +4,8 @@ use std::alloc::Global;
 use std::io;
 use std::net::Net;
 
-/// Says that clients can connect, to who wanted to be told by `--ready-fd` and to the service manager.
+/// Says that clients can connect, to who wanted to be told by `--ready-fd` and to the service
+/// manager.
 pub(crate) fn tell_ready<R: Net + Eprint>(rt: &R, alloc: Global, host: &Host, spaces: u16) {
     if let Err(error) = host.readiness.tell_starter(alloc, spaces) {
         tell_unready(rt, "--ready-fd", error);

@@ -9,7 +9,8 @@ use std::rt::Clock;
 use std::sync::ledger::Ledger;
 use std::sync::{Mutex, Wait};
 
-/// What all workers of a server share: the kernel under its lock, the clock, and the memory of long strings.
+/// What all workers of a server share: the kernel under its lock, the clock, and the memory of long
+/// strings.
 #[derive(Drop)]
 pub struct Server<'a, C: Ledger, T: Ledger, P: PenPort + Drop, R> {
     pub(crate) rt: &'a R,

@@ -1,4 +1,5 @@
-//! Serving to the end: the paths are told and served, with the client of the program's own where it is asked for.
+//! Serving to the end: the paths are told and served, with the client of the program's own where it
+//! is asked for.
 use crate::accepting::serve_all;
 use crate::exit::Exit;
 use crate::host::Host;
@@ -38,7 +39,8 @@ where
     served
 }
 
-/// Serves the paths until all connections have ended, with the client of the program's own where it is asked for.
+/// Serves the paths until all connections have ended, with the client of the program's own where it
+/// is asked for.
 fn serve<C: Ledger + Send, T: Ledger + Send, R>(
     server: &Server<'_, C, T, SocketPort, R>,
     host: &Host,
@@ -109,8 +111,8 @@ fn served(started: bool) -> Result<(), Exit> {
     if started { Ok(()) } else { Err(Exit::NoWorker) }
 }
 
-/// Serves beside a client that sends one word and prints it as soon as it has come. Answers whether the workers could be started, and
-/// whether the word was printed.
+/// Serves beside a client that sends one word and prints it as soon as it has come. Answers whether
+/// the workers could be started, and whether the word was printed.
 fn serve_probed<C: Ledger + Send, T: Ledger + Send, R>(
     server: &Server<'_, C, T, SocketPort, R>,
     host: &Host,

@@ -23,7 +23,8 @@ use std::{io, thread};
 /// How much stack a worker has, in bytes.
 const STACK: usize = 262_144;
 
-/// The link that a connection's ports stand on: a worker that ends shuts it down, and it sees what becomes of the connection.
+/// The link that a connection's ports stand on: a worker that ends shuts it down, and it sees what
+/// becomes of the connection.
 pub trait Link {
     /// Nothing more is read.
     fn stop_reading(&self);
@@ -41,8 +42,8 @@ pub trait Link {
     fn tells(&self, notice: Notice, thread: Option<ThreadId>);
 }
 
-/// The ports of a connection to a space, and the link that they stand on: as the gate of the loop that reads, for the worker that writes, and
-/// for the kernel port.
+/// The ports of a connection to a space, and the link that they stand on: as the gate of the loop
+/// that reads, for the worker that writes, and for the kernel port.
 #[derive(Drop)]
 pub struct Ports<P: PenPort, I: PortRead, G: Gate + Link> {
     /// The space, 1 to `MAX_SPACE`.
@@ -80,8 +81,8 @@ struct Reading<I: PortRead, G: Gate + Link> {
     kernel_port: G,
 }
 
-/// What was made of a connection: the port that was read, and what was asked for it, with the answers, in order. Proofs alone know what
-/// was asked.
+/// What was made of a connection: the port that was read, and what was asked for it, with the
+/// answers, in order. Proofs alone know what was asked.
 #[derive(Drop)]
 pub struct Served<I: PortRead> {
     /// The port that was read.
@@ -90,8 +91,9 @@ pub struct Served<I: PortRead> {
     pub asked: Past<Deed>,
 }
 
-/// Serves one connection to its end: reads in this thread, and in one that it starts writes what no other thread could. Where that
-/// cannot be started, or there is no memory for a box, the link is shut down. What came asked for what was asked.
+/// Serves one connection to its end: reads in this thread, and in one that it starts writes what no
+/// other thread could. Where that cannot be started, or there is no memory for a box, the link is
+/// shut down. What came asked for what was asked.
 #[tactic(auto, using(crate::proofs::NotedLemmas::asks_nothing))]
 pub fn serve_connection<C, T, P, R, I, G>(
     server: &Server<'_, C, T, P, R>,

@@ -3,7 +3,8 @@ use ipc_connection::Blocks;
 use ipc_items::{FreeBlocks, MAX_FREE_BLOCKS, StringList};
 use std::sync::{Mutex, Wait};
 
-/// The blocks of a server, for one of its connections. Their lock is taken for long strings only, and what makes way is dropped behind it.
+/// The blocks of a server, for one of its connections. Their lock is taken for long strings only,
+/// and what makes way is dropped behind it.
 #[derive(Drop)]
 pub(crate) struct SharedBlocks<'a, R> {
     rt: &'a R,

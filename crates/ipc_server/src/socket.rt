@@ -12,7 +12,8 @@ use std::os::unix::net::UnixStream;
 use std::sync::Wait;
 use std::sync::atomic::{AtomicBool, Ordering};
 
-/// A connection that is there. What it is told is counted, and said on standard error where that is asked for.
+/// A connection that is there. What it is told is counted, and said on standard error where that is
+/// asked for.
 #[derive(Drop)]
 pub struct Guest<'a, R: Wait + Eprint> {
     pub(crate) rt: &'a R,
@@ -38,7 +39,8 @@ impl<R: Wait + Eprint> Guest<'_, R> {
     }
 }
 
-/// A socket as the link of its ports, and as the gate of a loop over it. It says stop after 2^64 - 1 turns, which no run has.
+/// A socket as the link of its ports, and as the gate of a loop over it. It says stop after 2^64 -
+/// 1 turns, which no run has.
 #[derive(Drop)]
 pub struct SocketGate<'a, R: Wait + Eprint> {
     stream: &'a UnixStream,

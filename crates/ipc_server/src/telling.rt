@@ -45,7 +45,8 @@ fn tell_help_of<R: Print + Eprint>(
     }
 }
 
-/// Tells what is wrong with the words, or the version where they ask for it, and answers the status of the program.
+/// Tells what is wrong with the words, or the version where they ask for it, and answers the status
+/// of the program.
 pub(crate) fn tell_error<R: Alloc + Files + Print + Eprint>(
     rt: &R,
     alloc: Global,

@@ -6,7 +6,8 @@ use std::{fs, io};
 /// The permissions of a file that is made: its owner alone.
 const OWNER_ONLY: u32 = 0o600;
 
-/// What the worker of a trace asks of the system. `Files` also reads folders, by a type of which nobody knows that another thread may have it.
+/// What the worker of a trace asks of the system. `Files` also reads folders, by a type of which
+/// nobody knows that another thread may have it.
 pub trait TraceDisk {
     /// Makes a file anew, and opens it to be written.
     fn make_file(&self, path: &str) -> io::Result<File>;

@@ -1,4 +1,5 @@
-//! The files of a trace, one behind the other: FILE is written, and FILE.1, FILE.2 and so on are the older ones.
+//! The files of a trace, one behind the other: FILE is written, and FILE.1, FILE.2 and so on are
+//! the older ones.
 ghost use Rattle.std.specs.Prelude.{◌≡◌, ◌<◌};
 
 use crate::began::{drop_began, put_began, rename_began};
@@ -55,8 +56,8 @@ impl<'a> TraceFiles<'a> {
         }
     }
 
-    /// The trace of the first file, which is made anew and has the line of the version. One that stands there becomes an older one where
-    /// it was asked how many are kept; else it is emptied.
+    /// The trace of the first file, which is made anew and has the line of the version. One that
+    /// stands there becomes an older one where it was asked how many are kept; else it is emptied.
     ///
     /// # Errors
     ///
@@ -75,7 +76,8 @@ impl<'a> TraceFiles<'a> {
         Ok(trace)
     }
 
-    /// Writes the files of the trace from this one on, until the kernel was closed and all entries are put.
+    /// Writes the files of the trace from this one on, until the kernel was closed and all entries
+    /// are put.
     ///
     /// # Errors
     ///
@@ -102,7 +104,8 @@ impl<'a> TraceFiles<'a> {
         Ok(())
     }
 
-    /// Writes a further file, and answers what begins the one behind it; None at the end. Its count of failures begins as a blank.
+    /// Writes a further file, and answers what begins the one behind it; None at the end. Its count
+    /// of failures begins as a blank.
     fn follow_next<C, T, R>(
         self,
         server: &Server<'_, C, T, SocketPort, R>,
@@ -197,7 +200,8 @@ impl<'a> TraceFiles<'a> {
         Ok(0)
     }
 
-    /// The older file of a number becomes the one of the next number, or is removed where that is not kept.
+    /// The older file of a number becomes the one of the next number, or is removed where that is
+    /// not kept.
     fn rename<R: TraceDisk>(self, rt: &R, alloc: Global, number: u32) -> io::Result<()> {
         let name = self.name(alloc, number)?;
         if !self.keeps(number) {

@@ -67,7 +67,8 @@ where
     exit_of(serve_and_close(server, host, options), is_whole)
 }
 
-/// Opens the file of the trace, and serves the paths while a worker writes it. The count of the file's failures begins as a blank.
+/// Opens the file of the trace, and serves the paths while a worker writes it. The count of the
+/// file's failures begins as a blank.
 fn serve_traced<C: Ledger + Send, T: Ledger + Send, L: Ledger + Send, R>(
     server: &Server<'_, C, T, SocketPort, R>,
     host: &Host,
@@ -121,7 +122,8 @@ where
     serve_untraced(server, host, options, false)
 }
 
-/// Serves the paths while a worker writes the trace. Where the worker cannot be started the trace is written at the end.
+/// Serves the paths while a worker writes the trace. Where the worker cannot be started the trace
+/// is written at the end.
 fn serve_beside<C: Ledger + Send, T: Ledger + Send, R, P: PortWrite + Drop + Send>(
     server: &Server<'_, C, T, SocketPort, R>,
     host: &Host,
@@ -156,8 +158,8 @@ fn exit_beside(served: Result<(), Exit>, is_whole: bool, is_required: bool) -> E
     exit_of(served, is_whole)
 }
 
-/// Writes the trace to its end, and tells where it stopped before. False where it did; where the trace is required the service is then
-/// stopped.
+/// Writes the trace to its end, and tells where it stopped before. False where it did; where the
+/// trace is required the service is then stopped.
 fn write_trace<C, T, R, P>(
     server: &Server<'_, C, T, SocketPort, R>,
     host: &Host,
@@ -191,7 +193,8 @@ fn tell<R: Eprint>(rt: &R, fault: TraceFault) {
     let _ = rt.eprintln(&fault);
 }
 
-/// How the server ended, by what came of serving and whether its trace is whole or was not asked for.
+/// How the server ended, by what came of serving and whether its trace is whole or was not asked
+/// for.
 fn exit_of(served: Result<(), Exit>, is_whole: bool) -> Exit {
     match served {
         Ok(()) if is_whole => Exit::Closed,

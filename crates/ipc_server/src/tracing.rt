@@ -16,13 +16,16 @@ use std::sync::ledger::Ledger;
 use std::time::Duration;
 use std::{fmt, thread};
 
-/// How long the worker sleeps where no entry is left, in milliseconds. So entries that come one by one are written together.
+/// How long the worker sleeps where no entry is left, in milliseconds. So entries that come one by
+/// one are written together.
 const PAUSE: u64 = 1;
 
-/// Where more entries than these wait for the trace, that is told: half of those that memory may hold.
+/// Where more entries than these wait for the trace, that is told: half of those that memory may
+/// hold.
 const FAR_BEHIND: usize = MAX_ENTRIES as usize / 2;
 
-/// A trace that is written while the server runs, and how many entries stand in it and in the files before it.
+/// A trace that is written while the server runs, and how many entries stand in it and in the files
+/// before it.
 #[derive(Drop)]
 pub struct Trace<P: PortWrite> {
     writer: TraceWriter<P>,
@@ -98,10 +101,11 @@ impl<P: PortWrite> Trace<P> {
         put_held(alloc, &mut self.writer, part)
     }
 
-    /// Puts the entries of the history, as they come, until its file is full, or the kernel was closed and all are put; and notes how
-    /// many stand. Answers what a further file begins with; None at the end. Memory may let go of a group of entries once it was put.
-    /// Where no entry is left, all lines are handed on before it waits for the next one. Where more than half as many wait as memory may
-    /// hold, that is told on standard error, once until none was left.
+    /// Puts the entries of the history, as they come, until its file is full, or the kernel was
+    /// closed and all are put; and notes how many stand. Answers what a further file begins with;
+    /// None at the end. Memory may let go of a group of entries once it was put. Where no entry is
+    /// left, all lines are handed on before it waits for the next one. Where more than half as many
+    /// wait as memory may hold, that is told on standard error, once until none was left.
     ///
     /// # Errors
     ///
@@ -137,7 +141,8 @@ impl<P: PortWrite> Trace<P> {
         Ok(None)
     }
 
-    // Hands a part to who asked for one. Where the file is full, answers that with which a further one begins.
+    // Hands a part to who asked for one. Where the file is full, answers that with which a further
+    // one begins.
     fn part_where_due<C: Ledger, T: Ledger, R: Wait + Clock + Eprint>(
         &mut self,
         server: &Server<'_, C, T, SocketPort, R>,
@@ -153,7 +158,8 @@ impl<P: PortWrite> Trace<P> {
         self.part_here(server, host)
     }
 
-    // Puts the entries that are left, hands them on, and answers the part that begins behind them; None where there is no memory for it.
+    // Puts the entries that are left, hands them on, and answers the part that begins behind them;
+    // None where there is no memory for it.
     fn part_here<C: Ledger, T: Ledger, R: Wait + Clock + Eprint>(
         &mut self,
         server: &Server<'_, C, T, SocketPort, R>,
@@ -171,7 +177,8 @@ impl<P: PortWrite> Trace<P> {
         Ok(part)
     }
 
-    // Puts the entries that come next, and answers how many they are; none where the kernel was closed.
+    // Puts the entries that come next, and answers how many they are; none where the kernel was
+    // closed.
     fn put_group<C: Ledger, T: Ledger, R: Wait + Clock + Eprint>(
         &mut self,
         server: &Server<'_, C, T, SocketPort, R>,
@@ -210,7 +217,8 @@ impl<P: PortWrite> Trace<P> {
         Ok(())
     }
 
-    // Says on standard error that so many entries wait, where they are many and it was not said since none was left.
+    // Says on standard error that so many entries wait, where they are many and it was not said
+    // since none was left.
     fn tell_when_far_behind<R: Eprint>(&mut self, rt: &R, left: usize) {
         if left > FAR_BEHIND && !self.is_told {
             // where standard error fails the line is lost

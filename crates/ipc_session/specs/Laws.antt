@@ -14,7 +14,8 @@ answers_in (Asks request told ∷ calls) = told ∷ answers_in calls
 answers_in (Posts frame ∷ calls) = answers_in calls
 answers_in (Breaks ∷ calls) = answers_in calls
 
--- what was heard and what the kernel port answered determine all its calls, and where the connection then stands
+-- what was heard and what the kernel port answered determine all its calls, and where the
+-- connection then stands
 abbrev pub AnswersDetermine : Type 0
 AnswersDetermine = (before after other : Turned) (heard : List (Result Heard FrameFault)) (calls others : List KernelCall)
     → ServesAll before heard calls after → ServesAll before heard others other → answers_in calls ≡ answers_in others

@@ -31,22 +31,24 @@ use Rattle.ipc_session.specs.declared.turned.Turned.TheVariants.{On, Over}
 abbrev pub Log : Type 0
 Log = Option (List KernelCall)
 
--- all whole frames of these bytes were served, in order, each once; these bytes are left behind them
+-- all whole frames of these bytes were served, in order, each once; these bytes are left behind
+-- them
 pub record HasServed (old new : Log) (before : Stage) (bytes left : List ℕ) (after : Stage) (last : List KernelCall) : Type 0 where
   pub calls : List KernelCall
   pub tells : TellsMore old new (calls ++ last)
   pub serves : ServesAll (On before) (map heard_of (stream_of Server bytes).frames) calls (On after)
   pub rest : (stream_of Server bytes).end ≡ Rest left
 
--- what is heard next: what the next frame says, or want of memory for its call; else the fault of the stream, or the end of the
--- input inside a frame
+-- what is heard next: what the next frame says, or want of memory for its call; else the fault of
+-- the stream, or the end of the input inside a frame
 abbrev pub IsNext : List Frame → End → Option (List ℕ) → Result Heard FrameFault → Type 0
 IsNext (frame ∷ more) end input heard = HearsOf frame heard
 IsNext [] (Stopped fault) input heard = heard ≡ Err fault
 IsNext [] (Rest []) input heard = ⊥
 IsNext [] (Rest (byte ∷ bytes)) input heard = (heard ≡ Err Unfinished) × IsAtEnd input
 
--- what was heard of a stream, where the connection ended by what was heard last; this is left of the input
+-- what was heard of a stream, where the connection ended by what was heard last; this is left of
+-- the input
 pub record HeardUpTo (stream : Stream) (input : Option (List ℕ)) (heard : List (Result Heard FrameFault)) : Type 0 where
   pub front : List Frame
   pub behind : Stream
@@ -96,8 +98,8 @@ ServesPiece old new before bytes input decoder (On stage) =
     (left : List ℕ) × HasServed old new before bytes left stage [] × Holds decoder left
 ServesPiece old new before bytes input decoder (Over ending) = HasEnded old new before bytes input ending []
 
--- a reader that read these bytes ends so: behind all whole frames, at the end of the input with nothing left; or by what it heard
--- or was told last
+-- a reader that read these bytes ends so: behind all whole frames, at the end of the input with
+-- nothing left; or by what it heard or was told last
 abbrev pub EndsSo : Ending → Log → Log → List ℕ → Option (List ℕ) → List KernelCall → Type 0
 EndsSo Device old new bytes input last = (left : List ℕ) × (stage : Stage) × HasServed old new Greeting bytes left stage last
 EndsSo Halted old new bytes input last = (left : List ℕ) × (stage : Stage) × HasServed old new Greeting bytes left stage last

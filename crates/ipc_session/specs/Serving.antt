@@ -35,7 +35,8 @@ turned_at told stage = On stage
 abbrev pub ends_with : Told → Stage → Turned
 ends_with told stage = turned_at told (next_stage stage told)
 
--- what a kernel port answers: the thread of that number that it opened, that it entered the call, what ExchangeRegisters answers, or a refusal
+-- what a kernel port answers: the thread of that number that it opened, that it entered the call,
+-- what ExchangeRegisters answers, or a refusal
 abbrev pub IsAnswer : Request → Told → Type 0
 IsAnswer (Open number version) (Opened thread named) = (number_of thread ≡ number) × (named ≡ version)
 IsAnswer (Enter thread call) Entered = ⊤

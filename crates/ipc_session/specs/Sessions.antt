@@ -9,8 +9,8 @@ use Rattle.ipc_session.specs.declared.deed.Deed.{Deed}
 use Rattle.ipc_session.specs.declared.deed.Deed.TheVariants as deed
 use Rattle.ipc_session.specs.declared.ending.Ending.{Ending}
 
--- the bytes that came meanwhile ask for these calls, all of them and no others, up to an ending; then the kernel port was told once
--- that the thread ends
+-- the bytes that came meanwhile ask for these calls, all of them and no others, up to an ending;
+-- then the kernel port was told once that the thread ends
 pub record AsksFor (old new : Option (List ℕ)) (calls : List KernelCall) : Type 0 where
   pub bytes : List ℕ
   pub came : Appends old new bytes

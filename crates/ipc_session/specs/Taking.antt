@@ -10,12 +10,14 @@ use Rattle.ipc_session.specs.declared.ending.WriteEnding.TheVariants as ending
 use Rattle.ipc_session.specs.declared.next.Next.{Next}
 use Rattle.ipc_session.specs.declared.next.Next.TheVariants as next
 
--- a call of an answer port: it gave a frame, an outcome's as IPCR, or it was told that the thread ends
+-- a call of an answer port: it gave a frame, an outcome's as IPCR, or it was told that the thread
+-- ends
 pub data TakeCall : Type 0 where
   Gave : Frame → TakeCall
   Breaks : TakeCall
 
--- an answer port that tells its calls at the end told them before, and had these more, and no others
+-- an answer port that tells its calls at the end told them before, and had these more, and no
+-- others
 abbrev pub TellsTaken : Option (List TakeCall) → Option (List TakeCall) → List TakeCall → Type 0
 TellsTaken old None calls = ⊤
 TellsTaken None (Some ys) calls = ⊥
@@ -52,7 +54,8 @@ abbrev pub is_whole_at : Option WriteEnding → Bool
 is_whole_at (Some ending.Device) = false
 is_whole_at _ = true
 
--- an answer port gave frames, and then was told something more; of their text so many bytes went out, in order, and all where it is whole
+-- an answer port gave frames, and then was told something more; of their text so many bytes went
+-- out, in order, and all where it is whole
 pub record Wrote (old new : Option (List TakeCall)) (before after : Option (List ℕ)) (last : List TakeCall)
     (is_whole : Bool) : Type 0 where
   pub frames : List Frame

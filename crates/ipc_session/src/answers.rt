@@ -10,7 +10,8 @@ use ipc_connection::{Told, reply};
 use ipc_frame::WireVersion;
 use std::alloc::Global;
 
-/// Gives the frames of these answers in a version, in order, up to the first that is told to nobody, and keeps what it gave.
+/// Gives the frames of these answers in a version, in order, up to the first that is told to
+/// nobody, and keeps what it gave.
 #[derive(Drop)]
 pub struct MemoryAnswers<'a> {
     version: WireVersion,

@@ -12,8 +12,8 @@ pub trait KernelPort {
     // The calls so far, with their answers, where the port tells them.
     ghost log: { Self → Option (List KernelCall) };
 
-    /// Asks the kernel, and posts what it accepted: the id of a thread that was opened, or what ExchangeRegisters answers. An answer is of
-    /// its request's kind, or a refusal.
+    /// Asks the kernel, and posts what it accepted: the id of a thread that was opened, or what
+    /// ExchangeRegisters answers. An answer is of its request's kind, or a refusal.
     fn ask(&mut self, request: Request) -> Told
         ensures told { TellsMore (log self.old) (log self.new) (Asks request result ∷ []) }
         ensures answer { IsAnswer request result };

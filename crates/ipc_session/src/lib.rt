@@ -1,4 +1,5 @@
-//! The loops of a session: they carry frames to the kernel and outcomes back, over any ports and gate.
+//! The loops of a session: they carry frames to the kernel and outcomes back, over any ports and
+//! gate.
 #![tactic(auto)]
 
 mod answers;

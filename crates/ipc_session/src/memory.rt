@@ -12,8 +12,8 @@ use ipc_frame::WireVersion;
 use ipc_words::{Control, ThreadId};
 use std::alloc::Global;
 
-/// Keeps what it is asked, with its answers. It opens one thread and refuses each other number (K2), enters each call, stops no phase, and may
-/// refuse one request.
+/// Keeps what it is asked, with its answers. It opens one thread and refuses each other number
+/// (K2), enters each call, stops no phase, and may refuse one request.
 #[derive(Drop)]
 pub struct MemoryKernelPort {
     thread: ThreadId,
@@ -80,7 +80,8 @@ impl MemoryKernelPort {
     }
 }
 
-/// What becomes of a request that is not refused, where this thread alone may be opened and no phase was to be stopped.
+/// What becomes of a request that is not refused, where this thread alone may be opened and no
+/// phase was to be stopped.
 fn accepted(request: &Request, thread: ThreadId) -> Told
     ensures { IsAnswer request.now result }
 {

@@ -16,12 +16,14 @@ use ipc_connection::{Blocks, CallDecoder, Stage};
 use ipc_ports::PortRead;
 use std::alloc::Global;
 
-/// Reads frames and serves each by the rules of a connection, one after the other, and then tells the kernel port once that the
-/// thread ends. While the kernel port makes it wait nothing is read. The blocks give memory for long strings; no clause depends on them.
+/// Reads frames and serves each by the rules of a connection, one after the other, and then tells
+/// the kernel port once that the thread ends. While the kernel port makes it wait nothing is read.
+/// The blocks give memory for long strings; no clause depends on them.
 ///
-/// S1, S5 and BYE come by what the bytes read say or what the kernel port answered, and nothing behind that is served. S2 comes only
-/// where the device failed in this run, S3 only where the gate said stop, and EndOfInput only where the input was read to its
-/// end, between two frames. At these three ends all whole frames of the bytes read were served.
+/// S1, S5 and BYE come by what the bytes read say or what the kernel port answered, and nothing
+/// behind that is served. S2 comes only where the device failed in this run, S3 only where the gate
+/// said stop, and EndOfInput only where the input was read to its end, between two frames. At these
+/// three ends all whole frames of the bytes read were served.
 pub fn read_loop<P: PortRead, K: KernelPort, G: Gate, B: Blocks>(
     alloc: Global,
     port: &mut P,
@@ -92,8 +94,8 @@ fn read_turns<P: PortRead, K: KernelPort, G: Gate, B: Blocks>(
     Ending::Stopped
 }
 
-/// Reads once, the middle of a long string straight into its memory, and serves the frames that end in what was read. Also answers
-/// whether that was much, so that more may be waiting.
+/// Reads once, the middle of a long string straight into its memory, and serves the frames that end
+/// in what was read. Also answers whether that was much, so that more may be waiting.
 fn read_next<P: PortRead, K: KernelPort, B: Blocks>(
     port: &mut P,
     kernel_port: &mut K,
@@ -116,7 +118,8 @@ fn read_next<P: PortRead, K: KernelPort, B: Blocks>(
     }
 }
 
-/// Reads once into a buffer, and serves the frames that end in what was read. Also answers whether that was much.
+/// Reads once into a buffer, and serves the frames that end in what was read. Also answers whether
+/// that was much.
 fn read_piece<P: PortRead, K: KernelPort, B: Blocks>(
     port: &mut P,
     kernel_port: &mut K,

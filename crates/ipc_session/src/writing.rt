@@ -143,8 +143,8 @@ fn write_next<P: PortWrite, A: AnswerPort>(port: &mut P, answer_port: &mut A) ->
     }
 }
 
-/// Writes what the answer port gives: the encodings, in order, each once. After a fault of the device a prefix of that text stands,
-/// and the answer port is told once that the thread ends.
+/// Writes what the answer port gives: the encodings, in order, each once. After a fault of the
+/// device a prefix of that text stands, and the answer port is told once that the thread ends.
 pub fn write_loop<P: PortWrite, A: AnswerPort, G: Gate>(
     port: &mut P,
     answer_port: &mut A,

@@ -11,7 +11,8 @@ use Rattle.ipc_shell.specs.declared.lines.NextLine.TheVariants as next
 use Rattle.ipc_shell.specs.declared.exit.Exit.{Exit}
 use Rattle.ipc_shell.specs.declared.exit.Exit.TheVariants.{Done, BadLine, NoMemory, DeviceFailed, Illegal, UnknownVersion}
 
--- the lines that were obeyed of these bytes, and what was printed for them; the next line has this number
+-- the lines that were obeyed of these bytes, and what was printed for them; the next line has this
+-- number
 pub record ObeyedOf {S : Type 0} (Obeys : S → List ℕ → List ℕ → S → Type 0) (start : S) (bytes rest : List ℕ) (printed_before printed_now : Option (List ℕ)) (state : S) (number : ℕ) : Type 0 where
   pub before : List (List ℕ)
   pub text : List ℕ

@@ -10,7 +10,8 @@ use Rattle.ipc_shell.specs.Putting.{AppendsFront}
 use Rattle.ipc_shell.specs.declared.exit.Exit.{Exit}
 use Rattle.ipc_shell.specs.declared.exit.Exit.TheVariants.{Done, BadLine, NoMemory, DeviceFailed, Illegal, UnknownVersion}
 
--- a trace of version 2 of these entries was written, or a front of it where there is no memory or a device failed
+-- a trace of version 2 of these entries was written, or a front of it where there is no memory or a
+-- device failed
 abbrev pub WritesMigrated : List Entry → Option (List ℕ) → Option (List ℕ) → Exit → Type 0
 WritesMigrated entries before after Done = Appends before after (versioned_text Two entries)
 WritesMigrated entries before after NoMemory = AppendsFront before after (versioned_text Two entries)
@@ -28,8 +29,9 @@ TellsTorn before after (BadLine number) = ⊥
 TellsTorn before after Illegal = ⊥
 TellsTorn before after UnknownVersion = ⊥
 
--- the entries of the whole lines are written as a trace of version 2, and it is told whether a torn line stands
--- behind them; what is appended to the bytes of the new trace, and to those of the writer
+-- the entries of the whole lines are written as a trace of version 2, and it is told whether a torn
+-- line stands behind them; what is appended to the bytes of the new trace, and to those of the
+-- writer
 pub record Migrates (bytes : List ℕ) (before after said_before said_after : Option (List ℕ)) : Type 0 where
   pub version : TraceVersion
   pub entries : List Entry

@@ -23,7 +23,8 @@ written old new = drop (length old.history) new.history
 abbrev pub printed : KernelParts → Answer → KernelParts → List ℕ
 printed old answer new = entries_text (written old new) ++ ended (answer_text answer)
 
--- the kernel obeyed a command of a script, one of words and of a call in normal form within the limits, and this is printed for it
+-- the kernel obeyed a command of a script, one of words and of a call in normal form within the
+-- limits, and this is printed for it
 pub record Answers (old : KernelParts) (command : Command) (text : List ℕ) (new : KernelParts) : Type 0 where
   pub in_words : IsCommand command
   pub answer : Answer

@@ -14,12 +14,12 @@ use ipc_trace::{TraceEnd, TraceRead, TraceVersion, read_trace};
 use std::alloc::{AllocError, Global};
 
 /// Checks the trace of a reader, and prints to the writer whether it is a legal history: `yes`, or
-/// `no N EXPECTED`, N the first line that does not follow those before it, and EXPECTED the line that
-/// the rules ask for there or `input`. Behind the verdict over the whole lines `torn` tells of a last
-/// line without newline. Nothing is printed of a trace with a bad line.
+/// `no N EXPECTED`, N the first line that does not follow those before it, and EXPECTED the line
+/// that the rules ask for there or `input`. Behind the verdict over the whole lines `torn` tells of
+/// a last line without newline. Nothing is printed of a trace with a bad line.
 ///
-/// It ends as `DeviceFailed` only where a call of the reader or of the writer failed in this run, and
-/// where it ends otherwise none failed.
+/// It ends as `DeviceFailed` only where a call of the reader or of the writer failed in this run,
+/// and where it ends otherwise none failed.
 pub fn check_trace<R: PortRead, W: PortWrite>(alloc: Global, reader: &mut R, writer: &mut W) -> Exit
     ensures checks { ChecksTrace (R.remaining reader.old)
         (W.written writer.old) (W.written writer.new) result }

@@ -1,5 +1,5 @@
-//! What `l4sh` promises, over any reader and writer: scripts of commands that are run, scripts of connections whose bytes
-//! are served, traces that are checked, and traces that are written anew.
+//! What `l4sh` promises, over any reader and writer: scripts of commands that are run, scripts of
+//! connections whose bytes are served, traces that are checked, and traces that are written anew.
 #![tactic(auto)]
 
 mod check;

@@ -23,8 +23,8 @@ use std::alloc::{AllocError, Global};
 /// lines read: of all at `Done`, of those before the bad one at `BadLine`, and of the first ones at
 /// `NoMemory` and `DeviceFailed`, where the last may be cut off.
 ///
-/// It ends as `DeviceFailed` only where a call of the reader or of the writer failed in this run, or
-/// behind 2^64 - 2 lines. Where it ends otherwise, none failed.
+/// It ends as `DeviceFailed` only where a call of the reader or of the writer failed in this run,
+/// or behind 2^64 - 2 lines. Where it ends otherwise, none failed.
 pub fn run_script<R: PortRead, W: PortWrite>(
     alloc: Global,
     limits: Limits,
@@ -50,8 +50,8 @@ pub fn run_script<R: PortRead, W: PortWrite>(
     run_lines(alloc, &mut kernel, &mut buffer, &mut line, reader, writer)
 }
 
-/// Runs the lines of a script as [`run_script`] does, by this kernel. The bytes of a buffer stand before those of the
-/// reader, and each line is read into `line`.
+/// Runs the lines of a script as [`run_script`] does, by this kernel. The bytes of a buffer stand
+/// before those of the reader, and each line is read into `line`.
 fn run_lines<R: PortRead, W: PortWrite>(
     alloc: Global,
     kernel: &mut Kernel,
@@ -127,8 +127,8 @@ fn run_line<W: PortWrite>(
     }
 }
 
-/// Obeys a line, and gives what is printed for it: the lines of the entries that it wrote, and its answer line.
-/// None where it spells no command of a script.
+/// Obeys a line, and gives what is printed for it: the lines of the entries that it wrote, and its
+/// answer line. None where it spells no command of a script.
 ///
 /// The error: memory was refused.
 pub fn obey_line(

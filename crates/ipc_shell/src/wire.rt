@@ -46,8 +46,8 @@ enum Obeyed {
 /// lines read: of all at `Done`, of those before the bad one at `BadLine`, and of the first ones at
 /// `NoMemory` and `DeviceFailed`, where the last may be cut off.
 ///
-/// It ends as `DeviceFailed` only where a call of the reader or of the writer failed in this run, or
-/// behind 2^64 - 2 lines. Where it ends otherwise, none failed.
+/// It ends as `DeviceFailed` only where a call of the reader or of the writer failed in this run,
+/// or behind 2^64 - 2 lines. Where it ends otherwise, none failed.
 pub fn wire_script<R: PortRead, W: PortWrite>(
     alloc: Global,
     limits: Limits,
@@ -73,8 +73,8 @@ pub fn wire_script<R: PortRead, W: PortWrite>(
     wire_lines(alloc, &mut exchange, &mut buffer, &mut line, reader, writer)
 }
 
-/// Runs the lines of a wire script as [`wire_script`] does, by this exchange. The bytes of a buffer stand before those
-/// of the reader, and each line is read into `line`.
+/// Runs the lines of a wire script as [`wire_script`] does, by this exchange. The bytes of a buffer
+/// stand before those of the reader, and each line is read into `line`.
 fn wire_lines<R: PortRead, W: PortWrite>(
     alloc: Global,
     exchange: &mut Exchange,

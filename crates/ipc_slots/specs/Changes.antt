@@ -34,8 +34,8 @@ pub record HaveChanged (old new : List Slot) (changes : Changes) : Type 0 where
   pub apart : (a b : Change) → changes.first ≡ Some a → changes.second ≡ Some b → (a.place == b.place) ≡ false
   pub elsewhere : (k : ℕ) → changes_at changes k ≡ false → slot_at new k ≡ slot_at old k
 
--- a call of the slot at a place, which held none, has sent its message to the call of the slot at another place, which holds none now; the
--- others are as they were
+-- a call of the slot at a place, which held none, has sent its message to the call of the slot at
+-- another place, which holds none now; the others are as they were
 pub record HaveExchanged (old new : List Slot) (place there : ℕ) : Type 0 where
   pub within : place < table_slots
   pub apart : (place == there) ≡ false

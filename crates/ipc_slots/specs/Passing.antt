@@ -21,7 +21,8 @@ passed moment s = (if s.from == nilthread then None else Some (record s { since 
 abbrev pub passed_in : ℕ → Slot → Option Standing
 passed_in moment slot = option_and_then (passed moment) (standing_in slot)
 
--- the sending call of one place has passed its message to the receiving call of another one, which is over with it
+-- the sending call of one place has passed its message to the receiving call of another one, which
+-- is over with it
 abbrev pub passed_table : ℕ → List Slot → ℕ → ℕ → List Slot
 passed_table moment table i j =
     slice_set (slice_set table i (calling (passed_in moment (slot_at table i)) (slot_at table i))) j

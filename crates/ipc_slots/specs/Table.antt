@@ -59,7 +59,8 @@ open_call_in table t = option_and_then (λ l. l.call) (live_in table t)
 abbrev pub live_slots : List Slot → ℕ
 live_slots table = count_by (λ slot. is_some slot.live) table
 
--- a thread may open in a space: its number and the space are within their limits, the number is free, and the version its next one
+-- a thread may open in a space: its number and the space are within their limits, the number is
+-- free, and the version its next one
 pub record MayOpen (table : List Slot) (thread space : ℕ) : Type 0 where
   pub place : IsPlace (number_of thread) space
   pub free : (slot_at table (number_of thread)).live ≡ None

@@ -20,8 +20,8 @@ use crate::table::SlotTable;
 use ipc_words::ThreadId;
 use ipc_words::limits::TABLE_SLOTS;
 
-/// The threads by their numbers, each with its open call; a moment, how many calls were made, and the last entry. That they are those of
-/// a history is said elsewhere.
+/// The threads by their numbers, each with its open call; a moment, how many calls were made, and
+/// the last entry. That they are those of a history is said elsewhere.
 #[derive(Drop)]
 pub struct KeptSlots {
     pub(crate) table: SlotTable,
@@ -49,7 +49,8 @@ impl KeptSlots {
         }
     }
 
-    /// Slots at a moment and after so many calls, where nothing comes of the last entry; no number had a thread yet.
+    /// Slots at a moment and after so many calls, where nothing comes of the last entry; no number
+    /// had a thread yet.
     pub fn made(moment: u64, calls_made: u64) -> KeptSlots
         ensures table { result.table ≡ replicate table_slots blank }
         ensures made { IsMade result moment calls_made }
@@ -64,7 +65,8 @@ impl KeptSlots {
         }
     }
 
-    /// Sets what a number has that has no live thread: its last version, and a live thread, if there is one.
+    /// Sets what a number has that has no live thread: its last version, and a live thread, if
+    /// there is one.
     pub fn make(&mut self, place: usize, version: u32, live: Option<Live>)
         requires within { place < table_slots }
         requires free { (slot_at self.old.table place).live ≡ None }
@@ -103,7 +105,8 @@ impl KeptSlots {
         self.table.hint_of(thread)
     }
 
-    /// What is kept of the open call of the slot at a place, where it stands; None past the last place.
+    /// What is kept of the open call of the slot at a place, where it stands; None past the last
+    /// place.
     pub fn held(&self, place: usize) -> Option<&Standing>
         ensures { option_copied result ≡ standing_in (slot_at self.now.table place) }
     {

@@ -11,7 +11,8 @@ use ipc_words::limits::TABLE_SLOTS;
 use ipc_words::{ThreadId, next_version};
 use std::marker::Model;
 
-/// The threads by their numbers, each with its open call; seen as the list of the slots of the numbers, [`TABLE_SLOTS`] from 0 on.
+/// The threads by their numbers, each with its open call; seen as the list of the slots of the
+/// numbers, [`TABLE_SLOTS`] from 0 on.
 #[derive(Drop)]
 pub(crate) struct SlotTable {
     threads: ThreadTable,
@@ -150,7 +151,8 @@ impl SlotTable {
         }
     }
 
-    /// Sets what a number has that has no live thread: its last version, and a live thread, if there is one.
+    /// Sets what a number has that has no live thread: its last version, and a live thread, if
+    /// there is one.
     pub(crate) fn make(&mut self, place: usize, version: u32, live: Option<Live>)
         requires within { place < table_slots }
         requires free { (slot_at self.old place).live ≡ None }

@@ -5,8 +5,8 @@ ghost use Rattle.ipc_threads.specs.Refusal.{refusal_number};
 /// Why a thread is not opened, or a table not restored.
 #[derive(Clone, Copy, PartialEq, Eq, Debug)]
 pub enum ThreadRefusal {
-    /// K1: the number is not 1 to `MAX_THREAD_NUMBER`, the space not 1 to `MAX_SPACE`, or the low six
-    /// bits of a version to restore are zero.
+    /// K1: the number is not 1 to `MAX_THREAD_NUMBER`, the space not 1 to `MAX_SPACE`, or the low
+    /// six bits of a version to restore are zero.
     BadNumber,
     /// K2: a thread of that number is live, or the number is given twice.
     NumberTaken,

@@ -21,7 +21,8 @@ pub struct Slot {
     pub space: Option<u32>,
 }
 
-/// The threads by their numbers, seen as the list of the slots of the numbers, [`TABLE_SLOTS`] from 0 on.
+/// The threads by their numbers, seen as the list of the slots of the numbers, [`TABLE_SLOTS`] from
+/// 0 on.
 #[derive(Drop)]
 pub struct ThreadTable {
     slots: [Slot; TABLE_SLOTS],
@@ -61,8 +62,8 @@ impl ThreadTable {
 
     /// A table with these last versions, each beside its number, and with no thread live. Refusals:
     /// K1 for a number that is not 1 to [`MAX_THREAD_NUMBER`] or a version whose low six bits are
-    /// zero, K2 for a number that an earlier pair names. The first pair at fault decides, and of one pair K1
-    /// before K2.
+    /// zero, K2 for a number that an earlier pair names. The first pair at fault decides, and of
+    /// one pair K1 before K2.
     pub fn restore(pairs: &[(u32, u32)]) -> Result<ThreadTable, ThreadRefusal>
         ensures faultless { IfOk result (λ _. (k : ℕ) → k < length pairs.now
             → fault_at pairs.now k ≡ None) }
@@ -103,8 +104,8 @@ impl ThreadTable {
         Ok(())
     }
 
-    /// Sets what a number has: its last version, and the space of its live thread, if one lives. For a table that is made
-    /// from what was kept of another one.
+    /// Sets what a number has: its last version, and the space of its live thread, if one lives.
+    /// For a table that is made from what was kept of another one.
     pub fn set(&mut self, number: u32, version: u32, space: Option<u32>)
         requires within { number < table_slots }
         requires free { (slot_of self.old number).space ≡ None }
@@ -181,7 +182,8 @@ impl ThreadTable {
 
     /// The id that `open` would give a thread of this number in this space. Refusals, in this
     /// order: K1 where the number is not 1 to [`MAX_THREAD_NUMBER`] or the space not 1 to
-    /// [`MAX_SPACE`], K2 where a thread of the number is live, K3 where the last version of the number has none after it.
+    /// [`MAX_SPACE`], K2 where a thread of the number is live, K3 where the last version of the
+    /// number has none after it.
     pub fn next_id(&self, number: u32, space: u32) -> Result<ThreadId, ThreadRefusal>
         ensures answer { result ≡ next_id_of self.now number space }
         ensures bad_number { (result ≡ Err ThreadRefusal.BadNumber) ↔ (¬ IsPlace number space) }

@@ -5,8 +5,8 @@ use Rattle.ipc_ports.specs.Ports.{AppendsPart}
 use Rattle.ipc_trace.specs.declared.fault.PutFault.{PutFault}
 use Rattle.ipc_trace.specs.declared.fault.PutFault.TheVariants.{Stopped, NoMemory}
 
--- a trace that is written: the bytes so far, where its port tells them, how often its device failed, whether the
--- device holds none of the bytes back, and whether the trace has stopped
+-- a trace that is written: the bytes so far, where its port tells them, how often its device
+-- failed, whether the device holds none of the bytes back, and whether the trace has stopped
 pub record TraceParts : Type 0 where
   pub written : Option (List ℕ)
   pub failures : ℕ

@@ -1,4 +1,5 @@
--- What a line of a trace, of which no more is kept than shows that it is too long, adds to the entries.
+-- What a line of a trace, of which no more is kept than shows that it is too long, adds to the
+-- entries.
 use Rattle.std.specs.Prelude.{◌≡◌, ◌≢◌, ℕ, ◌+◌, ◌<◌, ◌≤◌, ◌⊎◌, List, [], ◌∷◌, ◌++◌, Option, Some, None, Result, Ok, Err, IsTrue, false, length}
 use Rattle.ipc_words.specs.Limits.{max_line_bytes}
 use Rattle.ipc_history.specs.declared.entry.Entry.{Entry}
@@ -25,7 +26,8 @@ ReadsEntry version line (Err fault.Bad) = KeepsBadLine version line
 ReadsEntry version line (Err fault.UnknownVersion) = ⊥
 ReadsEntry version line (Err fault.NoMemory) = Unit {0}
 
--- the first line tells the version, if it begins as one that does; each other line spells an entry, or is bad
+-- the first line tells the version, if it begins as one that does; each other line spells an entry,
+-- or is bad
 abbrev pub ReadsLine : Option TraceVersion → Option TraceVersion → List ℕ → Result (Option Entry) LineFault → Type 0
 ReadsLine None new line (Ok None) = (new ≡ Some Two) × (line ≡ version_line)
 ReadsLine None new line (Ok (Some entry)) = (new ≡ Some One) × (tells_version line ≡ false)

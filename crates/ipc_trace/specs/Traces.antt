@@ -61,7 +61,8 @@ MayEndAtUnknown Whole = ⊥
 MayEndAtUnknown Torn = ⊥
 MayEndAtUnknown (BadLine number) = ⊥
 
--- the version and the entries are those of the whole lines, and the line behind them is as the end says
+-- the version and the entries are those of the whole lines, and the line behind them is as the end
+-- says
 abbrev pub IsRead : Option (List ℕ) → Option (List ℕ) → TraceVersion → List Entry → TraceEnd → Type 0
 IsRead old new version entries Whole = MayHold version entries
     × Consumes old new (versioned_text version entries) × IsAtEnd new

@@ -1,4 +1,5 @@
--- Our choice (docs/FORMATS.md): the versions of a trace, the line that tells one, and what each may hold.
+-- Our choice (docs/FORMATS.md): the versions of a trace, the line that tells one, and what each may
+-- hold.
 use Rattle.std.specs.Prelude.{◌≡◌, ◌≢◌, ℕ, Bool, true, false, nat_eq, nat_le, List, [], ◌∷◌, ◌++◌, Option, Some, None, IsTrue, codes}
 use Rattle.std.specs.List.{All, starts_with}
 use Rattle.ipc_words.specs.ThreadIdKind.{kind_of}

@@ -5,7 +5,8 @@ ghost use Rattle.ipc_trace.specs.Faults.{end_number, put_number};
 /// Why a line was not put.
 #[derive(Clone, Copy, PartialEq, Eq, Debug)]
 pub enum PutFault {
-    /// TR1: the device failed in this call. A part of the line may stand, and the trace has stopped.
+    /// TR1: the device failed in this call. A part of the line may stand, and the trace has
+    /// stopped.
     DeviceFailed,
     /// TR2: the device failed in an earlier call. Nothing was written.
     Stopped,
@@ -46,7 +47,8 @@ pub enum TraceEnd {
     DeviceFailed,
     /// TR3: at its end, in a last line that lacks its newline.
     Torn,
-    /// TR4: at a line that spells no entry which a trace of its version may have, by its number from 1.
+    /// TR4: at a line that spells no entry which a trace of its version may have, by its number
+    /// from 1.
     BadLine(u64),
     /// TR6: at a first line that tells a version, and none that is known.
     UnknownVersion,

@@ -1,4 +1,5 @@
-//! A trace: the lines of the entries of a history, each ended by a newline, behind the line of its version.
+//! A trace: the lines of the entries of a history, each ended by a newline, behind the line of its
+//! version.
 #![tactic(auto)]
 
 mod fault;

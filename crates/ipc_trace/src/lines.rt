@@ -23,8 +23,8 @@ pub enum LineEnd {
     NoMemory,
 }
 
-/// Reads the next line through a buffer, and keeps no more of it than shows that it is too long: one byte
-/// more than [`MAX_LINE_BYTES`]. What came of a line behind the last newline is kept, too.
+/// Reads the next line through a buffer, and keeps no more of it than shows that it is too long:
+/// one byte more than [`MAX_LINE_BYTES`]. What came of a line behind the last newline is kept, too.
 pub fn next_line<P: PortRead>(port: &mut P, buffer: &mut PieceBuffer, line: &mut Vec<u8>) -> LineEnd
     ensures line { TakesLine (prepend_known buffer.old (P.remaining port.old))
         (prepend_known buffer.new (P.remaining port.new)) line.new.items result }
@@ -73,7 +73,8 @@ fn next_piece<P: PortRead>(
     }
 }
 
-// Adds what a chunk has of the line; answers how many of its bytes are taken, and what ended the line.
+// Adds what a chunk has of the line; answers how many of its bytes are taken, and what ended the
+// line.
 fn add_piece(line: &mut Vec<u8>, chunk: &[u8]) -> (usize, Option<LineEnd>)
     requires short { length line.old.items ≤ max_line_bytes + 1 }
     ensures within { result.0 ≤ length chunk.now }

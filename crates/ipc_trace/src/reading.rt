@@ -48,8 +48,8 @@ pub fn read_trace<P: PortRead>(alloc: Global, port: &mut P) -> TraceRead
     }
 }
 
-/// Reads the lines of a trace, which are given one by one. A contract sees the version that was told: None
-/// before the first line.
+/// Reads the lines of a trace, which are given one by one. A contract sees the version that was
+/// told: None before the first line.
 #[derive(Drop)]
 pub struct TraceLines {
     alloc: Global,
@@ -87,11 +87,13 @@ impl TraceLines {
         self.version.unwrap_or(TraceVersion::One)
     }
 
-    /// Reads the next line, without its newline. None where it tells the version, as the first one may.
+    /// Reads the next line, without its newline. None where it tells the version, as the first one
+    /// may.
     ///
     /// # Errors
     ///
-    /// Why the line is not read; then it counts as read, but for a first one of a version that is not known.
+    /// Why the line is not read; then it counts as read, but for a first one of a version that is
+    /// not known.
     pub fn read(&mut self, line: &[u8]) -> Result<Option<Entry>, LineFault>
         ensures { ReadsLine self.old self.new line.now result }
     {

@@ -41,8 +41,8 @@ impl TraceVersion {
             .saturating_add(1)
     }
 
-    /// Whether a trace of this version may have this entry: in version 1 no thread is opened whose number is above
-    /// [`MAX_THREAD_NUMBER_OF_VERSION_1`].
+    /// Whether a trace of this version may have this entry: in version 1 no thread is opened whose
+    /// number is above [`MAX_THREAD_NUMBER_OF_VERSION_1`].
     pub fn may_hold(self, entry: &Entry) -> bool
         ensures { result ≡ may_hold self entry.now }
     {

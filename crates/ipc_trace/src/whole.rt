@@ -9,13 +9,13 @@ use crate::writing::TraceWriter;
 use ipc_history::Entry;
 use ipc_ports::PortWrite;
 
-/// Writes a whole trace of version 2: the line of the version and those of the entries, and makes the device hand
-/// them on.
+/// Writes a whole trace of version 2: the line of the version and those of the entries, and makes
+/// the device hand them on.
 ///
 /// # Errors
 ///
-/// TR1, only where the count of failures rose in this call; TR2, where the trace had stopped before; TR5. A front of
-/// the trace stands.
+/// TR1, only where the count of failures rose in this call; TR2, where the trace had stopped
+/// before; TR5. A front of the trace stands.
 pub fn put_trace<P: PortWrite>(
     trace: &mut TraceWriter<P>,
     entries: &[Entry],

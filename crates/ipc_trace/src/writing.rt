@@ -13,7 +13,8 @@ use ipc_ports::{PortWrite, write_all};
 use std::alloc::{AllocError, Global};
 use std::marker::Model;
 
-/// Writes the line of the version and the lines of entries to a port. After a failure of the device it writes nothing more.
+/// Writes the line of the version and the lines of entries to a port. After a failure of the device
+/// it writes nothing more.
 #[derive(Drop)]
 pub struct TraceWriter<P: PortWrite> {
     alloc: Global,
@@ -51,7 +52,8 @@ impl<P: PortWrite> TraceWriter<P> {
         }
     }
 
-    /// Writes the line of the version, which stands before those of the entries. It takes no memory.
+    /// Writes the line of the version, which stands before those of the entries. It takes no
+    /// memory.
     ///
     /// # Errors
     ///

@@ -1,4 +1,5 @@
--- What may come of a call that has sent its message as soon as it was entered is found at the place of its thread.
+-- What may come of a call that has sent its message as soon as it was entered is found at the place
+-- of its thread.
 use Rattle.std.proofs.Common.{◌≡◌, refl, sym, ap, ◌∙◌, ℕ, ◌==◌, eqb-true, eq-eqb, Bool, true, false, List, Option, None}
 use Rattle.ipc_words.specs.ThreadId.{number_of}
 use Rattle.ipc_history.specs.CallParts.{CallParts}

@@ -54,7 +54,8 @@ module _ (P : List Entry) (slots : KeptSlots) (waits : Waits) (legal : Legal P) 
       go (Watching thread b w) = watching e follows thread b w
       go (Due moment c d) = due e moment c d
 
--- so before an entry its places are found: an input comes where nothing was asked for any more, an output leaves what was asked for
+-- so before an entry its places are found: an input comes where nothing was asked for any more, an
+-- output leaves what was asked for
 module _ (P : List Entry) (slots : KeptSlots) (waits : Waits) (legal : Legal P) (stands : Stands P slots) (are : AreWaits slots.table waits) (e : Entry) (follows : Follows P e) (base places : List ℕ) (covers : CoversAt P base) (added : (k : ℕ) → is_among places k ≡ (is_among base k || is_among (map (λ w. w.place) (waits_touched e waits)) k)) where
   among_left : (a b c : Bool) → c ≡ (a || b) → a ≡ true → c ≡ true
   among_left a b c e h = grind arith

@@ -13,6 +13,7 @@ pub record ArePlaces (places : List ℕ) : Type 0 where
 abbrev pub with_place : List ℕ → ℕ → List ℕ
 with_place places place = (if is_among places place then places else places ++ place ∷ [])
 
--- where the slot of a place has changed: the place is one of them while the slot holds a call, and the others are as they were
+-- where the slot of a place has changed: the place is one of them while the slot holds a call, and
+-- the others are as they were
 abbrev pub FollowsPlace : List ℕ → List ℕ → ℕ → Bool → Type 0
 FollowsPlace old new place is_open = (k : ℕ) → is_among new k ≡ (if place == k then is_open else is_among old k)

@@ -33,8 +33,8 @@ insert n (x ∷ xs) = (if n == x then x ∷ xs else (if nat_lt n x then n ∷ x 
 abbrev pub calls_at : List Entry → List ℕ → List ℕ
 calls_at P places = filter (λ n. is_among places (number_of (caller_of P n))) (numbers P)
 
--- the calls under which an output is found: the end of a transfer under its sending call, a meeting under either call, a failure
--- under the call that fails
+-- the calls under which an output is found: the end of a transfer under its sending call, a meeting
+-- under either call, a failure under the call that fails
 abbrev pub finds : ℕ → Output → Bool
 finds n (Ended k m) = k == n
 finds n output = names n (Written output)
@@ -47,11 +47,13 @@ Covers P candidates = (output : Output) → Possible P output → (n : ℕ) × I
 abbrev pub CoversAt : List Entry → List ℕ → Type 0
 CoversAt P places = Covers P (calls_at P places)
 
--- the sending call of the meeting under c: c itself, and where c receives the least call that meets it
+-- the sending call of the meeting under c: c itself, and where c receives the least call that meets
+-- it
 unfoldable pub source_of : List Entry → ℕ → Option ℕ
 source_of P c = (if is_receiving P c then find (λ k. matches P k c) (numbers P) else Some c)
 
--- the calls that lose their partner where the thread ends: n sends to it, waits for it, or is in transfer with a call of it
+-- the calls that lose their partner where the thread ends: n sends to it, waits for it, or is in
+-- transfer with a call of it
 abbrev pub sends_to : List Entry → ℕ → ℕ → Bool
 sends_to P n thread = is_sending P n && (to_of P n == thread)
 

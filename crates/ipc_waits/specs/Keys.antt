@@ -20,13 +20,15 @@ use Rattle.ipc_waits.specs.declared.waits.Waits.{Waits}
 abbrev pub sends_under : Standing → Option ℕ
 sends_under s = (if waits_to_send s.phase then Some s.to else None)
 
--- the thread whose end fails the call: that which it sends to, waits for or is in transfer with; none for a receive from any thread
+-- the thread whose end fails the call: that which it sends to, waits for or is in transfer with;
+-- none for a receive from any thread
 abbrev pub watches_under : Standing → Option ℕ
 watches_under s =
     (if waits_to_receive s.phase && ((s.awaited == anythread) || (s.awaited == anylocalthread)) then None
     else Some (partner_by s))
 
--- the moment at which a period is over that begins at another moment, in microseconds; none for never
+-- the moment at which a period is over that begins at another moment, in microseconds; none for
+-- never
 abbrev pub due_after : ℕ → ℕ → Option ℕ
 due_after since period = option_map (λ micros. min (since + micros) (2 ^ 64 - 1)) (span period)
 

@@ -47,7 +47,8 @@ abbrev pub lesser : Option Wait → Wait → Option Wait
 lesser None w = Some w
 lesser (Some known) w = (if nat_le known.number w.number then Some known else Some w)
 
--- the one of these waits that has the least number: none of no waits, else one of them, whose number no other goes below
+-- the one of these waits that has the least number: none of no waits, else one of them, whose
+-- number no other goes below
 abbrev pub IsLeastWait : List Wait → Option Wait → Type 0
 IsLeastWait waits None = waits ≡ []
 IsLeastWait waits (Some least) =

@@ -15,8 +15,8 @@ pub record IsWaiting (waiting : Waiting) : Type 0 where
   pub waits : AreWaits waiting.slots.kept.table waiting.waits
   pub covers : CoversAt waiting.slots.past waiting.candidates
 
--- before an entry: the places have those under whose calls an output is found, and those of the calls that the entry touches
--- without naming them
+-- before an entry: the places have those under whose calls an output is found, and those of the
+-- calls that the entry touches without naming them
 pub record IsTouched (P : List Entry) (e : Entry) (places : List ℕ) : Type 0 where
   pub base : List ℕ
   pub covers : CoversAt P base

@@ -1,5 +1,5 @@
-//! Who waits for whom, and until when, and what comes next of it: queues and candidates beside the slots, which each entry of a
-//! history changes in place.
+//! Who waits for whom, and until when, and what comes next of it: queues and candidates beside the
+//! slots, which each entry of a history changes in place.
 #![tactic(auto)]
 
 mod candidates;

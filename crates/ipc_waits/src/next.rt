@@ -113,7 +113,8 @@ impl Waiting {
     }
 }
 
-/// A `Waiting` beside what memory holds of its history, where two calls that meet are read as they were entered.
+/// A `Waiting` beside what memory holds of its history, where two calls that meet are read as they
+/// were entered.
 #[derive(Drop)]
 struct ReadWaiting<'a> {
     waiting: &'a Waiting,
@@ -147,7 +148,8 @@ impl<'a> ReadWaiting<'a> {
         &self.slots
     }
 
-    /// The meeting under an open call: where it receives, that of the first of the waiting sends to its caller which it accepts.
+    /// The meeting under an open call: where it receives, that of the first of the waiting sends to
+    /// its caller which it accepts.
     fn meeting_under(&self, call: &Standing) -> Option<(u64, Output)>
         requires { IsStanding self.now.slots.past call.now }
         ensures { result ≡ meeting_under self.now.slots.past call.now.number }
@@ -203,7 +205,8 @@ impl<'a> ReadWaiting<'a> {
         Some(output)
     }
 
-    /// The output of the open calls: of the rules in their order the first that applies, for the least call.
+    /// The output of the open calls: of the rules in their order the first that applies, for the
+    /// least call.
     fn waiting_output(&self) -> Option<Output>
         ensures { result ≡ waiting_output self.now.slots.past }
     {

@@ -108,7 +108,8 @@ fn least_wait(waits: &[Wait]) -> Option<Wait>
     least
 }
 
-/// Calls that wait under keys, by rising keys and under one key by rising numbers; of each place at most one.
+/// Calls that wait under keys, by rising keys and under one key by rising numbers; of each place at
+/// most one.
 #[derive(Drop)]
 pub struct Queue {
     waits: Row,

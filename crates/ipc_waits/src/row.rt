@@ -9,7 +9,8 @@ use ipc_words::limits::TABLE_SLOTS;
 use std::alloc::AllocError;
 use std::marker::Model;
 
-/// How many waits a row has room for: twice those of all places, since up to half of them are given up.
+/// How many waits a row has room for: twice those of all places, since up to half of them are given
+/// up.
 const ROOM: usize = 2 * TABLE_SLOTS;
 
 /// Lets go of the waits before the front.
@@ -26,8 +27,8 @@ fn close_up(waits: &mut Vec<Wait>, front: usize)
     waits.truncate(len - front);
 }
 
-/// Waits in a row. Its first one is given up without a move of the others: they begin at the front, and those before it, never more than
-/// half, are let go of together.
+/// Waits in a row. Its first one is given up without a move of the others: they begin at the front,
+/// and those before it, never more than half, are let go of together.
 #[derive(Drop)]
 pub(crate) struct Row {
     waits: Vec<Wait>,

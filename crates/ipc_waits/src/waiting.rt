@@ -35,7 +35,8 @@ fn reached(moment: Option<u64>) -> Option<u64>
     Some(moment)
 }
 
-/// The threads of a history by their slots, who waits for whom, and under which calls the next output is found.
+/// The threads of a history by their slots, who waits for whom, and under which calls the next
+/// output is found.
 #[derive(Drop)]
 pub struct Waiting {
     pub(crate) slots: Slots,
@@ -70,8 +71,9 @@ impl Waiting {
         &self.slots
     }
 
-    /// Before an entry, finds the calls that it touches without naming them: those whose partner ends, and those that are due.
-    /// An input comes where nothing more is possible, so that what was looked at before is forgotten.
+    /// Before an entry, finds the calls that it touches without naming them: those whose partner
+    /// ends, and those that are due. An input comes where nothing more is possible, so that what
+    /// was looked at before is forgotten.
     fn touch(&mut self, entry: &Entry)
         requires follows { Follows self.old.slots.past entry.now }
         requires waiting { IsWaiting self.old }
@@ -114,7 +116,8 @@ impl Waiting {
         let _ = self.slots.kept();
     }
 
-    /// Takes note of the next entry of the history, which memory may hold at the hint where it enters a call. Takes no memory.
+    /// Takes note of the next entry of the history, which memory may hold at the hint where it
+    /// enters a call. Takes no memory.
     pub fn note(&mut self, entry: &Entry, hint: usize)
         requires follows { Follows self.old.slots.past entry.now }
         requires waiting { IsWaiting self.old }
@@ -144,8 +147,8 @@ impl Waiting {
         self.waits.deadlines().is_any_until(moment)
     }
 
-    /// The least moment, in microseconds, at which a waiting phase is due; None where no clock reading makes one due. Looks at the least
-    /// deadline alone.
+    /// The least moment, in microseconds, at which a waiting phase is due; None where no clock
+    /// reading makes one due. Looks at the least deadline alone.
     pub fn least_due(&self) -> Option<u64>
         requires { IsWaiting self.now }
         ensures { IsLeastDue self.now.slots.past result }

@@ -10,8 +10,8 @@ use ipc_history::{Entry, Input};
 use ipc_slots::Standing;
 use std::alloc::AllocError;
 
-/// The waits of the open calls: by the receiver that they send to, by the thread whose end fails them, and by the moment from which
-/// they are due.
+/// The waits of the open calls: by the receiver that they send to, by the thread whose end fails
+/// them, and by the moment from which they are due.
 #[derive(Drop)]
 pub struct Waits {
     pub(crate) senders: Queue,
@@ -59,7 +59,8 @@ impl Waits {
         &self.deadlines
     }
 
-    /// The waits of the calls that an entry touches without naming them: of those whose partner ends, and of those that are due.
+    /// The waits of the calls that an entry touches without naming them: of those whose partner
+    /// ends, and of those that are due.
     pub(crate) fn touched(&self, entry: &Entry) -> &[Wait]
         ensures value { result.now ≡ waits_touched entry.now self.now }
         ensures within { All (λ w. w.place < table_slots) result.now }

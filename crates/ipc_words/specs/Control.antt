@@ -1,4 +1,5 @@
--- L4 X.2 manual, ExchangeRegisters: of the control word the bits R (1) and S (2), which stop a receive phase and a send phase.
+-- L4 X.2 manual, ExchangeRegisters: of the control word the bits R (1) and S (2), which stop a
+-- receive phase and a send phase.
 use Rattle.std.specs.Prelude.{ℕ, ◌+◌, ◌*◌, ◌/◌, ◌%◌, ◌||◌, Bool, ◌==◌}
 use Rattle.ipc_words.specs.Bits.{bit_of}
 

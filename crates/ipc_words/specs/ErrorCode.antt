@@ -1,4 +1,5 @@
--- L4 X.2 manual, ErrorCode: p in bit 0 (0 for the send phase, 1 for the receive phase), e in bits 1 to 3, the offset above.
+-- L4 X.2 manual, ErrorCode: p in bit 0 (0 for the send phase, 1 for the receive phase), e in bits 1
+-- to 3, the offset above.
 use Rattle.std.specs.Prelude.{ℕ, ◌+◌, ◌*◌, ◌/◌, ◌%◌, ◌^◌}
 
 -- the code of a phase that failed with e at an offset

@@ -1,4 +1,5 @@
--- Laws of the words: a word and its fields determine each other, and what follows for the values made of them.
+-- Laws of the words: a word and its fields determine each other, and what follows for the values
+-- made of them.
 use Rattle.std.specs.Prelude.{ℕ, ◌-◌, ◌*◌, ◌%◌, ◌^◌, ◌<◌, ◌≤◌, ◌≡◌, ◌≢◌, ◌↔◌, Bool, false, Some, IsTrue, IsNone, IfSome}
 use Rattle.ipc_words.specs.ThreadId.{number_of, version_of, id_of, IsGlobal}
 use Rattle.ipc_words.specs.ThreadIdKind.{kind_of}
@@ -63,7 +64,8 @@ abbrev pub FieldsOfPeriodReadBack : Type 0
 FieldsOfPeriodReadBack =
     (e m : ℕ) → m < 2 ^ 10 → (exponent_of (period_of e m) ≡ e) × (mantissa_of (period_of e m) ≡ m)
 
--- a period that is not never lasts 2^e * m microseconds, only never has no span, and none lasts longer than the longest
+-- a period that is not never lasts 2^e * m microseconds, only never has no span, and none lasts
+-- longer than the longest
 abbrev pub SpanOfPeriod : Type 0
 SpanOfPeriod =
     (e m : ℕ) → m < 2 ^ 10 → period_of e m ≢ 0 → span (period_of e m) ≡ Some (2 ^ e * m)

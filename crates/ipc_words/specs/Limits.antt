@@ -1,7 +1,9 @@
--- The limits, each with its source: the L4 X.2 manual, or our choice (docs/PROFILE.md). Two limits of one number are two names.
+-- The limits, each with its source: the L4 X.2 manual, or our choice (docs/PROFILE.md). Two limits
+-- of one number are two names.
 use Rattle.std.specs.Prelude.{ℕ, ◌^◌}
 
--- Threads and spaces. Our choice: the greatest thread number and the greatest space; both are counted from 1
+-- Threads and spaces. Our choice: the greatest thread number and the greatest space; both are
+-- counted from 1
 abbrev pub max_thread_number : ℕ
 max_thread_number = 1023
 
@@ -63,7 +65,8 @@ max_outputs = 4092
 abbrev pub max_command_entries : ℕ
 max_command_entries = 4094
 
--- Room, in entries. What an open, a call, each block of its strings, and an ExchangeRegisters may need
+-- Room, in entries. What an open, a call, each block of its strings, and an ExchangeRegisters may
+-- need
 abbrev pub need_of_open : ℕ
 need_of_open = 4
 
@@ -98,6 +101,7 @@ max_frame_body = 2 ^ 21
 abbrev pub max_pieces : ℕ
 max_pieces = 255
 
--- Charts. Our choice: the greatest number of an entry at which a chart may begin or end, a number of 32 bits
+-- Charts. Our choice: the greatest number of an entry at which a chart may begin or end, a number
+-- of 32 bits
 abbrev pub max_chart_entry : ℕ
 max_chart_entry = 4294967295

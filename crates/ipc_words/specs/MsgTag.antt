@@ -1,4 +1,5 @@
--- L4 X.2 manual, message tag (MR0): u in bits 0 to 5, t in bits 6 to 11, the flags p, r, X and E in bits 12 to 15, the label above.
+-- L4 X.2 manual, message tag (MR0): u in bits 0 to 5, t in bits 6 to 11, the flags p, r, X and E in
+-- bits 12 to 15, the label above.
 use Rattle.std.specs.Prelude.{ℕ, ◌/◌, ◌%◌, ◌^◌, Bool, ◌==◌}
 
 -- u, the number of untyped words

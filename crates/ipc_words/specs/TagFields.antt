@@ -32,7 +32,8 @@ fields_of tag =
 abbrev pub FitsTag : TagFields → Type 0
 FitsTag fields = (fields.untyped < 2 ^ 6) × (fields.typed < 2 ^ 6) × (fields.label < 2 ^ 48)
 
--- the tag that a receiver gets: u and the label as they were sent, t and p as given, and r, X and E 0
+-- the tag that a receiver gets: u and the label as they were sent, t and p as given, and r, X and E
+-- 0
 abbrev pub received_tag : ℕ → ℕ → Bool → ℕ
 received_tag sent t p =
     tag_of (record {

@@ -23,6 +23,7 @@ version_of id = id % 2 ^ 32
 abbrev pub id_of : ℕ → ℕ → ℕ
 id_of number version = version + 2 ^ 32 * number
 
--- a number and a version that make a global thread id: the version's low six bits are not all zero, and the word is not anythread's
+-- a number and a version that make a global thread id: the version's low six bits are not all zero,
+-- and the word is not anythread's
 abbrev pub IsGlobal : ℕ → ℕ → Type 0
 IsGlobal number version = (version % 2 ^ 6 ≢ 0) × (id_of number version ≢ anythread)

@@ -4,7 +4,8 @@ use Rattle.ipc_words.specs.ThreadId.{nilthread, anythread, anylocalthread, numbe
 use Rattle.ipc_words.specs.declared.thread_id.ThreadIdKind.{ThreadIdKind}
 use Rattle.ipc_words.specs.declared.thread_id.ThreadIdKind.TheVariants.{Nilthread, Anythread, Anylocalthread, Global, Other}
 
--- the three ids that name no thread; a local id, whose low six bits are all zero, is none of ours; any other is global
+-- the three ids that name no thread; a local id, whose low six bits are all zero, is none of ours;
+-- any other is global
 abbrev pub kind_of : ℕ → ThreadIdKind
 kind_of id =
     (if id == nilthread then Nilthread

@@ -1,4 +1,5 @@
--- L4 X.2 manual, Ipc: the word of the two timeouts, the receive timeout in bits 0 to 15 and the send timeout in bits 16 to 31.
+-- L4 X.2 manual, Ipc: the word of the two timeouts, the receive timeout in bits 0 to 15 and the
+-- send timeout in bits 16 to 31.
 use Rattle.std.specs.Prelude.{ℕ, ◌+◌, ◌*◌, ◌/◌, ◌%◌, ◌^◌, Option}
 use Rattle.ipc_words.specs.Time.{period_in}
 

@@ -1,4 +1,5 @@
--- Our choice (docs/PROFILE.md): the versions of a thread number. The low six bits of a version are never all zero.
+-- Our choice (docs/PROFILE.md): the versions of a thread number. The low six bits of a version are
+-- never all zero.
 use Rattle.std.specs.Prelude.{ℕ, ◌+◌, ◌%◌, Option, Some, None, if◌then◌else◌, ◌==◌}
 
 -- the version that follows v; none after 2^32 - 1, where the number is worn out

@@ -18,7 +18,8 @@ impl Model for Control {
 }
 
 impl Control {
-    /// The control of any word of 64 bits. The bits other than R and S are kept, and nothing looks at them.
+    /// The control of any word of 64 bits. The bits other than R and S are kept, and nothing looks
+    /// at them.
     pub fn from_word(word: u64) -> Control
         ensures { result ≡ word }
     {

@@ -1,5 +1,5 @@
-//! Laws of the words, each a function that computes nothing and whose contract is the law: a word and its fields determine
-//! each other, and what follows for the values made of them.
+//! Laws of the words, each a function that computes nothing and whose contract is the law: a word
+//! and its fields determine each other, and what follows for the values made of them.
 ghost use Rattle.ipc_words.specs.Laws.{TagIsSumOfFields, FieldsOfTagReadBack, ReceivedTagReadsBack};
 ghost use Rattle.ipc_words.specs.Laws.{IdIsSumOfFields, FieldsOfIdReadBack, GlobalIdIsGlobal};
 ghost use Rattle.ipc_words.specs.Laws.{GlobalKindIsOfGlobalId, PeriodIsSumOfFields};
@@ -136,7 +136,8 @@ pub fn only_last_version_has_no_next()
     ensures { OnlyLastVersionHasNoNext }
 {}
 
-/// The periods with names, zero time and never: their words are 0x400 and 0, and zero time lasts 0 microseconds.
+/// The periods with names, zero time and never: their words are 0x400 and 0, and zero time lasts 0
+/// microseconds.
 pub fn named_periods() -> (Period, Period)
     ensures zero { result.0 ≡ no_time }
     ensures length { span no_time ≡ Some 0 }

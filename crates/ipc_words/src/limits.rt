@@ -1,4 +1,5 @@
-//! The limits of Hashkarst. Each is the definition of its name in `specs/Limits.antt`, where its source stands.
+//! The limits of Hashkarst. Each is the definition of its name in `specs/Limits.antt`, where its
+//! source stands.
 
 ghost use Rattle.std.specs.Prelude.{◌≡◌, ◌+◌, ◌*◌, ◌-◌, ◌^◌};
 ghost use Rattle.ipc_words.specs.Limits.{max_thread_number, max_space, table_slots, max_connections};
@@ -143,8 +144,8 @@ pub fn format_limits_are_defined()
     ensures chart { MAX_CHART_ENTRY ≡ max_chart_entry }
 {}
 
-/// The limits hang together: a slot for each number from 0, two words for each string, four outputs for each number and two
-/// entries more for a command.
+/// The limits hang together: a slot for each number from 0, two words for each string, four outputs
+/// for each number and two entries more for a command.
 pub fn limits_hang_together()
     ensures slots { table_slots ≡ max_thread_number + 1 }
     ensures strings { max_message_words ≡ 2 * max_strings + 1 }

@@ -210,8 +210,8 @@ impl MsgTag {
         })
     }
 
-    /// The tag that a receiver gets for this sent one: its u and label, t and p as given, and r, X and E 0. None where t is 64
-    /// or more.
+    /// The tag that a receiver gets for this sent one: its u and label, t and p as given, and r, X
+    /// and E 0. None where t is 64 or more.
     pub fn received(self, typed: u8, propagated: bool) -> Option<MsgTag>
         ensures fits { IsSome result ↔ (typed < 2 ^ 6) }
         ensures value { IfSome result (λ tag. tag ≡ received_tag self typed propagated) }

@@ -3,7 +3,8 @@ ghost use Rattle.ipc_words.specs.Time.{span, longest_span, period_in};
 
 use std::marker::Model;
 
-/// A period of 16 bits, seen as its word: 2^e * m microseconds, or never where the word is 0 (L4 X.2 manual, time).
+/// A period of 16 bits, seen as its word: 2^e * m microseconds, or never where the word is 0 (L4
+/// X.2 manual, time).
 #[derive(Clone, Copy, PartialEq, Eq, Debug)]
 pub struct Period {
     word: u16,

@@ -1,4 +1,5 @@
-/// The fields of a message tag, not yet in a word. `MsgTag::from_fields` refuses a field that is past its width.
+/// The fields of a message tag, not yet in a word. `MsgTag::from_fields` refuses a field that is
+/// past its width.
 #[derive(Clone, Copy, PartialEq, Eq, Debug)]
 pub struct TagFields {
     /// u, the number of untyped words: 6 bits.

@@ -3,7 +3,8 @@ ghost use Rattle.ipc_words.specs.ThreadId.{nilthread, anythread, anylocalthread,
 
 use std::marker::Model;
 
-/// A thread id, seen as its word. Ids are equal where their whole words are (L4 X.2 manual, ThreadId).
+/// A thread id, seen as its word. Ids are equal where their whole words are (L4 X.2 manual,
+/// ThreadId).
 #[derive(Clone, Copy, PartialEq, Eq, Hash, Debug)]
 pub struct ThreadId {
     word: u64,
@@ -74,8 +75,8 @@ impl ThreadId {
         (self.word % 0x1_0000_0000) as u32
     }
 
-    /// The global id of a thread number and a version, or None where the version's low six bits are all zero or the word is
-    /// anythread's.
+    /// The global id of a thread number and a version, or None where the version's low six bits are
+    /// all zero or the word is anythread's.
     pub fn global(number: u32, version: u32) -> Option<ThreadId>
         ensures global { IsSome result ↔ IsGlobal number version }
         ensures value { IfSome result (λ id. id ≡ id_of number version) }

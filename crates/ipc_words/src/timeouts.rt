@@ -4,7 +4,8 @@ ghost use Rattle.ipc_words.specs.Timeouts.{timeouts_of, receive_period, send_per
 use crate::period::Period;
 use std::marker::Model;
 
-/// The two timeouts of a call, a word of 32 bits: the receive period in bits 0 to 15, the send period in bits 16 to 31.
+/// The two timeouts of a call, a word of 32 bits: the receive period in bits 0 to 15, the send
+/// period in bits 16 to 31.
 #[derive(Clone, Copy, PartialEq, Eq, Debug)]
 pub struct Timeouts {
     word: u32,

@@ -11,7 +11,8 @@ use Rattle.l4sh.specs.declared.exit.Exit.TheVariants.{Done, BadLine, NoMemory, D
 use Rattle.l4sh.specs.declared.looking.Look.{Look}
 use Rattle.l4sh.specs.declared.looking.Look.TheVariants.{Script, StateAt, Counts}
 
--- the entries before the line of this number, counted from 1, are so many and legal, those up to it are not
+-- the entries before the line of this number, counted from 1, are so many and legal, those up to it
+-- are not
 pub record IsFaultLine (version : TraceVersion) (entries : List Entry) (number place : ℕ) : Type 0 where
   pub number_is : number ≡ header_lines version + place + 1
   pub before : Legal (take place entries)
@@ -98,7 +99,8 @@ abbrev pub MayDraw : Exit → Type 0
 MayDraw exit = (version : TraceVersion) (entries : List Entry) → Legal entries
     → IsDrawnOf version entries exit
 
--- the first entries of the whole lines, so many, of which this is said, and whether a torn line stands behind them
+-- the first entries of the whole lines, so many, of which this is said, and whether a torn line
+-- stands behind them
 abbrev pub DrawsTrace : ℕ → List ℕ → Bool → Exit → Type 0
 DrawsTrace last bytes is_torn exit = (version : TraceVersion) × ((entries : List Entry)
     × HasLines bytes version entries is_torn × IsDrawnOf version (take last entries) exit)

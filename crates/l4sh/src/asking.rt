@@ -47,7 +47,8 @@ const PIECE: usize = 4_096;
 /// In how many pieces an answer may come.
 const MOST_PIECES: u32 = 1_000_000;
 
-/// Asks the server of a folder, and prints what it answers. How that ended, and the reason where the server cannot be asked.
+/// Asks the server of a folder, and prints what it answers. How that ended, and the reason where
+/// the server cannot be asked.
 pub(crate) fn ask_server<R: Net, W: PortWrite>(
     rt: &R,
     alloc: Global,
@@ -147,7 +148,8 @@ fn not_asked(
     )
 }
 
-/// The server does not answer in its time, and the reason names its path and what was asked. Without memory there is no reason.
+/// The server does not answer in its time, and the reason names its path and what was asked.
+/// Without memory there is no reason.
 pub(crate) fn silent(alloc: Global, path: &str, question: Question) -> (Exit, Option<String>) {
     let reason = format!(in alloc; "{path}: no answer to {question} within {PATIENCE} seconds");
     (Exit::DeviceFailed, reason.ok())

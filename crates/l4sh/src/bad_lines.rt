@@ -7,8 +7,8 @@ use ipc_words::limits::{MAX_LINE_BYTES, MAX_SPACE};
 use l4sh_reasons::{Grammar, reason_text};
 use std::alloc::{AllocError, Global};
 
-/// An exit with the reason of a bad line, which is among the last that were read. Without memory there is
-/// no reason.
+/// An exit with the reason of a bad line, which is among the last that were read. Without memory
+/// there is no reason.
 pub(crate) fn with_reason(alloc: Global, exit: Exit, grammar: Grammar, tail: &Tail) -> Ending {
     let Exit::BadLine(number) = exit else {
         return Ending::from(exit);

@@ -9,8 +9,9 @@ use std::rt::Files;
 /// How many bytes of a file that tells when a trace began are read: more than its line has.
 const MOST_BYTES: usize = 64;
 
-/// How the moments of the history of these files are told. Where that is as times of day, the first of them has a file beside it that says
-/// when it began, `FILE.began`; else the ending says that no time is known.
+/// How the moments of the history of these files are told. Where that is as times of day, the first
+/// of them has a file beside it that says when it began, `FILE.began`; else the ending says that no
+/// time is known.
 pub(crate) fn times_of<R: Files>(
     rt: &R,
     alloc: Global,
@@ -29,7 +30,8 @@ pub(crate) fn times_of<R: Files>(
     }
 }
 
-/// What the file beside a trace says of its beginning. None where it is not there, or says nothing of that.
+/// What the file beside a trace says of its beginning. None where it is not there, or says nothing
+/// of that.
 fn start_beside<R: Files>(rt: &R, alloc: Global, file: &str) -> Option<Start> {
     let path = format!(in alloc; "{file}.began").ok()?;
     let mut opened = File::open(rt, path.as_str()).ok()?;

@@ -11,8 +11,9 @@ use std::rt::Files;
 /// The status where no history was found.
 const NOT_FOUND: u8 = 6;
 
-/// Checks files of which the first is a part, where the check of a trace ended at its first line. Prints `yes from FILE` where a history was
-/// found that ends as FILE says, and the entries of all files are one history with it; `no FILE N EXPECTED` where they are none.
+/// Checks files of which the first is a part, where the check of a trace ended at its first line.
+/// Prints `yes from FILE` where a history was found that ends as FILE says, and the entries of all
+/// files are one history with it; `no FILE N EXPECTED` where they are none.
 pub(crate) fn check_begun<R: Files + Input, W: PortWrite>(
     rt: &R,
     alloc: Global,

@@ -16,10 +16,10 @@ use l4sh_threads::read_threads;
 use l4sh_times::Times;
 use std::alloc::{AllocError, Global};
 
-/// Draws the trace of a reader as a sequence chart and prints it, over the whole lines where the last
-/// one is torn, and then ends as `Torn`. Nothing is printed of a trace with a bad line, nor of one with a line up to the last
-/// that may be shown that does not follow those before it, nor where the list of threads has a word
-/// that is no id, nor of a chart without a row.
+/// Draws the trace of a reader as a sequence chart and prints it, over the whole lines where the
+/// last one is torn, and then ends as `Torn`. Nothing is printed of a trace with a bad line, nor of
+/// one with a line up to the last that may be shown that does not follow those before it, nor where
+/// the list of threads has a word that is no id, nor of a chart without a row.
 ///
 /// It ends as `DeviceFailed` only where a call of the reader or of the writer failed in this run.
 pub fn chart_trace<R: PortRead, W: PortWrite>(
@@ -109,8 +109,8 @@ fn selection_with(options: &ChartOptions<'_>, threads: Option<Vec<ThreadId>>) ->
     }
 }
 
-// Draws the entries that were read and prints them, where those up to the last that may be shown are a legal
-// history.
+// Draws the entries that were read and prints them, where those up to the last that may be shown
+// are a legal history.
 fn print_chart<W: PortWrite>(
     alloc: Global,
     read: &TraceRead,

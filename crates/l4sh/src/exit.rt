@@ -22,11 +22,11 @@ pub enum Exit {
     BadWord,
     /// The first line of a trace tells a version that is not known: status 2.
     UnknownVersion,
-    /// The line of this number, from 1, of a trace does not follow those before it, which are those of so many
-    /// entries and of the version: status 3.
+    /// The line of this number, from 1, of a trace does not follow those before it, which are those
+    /// of so many entries and of the version: status 3.
     IllegalLine { number: u64, entries: u64 },
-    /// What was asked for is printed, of the whole lines of a trace up to this number, from 1: behind them
-    /// stands a line without its newline, so what came later is missing. Status 5.
+    /// What was asked for is printed, of the whole lines of a trace up to this number, from 1:
+    /// behind them stands a line without its newline, so what came later is missing. Status 5.
     Torn(u64),
 }
 

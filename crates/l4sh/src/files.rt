@@ -256,7 +256,8 @@ fn fault_text(alloc: Global, file: &str, fault: PartFault) -> Result<String, All
     }
 }
 
-/// The same ending, whose reason begins with the file; that of a device that failed names it already.
+/// The same ending, whose reason begins with the file; that of a device that failed names it
+/// already.
 fn of_file(alloc: Global, file: &str, ending: Ending) -> Ending {
     match ending {
         Ending::Alone {

@@ -12,9 +12,10 @@ use l4sh_threads::read_threads;
 use l4sh_times::Times;
 use std::alloc::Global;
 
-/// Tells the entries of the trace of a reader in words, each as soon as its line is there, to the end of the
-/// reader. A last line without its newline is left out, and then it ends as `Torn`. A bad line ends it, and what came before it was told. The
-/// line of the version, which may come first, is told of by nothing.
+/// Tells the entries of the trace of a reader in words, each as soon as its line is there, to the
+/// end of the reader. A last line without its newline is left out, and then it ends as `Torn`. A
+/// bad line ends it, and what came before it was told. The line of the version, which may come
+/// first, is told of by nothing.
 ///
 /// It ends as `DeviceFailed` only where a call of the reader or of the writer failed in this run.
 pub fn follow_trace<R: PortRead, W: PortWrite>(
@@ -54,8 +55,8 @@ fn follow_with<R: PortRead, W: PortWrite>(
     follow_lines(follower, &mut lines, &mut buffer, &mut line, reader, writer)
 }
 
-// The same over the lines of a trace. The bytes of a buffer stand before those of the reader, and each line is read
-// into `line`.
+// The same over the lines of a trace. The bytes of a buffer stand before those of the reader, and
+// each line is read into `line`.
 fn follow_lines<R: PortRead, W: PortWrite>(
     follower: &mut Follower,
     lines: &mut TraceLines,

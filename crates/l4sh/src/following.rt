@@ -108,7 +108,8 @@ impl<P: PortRead> Lines<P> {
     }
 }
 
-/// Asks the server of a folder for its trace, and tells each entry that comes from now on, until the service ends.
+/// Asks the server of a folder for its trace, and tells each entry that comes from now on, until
+/// the service ends.
 pub(crate) fn follow_server<L: Ledger, R: Net, W: PortWrite>(
     rt: &R,
     alloc: Global,

@@ -11,8 +11,9 @@ use ipc_trace::{PutFault, TraceRead, TraceWriter};
 use std::alloc::{AllocError, Global};
 use std::rt::Files;
 
-/// Checks whether several files are one history, and prints `yes`, or `no FILE N EXPECTED`: line N of FILE is the first that does not follow,
-/// and EXPECTED the line that is to stand there, or `input`. Behind a `yes` or a `no`, `torn` tells of a last line of the last file without its
+/// Checks whether several files are one history, and prints `yes`, or `no FILE N EXPECTED`: line N
+/// of FILE is the first that does not follow, and EXPECTED the line that is to stand there, or
+/// `input`. Behind a `yes` or a `no`, `torn` tells of a last line of the last file without its
 /// newline.
 pub(crate) fn check_files<R: Files + Input, W: PortWrite>(
     rt: &R,

@@ -19,7 +19,8 @@ use std::alloc::Global;
 use std::net::Net;
 use std::sync::ledger::Ledger;
 
-/// Runs the script of standard input. Of a p that is dropped it is told on standard error, where that is a terminal.
+/// Runs the script of standard input. Of a p that is dropped it is told on standard error, where
+/// that is a terminal.
 pub(crate) fn run_input<L: Ledger, R: Input + Eprint, W: PortWrite>(
     rt: &R,
     alloc: Global,

@@ -9,7 +9,8 @@ pub struct KeptPort<P: PortRead> {
     tail: Tail,
 }
 
-/// The last lines of what was read: those that ended in the last piece, and the one that has not ended.
+/// The last lines of what was read: those that ended in the last piece, and the one that has not
+/// ended.
 #[derive(Drop)]
 pub struct Tail {
     bytes: Vec<u8>,
@@ -75,8 +76,8 @@ impl Tail {
     }
 
     /// The line of this number, counted from 1, without its newline. Of one that is longer than
-    /// [`MAX_LINE_BYTES`] these are its first bytes, and more than so many. None where it is not among
-    /// the last lines, or where there was no memory for them.
+    /// [`MAX_LINE_BYTES`] these are its first bytes, and more than so many. None where it is not
+    /// among the last lines, or where there was no memory for them.
     pub fn line(&self, number: u64) -> Option<&[u8]> {
         if self.is_lost {
             return None;

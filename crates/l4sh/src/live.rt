@@ -18,8 +18,8 @@ pub struct Talked {
     pub reason: Option<String>,
 }
 
-/// Connects to a space of the server of a folder, and talks as one of its threads. Without memory there is
-/// no reason.
+/// Connects to a space of the server of a folder, and talks as one of its threads. Without memory
+/// there is no reason.
 ///
 /// It ends as `DeviceFailed` only where a call of the reader or of the writer failed in this talk.
 pub fn talk_to_server<N: Net, R: PortRead, W: PortWrite>(
@@ -64,7 +64,8 @@ fn talk_at<N: Net, R: PortRead, W: PortWrite>(
     }
 }
 
-// Talks over a socket as the thread of this number. A server that does not say WELCOME in its time counts as none.
+// Talks over a socket as the thread of this number. A server that does not say WELCOME in its time
+// counts as none.
 fn talk_along<R: PortRead, W: PortWrite>(
     alloc: Global,
     path: &str,
@@ -113,7 +114,8 @@ fn path_of(alloc: Global, options: &TalkOptions<'_>) -> Result<String, AllocErro
     format!(in alloc; "{dir}/space{space}")
 }
 
-// Talks over a socket, by what is read of it and by itself. The counts of its failures begin as blanks.
+// Talks over a socket, by what is read of it and by itself. The counts of its failures begin as
+// blanks.
 fn talk_over<I: Ledger, O: Ledger, R: PortRead, W: PortWrite>(
     alloc: Global,
     from_server: PatientStream<'_>,

@@ -54,7 +54,8 @@ fn put_state<W: PortWrite>(alloc: Global, answer: &[u8], times: Times, writer: &
     }
 }
 
-/// How the moments of a server are told: where that is as times of day, it says when it began; else the ending says that no time is known.
+/// How the moments of a server are told: where that is as times of day, it says when it began; else
+/// the ending says that no time is known.
 pub(crate) fn live_times<R: Net>(
     rt: &R,
     alloc: Global,

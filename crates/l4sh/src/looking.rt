@@ -29,10 +29,9 @@ pub enum Look {
     Counts { is_json: bool },
 }
 
-/// Prints what is asked of the trace of a reader, over the whole lines where the last one is torn, and then
-/// ends as `Torn`.
-/// Nothing is printed of a trace with a bad line, nor of one with a line that does not follow those
-/// before it; for a state only the lines before it are looked at.
+/// Prints what is asked of the trace of a reader, over the whole lines where the last one is torn,
+/// and then ends as `Torn`. Nothing is printed of a trace with a bad line, nor of one with a line
+/// that does not follow those before it; for a state only the lines before it are looked at.
 ///
 /// It ends as `DeviceFailed` only where a call of the reader or of the writer failed in this run.
 pub fn look_at_trace<R: PortRead, W: PortWrite>(

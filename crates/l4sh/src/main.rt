@@ -1,7 +1,7 @@
 //! The program `l4sh`: runs scripts of opens, calls, clock readings, cancels and breaks, and prints
-//! what happens; serves connections whose bytes a script gives; checks the trace of a history, draws it
-//! as a chart, tells the state of its threads, gives back its script, and writes it anew; explains numbers
-//! and words, and makes tags and periods.
+//! what happens; serves connections whose bytes a script gives; checks the trace of a history,
+//! draws it as a chart, tells the state of its threads, gives back its script, and writes it anew;
+//! explains numbers and words, and makes tags and periods.
 #![tactic(auto)]
 
 ghost use Rattle.std.specs.Prelude.{◌≡◌, ◌<◌};
@@ -77,8 +77,8 @@ fn obey_words<R: Alloc + Files + Input + Print + Eprint + Net>(
     }
 }
 
-/// Tells what is wrong with the words, or the version or the help where they ask for it, and answers the status of the
-/// program.
+/// Tells what is wrong with the words, or the version or the help where they ask for it, and
+/// answers the status of the program.
 fn tell_error<R: Alloc + Files + Print + Eprint>(
     rt: &R,
     alloc: Global,
@@ -110,7 +110,8 @@ fn is_help(words: &[String]) -> bool {
     }
 }
 
-/// Does what was asked for. The counts of failures, of the reader and of the writer, begin as blanks.
+/// Does what was asked for. The counts of failures, of the reader and of the writer, begin as
+/// blanks.
 fn obey<L: Ledger, M: Ledger, R: Files + Input + Print + Eprint + Net>(
     rt: &R,
     alloc: Global,

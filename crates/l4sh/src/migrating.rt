@@ -43,7 +43,8 @@ impl<'a> Migration<'a> {
     }
 }
 
-/// Writes the trace of a file, or of standard input, anew into a file, which is made at its first write.
+/// Writes the trace of a file, or of standard input, anew into a file, which is made at its first
+/// write.
 pub(crate) fn migrate_file<L: Ledger, R: Files + Input, W: PortWrite>(
     rt: &R,
     alloc: Global,
@@ -81,8 +82,8 @@ fn migrate_over<L: Ledger, N: Ledger, R: Files + Input, W: PortWrite>(
     }
 }
 
-/// Writes the trace of a file, or of standard input, anew into this file. The count of the failures of the new one
-/// begins as a blank.
+/// Writes the trace of a file, or of standard input, anew into this file. The count of the failures
+/// of the new one begins as a blank.
 fn migrate_into<L: Ledger, N: Ledger, F: Write, R: Files + Input, W: PortWrite>(
     rt: &R,
     alloc: Global,

@@ -71,8 +71,8 @@ fn look_at_opened<T: Task, L: Ledger, R: Files, W: PortWrite>(
     }
 }
 
-/// A device failed. The reason is the file where that is a folder, which can be opened and not read. Without memory
-/// there is no reason.
+/// A device failed. The reason is the file where that is a folder, which can be opened and not
+/// read. Without memory there is no reason.
 fn device_failed<R: Files>(rt: &R, alloc: Global, file: &str) -> Ending {
     let exit = Exit::DeviceFailed;
     if is_folder(rt, file) {
@@ -91,7 +91,8 @@ pub(crate) fn is_folder<R: Files>(rt: &R, file: &str) -> bool {
     }
 }
 
-/// A file that cannot be opened is a device that failed, and the reason names it. Without memory there is no reason.
+/// A file that cannot be opened is a device that failed, and the reason names it. Without memory
+/// there is no reason.
 pub(crate) fn not_opened(alloc: Global, file: &str, error: &io::Error) -> Ending {
     let reason = format!(in alloc; "{file}: {error}");
     Ending::Alone {

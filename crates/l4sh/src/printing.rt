@@ -223,7 +223,8 @@ pub(crate) fn chart_of<L: Ledger, R: Files + Input, W: PortWrite>(
     told_chart(alloc, options, &ending).unwrap_or(ending)
 }
 
-/// Tells the history of files, or of standard input, in words, or what a live server does where a folder is named.
+/// Tells the history of files, or of standard input, in words, or what a live server does where a
+/// folder is named.
 pub(crate) fn follow_of<L: Ledger, R: Files + Input + Net, W: PortWrite>(
     rt: &R,
     alloc: Global,

@@ -13,8 +13,8 @@ use ipc_trace::TraceRead;
 use std::alloc::{AllocError, Global};
 use std::rt::Files;
 
-/// Prints what is asked of the history of several files. Nothing is printed where they are not one, and the ending then names the first file
-/// and line that do not follow.
+/// Prints what is asked of the history of several files. Nothing is printed where they are not one,
+/// and the ending then names the first file and line that do not follow.
 pub(crate) fn print_files<R: Files + Input, W: PortWrite>(
     rt: &R,
     alloc: Global,
@@ -28,7 +28,8 @@ pub(crate) fn print_files<R: Files + Input, W: PortWrite>(
     }
 }
 
-/// The same of the files that were read. What is printed is made first, since to judge the entries uses them up.
+/// The same of the files that were read. What is printed is made first, since to judge the entries
+/// uses them up.
 fn print_history<W: PortWrite>(
     alloc: Global,
     files: &[&str],
@@ -129,7 +130,8 @@ fn put_printed<W: PortWrite>(printed: Option<&[u8]>, exit: Exit, writer: &mut W)
     }
 }
 
-/// The number of the last whole line of the last file, where a line without its newline stands behind it.
+/// The number of the last whole line of the last file, where a line without its newline stands
+/// behind it.
 fn torn_line(history: &History) -> Option<u64> {
     if !history.is_torn {
         return None;

@@ -14,9 +14,9 @@ use l4sh_talk::{HELP, Typed, read_typed, words_beside};
 use l4sh_threads::Spaces;
 use std::alloc::{AllocError, Global};
 
-/// Obeys what is typed, line by line, to the end of the reader or a request to end: for each line the exact
-/// one that it stands for where that is another, the lines of the entries that it wrote, and its answer with
-/// words beside it. A mistake is told and ends nothing.
+/// Obeys what is typed, line by line, to the end of the reader or a request to end: for each line
+/// the exact one that it stands for where that is another, the lines of the entries that it wrote,
+/// and its answer with words beside it. A mistake is told and ends nothing.
 ///
 /// The prompt is put before each line is read; where it is empty there is none.
 ///
@@ -66,8 +66,8 @@ fn put_prompt<W: PortWrite>(writer: &mut W, prompt: &str) -> Result<(), PortFaul
     }
 }
 
-// Obeys what is typed as `talk_with` does, by this kernel. The bytes of a buffer stand before those of the reader, and
-// each line is read into `line`.
+// Obeys what is typed as `talk_with` does, by this kernel. The bytes of a buffer stand before those
+// of the reader, and each line is read into `line`.
 fn talk_lines<R: PortRead, W: PortWrite>(
     alloc: Global,
     prompt: &str,

@@ -7,8 +7,8 @@ use ipc_words::ThreadId;
 use l4sh_threads::Spaces;
 use std::alloc::{AllocError, Global};
 
-/// A port that hands on the lines of a run. Of each call whose p is dropped it tells that on standard error, as soon as
-/// its line is there. Without memory it tells no more.
+/// A port that hands on the lines of a run. Of each call whose p is dropped it tells that on
+/// standard error, as soon as its line is there. Without memory it tells no more.
 #[derive(Drop)]
 pub struct WatchedPort<'a, R: Eprint, W: PortWrite> {
     rt: &'a R,

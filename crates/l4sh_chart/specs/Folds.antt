@@ -11,14 +11,16 @@ abbrev pub IsRepeated : List ℕ → Fold → Type 0
 IsRepeated shapes fold = (k : ℕ) → k + fold.period < rows_of fold
     → slice_index shapes (fold.first + k) ≡ slice_index shapes (fold.first + fold.period + k)
 
--- it begins at a row, stands for one at least and for none past the last, and what it folds is the same again and again
+-- it begins at a row, stands for one at least and for none past the last, and what it folds is the
+-- same again and again
 pub record IsFoldAt (shapes : List ℕ) (first : ℕ) (fold : Fold) : Type 0 where
   pub begins : fold.first ≡ first
   pub some : 0 < rows_of fold
   pub within : first + rows_of fold ≤ length shapes
   pub repeated : IsRepeated shapes fold
 
--- the rows from one up to another: the first begins at the one, each other one where the one before it ends
+-- the rows from one up to another: the first begins at the one, each other one where the one before
+-- it ends
 abbrev pub Covers : ℕ → List Fold → ℕ → Type 0
 Covers from [] to = from ≡ to
 Covers from (fold ∷ folds) to = (fold.first ≡ from) × Covers (from + rows_of fold) folds to

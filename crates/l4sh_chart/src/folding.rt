@@ -20,8 +20,9 @@ pub struct Fold {
     pub count: usize,
 }
 
-/// The patterns of rows of these shapes that come three times or more one behind the other, and each other row by itself. Where
-/// patterns overlap, the one that begins first, and among these the one that saves most rows.
+/// The patterns of rows of these shapes that come three times or more one behind the other, and
+/// each other row by itself. Where patterns overlap, the one that begins first, and among these the
+/// one that saves most rows.
 pub(crate) fn folds_of(alloc: Global, shapes: &[u64]) -> Result<Vec<Fold>, AllocError>
     ensures { IfOk result (λ folds. AreFoldsOf shapes.now folds.items) }
 {
@@ -75,7 +76,8 @@ fn fold_at(shapes: &[u64], first: usize) -> Fold
     best
 }
 
-// How many times the so many rows from a row on come one behind the other; 0 where there are not so many.
+// How many times the so many rows from a row on come one behind the other; 0 where there are not so
+// many.
 fn copies(shapes: &[u64], first: usize, period: usize) -> usize
     requires there { first < length shapes.now }
     requires some { 0 < period }
@@ -89,7 +91,8 @@ fn copies(shapes: &[u64], first: usize, period: usize) -> usize
     1 + run(shapes, first, period) / period
 }
 
-// How many rows from a row on have the shape of the one so many rows later, before the first that has not.
+// How many rows from a row on have the shape of the one so many rows later, before the first that
+// has not.
 fn run(shapes: &[u64], first: usize, period: usize) -> usize
     requires { first + period ≤ length shapes.now }
     ensures within { first + period + result ≤ length shapes.now }

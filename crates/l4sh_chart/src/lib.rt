@@ -1,5 +1,5 @@
-//! What a sequence chart of a history shows: a column for each thread, a row for each entry that shows something, what threads wait
-//! for, and which rows come again.
+//! What a sequence chart of a history shows: a column for each thread, a row for each entry that
+//! shows something, what threads wait for, and which rows come again.
 #![tactic(auto)]
 
 mod calls;

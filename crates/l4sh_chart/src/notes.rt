@@ -37,8 +37,9 @@ impl Notes {
         self.spaces.space(thread)
     }
 
-    /// What the next entry shows, whose place this is, and whether the rules answer it at once. Nothing is shown of the clock, of a
-    /// transfer without strings that begins, as it ends at once, nor of a call that was never entered.
+    /// What the next entry shows, whose place this is, and whether the rules answer it at once.
+    /// Nothing is shown of the clock, of a transfer without strings that begins, as it ends at
+    /// once, nor of a call that was never entered.
     pub(crate) fn step(
         &mut self,
         place: usize,

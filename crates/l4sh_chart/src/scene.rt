@@ -83,7 +83,8 @@ struct Maker {
     notes: Notes,
 }
 
-/// The scene of the chosen entries of a history, with the rows that come again folded or each by itself.
+/// The scene of the chosen entries of a history, with the rows that come again folded or each by
+/// itself.
 pub fn scene_of(
     alloc: Global,
     entries: &[Entry],
@@ -320,7 +321,8 @@ fn folds_for(
     folds
 }
 
-// Where the columns go, which stand in the order in which they were made: to that of their threads' numbers.
+// Where the columns go, which stand in the order in which they were made: to that of their threads'
+// numbers.
 fn order_of(
     alloc: Global,
     places: &BTreeMap<u64, usize>,

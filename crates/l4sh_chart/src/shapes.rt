@@ -4,12 +4,13 @@ use ipc_words::ThreadId;
 use std::alloc::{AllocError, Global};
 use std::collections::BTreeMap;
 
-// What rows have in common that are told as the same: mark, columns, and of what they say all but numbers of calls, moments and
-// times.
+// What rows have in common that are told as the same: mark, columns, and of what they say all but
+// numbers of calls, moments and times.
 type Shape = (u64, usize, usize, u64, u64, u64, u64);
 
-/// The shapes of rows, as numbers: two rows have the same one where they have the same mark at the same columns and say the same,
-/// whatever the numbers of their calls, their moments and how long they waited.
+/// The shapes of rows, as numbers: two rows have the same one where they have the same mark at the
+/// same columns and say the same, whatever the numbers of their calls, their moments and how long
+/// they waited.
 pub(crate) fn shapes_of(
     alloc: Global,
     rows: &[Row],
@@ -57,7 +58,8 @@ fn shape_of(row: &Row, entries: &[Entry]) -> Shape {
     (row.mark as u64, row.from, row.to, tag, to, from, own)
 }
 
-// The word that an entry has beside its threads and its call; of a message the originator that is shown.
+// The word that an entry has beside its threads and its call; of a message the originator that is
+// shown.
 fn own_word(row: &Row, entries: &[Entry]) -> u64 {
     match entries.get(row.place) {
         Some(Entry::Given(Input::Exreg(_, _, control))) => control.to_word(),

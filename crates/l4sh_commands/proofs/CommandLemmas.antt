@@ -1,4 +1,5 @@
--- The fields of commands: which command has fields of a name, and how a line is taken apart into them.
+-- The fields of commands: which command has fields of a name, and how a line is taken apart into
+-- them.
 use Rattle.std.proofs.Common.{◌≡◌, ℕ, ◌+◌, ◌<◌, ◌≤◌, List, [], ◌∷◌, length, get_or, codes, refl, ap, sym, ◌≢◌, arith}
 use Rattle.ipc_core.specs.declared.command.Command.{Command}
 use Rattle.ipc_core.specs.declared.command.Command.TheVariants.{Open, Enter, Exreg, Broke, At, Advance, Take}

@@ -1,4 +1,5 @@
-//! The commands of `l4sh run` as lines: each has one spelling, which is written and read back here alone.
+//! The commands of `l4sh run` as lines: each has one spelling, which is written and read back here
+//! alone.
 #![tactic(auto)]
 
 mod reading;

@@ -167,8 +167,9 @@ fn command_of(
     }
 }
 
-/// What a line of a script asks for, without its newline; None for any other line, as for one of more
-/// than [`MAX_LINE_BYTES`] bytes. A number of 64 bits is handed on as it is: the kernel judges it.
+/// What a line of a script asks for, without its newline; None for any other line, as for one of
+/// more than [`MAX_LINE_BYTES`] bytes. A number of 64 bits is handed on as it is: the kernel judges
+/// it.
 ///
 /// The error: memory was refused.
 pub fn read_command(alloc: Global, line: &[u8]) -> Result<Option<ScriptCommand>, AllocError>
@@ -240,8 +241,8 @@ fn is_word(number: u64)
     let _ = number;
 }
 
-/// Every command is of words, and of a call in normal form and within the limits. So [`read_command`]
-/// reads its line as this command.
+/// Every command is of words, and of a call in normal form and within the limits. So
+/// [`read_command`] reads its line as this command.
 pub fn command_is_readable(command: &Command)
     ensures { IsCommand command.now }
 {

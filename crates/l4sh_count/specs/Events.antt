@@ -25,7 +25,8 @@ called caller call =
     (if call.to == nilthread then record { from = call.from; to = caller; what = Call }
     else record { from = caller; to = call.to; what = Call })
 
--- the message of n that came whole to m: the bytes of its strings, and how long the send phase of n and the receive phase of m took
+-- the message of n that came whole to m: the bytes of its strings, and how long the send phase of n
+-- and the receive phase of m took
 abbrev pub message : List Entry → ℕ → ℕ → Happening
 message P n m = Message (message_size P n) (now P - since_of P n) (now P - since_of P m)
 
@@ -34,7 +35,8 @@ abbrev pub met : List Entry → ℕ → ℕ → Bool → Event
 met P n m is_whole =
     record { from = caller_of P n; to = caller_of P m; what = if is_whole then message P n m else Failure }
 
--- a phase of n fails: its send phase to the receiver, or its receive phase from the FromSpecifier as it stands
+-- a phase of n fails: its send phase to the receiver, or its receive phase from the FromSpecifier
+-- as it stands
 abbrev pub failed_in : Phase → List Entry → ℕ → Event
 failed_in Send P n = record { from = caller_of P n; to = to_of P n; what = Failure }
 failed_in Receive P n = record { from = from_specifier P n; to = caller_of P n; what = Failure }

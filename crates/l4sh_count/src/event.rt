@@ -65,7 +65,8 @@ fn input_event(input: &Input) -> Option<Event>
     }
 }
 
-// The pair of a call that is entered: that of its send phase, or of its receive phase where it has no other.
+// The pair of a call that is entered: that of its send phase, or of its receive phase where it has
+// no other.
 fn called(caller: ThreadId, call: &Call) -> Event
     ensures { result ≡ called caller call.now }
 {

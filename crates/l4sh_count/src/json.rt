@@ -6,8 +6,9 @@ use ipc_lines::IdText;
 use ipc_words::ThreadId;
 use std::alloc::{AllocError, Global};
 
-/// The counts as a JSON object: `first` and `last`, when the first and the last entry came, where that is told; `pairs`, an object for each
-/// pair of threads in the order of their words; and `all`, all together. Times are in microseconds; null without a message.
+/// The counts as a JSON object: `first` and `last`, when the first and the last entry came, where
+/// that is told; `pairs`, an object for each pair of threads in the order of their words; and
+/// `all`, all together. Times are in microseconds; null without a message.
 pub fn json_of(
     alloc: Global,
     groups: &Groups,

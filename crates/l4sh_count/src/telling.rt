@@ -20,8 +20,9 @@ const HEADS: [(&str, usize); 7] = [
     ("sends took", WIDTHS[6]),
 ];
 
-/// The counts in words: from when to when, where that is told, what the times are, a line of heads, a line for each pair of threads in the
-/// order of their words, and one for all together. Times are in microseconds.
+/// The counts in words: from when to when, where that is told, what the times are, a line of heads,
+/// a line for each pair of threads in the order of their words, and one for all together. Times are
+/// in microseconds.
 pub fn tell_counts(
     alloc: Global,
     groups: &Groups,

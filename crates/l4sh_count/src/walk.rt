@@ -22,7 +22,8 @@ pub enum CountFault {
 ///
 /// # Errors
 ///
-/// [`CountFault::Illegal`] where they are no legal history, [`CountFault::NoMemory`] where a growth is refused.
+/// [`CountFault::Illegal`] where they are no legal history, [`CountFault::NoMemory`] where a growth
+/// is refused.
 #[tactic(auto, using(crate::proofs::Told::told_whole))]
 pub fn events_of(alloc: Global, entries: &[Entry]) -> Result<Vec<Event>, CountFault>
     ensures told { IfOk result (λ events. IsTold entries.now events.items) }

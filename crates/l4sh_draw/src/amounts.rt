@@ -20,7 +20,8 @@ fn put_by_threes(ink: &mut Ink, digits: &str) {
     }
 }
 
-/// Appends a time of so many microseconds, exactly: in µs below a millisecond, in ms below a second, else in s.
+/// Appends a time of so many microseconds, exactly: in µs below a millisecond, in ms below a
+/// second, else in s.
 pub(crate) fn put_time(ink: &mut Ink, micros: u64) {
     if micros < 1_000 {
         ink.between("", micros, " µs");

@@ -7,8 +7,8 @@ use ipc_words::{Period, ThreadId};
 use l4sh_chart::{Mark, Row, Scene};
 use l4sh_times::Times;
 
-/// What is told of a row where it is pointed at: its entry, its moment, its threads, and of a call the words of its message and its
-/// timeouts, a line each.
+/// What is told of a row where it is pointed at: its entry, its moment, its threads, and of a call
+/// the words of its message and its timeouts, a line each.
 pub(crate) fn put_details(
     ink: &mut Ink,
     scene: &Scene,

@@ -23,8 +23,8 @@ const FIELDS: &str = "</head>\n<body>\n<header>\n<label>Find <input id=\"field\"
     <span id=\"told\"></span>\n\
     <label>Page <input id=\"page\" type=\"number\" style=\"width: 6em\" ";
 
-/// Draws a scene of these entries as an HTML page that needs nothing else: a field that finds rows, a legend, and a picture for each so
-/// many rows; 0: 200. Moments are told by these times.
+/// Draws a scene of these entries as an HTML page that needs nothing else: a field that finds rows,
+/// a legend, and a picture for each so many rows; 0: 200. Moments are told by these times.
 pub fn draw_html(
     alloc: Global,
     scene: &Scene,

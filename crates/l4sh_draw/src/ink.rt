@@ -10,8 +10,9 @@ pub(crate) type Length = (&'static str, u64);
 /// A stroke of a path: its letter, and the point to which it goes.
 pub(crate) type Stroke = (&'static str, u64, u64);
 
-/// Text that is being written, and elements of SVG in it. Lengths are in pixels, and a class names a line of the style. Where memory is wanting
-/// it goes on without, and says so at its end: a step that passes no error on is proved in half the time.
+/// Text that is being written, and elements of SVG in it. Lengths are in pixels, and a class names
+/// a line of the style. Where memory is wanting it goes on without, and says so at its end: a step
+/// that passes no error on is proved in half the time.
 #[derive(Drop)]
 pub(crate) struct Ink {
     pub(crate) text: String,

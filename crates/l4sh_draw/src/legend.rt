@@ -50,7 +50,8 @@ fn has_wait(scene: &Scene, wait: Wait) -> bool {
     false
 }
 
-/// Appends what the signs of a chart mean that are in it, in lines of at most so many characters; 0: in one line.
+/// Appends what the signs of a chart mean that are in it, in lines of at most so many characters;
+/// 0: in one line.
 pub(crate) fn put_legend_text(ink: &mut Ink, scene: &Scene, width: usize) {
     ink.put("\n");
     let taken = put_marks(ink, scene, &MARKS, width);
@@ -58,7 +59,8 @@ pub(crate) fn put_legend_text(ink: &mut Ink, scene: &Scene, width: usize) {
     ink.put("\n");
 }
 
-// Appends the signs of the marks that are in a chart, and answers how many characters the last line has.
+// Appends the signs of the marks that are in a chart, and answers how many characters the last line
+// has.
 fn put_marks(ink: &mut Ink, scene: &Scene, marks: &[ToldMark], width: usize) -> usize {
     let mut taken = 0usize;
     for (mark, sign, words) in marks {
@@ -79,7 +81,8 @@ fn put_waits(ink: &mut Ink, scene: &Scene, waits: &[ToldWait], taken: usize, wid
     }
 }
 
-// Appends a sign to a line of so many characters, or to the next where it has no room, and answers how many that has.
+// Appends a sign to a line of so many characters, or to the next where it has no room, and answers
+// how many that has.
 fn put_sign(ink: &mut Ink, sign: &str, words: &str, taken: usize, width: usize) -> usize {
     let length = sign.len().saturating_add(words.len()).saturating_add(3);
     let is_full = width > 0 && taken > 0 && taken.saturating_add(length) > width;
@@ -100,7 +103,8 @@ const GAP: u64 = 18;
 
 const LINE: u64 = 20;
 
-/// Draws what the marks of a chart mean that are in it, from a height on, and answers the height below it.
+/// Draws what the marks of a chart mean that are in it, from a height on, and answers the height
+/// below it.
 pub(crate) fn draw_legend(ink: &mut Ink, scene: &Scene, layout: &Layout, top: u64) -> u64 {
     let place = draw_marks(ink, scene, layout, &MARKS, (16, top));
     let place = draw_waits(ink, scene, layout, &WAITS, place);

@@ -1,4 +1,5 @@
-//! Draws what a sequence chart shows: as text for a terminal, as an SVG picture, and as an HTML page.
+//! Draws what a sequence chart shows: as text for a terminal, as an SVG picture, and as an HTML
+//! page.
 #![tactic(auto)]
 
 mod amounts;

@@ -52,8 +52,8 @@ impl Model for Pages {
         × All (λ page. length (rows_in page.items) ≤ p.most) p.pages.items };
 }
 
-/// The lines of a chart by pages of so many rows at most; 0: all on one page. Each page begins with the names of the threads. The rows of
-/// each fold come once, in their order.
+/// The lines of a chart by pages of so many rows at most; 0: all on one page. Each page begins with
+/// the names of the threads. The rows of each fold come once, in their order.
 pub(crate) fn pages_of(alloc: Global, folds: &[Fold], most: usize) -> Result<Vec<Page>, AllocError>
     ensures rows { IfOk result (λ pages.
         flat_map (λ page. rows_in page.items) pages.items ≡ flat_map rows_of folds.now) }
@@ -89,7 +89,8 @@ fn put_row(page: &mut Page, row: usize, copies: usize, is_named: bool) -> Result
     put_line(page, Line::Row { row, copies })
 }
 
-// Begins the next page where this one has as many rows as it may, and answers how many the page has.
+// Begins the next page where this one has as many rows as it may, and answers how many the page
+// has.
 fn make_room(
     alloc: Global,
     pages: &mut Vec<Page>,

@@ -34,7 +34,8 @@ fn put_strings(ink: &mut Ink, strings: usize, bytes: u64) {
     ink.between(" of ", bytes, " bytes");
 }
 
-/// Appends what a message has: its label, its words and the lengths of its strings, a line each, each begun with a newline.
+/// Appends what a message has: its label, its words and the lengths of its strings, a line each,
+/// each begun with a newline.
 pub(crate) fn put_contents(ink: &mut Ink, call: &Call) {
     let label = call.tag().label();
     ink.between("\nlabel ", label, " (");

@@ -172,7 +172,8 @@ impl Sheet {
         self.y = top.saturating_add(ROW);
     }
 
-    // The group of a row, what is told where it is pointed at, and every second time a stripe below it.
+    // The group of a row, what is told where it is pointed at, and every second time a stripe below
+    // it.
     fn begin_row(&mut self, scene: &Scene, entries: &[Entry], row: &Row) {
         self.stripe();
         self.over.put("<g class=\"row\"><title>");

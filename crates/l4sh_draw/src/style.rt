@@ -76,7 +76,8 @@ pub(crate) const PAGE_STYLE: &str = "<style>\n\
     }\n\
     </style>\n";
 
-/// What an HTML page does: it finds the rows that have some words, and goes to them and to pages. It asks nothing of a network.
+/// What an HTML page does: it finds the rows that have some words, and goes to them and to pages.
+/// It asks nothing of a network.
 pub(crate) const SCRIPT: &str = "<script>\n\
     const rows = [...document.querySelectorAll('g.row')];\n\
     const texts = rows.map(row => row.textContent.toLowerCase());\n\

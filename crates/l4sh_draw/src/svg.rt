@@ -9,8 +9,8 @@ use l4sh_chart::Scene;
 use l4sh_times::Times;
 use std::alloc::{AllocError, Global};
 
-/// Draws a scene of these entries as one SVG picture: a column for each thread, bars where it waits, a row for each entry, and a legend. Moments
-/// are told by these times.
+/// Draws a scene of these entries as one SVG picture: a column for each thread, bars where it
+/// waits, a row for each entry, and a legend. Moments are told by these times.
 pub fn draw_svg(
     alloc: Global,
     scene: &Scene,

@@ -11,7 +11,8 @@ use l4sh_chart::{Column, Fold, Mark, Row, Scene};
 use l4sh_times::Times;
 use std::alloc::{AllocError, Global};
 
-// Widths in characters: of the numbers, of the moments, of a lane where there are few or many, and of the words where lines are cut.
+// Widths in characters: of the numbers, of the moments, of a lane where there are few or many, and
+// of the words where lines are cut.
 const NUMBERS: usize = 7;
 
 const MOMENTS: usize = 12;
@@ -37,8 +38,9 @@ struct Drawing {
     moment: u64,
 }
 
-/// Draws a scene of these entries as text: a line for each row, with its number, how long after the row before it comes, a lane for each
-/// thread, and what it says. A line of more characters than the width is cut; 0: none is. Moments are told by these times.
+/// Draws a scene of these entries as text: a line for each row, with its number, how long after the
+/// row before it comes, a lane for each thread, and what it says. A line of more characters than
+/// the width is cut; 0: none is. Moments are told by these times.
 pub fn draw_text(
     alloc: Global,
     scene: &Scene,
@@ -167,7 +169,8 @@ impl Drawing {
         }
     }
 
-    // The names of the threads over their lanes, and the moment of the row behind; above them, where it is a time of day.
+    // The names of the threads over their lanes, and the moment of the row behind; above them,
+    // where it is a time of day.
     fn names(&self, ink: &mut Ink, scene: &Scene, moment: u64) {
         let mut line = Ink::new(self.alloc);
         if self.times.are_of_day() {
@@ -330,7 +333,8 @@ pub(crate) fn moment_behind(scene: &Scene, behind: Option<&Line>, moment: u64) -
     }
 }
 
-/// The number of the entry of a row and its moment; with no such row 0 and the moment that is given.
+/// The number of the entry of a row and its moment; with no such row 0 and the moment that is
+/// given.
 pub(crate) fn end_of(scene: &Scene, row: usize, moment: u64) -> (u64, u64) {
     match scene.rows.get(row) {
         Some(row) => ((row.place as u64).saturating_add(1), row.moment),

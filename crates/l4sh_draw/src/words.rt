@@ -49,7 +49,8 @@ pub(crate) fn put_wait(ink: &mut Ink, words: &str, time: u64) {
     }
 }
 
-/// Appends behind words how long phases waited that meet, as `send waited 12 µs`; nothing where none did.
+/// Appends behind words how long phases waited that meet, as `send waited 12 µs`; nothing where
+/// none did.
 pub(crate) fn put_waits_after(ink: &mut Ink, words: &str, row: &Row) {
     if has_waited(row) {
         ink.put(words);

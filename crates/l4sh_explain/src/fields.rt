@@ -102,8 +102,8 @@ struct Fields {
     is_propagated: bool,
 }
 
-/// What `label=3,words=1,strings=1,p` asks for: fields with commas between them, in any order, each at most once; what
-/// is left out is 0. A label is a decimal or HEX.
+/// What `label=3,words=1,strings=1,p` asks for: fields with commas between them, in any order, each
+/// at most once; what is left out is 0. A label is a decimal or HEX.
 pub(crate) fn read_fields(word: &str) -> Result<TagRequest, BadField<'_>> {
     let mut fields = Fields {
         label: None,

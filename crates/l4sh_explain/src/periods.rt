@@ -13,8 +13,8 @@ pub fn tell_period(text: &mut String, period: Period) -> Result<(), AllocError> 
     }
 }
 
-/// The answer to `never`, to a time as `2ms`, or to the word of a period in HEX: the word, and what it is
-/// worth.
+/// The answer to `never`, to a time as `2ms`, or to the word of a period in HEX: the word, and what
+/// it is worth.
 pub fn answer_period(alloc: Global, word: &str) -> Result<Told, AllocError> {
     match read_period(word.as_bytes()) {
         Ok(period) => Ok(Told::Answer(period_line(alloc, period)?)),

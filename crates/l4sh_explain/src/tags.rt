@@ -24,8 +24,8 @@ pub struct TagRequest {
 }
 
 impl TagRequest {
-    /// The tag, or None where the label has more than 48 bits, or there are 64 words or more, or 32 strings
-    /// or more.
+    /// The tag, or None where the label has more than 48 bits, or there are 64 words or more, or 32
+    /// strings or more.
     pub fn tag(self) -> Option<MsgTag>
         ensures fits { IsSome result ↔ FitsTag (requested self) }
         ensures value { IfSome result (λ tag. tag ≡ tag_of (requested self)) }

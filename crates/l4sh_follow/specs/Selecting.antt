@@ -19,7 +19,8 @@ has_label None label = true
 has_label (Some chosen) None = false
 has_label (Some chosen) (Some label) = label == chosen
 
--- an entry is told where it names a thread that was chosen, has the label, and is a failure where failures alone are told
+-- an entry is told where it names a thread that was chosen, has the label, and is a failure where
+-- failures alone are told
 abbrev pub is_told : Selection → Subject → Bool
 is_told selection subject =
     names_one selection.threads subject.thread subject.other

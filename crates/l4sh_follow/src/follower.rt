@@ -35,7 +35,8 @@ impl Follower {
         }
     }
 
-    /// Takes note of what was before the first entry: the moment, in microseconds, and the entries that are kept. They count as none.
+    /// Takes note of what was before the first entry: the moment, in microseconds, and the entries
+    /// that are kept. They count as none.
     ///
     /// # Errors
     ///
@@ -49,8 +50,8 @@ impl Follower {
         Ok(())
     }
 
-    /// The next entry in words, as a line with its newline: its number from 1, the moment,
-    /// and what it says. None where it is not to be told, as a moment by itself, or where it names a call
+    /// The next entry in words, as a line with its newline: its number from 1, the moment, and what
+    /// it says. None where it is not to be told, as a moment by itself, or where it names a call
     /// that never came.
     pub fn tell(&mut self, entry: &Entry) -> Result<Option<String>, AllocError> {
         self.number = self.number.saturating_add(1);

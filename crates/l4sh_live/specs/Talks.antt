@@ -1,4 +1,5 @@
--- What goes over the connection of a talk: frames of requests alone, each whole and answered before the next one.
+-- What goes over the connection of a talk: frames of requests alone, each whole and answered before
+-- the next one.
 use Rattle.std.specs.Prelude.{◌≡◌, ℕ, List, [], ◌∷◌, Result, Ok, Err, Option, Some, None, ⊤, ◌⊎◌}
 use Rattle.ipc_frame.specs.declared.frame.Frame.{Frame}
 use Rattle.ipc_frame.specs.declared.frame.Frame.TheVariants as frame
@@ -27,8 +28,8 @@ Made (request ∷ before) old new = (now : ClientParts) × Made before old now �
 abbrev pub HasTalked : ClientParts → ClientParts → Type 0
 HasTalked old new = (requests : List Request) × Made requests old new
 
--- what comes of a line by what it stands for: a request is made, and is all that goes out; a number is sought; anything else
--- sends nothing
+-- what comes of a line by what it stands for: a request is made, and is all that goes out; a number
+-- is sought; anything else sends nothing
 abbrev pub AnswersHeard : {T : Type 0} → ClientParts → ClientParts → Heard → Result (Option T) Ending → Type 0
 AnswersHeard old new (heard.Request request) (Ok (Some text)) = Asks old new request
 AnswersHeard old new (heard.Request request) (Ok None) = ⊥

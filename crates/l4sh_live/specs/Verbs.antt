@@ -1,4 +1,5 @@
--- The names of commands that make a call, and the request of each (L4 X.2 manual, Ipc: Send, Receive, Call, ReplyWait).
+-- The names of commands that make a call, and the request of each (L4 X.2 manual, Ipc: Send,
+-- Receive, Call, ReplyWait).
 use Rattle.std.specs.Prelude.{ℕ, List, codes}
 use Rattle.ipc_client.specs.Messages.{BufferParts, MessageParts}
 use Rattle.l4sh_live.specs.declared.fields.Verb.{Verb}

@@ -1,5 +1,5 @@
--- A thread of which a line tells the number alone: its versions are asked upward, to the first that is there (docs/NAMES.md
--- looks for its server in the same way).
+-- A thread of which a line tells the number alone: its versions are asked upward, to the first that
+-- is there (docs/NAMES.md looks for its server in the same way).
 use Rattle.std.specs.Prelude.{◌≡◌, ℕ, zero, suc, ◌+◌, Result, Ok, Err, ⊤, ◌⊎◌}
 use Rattle.ipc_words.specs.ThreadId.{id_of, nilthread, number_of}
 use Rattle.ipc_client.specs.Asking.{Answers}
@@ -35,7 +35,8 @@ request_of_version version (request.ReplyWait to message receive buffers) =
 request_of_version version (request.ExchangeRegisters dest control) =
     request.ExchangeRegisters (version_of_thread version dest) control
 
--- the ErrorCode of a partner that is not there: in the first phase of the call, so nothing was sent to anybody
+-- the ErrorCode of a partner that is not there: in the first phase of the call, so nothing was sent
+-- to anybody
 abbrev pub missing_code : Request → ℕ
 missing_code (request.Receive from receive buffers) = 0x5
 missing_code other = 0x4

@@ -47,7 +47,8 @@ impl Ending {
         }
     }
 
-    /// What the number of a refusal or of a fault means, and what helps. None where there is no number.
+    /// What the number of a refusal or of a fault means, and what helps. None where there is no
+    /// number.
     ///
     /// # Errors
     ///

@@ -108,8 +108,8 @@ impl Name {
     }
 }
 
-/// What is wanted in place of a word that is no field of a command: another value of a name that it takes, or
-/// other fields.
+/// What is wanted in place of a word that is no field of a command: another value of a name that it
+/// takes, or other fields.
 pub(crate) fn wanted_for(verb: Verb, word: &[u8]) -> &'static str {
     match field_of(word) {
         Some((name, _)) if verb.takes(name) && word.contains(&b'=') => name.wanted(),
@@ -197,8 +197,8 @@ fn read_timeout(time: &[u8]) -> Option<Timeout> {
     Some(Timeout::of(read_period(time).ok()?))
 }
 
-/// What the words of a command say. What is left out is label 0, no words, no strings, no buffers and no
-/// end of a wait.
+/// What the words of a command say. What is left out is label 0, no words, no strings, no buffers
+/// and no end of a wait.
 #[derive(Drop)]
 pub(crate) struct Fields {
     verb: Verb,

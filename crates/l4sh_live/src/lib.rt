@@ -1,5 +1,5 @@
-//! A thread of a live server, from a keyboard or a pipe: what people type, the call that is made of it,
-//! and what is said to its answer.
+//! A thread of a live server, from a keyboard or a pipe: what people type, the call that is made of
+//! it, and what is said to its answer.
 #![tactic(auto)]
 
 mod asking;

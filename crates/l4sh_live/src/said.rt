@@ -4,8 +4,8 @@ use ipc_words::ThreadId;
 use l4sh_reasons::Printable;
 use std::alloc::{AllocError, Global};
 
-/// What is said. Where memory is wanting it goes on without, and says so at its end: a step that passes no error on is proved in half the
-/// time.
+/// What is said. Where memory is wanting it goes on without, and says so at its end: a step that
+/// passes no error on is proved in half the time.
 #[derive(Drop)]
 pub(crate) struct Said {
     pub(crate) text: String,

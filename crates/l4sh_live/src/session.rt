@@ -27,10 +27,10 @@ enum Step {
     End(Ending),
 }
 
-/// Talks as the thread of a number of a server: HELLO goes out, then one frame for each line of the reader
-/// that asks for something, and BYE where the lines end. Of a thread by its number alone one version after
-/// the other is asked, until one is there. What is said to each line goes to the writer. A line that is a
-/// mistake is told, and nothing goes out for it.
+/// Talks as the thread of a number of a server: HELLO goes out, then one frame for each line of the
+/// reader that asks for something, and BYE where the lines end. Of a thread by its number alone one
+/// version after the other is asked, until one is there. What is said to each line goes to the
+/// writer. A line that is a mistake is told, and nothing goes out for it.
 ///
 /// It ends as `DeviceFailed` only where a call of the reader or of the writer failed in this talk.
 pub fn talk_to<R: PortRead, W: PortWrite, I: PortRead, O: PortWrite>(
@@ -92,7 +92,8 @@ fn welcome_text(alloc: Global, thread: ThreadId) -> Result<String, AllocError> {
     )
 }
 
-// Obeys the lines of the reader to its end or to a request to end, or says how the talk ends before.
+// Obeys the lines of the reader to its end or to a request to end, or says how the talk ends
+// before.
 fn obey_lines<R: PortRead, W: PortWrite, I: PortRead, O: PortWrite>(
     alloc: Global,
     client: &mut Client<I, O>,
@@ -121,7 +122,8 @@ fn obey_lines<R: PortRead, W: PortWrite, I: PortRead, O: PortWrite>(
     }
 }
 
-// Obeys the last line, which is empty where the input ends with a newline. None where the talk goes well.
+// Obeys the last line, which is empty where the input ends with a newline. None where the talk goes
+// well.
 fn obey_last<W: PortWrite, I: PortRead, O: PortWrite>(
     alloc: Global,
     client: &mut Client<I, O>,
@@ -170,8 +172,8 @@ fn obey_line<W: PortWrite, I: PortRead, O: PortWrite>(
     }
 }
 
-// What is said to a line; None where it asks to end. For a request one frame goes out and one is read, for
-// a number one for each version that is asked, for everything else none.
+// What is said to a line; None where it asks to end. For a request one frame goes out and one is
+// read, for a number one for each version that is asked, for everything else none.
 fn answer<I: PortRead, O: PortWrite>(
     alloc: Global,
     client: &mut Client<I, O>,

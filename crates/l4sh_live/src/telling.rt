@@ -20,7 +20,8 @@ pub(crate) fn tell_reply(alloc: Global, reply: Reply) -> Result<String, AllocErr
     said.finish()
 }
 
-/// The same of a thread by its number alone, and which version answered, where that is not the first.
+/// The same of a thread by its number alone, and which version answered, where that is not the
+/// first.
 pub(crate) fn tell_found(
     alloc: Global,
     request: &Request,

@@ -172,7 +172,8 @@ ReadsAsState rows = ReadsAsFiles rows
 abbrev pub ReadsOneUpTo : List Row → Text → ℕ → Type 0
 ReadsOneUpTo rows id most = IsSomeAnd (one_of id rows) (IsUnsignedIn 1 most)
 
--- the matches of `talk` have the numbers of a thread and a space, which are 1 where there is no folder
+-- the matches of `talk` have the numbers of a thread and a space, which are 1 where there is no
+-- folder
 abbrev pub ReadsAsTalk : List Row → Type 0
 ReadsAsTalk rows = ReadsOneUpTo rows (codes "thread") max_thread_number
     × ReadsOneUpTo rows (codes "space") max_space

@@ -28,7 +28,8 @@ HasSizeOf _ _ = ⊥
 abbrev pub HasSizeIn : List Row → Option ℕ → Type 0
 HasSizeIn rows size = HasSizeOf (first_of (codes "trace-size") rows) size
 
--- the number of older files is the decimal number that the matches have for it; none where they have none
+-- the number of older files is the decimal number that the matches have for it; none where they
+-- have none
 abbrev pub HasKeepIn : List Row → Option ℕ → Type 0
 HasKeepIn rows keep =
     option_map (λ text. digits_value 10 (without_leading_plus text)) (first_of (codes "trace-keep") rows) ≡ keep

@@ -10,7 +10,8 @@ pub enum ShellOptions<'a> {
     Check {
         files: Vec<&'a str>,
     },
-    /// `l4sh part`, with the paths of the files of one history, and whether the last outcome of each thread is still to be taken.
+    /// `l4sh part`, with the paths of the files of one history, and whether the last outcome of
+    /// each thread is still to be taken.
     Part {
         files: Vec<&'a str>,
         is_untaken: bool,

@@ -1,4 +1,5 @@
-//! The texts that stand where an option is left out, each of a limit. Its parser reads it as that limit.
+//! The texts that stand where an option is left out, each of a limit. Its parser reads it as that
+//! limit.
 ghost use Rattle.std.specs.Prelude.{◌≡◌};
 ghost use Rattle.std.specs.Str.Parse.{digits_value};
 ghost use Rattle.ipc_words.specs.Limits.{max_calls, max_chart_entry, max_connections, max_entries};

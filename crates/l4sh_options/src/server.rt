@@ -33,7 +33,8 @@ pub struct ServerOptions<'a> {
     pub probe: bool,
     /// The file that the entries of the history are written to, as a trace; None without `--trace`.
     pub trace: Option<&'a str>,
-    /// At how many bytes, at least 1, the file of the trace ends and a further one begins; None where it never ends.
+    /// At how many bytes, at least 1, the file of the trace ends and a further one begins; None
+    /// where it never ends.
     pub trace_size: Option<u64>,
     /// How many older files of the trace are kept, at least 1; None where all are.
     pub trace_keep: Option<u16>,

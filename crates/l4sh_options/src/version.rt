@@ -6,15 +6,16 @@ use std::io;
 use std::path::Path;
 use std::rt::Files;
 
-/// The version of `l4d` and `l4sh`, and the logic that they are proved with, as `rt version` has it behind the kit's name.
+/// The version of `l4d` and `l4sh`, and the logic that they are proved with, as `rt version` has it
+/// behind the kit's name.
 pub const VERSION: &str = "1.0 (logic dac8208d650f15bf)";
 
 /// The file beside an installed program that has the commit that it was made of.
 const COMMIT: &str = "commit";
 
 /// Prints on standard output the name of a program and its version, which an error of the kind
-/// `DisplayVersion` has, and on a line of its own the commit where a file `commit` stands beside the
-/// program.
+/// `DisplayVersion` has, and on a line of its own the commit where a file `commit` stands beside
+/// the program.
 ///
 /// # Errors
 ///

@@ -1,4 +1,5 @@
--- Our choice (docs/FORMATS.md): the names that lines begin with, and the fields behind each, from left to right.
+-- Our choice (docs/FORMATS.md): the names that lines begin with, and the fields behind each, from
+-- left to right.
 use Rattle.std.specs.Prelude.{ℕ, Bool, true, false, List, [], ◌∷◌, Option, codes, find}
 use Rattle.std.specs.Str.{bytes_eq}
 use Rattle.l4sh_reasons.specs.declared.grammars.Grammar.{Grammar}

@@ -1,4 +1,5 @@
--- What the definitions of a reason are worth: the rules of a call are its normal form, and a good line of a trace is the line of an entry.
+-- What the definitions of a reason are worth: the rules of a call are its normal form, and a good
+-- line of a trace is the line of an entry.
 use Rattle.std.specs.Prelude.{◌≡◌, ◌↔◌, ℕ, IsTrue, List, None}
 use Rattle.ipc_history.specs.CallParts.{CallParts, is_normal}
 use Rattle.ipc_history.specs.declared.entry.Entry.{Entry}

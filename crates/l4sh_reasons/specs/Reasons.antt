@@ -50,7 +50,8 @@ pub record Says (number : ℕ) (field : Field) (wanted : Wanted) (text : List �
   pub wanted_is : bad.wanted ≡ wanted
   pub text_is : bad.text.now ≡ text
 
--- the first text, from left to right, that is not of its field; the fields are counted from a number on
+-- the first text, from left to right, that is not of its field; the fields are counted from a
+-- number on
 abbrev pub IsFirstUnspelled : ℕ → List Field → List (List ℕ) → BadField → Type 0
 IsFirstUnspelled number [] texts bad = ⊥
 IsFirstUnspelled number (field ∷ fields) [] bad = ⊥
@@ -77,7 +78,8 @@ IsUnformed Called [] bad = ⊥
 IsUnformed Called (number ∷ texts) bad = IsFirstBroken 3 texts bad
 IsUnformed _ texts bad = ⊥
 
--- the first field at fault behind a name: one that is not well formed, else one that the normal form of a call refuses
+-- the first field at fault behind a name: one that is not well formed, else one that the normal
+-- form of a call refuses
 abbrev pub IsBadField : Grammar → LineName → List (List ℕ) → BadField → Type 0
 IsBadField grammar name texts bad =
     IsFirstUnspelled 2 (fields_of grammar name) texts bad

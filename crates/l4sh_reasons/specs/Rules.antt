@@ -1,4 +1,5 @@
--- Our choice (docs/PROFILE.md): the rules of the normal form of a call, each told of one of its fields.
+-- Our choice (docs/PROFILE.md): the rules of the normal form of a call, each told of one of its
+-- fields.
 use Rattle.std.specs.Prelude.{ℕ, ◌+◌, ◌*◌, ◌^◌, ◌%◌, ◌<◌, ◌≤◌, Bool, not, ◌&&◌, ◌||◌, ◌==◌, nat_lt}
 use Rattle.std.specs.Prelude.{List, [], ◌∷◌, Option, IfSome, is_some, length, find}
 use Rattle.ipc_words.specs.Limits.{max_message_words}

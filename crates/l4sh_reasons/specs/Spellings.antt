@@ -1,5 +1,5 @@
--- Our choice (docs/FORMATS.md): which texts a field may be, kind by kind. Each is one that the readers of lines read: the text of a
--- value within the limits.
+-- Our choice (docs/FORMATS.md): which texts a field may be, kind by kind. Each is one that the
+-- readers of lines read: the text of a value within the limits.
 use Rattle.std.specs.Prelude.{◌≡◌, ℕ, ◌+◌, ◌*◌, ◌%◌, ◌^◌, ◌<◌, ◌≤◌, ◌&&◌, ◌||◌, ◌==◌, not}
 use Rattle.std.specs.Prelude.{IsTrue, Bool, List, [], ◌∷◌, Option, IfSome, length, nat_le}
 use Rattle.std.specs.List.{list_all}

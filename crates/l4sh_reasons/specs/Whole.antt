@@ -1,4 +1,5 @@
--- Our choice (docs/FORMATS.md): what is at fault with a line as a whole, before its fields are looked at.
+-- Our choice (docs/FORMATS.md): what is at fault with a line as a whole, before its fields are
+-- looked at.
 use Rattle.std.specs.Prelude.{ℕ, Bool, false, ◌&&◌, ◌||◌, ◌==◌, nat_eq, List, [], ◌∷◌, Option, codes, find, true, drop}
 use Rattle.std.specs.List.{list_any, starts_with, ends_with, zip}
 use Rattle.l4sh_reasons.specs.declared.grammars.Grammar.{Grammar}
@@ -18,7 +19,8 @@ has_two_spaces line = list_any (λ pair. (pair.0 == 32) && (pair.1 == 32)) (zip 
 abbrev pub has_tab : List ℕ → Bool
 has_tab line = list_any (λ byte. byte == 9) line
 
--- whether a line has a fault: a comment, an answer of `l4sh run` in a trace, a space or a tab where none stands, a carriage return
+-- whether a line has a fault: a comment, an answer of `l4sh run` in a trace, a space or a tab where
+-- none stands, a carriage return
 abbrev pub shows : Grammar → List ℕ → LineFault → Bool
 shows grammar line fault.Comment = starts_with nat_eq line (codes "#")
 shows grammar line fault.Answer =

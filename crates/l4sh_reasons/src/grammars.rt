@@ -254,7 +254,8 @@ impl Grammar {
         if self.has(name) { Some(name) } else { None }
     }
 
-    /// The fields behind a name, from left to right. A name of another grammar has those that it has there.
+    /// The fields behind a name, from left to right. A name of another grammar has those that it
+    /// has there.
     pub fn fields(self, name: LineName) -> &'static [Field]
         ensures { result.now ≡ fields_of self name }
     {

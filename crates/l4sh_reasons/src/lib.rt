@@ -1,7 +1,9 @@
-//! Why a line of a script or of a trace is bad: its first fault, as a value. A [`Reason`] prints as the words that people read.
+//! Why a line of a script or of a trace is bad: its first fault, as a value. A [`Reason`] prints as
+//! the words that people read.
 //!
 //! ```text
-//! reason_of(alloc, Grammar::Script, b"take 1")?   // field 2, thread: wanted is an id, NUMBER.VERSION, as 1.1; not 1
+//! // field 2, thread: wanted is an id, NUMBER.VERSION, as 1.1; not 1
+//! reason_of(alloc, Grammar::Script, b"take 1")?
 //! ```
 #![tactic(auto)]
 

@@ -91,7 +91,8 @@ fn text_at<'a>(texts: &[&'a [u8]], place: usize) -> &'a [u8]
     texts[place]
 }
 
-// The field of the first rule that the call of nine well-formed fields breaks; they are counted from `number` on.
+// The field of the first rule that the call of nine well-formed fields breaks; they are counted
+// from `number` on.
 fn first_broken<'a>(
     alloc: Global,
     number: usize,
@@ -169,11 +170,13 @@ fn parts_fault<'a>(
     Ok(bad_field(alloc, grammar, name, texts)?.map(Reason::Field))
 }
 
-/// Why a line, without its newline, is bad: its first fault. `None` exactly where the line is good: where a name of the
-/// grammar stands in its first field, and behind it the texts of the fields of this name, a call in normal form.
+/// Why a line, without its newline, is bad: its first fault. `None` exactly where the line is good:
+/// where a name of the grammar stands in its first field, and behind it the texts of the fields of
+/// this name, a call in normal form.
 ///
-/// The order of faults: one of the whole line (see [`LineFault`]), the name, the number of fields, each field from left
-/// to right, and behind well-formed fields the rules of the normal form of a call (see [`CallRule`]).
+/// The order of faults: one of the whole line (see [`LineFault`]), the name, the number of fields,
+/// each field from left to right, and behind well-formed fields the rules of the normal form of a
+/// call (see [`CallRule`]).
 ///
 /// The error: memory was refused.
 pub fn reason_of<'a>(
@@ -193,7 +196,8 @@ pub fn reason_of<'a>(
     }
 }
 
-/// The words of the reason why a line is bad, as [`Reason`] prints them; `None` exactly where the line is good.
+/// The words of the reason why a line is bad, as [`Reason`] prints them; `None` exactly where the
+/// line is good.
 ///
 /// The error: memory was refused.
 pub fn reason_text(

@@ -65,7 +65,8 @@ fn shape_with(
     })
 }
 
-/// What the rules look at of the call that nine well-formed fields spell; `None` only where they are none.
+/// What the rules look at of the call that nine well-formed fields spell; `None` only where they
+/// are none.
 pub(crate) fn call_shape(alloc: Global, texts: &[&[u8]]) -> Result<Option<CallShape>, AllocError>
     ensures { (thread : ℕ) (call : CallParts) → IsWellFormed thread call
         → texts_of texts.now ≡ call_fields thread call

@@ -152,8 +152,8 @@ fn wanted_of(kind: FieldKind, bytes: &[u8]) -> &'static str {
     }
 }
 
-/// Bytes that somebody typed, as they are shown again: printable ASCII as it is, and each other byte as `\x1b`, so that none
-/// of them moves the cursor of a terminal.
+/// Bytes that somebody typed, as they are shown again: printable ASCII as it is, and each other
+/// byte as `\x1b`, so that none of them moves the cursor of a terminal.
 #[derive(Clone, Copy)]
 pub struct Printable<'a>(pub &'a [u8]);
 
@@ -170,7 +170,8 @@ impl fmt::Display for Printable<'_> {
     }
 }
 
-/// What stood there, behind what was wanted: `; not 1h`. Nothing is told where nothing stood there, or more than 40 bytes.
+/// What stood there, behind what was wanted: `; not 1h`. Nothing is told where nothing stood there,
+/// or more than 40 bytes.
 #[derive(Clone, Copy)]
 pub struct Shown<'a>(pub &'a [u8]);
 

@@ -121,7 +121,8 @@ module _ (front rest : List Entry) (n caller : ℕ) (call : CallParts) where
         go a b c d = grind arith
 
 module _ (entries_limit calls_limit : ℕ) (H : List Entry) (legal : Legal H) where
-  -- a kernel with this history, for whose threads the entries behind a place say what is left to take
+  -- a kernel with this history, for whose threads the entries behind a place say what is left to
+  -- take
   pub record Left (rest : List Entry) (k : KernelParts) : Type 0 where
     pub stage : Stage entries_limit calls_limit k
     pub history : k.history ≡ H

@@ -1,4 +1,5 @@
--- A kernel that has done what the entries so far ask: it has their history, but for the At that it writes with its next input.
+-- A kernel that has done what the entries so far ask: it has their history, but for the At that it
+-- writes with its next input.
 use Rattle.std.proofs.Common.{◌≡◌, refl, sym, ap, subst, ◌∙◌, ℕ, ◌≤◌, ◌<◌, Bool, true, false, ◌==◌, List, [], ◌∷◌, ◌++◌, append_assoc}
 use Rattle.std.proofs.Common.{append-nil, length, map, Option, None, le_refl, inl, arith}
 use Rattle.std.specs.Prelude.{nat_lt, if◌then◌else◌}

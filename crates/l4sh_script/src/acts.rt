@@ -7,7 +7,8 @@ ghost use Rattle.l4sh_script.specs.Script.{is_act, is_untaken, is_done, is_left}
 use ipc_history::{Call, Entry, Input};
 use ipc_words::ThreadId;
 
-// Whether it is an entry of the thread's own: it is opened, makes a call or an ExchangeRegisters, or ends.
+// Whether it is an entry of the thread's own: it is opened, makes a call or an ExchangeRegisters,
+// or ends.
 fn is_act(entry: &Entry, thread: ThreadId) -> bool
     ensures { result ≡ is_act thread entry.now }
 {

@@ -14,9 +14,10 @@ use ipc_words::ThreadId;
 use l4sh_commands::{write_command, write_take};
 use std::alloc::{AllocError, Global};
 
-/// The commands whose history these entries are, a line for each: an input is the command that gives it, and
-/// before a call or an ExchangeRegisters the outcome of the last call of that thread is taken. At the end the
-/// outcomes are taken that are left. Each line is read back as its command.
+/// The commands whose history these entries are, a line for each: an input is the command that
+/// gives it, and before a call or an ExchangeRegisters the outcome of the last call of that thread
+/// is taken. At the end the outcomes are taken that are left. Each line is read back as its
+/// command.
 ///
 /// The error: memory was refused.
 pub fn script_of(alloc: Global, entries: &[Entry]) -> Result<String, AllocError>

@@ -7,8 +7,8 @@ use Rattle.ipc_slots.specs.declared.slot.Standing.{Standing}
 use Rattle.ipc_slots.specs.declared.slot.Phase.{Phase}
 use Rattle.ipc_slots.specs.declared.slot.Phase.TheVariants.{Sending, Passing, Receiving, Taking}
 
--- the thread for which the caller of an open call waits: the receiver of its send phase, or its FromSpecifier as it stands; none
--- while a message passes
+-- the thread for which the caller of an open call waits: the receiver of its send phase, or its
+-- FromSpecifier as it stands; none while a message passes
 abbrev pub awaited_by : Standing → Option ℕ
 awaited_by s = of s.phase
   where

@@ -6,8 +6,8 @@ use ipc_history::{Entries, Entry};
 use ipc_rules::follows;
 use ipc_slots::Slots;
 
-/// The slots of a history, as the checker builds them: slots are of legal histories alone. An `Err` is the place of the first entry that does
-/// not follow those before it.
+/// The slots of a history, as the checker builds them: slots are of legal histories alone. An `Err`
+/// is the place of the first entry that does not follow those before it.
 #[tactic(auto, using(crate::proofs::Walks::walked_whole))]
 pub fn slots_of(entries: &[Entry]) -> Result<Slots, usize>
     ensures built { IfOk result (λ slots. slots.past ≡ entries.now) }

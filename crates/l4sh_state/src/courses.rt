@@ -17,8 +17,8 @@ pub enum Course {
     Enters,
 }
 
-/// Where following from a place leads, where each place waits for the place that `waits` has for it.
-/// A place past the last one waits for none.
+/// Where following from a place leads, where each place waits for the place that `waits` has for
+/// it. A place past the last one waits for none.
 pub fn course_from(waits: &[Option<usize>], start: usize) -> Course
     requires { length waits.now ≡ places }
     ensures { IsCourse waits.now start result }

@@ -9,14 +9,15 @@ use ipc_words::{Period, ThreadId};
 pub enum Doing {
     /// It has no open call.
     Free,
-    /// Its send phase waits for a receiver, since a moment and until another one. None: it never ends.
+    /// Its send phase waits for a receiver, since a moment and until another one. None: it never
+    /// ends.
     Sends {
         to: ThreadId,
         since: u64,
         until: Option<u64>,
     },
-    /// Its receive phase waits for a FromSpecifier, since a moment and until another one. None: it never
-    /// ends.
+    /// Its receive phase waits for a FromSpecifier, since a moment and until another one. None: it
+    /// never ends.
     Receives {
         from: ThreadId,
         since: u64,

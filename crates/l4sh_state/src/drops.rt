@@ -3,8 +3,8 @@ use ipc_words::ThreadId;
 use l4sh_threads::Spaces;
 use std::alloc::{AllocError, Global};
 
-/// A call whose p was dropped: it names an originator that is no live thread of its caller's space, so its receiver is shown the
-/// caller.
+/// A call whose p was dropped: it names an originator that is no live thread of its caller's space,
+/// so its receiver is shown the caller.
 #[derive(Clone, Copy)]
 pub struct Dropped {
     /// The number of the call.

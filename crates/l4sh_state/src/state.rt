@@ -16,8 +16,8 @@ pub struct State {
     pub moment: u64,
 }
 
-/// What a history says of its threads. An `Err` is the place of the first entry that does not follow those
-/// before it.
+/// What a history says of its threads. An `Err` is the place of the first entry that does not
+/// follow those before it.
 pub fn state_of(entries: &[Entry]) -> Result<State, usize>
     ensures state { IfOk result (IsStateOf entries.now) }
     ensures fault { IfErr result (IsFaultAt entries.now) }

@@ -8,8 +8,9 @@ use ipc_slots::Live;
 use ipc_words::{ThreadId, ThreadIdKind};
 use std::alloc::{AllocError, Global};
 
-/// A state in words: a line for each live thread, one for each circle of waits, and one for each thread
-/// whose wait leads into a circle. A thread that waits is told where a call in its name dropped p since.
+/// A state in words: a line for each live thread, one for each circle of waits, and one for each
+/// thread whose wait leads into a circle. A thread that waits is told where a call in its name
+/// dropped p since.
 pub fn tell_state(alloc: Global, state: &State, drops: &Drops) -> Result<String, AllocError> {
     let mut text = String::new(alloc);
     let moment = state.moment;
@@ -189,8 +190,8 @@ fn sooner(first: Option<u64>, other: Option<u64>) -> Option<u64> {
     }
 }
 
-// Tells of a wait that leads into a circle: no thread on its way can end it. Nothing is told where one of
-// the waits on the way ends by itself.
+// Tells of a wait that leads into a circle: no thread on its way can end it. Nothing is told where
+// one of the waits on the way ends by itself.
 fn tell_stuck(
     text: &mut String,
     state: &State,

@@ -8,8 +8,8 @@ use crate::threads::{awaited, live_at};
 use ipc_slots::Live;
 use ipc_words::ThreadId;
 
-/// For each number the number of the live thread for which its thread waits: the receiver of its send
-/// phase, or the one thread from which it receives.
+/// For each number the number of the live thread for which its thread waits: the receiver of its
+/// send phase, or the one thread from which it receives.
 pub fn waits_of(threads: &[Option<Live>]) -> [Option<usize>; PLACES]
     ensures size { length result ≡ table_slots }
     ensures waits { HasWaits threads.now result }

@@ -1,4 +1,5 @@
--- The phases that an ExchangeRegisters stops, as they are typed, and the control (L4 X.2 manual, ExchangeRegisters: R and S).
+-- The phases that an ExchangeRegisters stops, as they are typed, and the control (L4 X.2 manual,
+-- ExchangeRegisters: R and S).
 use Rattle.std.specs.Prelude.{ℕ, List, codes}
 use Rattle.l4sh_talk.specs.declared.spelling.Stop.{Stop}
 use Rattle.l4sh_talk.specs.declared.spelling.Stop.TheVariants.{Nothing, Receive, Send, Both}

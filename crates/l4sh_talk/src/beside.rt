@@ -5,8 +5,8 @@ use l4sh_reasons::Printable;
 use l4sh_threads::cause_of;
 use std::alloc::{AllocError, Global};
 
-/// Words beside the answer line of a command, which stands here without its newline. None where the line
-/// says all.
+/// Words beside the answer line of a command, which stands here without its newline. None where the
+/// line says all.
 pub fn words_beside(alloc: Global, answer: &[u8]) -> Result<Option<String>, AllocError> {
     let mut fields = Vec::new(alloc);
     put_fields(&mut fields, answer)?;

@@ -77,16 +77,17 @@ fn named<'a>(names: &[(&'static str, Name)], word: &'a [u8]) -> Option<Named<'a>
     None
 }
 
-/// A word of a call that is none of its fields, by its place; or that the fields of the tag are past their widths together.
+/// A word of a call that is none of its fields, by its place; or that the fields of the tag are
+/// past their widths together.
 #[derive(Clone, Copy)]
 pub(crate) enum CallFault {
     Word(usize, WordFault),
     Wide,
 }
 
-/// The line of a call that is typed as its caller and then `to=`, `from=`, `send=`, `receive=`, `label=`,
-/// `words=`, `as=`, `buffers=` and texts between quotation marks, in any order, each but words and texts at most
-/// once. An `Err` inside is what is wrong.
+/// The line of a call that is typed as its caller and then `to=`, `from=`, `send=`, `receive=`,
+/// `label=`, `words=`, `as=`, `buffers=` and texts between quotation marks, in any order, each but
+/// words and texts at most once. An `Err` inside is what is wrong.
 pub(crate) fn call_line(
     alloc: Global,
     words: &[Vec<u8>],
@@ -142,7 +143,8 @@ impl Asked {
         }
     }
 
-    // Takes the words behind the caller, up to the first that is none, and answers its place and what is wrong with it.
+    // Takes the words behind the caller, up to the first that is none, and answers its place and
+    // what is wrong with it.
     fn read_all(&mut self, words: &[Vec<u8>]) -> Result<Option<(usize, WordFault)>, AllocError> {
         for (place, word) in words.iter().enumerate() {
             if place >= 2
@@ -154,7 +156,8 @@ impl Asked {
         Ok(None)
     }
 
-    // Takes one word, of which a field of its name may have come before. Answers what is wrong with it.
+    // Takes one word, of which a field of its name may have come before. Answers what is wrong with
+    // it.
     fn read(&mut self, word: &[u8], is_again: bool) -> Result<Option<WordFault>, AllocError> {
         if let [b'"', text @ ..] = word {
             self.read_string(text)?;

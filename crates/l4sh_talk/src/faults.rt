@@ -26,7 +26,8 @@ pub struct WordFault {
     pub wanted: &'static str,
 }
 
-/// A word that is none of its command. It is told as a bad field of a script is: `field 4, label: wanted is ..; not -1`.
+/// A word that is none of its command. It is told as a bad field of a script is:
+/// `field 4, label: wanted is ..; not -1`.
 #[derive(Clone, Copy)]
 pub struct BadWord<'a> {
     /// Its place in the line, from 0; the name of the command is the first.
@@ -60,7 +61,8 @@ fn value_of(word: &[u8]) -> &[u8] {
     }
 }
 
-/// Whether a field stands at a place, by the name before its `=`, that stands at an earlier one, too.
+/// Whether a field stands at a place, by the name before its `=`, that stands at an earlier one,
+/// too.
 pub fn comes_again(words: &[Vec<u8>], place: usize) -> bool {
     let Some(word) = words.get(place) else {
         return false;

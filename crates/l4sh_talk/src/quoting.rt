@@ -1,7 +1,8 @@
 use std::alloc::{AllocError, Global};
 
-/// The words of a line, with spaces or tabs between them, and none of a comment that begins with `#`. A
-/// text between quotation marks is one word, with its first mark before it. None where the last mark lacks.
+/// The words of a line, with spaces or tabs between them, and none of a comment that begins with
+/// `#`. A text between quotation marks is one word, with its first mark before it. None where the
+/// last mark lacks.
 pub fn words_of(alloc: Global, line: &[u8]) -> Result<Option<Vec<Vec<u8>>>, AllocError> {
     let mut words: Vec<Vec<u8>> = Vec::new(alloc);
     let mut word: Vec<u8> = Vec::new(alloc);

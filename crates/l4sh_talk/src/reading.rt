@@ -49,7 +49,8 @@ pub enum Typed {
     Mistake(String),
 }
 
-/// What a line that was typed, without its newline, stands for. A line of a script stands for itself.
+/// What a line that was typed, without its newline, stands for. A line of a script stands for
+/// itself.
 pub fn read_typed(alloc: Global, typed: &[u8]) -> Result<Typed, AllocError> {
     match exact(alloc, typed)? {
         Some(line) => Ok(Typed::Line(line)),

@@ -1,4 +1,5 @@
--- As whom a receiver is shown the sender (L4 X.2 manual, Ipc: propagation): the originator where it is a live thread of the caller's space.
+-- As whom a receiver is shown the sender (L4 X.2 manual, Ipc: propagation): the originator where it
+-- is a live thread of the caller's space.
 use Rattle.std.specs.Prelude.{ℕ, ◌==◌, Bool, true, false, Option, Some, None, if◌then◌else◌}
 use Rattle.l4sh_threads.specs.declared.spaces.ShownAs.{ShownAs}
 use Rattle.l4sh_threads.specs.declared.spaces.ShownAs.TheVariants.{Caller, Originator, Dropped}

@@ -1,5 +1,5 @@
-//! What the views of a trace share: which threads live and in which space, as whom a message is shown, which
-//! threads were asked for, and why a phase failed.
+//! What the views of a trace share: which threads live and in which space, as whom a message is
+//! shown, which threads were asked for, and why a phase failed.
 #![tactic(auto)]
 
 mod causes;

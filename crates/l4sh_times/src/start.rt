@@ -5,8 +5,8 @@ use jiff::Timestamp;
 use std::fmt;
 use std::time::Clock;
 
-/// The time of day of moment 0 of a trace. Its text is the line of a file `FILE.began`, without its newline, as
-/// `began 2026-11-28T19:00:00.000000Z`: UTC, in microseconds.
+/// The time of day of moment 0 of a trace. Its text is the line of a file `FILE.began`, without its
+/// newline, as `began 2026-11-28T19:00:00.000000Z`: UTC, in microseconds.
 #[derive(Clone, Copy)]
 pub struct Start {
     /// Microseconds since 1970-01-01T00:00:00Z.
@@ -14,14 +14,16 @@ pub struct Start {
 }
 
 impl Start {
-    /// That of a trace whose moment, in microseconds, is this one now. None where the clock cannot be read.
+    /// That of a trace whose moment, in microseconds, is this one now. None where the clock cannot
+    /// be read.
     pub fn of_clock(clock: &impl Clock, moment: u64) -> Option<Start> {
         let now = Timestamp::now(clock).ok()?.as_microsecond();
         let micros = now.checked_sub(i64::try_from(moment).ok()?)?;
         Some(Start { micros })
     }
 
-    /// The one that the text of a file `FILE.began` tells: its one line. None where it is another text.
+    /// The one that the text of a file `FILE.began` tells: its one line. None where it is another
+    /// text.
     pub fn read(text: &str) -> Option<Start>
         ensures began { IfSome result (λ start. IsBegan text.now) }
     {

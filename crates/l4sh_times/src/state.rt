@@ -7,8 +7,9 @@ const MOMENT: &str = "moment ";
 
 const UNIT: &str = " µs";
 
-/// The text of a state, as `l4d` answers it and `tell_state` makes it, of which each moment is told by these times, and behind the one since
-/// when a thread waits stands how long that is by now. What else stands there stays as it is.
+/// The text of a state, as `l4d` answers it and `tell_state` makes it, of which each moment is told
+/// by these times, and behind the one since when a thread waits stands how long that is by now.
+/// What else stands there stays as it is.
 pub fn timed_state(alloc: Global, text: &str, times: Times) -> Result<String, AllocError> {
     let mut told = String::new(alloc);
     let mut now = 0u64;
@@ -98,7 +99,8 @@ fn put_wait(told: &mut String, micros: u64) -> Result<(), AllocError> {
     write!(told, " ({count} {unit})")
 }
 
-/// A number of microseconds in the greatest of these units of which it has ten or more, or in microseconds.
+/// A number of microseconds in the greatest of these units of which it has ten or more, or in
+/// microseconds.
 fn in_units(micros: u64) -> (u64, &'static str) {
     let (millis, seconds) = (micros / 1_000, micros / 1_000_000);
     let (minutes, hours) = (seconds / 60, seconds / 3_600);

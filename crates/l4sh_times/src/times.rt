@@ -13,7 +13,8 @@ pub enum Times {
     OfDay(Start),
 }
 
-/// A moment as it is told: `12 µs`, or `2026-11-28T19:00:00.000012Z`. One that no date has is told in microseconds.
+/// A moment as it is told: `12 µs`, or `2026-11-28T19:00:00.000012Z`. One that no date has is told
+/// in microseconds.
 #[derive(Clone, Copy)]
 pub struct MomentText {
     times: Times,

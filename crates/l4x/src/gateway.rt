@@ -1,4 +1,5 @@
-//! A gateway before the key-value server: passes each request on in the name of who asked, so that the server answers them itself.
+//! A gateway before the key-value server: passes each request on in the name of who asked, so that
+//! the server answers them itself.
 use crate::calling::{Search, Server, thread_of};
 use crate::messages::{Received, message, message_of, receive_any};
 use crate::trouble::Trouble;
@@ -9,8 +10,9 @@ use std::sync::Wait;
 
 /// Passes requests on for ever.
 ///
-/// The message that goes on has the flag p and shows who asked as its VirtualSender. Who asked waits for the
-/// gateway alone. When the transfer begins that wait is turned to the server, so the answer does not come through here.
+/// The message that goes on has the flag p and shows who asked as its VirtualSender. Who asked
+/// waits for the gateway alone. When the transfer begins that wait is turned to the server, so the
+/// answer does not come through here.
 pub fn serve<I: PortRead, O: PortWrite, R: Wait>(
     rt: &R,
     alloc: Global,

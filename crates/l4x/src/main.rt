@@ -1,4 +1,5 @@
-//! Programs over the client that people start from: a key-value server, its callers, a gateway before it, and a sleeper.
+//! Programs over the client that people start from: a key-value server, its callers, a gateway
+//! before it, and a sleeper.
 #![tactic(auto)]
 
 ghost use Rattle.std.specs.Prelude.{◌≡◌, ◌<◌};
@@ -98,7 +99,8 @@ fn connect<R: Net>(rt: &R, alloc: Global, dir: &str) -> Result<UnixStream, Troub
     }
 }
 
-/// Plays a role over a connection. Each count of failures begins as a blank. A server that does not say WELCOME in its time is silent.
+/// Plays a role over a connection. Each count of failures begins as a blank. A server that does not
+/// say WELCOME in its time is silent.
 fn start<L: Ledger, M: Ledger, R: Wait + Print>(
     rt: &R,
     alloc: Global,

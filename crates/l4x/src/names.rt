@@ -113,7 +113,8 @@ fn answer<I: PortRead, O: PortWrite>(
     }
 }
 
-// Sends the message of an answer, and has the next request: the one that is there already, or the next that comes.
+// Sends the message of an answer, and has the next request: the one that is there already, or the
+// next that comes.
 fn send_answer<I: PortRead, O: PortWrite>(
     alloc: Global,
     client: &mut Client<I, O>,
@@ -343,7 +344,8 @@ fn put_into(table: &mut Table, name: Name, sender: ThreadId) -> Served {
     }
 }
 
-// The refusal of one more name, where the table is full of names of live threads. Without one there is room.
+// The refusal of one more name, where the table is full of names of live threads. Without one there
+// is room.
 fn refusal_where_full<I: PortRead, O: PortWrite>(
     alloc: Global,
     client: &mut Client<I, O>,
@@ -374,8 +376,8 @@ fn make_room<I: PortRead, O: PortWrite>(
     Ok(None)
 }
 
-// Drops the name at a place where its thread has ended. None where the next place is to be looked at; else the request that was taken,
-// if any.
+// Drops the name at a place where its thread has ended. None where the next place is to be looked
+// at; else the request that was taken, if any.
 fn drop_ended<I: PortRead, O: PortWrite>(
     alloc: Global,
     client: &mut Client<I, O>,
@@ -450,7 +452,8 @@ fn list_after<I: PortRead, O: PortWrite>(
     Ok(told(ThreadId::NILTHREAD, None))
 }
 
-// The first name after these bytes, if its thread is live. None where it has ended, and the name was dropped.
+// The first name after these bytes, if its thread is live. None where it has ended, and the name
+// was dropped.
 fn list_next<I: PortRead, O: PortWrite>(
     alloc: Global,
     client: &mut Client<I, O>,

@@ -55,7 +55,8 @@ impl NameError {
         }
     }
 
-    /// The error of an answer that is not done. An answer with another number is no answer of a name server.
+    /// The error of an answer that is not done. An answer with another number is no answer of a
+    /// name server.
     pub fn of_number(number: u64) -> NameError {
         match number {
             2 => NameError::BadName,

@@ -37,8 +37,8 @@ fn timeout_of(micros: u64) -> Timeout {
     }
 }
 
-/// The word of the shortest period that is not shorter than so many microseconds; the longest for more than
-/// that. Zero time for none.
+/// The word of the shortest period that is not shorter than so many microseconds; the longest for
+/// more than that. Zero time for none.
 fn period(micros: u64) -> u16 {
     if micros == 0 {
         return Period::ZERO.to_word();

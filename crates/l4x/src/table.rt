@@ -55,7 +55,8 @@ struct Entry {
     thread: ThreadId,
 }
 
-/// Names and their threads, in the order of bytes. A place is counted from 0, and holds until the table changes.
+/// Names and their threads, in the order of bytes. A place is counted from 0, and holds until the
+/// table changes.
 #[derive(Drop)]
 pub struct Table {
     entries: Vec<Entry>,

@@ -1,4 +1,5 @@
-//! A kernel in a program of one's own, its history as lines, and more entries that are checked behind what is kept of it.
+//! A kernel in a program of one's own, its history as lines, and more entries that are checked
+//! behind what is kept of it.
 ghost use Rattle.std.specs.Prelude.{◌≡◌, ◌↔◌, ◌++◌};
 ghost use Rattle.ipc_history.specs.Holding.{held_of};
 ghost use Rattle.ipc_history.specs.Legal.{Legal};
@@ -48,7 +49,8 @@ fn compact(kernel: &mut Kernel)
     laws::holds_compact();
 }
 
-/// Whether entries follow the history of a kernel that was compacted, by its base and by what memory holds of it.
+/// Whether entries follow the history of a kernel that was compacted, by its base and by what
+/// memory holds of it.
 fn verdict_behind(kernel: &Kernel, room: BaseRoom, entries: &[Entry]) -> Verdict
     requires { held_of (history_of kernel.now) ≡ kept_of kernel.now.history kernel.now.taken }
     ensures yes { (result ≡ Yes) ↔ Legal (kernel.now.history ++ entries.now) }
@@ -103,7 +105,8 @@ fn show_verdicts<P: PortWrite>(
     Ok(())
 }
 
-/// What is left of a compacted history, as a file that begins in the middle: its base, and the entries that are kept.
+/// What is left of a compacted history, as a file that begins in the middle: its base, and the
+/// entries that are kept.
 fn show_part<P: PortWrite>(
     alloc: Global,
     lines: &mut TraceWriter<P>,
@@ -139,7 +142,8 @@ fn show_restored<P: PortWrite>(lines: &mut TraceWriter<P>) -> Result<(), Trouble
     Ok(())
 }
 
-/// Runs the commands, prints the history of the kernel line by line, lets go of what may go, and checks what is to follow.
+/// Runs the commands, prints the history of the kernel line by line, lets go of what may go, and
+/// checks what is to follow.
 pub(crate) fn show<P: PortWrite>(alloc: Global, lines: &mut TraceWriter<P>) -> Result<(), Trouble> {
     let (mut kernel, answers) = Kernel::run(alloc, ROOM, commands(alloc)?)?;
     drop(answers);

@@ -1,5 +1,5 @@
-//! How a program of one's own stands on the crates. Each part makes calls that neither `l4d` nor `l4sh` makes, as who builds on the
-//! crates would make them, and prints what came of them.
+//! How a program of one's own stands on the crates. Each part makes calls that neither `l4d` nor
+//! `l4sh` makes, as who builds on the crates would make them, and prints what came of them.
 #![tactic(auto)]
 
 ghost use Rattle.std.specs.Prelude.{◌≡◌, ◌<◌, ◌^◌};
@@ -35,7 +35,8 @@ fn main(rt: HostRuntime) -> ExitCode {
     ExitCode::from(1)
 }
 
-/// Shows each part. A trace writer wants nothing but its port, which is that of standard output here.
+/// Shows each part. A trace writer wants nothing but its port, which is that of standard output
+/// here.
 fn show<W: Ledger, C: Ledger, T: Ledger, R: Print>(
     rt: &R,
     alloc: Global,

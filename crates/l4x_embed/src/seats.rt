@@ -1,4 +1,5 @@
-//! Seats: the right to make a thread's calls, and that to take its outcomes, each of which nobody can copy.
+//! Seats: the right to make a thread's calls, and that to take its outcomes, each of which nobody
+//! can copy.
 ghost use Rattle.std.specs.Prelude.{◌≡◌, ◌^◌};
 
 use crate::calls::{ROOM, receive, send};

@@ -1,5 +1,5 @@
-//! A session over any pair of ports, here bytes in memory as they come out of a pipe: what its reader asks a kernel, and what its
-//! writer tells the client.
+//! A session over any pair of ports, here bytes in memory as they come out of a pipe: what its
+//! reader asks a kernel, and what its writer tells the client.
 use crate::calls::thread;
 use crate::trouble::Trouble;
 use ipc_connection::{NoBlocks, Told};

@@ -1,7 +1,8 @@
 use std::fmt::Debug;
 use std::process::Abort;
 
-// A test is a row of calls of small functions. These fail the test themselves, so no way out opens in it.
+// A test is a row of calls of small functions. These fail the test themselves, so no way out opens
+// in it.
 
 // Fails the test where the two differ.
 pub(crate) fn same<T: PartialEq + Debug + Drop>(rt: &impl Abort, left: T, right: T) {

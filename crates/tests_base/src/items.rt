@@ -230,8 +230,8 @@ fn buffers_are_taken_whole(rt: HostRuntime) {
     same(&rt, list.first_pointer(0), 0x1000);
 }
 
-// Whether a list takes as many buffer strings of so many substrings each. Those of the first have this length, those of each other one are longer
-// by 1 than those before.
+// Whether a list takes as many buffer strings of so many substrings each. Those of the first have
+// this length, those of each other one are longer by 1 than those before.
 fn takes(rt: &impl Abort, alloc: Global, count: u64, parts: usize, length: u64) -> bool {
     let mut buffers = Vec::new(alloc);
     for more in 0..count {

@@ -1,5 +1,5 @@
-//! The tests of the crates that the others stand on, of what no program shows: words, numbers of threads, circles, memory, ports, strings,
-//! and lines.
+//! The tests of the crates that the others stand on, of what no program shows: words, numbers of
+//! threads, circles, memory, ports, strings, and lines.
 #![tactic(auto)]
 
 #[cfg(test)]

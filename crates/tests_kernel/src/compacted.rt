@@ -1,4 +1,5 @@
-// What follows a kernel's history is checked by its base and by the entries that memory holds of it.
+// What follows a kernel's history is checked by its base and by the entries that memory holds of
+// it.
 ghost use Rattle.std.specs.Prelude.{◌≡◌, ◌↔◌, ◌++◌};
 ghost use Rattle.ipc_history.specs.Holding.{held_of};
 ghost use Rattle.ipc_history.specs.Legal.{Legal};
@@ -30,7 +31,8 @@ fn compact_whole(kernel: &mut Kernel)
     laws::holds_compact();
 }
 
-// Whether entries follow the history of a kernel that was compacted, by its base and by what memory holds of it.
+// Whether entries follow the history of a kernel that was compacted, by its base and by what memory
+// holds of it.
 fn verdict_behind(kernel: &Kernel, room: BaseRoom, entries: &[Entry]) -> Verdict
     requires { held_of (history_of kernel.now) ≡ kept_of kernel.now.history kernel.now.taken }
     ensures yes { (result ≡ Yes) ↔ Legal (kernel.now.history ++ entries.now) }
@@ -54,7 +56,8 @@ fn verdict_after(kernel: &Kernel, room: BaseRoom, entries: &[Entry]) -> Verdict
     check_from(&base, kernel.held_entries(), entries)
 }
 
-// Fails the test where entries behind the history of a kernel that was compacted are judged otherwise.
+// Fails the test where entries behind the history of a kernel that was compacted are judged
+// otherwise.
 fn is_judged(rt: &impl Abort, alloc: Global, kernel: &Kernel, entries: &[Entry], verdict: Verdict)
     requires { held_of (history_of kernel.now) ≡ kept_of kernel.now.history kernel.now.taken }
 {

@@ -1,4 +1,5 @@
-// What the kernel gives that no program asks for, or shows only beside a clock or a million entries.
+// What the kernel gives that no program asks for, or shows only beside a clock or a million
+// entries.
 use crate::steps::{
     after_two_messages, at, enter, held, kernel_of, open, receive, same, send, take, thread,
 };
@@ -31,7 +32,8 @@ fn wait_of(rt: &impl Abort, alloc: Global) -> Command {
     Command::Enter(thread(1, 1), receive(rt, alloc, 0))
 }
 
-// How many answers commands have, how many entries they bring, and how many calls are open then. The limits are above the greatest.
+// How many answers commands have, how many entries they bring, and how many calls are open then.
+// The limits are above the greatest.
 fn run(rt: &impl Abort, alloc: Global, commands: Vec<Command>) -> (usize, usize, usize) {
     let limits = Limits {
         entries: u64::MAX,
@@ -77,8 +79,8 @@ fn word_of(answer: Answer) -> &'static str {
     }
 }
 
-// How often a command is obeyed once more where there is no room, which one, up to which place entries may go for it, how it is answered
-// each time, and how many entries are held in the end.
+// How often a command is obeyed once more where there is no room, which one, up to which place
+// entries may go for it, how it is answered each time, and how many entries are held in the end.
 type Row = (u64, Asked, usize, &'static str, usize);
 
 const ALL: usize = usize::MAX;
@@ -104,7 +106,8 @@ const ROWS: [Row; 9] = [
 const STAYS: [Row; 3] = [
     (1, Asked::Opens(1), ALL, "opened", 1),
     (1, Asked::Waits, ALL, "entered 1", 2),
-    // the call stays, and is pledged five entries, its thread two; and so does the open of its thread
+    // the call stays, and is pledged five entries, its thread two; and so does the open of its
+    // thread
     (1, Asked::Opens(2), ALL, "full", 2),
 ];
 
@@ -138,7 +141,8 @@ fn obeyed(kernel: &mut Kernel, command: Command, upto: usize) -> &'static str {
     word_of(kernel.obey_again(command, upto))
 }
 
-// Which entries are held, where the first six were let go of: the opens of the live threads, the moment and what comes behind.
+// Which entries are held, where the first six were let go of: the opens of the live threads, the
+// moment and what comes behind.
 const HELD: [bool; 8] = [true, true, false, false, true, false, true, true];
 
 #[test]

@@ -22,8 +22,9 @@ use std::sync::ledger::{Blank, Ledger};
 use std::thread;
 use std::thread::Threads;
 
-// A test is a row of calls, most of them of the small functions here. They say nothing of what they give, so their callers carry no
-// facts, and they fail the test themselves, so no exit opens in their callers. What has many parts ends by a call of `drop`.
+// A test is a row of calls, most of them of the small functions here. They say nothing of what they
+// give, so their callers carry no facts, and they fail the test themselves, so no exit opens in
+// their callers. What has many parts ends by a call of `drop`.
 
 // Fails the test where the two differ.
 fn same<T: PartialEq + Debug + Drop>(rt: &impl Abort, left: T, right: T) {
@@ -420,7 +421,8 @@ fn a_pen_writes_outcomes_before_answers_and_ends_when_its_box_is_shut(rt: HostRu
     boxes::<Brand, Brand, _>(&rt, rt.alloc(), Blank::new(1 << 63), Blank::new(1 << 63));
 }
 
-// A client that reads nothing: its pen waits, and its writer goes on. Then one that reads: its reader writes all by itself.
+// A client that reads nothing: its pen waits, and its writer goes on. Then one that reads: its
+// reader writes all by itself.
 fn boxes<C: Ledger, T: Ledger, R: Wait + Abort>(rt: &R, alloc: Global, calls: Blank, takes: Blank)
     requires calls { (calls.name ≡ C.name) × (calls.parts ≡ C.parts) × (calls.parts ≡ 2 ^ 63) }
     requires takes { (takes.name ≡ T.name) × (takes.parts ≡ T.parts) × (takes.parts ≡ 2 ^ 63) }
@@ -581,7 +583,8 @@ fn has_let_go<C: Ledger, T: Ledger, R: Wait + Abort>(
 
 const MEETINGS: u64 = 10_000;
 
-// Makes calls in turn, each once the one before is over: it receives the words from 0 on in their order, or sends them.
+// Makes calls in turn, each once the one before is over: it receives the words from 0 on in their
+// order, or sends them.
 fn make_calls<C: Ledger, T: Ledger, R: Wait + Abort>(
     rt: &R,
     alloc: Global,
@@ -615,7 +618,8 @@ const FEW_ENTRIES: Limits = Limits {
     calls: MAX_CALLS,
 };
 
-// Calls that are over at once, each of whose entries may go: of a history that holds 200 entries far more are written, and K5 never comes.
+// Calls that are over at once, each of whose entries may go: of a history that holds 200 entries
+// far more are written, and K5 never comes.
 fn never_fills<C: Ledger, T: Ledger, R: Wait + Abort>(
     rt: &R,
     alloc: Global,

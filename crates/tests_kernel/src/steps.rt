@@ -1,5 +1,6 @@
-// A test is a row of calls of the small functions here. They say nothing of what they give, so the tests carry no facts of the kernel,
-// and they fail the test themselves, so no exit opens in the tests.
+// A test is a row of calls of the small functions here. They say nothing of what they give, so the
+// tests carry no facts of the kernel, and they fail the test themselves, so no exit opens in the
+// tests.
 use ipc_core::{Kernel, Limits, MAX_CALLS, MAX_ENTRIES};
 use ipc_history::{Call, CallFields};
 use ipc_items::StringList;
@@ -113,8 +114,8 @@ fn end_third(kernel: &mut Kernel) {
     drop(kernel.broke(thread(3, 1)));
 }
 
-// A kernel after two messages at the moment 5, of which the second one's outcome was not taken by its sender; its receiver waits once
-// more. A third thread ended.
+// A kernel after two messages at the moment 5, of which the second one's outcome was not taken by
+// its sender; its receiver waits once more. A third thread ended.
 pub(crate) fn after_two_messages(rt: &impl Abort, alloc: Global) -> Kernel {
     let mut kernel = kernel_of(rt, alloc, MAX_ENTRIES);
     open(&mut kernel, 1, 1);

@@ -1,4 +1,5 @@
-// The client over ports in memory, where no program shows it: a device that fails, and answers of version 2.
+// The client over ports in memory, where no program shows it: a device that fails, and answers of
+// version 2.
 use crate::comparing::same;
 use ipc_client::{Answer, Buffers, Client, ClientError, Greeting, Registers, Timeout};
 use ipc_frame::{CallEnd, FrameFault, WireVersion};
@@ -15,7 +16,8 @@ const SECOND: u64 = 0x2_0000_0001;
 // What HELLO and BYE are answered.
 type Answers = (Result<Greeting, ClientError>, Result<(), ClientError>);
 
-// What they are answered byte by byte, where the read of the first number meets trouble, and the write of the second.
+// What they are answered byte by byte, where the read of the first number meets trouble, and the
+// write of the second.
 fn hello_and_bye(alloc: Global, read: u64, write: u64, trouble: Trouble) -> Answers {
     let reader = MemoryPort::new(alloc, &WELCOME).byte_by_byte();
     let mut reader = reader.with_trouble(read, trouble);
@@ -97,8 +99,8 @@ fn end_of(answer: Result<Answer, ClientError>) -> Option<CallEnd> {
     }
 }
 
-// What a client is answered that is welcomed in version 2, after a HELLO that was refused in version 1: what an ExchangeRegisters of 2.1 is
-// answered, and which call a receive was.
+// What a client is answered that is welcomed in version 2, after a HELLO that was refused in
+// version 1: what an ExchangeRegisters of 2.1 is answered, and which call a receive was.
 fn answers_in_two(
     alloc: Global,
     input: &[u8],

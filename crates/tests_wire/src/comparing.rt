@@ -1,5 +1,6 @@
-// How these tests fail. A test is rows of data and calls of small functions. They say nothing of what they give, so the tests carry no
-// facts of what they call, and they fail the test themselves, so no way out opens in the tests.
+// How these tests fail. A test is rows of data and calls of small functions. They say nothing of
+// what they give, so the tests carry no facts of what they call, and they fail the test themselves,
+// so no way out opens in the tests.
 use std::fmt::{Debug, Display};
 use std::process::Abort;
 

@@ -1,4 +1,5 @@
-// The exchange with little room, and what goes out in small pieces: `l4sh wire` has the most room, and puts all out behind each command.
+// The exchange with little room, and what goes out in small pieces: `l4sh wire` has the most room,
+// and puts all out behind each command.
 use crate::comparing::same;
 use ipc_core::{Limits, MAX_CALLS, MAX_ENTRIES};
 use ipc_exchange::Exchange;

@@ -143,7 +143,8 @@ fn a_stream_is_read_however_it_is_cut(rt: HostRuntime) {
     drop(to_server);
 }
 
-// What is told of two pieces, and of the end behind them, asked twice: the numbers of the faults, 0 where there is none. And how many frames came.
+// What is told of two pieces, and of the end behind them, asked twice: the numbers of the faults, 0
+// where there is none. And how many frames came.
 fn told(alloc: Global, side: Side, first: &[u8], second: &[u8]) -> ([u8; 4], usize) {
     let mut decoder = Decoder::new(alloc, side);
     let mut frames = Vec::new(alloc);
@@ -157,7 +158,8 @@ fn told(alloc: Global, side: Side, first: &[u8], second: &[u8]) -> ([u8; 4], usi
     (faults, count)
 }
 
-// Wherever bytes are cut in two they are one frame. Without the rest they are unfinished (F9), and the decoder is spent then (F13).
+// Wherever bytes are cut in two they are one frame. Without the rest they are unfinished (F9), and
+// the decoder is spent then (F13).
 fn is_a_frame_wherever_cut(rt: &impl Abort, alloc: Global, side: Side, bytes: &[u8]) {
     same(rt, told(alloc, side, &[], bytes), ([0; 4], 1));
     for cut in 1..bytes.len() {
@@ -205,7 +207,8 @@ fn fault_of_changed(
     fault
 }
 
-// A text, other bytes in some places of it, how many of its bytes are there, and the number of the fault.
+// A text, other bytes in some places of it, how many of its bytes are there, and the number of the
+// fault.
 type Faulty = (Side, &'static [u8], &'static [(usize, u8)], usize, u8);
 
 const FAULTY: &[Faulty] = &[
@@ -229,7 +232,8 @@ const FAULTY: &[Faulty] = &[
     (Side::Server, &IPC, &[(3, 46)], 50, 3),
     (Side::Server, &IPC, &[(3, 46), (40, 0x7f)], 50, 4),
     (Side::Server, &IPC, &[(49, 33)], 50, 4),
-    // the outcome of version 2: a body that is too short, and a tag of 64 words, at the 49th byte of the body
+    // the outcome of version 2: a body that is too short, and a tag of 64 words, at the 49th byte
+    // of the body
     (Side::Client, &FAILED_TWO, &[(3, 0x31)], 5, 3),
     (Side::Client, &FAILED_TWO, &[(27, 0), (28, 0x7f)], 52, 9),
     (Side::Client, &FAILED_TWO, &[(27, 0), (28, 0x7f)], 53, 4),

@@ -1,4 +1,5 @@
-// What is heard on a connection, where it is read in place or in a block that was used before, and once it is spent.
+// What is heard on a connection, where it is read in place or in a block that was used before, and
+// once it is spent.
 use crate::comparing::{holds, same};
 use crate::vectors::BYE;
 use ipc_connection::{Blocks, CallDecoder, Heard};
@@ -9,8 +10,8 @@ use ipc_ports::{MemoryPort, Trouble};
 use std::alloc::Global;
 use std::process::Abort;
 
-// What a decoder hears of a piece, as a short number: 1,000 and the words of a call, 2,000 for another frame, 4,000 and the number of a
-// fault, 5,000 where nothing is heard.
+// What a decoder hears of a piece, as a short number: 1,000 and the words of a call, 2,000 for
+// another frame, 4,000 and the number of a fault, 5,000 where nothing is heard.
 fn taken(decoder: &mut CallDecoder, piece: &[u8]) -> u64 {
     let answer = decoder.take(piece);
     let heard = match &answer {
@@ -46,7 +47,8 @@ fn a_decoder_that_ended_inside_a_frame_is_spent(rt: HostRuntime) {
     drop(decoder);
 }
 
-// The bytes before the payload of a call to 1.1 with one string, which is all of a payload of 65,536 bytes.
+// The bytes before the payload of a call to 1.1 with one string, which is all of a payload of
+// 65,536 bytes.
 const LONG_CALL: [u8; 66] = [
     0, 1, 0, 0x3e, 2, 0, 0, 0, 1, 0, 0, 0, 1, 0, 0, 0, 0, 0, 0, 0, 0, 0, 0, 0, 0, 0, 0, 0, 0, 0, 0,
     0, 0, 0, 0, 0, 0, 0, 0, 0, 0x80, 0, 0, 0, 0, 0, 0, 0, 0, 0, 0, 0, 0, 0, 4, 0, 0, 0, 0, 0, 0, 0,
@@ -79,7 +81,8 @@ fn reads(decoder: &mut CallDecoder, port: &mut MemoryPort<'_>, count: usize) -> 
     matches!(decoder.read_on(port), Some(Ok(read)) if read == count)
 }
 
-// Nothing is read in place before some of the payload has come, and then all but the last byte, which is taken as a piece.
+// Nothing is read in place before some of the payload has come, and then all but the last byte,
+// which is taken as a piece.
 fn reads_the_middle(rt: &impl Abort, alloc: Global, decoder: &mut CallDecoder, call: &[u8]) {
     let (first, behind) = call.split_at(call.len().min(1_024));
     let mut port = MemoryPort::new(alloc, behind);
@@ -103,7 +106,8 @@ fn the_middle_of_a_long_payload_is_read_in_place(rt: HostRuntime) {
     drop(call);
 }
 
-// Gives blocks of other bytes, each by so many shorter than the one before, and counts the strings that are told.
+// Gives blocks of other bytes, each by so many shorter than the one before, and counts the strings
+// that are told.
 #[derive(Drop)]
 struct Nines {
     alloc: Global,

@@ -1,4 +1,5 @@
-//! Tests of what goes over connections: of the client, the exchange and the sessions, where no program shows it.
+//! Tests of what goes over connections: of the client, the exchange and the sessions, where no
+//! program shows it.
 #![tactic(auto)]
 
 #[cfg(test)]

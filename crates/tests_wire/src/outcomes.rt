@@ -108,7 +108,8 @@ fn an_outcome_is_given_as_its_frame(rt: HostRuntime) {
     }
 }
 
-// Where the bytes end that are lent from a place of SCATTERED on: its strings stand from byte 82, 97 and 111 on.
+// Where the bytes end that are lent from a place of SCATTERED on: its strings stand from byte 82,
+// 97 and 111 on.
 fn end_of(place: usize) -> usize {
     match place {
         82..85 => 85,

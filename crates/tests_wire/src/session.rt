@@ -24,8 +24,9 @@ const TALK: [u8; 91] = [
     0, 7, 0, 0, 0, 17, 3, 0, 0, 0, 1, 0, 0, 0, 1, 0, 0, 0, 0, 0, 0, 0, 0, 0, 0, 0, 1, 4,
 ];
 
-// What a kernel port was asked or told, as far as it matters here: O and the number of an open, C and how many words a call has, X and the
-// target of an ExchangeRegisters, R and the number of a REFUSED, the class of a FAULT and its number, and B where it was told of the end.
+// What a kernel port was asked or told, as far as it matters here: O and the number of an open, C
+// and how many words a call has, X and the target of an ExchangeRegisters, R and the number of a
+// REFUSED, the class of a FAULT and its number, and B where it was told of the end.
 type Brief = (u8, u64);
 
 const OPENED: Brief = (b'O', 2);
@@ -103,7 +104,8 @@ fn read<P: PortRead>(
     )
 }
 
-// A reader over this port ends so, after these deeds of a kernel port of 2.1 that refuses a request so, and then one break.
+// A reader over this port ends so, after these deeds of a kernel port of 2.1 that refuses a request
+// so, and then one break.
 fn assert_read<P: PortRead>(
     rt: &impl Abort,
     alloc: Global,
@@ -130,7 +132,8 @@ const REFUSED: Brief = (b'R', 2);
 // No request is refused.
 const NO_REFUSAL: (u64, Refusal) = (u64::MAX, Refusal::NoThread);
 
-// How many bytes of TALK are read, which request is refused, counted from 0, and how, how the reader ends, and after which deeds.
+// How many bytes of TALK are read, which request is refused, counted from 0, and how, how the
+// reader ends, and after which deeds.
 const RUNS: [(usize, (u64, Refusal), Ending, &[Brief]); 9] = [
     (86, NO_REFUSAL, Ending::EndOfInput, &DEEDS),
     (0, NO_REFUSAL, Ending::EndOfInput, &[]),
@@ -175,7 +178,8 @@ fn what_is_read_and_refused_is_told_in_its_place(rt: HostRuntime) {
     }
 }
 
-// A reader of TALK, byte by byte, of so many turns, whose read of this number meets trouble, ends so after these deeds.
+// A reader of TALK, byte by byte, of so many turns, whose read of this number meets trouble, ends
+// so after these deeds.
 fn assert_troubled(
     rt: &impl Abort,
     alloc: Global,
@@ -191,7 +195,8 @@ fn assert_troubled(
     drop(port);
 }
 
-// Where the read of this number fails, or so many turns are all, the reader ends after these deeds. 999 interrupted turns change nothing.
+// Where the read of this number fails, or so many turns are all, the reader ends after these deeds.
+// 999 interrupted turns change nothing.
 fn assert_ends(rt: &impl Abort, alloc: Global, call: usize, deeds: &[Brief]) {
     let (device, stopped) = (Ending::Device, Ending::Stopped);
     assert_troubled(rt, alloc, call, Trouble::Fails, ENOUGH, device, deeds);
@@ -328,7 +333,8 @@ fn breaks(takes: &[Option<Told>]) -> u8 {
     breaks
 }
 
-// A writer of two answers, byte by byte, whose write of this number meets trouble, ends so, and this much is written.
+// A writer of two answers, byte by byte, whose write of this number meets trouble, ends so, and
+// this much is written.
 fn assert_written(
     rt: &impl Abort,
     alloc: Global,
@@ -351,7 +357,8 @@ fn assert_written(
     drop(port);
 }
 
-// Where the write of this number fails, the bytes before it are written. 999 interrupted turns change nothing.
+// Where the write of this number fails, the bytes before it are written. 999 interrupted turns
+// change nothing.
 fn assert_write_fails(rt: &impl Abort, alloc: Global, call: usize) {
     let (text, _) = ANSWERS.split_at(call.min(ANSWERS.len()));
     let (gone, failed) = (WriteEnding::Gone, WriteEnding::Device);

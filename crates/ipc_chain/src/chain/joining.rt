@@ -24,8 +24,8 @@ use ipc_words::limits::TABLE_SLOTS;
 use std::alloc::{AllocError, Global};
 
 impl Chain {
-    /// Begins a part with this base and these kept entries, where they are those of the history; what differs, where they are not, whichever
-    /// outcomes were taken.
+    /// Begins a part with this base and these kept entries, where they are those of the history;
+    /// what differs, where they are not, whichever outcomes were taken.
     pub(crate) fn join(
         &mut self,
         base: &Base,
@@ -66,7 +66,8 @@ impl Chain {
         }
     }
 
-    /// Notes how many outcomes a part tells as taken, where it keeps so many calls; what differs, where so many can not have been.
+    /// Notes how many outcomes a part tells as taken, where it keeps so many calls; what differs,
+    /// where so many can not have been.
     fn tell(&mut self, base: &Base, kept: usize) -> Result<Option<Difference>, AllocError>
         ensures past { self.new.past ≡ self.old.past }
         ensures taken { self.new.taken ≡ self.old.taken }
@@ -194,7 +195,8 @@ impl Chain {
         self.history.held()
     }
 
-    /// Lets go of what is not kept of the history, and compares its base and what is kept; what differs, where they are not the same.
+    /// Lets go of what is not kept of the history, and compares its base and what is kept; what
+    /// differs, where they are not the same.
     fn compare(&mut self, base: &Base, kept: &[Entry]) -> Result<Option<Difference>, AllocError>
         ensures past { self.new.past ≡ self.old.past }
         ensures taken { self.new.taken ≡ self.old.taken }

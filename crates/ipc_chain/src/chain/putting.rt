@@ -13,8 +13,8 @@ use ipc_trace::TraceWriter;
 use std::alloc::AllocError;
 
 impl Chain {
-    /// Writes the part that begins behind the history, without entries: each thread has taken its outcome, or, where they are untaken, those
-    /// alone that it surely took.
+    /// Writes the part that begins behind the history, without entries: each thread has taken its
+    /// outcome, or, where they are untaken, those alone that it surely took.
     pub(crate) fn put_part<P: PortWrite>(
         &mut self,
         is_untaken: bool,

@@ -13,7 +13,8 @@ pub(super) struct Budget {
     numbers: Vec<Own>,
     /// Of threads that have ended.
     others: u64,
-    /// The step before which those of threads that have ended are made; none where a thread can be there at the end that is to end.
+    /// The step before which those of threads that have ended are made; none where a thread can be
+    /// there at the end that is to end.
     closing: Option<usize>,
     /// The number of the first call behind it.
     closing_call: u64,
@@ -197,7 +198,8 @@ impl Budget {
         self.others
     }
 
-    /// The number of the call before which a thread has to make its calls, or as many as there is time for.
+    /// The number of the call before which a thread has to make its calls, or as many as there is
+    /// time for.
     pub fn limit(&self, thread: ThreadId) -> u64 {
         match self.numbers.get(thread.number() as usize) {
             Some(own) if own.lasting == thread => own.next,

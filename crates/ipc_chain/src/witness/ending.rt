@@ -1,4 +1,5 @@
-// Calls that are ended, of which a part keeps no end: those that count as over, and those that it tells to have failed.
+// Calls that are ended, of which a part keeps no end: those that count as over, and those that it
+// tells to have failed.
 use super::calls::sending_call;
 use super::guide::{Guide, Turn, is_receiving, live};
 use ipc_history::{Entry, Input, Output};

@@ -7,7 +7,8 @@ use ipc_words::limits::MAX_THREAD_NUMBER;
 use std::alloc::AllocError;
 
 impl Guide<'_> {
-    /// What comes before a thread opens: the calls of those that are to end by then, the end of who has its number, the versions before it.
+    /// What comes before a thread opens: the calls of those that are to end by then, the end of who
+    /// has its number, the versions before it.
     pub(super) fn make_way(
         &mut self,
         slots: &Slots,
@@ -71,7 +72,8 @@ impl Guide<'_> {
         }
     }
 
-    /// What comes for a thread to be live that is to end: it opens, in the space of another one, or those before it come and go.
+    /// What comes for a thread to be live that is to end: it opens, in the space of another one, or
+    /// those before it come and go.
     pub(super) fn open_for(
         &self,
         slots: &Slots,

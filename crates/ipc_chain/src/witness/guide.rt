@@ -197,7 +197,8 @@ impl<'a> Guide<'a> {
         Ok(Turn::Entry(empty_call(self.alloc, next, host)?))
     }
 
-    /// Who makes the next call that is not kept: who has the least time for it, of those that are free.
+    /// Who makes the next call that is not kept: who has the least time for it, of those that are
+    /// free.
     fn choose(&self, slots: &Slots) -> Option<ThreadId> {
         let mut best = None;
         for number in 1..TABLE_SLOTS {

@@ -35,7 +35,8 @@ struct Planner<'a> {
     following: u64,
 }
 
-/// The steps to a history that ends so: its kept entries in their order, and before each call whose message nobody receives by them one that does.
+/// The steps to a history that ends so: its kept entries in their order, and before each call whose
+/// message nobody receives by them one that does.
 pub(super) fn plan(alloc: Global, wanted: Wanted<'_>) -> Result<Vec<Step>, AllocError> {
     let mut planner = Planner {
         wanted,
@@ -68,7 +69,8 @@ impl Planner<'_> {
         Ok(())
     }
 
-    /// Who receives the message of a call that counts as over waits for it before, unless a kept entry tells of that.
+    /// Who receives the message of a call that counts as over waits for it before, unless a kept
+    /// entry tells of that.
     fn await_message(&mut self, place: usize, number: u64, call: &Call) -> Result<(), AllocError> {
         let is_told = self.wanted.tells_send_from(place, number);
         if call.to() == ThreadId::NILTHREAD || is_told || !self.wanted.is_over(number) {
@@ -82,7 +84,8 @@ impl Planner<'_> {
         Ok(())
     }
 
-    /// As many of those that wait as there are calls between this number and the next stand before that.
+    /// As many of those that wait as there are calls between this number and the next stand before
+    /// that.
     fn stand_before(&mut self, number: u64) -> Result<(), AllocError> {
         for _ in 0..self.waiting.len() {
             if self.following <= number.saturating_add(1) {

@@ -64,7 +64,8 @@ impl Course {
         self.history.push(other);
     }
 
-    /// Writes the outputs that apply, until none does: of a transfer of words both at once. Takes no memory.
+    /// Writes the outputs that apply, until none does: of a transfer of words both at once. Takes
+    /// no memory.
     pub(crate) fn settle(&mut self)
         requires legal { Legal self.old.entries }
         requires room { length self.old.entries + room_owed self.old.entries ≤ self.old.room }
@@ -94,8 +95,8 @@ impl Course {
         }
     }
 
-    /// Takes an input: appends it, after the At of a later moment, and then the outputs until none applies; asks no rule where the
-    /// input tells that none does. Takes no memory.
+    /// Takes an input: appends it, after the At of a later moment, and then the outputs until none
+    /// applies; asks no rule where the input tells that none does. Takes no memory.
     pub(crate) fn take_input(&mut self, moment: u64, input: Input, copies: Option<Prepared>)
         requires legal { Legal self.old.entries }
         requires quiet { Quiet self.old.entries }
@@ -124,7 +125,8 @@ impl Course {
         self.settle();
     }
 
-    /// Appends the At of a moment at which a phase is due, and the output that it brings. Takes no memory.
+    /// Appends the At of a moment at which a phase is due, and the output that it brings. Takes no
+    /// memory.
     pub(crate) fn tick(&mut self, moment: u64)
         requires legal { Legal self.old.entries }
         requires quiet { Quiet self.old.entries }
@@ -146,7 +148,8 @@ impl Course {
     }
 }
 
-/// Notes an entry at the desks, and says whose call it ended. The slots are those of the entries before it.
+/// Notes an entry at the desks, and says whose call it ended. The slots are those of the entries
+/// before it.
 fn note(desks: &mut Desks, slots: &Slots, entry: &Entry, copies: Option<Prepared>) -> Finished
     requires past { slots.now.past ≡ desks.old.past }
     requires follows { Follows desks.old.past entry.now }

@@ -26,7 +26,8 @@ impl Course {
         self.finished.clear();
     }
 
-    /// Lets go of the entries before a place that are not kept, where a command has begun. Takes no memory.
+    /// Lets go of the entries before a place that are not kept, where a command has begun. Takes no
+    /// memory.
     pub(crate) fn compact(&mut self, upto: usize)
         requires begun { self.old.since ≡ length self.old.entries }
         requires few { length self.old.entries < 2 ^ 63 }

@@ -30,7 +30,8 @@ use ipc_waits::Waiting;
 use ipc_words::ThreadId;
 
 impl Course {
-    /// Appends a call that reaches a receiving call, with its copies, and the beginning and the end of its transfer. Takes no memory.
+    /// Appends a call that reaches a receiving call, with its copies, and the beginning and the end
+    /// of its transfer. Takes no memory.
     fn exchange(
         &mut self,
         number: u64,
@@ -78,8 +79,9 @@ impl Course {
         reached(self.waiting.slots(), caller, call)
     }
 
-    /// Appends a call that may follow, with its copies; where it reaches a receiving call, the beginning and the end of its transfer too.
-    /// Says where nothing more comes of it. Takes no memory.
+    /// Appends a call that may follow, with its copies; where it reaches a receiving call, the
+    /// beginning and the end of its transfer too. Says where nothing more comes of it. Takes no
+    /// memory.
     fn append_call(
         &mut self,
         number: u64,
@@ -117,8 +119,9 @@ impl Course {
         rests
     }
 
-    /// Appends an input that may follow, with the copies that a call brings; where that is a call that reaches a receiving call, the
-    /// beginning and the end of its transfer too. Says where nothing more comes of it. Takes no memory.
+    /// Appends an input that may follow, with the copies that a call brings; where that is a call
+    /// that reaches a receiving call, the beginning and the end of its transfer too. Says where
+    /// nothing more comes of it. Takes no memory.
     fn append_input(&mut self, input: Input, copies: Option<Prepared>) -> bool
         requires follows { Follows self.old.entries (Given input) }
         requires idle { ComesIdle self.old.entries self.old.taken (Given input) }
@@ -144,8 +147,9 @@ impl Course {
         }
     }
 
-    /// Appends the At of a moment that is later than the history's, and an input; where that is a call that reaches a receiving call, the
-    /// beginning and the end of its transfer too. Says where nothing more comes of it. Takes no memory.
+    /// Appends the At of a moment that is later than the history's, and an input; where that is a
+    /// call that reaches a receiving call, the beginning and the end of its transfer too. Says
+    /// where nothing more comes of it. Takes no memory.
     pub(super) fn give(&mut self, moment: u64, input: Input, copies: Option<Prepared>) -> bool
         requires legal { Legal self.old.entries }
         requires quiet { Quiet self.old.entries }
@@ -172,7 +176,8 @@ impl Course {
     }
 }
 
-/// Notes a call that reaches a receiving call, and the beginning and the end of its transfer, and says whose calls the end ended.
+/// Notes a call that reaches a receiving call, and the beginning and the end of its transfer, and
+/// says whose calls the end ended.
 fn note_exchange(
     desks: &mut Desks,
     partners: &mut Partners,

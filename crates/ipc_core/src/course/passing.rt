@@ -34,8 +34,9 @@ impl Course {
         self.append(Entry::Written(output), None);
     }
 
-    /// Appends the next output, and at once the end of its transfer, where it begins one whose message has words alone and is not
-    /// propagated. Says whether it did; else nothing changes. Takes no memory.
+    /// Appends the next output, and at once the end of its transfer, where it begins one whose
+    /// message has words alone and is not propagated. Says whether it did; else nothing changes.
+    /// Takes no memory.
     fn pass(&mut self, output: &Output) -> bool
         requires next { next_output self.old.entries ≡ Some output.now }
         requires room { length self.old.entries + room_owed self.old.entries ≤ self.old.room }
@@ -68,7 +69,8 @@ impl Course {
     }
 }
 
-/// Notes a transfer that begins and its end, for the calls at two places, and says whose calls are over with it.
+/// Notes a transfer that begins and its end, for the calls at two places, and says whose calls are
+/// over with it.
 fn note_pass(
     desks: &mut Desks,
     partners: &mut Partners,

@@ -10,7 +10,8 @@ use ipc_words::ThreadId;
 
 // Where nothing comes behind a call, so that no rule is asked.
 impl Course {
-    /// Whether nothing comes behind the transfer of a call of words that a live thread makes: it has no receive phase, or that rests.
+    /// Whether nothing comes behind the transfer of a call of words that a live thread makes: it
+    /// has no receive phase, or that rests.
     pub(super) fn rests(&self, caller: ThreadId, call: &Call) -> bool
         requires { IsTrue (is_live self.now.entries caller) }
         ensures { IsTrue result → (call.now.from ≡ nilthread) ⊎ Rests self.now.entries caller call.now }

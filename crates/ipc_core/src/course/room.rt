@@ -28,8 +28,9 @@ impl Course {
         self.history.reserve(memory, more)
     }
 
-    /// Makes room for so many more entries; where that is refused, for those that are pledged and a need alone. Where memory is
-    /// refused nothing changes; where it is ample that does not come, but for more than 2^32 entries, those that are held among them.
+    /// Makes room for so many more entries; where that is refused, for those that are pledged and a
+    /// need alone. Where memory is refused nothing changes; where it is ample that does not come,
+    /// but for more than 2^32 entries, those that are held among them.
     #[tactic(auto, unfolding(ipc_laws::specs::Counting::pledged))]
     pub(crate) fn make_room<M: Memory>(
         &mut self,
@@ -58,9 +59,10 @@ impl Course {
         self.reserve(memory, (threads + calls + need) as usize)
     }
 
-    /// Makes what a call needs: its copies, a place for it, and room for entries, in this order. Where memory is refused the call is
-    /// handed back, and what a kernel shows stays as it is; where it is ample that does not come, but for more than 2^32 entries, those
-    /// that are held among them.
+    /// Makes what a call needs: its copies, a place for it, and room for entries, in this order.
+    /// Where memory is refused the call is handed back, and what a kernel shows stays as it is;
+    /// where it is ample that does not come, but for more than 2^32 entries, those that are held
+    /// among them.
     pub(crate) fn prepare<M: Memory>(
         &mut self,
         memory: M,

@@ -21,7 +21,8 @@ use ipc_history::Input;
 use ipc_words::limits::LAST_MOMENT;
 
 impl Kernel {
-    /// Sets the clock, in microseconds: it never goes back, and stops at [`LAST_MOMENT`]. Takes no memory.
+    /// Sets the clock, in microseconds: it never goes back, and stops at [`LAST_MOMENT`]. Takes no
+    /// memory.
     pub fn at(&mut self, now: u64)
         ensures ticks { Ticks self.old self.new now }
         ensures obeys { MayObey self.old (command.At now) Done self.new }
@@ -55,7 +56,8 @@ impl Kernel {
         self.moment = moment;
     }
 
-    /// Copies a block of the least call in transfer: `BLOCK_BYTES` bytes, or the rest. Takes no memory.
+    /// Copies a block of the least call in transfer: `BLOCK_BYTES` bytes, or the rest. Takes no
+    /// memory.
     pub fn advance(&mut self) -> Advance
         ensures moved { result ≡ Advance.Moved → Advances self.old self.new }
         ensures idle { result ≡ Advance.Idle → (next_moving self.old.history ≡ None)

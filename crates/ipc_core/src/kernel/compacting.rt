@@ -7,9 +7,11 @@ use crate::answers::Compacted;
 use crate::kernel::Kernel;
 
 impl Kernel {
-    /// Lets go of the entries before a place, counted from 0, that the compact of the history does not keep (docs/DECISIONS.md): it keeps
-    /// what the calls are told that are open or whose outcome was not taken, and the threads that live. The history stays what it was:
-    /// each later command is answered as without it, but that the entries that were let go no longer count for K5. Takes no memory.
+    /// Lets go of the entries before a place, counted from 0, that the compact of the history does
+    /// not keep (docs/DECISIONS.md): it keeps what the calls are told that are open or whose
+    /// outcome was not taken, and the threads that live. The history stays what it was: each later
+    /// command is answered as without it, but that the entries that were let go no longer count for
+    /// K5. Takes no memory.
     pub fn compact(&mut self, upto: usize) -> Compacted
         ensures { Compacts self.old self.new upto result }
     {
@@ -24,16 +26,17 @@ impl Kernel {
         Compacted { dropped, left }
     }
 
-    /// Marks the entries before a place, counted from 0, as handed on: [`Kernel::compact_marked`] may let go of them. The mark does not go
-    /// back. Nothing else changes, and memory lets go of none. Takes no memory.
+    /// Marks the entries before a place, counted from 0, as handed on: [`Kernel::compact_marked`]
+    /// may let go of them. The mark does not go back. Nothing else changes, and memory lets go of
+    /// none. Takes no memory.
     pub fn mark(&mut self, upto: usize)
         ensures { self.new ≡ record self.old { held = marked_to upto self.old.held } }
     {
         self.course.mark(upto);
     }
 
-    /// Lets go of the entries before the mark that need not be kept ([`Kernel::compact`]): those from the mark on stay, whatever they
-    /// are. Takes no memory.
+    /// Lets go of the entries before the mark that need not be kept ([`Kernel::compact`]): those
+    /// from the mark on stay, whatever they are. Takes no memory.
     pub fn compact_marked(&mut self) -> Compacted
         ensures { Compacts self.old self.new self.old.held.mark result }
     {

@@ -17,8 +17,8 @@ use ipc_history::{Call, Input, Outcome};
 use ipc_words::ThreadId;
 
 impl Kernel {
-    /// Enters a call of a live thread that has neither an open call nor an outcome that was not yet taken. Answers the
-    /// call's number. A call that is refused is handed back.
+    /// Enters a call of a live thread that has neither an open call nor an outcome that was not yet
+    /// taken. Answers the call's number. A call that is refused is handed back.
     pub fn enter(&mut self, thread: ThreadId, call: Call) -> Result<u64, EnterRefused>
         ensures ok { IfOk result (λ number. (enter_refusal self.old thread call ≡ None)
             × Enters self.old self.new number thread call) }
@@ -33,7 +33,8 @@ impl Kernel {
         self.enter_in(self.alloc, thread, call)
     }
 
-    /// Enters a call as [`Kernel::enter`] does, with memory that is lent. Where it is ample K4 does not come.
+    /// Enters a call as [`Kernel::enter`] does, with memory that is lent. Where it is ample K4 does
+    /// not come.
     pub fn enter_in<M: Memory>(
         &mut self,
         memory: M,

@@ -21,9 +21,10 @@ use ipc_words::ThreadId;
 use ipc_words::limits::{MAX_SPACE, MAX_THREAD_NUMBER, NEED_OF_OPEN};
 
 impl Kernel {
-    /// Opens the thread of a number, 1 to [`MAX_THREAD_NUMBER`], in a space, 1 to [`MAX_SPACE`], and answers its id, with
-    /// the next version of the number. The refusals are K1, K2, K3, K5 and K4, the first that applies; K4 only where the history has less room
-    /// than for its entries, what is pledged and what an open needs.
+    /// Opens the thread of a number, 1 to [`MAX_THREAD_NUMBER`], in a space, 1 to [`MAX_SPACE`],
+    /// and answers its id, with the next version of the number. The refusals are K1, K2, K3, K5 and
+    /// K4, the first that applies; K4 only where the history has less room than for its entries,
+    /// what is pledged and what an open needs.
     pub fn open(&mut self, number: u64, space: u64) -> Result<ThreadId, Refusal>
         ensures ok { IfOk result (λ thread. (open_refusal self.old number space ≡ None)
             × Opens self.old self.new number space thread) }
@@ -37,7 +38,8 @@ impl Kernel {
         self.open_in(self.alloc, number, space)
     }
 
-    /// Opens a thread as [`Kernel::open`] does, with memory that is lent. Where it is ample K4 does not come.
+    /// Opens a thread as [`Kernel::open`] does, with memory that is lent. Where it is ample K4 does
+    /// not come.
     pub fn open_in<M: Memory>(
         &mut self,
         memory: M,

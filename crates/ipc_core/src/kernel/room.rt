@@ -10,8 +10,9 @@ use ipc_words::limits::{
 };
 
 impl Kernel {
-    /// For how many more entries to make room: at least for those that are pledged and a need. None where they would pass the
-    /// limit. Asks each call only where the most that can be pledged would pass it.
+    /// For how many more entries to make room: at least for those that are pledged and a need. None
+    /// where they would pass the limit. Asks each call only where the most that can be pledged
+    /// would pass it.
     pub(super) fn room_for(&self, need: u64) -> Option<usize>
         ensures full { IsNone result ↔ IsTrue (is_full self.now need) }
         ensures value { IfSome result (λ more. pledged self.now.history + need ≤ more) }
@@ -26,12 +27,14 @@ impl Kernel {
     }
 }
 
-/// The most entries that are pledged for a live thread: its own, those of its call, and those of the blocks of its strings.
+/// The most entries that are pledged for a live thread: its own, those of its call, and those of
+/// the blocks of its strings.
 const MOST_PLEDGED: u64 = PLEDGE_OF_THREAD
     + PLEDGE_OF_OPEN_CALL
     + PLEDGE_OF_BLOCK * (MAX_STRING_BYTES as u64 / BLOCK_BYTES);
 
-/// What is pledged for live threads, 2 for each, and for calls, and a need, None where less is left.
+/// What is pledged for live threads, 2 for each, and for calls, and a need, None where less is
+/// left.
 fn room_within(left: u64, live: u64, calls: u128, need: u64) -> Option<usize>
     requires { live < 2 ^ 32 }
     ensures full { IsNone result ↔ (left < 2 * live + calls + need) }

@@ -18,8 +18,9 @@ use ipc_words::limits::NEED_OF_EXCHANGE;
 use ipc_words::{Control, ThreadId};
 
 impl Kernel {
-    /// Stops phases of a live thread of the caller's space, R a receive phase and S a send phase (L4 X.2 manual,
-    /// ExchangeRegisters). K4 only where the history has less room than for its entries, what is pledged and what this needs.
+    /// Stops phases of a live thread of the caller's space, R a receive phase and S a send phase
+    /// (L4 X.2 manual, ExchangeRegisters). K4 only where the history has less room than for its
+    /// entries, what is pledged and what this needs.
     pub fn exreg(
         &mut self,
         thread: ThreadId,
@@ -39,7 +40,8 @@ impl Kernel {
         self.exreg_in(self.alloc, thread, target, control)
     }
 
-    /// Stops phases as [`Kernel::exreg`] does, with memory that is lent. Where it is ample K4 does not come.
+    /// Stops phases as [`Kernel::exreg`] does, with memory that is lent. Where it is ample K4 does
+    /// not come.
     pub fn exreg_in<M: Memory>(
         &mut self,
         memory: M,

@@ -16,8 +16,9 @@ use ipc_slots::Slots;
 use ipc_words::ThreadId;
 
 impl Desks {
-    /// Takes note of a call that reaches a receiving call, whose copies these are, of the transfer that it begins, and of the end of that.
-    /// Says whose calls the end ended. The slots are those before the call. Takes no memory.
+    /// Takes note of a call that reaches a receiving call, whose copies these are, of the transfer
+    /// that it begins, and of the end of that. Says whose calls the end ended. The slots are those
+    /// before the call. Takes no memory.
     pub fn note_exchange(
         &mut self,
         slots: &Slots,

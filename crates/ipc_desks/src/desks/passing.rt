@@ -12,7 +12,8 @@ use ipc_history::Entry;
 use ipc_slots::{Pair, Slots, Standing};
 use ipc_words::ThreadId;
 
-/// Whose calls are over where a message has passed: that of the receiver, and that of a sender which has no receive phase.
+/// Whose calls are over where a message has passed: that of the receiver, and that of a sender
+/// which has no receive phase.
 fn over_with(sender: &Standing, receiver: &Standing) -> Finished
     ensures { result ≡ record {
       first = if sender.now.from == nilthread then Some sender.now.caller else None;
@@ -31,8 +32,8 @@ fn over_with(sender: &Standing, receiver: &Standing) -> Finished
 
 // A message that passes at once.
 impl Desks {
-    /// Takes note at once of a transfer that begins and of its end, for the calls at two places, and says whose call that ended. The slots
-    /// are those before it. Takes no memory.
+    /// Takes note at once of a transfer that begins and of its end, for the calls at two places,
+    /// and says whose call that ended. The slots are those before it. Takes no memory.
     pub fn note_pass(&mut self, slots: &Slots, began: &Entry, ended: &Entry, pair: Pair) -> Finished
         requires began { began.now ≡ Written (Began pair.sending pair.receiving) }
         requires ended { ended.now ≡ Written (Ended pair.sending pair.receiving) }

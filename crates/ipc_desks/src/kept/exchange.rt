@@ -16,8 +16,8 @@ use ipc_slots::Slots;
 use ipc_words::ThreadId;
 
 impl KeptDesks {
-    /// Keeps what the callers are told of a call that reaches a receiving call, whose transfer begins and ends. The copies are those of the
-    /// call; the slots are those before it.
+    /// Keeps what the callers are told of a call that reaches a receiving call, whose transfer
+    /// begins and ends. The copies are those of the call; the slots are those before it.
     pub(crate) fn exchange(
         &mut self,
         slots: &Slots,

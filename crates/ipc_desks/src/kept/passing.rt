@@ -14,8 +14,8 @@ use ipc_words::ThreadId;
 
 // A message that passes at once.
 impl KeptDesks {
-    /// Keeps the outcomes of a transfer that begins and ends at once: that of the receiving call, and of the sending call nothing, where
-    /// it is over with that. The slots are those before it.
+    /// Keeps the outcomes of a transfer that begins and ends at once: that of the receiving call,
+    /// and of the sending call nothing, where it is over with that. The slots are those before it.
     pub(crate) fn pass(&mut self, slots: &Slots, taken: &Past<u64>, sender: &Standing, pair: Pair)
         requires begins { Follows slots.now.past (Written (Began pair.sending pair.receiving)) }
         requires ends { Follows (slots.now.past ++ Written (Began pair.sending pair.receiving) ∷ [])

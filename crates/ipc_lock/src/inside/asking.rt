@@ -16,8 +16,8 @@ use ipc_pen::PenPort;
 use std::sync::ledger::Ledger;
 
 impl<C: Ledger, T: Ledger, P: PenPort + Drop> Inside<C, T, P> {
-    /// Makes the step of a reader's request, and tells in its box what the kernel accepted. The outcomes of a thread that is opened so
-    /// are told in this box from here on.
+    /// Makes the step of a reader's request, and tells in its box what the kernel accepted. The
+    /// outcomes of a thread that is opened so are told in this box from here on.
     #[tactic(auto, using(crate::proofs::Steps::asked_so, crate::proofs::Moves::told_so, crate::proofs::Moves::owned_so))]
     pub(super) fn ask(
         &mut self,
@@ -49,8 +49,8 @@ impl<C: Ledger, T: Ledger, P: PenPort + Drop> Inside<C, T, P> {
         (told, calls)
     }
 
-    /// Leaves in a box what the kernel accepted: that a thread was opened, with the seat of its outcomes, or what ExchangeRegisters
-    /// answers.
+    /// Leaves in a box what the kernel accepted: that a thread was opened, with the seat of its
+    /// outcomes, or what ExchangeRegisters answers.
     fn tell(&mut self, place: usize, told: Told, takes: Option<TakeSeat<T>>)
         ensures told { self.new.boxes.items
             ≡ told_in told (seat_parts takes) self.old.boxes.items place }

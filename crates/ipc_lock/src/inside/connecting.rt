@@ -64,7 +64,8 @@ impl<C: Ledger, T: Ledger, P: PenPort + Drop> Inside<C, T, P> {
         self.boxes.get(place)?.emptied()
     }
 
-    /// A number that no connection had, and an empty box with the pen of its port: one that was given back, else a new one.
+    /// A number that no connection had, and an empty box with the pen of its port: one that was
+    /// given back, else a new one.
     pub(crate) fn connect(&mut self, port: P) -> Result<(usize, u64), AllocError>
         requires { BeginsEmpty (P.written port) }
         ensures fresh { IfOk result (λ own. ConnectsAt self.old.free.items self.new.free.items
@@ -121,7 +122,8 @@ impl<C: Ledger, T: Ledger, P: PenPort + Drop> Inside<C, T, P> {
         }
     }
 
-    /// Gives the box of a connection back that nobody uses any more. Where it is that of another one all stays.
+    /// Gives the box of a connection back that nobody uses any more. Where it is that of another
+    /// one all stays.
     #[tactic(auto, using(crate::proofs::Moves::changed_there, crate::proofs::Moves::changed_none))]
     pub(crate) fn release(&mut self, place: usize, number: u64)
         ensures clears { self.new.boxes.items

@@ -11,7 +11,8 @@ use ipc_words::ThreadId;
 use std::sync::ledger::Ledger;
 
 impl<C: Ledger, T: Ledger, P: PenPort + Drop> Inside<C, T, P> {
-    /// Shuts the box of the connection of this number, and ends the thread that is told there. None where there is none.
+    /// Shuts the box of the connection of this number, and ends the thread that is told there. None
+    /// where there is none.
     #[tactic(auto, using(crate::proofs::Moves::loads_none))]
     pub(crate) fn end_at(
         &mut self,
@@ -58,7 +59,8 @@ impl<C: Ledger, T: Ledger, P: PenPort + Drop> Inside<C, T, P> {
         }
     }
 
-    /// The thread whose outcomes are told in the box of a place, where that is the box of the connection of this number.
+    /// The thread whose outcomes are told in the box of a place, where that is the box of the
+    /// connection of this number.
     #[tactic(auto, using(crate::proofs::Moves::there, crate::proofs::Moves::none_there))]
     fn thread_at(&self, place: usize, number: u64) -> Option<ThreadId>
         ensures { result ≡ thread_for number (slice_get self.now.boxes.items place) }

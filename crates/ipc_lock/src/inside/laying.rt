@@ -10,7 +10,8 @@ use ipc_pen::PenPort;
 use std::sync::ledger::Ledger;
 
 impl<C: Ledger, T: Ledger, P: PenPort + Drop> Inside<C, T, P> {
-    /// Lays pens down, each in its own box, and takes those out again for which something came meanwhile.
+    /// Lays pens down, each in its own box, and takes those out again for which something came
+    /// meanwhile.
     #[tactic(auto, using(crate::proofs::Moves::only_both))]
     pub(crate) fn take_back(&mut self, errands: &mut Errands<P>)
         ensures takes { TakesBack self.old.locked.kernel self.new.locked.kernel
@@ -52,8 +53,8 @@ impl<C: Ledger, T: Ledger, P: PenPort + Drop> Inside<C, T, P> {
         post_box.look_again(locked, pen)
     }
 
-    /// What the writer of the connection of a number does next, whose box is that of a place; None while there is nothing to do. It ends
-    /// where that has no such box any more.
+    /// What the writer of the connection of a number does next, whose box is that of a place; None
+    /// while there is nothing to do. It ends where that has no such box any more.
     #[tactic(auto, using(crate::proofs::Moves::only_none, crate::proofs::Moves::set_same, crate::proofs::Moves::there, crate::proofs::Moves::none_there))]
     pub(crate) fn work(&mut self, place: usize, number: u64) -> Option<Work<P>>
         ensures works { WorksFor self.old.locked.kernel self.new.locked.kernel

@@ -10,7 +10,8 @@ use ipc_pen::PenPort;
 use std::sync::ledger::Ledger;
 
 impl<C: Ledger, T: Ledger, P: PenPort + Drop> Inside<C, T, P> {
-    /// Who is to be woken after the last step. The pens of those whom it told something are taken out, first that of this box.
+    /// Who is to be woken after the last step. The pens of those whom it told something are taken
+    /// out, first that of this box.
     #[tactic(auto, using(crate::proofs::Moves::only_both, crate::proofs::Moves::loads_both))]
     pub(super) fn after(&mut self, own: Option<usize>, errands: &mut Errands<P>) -> After
         ensures loads { LoadsRow (places_told own self.old.owners.items self.old.finished.items)
@@ -114,7 +115,8 @@ impl<C: Ledger, T: Ledger, P: PenPort + Drop> Inside<C, T, P> {
         }
     }
 
-    /// Takes a box's pen out, where it lies there and something is to be told. Where no more pens have room the writer is woken.
+    /// Takes a box's pen out, where it lies there and something is to be told. Where no more pens
+    /// have room the writer is woken.
     #[tactic(auto, using(crate::proofs::Moves::only_none, crate::proofs::Moves::set_same, crate::proofs::Moves::there, crate::proofs::Moves::none_there))]
     pub(crate) fn load(&mut self, place: usize, errands: &mut Errands<P>)
         ensures loads { LoadsAt self.old.locked.kernel self.new.locked.kernel self.old.boxes.items

@@ -12,8 +12,9 @@ use std::alloc::AllocError;
 use std::sync::ledger::Ledger;
 
 impl<C: Ledger, T: Ledger, P: PenPort + Drop> Inside<C, T, P> {
-    /// Copies of the entries from this place on, and the part that begins behind them. Nobody else reads them any more: all are marked
-    /// then, and memory has let go of those that need not be kept.
+    /// Copies of the entries from this place on, and the part that begins behind them. Nobody else
+    /// reads them any more: all are marked then, and memory has let go of those that need not be
+    /// kept.
     ///
     /// # Errors
     ///
@@ -36,7 +37,8 @@ impl<C: Ledger, T: Ledger, P: PenPort + Drop> Inside<C, T, P> {
         Ok(Behind::new(rest, part))
     }
 
-    /// The part that begins behind the last entry. None where an entry is not marked, since somebody reads it; nothing has changed then.
+    /// The part that begins behind the last entry. None where an entry is not marked, since
+    /// somebody reads it; nothing has changed then.
     ///
     /// # Errors
     ///
@@ -67,7 +69,8 @@ impl<C: Ledger, T: Ledger, P: PenPort + Drop> Inside<C, T, P> {
         }
     }
 
-    /// The part that begins behind the last entry, None where there is no memory for it. Nobody reads an entry any more that stands now.
+    /// The part that begins behind the last entry, None where there is no memory for it. Nobody
+    /// reads an entry any more that stands now.
     fn part_here(&mut self, room: BaseRoom) -> Option<HeldPart>
         ensures part { IfSome result (IsPartOf self.old.locked.kernel.history
             self.old.locked.kernel.taken) }

@@ -12,7 +12,8 @@ use ipc_pen::PenPort;
 use std::sync::ledger::Ledger;
 
 impl<C: Ledger, T: Ledger, P: PenPort + Drop> Inside<C, T, P> {
-    /// Makes one step, a command of the kernel by a seat where a thread calls, and takes the pens out of those whom it told something.
+    /// Makes one step, a command of the kernel by a seat where a thread calls, and takes the pens
+    /// out of those whom it told something.
     pub(crate) fn act_and_tell(
         &mut self,
         now: u64,
@@ -34,8 +35,9 @@ impl<C: Ledger, T: Ledger, P: PenPort + Drop> Inside<C, T, P> {
         (answered, after)
     }
 
-    /// Makes the step of a reader's request from a space, tells in its box what the kernel accepted, and takes the pens out of those whom
-    /// it told something, first that of the reader's own box.
+    /// Makes the step of a reader's request from a space, tells in its box what the kernel
+    /// accepted, and takes the pens out of those whom it told something, first that of the reader's
+    /// own box.
     pub(crate) fn ask_and_tell(
         &mut self,
         now: u64,

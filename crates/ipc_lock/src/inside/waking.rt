@@ -42,8 +42,8 @@ impl<C: Ledger, T: Ledger, P: PenPort + Drop> Inside<C, T, P> {
         self.closed = true;
     }
 
-    /// How long the ticker rests at this moment: until the first one at which a phase is due. An earlier one that comes meanwhile
-    /// wakes it.
+    /// How long the ticker rests at this moment: until the first one at which a phase is due. An
+    /// earlier one that comes meanwhile wakes it.
     pub(crate) fn rest(&mut self, now: u64) -> Rest
         ensures locked { self.new.locked ≡ self.old.locked }
         ensures rests { Rests self.old.locked.kernel.history now result }
@@ -92,7 +92,8 @@ impl<C: Ledger, T: Ledger, P: PenPort + Drop> Inside<C, T, P> {
         self.is_awaited = true;
     }
 
-    /// Whether the trace has to be told of the last step: it waits, and there are more entries than before.
+    /// Whether the trace has to be told of the last step: it waits, and there are more entries than
+    /// before.
     pub(super) fn tells_trace(&mut self) -> bool
         ensures told { result ≡ (self.old.is_awaited && self.old.has_grown) }
         ensures awaits { self.new.is_awaited ≡ (self.old.is_awaited && not self.old.has_grown) }

@@ -5,8 +5,9 @@ ghost use Rattle.ipc_pen.specs.Pens.{Passes, is_ready, rest_of};
 use ipc_pen::{Patience, Pen, PenPort, Turn};
 use std::marker::Model;
 
-/// A pen that is out of its box with what is told next. It can only be written with: it is given something in its box alone, under the
-/// lock, so nobody else tells a client anything. A contract sees its pen.
+/// A pen that is out of its box with what is told next. It can only be written with: it is given
+/// something in its box alone, under the lock, so nobody else tells a client anything. A contract
+/// sees its pen.
 #[derive(Drop)]
 pub struct Loaded<P: PenPort> {
     pen: Pen<P>,

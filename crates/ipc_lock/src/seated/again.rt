@@ -23,7 +23,8 @@ fn is_history_full(refusal: Refusal) -> bool
 }
 
 impl<C: Ledger, T: Ledger> Locked<C, T> {
-    /// As [`Locked::open_seated`]. Where K5 would refuse it memory lets go of what is marked, and it is tried once more.
+    /// As [`Locked::open_seated`]. Where K5 would refuse it memory lets go of what is marked, and
+    /// it is tried once more.
     pub(super) fn open_again(
         &mut self,
         number: u64,
@@ -76,7 +77,8 @@ impl<C: Ledger, T: Ledger> Locked<C, T> {
         self.open_seated(number, space)
     }
 
-    /// As [`Locked::enter_seated`]. Where K5 would refuse it memory lets go of what is marked, and it is tried once more.
+    /// As [`Locked::enter_seated`]. Where K5 would refuse it memory lets go of what is marked, and
+    /// it is tried once more.
     pub(super) fn enter_again(
         &mut self,
         seat: &mut CallSeat<C>,
@@ -120,7 +122,8 @@ impl<C: Ledger, T: Ledger> Locked<C, T> {
         self.enter_seated(seat, call)
     }
 
-    /// As [`Locked::exreg_seated`]. Where K5 would refuse it memory lets go of what is marked, and it is tried once more.
+    /// As [`Locked::exreg_seated`]. Where K5 would refuse it memory lets go of what is marked, and
+    /// it is tried once more.
     pub(super) fn exreg_again(
         &mut self,
         seat: &CallSeat<C>,

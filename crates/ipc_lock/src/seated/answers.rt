@@ -49,8 +49,8 @@ impl<C: Ledger, T: Ledger> Answered<C, T> {
         &self.answer
     }
 
-    /// The kernel's answer, the seat by which the step was made or that of the thread that was opened, and the seat of that thread's
-    /// outcomes.
+    /// The kernel's answer, the seat by which the step was made or that of the thread that was
+    /// opened, and the seat of that thread's outcomes.
     pub fn into_parts(self) -> (Answer, Option<CallSeat<C>>, Option<TakeSeat<T>>)
         ensures answer { result.0 ≡ self.answer }
         ensures calls { result.1 ≡ self.calls }

@@ -22,8 +22,8 @@ use std::marker::PhantomData;
 use std::sync::ledger::Ledger;
 
 impl<C: Ledger, T: Ledger> Locked<C, T> {
-    /// Opens the thread of a number in a space, and makes its seats. The refusals are K1, K2, K3, K5 and K4, which comes only
-    /// where the history's room is less than an open needs.
+    /// Opens the thread of a number in a space, and makes its seats. The refusals are K1, K2, K3,
+    /// K5 and K4, which comes only where the history's room is less than an open needs.
     pub fn open_seated(
         &mut self,
         number: u64,
@@ -76,8 +76,8 @@ impl<C: Ledger, T: Ledger> Locked<C, T> {
         ))
     }
 
-    /// Enters a call of the seat's thread. K6 also where the seat's amount is not the kernel's count for its thread.
-    /// A call that is refused is handed back, and the seat is unchanged.
+    /// Enters a call of the seat's thread. K6 also where the seat's amount is not the kernel's
+    /// count for its thread. A call that is refused is handed back, and the seat is unchanged.
     pub fn enter_seated(&mut self, seat: &mut CallSeat<C>, call: Call) -> Result<u64, EnterRefused>
         ensures ok { IfOk result (λ number. (enter_refusal self.old.kernel
             seat.old.thread call ≡ None)
@@ -121,8 +121,8 @@ impl<C: Ledger, T: Ledger> Locked<C, T> {
         Ok(number)
     }
 
-    /// Stops phases of a target for the seat's thread. K6 also where the seat's amount is not the kernel's count; K4 only
-    /// where the history's room is less than this needs.
+    /// Stops phases of a target for the seat's thread. K6 also where the seat's amount is not the
+    /// kernel's count; K4 only where the history's room is less than this needs.
     pub fn exreg_seated(
         &mut self,
         seat: &CallSeat<C>,
@@ -153,8 +153,8 @@ impl<C: Ledger, T: Ledger> Locked<C, T> {
         answer
     }
 
-    /// The outcome of the seat's thread's last call, once, where the call is over. None also where the seat's amount is not
-    /// the kernel's count for its thread. Takes no memory.
+    /// The outcome of the seat's thread's last call, once, where the call is over. None also where
+    /// the seat's amount is not the kernel's count for its thread. Takes no memory.
     pub fn take_seated(&mut self, seat: &mut TakeSeat<T>) -> Option<Taken<T>>
         ensures some { IfSome result (λ taken. Gives self.old.kernel self.new.kernel seat.old.thread
             (Some taken.outcome)) }

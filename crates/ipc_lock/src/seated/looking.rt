@@ -43,8 +43,8 @@ impl<C: Ledger, T: Ledger> Locked<C, T> {
         state_in(self.kernel.slots())
     }
 
-    /// Whether a transfer has begun, among the entries behind so many, that has not ended among them; also where memory let go of some of
-    /// them, so that nobody knows.
+    /// Whether a transfer has begun, among the entries behind so many, that has not ended among
+    /// them; also where memory let go of some of them, so that nobody knows.
     pub(crate) fn has_begun_since(&self, before: usize) -> bool
         ensures { result ≡ has_begun_since self.now.kernel before }
     {
@@ -74,7 +74,8 @@ impl<C: Ledger, T: Ledger> Locked<C, T> {
         self.kernel.total()
     }
 
-    /// The first moment, in microseconds, at which a waiting phase is due; None where none ever is. Looks at no thread.
+    /// The first moment, in microseconds, at which a waiting phase is due; None where none ever is.
+    /// Looks at no thread.
     pub(crate) fn least_due(&self) -> Option<u64>
         ensures { IsLeastDue self.now.kernel.history result }
     {
@@ -95,8 +96,8 @@ impl<C: Ledger, T: Ledger> Locked<C, T> {
         self.kernel.held()
     }
 
-    /// Marks the entries before a place of the history, counted from 0: a compaction may let go of them. The mark does not go back, and
-    /// nothing else changes. Takes no memory.
+    /// Marks the entries before a place of the history, counted from 0: a compaction may let go of
+    /// them. The mark does not go back, and nothing else changes. Takes no memory.
     pub fn mark(&mut self, upto: usize)
         ensures { self.new.kernel ≡ record self.old.kernel
             { held = marked_to upto self.old.kernel.held } }
@@ -112,7 +113,8 @@ impl<C: Ledger, T: Ledger> Locked<C, T> {
         self.kernel.marked()
     }
 
-    /// Lets go of the entries before the mark that need not be kept. No later answer changes. Takes no memory.
+    /// Lets go of the entries before the mark that need not be kept. No later answer changes. Takes
+    /// no memory.
     pub fn compact_marked(&mut self) -> Compacted
         ensures { Compacts self.old.kernel self.new.kernel self.old.kernel.held.mark result }
     {
@@ -120,7 +122,8 @@ impl<C: Ledger, T: Ledger> Locked<C, T> {
         kernel.compact_marked()
     }
 
-    /// A copy of the entry of this place of the history, counted from 0. None where the history has none there.
+    /// A copy of the entry of this place of the history, counted from 0. None where the history has
+    /// none there.
     ///
     /// # Errors
     ///
@@ -140,8 +143,9 @@ impl<C: Ledger, T: Ledger> Locked<C, T> {
         }
     }
 
-    /// Copies of the entries from this place of the history on, counted from 0, as many as one group has: all of them, and
-    /// at most `MOST_OF_A_GROUP`. No entry where the history has none there.
+    /// Copies of the entries from this place of the history on, counted from 0, as many as one
+    /// group has: all of them, and at most `MOST_OF_A_GROUP`. No entry where the history has none
+    /// there.
     ///
     /// # Errors
     ///

@@ -15,9 +15,10 @@ use ipc_words::{Control, ThreadId};
 use std::sync::ledger::Ledger;
 
 impl<C: Ledger, T: Ledger> Locked<C, T> {
-    /// Sets the clock to `now`, in microseconds, and then obeys the command by the seat. A call and an ExchangeRegisters that are not
-    /// by their own thread's seat are refused with K6, and so is a take, for which there are take seats. The threads whose calls it
-    /// finished are put into `finished`, which has room for them.
+    /// Sets the clock to `now`, in microseconds, and then obeys the command by the seat. A call and
+    /// an ExchangeRegisters that are not by their own thread's seat are refused with K6, and so is
+    /// a take, for which there are take seats. The threads whose calls it finished are put into
+    /// `finished`, which has room for them.
     pub fn act(
         &mut self,
         now: u64,

@@ -31,7 +31,8 @@ impl<C: Ledger, T: Ledger> Locked<C, T> {
         Ok(copy_entries(alloc, self.kernel.entries_from(index))?)
     }
 
-    /// Marks the whole history, and lets go of all entries that need not be kept. No later answer changes. Takes no memory.
+    /// Marks the whole history, and lets go of all entries that need not be kept. No later answer
+    /// changes. Takes no memory.
     pub(crate) fn let_go_of_all(&mut self) -> Compacted
         ensures lets_go { LetsGoOfAll self.old.kernel self.new.kernel result }
         ensures compact { held_of (history_of self.new.kernel)

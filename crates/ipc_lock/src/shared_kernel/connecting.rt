@@ -20,8 +20,8 @@ use std::sync::ledger::Ledger;
 use std::sync::{MutexGuard, Wait};
 
 impl<C: Ledger, T: Ledger, P: PenPort + Drop> SharedKernel<C, T, P> {
-    /// Makes an empty box for the connection of a port, to which nothing was written, and answers its two ends. Its thread will be of this
-    /// space, 1 to `MAX_SPACE`. The only refusal is K4.
+    /// Makes an empty box for the connection of a port, to which nothing was written, and answers
+    /// its two ends. Its thread will be of this space, 1 to `MAX_SPACE`. The only refusal is K4.
     #[tactic(auto, using(crate::proofs::Above::connects_some))]
     pub fn connect<R: Wait>(
         &self,
@@ -59,14 +59,16 @@ impl<C: Ledger, T: Ledger, P: PenPort + Drop> SharedKernel<C, T, P> {
         self.inside(rt).release(end.place, end.number);
     }
 
-    /// Asks the kernel for a connection at a moment, in microseconds, and tells at once what it accepted: that a thread was opened, or what
-    /// ExchangeRegisters answers. Also says how far a call is that was entered. A call and an ExchangeRegisters are by the end's own seat,
-    /// and from the end's space.
+    /// Asks the kernel for a connection at a moment, in microseconds, and tells at once what it
+    /// accepted: that a thread was opened, or what ExchangeRegisters answers. Also says how far a
+    /// call is that was entered. A call and an ExchangeRegisters are by the end's own seat, and
+    /// from the end's space.
     ///
     /// # Errors
     ///
-    /// `Refused`, and the end is then as before: of an open K1, K2, K3, K5, K4; of a call K6, K7, K8, K5, K4; of an ExchangeRegisters K6,
-    /// K7, K5, K4. K6 also where the box was shut, and where this is not the end's own thread.
+    /// `Refused`, and the end is then as before: of an open K1, K2, K3, K5, K4; of a call K6, K7,
+    /// K8, K5, K4; of an ExchangeRegisters K6, K7, K5, K4. K6 also where the box was shut, and
+    /// where this is not the end's own thread.
     #[tactic(auto, unfolding(crate::specs::Acting::Asked), using(crate::proofs::Steps::still, crate::proofs::Above::asks_some))]
     pub fn ask<R: Wait>(
         &self,
@@ -145,8 +147,8 @@ impl<C: Ledger, T: Ledger, P: PenPort + Drop> SharedKernel<C, T, P> {
         }
     }
 
-    /// Waits until a box's pen lies there with something to write that nobody else has taken, and takes it out. None once nothing more
-    /// comes, or the device has failed.
+    /// Waits until a box's pen lies there with something to write that nobody else has taken, and
+    /// takes it out. None once nothing more comes, or the device has failed.
     #[tactic(auto, using(crate::proofs::Working::takes_out))]
     pub fn wait_pen<R: Wait>(&self, rt: &R, end: &TakeEnd) -> Option<Loaded<P>>
         ensures takes { IfSome result (λ pen. TakesOutSome end.now.place end.now.number pen) }
@@ -166,7 +168,8 @@ impl<C: Ledger, T: Ledger, P: PenPort + Drop> SharedKernel<C, T, P> {
         None
     }
 
-    /// Lays a pen down in its box. What came meanwhile is written first, as far as the device has room.
+    /// Lays a pen down in its box. What came meanwhile is written first, as far as the device has
+    /// room.
     #[tactic(auto, using(crate::proofs::Working::lays_some))]
     pub fn give_back<R: Wait>(&self, rt: &R, pen: Loaded<P>)
         ensures lays { LaysSome pen }

@@ -8,14 +8,17 @@ use std::sync::ledger::Ledger;
 use std::sync::{MutexGuard, Wait};
 use std::thread::yield_now;
 
-/// How often a thread tries to take the lock at once, before it lets others run. The lock is held for a microsecond or two.
+/// How often a thread tries to take the lock at once, before it lets others run. The lock is held
+/// for a microsecond or two.
 const TRIES: u32 = 16;
 
-/// How often it lets others run before it sleeps for the lock. Who has the lock may be among them, and to be woken takes longer.
+/// How often it lets others run before it sleeps for the lock. Who has the lock may be among them,
+/// and to be woken takes longer.
 const TURNS: u32 = 16;
 
 impl<C: Ledger, T: Ledger, P: PenPort + Drop> SharedKernel<C, T, P> {
-    /// Takes the lock. It is tried for a while first: who sleeps for it has to be woken, and that costs more than most steps.
+    /// Takes the lock. It is tried for a while first: who sleeps for it has to be woken, and that
+    /// costs more than most steps.
     pub(super) fn inside<R: Wait>(&self, rt: &R) -> MutexGuard<'_, Inside<C, T, P>> {
         if let Some(inside) = self.try_at_once() {
             return inside;

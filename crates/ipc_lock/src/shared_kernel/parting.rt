@@ -11,13 +11,15 @@ use std::sync::Wait;
 use std::sync::ledger::Ledger;
 
 impl<C: Ledger, T: Ledger, P: PenPort + Drop> SharedKernel<C, T, P> {
-    /// Copies of the entries from a place of the history on, counted from 0, and the part of a trace that begins behind them. Only who
-    /// reads the history for its trace asks for it. All entries are marked then, as by [`SharedKernel::mark`], and memory lets go at once
-    /// of those that need not be kept.
+    /// Copies of the entries from a place of the history on, counted from 0, and the part of a
+    /// trace that begins behind them. Only who reads the history for its trace asks for it. All
+    /// entries are marked then, as by [`SharedKernel::mark`], and memory lets go at once of those
+    /// that need not be kept.
     ///
     /// # Errors
     ///
-    /// TR5: no memory for the copies, or memory let go of the first entry, which was marked; nothing has changed.
+    /// TR5: no memory for the copies, or memory let go of the first entry, which was marked;
+    /// nothing has changed.
     #[tactic(auto, using(crate::proofs::Parts::ends_a_part))]
     pub fn part_behind<R: Wait>(&self, rt: &R, index: usize) -> Result<Behind, NotGiven>
         ensures { IfOk result (EndsAPart index) }
@@ -25,7 +27,8 @@ impl<C: Ledger, T: Ledger, P: PenPort + Drop> SharedKernel<C, T, P> {
         self.inside(rt).part_behind(index)
     }
 
-    /// The part of a trace that begins behind the last entry. None where an entry is not marked: then who reads it has the part.
+    /// The part of a trace that begins behind the last entry. None where an entry is not marked:
+    /// then who reads it has the part.
     ///
     /// # Errors
     ///

@@ -45,8 +45,9 @@ impl<C: Ledger, T: Ledger, P: PenPort + Drop> SharedKernel<C, T, P> {
         inside.entry(index)
     }
 
-    /// Waits for the entry of this place of the history, counted from 0, and answers copies of it and of those that
-    /// follow it, at most `MOST_OF_A_GROUP`. No entry once the kernel was closed and has none there.
+    /// Waits for the entry of this place of the history, counted from 0, and answers copies of it
+    /// and of those that follow it, at most `MOST_OF_A_GROUP`. No entry once the kernel was closed
+    /// and has none there.
     ///
     /// # Errors
     ///
@@ -67,8 +68,8 @@ impl<C: Ledger, T: Ledger, P: PenPort + Drop> SharedKernel<C, T, P> {
         inside.group(index)
     }
 
-    /// The entries before a place of the history, counted from 0, are not read any more: a later step may let go of them, and of their
-    /// strings. Until then all are held.
+    /// The entries before a place of the history, counted from 0, are not read any more: a later
+    /// step may let go of them, and of their strings. Until then all are held.
     #[tactic(auto, using(crate::proofs::Above::marks_some))]
     pub fn mark<R: Wait>(&self, rt: &R, upto: usize)
         ensures marks { MarksSome upto }
@@ -76,7 +77,8 @@ impl<C: Ledger, T: Ledger, P: PenPort + Drop> SharedKernel<C, T, P> {
         self.inside(rt).mark(upto);
     }
 
-    /// As [`SharedKernel::mark`], and answers how many entries stand at that place and behind it. So a trace takes the lock once for both.
+    /// As [`SharedKernel::mark`], and answers how many entries stand at that place and behind it.
+    /// So a trace takes the lock once for both.
     #[tactic(auto, using(crate::proofs::Above::left_some, crate::proofs::Above::marks_some))]
     pub fn mark_traced<R: Wait>(&self, rt: &R, upto: usize) -> usize
         ensures marks { MarksSome upto }
@@ -95,7 +97,8 @@ impl<C: Ledger, T: Ledger, P: PenPort + Drop> SharedKernel<C, T, P> {
         self.inside(rt).entries()
     }
 
-    /// What each thread does, by a legal history (`state`): the one that stands while the lock is held.
+    /// What each thread does, by a legal history (`state`): the one that stands while the lock is
+    /// held.
     pub fn state<R: Wait>(&self, rt: &R) -> State
         ensures state { (history : List Entry) × Legal history × IsStateOf history result }
     {

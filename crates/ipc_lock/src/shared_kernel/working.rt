@@ -13,10 +13,12 @@ use std::sync::ledger::Ledger;
 use std::sync::{CondvarTimeouts, Wait};
 use std::time::{Duration, Instant};
 
-/// How many blocks of a transfer the thread copies that began it: those of the longest message, and one. The mover copies what is left.
+/// How many blocks of a transfer the thread copies that began it: those of the longest message, and
+/// one. The mover copies what is left.
 const MOST_BLOCKS: usize = MAX_STRING_BYTES / BLOCK_BYTES as usize + 1;
 
-/// How long before its moment the ticker is awake, in microseconds: a thread that sleeps until a moment comes late.
+/// How long before its moment the ticker is awake, in microseconds: a thread that sleeps until a
+/// moment comes late.
 const LAST_MICROS: u64 = 100;
 
 /// How often the ticker looks at the clock at most, while it waits for its moment.
@@ -48,7 +50,8 @@ impl<C: Ledger, T: Ledger, P: PenPort + Drop> SharedKernel<C, T, P> {
         }
     }
 
-    /// Copies blocks of what is in transfer until nothing is. Where that are many the mover goes on.
+    /// Copies blocks of what is in transfer until nothing is. Where that are many the mover goes
+    /// on.
     pub(super) fn move_blocks<R: Wait>(&self, rt: &R, now: u64) {
         for _ in 0..MOST_BLOCKS {
             if !self.move_block(rt, now) {
@@ -66,8 +69,9 @@ impl<C: Ledger, T: Ledger, P: PenPort + Drop> SharedKernel<C, T, P> {
         moved
     }
 
-    /// Rests until a phase is due, or an earlier one comes, at the longest until the work is over. `now` is the moment, in microseconds. It
-    /// ends a little before that moment; who rests then once more is awake when it comes.
+    /// Rests until a phase is due, or an earlier one comes, at the longest until the work is over.
+    /// `now` is the moment, in microseconds. It ends a little before that moment; who rests then
+    /// once more is awake when it comes.
     pub fn rest<R: Wait + Clock>(&self, rt: &R, now: u64) {
         let mut inside = self.inside(rt);
         if inside.is_work_over() {
@@ -103,7 +107,8 @@ impl<C: Ledger, T: Ledger, P: PenPort + Drop> SharedKernel<C, T, P> {
         false
     }
 
-    /// Ends the waiting of the mover and the rest of the ticker. Called once, after all sessions were joined.
+    /// Ends the waiting of the mover and the rest of the ticker. Called once, after all sessions
+    /// were joined.
     pub fn end_work<R: Wait>(&self, rt: &R) {
         let mut inside = self.inside(rt);
         inside.end_work();
@@ -112,8 +117,8 @@ impl<C: Ledger, T: Ledger, P: PenPort + Drop> SharedKernel<C, T, P> {
         self.ticker.notify_all();
     }
 
-    /// Ends the waiting of the trace, and of the mover if it still waits. Called once, after sessions, ticker and
-    /// mover were joined, so that no entry comes behind it.
+    /// Ends the waiting of the trace, and of the mover if it still waits. Called once, after
+    /// sessions, ticker and mover were joined, so that no entry comes behind it.
     pub fn close<R: Wait>(&self, rt: &R) {
         let mut inside = self.inside(rt);
         inside.close();

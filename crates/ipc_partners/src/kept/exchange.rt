@@ -11,8 +11,8 @@ use ipc_slots::Slots;
 use ipc_words::ThreadId;
 
 impl KeptPartners {
-    /// Takes note of a call that reaches a receiving call, of the transfer that it begins, and of the end of that. The slots are those
-    /// before the call.
+    /// Takes note of a call that reaches a receiving call, of the transfer that it begins, and of
+    /// the end of that. The slots are those before the call.
     pub(crate) fn note_exchange(
         &mut self,
         slots: &Slots,

@@ -26,7 +26,8 @@ fn held_partner(slots: &Slots, place: usize, number: u64) -> Partner
 
 // A message that passes at once.
 impl KeptPartners {
-    /// Takes note at once of a transfer that begins and of its end, for the calls at two places. The slots are those before it.
+    /// Takes note at once of a transfer that begins and of its end, for the calls at two places.
+    /// The slots are those before it.
     pub(crate) fn note_pass(&mut self, slots: &Slots, pair: Pair)
         requires begins { Follows slots.now.past (Written (Began pair.sending pair.receiving)) }
         requires ends { Follows (slots.now.past ++ Written (Began pair.sending pair.receiving) ∷ [])

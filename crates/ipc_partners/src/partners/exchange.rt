@@ -10,8 +10,8 @@ use ipc_slots::Slots;
 use ipc_words::ThreadId;
 
 impl Partners {
-    /// Takes note of a call that reaches a receiving call, of the transfer that it begins, and of the end of that. The slots are those
-    /// before the call. Takes no memory.
+    /// Takes note of a call that reaches a receiving call, of the transfer that it begins, and of
+    /// the end of that. The slots are those before the call. Takes no memory.
     pub fn note_exchange(
         &mut self,
         slots: &Slots,

@@ -10,8 +10,8 @@ use ipc_slots::{Pair, Slots};
 
 // A message that passes at once.
 impl Partners {
-    /// Takes note at once of a transfer that begins and of its end, for the calls at two places, where the slots are those before it.
-    /// Takes no memory.
+    /// Takes note at once of a transfer that begins and of its end, for the calls at two places,
+    /// where the slots are those before it. Takes no memory.
     pub fn note_pass(&mut self, slots: &Slots, began: &Entry, ended: &Entry, pair: Pair)
         requires began { began.now ≡ Written (Began pair.sending pair.receiving) }
         requires ended { ended.now ≡ Written (Ended pair.sending pair.receiving) }

@@ -8,8 +8,8 @@ use crate::last::Last;
 use crate::slot::Standing;
 
 impl KeptSlots {
-    /// Sets what is kept of a new call of the thread at a place, which has sent its message to the call at another place, and that this
-    /// one is over.
+    /// Sets what is kept of a new call of the thread at a place, which has sent its message to the
+    /// call at another place, and that this one is over.
     pub(crate) fn note_exchange(
         &mut self,
         place: usize,

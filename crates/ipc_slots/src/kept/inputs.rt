@@ -69,7 +69,8 @@ impl KeptSlots {
         Changes::one(change)
     }
 
-    /// Takes note of a call of the thread at a place, and of what is kept of it; says which slot that changed.
+    /// Takes note of a call of the thread at a place, and of what is kept of it; says which slot
+    /// that changed.
     pub(crate) fn note_called(
         &mut self,
         place: usize,

@@ -25,7 +25,8 @@ impl KeptSlots {
         }
     }
 
-    /// The caller of the call that the slot at a place holds, and how many of its bytes were copied.
+    /// The caller of the call that the slot at a place holds, and how many of its bytes were
+    /// copied.
     fn sender_at(&self, place: usize) -> Sender
         requires { place < table_slots }
         ensures { result ≡ held_sender (slot_at self.now.table place) }

@@ -28,7 +28,8 @@ impl KeptSlots {
         })
     }
 
-    /// Takes note of a message that passes from the call at a place to that at another one; says which slots that changed.
+    /// Takes note of a message that passes from the call at a place to that at another one; says
+    /// which slots that changed.
     pub(crate) fn note_pass(&mut self, from: usize, to: usize) -> Changes
         requires from { from < table_slots }
         requires to { to < table_slots }

@@ -1,4 +1,5 @@
-// A call of words that meets a receiving call as soon as it is entered: its transfer begins and ends, which are three entries.
+// A call of words that meets a receiving call as soon as it is entered: its transfer begins and
+// ends, which are three entries.
 ghost use Rattle.std.specs.Prelude.{◌≡◌, Some, IsTrue, IsFalse, is_some};
 ghost use Rattle.ipc_words.specs.ThreadId.{number_of};
 ghost use Rattle.ipc_history.specs.Legal.{Follows};
@@ -18,7 +19,8 @@ use ipc_history::{Call, Entry, Output};
 use ipc_words::ThreadId;
 
 impl Slots {
-    /// What is kept of a call whose message was sent as soon as it was entered; None where it is over with that.
+    /// What is kept of a call whose message was sent as soon as it was entered; None where it is
+    /// over with that.
     fn exchanged(&self, number: u64, caller: ThreadId, call: &Call) -> Option<Standing>
         ensures { result ≡ exchanged_call (now self.now.past) number caller call.now }
     {
@@ -41,7 +43,8 @@ impl Slots {
         })
     }
 
-    /// Takes note of a call that reaches a receiving call, of the transfer that it begins, and of the end of that.
+    /// Takes note of a call that reaches a receiving call, of the transfer that it begins, and of
+    /// the end of that.
     pub fn note_exchange(
         &mut self,
         entry: &Entry,

@@ -36,8 +36,8 @@ impl Slots {
         call
     }
 
-    /// Takes note at once of a transfer that begins and of its end, for the calls at two places. Says which slots that changed: those of
-    /// both calls.
+    /// Takes note at once of a transfer that begins and of its end, for the calls at two places.
+    /// Says which slots that changed: those of both calls.
     pub fn note_pass(&mut self, began: &Entry, ended: &Entry, pair: Pair) -> Changes
         requires began { began.now ≡ Written (Began pair.sending pair.receiving) }
         requires ended { ended.now ≡ Written (Ended pair.sending pair.receiving) }

@@ -11,8 +11,8 @@ use ipc_slots::Change;
 use ipc_words::ThreadId;
 
 impl Waiting {
-    /// Takes note of a call that reaches a receiving call, of the transfer that it begins, and of the end of that. Memory may hold the call
-    /// at the hint. Takes no memory.
+    /// Takes note of a call that reaches a receiving call, of the transfer that it begins, and of
+    /// the end of that. Memory may hold the call at the hint. Takes no memory.
     pub fn note_exchange(
         &mut self,
         entry: &Entry,

@@ -52,8 +52,8 @@ impl Waiting {
         wait.place
     }
 
-    /// The calls of a transfer that comes next, and their places, where the message has words alone and is not propagated: it passes at
-    /// once. The sender is found by its wait for the receiver.
+    /// The calls of a transfer that comes next, and their places, where the message has words alone
+    /// and is not propagated: it passes at once. The sender is found by its wait for the receiver.
     pub fn passing_pair(&self, sending: u64, receiving: u64) -> Option<Pair>
         requires waiting { IsWaiting self.now }
         requires begins { Follows self.now.slots.past (Written (Began sending receiving)) }
@@ -77,7 +77,8 @@ impl Waiting {
         }
     }
 
-    /// Takes note at once of a transfer that begins and of its end, for the calls at two places. Takes no memory.
+    /// Takes note at once of a transfer that begins and of its end, for the calls at two places.
+    /// Takes no memory.
     pub fn note_pass(&mut self, began: &Entry, ended: &Entry, pair: Pair)
         requires began { began.now ≡ Written (Began pair.sending pair.receiving) }
         requires ended { ended.now ≡ Written (Ended pair.sending pair.receiving) }

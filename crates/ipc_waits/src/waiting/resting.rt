@@ -42,8 +42,9 @@ fn lets_any_in(slots: &Slots, from: ThreadId, thread: ThreadId, senders: &[Wait]
 }
 
 impl Waiting {
-    /// Whether the receive phase of a call that a live thread makes rests as soon as it begins: its partner is there or may come, it has
-    /// time, and nobody that it lets in waits for the thread. Looks at the sends that wait for the thread alone.
+    /// Whether the receive phase of a call that a live thread makes rests as soon as it begins: its
+    /// partner is there or may come, it has time, and nobody that it lets in waits for the thread.
+    /// Looks at the sends that wait for the thread alone.
     pub fn rests(&self, caller: ThreadId, call: &Call) -> bool
         requires waiting { IsWaiting self.now }
         requires live { IsTrue (is_live self.now.slots.past caller) }

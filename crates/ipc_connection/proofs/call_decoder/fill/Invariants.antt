@@ -5,7 +5,8 @@ use Rattle.ipc_frame.specs.Reading.{Whole, reading}
 use Rattle.ipc_connection.specs.Holding.{AreGone}
 use Rattle.ipc_connection.proofs.call_decoder.fill.Given as goal
 
--- what is held and what is left of the piece are all of it; a frame that is whole ends with the bytes held
+-- what is held and what is left of the piece are all of it; a frame that is whole ends with the
+-- bytes held
 abbrev pub invariant-loop-fault : goal.invariant-loop-fault
 invariant-loop-fault g l = record {
   within : l.used ≤ length l.piece;

@@ -30,7 +30,8 @@ returns-in-Some-clause-faultless c =
     ap (λ (app : App). fault_of app (map string_bytes c.args.words.now)) (sym c.requires.0)
     ∙ c.in_ok-matches.ensures.kinds (ap is_simple_and_free c.requires.0)
 
--- the options are those of the subcommand that the parse entered, and so of the one that the words name
+-- the options are those of the subcommand that the parse entered, and so of the one that the words
+-- name
 pub returns-in-Some-clause-asked : goal.returns-in-Some-clause-asked
 returns-in-Some-clause-asked c =
     let named = entered _ _ c.in_ok-matches.matches c.requires.0 c.in_ok-matches.ensures.ok.2 in

@@ -309,11 +309,12 @@ def lines(book):
     """The words of entries and their fields."""
     entries = {it.name: it for it in book.protocol.entries}
     words = {it.name: it.word for it in entries.values()}
-    names, source = book.source("crates/ipc_lines/specs/Names.antt"), book.source("crates/ipc_lines/src/reading.rt")
+    names, source = book.source("crates/ipc_lines/specs/Names.antt"), book.source("crates/ipc_lines/src/reading/names.rt")
     book.same(names.path, "entry_name", names.texts("entry_name"), words)
     in_code = lambda it: {name: value[2:-1] for name, value in it.arms("text_of").items()}
     book.same(source.path, "text_of", in_code(source), words)
     nine = 9
+    source = book.source("crates/ipc_lines/src/reading.rt")
     book.same(source.path, "MAX_FIELDS", source.number(r"^const MAX_FIELDS: usize = (\d+);$", "MAX_FIELDS"), nine + len(entries["Called"].fields))
     spec = book.source("crates/ipc_lines/specs/Lines.antt")
     spelled = {}

@@ -1,8 +1,6 @@
 -- What is kept of a history stays of it.
-use Rattle.std.proofs.Common.{◌≡◌, refl, sym, ap, ◌∙◌, subst, ap₂, ℕ, ◌+◌, ◌≤◌, Bool, true, false, nat_lt, List, [], ◌∷◌, ◌++◌, length, length-append, append-nil, drop, inl, inr, arith}
-use Rattle.std.proofs.lemmas.Bool.{false≢true}
+use Rattle.std.proofs.Common.{◌≡◌, refl, sym, ap, ◌∙◌, subst, ap₂, ℕ, ◌+◌, ◌≤◌, Bool, true, false, nat_lt, List, [], ◌∷◌, ◌++◌, length, length-append, append-nil, drop, arith}
 use Rattle.std.proofs.lemmas.List.{drop_all}
-use Rattle.ipc_history.specs.Calls.{call_at, is_called}
 use Rattle.ipc_history.specs.Holding.{compacted, held_of, reached}
 use Rattle.ipc_history.specs.HistoryParts.{HistoryParts}
 use Rattle.ipc_history.specs.Legal.{Follows, Legal}
@@ -10,26 +8,22 @@ use Rattle.ipc_history.specs.declared.entry.Entry.{Entry}
 use Rattle.ipc_history.proofs.HoldingLemmas.{reached_most}
 use Rattle.ipc_laws.proofs.Settling.{legal_push}
 use Rattle.ipc_slots.specs.PastSlots.{PastSlots}
-use Rattle.ipc_compact.specs.Compact.{is_among, is_kept, kept_before, kept_of}
+use Rattle.ipc_compact.specs.Compact.{is_kept, kept_before, kept_of}
 use Rattle.ipc_compact.specs.Places.{WasPlaced}
 use Rattle.ipc_compact.proofs.PlaceLemmas.{to_the_end}
-use Rattle.ipc_words.specs.Limits.{table_slots}
 use Rattle.ipc_desks.specs.Desks.{Keeps as DesksKeep}
 use Rattle.ipc_desks.specs.PastDesks.{PastDesks}
 use Rattle.ipc_desks.specs.declared.desk.Desk.{Desk}
-use Rattle.ipc_partners.proofs.KeptLaw.{kept_is}
-use Rattle.ipc_partners.specs.Kept.{KeptParts, PassesAs, TookOthers, kept_upto, passes}
+use Rattle.ipc_partners.specs.Kept.{KeptParts, TookOthers, passes}
 use Rattle.ipc_partners.specs.PastPartners.{PastPartners}
 use Rattle.ipc_core.specs.Compacting.{kept_to}
 use Rattle.ipc_core.specs.CourseParts.{ComesIdle}
 use Rattle.ipc_core.proofs.CompactLemmas.{among_more, kept_more, kept_none, kept_now, kept_of_all, kept_taken}
 use Rattle.ipc_core.proofs.Commands.{nothing_legal}
 use Rattle.ipc_core.proofs.BusyLaws.{still_among}
+use Rattle.ipc_core.proofs.OtherCalls.{others_none, others_more}
 use Rattle.ipc_chain.specs.Judging.{AreBooks, IsJudged}
 use Rattle.ipc_chain.proofs.Others.{others_push}
-
-took_more : (H : List Entry) (old new : List ℕ) → TookOthers H old → ((n : ℕ) → is_among n old ≡ true → is_among n new ≡ true) → TookOthers H new
-took_more H old new others more n called = elim (others n called) [ inl last ↦ inl last | inr among ↦ inr (more n among) ]
 
 -- one more entry
 pub judged_more : (history more : HistoryParts) (slots slots_more : PastSlots) (desks desks_more : PastDesks) (partners partners_more : PastPartners) (takes : ℕ) (e : Entry) → IsJudged history slots desks partners takes
@@ -56,7 +50,7 @@ judged_taken history slots desks after partners takes n was past taken = record 
   slots_of = was.slots_of;
   desks_of = past ∙ was.desks_of;
   partners_of = was.partners_of;
-  others = subst (TookOthers history.entries) (sym taken) (took_more history.entries desks.taken (desks.taken ++ n ∷ []) was.others (λ k among. still_among k desks.taken (n ∷ []) among));
+  others = subst (TookOthers history.entries) (sym taken) (others_more history.entries desks.taken (desks.taken ++ n ∷ []) was.others (λ k among. still_among k desks.taken (n ∷ []) among));
   counted = (let counted = was.counted in omega (arith, counted, ap length taken, length-append desks.taken (n ∷ [])));
   kept = subst (λ t. WasPlaced history.entries t history.held.front history.held.places history.held.whole_from) (sym taken) (kept_taken history.entries desks.taken (desks.taken ++ n ∷ []) history.held.front history.held.places history.held.whole_from (among_more desks.taken n) was.kept);
   within = was.within;
@@ -75,11 +69,6 @@ judged_same history slots desks after partners takes was past taken = record {
   within = was.within;
 }
 
--- the empty history
-others_none : TookOthers [] []
-unfolding is_called call_at
-others_none n called = absurd (false≢true called)
-
 pub judged_none : (history : HistoryParts) (slots : PastSlots) (desks : PastDesks) (partners : PastPartners) → history.entries ≡ [] → history.held ≡ record { front = []; places = []; whole_from = 0; mark = 0 } → slots.past ≡ [] → desks.past ≡ [] → desks.taken ≡ [] → partners.past ≡ []
     → IsJudged history slots desks partners 0
 judged_none history slots desks partners empty held of_slots of_desks none of_partners = record {
@@ -92,11 +81,6 @@ judged_none history slots desks partners empty held of_slots of_desks none of_pa
   kept = subst (λ l. WasPlaced l desks.taken history.held.front history.held.places history.held.whole_from) (sym empty) (subst (λ t. WasPlaced [] t history.held.front history.held.places history.held.whole_from) (sym none) (subst (λ h. WasPlaced [] [] h.front h.places h.whole_from) (sym held) kept_none));
   within = (let start = ap (λ h. h.whole_from) held in omega (arith, start));
 }
-
--- what the last calls tell is what is kept
-pub passes_is : (P H : List Entry) (taken : List ℕ) (desks : List Desk) → P ≡ H → Legal H → DesksKeep P taken desks → TookOthers H taken → (kept : KeptParts) → PassesAs kept (kept_upto P taken table_slots) → (e : Entry) → passes kept e ≡ is_kept H taken e
-passes_is P H taken desks seen legal keeps others kept same e =
-    same e ∙ (ap (λ l. passes (kept_upto l taken table_slots) e) seen ∙ kept_is H taken legal (subst (λ l. DesksKeep l taken desks) seen keeps).over others e)
 
 reached_end : (upto : ℕ) (history : HistoryParts) → history.held.whole_from ≤ length history.entries → upto ≡ length history.entries → reached upto history ≡ length history.entries
 reached_end upto history within far = go (nat_lt upto history.held.whole_from) refl (nat_lt upto (length history.entries)) refl

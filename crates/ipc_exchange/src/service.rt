@@ -1,35 +1,25 @@
-ghost use Rattle.std.specs.Prelude.{◌≡◌, ◌<◌, ◌≤◌, ◌+◌, ℕ, [], false, List, length, min, take};
-ghost use Rattle.std.specs.Prelude.{drop, slice_set, IfOk, IfSome, IsNone, OnOk, OnErr};
-ghost use Rattle.ipc_words.specs.ThreadId.{number_of};
-ghost use Rattle.ipc_words.specs.Limits.{max_calls, max_entries, table_slots};
+ghost use Rattle.std.specs.Prelude.{◌≡◌, ◌<◌, ◌≤◌, ◌+◌, ℕ, [], length, min, take};
+ghost use Rattle.std.specs.Prelude.{drop, IfOk, IfSome, IsNone, OnOk, OnErr};
+ghost use Rattle.ipc_words.specs.Limits.{max_calls, max_entries};
 ghost use Rattle.ipc_history.specs.Legal.{Legal, Quiet};
 ghost use Rattle.ipc_history.specs.Paired.{Paired};
-ghost use Rattle.ipc_core.specs.Again.{MayObeyAgain};
-ghost use Rattle.ipc_core.specs.Laws.{IsSound};
-ghost use Rattle.ipc_core.specs.Obeying.{MayObey, broke_answer};
-ghost use Rattle.ipc_core.specs.declared.command.Answer.{Answer};
+ghost use Rattle.ipc_core.specs.Obeying.{MayObey};
 ghost use Rattle.ipc_core.specs.declared.command.Answer.TheVariants as answer;
 ghost use Rattle.ipc_core.specs.declared.command.Command.TheVariants as command;
-ghost use Rattle.ipc_connection.specs.Replying.{next_stage, thread_left, told_of};
 ghost use Rattle.ipc_exchange.specs.Feeding.{has_finished};
-ghost use Rattle.ipc_exchange.specs.Service.{at_rest, connection_at, delivered, place_of};
-ghost use Rattle.ipc_exchange.specs.Service.{told_connection, told_outcome, with_connection, without_bytes};
-ghost use Rattle.ipc_exchange.specs.Serving.{Asked, Does, DoesAlone, Leaves, MayLack, Serves, ServesBy, Tells};
-ghost use Rattle.ipc_exchange.specs.Serving.{first_kernel};
-ghost use Rattle.ipc_exchange.specs.Rooms.{CanDo, CanReact, CanServe, CanTell, NoneServes, Ready};
-ghost use Rattle.ipc_exchange.specs.Rooms.{StaysReady, connections_of, roomy_at, service_of, stage_at};
-ghost use Rattle.ipc_exchange.specs.Rooms.{table_told};
+ghost use Rattle.ipc_exchange.specs.Service.{connection_at, with_connection, without_bytes};
+ghost use Rattle.ipc_exchange.specs.Serving.{DoesAlone, MayLack, first_kernel};
+ghost use Rattle.ipc_exchange.specs.Rooms.{Ready, StaysReady, roomy_at, service_of, stage_at};
+
+mod asking;
+mod delivering;
+mod telling;
 
 use crate::connections::Connections;
 use crate::marked_kernel::MarkedKernel;
-use ipc_connection::{
-    Heard, Reaction, Request, Stage, Told, asks, command_of, next_stage, thread_left, told_of,
-    version_asked,
-};
-use ipc_core::{Advance, Command, Limits, NoThread};
-use ipc_frame::{FrameFault, WireVersion};
+use ipc_connection::Stage;
+use ipc_core::{Advance, Limits};
 use ipc_history::Entries;
-use ipc_words::ThreadId;
 use ipc_words::limits::TABLE_SLOTS;
 use std::alloc::{AllocError, Global};
 use std::marker::Model;
@@ -207,211 +197,5 @@ impl Service {
         // its contract says that the kernel is sound
         let _ = self.kernel.history();
         advance
-    }
-
-    /// Serves what was heard on the connection in a place.
-    pub(crate) fn serve(&mut self, place: usize, heard: Result<Heard, FrameFault>)
-        requires { CanServe self.old place heard }
-        ensures served { (asked : List Asked)
-            × Serves MayLack (service_of self.old) place heard asked (service_of self.new) }
-        ensures ready { StaysReady self.old self.new }
-    {
-        let stage = self.connections.stage(place);
-        let reaction = asks(stage, heard);
-        self.react(place, reaction);
-    }
-
-    fn react(&mut self, place: usize, reaction: Reaction)
-        requires { CanReact self.old place reaction }
-        ensures served { (asked : List Asked)
-            × ServesBy MayLack (service_of self.old) place reaction asked (service_of self.new) }
-        ensures ready { StaysReady self.old self.new }
-    {
-        match reaction {
-            Reaction::Nothing => {}
-            Reaction::Ask(request) => self.ask(place, request),
-            Reaction::Leave => self.tell(place, Told::Left),
-            Reaction::Refuse(class, number) => self.tell(place, Told::Faulted(class, number)),
-        }
-    }
-
-    /// The kernel is asked for the connection in a place.
-    #[tactic(auto, using(crate::proofs::TellingLemmas::do_asked))]
-    fn ask(&mut self, place: usize, request: Request)
-        requires { CanReact self.old place (Reaction.Ask request) }
-        ensures served { (asked : List Asked)
-            × ServesBy MayLack (service_of self.old) place (Reaction.Ask request) asked
-            (service_of self.new) }
-        ensures ready { StaysReady self.old self.new }
-    {
-        let space = u64::from(self.connections.space(place));
-        let version = version_asked(&request, WireVersion::One);
-        self.command(place, version, command_of(request, space));
-    }
-
-    /// The kernel obeys a command of a connection that named a version, and its answer is told.
-    fn command(&mut self, place: usize, version: WireVersion, command: Command)
-        requires { CanDo self.old place command }
-        ensures done { (asked : List Asked) × Does MayLack (service_of self.old) place version
-            command asked (service_of self.new) }
-        ensures ready { StaysReady self.old self.new }
-    {
-        let told = self.obey(version, command);
-        self.tell(place, told);
-    }
-
-    fn obey(&mut self, version: WireVersion, command: Command) -> Told
-        ensures kernel { (answer : Answer)
-            × MayObeyAgain self.old.kernel.held.mark self.old.kernel command answer self.new.kernel
-            × (result ≡ told_of version self.new.kernel.moment answer) }
-        ensures connections { self.new.connections ≡ self.old.connections }
-        ensures table { self.new.table ≡ self.old.table }
-        ensures sound { IsSound self.new.kernel }
-    {
-        let answer = self.kernel.obey(command);
-        // its contract says that the kernel is sound
-        let _ = self.kernel.history();
-        told_of(version, self.kernel.now(), answer)
-    }
-
-    /// Something is told to the connection in a place. Where the connection ends so, its thread
-    /// ends.
-    fn tell(&mut self, place: usize, told: Told)
-        requires { CanTell self.old place told }
-        ensures told { (asked : List Asked) × Tells MayLack (service_of self.old) place told asked
-            (service_of self.new) }
-        ensures ready { StaysReady self.old self.new }
-    {
-        let left = self.tell_connection(place, told);
-        self.leave(left);
-        self.deliver();
-    }
-
-    /// Tells a connection, and answers the thread that ends so.
-    fn tell_connection(&mut self, place: usize, told: Told) -> Option<ThreadId>
-        requires { CanTell self.old place told }
-        ensures kernel { self.new.kernel ≡ self.old.kernel }
-        ensures connections { connections_of self.new.connections
-            ≡ slice_set (connections_of self.old.connections) place
-            (told_connection told (connection_at (connections_of self.old.connections) place)) }
-        ensures left { result ≡ thread_left (connection_at
-            (connections_of self.old.connections) place).stage
-            (next_stage (connection_at (connections_of self.old.connections) place).stage told) }
-        ensures ready { StaysReady self.old self.new }
-        ensures alone { IfSome result (λ thread. NoneServes self.new.connections thread) }
-    {
-        let opened = told;
-        let said = told;
-        self.place_thread(place, opened);
-        let before = self.connections.stage(place);
-        self.connections.tell(place, said);
-        let here = before;
-        let after = next_stage(here, told);
-        thread_left(before, after)
-    }
-
-    /// The table names the connection of a thread that was opened.
-    fn place_thread(&mut self, place: usize, told: Told)
-        requires { CanTell self.old place told }
-        ensures { self.new ≡ record self.old { table = table_told told place self.old.table } }
-    {
-        if let Told::Opened(thread, _) = told {
-            self.table[thread.number() as usize] = self.connections.number(place);
-        }
-    }
-
-    /// A thread ends, if there is one.
-    fn leave(&mut self, left: Option<ThreadId>)
-        requires ready { Ready self.old }
-        requires alone { IfSome left (λ thread. NoneServes self.old.connections thread) }
-        ensures kernel { (asked : List Asked)
-            × Leaves MayLack (at_rest self.old.kernel) left asked (at_rest self.new.kernel) }
-        ensures connections { self.new.connections ≡ self.old.connections }
-        ensures ready { Ready self.new }
-    {
-        if let Some(thread) = left {
-            let _ = self.break_thread(thread);
-        }
-    }
-
-    fn break_thread(&mut self, thread: ThreadId) -> Result<(), NoThread>
-        requires ready { Ready self.old }
-        requires alone { NoneServes self.old.connections thread }
-        ensures kernel { MayObey self.old.kernel (command.Broke thread)
-            (broke_answer result) self.new.kernel }
-        ensures connections { self.new.connections ≡ self.old.connections }
-        ensures ready { Ready self.new }
-    {
-        let done = self.kernel.broke(thread);
-        // its contract says that the kernel is sound
-        let _ = self.kernel.history();
-        done
-    }
-
-    /// Each thread's connection is told the outcome that the thread may take.
-    fn deliver(&mut self)
-        requires { Ready self.old }
-        ensures told { service_of self.new ≡ delivered (at_rest self.old.kernel)
-            (connections_of self.old.connections) }
-        ensures ready { StaysReady self.old self.new }
-    {
-        for number in 0..TABLE_SLOTS {
-            self.deliver_number(number);
-        }
-    }
-
-    fn deliver_number(&mut self, number: usize)
-        requires ready { Ready self.old }
-        requires within { number < table_slots }
-        ensures told { service_of self.new
-            ≡ told_outcome (place_of number (connections_of self.old.connections))
-            (service_of self.old) }
-        ensures ready { StaysReady self.old self.new }
-    {
-        if !self.kernel.is_due(number) {
-            return;
-        }
-        let place = self.place_of(number);
-        if place < self.connections.len() {
-            self.deliver_at(place);
-        }
-    }
-
-    /// The place of the connection whose thread has a number; past the end where there is none.
-    fn place_of(&self, number: usize) -> usize
-        requires ready { Ready self.now }
-        requires within { number < table_slots }
-        ensures { result ≡ place_of number (connections_of self.now.connections) }
-    {
-        let none = self.connections.len();
-        let connection = self.table[number];
-        if connection == 0 {
-            return none;
-        }
-        let place = connection - 1;
-        if place >= none {
-            return none;
-        }
-        if self.connections.serves(place, number) {
-            place
-        } else {
-            none
-        }
-    }
-
-    fn deliver_at(&mut self, place: usize)
-        requires within { place < length self.old.connections }
-        requires ready { Ready self.old }
-        ensures told { service_of self.new ≡ told_outcome place (service_of self.old) }
-        ensures ready { StaysReady self.old self.new }
-    {
-        if let Stage::Serving(thread) = self.connections.stage(place) {
-            let taken = self.kernel.take(thread);
-            // its contract says that the kernel is sound
-            let _ = self.kernel.history();
-            if let Some(outcome) = taken {
-                self.connections.push_outcome(place, outcome);
-            }
-        }
     }
 }

@@ -10,8 +10,8 @@ use Rattle.ipc_lines.specs.Texts.{hex_text, id_text}
 use Rattle.ipc_lines.specs.Lines.{call_fields, entry_fields}
 use Rattle.ipc_lines.specs.Reading.{IsReadable}
 use Rattle.ipc_lines.specs.Names.{entry_name}
-use Rattle.ipc_lines.specs.declared.reading.EntryName.{EntryName}
-use Rattle.ipc_lines.specs.declared.reading.EntryName.TheVariants as name
+use Rattle.ipc_lines.specs.declared.reading.names.EntryName.{EntryName}
+use Rattle.ipc_lines.specs.declared.reading.names.EntryName.TheVariants as name
 use Rattle.ipc_lines.proofs.Naming.{first_same, rest_same}
 
 -- the name that the fields of an entry begin with

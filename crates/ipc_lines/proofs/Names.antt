@@ -4,8 +4,8 @@ use Rattle.std.specs.Prelude.{cond, find}
 use Rattle.std.specs.Str.{bytes_eq}
 use Rattle.std.proofs.lemmas.Slice.Eq.{bytes_eq-Decides}
 use Rattle.ipc_lines.specs.Names.{entry_name, entry_names, name_in}
-use Rattle.ipc_lines.specs.declared.reading.EntryName.{EntryName}
-use Rattle.ipc_lines.specs.declared.reading.EntryName.TheVariants as name
+use Rattle.ipc_lines.specs.declared.reading.names.EntryName.{EntryName}
+use Rattle.ipc_lines.specs.declared.reading.names.EntryName.TheVariants as name
 
 passes_at : {X : Type 0} (p : X → Bool) (b : Bool) (x y : X) (rest : Option X) → p x ≡ b → cond b (Some x) rest ≡ Some y → (rest ≡ Some y → p y ≡ true) → p y ≡ true
 passes_at p true x y rest test e later = let same : x ≡ y = cc in ap p (sym same) ∙ test

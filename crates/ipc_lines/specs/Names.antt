@@ -1,9 +1,9 @@
 -- The names that entries begin with.
 use Rattle.std.specs.Prelude.{ℕ, List, [], ◌∷◌, Option, codes, find}
 use Rattle.std.specs.Str.{bytes_eq}
-use Rattle.ipc_lines.specs.declared.reading.EntryName.{EntryName}
-use Rattle.ipc_lines.specs.declared.reading.EntryName.TheVariants.{At, Opened, Called, Exreg, Broke, Moved}
-use Rattle.ipc_lines.specs.declared.reading.EntryName.TheVariants.{Began, Turned, Ended, Overflowed, Aborted, Failed}
+use Rattle.ipc_lines.specs.declared.reading.names.EntryName.{EntryName}
+use Rattle.ipc_lines.specs.declared.reading.names.EntryName.TheVariants.{At, Opened, Called, Exreg, Broke, Moved}
+use Rattle.ipc_lines.specs.declared.reading.names.EntryName.TheVariants.{Began, Turned, Ended, Overflowed, Aborted, Failed}
 
 abbrev pub entry_name : EntryName → List ℕ
 entry_name At = codes "at"

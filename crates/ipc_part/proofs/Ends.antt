@@ -7,10 +7,10 @@ use Rattle.std.proofs.KnownBytes.{Consumes-nil, Consumes-trans}
 use Rattle.ipc_words.specs.Limits.{max_line_bytes}
 use Rattle.ipc_lines.specs.declared.reading.LineFault.{LineFault}
 use Rattle.ipc_lines.specs.declared.reading.LineFault.TheVariants as fault
-use Rattle.ipc_trace.specs.Reading.{TakesLine, kept}
+use Rattle.ipc_trace.specs.Reading.{TakesLine}
 use Rattle.ipc_trace.specs.Traces.{ended}
 use Rattle.ipc_trace.specs.declared.lines.LineEnd.TheVariants as line_end
-use Rattle.ipc_trace.proofs.Ends.{begins, unheld}
+use Rattle.ipc_trace.proofs.Ends.{begins, unheld, kept_none}
 use Rattle.ipc_trace.proofs.Pieces.{kept_whole}
 use Rattle.ipc_part.specs.Lines.{line_text}
 use Rattle.ipc_part.specs.Parts.{lines_of, lines_text}
@@ -65,13 +65,6 @@ one_more a b c old new number next line done so_far (text, is, one, taken) (read
       taken = subst (Consumes a c) (sym bytes) (Consumes-trans a b c (lines_text so_far.lines) (ended text) so_far.taken taken);
       number_is = omega (arith, next_is, so_far.number_is, length-append so_far.lines (read ∷ []));
     }
-
-kept_none : (line text : List ℕ) → line ≡ kept text → length line ≡ 0 → text ≡ []
-kept_none line text is none = kept_whole line text is (omega (arith, none)) ∙ empty line none
-  where
-    empty : (xs : List ℕ) → length xs ≡ 0 → xs ≡ []
-    empty [] e = refl
-    empty (x ∷ xs) e = absurd (omega (arith, e))
 
 true_is_not_false : true ≡ false → ⊥
 true_is_not_false is = cc

@@ -1,11 +1,11 @@
 -- A part has a text of its own: what is read of the text of a part is that part.
-use Rattle.std.proofs.Common.{◌≡◌, ◌≢◌, ℕ, ◌+◌, ◌≤◌, ◌<◌, ◌^◌, Bool, true, false, Option, Some, None, List, [], ◌∷◌, ◌++◌, codes, length, get_or, drop, refl, sym, ap, subst, ◌∙◌, arith, append_assoc, append-nil}
-use Rattle.std.specs.Prelude.{◌==◌, ◌&&◌, Contains}
+use Rattle.std.proofs.Common.{◌≡◌, ◌≢◌, ℕ, ◌+◌, ◌≤◌, ◌<◌, ◌^◌, Bool, true, false, Option, Some, None, List, [], ◌∷◌, ◌++◌, codes, length, refl, sym, ap, subst, ◌∙◌, arith, append_assoc, append-nil}
+use Rattle.std.specs.Prelude.{◌==◌, ◌&&◌}
 use Rattle.std.specs.Fmt.{decimal}
 use Rattle.std.specs.List.{All, list_all}
 use Rattle.std.specs.Prelude.{not}
 use Rattle.std.proofs.lemmas.Bool.{and_parts, eqb-false}
-use Rattle.std.proofs.lemmas.List.Elements.{All-append, All-cons, All-contains_itself, All-head, All-nil, All-tail}
+use Rattle.std.proofs.lemmas.List.Elements.{All-append, All-cons, All-head, All-nil, All-tail}
 use Rattle.std.specs.Io.KnownBytes.{Consumes, IsAtEnd}
 use Rattle.ipc_words.specs.Limits.{table_slots}
 use Rattle.ipc_history.specs.declared.entry.Entry.{Entry}
@@ -15,6 +15,7 @@ use Rattle.ipc_lines.proofs.Spacing.{decimal_lacks}
 use Rattle.ipc_lines.proofs.Splitting.{lines_hold_no_newline}
 use Rattle.ipc_ports.specs.Lines.{IsOneLine}
 use Rattle.ipc_trace.specs.Traces.{ended}
+use Rattle.ipc_trace.proofs.Unknown.{one_line, head_of, tail_of, holds_newline}
 use Rattle.ipc_part.specs.Lines.{IsReadableLine, calls_word, line_text, moment_word, number_word, over_word, takes_word}
 use Rattle.ipc_part.specs.Parts.{IsPart, PartParts, entry_lines, lines_of, lines_text, number_line, number_lines, over_lines, part_text}
 use Rattle.ipc_part.specs.Reading.{HasBadLine, HasLines, IsBadBehind, Only}
@@ -44,9 +45,6 @@ plain (b ∷ bs) h =
 counted_line : (word : List ℕ) (n : ℕ) → has_none word ≡ true → IsOneLine (word ++ decimal n)
 counted_line word n h = All-append is_other word (decimal n) (plain word h) (decimal_lacks 10 (omega arith) n)
 
-one_line : (text : List ℕ) → (Contains text 10 → ⊥) → IsOneLine text
-one_line text lacks = λ k d less same. lacks (subst (Contains text) same (All-contains_itself text k d less))
-
 -- behind a number and a space
 spaced_line : (n : ℕ) (rest : List ℕ) → IsOneLine rest → IsOneLine (decimal n ++ 32 ∷ rest)
 spaced_line n rest h = All-append is_other (decimal n) (32 ∷ rest) (decimal_lacks 10 (omega arith) n) (All-cons is_other 32 rest (λ e. omega (arith, e)) h)
@@ -65,12 +63,6 @@ is_one_line line.Since = plain (codes "since") refl
 is_one_line (line.Entry entry) = one_line (entry_text entry) (lines_hold_no_newline.0 entry)
 
 -- ---- bytes that are cut at newlines
-head_of : (c d : ℕ) (xs ys : List ℕ) → c ∷ xs ≡ d ∷ ys → c ≡ d
-head_of c d xs ys same = ap (λ (l : List ℕ). get_or l 0 c) same
-
-tail_of : (c d : ℕ) (xs ys : List ℕ) → c ∷ xs ≡ d ∷ ys → xs ≡ ys
-tail_of c d xs ys same = ap (λ (l : List ℕ). drop 1 l) same
-
 record AreSame (a b x y : List ℕ) : Type 0 where
   first : a ≡ b
   rest : x ≡ y
@@ -85,10 +77,6 @@ cut (c ∷ a) (d ∷ b) x y one_a one_b same =
       first = ap (λ byte. byte ∷ a) (head_of c d (a ++ 10 ∷ x) (b ++ 10 ∷ y) same) ∙ ap (λ (t : List ℕ). d ∷ t) behind.first;
       rest = behind.rest;
     }
-
-holds_newline : (a x : List ℕ) → IsOneLine (a ++ 10 ∷ x) → ⊥
-holds_newline [] x one = All-head is_other 10 x one refl
-holds_newline (c ∷ a) x one = holds_newline a x (All-tail is_other c (a ++ 10 ∷ x) one)
 
 no_end : (a x : List ℕ) → a ++ 10 ∷ x ≡ [] → ⊥
 no_end [] x same = omega (arith, ap length same)

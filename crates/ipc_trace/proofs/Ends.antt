@@ -71,7 +71,7 @@ pub keeps_other_line : (version : TraceVersion) (line : List ℕ) (entry : Entry
 keeps_other_line version line entry short spelled other text is = inr (entry, kept_whole line text is short ∙ spelled, other)
 
 -- nothing is kept only of nothing
-kept_none : (line text : List ℕ) → line ≡ kept text → length line ≡ 0 → text ≡ []
+pub kept_none : (line text : List ℕ) → line ≡ kept text → length line ≡ 0 → text ≡ []
 kept_none line text is none = kept_whole line text is (omega (arith, none)) ∙ empty line none
   where
     empty : (xs : List ℕ) → length xs ≡ 0 → xs ≡ []

@@ -32,16 +32,16 @@ no_entry_tells (Written (Overflowed sending receiving offset)) = refl
 no_entry_tells (Written (Aborted sending receiving count)) = refl
 no_entry_tells (Written (Failed number code)) = refl
 
-one_line : (text : List ℕ) → (Contains text 10 → ⊥) → IsOneLine text
+pub one_line : (text : List ℕ) → (Contains text 10 → ⊥) → IsOneLine text
 one_line text lacks = λ k d less same. lacks (subst (Contains text) same (All-contains_itself text k d less))
 
 abbrev is_other : ℕ → Type 0
 is_other byte = byte ≢ 10
 
-head_of : (c d : ℕ) (xs ys : List ℕ) → c ∷ xs ≡ d ∷ ys → c ≡ d
+pub head_of : (c d : ℕ) (xs ys : List ℕ) → c ∷ xs ≡ d ∷ ys → c ≡ d
 head_of c d xs ys same = ap (λ (l : List ℕ). get_or l 0 c) same
 
-tail_of : (c d : ℕ) (xs ys : List ℕ) → c ∷ xs ≡ d ∷ ys → xs ≡ ys
+pub tail_of : (c d : ℕ) (xs ys : List ℕ) → c ∷ xs ≡ d ∷ ys → xs ≡ ys
 tail_of c d xs ys same = ap (λ (l : List ℕ). drop 1 l) same
 
 version_is_one_line : IsOneLine version_line
@@ -58,7 +58,7 @@ cut (c ∷ a) (d ∷ b) x y one_a one_b same =
     ∙ ap (λ (t : List ℕ). d ∷ t) (cut a b x y (All-tail is_other c a one_a) (All-tail is_other d b one_b) (tail_of c d (a ++ 10 ∷ x) (b ++ 10 ∷ y) same))
 
 -- bytes that hold a newline are not one line
-holds_newline : (a x : List ℕ) → IsOneLine (a ++ 10 ∷ x) → ⊥
+pub holds_newline : (a x : List ℕ) → IsOneLine (a ++ 10 ∷ x) → ⊥
 holds_newline [] x one = All-head is_other 10 x one refl
 holds_newline (c ∷ a) x one = holds_newline a x (All-tail is_other c (a ++ 10 ∷ x) one)
 

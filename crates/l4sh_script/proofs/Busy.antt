@@ -1,77 +1,24 @@
 -- Who has an outcome to take, or will have one, and who stays so.
-use Rattle.std.proofs.Common.{◌≡◌, refl, sym, ap, subst, ◌∙◌, ℕ, suc, ◌+◌, ◌<◌, Bool, true, false, not, ◌&&◌, ◌||◌, ◌==◌, eqb-true, List}
-use Rattle.std.proofs.Common.{[], ◌∷◌, ◌++◌, Option, Some, None, is_some, arith}
-use Rattle.std.specs.Prelude.{All}
+use Rattle.std.proofs.Common.{◌≡◌, refl, sym, ◌∙◌, ℕ, ◌+◌, Bool, true, false, not, ◌&&◌, ◌||◌, ◌==◌, List}
+use Rattle.std.proofs.Common.{[], ◌∷◌, ◌++◌, arith}
 use Rattle.std.specs.List.{list_any}
 use Rattle.std.specs.Option.{option_map_or}
-use Rattle.std.proofs.lemmas.Bool.{false≢true, false_from_ne_true}
 use Rattle.std.proofs.lemmas.List.Folds.{list_any-append}
-use Rattle.std.specs.Prelude.{find}
-use Rattle.ipc_history.specs.Calls.{caller_of, numbers}
 use Rattle.ipc_history.specs.Entries.{breaks}
-use Rattle.ipc_history.specs.Phases.{is_over, open_call}
 use Rattle.ipc_history.specs.Threads.{has_broken, is_live, was_opened}
 use Rattle.ipc_history.specs.Entries.{opens}
 use Rattle.ipc_history.specs.declared.entry.Entry.{Entry}
 use Rattle.ipc_history.specs.declared.entry.Entry.TheVariants.{Given}
 use Rattle.ipc_history.specs.declared.entry.Input.TheVariants as input
-use Rattle.ipc_laws.proofs.OpenCalls.{caller_lives}
-use Rattle.ipc_laws.proofs.Tests.{left, not_both, refuted, right}
-use Rattle.ipc_laws.proofs.Finds.{find_passes}
+use Rattle.ipc_laws.proofs.Tests.{left, right}
 use Rattle.ipc_core.specs.KernelParts.{KernelParts}
 use Rattle.ipc_core.specs.Laws.{IsSound, is_call_of}
 use Rattle.ipc_core.specs.Obeying.{MayObey}
-use Rattle.ipc_core.specs.Outcomes.{IsTaken, has_untaken, is_among, is_busy}
+use Rattle.ipc_core.specs.Outcomes.{has_untaken, is_among}
 use Rattle.ipc_core.specs.declared.command.Answer.{Answer}
 use Rattle.ipc_core.specs.declared.command.Command.{Command}
-use Rattle.ipc_core.proofs.BusyLaws.{idle_stays}
+use Rattle.ipc_core.proofs.BusyLaws.{idle_stays, busy_is}
 use Rattle.ipc_desks.specs.CallsOf.{is_busy as waits, last_call}
-use Rattle.ipc_desks.proofs.LastCalls.{open_is_last}
-
--- a call that was taken is over
-pub all_among : (H : List Entry) (taken : List ℕ) (n : ℕ) → All (IsTaken H) taken → is_among n taken ≡ true → IsTaken H n
-all_among H [] n all among = absurd (false≢true among)
-all_among H (k ∷ taken) n all among = go (k == n) refl (all_among H taken n (λ i d within. all (suc i) d (omega (arith, within)))) among
-  where
-    go : (b : Bool) → (k == n) ≡ b → (is_among n taken ≡ true → IsTaken H n) → (b || is_among n taken) ≡ true → IsTaken H n
-    go true e later h = subst (IsTaken H) (eqb-true k n e) (all 0 0 (omega arith))
-    go false e later h = later h
-
--- an open call was not taken, and its caller lives
-open_untaken : (kernel : KernelParts) (thread n : ℕ) → IsSound kernel → open_call kernel.history thread ≡ Some n
-    → has_untaken kernel thread ≡ true
-unfolding open_call has_untaken waits
-open_untaken kernel thread n sound e = rw (live, last, fresh) refl
-  where
-    passes : ((caller_of kernel.history n == thread) && not (is_over kernel.history n)) ≡ true
-    passes = find_passes (λ n. (caller_of kernel.history n == thread) && not (is_over kernel.history n)) n (numbers kernel.history) e
-
-    caller : caller_of kernel.history n ≡ thread
-    caller =
-        eqb-true (caller_of kernel.history n) thread (left (caller_of kernel.history n == thread) (not (is_over kernel.history n)) passes)
-
-    running : is_over kernel.history n ≡ false
-    running = refuted (is_over kernel.history n) (right (caller_of kernel.history n == thread) (not (is_over kernel.history n)) passes)
-
-    live : is_live kernel.history thread ≡ true
-    live = ap (is_live kernel.history) (sym caller) ∙ caller_lives kernel.history sound.legal n running
-
-    last : last_call kernel.history thread ≡ Some n
-    last = ap (last_call kernel.history) (sym caller) ∙ open_is_last kernel.history sound.legal n running
-
-    fresh : is_among n kernel.taken ≡ false
-    fresh = false_from_ne_true (is_among n kernel.taken)
-        (λ among. not_both (all_among kernel.history kernel.taken n sound.taken among).over running)
-
--- a thread is busy where it has a call that was not taken
-pub busy_is : (kernel : KernelParts) (thread : ℕ) → IsSound kernel → is_busy kernel thread ≡ has_untaken kernel thread
-unfolding is_busy
-busy_is kernel thread sound = go (open_call kernel.history thread) refl
-  where
-    go : (o : Option ℕ) → open_call kernel.history thread ≡ o
-        → (is_some (open_call kernel.history thread) || has_untaken kernel thread) ≡ has_untaken kernel thread
-    go None e = rw e refl
-    go (Some n) e = rw e (sym (open_untaken kernel thread n sound e))
 
 -- a thread that lives still lives behind entries that do not end it
 pub lives_on : (P Q : List Entry) (t : ℕ) → list_any (breaks t) Q ≡ false → is_live P t ≡ true → is_live (P ++ Q) t ≡ true

@@ -27,13 +27,12 @@ use Rattle.ipc_core.specs.KernelParts.{KernelParts}
 use Rattle.ipc_core.specs.Outcomes.{has_untaken, outcome_to_take}
 use Rattle.ipc_core.specs.declared.command.Command.{Command}
 use Rattle.ipc_core.specs.declared.command.Command.TheVariants.{Take}
-use Rattle.ipc_core.proofs.BusyLaws.{no_call}
+use Rattle.ipc_core.proofs.BusyLaws.{no_call, busy_is}
 use Rattle.ipc_core.proofs.IdleLaws.{idle_has_nothing}
 use Rattle.ipc_desks.specs.CallsOf.{last_call}
 use Rattle.ipc_desks.proofs.LastCalls.{last_push, new_call_at}
 use Rattle.l4sh_script.specs.Script.{is_act, is_call, is_done, is_left, is_untaken, last_take, last_takes, take_if}
 use Rattle.l4sh_script.proofs.Untaken.{untaken_last, untaken_more, untaken_none}
-use Rattle.l4sh_script.proofs.Busy.{busy_is}
 use Rattle.l4sh_script.proofs.Fronts.{follows_next, given_parts}
 use Rattle.l4sh_script.proofs.Runs.{Leads, leads_append, leads_none, leads_one}
 use Rattle.l4sh_script.proofs.Stages.{Stage}

@@ -33,14 +33,14 @@ use Rattle.ipc_core.specs.declared.command.Answer.{Answer}
 use Rattle.ipc_core.specs.declared.command.Answer.TheVariants.{Opened, Entered, Exchanged, Done, Advanced}
 use Rattle.ipc_core.specs.declared.command.Command.{Command}
 use Rattle.ipc_core.specs.declared.command.Command.TheVariants.{Open, Enter, Exreg, Broke, Advance}
-use Rattle.ipc_core.proofs.BusyLaws.{entered_is_busy}
+use Rattle.ipc_core.proofs.BusyLaws.{entered_is_busy, busy_is}
 use Rattle.ipc_core.proofs.EnteringLemmas.{entered}
 use Rattle.ipc_core.proofs.OpeningLemmas.{InRange}
 use Rattle.ipc_core.proofs.RefusalLemmas.{open_allowed, exreg_allowed}
 use Rattle.ipc_core.proofs.SoundLaws.{stays_sound}
 use Rattle.l4sh_script.specs.Replays.{FindsRoom}
 use Rattle.l4sh_script.specs.Script.{is_untaken}
-use Rattle.l4sh_script.proofs.Busy.{busy_is, ended_in, ended_untaken, untaken_falls}
+use Rattle.l4sh_script.proofs.Busy.{ended_in, ended_untaken, untaken_falls}
 use Rattle.l4sh_script.proofs.Runs.{Leads, leads_one}
 use Rattle.l4sh_script.proofs.Stages.{ReadyBut, Stage, Stands, admitted, after, ahead, stands_after, takes}
 

@@ -21,14 +21,14 @@ use Rattle.ipc_core.specs.Outcomes.{has_untaken, is_among, is_busy, outcome_to_t
 use Rattle.ipc_core.specs.Steps.{taken_after}
 use Rattle.ipc_core.specs.declared.command.Answer.TheVariants.{Taken}
 use Rattle.ipc_core.specs.declared.command.Command.TheVariants.{Take}
-use Rattle.ipc_core.proofs.BusyLaws.{taken_is_idle}
+use Rattle.ipc_core.proofs.BusyLaws.{taken_is_idle, busy_is}
 use Rattle.ipc_core.proofs.IdleLaws.{idle_has_nothing}
 use Rattle.ipc_core.proofs.OutcomeCall.{outcome_call}
 use Rattle.ipc_core.proofs.SoundLaws.{stays_sound}
 use Rattle.ipc_desks.specs.CallsOf.{is_busy as waits, last_call, outcome_to_take as waiting}
 use Rattle.ipc_desks.proofs.LastCalls.{last_is}
 use Rattle.l4sh_script.specs.Replays.{IsDone}
-use Rattle.l4sh_script.proofs.Busy.{busy_is, untaken_falls}
+use Rattle.l4sh_script.proofs.Busy.{untaken_falls}
 use Rattle.l4sh_script.proofs.Stages.{Stage}
 
 -- the outcome of a call that is over, while its caller lives

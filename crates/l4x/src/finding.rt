@@ -1,7 +1,7 @@
 //! Where a thread is: by its number, or by its name.
-use crate::messages::{code_of, next_of};
-use crate::names::{Standing, message_with_name, name_buffer, standing_of};
+use crate::messages::{code_of, message_with_name, name_buffer, next_of};
 use crate::naming::{LOOK_UP, NAMES_NUMBER, NameError, REGISTER};
+use crate::standing::{Standing, standing_of};
 use crate::trouble::Trouble;
 use ipc_client::{Answer, Client, Message, Received, Timeout};
 use ipc_ports::{PortRead, PortWrite};

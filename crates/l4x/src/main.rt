@@ -13,6 +13,7 @@ mod names;
 mod naming;
 mod role;
 mod sleeper;
+mod standing;
 mod table;
 mod trouble;
 

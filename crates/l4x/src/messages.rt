@@ -1,4 +1,5 @@
-//! What comes back from the server.
+//! What is sent, and what comes back from the server.
+use crate::table::MAX_NAME_BYTES;
 use crate::trouble::Trouble;
 use ipc_client::{Answer, Buffers, Client, Failure, Greeting, Message, Timeout};
 use ipc_items::StringList;
@@ -81,4 +82,35 @@ pub fn message(alloc: Global, label: u64, words: &[u64]) -> Result<Message, Trou
     let message = Message::of(alloc, label, words, &strings);
     drop(strings);
     Ok(message?)
+}
+
+/// One string of the length of a name.
+pub fn name_buffer(alloc: Global) -> Result<Buffers, Trouble> {
+    Ok(Buffers::bytes(alloc, MAX_NAME_BYTES as u64)?)
+}
+
+// Puts a name into the strings of a message.
+fn put_name(alloc: Global, strings: &mut StringList, name: &[u8]) -> Result<(), Trouble> {
+    match strings.push(alloc, name) {
+        Ok(true) => Ok(()),
+        Ok(false) => Err(Trouble::LongMessage),
+        Err(_) => Err(Trouble::NoMemory),
+    }
+}
+
+/// A message of words and a name.
+pub fn message_with_name(
+    alloc: Global,
+    label: u64,
+    words: &[u64],
+    name: &[u8],
+) -> Result<Message, Trouble> {
+    let mut strings = StringList::new(alloc);
+    let put = put_name(alloc, &mut strings, name);
+    let message = match put {
+        Ok(()) => Message::of(alloc, label, words, &strings).map_err(Trouble::from),
+        Err(trouble) => Err(trouble),
+    };
+    drop(strings);
+    message
 }

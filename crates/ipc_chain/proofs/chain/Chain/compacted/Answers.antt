@@ -1,7 +1,7 @@
 use Rattle.std.proofs.Common.{◌∙◌, sym, ap}
 use Rattle.ipc_compact.specs.Compact.{kept_of}
-use Rattle.ipc_core.proofs.CompactLemmas.{open_kept}
-use Rattle.ipc_chain.proofs.Keeping.{held_kept, judged_compacted, passes_is}
+use Rattle.ipc_core.proofs.CompactLemmas.{open_kept, passes_is}
+use Rattle.ipc_chain.proofs.Keeping.{held_kept, judged_compacted}
 use Rattle.ipc_chain.proofs.chain.Chain.compacted.Goals as goal
 
 pub compact-requires-clause-called : goal.compact-requires-clause-called

@@ -1,7 +1,7 @@
 use Rattle.std.proofs.Common.{◌≡◌, [], ◌∷◌, Some, ◌∙◌, None, refl}
 use Rattle.ipc_lines.proofs.ListTexts.{field_at, two_of}
 use Rattle.ipc_lines.proofs.Options.{none_not_some, some_same}
-use Rattle.ipc_lines.proofs.reading.read_thread_and_number.Goals as goal
+use Rattle.ipc_lines.proofs.reading.values.read_thread_and_number.Goals as goal
 
 pub returns-clause-found : goal.returns-clause-found
 returns-clause-found c =

@@ -1,7 +1,7 @@
 use Rattle.std.proofs.Common.{◌≡◌, [], ◌∷◌, Some, ◌∙◌, None, refl}
 use Rattle.ipc_lines.proofs.ListTexts.{field_at, three_of}
 use Rattle.ipc_lines.proofs.Options.{none_not_some, some_same}
-use Rattle.ipc_lines.proofs.reading.read_threads_and_control.Goals as goal
+use Rattle.ipc_lines.proofs.reading.values.read_threads_and_control.Goals as goal
 
 pub returns-clause-only : goal.returns-clause-only
 returns-clause-only c thread dest control is_thread is_dest masked e =

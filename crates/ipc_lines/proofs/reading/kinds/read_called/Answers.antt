@@ -5,7 +5,7 @@ use Rattle.ipc_history.specs.declared.entry.Input.TheVariants.{Called}
 use Rattle.ipc_lines.specs.Reading.{texts_of}
 use Rattle.ipc_lines.proofs.Naming.{first_same, rest_same}
 use Rattle.ipc_lines.proofs.Options.{some_same}
-use Rattle.ipc_lines.proofs.reading.read_called.Goals as goal
+use Rattle.ipc_lines.proofs.reading.kinds.read_called.Goals as goal
 
 pub returns-in-Some-read_decimal-clause-only : goal.returns-in-Some-read_decimal-clause-only
 returns-in-Some-read_decimal-clause-only c number thread call is_number is e =

@@ -2,7 +2,7 @@ use Rattle.std.proofs.Common.{◌≡◌, [], ◌∷◌, Some, ap, sym, ◌∙◌
 use Rattle.ipc_lines.specs.Texts.{hex_text}
 use Rattle.ipc_lines.proofs.ListTexts.{field_at, two_of}
 use Rattle.ipc_lines.proofs.Options.{none_not_some, some_same}
-use Rattle.ipc_lines.proofs.reading.read_number_and_code.Goals as goal
+use Rattle.ipc_lines.proofs.reading.values.read_number_and_code.Goals as goal
 
 pub returns-clause-found : goal.returns-clause-found
 returns-clause-found c =

@@ -2,7 +2,7 @@ use Rattle.std.proofs.Common.{Some, IsTrue, ap, sym, subst, ◌∙◌, None, ref
 use Rattle.ipc_words.specs.Control.{is_masked}
 use Rattle.ipc_lines.proofs.Limits.{masked_word}
 use Rattle.ipc_lines.proofs.Options.{none_not_some, some_same, some_value}
-use Rattle.ipc_lines.proofs.reading.read_control.Goals as goal
+use Rattle.ipc_lines.proofs.reading.values.read_control.Goals as goal
 
 pub returns-in_err-read_hex-clause-only : goal.returns-in_err-read_hex-clause-only
 returns-in_err-read_hex-clause-only c control masked e =

@@ -1,0 +1,95 @@
+//! An answer is sent, and the next request received.
+use super::Served;
+use crate::messages::{message, message_with_name, name_buffer, next_of};
+use crate::naming::Reply;
+use crate::trouble::Trouble;
+use ipc_client::{Client, Message, Received, Timeout};
+use ipc_ports::{PortRead, PortWrite};
+use ipc_words::ThreadId;
+use std::alloc::Global;
+
+/// Sends what is answered, and has the next request.
+pub(super) fn answer<I: PortRead, O: PortWrite>(
+    alloc: Global,
+    client: &mut Client<I, O>,
+    sender: ThreadId,
+    served: Served,
+) -> Result<Option<Received>, Trouble> {
+    let Served { reply, next } = served;
+    let message = message_of(alloc, &reply);
+    drop(reply);
+    match message {
+        Ok(message) => send_answer(alloc, client, sender, message, next),
+        Err(trouble) => {
+            drop(next);
+            Err(trouble)
+        }
+    }
+}
+
+// The message of a reply.
+fn message_of(alloc: Global, reply: &Reply) -> Result<Message, Trouble> {
+    let thread = reply.thread.to_word();
+    match &reply.name {
+        Some(name) => message_with_name(alloc, reply.label, &[thread], name.as_slice()),
+        None => message(alloc, reply.label, &[thread]),
+    }
+}
+
+// Sends the message of an answer, and has the next request: the one that is there already, or the
+// next that comes.
+fn send_answer<I: PortRead, O: PortWrite>(
+    alloc: Global,
+    client: &mut Client<I, O>,
+    sender: ThreadId,
+    message: Message,
+    next: Option<Received>,
+) -> Result<Option<Received>, Trouble> {
+    match next {
+        Some(next) => answer_meanwhile(client, sender, message, next),
+        None => answer_and_wait(alloc, client, sender, message),
+    }
+}
+
+// Answers while the next request is there already, which is given back.
+fn answer_meanwhile<I: PortRead, O: PortWrite>(
+    client: &mut Client<I, O>,
+    sender: ThreadId,
+    message: Message,
+    next: Received,
+) -> Result<Option<Received>, Trouble> {
+    match send_at_once(client, sender, message) {
+        Ok(()) => Ok(Some(next)),
+        Err(trouble) => {
+            drop(next);
+            Err(trouble)
+        }
+    }
+}
+
+// Sends a message to a thread that waits for it. One that does not gets none.
+fn send_at_once<I: PortRead, O: PortWrite>(
+    client: &mut Client<I, O>,
+    to: ThreadId,
+    message: Message,
+) -> Result<(), Trouble> {
+    let answer = client.send(to, message, Timeout::zero())?;
+    drop(next_of(answer)?);
+    Ok(())
+}
+
+// Answers, and receives the next request.
+fn answer_and_wait<I: PortRead, O: PortWrite>(
+    alloc: Global,
+    client: &mut Client<I, O>,
+    sender: ThreadId,
+    message: Message,
+) -> Result<Option<Received>, Trouble> {
+    match name_buffer(alloc) {
+        Ok(buffers) => next_of(client.reply_wait(sender, message, Timeout::never(), buffers)?),
+        Err(trouble) => {
+            drop(message);
+            Err(trouble)
+        }
+    }
+}

@@ -1,0 +1,42 @@
+//! Whether a thread is live.
+use crate::messages::{code_of, name_buffer, next_of};
+use crate::trouble::Trouble;
+use ipc_client::{Answer, Client, Received, Timeout};
+use ipc_ports::{PortRead, PortWrite};
+use ipc_words::ThreadId;
+use std::alloc::Global;
+
+/// The ErrorCode of a receive phase whose partner does not exist.
+const GONE: u64 = 0x5;
+
+/// What the kernel says of a thread.
+#[derive(Drop)]
+pub enum Standing {
+    /// It has ended.
+    Ended,
+    /// It is live, and this request of it was taken meanwhile, if any.
+    Live(Option<Received>),
+}
+
+/// Asks the kernel whether a thread is live: a closed receive from it, with zero time.
+///
+/// A live thread notices nothing of it, but where it is just sending a request: this is taken then.
+pub fn standing_of<I: PortRead, O: PortWrite>(
+    alloc: Global,
+    client: &mut Client<I, O>,
+    thread: ThreadId,
+) -> Result<Standing, Trouble> {
+    let answer = client.receive(thread, Timeout::zero(), name_buffer(alloc)?)?;
+    standing_by(answer)
+}
+
+// What the outcome of such a receive says.
+fn standing_by(answer: Answer) -> Result<Standing, Trouble> {
+    let is_gone = code_of(&answer) == Some(GONE);
+    let next = next_of(answer)?;
+    if is_gone {
+        drop(next);
+        return Ok(Standing::Ended);
+    }
+    Ok(Standing::Live(next))
+}

@@ -1,12 +1,13 @@
 #!/usr/bin/env python3
-"""page_programs.py L4D: each Python program of the pages and the examples, beside a client that does the worst.
+"""page_programs.py L4D [--times N]: each Python program of the pages and the examples, beside a client that does the worst.
 
 The programs are taken from the pages as they stand there. Each one that serves is started beside an `l4d` and a name server of this check. A client then
 sends what it does not expect: strings, two in a row, strings of 100,000 bytes, flags and labels, messages of which the sender ends while it is answered,
 cancellations. After each of these the program is asked once more, properly, and has to give its answer. At the end `l4d` is stopped, and the program has to
 end within seconds. Each program that asks has to print what its page says. A program of a page that stands in no row of this check is a failure.
 
-README's block is run as one, as somebody pastes it, and has to print its answer each time.
+README's block is run as one, as somebody pastes it: as the words of a shell, as its input, and at a terminal, as keys and as a paste, and as
+keys in zsh where that is there. It has to print its answer each time. With --times N it is run so many times in each of these forms, and nothing else is looked at.
 
 Its last line is `N checked, M failed`; the status is 0 where M is 0.
 """
@@ -21,6 +22,7 @@ from dataclasses import dataclass, field
 
 sys.path[1:1] = [f"{sys.path[0]}/../lib", f"{sys.path[0]}/../../clients/python/src"]
 
+import pasting
 from counting import Tally
 from frames import ANY, ipc
 from kit import ROOT
@@ -34,6 +36,7 @@ from serving import Client, Server, ended
 PAGES = ["README.md", "clients/python/README.md", "docs/TUTORIAL.md", "docs/NAMES.md"]
 EXAMPLES = ["examples/echo.py", *(f"clients/python/examples/{name}.py" for name in ("cancel", "driver", "gateway", "pager", "pingpong", "string_copy"))]
 SECONDS_TO_END = 15
+TIMES = 5
 PAGE_FAULT = -2 << 4 & MAX_LABEL
 WORST, ASKER, OTHER = 900, 901, 902
 QUICK = timeouts(1, 0.2)
@@ -356,24 +359,27 @@ def waits(l4d, programs, key):
         ends_with_l4d(running, name, process)
 
 
-def pasted(l4d, times):
-    """README's block of two processes, as one script; the programs of `l4d` and of the client's package are those of this tree."""
+def block_works(l4d, times):
+    """README's block of two processes, as one; the programs of `l4d` and of the client's package are those of this tree."""
     (block,) = re.findall(r"^```sh\n(cat > server\.py <<'END'.*?)^```$", text_of("README.md"), re.S | re.M)
-    failures = []
-    for _ in range(times):
-        with tempfile.TemporaryDirectory() as folder:
-            os.symlink(l4d, f"{folder}/l4d")
-            os.symlink(f"{ROOT}/clients", f"{folder}/clients")
-            script = f"{block}kill %1; wait; rm -r $dir\n"
-            ran = subprocess.run(["bash", "-m", "-c", script], cwd=folder, stdin=subprocess.DEVNULL, capture_output=True, text=True)
-            if ran.stdout.splitlines()[-1:] != ["42"]:
-                failures.append(ran.stdout + ran.stderr[-1500:])
-    check(f"README's block as one, {times} times", not failures, f"{len(failures)} failed: {failures[:1]}")
+    for form in pasting.FORMS:
+        failures = []
+        for _ in range(times):
+            with tempfile.TemporaryDirectory() as folder:
+                os.symlink(l4d, f"{folder}/l4d")
+                os.symlink(f"{ROOT}/clients", f"{folder}/clients")
+                said = form(block, "kill %1; wait; rm -r $dir; exit\n", folder)
+                if "42" not in said.splitlines():
+                    failures.append(said[-2000:])
+        check(f"README's block as one, {form.__name__}, {times} times", not failures, f"{len(failures)} failed: {failures[:1]}")
 
 
 def main():
     l4d = os.path.abspath(sys.argv[1])
-    pasted(l4d, 10)
+    if sys.argv[2:]:
+        block_works(l4d, int(sys.argv[3]))
+        return tally.end()
+    block_works(l4d, TIMES)
     with tempfile.TemporaryDirectory() as folder:
         programs = all_programs(folder)
         for kind, table in ((survives, SERVES), (prints, ASKS), (waits, WAITS)):
@@ -384,6 +390,6 @@ def main():
 
 
 if __name__ == "__main__":
-    if len(sys.argv) != 2:
+    if sys.argv[2:3] not in ([], ["--times"]) or len(sys.argv) not in (2, 4):
         sys.exit(__doc__)
     sys.exit(main())

@@ -69,19 +69,21 @@ def commit():
 NO_KIT = """#!/usr/bin/env python3
 import sys
 if sys.argv[1:] != ["version"]:
-    sys.exit(1)
+    sys.exit("refused\\n" * 20_000)
 print("{}")
 """
 
 
 def kits():
-    """./build, ./test and ./try say in their first line where the kit has another logic, and nothing of a kit with another letter alone."""
+    """./build, ./test and ./try say in their first line where the kit has another logic, and nothing of a kit with another letter alone. All end that say
+    much, and ./try tells it."""
     made_with, facts = ["build", "test", "try", "crates.txt", "checks/lib/kit.py", "crates/l4sh_options/src/version.rt"], 0
     for kit, is_other in ((f"any-kit logic {proved_with()}", False), ("any-kit logic 0123456789abcdef", True)):
         with tempfile.TemporaryDirectory() as place:
             for name in made_with:
                 os.makedirs(os.path.dirname(f"{place}/{name}"), exist_ok=True)
                 shutil.copy(f"{ROOT}/{name}", f"{place}/{name}")
+            os.mkdir(f"{place}/crates/ipc_server")
             with open(f"{place}/rt", "w") as file:
                 file.write(NO_KIT.format(kit))
             os.chmod(f"{place}/rt", 0o755)
@@ -89,6 +91,7 @@ def kits():
                 told = run(f"{place}/{words[0]}", *words[1:], env={**os.environ, "PATH": f"{place}:{os.environ['PATH']}"})
                 first = told.stderr.partition("\n")[0]
                 assert told.returncode == 1 and (f"this kit is `{kit}`" in first) == is_other == ("proved with logic" in told.stderr), (words, kit, told)
+                assert words[0] != "try" or told.stderr.count("refused\n") == 20_000, told.stderr[-400:]
                 facts += 1
     return facts
 

@@ -172,10 +172,10 @@ def functions_of_headers():
 
 def check_library(programs, l4d, room):
     """clients/c/build makes the same bytes twice, exports what the headers declare, and a program is compiled and linked as l4ipc.pc says, with
-    either library, and runs."""
+    either library, and runs. With no PREFIX l4ipc.pc names the folder in which it stands."""
     folders = [os.path.join(room, name) for name in ("library", "library again")]
     for folder in folders:
-        subprocess.run([os.path.join(CLIENT, "build"), folder, folders[0], os.path.join(folders[0], "lib")], check=True)
+        subprocess.run([os.path.join(CLIENT, "build"), folder], check=True)
     shared, static = "libl4ipc.so.1.0.0", "libl4ipc.a"
     for name in (shared, static, "pkgconfig/l4ipc.pc"):
         assert len({open(os.path.join(folder, "lib", name), "rb").read() for folder in folders}) == 1, f"{name} has other bytes"
@@ -184,8 +184,8 @@ def check_library(programs, l4d, room):
     names = subprocess.run(["nm", "-D", "--defined-only", os.path.join(library, shared)], check=True, capture_output=True, text=True).stdout
     exported = {line.split()[2].split("@")[0] for line in names.splitlines() if line.split()[1] == "T"}
     assert exported == functions_of_headers(), exported ^ functions_of_headers()
-    text = open(os.path.join(library, "pkgconfig", "l4ipc.pc")).read()
-    for _ in range(2):
+    text = f"pcfiledir={library}/pkgconfig\n" + open(os.path.join(library, "pkgconfig", "l4ipc.pc")).read()
+    for _ in range(3):
         text = re.sub(r"\$\{(\w+)\}", lambda name: re.search(rf"^{name[1]}=(.*)$", text, re.M)[1], text)
     words = lambda field: re.search(rf"^{field}: (.*)$", text, re.M)[1].split()
     source = os.path.join(room, "three_lines.c")

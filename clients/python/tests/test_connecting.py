@@ -1,11 +1,13 @@
 """Connecting, and waiting for a partner: what is waited for, and what is said of it."""
 
+import gc
 import shutil
 import socket
 import tempfile
 import threading
 import time
 import unittest
+import warnings
 
 import l4ipc
 from l4ipc import Message, Thread, ThreadId
@@ -65,15 +67,34 @@ class Connecting(unittest.TestCase):
 
     def test_no_path(self):
         began = time.monotonic()
-        error = self.fails(FileNotFoundError, "/nope", "/nope/space1", "start l4d --dir")
+        error = self.fails(FileNotFoundError, "/nope", "/nope/space1", "start l4d --dir", "was not waited for")
         self.assertEqual(error.filename, "/nope/space1")
-        self.fails(FileNotFoundError, "/nope", "/nope/space1", wait_for=0.2)
+        self.fails(FileNotFoundError, "/nope", "/nope/space1", "after waiting for 0.2 seconds", wait_for=0.2)
         self.assertTrue(0.2 <= time.monotonic() - began < 5)
 
     def test_nobody_listens(self):
         with Listener() as there:
             there.listens().listener.close()
             self.fails(ConnectionRefusedError, there.folder, there.path, "has ended")
+
+    def test_who_drops_a_thread_ends_its_connection(self):
+        thread, server = scripted(b"", ends=False)
+        gc.disable()
+        try:
+            with server, warnings.catch_warnings():
+                warnings.simplefilter("ignore", ResourceWarning)
+                del thread
+                server.settimeout(5)
+                self.assertEqual([server.recv(100)[4], server.recv(100)], [1, b""])
+        finally:
+            gc.enable()
+
+    def test_an_end_is_told_as_one_error(self):
+        thread, server = scripted(b"")
+        with server, self.assertRaises(l4ipc.Closed) as caught:
+            thread.wait()
+        self.assertIsNone(caught.exception.__cause__)
+        self.assertTrue(caught.exception.__suppress_context__)
 
     def test_a_path_that_is_there_later(self):
         with Listener([WELCOME], after=0.3) as there:

@@ -273,7 +273,7 @@ class Thread(Caller):
             answer = await self._exchange(self._connection, frame, call)
         except (OSError, EOFError) as end:
             self._close()
-            raise Closed(f"{self!r}: the connection has ended, with l4d or by it") from end
+            raise Closed(f"{self!r}: the connection has ended, with l4d or by it") from (None if isinstance(end, EOFError) else end)
         finally:
             self._is_open = False
         if isinstance(answer, kind):

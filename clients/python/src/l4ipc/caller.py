@@ -1,5 +1,6 @@
 """What a thread knows of itself, whether its calls block or are coroutines."""
 
+import weakref
 from typing import Optional, Union
 
 from . import arguments, calls, frames
@@ -33,8 +34,10 @@ class Caller:
         self._taken = b""
         self._is_closed = False
         self._is_lost = False
-        self._book = Book(self, timeout=NAMES_TIMEOUT)
-        self._keeper = Book(self, timeout=KEEPING_TIMEOUT)
+        # (no circle: who drops a thread ends its connection at once)
+        own = weakref.proxy(self)
+        self._book = Book(own, timeout=NAMES_TIMEOUT)
+        self._keeper = Book(own, timeout=KEEPING_TIMEOUT)
 
     def __repr__(self) -> str:
         path = f" at {self._place.path}" if self._place.path else ""

@@ -23,7 +23,7 @@ MAX_SPACE = protocol.MAX_SPACE
 """The greatest number of a space: l4d has no path beyond it."""
 
 _HELP = {
-    errno.ENOENT: "no such path: start l4d --dir DIR with the folder DIR, or wait for it by wait_for=",
+    errno.ENOENT: "no such path{}: start l4d --dir DIR with the folder DIR",
     errno.ECONNREFUSED: "nobody listens at that path, since its l4d has ended",
     errno.EACCES: "no permission to connect: who may is in the mode of the path and of its folder",
     errno.ETIMEDOUT: "l4d does not answer: it is full (its --live and --keep-open, and its descriptors), or it is stopped",
@@ -80,7 +80,8 @@ def explained(error: Exception, place: Place) -> Exception:
     number = errno.ETIMEDOUT if isinstance(error, (socket.timeout, BlockingIOError)) else error.errno
     if number is None:
         return OSError(errno.EINVAL, str(error), place.path)
-    return OSError(number, _HELP.get(number, os.strerror(number)), place.path)
+    waited = f", after waiting for {place.wait_for:g} seconds" if place.wait_for else ", and it was not waited for (wait_for=)"
+    return OSError(number, _HELP.get(number, os.strerror(number)).format(waited), place.path)
 
 
 def welcomed(answer: frames.Answer) -> ThreadId:

@@ -406,7 +406,7 @@ class Thread(Caller):
             return self._hear()
         except (OSError, EOFError) as end:
             self._close()
-            raise Closed(f"{self!r}: the connection has ended, with l4d or by it") from end
+            raise Closed(f"{self!r}: the connection has ended, with l4d or by it") from (None if isinstance(end, EOFError) else end)
         except BaseException:
             self._close()
             raise

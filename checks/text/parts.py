@@ -5,7 +5,8 @@ The histories are those of the scripts in checks/scripts/run and of the examples
 begins, with the outcomes taken or not. Of the files of one history `l4sh check` has to say `yes`. Then one line at a time of a base, or of what is kept, is
 changed, left out or put twice; the files come in another order, one comes twice, one is empty, torn, or no part; and an entry does not follow. Each time the
 file and the line have to be told that are at fault, and for an entry what the whole trace is told. For nearly all parts that stand alone a history is found that ends
-as they say.
+as they say. Then `state` and `follow` tell of such a part what they tell of the whole trace there, and `l4sh part` writes behind it what it writes
+behind the files of the whole.
 
 Of the files of one history `state`, `count`, `chart`, `follow` and `script` print what they print of the trace in one file; of files that are no history
 nothing, and the words of `check`. The last line is `N passed, M failed`."""
@@ -112,6 +113,24 @@ def faults_of_parts_alone(files, header, lines):
             if not found and ((printed, status) != (b"", 6) or b"no history was found" not in told):
                 yield False, f"alone from {place}: {(printed, status, told)}"
             yield found, ""
+            if found:
+                yield from ((True, f"alone from {place}: {it}") for it in faults_of_begun(files, header, lines, place, begun))
+
+
+def faults_of_begun(files, header, lines, place, begun):
+    """What the readers tell of a part that stands alone, where that is something else than they tell of the whole trace."""
+    whole, alone = header + b"".join(lines), begun + b"".join(lines[place:])
+    wanted, told = files.read(["state"], whole), files.read(["state"], alone)
+    # (what was dropped before a part is not told by it)
+    if wanted != told and b"dropped" not in wanted[0]:
+        yield f"state tells {told}, wanted is {wanted}"
+    wanted, told = files.read(["follow"], whole), files.read(["follow"], alone)
+    behind = [(int(number) - place, text) for number, _, text in (it.partition(b"  ") for it in wanted[0].splitlines()) if int(number) > place]
+    if told[1:] != (0, b"") or [(int(number), text) for number, _, text in (it.partition(b"  ") for it in told[0].splitlines())] != behind:
+        yield f"follow tells {told}, wanted is {behind}"
+    wanted, told = files.part(header + b"".join(lines[:place]), alone), files.part(alone)
+    if wanted != told:
+        yield f"the part behind it is {told}, wanted is {wanted}"
 
 
 def with_greater(line):

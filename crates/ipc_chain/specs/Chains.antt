@@ -70,6 +70,11 @@ IsChain entries parts = ChainFrom entries [] 0 parts
 abbrev pub begun : PartParts → PartParts
 begun part = record { base = part.base; kept = part.kept; entries = [] }
 
+-- the entries of these parts, one part behind the other
+abbrev pub entries_of : List PartParts → List Entry
+entries_of [] = []
+entries_of (part ∷ parts) = part.entries ++ entries_of parts
+
 -- behind some history that ends as the first of these parts says, they are one history with it
 abbrev pub HasBefore : List PartParts → Type 0
 HasBefore parts = (before : List Entry) × IsChain before parts

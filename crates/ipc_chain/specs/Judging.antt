@@ -14,7 +14,8 @@ use Rattle.ipc_compact.specs.Later.{AreAmong}
 use Rattle.ipc_compact.specs.Places.{WasPlaced}
 use Rattle.ipc_partners.specs.Kept.{TookOthers}
 use Rattle.ipc_partners.specs.PastPartners.{PastPartners}
-use Rattle.ipc_chain.specs.Chains.{BeginsAt}
+use Rattle.ipc_part.specs.Parts.{PartParts}
+use Rattle.ipc_chain.specs.Chains.{BeginsAt, ChainFrom, IsChain, entries_of}
 
 -- the entries so far, what memory holds of them, the calls whose outcome was surely taken, and how
 -- many takes the last part told
@@ -97,3 +98,10 @@ pub record Joins (old new : ChainParts) (base : Base) (kept : List Entry) : Type
 pub record SaysAs (H : List Entry) (taken : List ℕ) (base : Base) (kept : List Entry) : Type 0 where
   pub kept_is : kept_of H taken ≡ kept
   pub base_is : record (base_of H taken) { takes = base.takes } ≡ base
+
+-- the entries so far are those of some history that ends as the first of these parts says, and then
+-- those of the parts; what stands behind the entries stands behind the parts
+pub record StandsBehind (parts : List PartParts) (chain : ChainParts) : Type 0 where
+  pub before : List Entry
+  pub past : chain.past ≡ before ++ entries_of parts
+  pub goes : (rest : List PartParts) → ChainFrom chain.past chain.taken chain.told rest → IsChain before (parts ++ rest)

@@ -1,11 +1,11 @@
 //! The part that begins where several files end.
-ghost use Rattle.std.specs.Prelude.{◌≡◌, map, IfOk};
+ghost use Rattle.std.specs.Prelude.{◌≡◌, ◌∷◌, map, IfOk, Some};
 ghost use Rattle.ipc_chain.specs.Chains.{parts_of};
-ghost use Rattle.ipc_chain.specs.Putting.{PutsBehind};
+ghost use Rattle.ipc_chain.specs.Putting.{PutsBehind, PutsBehindParts};
 ghost use Rattle.ipc_chain.specs.declared.behind.Put.TheVariants.{Done};
 
 use crate::chain::Chain;
-use crate::verdict::{ChainVerdict, walk_files};
+use crate::verdict::{Behind, ChainVerdict, chain_behind, walk_files};
 use ipc_history::{Entry, Output};
 use ipc_part::Part;
 use ipc_ports::PortWrite;
@@ -52,5 +52,33 @@ pub fn put_behind<P: PortWrite>(
             let put = chain.put_part(is_untaken, trace)?;
             Ok(put)
         }
+    }
+}
+
+/// The same of parts alone, of which the first begins in the middle of a history: one is looked for
+/// that ends so. None where none was found: there may be one.
+///
+/// # Errors
+///
+/// Where memory is refused.
+pub fn put_behind_parts<P: PortWrite>(
+    alloc: Global,
+    first: Part,
+    parts: Vec<Part>,
+    is_untaken: bool,
+    trace: &mut TraceWriter<P>,
+) -> Result<Option<Put>, AllocError>
+    ensures { IfOk result (λ put. put ≡ Some Done
+        → PutsBehindParts (parts_of first ∷ map parts_of parts.items) trace.old trace.new) }
+{
+    match chain_behind(alloc, first, parts)? {
+        Behind::Whole(chain) => {
+            let mut chain = chain;
+            chain.legal();
+            let put = chain.put_part(is_untaken, trace)?;
+            Ok(Some(put))
+        }
+        Behind::No(verdict) => Ok(Some(Put::No(verdict))),
+        Behind::Unknown => Ok(None),
     }
 }

@@ -85,7 +85,9 @@ impl Chain {
     }
 
     /// What the history says of each thread number.
-    pub(crate) fn slots(&self) -> &Slots {
+    pub fn slots(&self) -> &Slots
+        ensures { result.now.past ≡ self.now.past }
+    {
         &self.slots
     }
 

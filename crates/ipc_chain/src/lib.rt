@@ -9,7 +9,7 @@ mod same;
 mod verdict;
 mod witness;
 
-pub use behind::{Put, put_behind};
+pub use behind::{Put, put_behind, put_behind_parts};
 pub use chain::Chain;
 pub use difference::{Difference, lines_before};
-pub use verdict::{ChainVerdict, check_chain, check_parts};
+pub use verdict::{Behind, ChainVerdict, chain_behind, check_chain, check_parts};

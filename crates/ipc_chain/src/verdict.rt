@@ -1,8 +1,9 @@
 ghost use Rattle.std.specs.Prelude.{◌≡◌, ◌≢◌, ◌↔◌, [], ◌∷◌, ◌++◌, List, map, IfOk, IfSome, IsTrue, None, Some};
 ghost use Rattle.ipc_check.specs.Faults.{IsFirstFaultAfter};
 ghost use Rattle.ipc_part.specs.Parts.{PartParts};
-ghost use Rattle.ipc_chain.specs.Chains.{BreaksBehind, ChainFrom, FollowsEach, HasBefore, IsChain, begun, has_joined, parts_of};
-ghost use Rattle.ipc_chain.specs.Judging.{Walks};
+ghost use Rattle.ipc_chain.specs.Chains.{BreaksBehind, ChainFrom, FollowsEach, HasBefore, IsChain, begun, entries_of, has_joined, parts_of};
+ghost use Rattle.ipc_chain.specs.Finding.{IfBroken, IfWhole};
+ghost use Rattle.ipc_chain.specs.Judging.{StandsBehind, Walks};
 ghost use Rattle.ipc_chain.specs.declared.verdict.ChainVerdict.TheVariants.{NoEntry, Yes};
 
 use crate::chain::{Chain, NotNext};
@@ -89,24 +90,53 @@ pub fn check_parts(
     ensures no { IfOk result (λ verdict. IfSome verdict (λ verdict. verdict ≢ Yes
         → BreaksBehind (parts_of first) (map parts_of parts.items))) }
 {
+    match chain_behind(alloc, first, parts)? {
+        Behind::Whole(chain) => {
+            chain.legal();
+            Ok(Some(ChainVerdict::Yes))
+        }
+        Behind::No(verdict) => Ok(Some(verdict)),
+        Behind::Unknown => Ok(None),
+    }
+}
+
+/// What is found of the entries of parts, of which the first begins in the middle of a history.
+#[derive(Drop)]
+pub enum Behind {
+    /// Some history ends as the first part says, and with the entries of all parts it is this one.
+    Whole(Chain),
+    /// Behind such a history they are none, for this reason.
+    No(ChainVerdict),
+    /// No history was found that ends so: there may be one.
+    Unknown,
+}
+
+/// Some history that ends as the first of these parts says, with the entries of all of them, each
+/// in its turn. A verdict counts the first part as file 0.
+///
+/// # Errors
+///
+/// Where memory is refused.
+pub fn chain_behind(alloc: Global, first: Part, parts: Vec<Part>) -> Result<Behind, AllocError>
+    ensures whole { IfOk result (IfWhole (StandsBehind (parts_of first ∷ map parts_of parts.items))) }
+    ensures no { IfOk result (IfBroken (λ verdict. (verdict ≢ Yes)
+        × BreaksBehind (parts_of first) (map parts_of parts.items))) }
+{
     let mut chain = Chain::new(alloc)?;
     if !seek(alloc, &mut chain, &first.base, &first.kept)? {
-        return Ok(None);
+        return Ok(Behind::Unknown);
     }
     match walk_part(&mut chain, 0, first)? {
         Some(verdict) => {
             if joins(&verdict) {
-                Ok(Some(verdict))
+                Ok(Behind::No(verdict))
             } else {
-                Ok(None)
+                Ok(Behind::Unknown)
             }
         }
         None => match walk_parts(&mut chain, parts)? {
-            Some(verdict) => Ok(Some(verdict)),
-            None => {
-                chain.legal();
-                Ok(Some(ChainVerdict::Yes))
-            }
+            Some(verdict) => Ok(Behind::No(verdict)),
+            None => Ok(Behind::Whole(chain)),
         },
     }
 }
@@ -153,6 +183,8 @@ fn walk_parts(chain: &mut Chain, parts: Vec<Part>) -> Result<Option<ChainVerdict
     ensures no { IfOk result (λ verdict. IfSome verdict (λ verdict. (verdict ≢ Yes)
         × ((rest : List PartParts)
         → ChainFrom chain.old.past chain.old.taken chain.old.told (map parts_of parts.items ++ rest) → ⊥))) }
+    ensures past { IfOk result (λ verdict. verdict ≡ None
+        → chain.new.past ≡ chain.old.past ++ entries_of (map parts_of parts.items)) }
 {
     let mut rest = parts.into_iter();
     let mut file: usize = 0;
@@ -175,6 +207,8 @@ fn walk_part(chain: &mut Chain, file: usize, part: Part) -> Result<Option<ChainV
         → ChainFrom chain.old.past chain.old.taken chain.old.told (parts_of part ∷ rest) → ⊥))) }
     ensures begins { IfOk result (λ verdict. IsTrue (has_joined verdict)
         → ChainFrom chain.old.past chain.old.taken chain.old.told (begun (parts_of part) ∷ [])) }
+    ensures past { IfOk result (λ verdict. verdict ≡ None
+        → chain.new.past ≡ chain.old.past ++ part.entries.items) }
 {
     let Part {
         base,

@@ -21,9 +21,7 @@ pub(crate) fn check_begun<R: Files + Input, W: PortWrite>(
     ending: Ending,
     writer: &mut W,
 ) -> Ending {
-    // standard input was read to its first line, and does not come again
-    let is_input = *files.first().unwrap_or(&"-") == "-";
-    if is_input || !matches!(exit_alone(&ending), Some(Exit::BadLine(1))) {
+    if !may_begin_with_part(files, &ending) {
         return ending;
     }
     match read_parts(rt, alloc, files, writer) {
@@ -31,6 +29,22 @@ pub(crate) fn check_begun<R: Files + Input, W: PortWrite>(
         Ok(None) => ending,
         Err(other) => other,
     }
+}
+
+/// Whether the first of these files may be a part, where the reading of a trace ended so: at its
+/// first line. Standard input was read to there, and does not come again.
+pub(crate) fn may_begin_with_part(files: &[&str], ending: &Ending) -> bool {
+    let is_input = *files.first().unwrap_or(&"-") == "-";
+    !is_input && matches!(exit_alone(ending), Some(Exit::BadLine(1)))
+}
+
+/// No history was found that ends as the first of these files says.
+pub(crate) fn not_found(alloc: Global, files: &[&str]) -> Ending {
+    let path = files.first().unwrap_or(&"");
+    told(
+        NOT_FOUND,
+        format!(in alloc; "l4sh: no history was found that ends as {path} says; there may be one"),
+    )
 }
 
 /// Checks parts that were read.
@@ -60,12 +74,7 @@ fn check_behind<W: PortWrite>(
             let text = verdict_text(alloc, files, &before, &verdict, is_torn);
             print_text(text, Exit::Illegal, writer)
         }
-        Ok(None) => told(
-            NOT_FOUND,
-            format!(in alloc;
-                "l4sh: no history was found that ends as {path} says; there may be one"
-            ),
-        ),
+        Ok(None) => not_found(alloc, files),
         Err(_) => Ending::from(Exit::NoMemory),
     }
 }

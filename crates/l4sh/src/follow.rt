@@ -2,6 +2,7 @@ ghost use Rattle.std.specs.Prelude.{◌≡◌, ◌≢◌, ◌+◌, ◌<◌, IsSo
 
 use crate::exit::Exit;
 use ipc_history::Entry;
+use ipc_part::Part;
 use ipc_ports::{PieceBuffer, PortRead, PortWrite};
 use ipc_shell::put;
 use ipc_trace::{LineEnd, LineFault, TraceLines, next_line};
@@ -101,6 +102,39 @@ pub(crate) fn follow_entries<W: PortWrite>(
         }
         Err(fault) => fault.exit(),
     }
+}
+
+/// Tells the entries of parts in words, of which the first begins in the middle of a history.
+pub(crate) fn follow_parts<W: PortWrite>(
+    alloc: Global,
+    options: &FollowOptions<'_>,
+    times: Times,
+    parts: &[Part],
+    writer: &mut W,
+) -> Exit {
+    match selection_of(alloc, options) {
+        Ok(selection) => {
+            let mut follower = Follower::new(alloc, selection, times);
+            tell_parts(&mut follower, parts, writer)
+        }
+        Err(fault) => fault.exit(),
+    }
+}
+
+// The same by this follower.
+fn tell_parts<W: PortWrite>(follower: &mut Follower, parts: &[Part], writer: &mut W) -> Exit {
+    if let Some(first) = parts.first() {
+        if follower.begin(first.base.moment(), &first.kept).is_err() {
+            return Exit::NoMemory;
+        }
+    }
+    for part in parts {
+        match tell_entries(follower, &part.entries, writer) {
+            Exit::Done => {}
+            other => return other,
+        }
+    }
+    Exit::Done
 }
 
 // The same by this follower.

@@ -1,8 +1,9 @@
 //! The files of one history: a trace, and the parts behind it.
+use crate::begun::{may_begin_with_part, not_found};
 use crate::ending::{Ending, told};
 use crate::exit::Exit;
-use crate::files::{History, read_files};
-use ipc_chain::{ChainVerdict, Put, check_chain, put_behind};
+use crate::files::{History, read_files, read_parts};
+use ipc_chain::{ChainVerdict, Put, check_chain, put_behind, put_behind_parts};
 use ipc_history::{Entry, Output};
 use ipc_lines::entry_line;
 use ipc_ports::PortWrite;
@@ -37,6 +38,13 @@ pub(crate) fn part_files<R: Files + Input, W: PortWrite>(
 ) -> Ending {
     match read_files(rt, alloc, files, writer) {
         Ok(history) => part_history(alloc, files, history, is_untaken, writer),
+        Err(ending) if may_begin_with_part(files, &ending) => {
+            match read_parts(rt, alloc, files, writer) {
+                Ok(Some(history)) => part_behind(alloc, files, history, is_untaken, writer),
+                Ok(None) => ending,
+                Err(other) => other,
+            }
+        }
         Err(ending) => ending,
     }
 }
@@ -81,29 +89,79 @@ fn part_history<W: PortWrite>(
     } = history;
     let TraceRead { entries, .. } = first;
     if is_torn {
-        return told(
-            5,
-            String::from_str(
-                alloc,
-                "l4sh: torn: no part begins behind a line that lacks its newline",
-            ),
-        );
+        return torn_here(alloc);
     }
     let put = {
         let mut trace = TraceWriter::new(alloc, &mut *writer);
         put_behind(alloc, entries, parts, is_untaken, &mut trace)
     };
     match put {
-        Ok(Put::Done) => Ending::from(Exit::Done),
-        Ok(Put::No(verdict)) => {
-            let text = verdict_text(alloc, files, &before, &verdict, false);
+        Ok(put) => put_ending(alloc, files, &before, put, writer),
+        Err(_) => Ending::from(Exit::NoMemory),
+    }
+}
+
+/// Writes the part behind the files that were read, of which the first is a part.
+fn part_behind<W: PortWrite>(
+    alloc: Global,
+    files: &[&str],
+    history: History,
+    is_untaken: bool,
+    writer: &mut W,
+) -> Ending {
+    let History {
+        parts,
+        before,
+        is_torn,
+        ..
+    } = history;
+    let mut parts = parts;
+    if is_torn {
+        return torn_here(alloc);
+    }
+    if parts.is_empty() {
+        return Ending::from(Exit::BadLine(1));
+    }
+    let first = parts.remove(0);
+    let put = {
+        let mut trace = TraceWriter::new(alloc, &mut *writer);
+        put_behind_parts(alloc, first, parts, is_untaken, &mut trace)
+    };
+    match put {
+        Ok(Some(put)) => put_ending(alloc, files, &before, put, writer),
+        Ok(None) => not_found(alloc, files),
+        Err(_) => Ending::from(Exit::NoMemory),
+    }
+}
+
+/// A part behind the last whole line would leave out what came after it.
+fn torn_here(alloc: Global) -> Ending {
+    told(
+        5,
+        String::from_str(
+            alloc,
+            "l4sh: torn: no part begins behind a line that lacks its newline",
+        ),
+    )
+}
+
+/// How it ends where the writing of a part ended so.
+fn put_ending<W: PortWrite>(
+    alloc: Global,
+    files: &[&str],
+    before: &[u64],
+    put: Put,
+    writer: &mut W,
+) -> Ending {
+    match put {
+        Put::Done => Ending::from(Exit::Done),
+        Put::No(verdict) => {
+            let text = verdict_text(alloc, files, before, &verdict, false);
             print_text(text, Exit::Illegal, writer)
         }
-        Ok(Put::Early(output)) => told(3, early_text(alloc, output)),
-        Ok(Put::Uncounted) | Err(_) | Ok(Put::Failed(PutFault::NoMemory)) => {
-            Ending::from(Exit::NoMemory)
-        }
-        Ok(Put::Failed(_)) => Ending::from(Exit::DeviceFailed),
+        Put::Early(output) => told(3, early_text(alloc, output)),
+        Put::Uncounted | Put::Failed(PutFault::NoMemory) => Ending::from(Exit::NoMemory),
+        Put::Failed(_) => Ending::from(Exit::DeviceFailed),
     }
 }
 

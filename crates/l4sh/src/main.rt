@@ -22,6 +22,7 @@ mod kept;
 mod live;
 mod live_state;
 mod looking;
+mod middle;
 mod migrating;
 mod new_file;
 mod obeying;

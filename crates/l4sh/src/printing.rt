@@ -10,6 +10,7 @@ use crate::following::follow_server;
 use crate::history::check_files;
 use crate::live_state::live_state;
 use crate::looking::{Look, look_at_trace, tell};
+use crate::middle::print_begun;
 use crate::opening::{Task, is_folder, look};
 use crate::several::print_files;
 use crate::threads::{label_reason, threads_reason};
@@ -196,10 +197,11 @@ fn print_of<L: Ledger, R: Files + Input, W: PortWrite>(
     writer: &mut W,
 ) -> Ending {
     let mut printing = printing;
-    match files {
+    let ending = match files {
         [file] => look(rt, alloc, *file, &mut printing, reads, writer),
         _ => print_files(rt, alloc, files, &printing, writer),
-    }
+    };
+    print_begun(rt, alloc, files, &printing, ending, writer)
 }
 
 /// Draws the history of files, or of standard input.

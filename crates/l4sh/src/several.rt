@@ -70,7 +70,7 @@ fn print_joined<W: PortWrite>(
 }
 
 /// Puts the entries of parts behind those of the trace; by part, how many stand before its own.
-fn join(
+pub(crate) fn join(
     alloc: Global,
     entries: &mut Vec<Entry>,
     parts: &mut [Part],
@@ -84,7 +84,11 @@ fn join(
 }
 
 /// Gives parts their entries back, before which so many stand.
-fn part(entries: &mut Vec<Entry>, parts: &mut [Part], places: &[usize]) -> Result<(), AllocError> {
+pub(crate) fn part(
+    entries: &mut Vec<Entry>,
+    parts: &mut [Part],
+    places: &[usize],
+) -> Result<(), AllocError> {
     let count = parts.len().min(places.len());
     for behind in 1..=count {
         let number = count - behind;
@@ -114,13 +118,20 @@ fn no_history(alloc: Global, files: &[&str], history: History) -> Option<Ending>
 }
 
 /// A verdict as the program tells it on standard error.
-fn named(alloc: Global, verdict: Result<String, AllocError>) -> Result<String, AllocError> {
+pub(crate) fn named(
+    alloc: Global,
+    verdict: Result<String, AllocError>,
+) -> Result<String, AllocError> {
     let verdict = verdict?;
     format!(in alloc; "l4sh: {}", verdict.as_str().trim_end())
 }
 
 /// Prints what was made, and answers how that ended where it went well.
-fn put_printed<W: PortWrite>(printed: Option<&[u8]>, exit: Exit, writer: &mut W) -> Ending {
+pub(crate) fn put_printed<W: PortWrite>(
+    printed: Option<&[u8]>,
+    exit: Exit,
+    writer: &mut W,
+) -> Ending {
     let Some(bytes) = printed else {
         return Ending::from(Exit::NoMemory);
     };
@@ -132,7 +143,7 @@ fn put_printed<W: PortWrite>(printed: Option<&[u8]>, exit: Exit, writer: &mut W)
 
 /// The number of the last whole line of the last file, where a line without its newline stands
 /// behind it.
-fn torn_line(history: &History) -> Option<u64> {
+pub(crate) fn torn_line(history: &History) -> Option<u64> {
     if !history.is_torn {
         return None;
     }
@@ -145,7 +156,7 @@ fn torn_line(history: &History) -> Option<u64> {
 }
 
 /// The same ending, which names the last file where it is torn.
-fn torn_behind(alloc: Global, files: &[&str], number: u64, ending: Ending) -> Ending {
+pub(crate) fn torn_behind(alloc: Global, files: &[&str], number: u64, ending: Ending) -> Ending {
     match ending {
         Ending::Alone {
             exit: Exit::Torn(_),

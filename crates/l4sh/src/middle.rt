@@ -1,0 +1,181 @@
+//! What is told of files of which the first is a part, as `l4d --trace-keep` leaves them: the state
+//! of their threads, and each entry.
+use crate::begun::{may_begin_with_part, not_found};
+use crate::ending::{Ending, told};
+use crate::exit::Exit;
+use crate::files::{History, read_parts};
+use crate::follow::follow_parts;
+use crate::history::{print_text, verdict_text};
+use crate::looking::Look;
+use crate::printing::Printing;
+use crate::several::{join, named, part, put_printed, torn_behind, torn_line};
+use ipc_chain::{Behind, Chain, chain_behind};
+use ipc_part::Part;
+use ipc_ports::{MemoryPort, PortWrite};
+use l4sh_options::FollowOptions;
+use l4sh_state::{Drops, drops_of, state_in, tell_state};
+use l4sh_times::{Times, timed_state};
+use std::alloc::{AllocError, Global};
+use std::rt::Files;
+
+/// Prints this of files of which the first is a part, where the reading of a trace ended at its
+/// first line. Counts, a chart and a script want the files from the beginning: these end as before.
+pub(crate) fn print_begun<R: Files + Input, W: PortWrite>(
+    rt: &R,
+    alloc: Global,
+    files: &[&str],
+    printing: &Printing<'_>,
+    ending: Ending,
+    writer: &mut W,
+) -> Ending {
+    if !is_told_from_within(printing) || !may_begin_with_part(files, &ending) {
+        return ending;
+    }
+    match read_parts(rt, alloc, files, writer) {
+        Ok(Some(history)) => print_parts(alloc, files, history, printing, ending, writer),
+        Ok(None) => ending,
+        Err(other) => other,
+    }
+}
+
+/// Whether this can be told without what came before a part.
+fn is_told_from_within(printing: &Printing<'_>) -> bool {
+    matches!(
+        printing,
+        Printing::Look(Look::StateAt(_), _) | Printing::Follow(_, _)
+    )
+}
+
+/// The same of the parts that were read.
+fn print_parts<W: PortWrite>(
+    alloc: Global,
+    files: &[&str],
+    history: History,
+    printing: &Printing<'_>,
+    ending: Ending,
+    writer: &mut W,
+) -> Ending {
+    let torn = torn_line(&history);
+    let ending = match printing {
+        Printing::Look(Look::StateAt(count), times) => {
+            print_state(alloc, files, history, *count, *times, torn, writer)
+        }
+        Printing::Follow(options, times) => {
+            print_entries(alloc, files, history, options, *times, torn, writer)
+        }
+        _ => ending,
+    };
+    match torn {
+        Some(number) => torn_behind(alloc, files, number, ending),
+        None => ending,
+    }
+}
+
+/// Prints the state of the threads after so many entries, or after all where there are fewer.
+fn print_state<W: PortWrite>(
+    alloc: Global,
+    files: &[&str],
+    history: History,
+    count: usize,
+    times: Times,
+    torn: Option<u64>,
+    writer: &mut W,
+) -> Ending {
+    let mut history = history;
+    cut(&mut history.parts, count);
+    let Ok(drops) = drops_in(alloc, &mut history.parts) else {
+        return Ending::from(Exit::NoMemory);
+    };
+    match behind(alloc, files, history) {
+        Ok(chain) => {
+            let text = state_text(alloc, &chain, &drops, times);
+            print_text(text, end_of(torn), writer)
+        }
+        Err(ending) => ending,
+    }
+}
+
+/// Leaves so many entries of parts, the first ones.
+fn cut(parts: &mut Vec<Part>, count: usize) {
+    let mut left = count;
+    let mut whole = parts.len();
+    for place in 0..parts.len() {
+        let entries = &mut parts[place].entries;
+        if left < entries.len() {
+            entries.truncate(left);
+            whole = whole.min(place.saturating_add(1));
+            left = 0;
+        } else {
+            left -= entries.len();
+        }
+    }
+    parts.truncate(whole);
+}
+
+/// The deliveries to anybody else that these entries tell.
+fn drops_in(alloc: Global, parts: &mut Vec<Part>) -> Result<Drops, AllocError> {
+    let mut entries = Vec::new(alloc);
+    let places = join(alloc, &mut entries, parts)?;
+    let drops = drops_of(alloc, &entries)?;
+    part(&mut entries, parts, &places)?;
+    Ok(drops)
+}
+
+/// The state of the threads at the end of a history, in words.
+fn state_text(
+    alloc: Global,
+    chain: &Chain,
+    drops: &Drops,
+    times: Times,
+) -> Result<String, AllocError> {
+    let state = state_in(chain.slots());
+    let text = tell_state(alloc, &state, drops)?;
+    timed_state(alloc, text.as_str(), times)
+}
+
+/// Tells the entries of parts in words.
+fn print_entries<W: PortWrite>(
+    alloc: Global,
+    files: &[&str],
+    history: History,
+    options: &FollowOptions<'_>,
+    times: Times,
+    torn: Option<u64>,
+    writer: &mut W,
+) -> Ending {
+    let mut printed = MemoryPort::new(alloc, &[]);
+    let exit = follow_parts(alloc, options, times, &history.parts, &mut printed);
+    match (behind(alloc, files, history), exit) {
+        (Ok(_), Exit::Done) => put_printed(printed.output(), end_of(torn), writer),
+        (Ok(_), exit) => Ending::from(exit),
+        (Err(ending), _) => ending,
+    }
+}
+
+/// How it ends where all went well, and a line without its newline stands at the end.
+fn end_of(torn: Option<u64>) -> Exit {
+    match torn {
+        Some(number) => Exit::Torn(number),
+        None => Exit::Done,
+    }
+}
+
+/// A history with these parts, where one is found that ends as the first says; else how the program
+/// ends.
+fn behind(alloc: Global, files: &[&str], history: History) -> Result<Chain, Ending> {
+    let History { parts, before, .. } = history;
+    let mut parts = parts;
+    if parts.is_empty() {
+        return Err(Ending::from(Exit::BadLine(1)));
+    }
+    let first = parts.remove(0);
+    match chain_behind(alloc, first, parts) {
+        Ok(Behind::Whole(chain)) => Ok(chain),
+        Ok(Behind::No(verdict)) => {
+            let text = verdict_text(alloc, files, &before, &verdict, false);
+            Err(told(3, named(alloc, text)))
+        }
+        Ok(Behind::Unknown) => Err(not_found(alloc, files)),
+        Err(_) => Err(Ending::from(Exit::NoMemory)),
+    }
+}

@@ -2,9 +2,10 @@
 use Rattle.std.proofs.Common.{◌≡◌, ◌⊎◌, ℕ, inl, inr, List, Option, Some, None, Bool, true, false, MatchBool, refl, subst}
 use Rattle.std.specs.Prelude.{slice_get, slice_set, ⊤}
 use Rattle.ipc_core.specs.KernelParts.{KernelParts}
-use Rattle.ipc_lock.specs.Above.{LaysSome, TakesOutSome}
+use Rattle.ipc_lock.specs.Above.{EndsWorkSome, LaysSome, TakesOutSome}
 use Rattle.ipc_lock.specs.Boxes.{Begins, BoxParts, EndsWork, Loads, Works, WritesOn, has_failed, is_idle, is_of}
-use Rattle.ipc_lock.specs.Places.{LooksAgain, StaysAll, TakesBack, WorksFor}
+use Rattle.ipc_lock.specs.Places.{StaysAll, TakesBack, WorksFor}
+use Rattle.ipc_lock.specs.Rounds.{Carries}
 use Rattle.ipc_lock.specs.declared.errands.Errands.{Errands}
 use Rattle.ipc_lock.specs.declared.post_box.Work.{Work}
 use Rattle.ipc_lock.specs.declared.post_box.Work.TheVariants as work
@@ -58,13 +59,24 @@ takes_out P old new boxes after place number pen h = go (slice_get boxes place) 
     go None is h = absurd (subst (λ (next : Option (Work P)). GoesOn next) h.1 tt)
     go (Some box) is h = by_number box is (is_of number box.number) refl h
 
-pub lays_some : {P : Type 0} (old new : KernelParts) (boxes after : List BoxParts) (errands errands_now : Errands P) (pen : Page)
-    → TakesBack old new boxes after errands errands_now → errands.first ≡ Some pen → LaysSome pen
-lays_some old new boxes after errands errands_now pen h first = record {
+pub ends_work : (P : Type 0) (old new : KernelParts) (boxes after : List BoxParts) (place number : ℕ)
+    → WorksFor {P = P} old new boxes after place number (slice_get boxes place) (Some work.Over) → EndsWorkSome P place number
+ends_work P old new boxes after place number over = record { old = old; new = new; boxes = boxes; boxes_now = after; over = over }
+
+pub lays_some : {P : Type 0} (old new : KernelParts) (boxes after : List BoxParts) (errands again left : Errands P) (pen : Page)
+    → TakesBack old new boxes after errands again → errands.first ≡ Some pen → errands.second ≡ None → errands.third ≡ None → Carries again left
+    → LaysSome P pen
+lays_some old new boxes after errands again left pen lays first second third carries = record {
   old = old;
-  new = h.kernel_first;
+  new = new;
   boxes = boxes;
-  boxes_now = h.boxes_first;
-  again = errands_now.first;
-  lays = subst (λ (p : Option Page). LooksAgain old h.kernel_first boxes h.boxes_first p errands_now.first) first h.first;
+  boxes_now = after;
+  errands = errands;
+  again = again;
+  left = left;
+  first = first;
+  second = second;
+  third = third;
+  lays = lays;
+  carries = carries;
 }

@@ -8,6 +8,7 @@ pub mod Places
 pub mod Alarms
 pub mod Upkeeping
 pub mod Noting
+pub mod Rounds
 pub mod Above
 pub mod Parting
 pub mod Telling

@@ -1,8 +1,9 @@
 //! The kernel and the boxes under one lock. Here it is only taken; what is done under it stands in
 //! its own files.
 ghost use Rattle.std.specs.Prelude.{◌≡◌, ◌^◌, IfSome, IfNone, IfErr, ◌+◌};
-ghost use Rattle.ipc_lock.specs.Above.{ActsSome, GivesSome};
+ghost use Rattle.ipc_lock.specs.Above.{ActsSome, GivesSome, NotLiveSome};
 ghost use Rattle.ipc_lock.specs.Acting.{AnswersStep, GivesSeat, HandsBack};
+ghost use Rattle.ipc_lock.specs.Rounds.{Carries};
 
 mod connecting;
 mod locking;
@@ -63,7 +64,7 @@ impl<C: Ledger, T: Ledger, P: PenPort + Drop> SharedKernel<C, T, P> {
         seat: Option<CallSeat<C>>,
         command: Command,
     ) -> Answered<C, T>
-        ensures acts { ActsSome now seat command result.answer }
+        ensures acts { ActsSome P now seat command result.answer }
         ensures answers { AnswersStep seat command result.answer result.calls }
         ensures takes { GivesSeat result.answer result.takes }
         ensures back { HandsBack command result.answer result.back }
@@ -81,7 +82,7 @@ impl<C: Ledger, T: Ledger, P: PenPort + Drop> SharedKernel<C, T, P> {
         command: Command,
         wakes_mover: bool,
     ) -> Answered<C, T>
-        ensures acts { ActsSome now seat command result.answer }
+        ensures acts { ActsSome P now seat command result.answer }
         ensures answers { AnswersStep seat command result.answer result.calls }
         ensures takes { GivesSeat result.answer result.takes }
         ensures back { HandsBack command result.answer result.back }
@@ -98,7 +99,7 @@ impl<C: Ledger, T: Ledger, P: PenPort + Drop> SharedKernel<C, T, P> {
     }
 
     /// Waits for the outcome of the seat's thread's last call. None once the thread is not live.
-    #[tactic(auto, using(crate::proofs::Above::gives_some))]
+    #[tactic(auto, using(crate::proofs::Above::gives_some, crate::proofs::Above::not_live))]
     pub fn wait_outcome<R: Wait>(&self, rt: &R, seat: &mut TakeSeat<T>) -> Option<Taken<T>>
         ensures gives { IfSome result (λ taken. GivesSome seat.old.thread taken.outcome) }
         ensures thread { seat.new.thread ≡ seat.old.thread }
@@ -106,6 +107,7 @@ impl<C: Ledger, T: Ledger, P: PenPort + Drop> SharedKernel<C, T, P> {
             × (taken.amount ≡ seat.new.taken)) }
         ensures taken { IfSome result (λ _. seat.new.taken ≡ seat.old.taken + 1) }
         ensures none { IfNone result (seat.new.taken ≡ seat.old.taken) }
+        ensures gone { IfNone result (NotLiveSome seat.old.thread) }
     {
         let mut inside = self.inside(rt);
         for _ in rt.forever() {
@@ -121,7 +123,9 @@ impl<C: Ledger, T: Ledger, P: PenPort + Drop> SharedKernel<C, T, P> {
     }
 
     /// Wakes those whom a step concerns, and writes what it told.
-    fn settle<R: Wait>(&self, rt: &R, after: After, errands: &mut Errands<P>) {
+    fn settle<R: Wait>(&self, rt: &R, after: After, errands: &mut Errands<P>)
+        ensures carries { Carries errands.old errands.new }
+    {
         if after.strays {
             self.strays.notify_all();
         }
@@ -136,8 +140,10 @@ impl<C: Ledger, T: Ledger, P: PenPort + Drop> SharedKernel<C, T, P> {
 
     /// Writes with pens, each as far as its device has room now, and lays them down; what came
     /// meanwhile is written, too.
-    fn carry<R: Wait>(&self, rt: &R, errands: &mut Errands<P>) {
-        for _ in rt.forever() {
+    fn carry<R: Wait>(&self, rt: &R, errands: &mut Errands<P>)
+        ensures carries { Carries errands.old errands.new }
+    {
+        'rounds: for _ in rt.forever() {
             if errands.is_empty() {
                 return;
             }

@@ -147,7 +147,7 @@ impl<C: Ledger, T: Ledger, P: PenPort + Drop> Inside<C, T, P> {
 
     /// Whether the box of a place is that of the connection of this number.
     #[tactic(auto, using(crate::proofs::Moves::there, crate::proofs::Moves::none_there))]
-    fn is_in(&self, place: usize, number: u64) -> bool
+    pub(crate) fn is_in(&self, place: usize, number: u64) -> bool
         ensures { result ≡ is_in number (slice_get self.now.boxes.items place) }
     {
         match self.boxes.get(place) {

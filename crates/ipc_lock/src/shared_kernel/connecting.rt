@@ -1,9 +1,9 @@
 //! Connections: their boxes, what their readers ask for, and what their writers write.
-ghost use Rattle.std.specs.Prelude.{◌≡◌, None, IfOk, IfSome, IfErr, false, true, slice_get};
+ghost use Rattle.std.specs.Prelude.{◌≡◌, None, IfOk, IfSome, IfNone, IfErr, false, true, slice_get};
 ghost use Rattle.std.specs.Sync.Mutex.{mutex_guard_value};
-ghost use Rattle.ipc_lock.specs.Above.{AsksOrRefuses, ConnectsSome, EndsSome, LaysSome, ReleasesSome, TakesOutSome};
+ghost use Rattle.ipc_lock.specs.Above.{AsksOrRefuses, ConnectsSome, EndsSome, EndsWorkSome, GoneSome, LaysSome, PostsOrDrops, ReleasesSome, TakesOutSome};
 ghost use Rattle.ipc_lock.specs.Acting.{Asked};
-ghost use Rattle.ipc_lock.specs.Places.{is_empty_in, is_shut_in};
+ghost use Rattle.ipc_lock.specs.Places.{is_empty_in, is_in, is_shut_in};
 ghost use Rattle.ipc_pen.specs.Pens.{BeginsEmpty};
 
 use super::SharedKernel;
@@ -17,7 +17,8 @@ use ipc_core::Refusal;
 use ipc_pen::PenPort;
 use std::mem::replace;
 use std::sync::ledger::Ledger;
-use std::sync::{MutexGuard, Wait};
+use std::sync::{Arc, Condvar, MutexGuard, Wait};
+use std::thread::yield_now;
 
 impl<C: Ledger, T: Ledger, P: PenPort + Drop> SharedKernel<C, T, P> {
     /// Makes an empty box for the connection of a port, to which nothing was written, and answers
@@ -69,7 +70,7 @@ impl<C: Ledger, T: Ledger, P: PenPort + Drop> SharedKernel<C, T, P> {
     /// `Refused`, and the end is then as before: of an open K1, K2, K3, K5, K4; of a call K6, K7,
     /// K8, K5, K4; of an ExchangeRegisters K6, K7, K5, K4. K6 also where the box was shut, and
     /// where this is not the end's own thread.
-    #[tactic(auto, unfolding(crate::specs::Acting::Asked), using(crate::proofs::Steps::still, crate::proofs::Above::asks_some))]
+    #[tactic(auto, unfolding(crate::specs::Acting::Asked), using(crate::proofs::Steps::still, crate::proofs::Above::asks_none))]
     pub fn ask<R: Wait>(
         &self,
         rt: &R,
@@ -81,9 +82,10 @@ impl<C: Ledger, T: Ledger, P: PenPort + Drop> SharedKernel<C, T, P> {
         ensures number { end.new.number ≡ end.old.number }
         ensures space { end.new.space ≡ end.old.space }
         ensures asked { Asked result.0 request end.old.seat end.new.seat }
-        ensures asks { AsksOrRefuses now end.old.place end.old.seat request end.old.space result.0 }
+        ensures asks { AsksOrRefuses P now end.old.place end.old.number end.old.seat request
+            end.old.space result.0 }
     {
-        let Some(mut inside) = self.when_empty(rt, end.place) else {
+        let Some(mut inside) = self.when_empty(rt, end.place, end.number) else {
             return (Told::Refused(Refusal::NoThread), Entered::Open);
         };
         let mut errands = Errands::none();
@@ -108,8 +110,11 @@ impl<C: Ledger, T: Ledger, P: PenPort + Drop> SharedKernel<C, T, P> {
     }
 
     /// Tells it by its frame. A shut box drops it.
-    pub fn post<R: Wait>(&self, rt: &R, end: &PostEnd<C>, told: Told) {
-        let Some(mut inside) = self.when_empty(rt, end.place) else {
+    #[tactic(auto, using(crate::proofs::Above::posts_some, crate::proofs::Above::posts_none))]
+    pub fn post<R: Wait>(&self, rt: &R, end: &PostEnd<C>, told: Told)
+        ensures posts { PostsOrDrops P end.now.place end.now.number told }
+    {
+        let Some(mut inside) = self.when_empty(rt, end.place, end.number) else {
             return;
         };
         inside.post(end.place, told);
@@ -149,21 +154,20 @@ impl<C: Ledger, T: Ledger, P: PenPort + Drop> SharedKernel<C, T, P> {
 
     /// Waits until a box's pen lies there with something to write that nobody else has taken, and
     /// takes it out. None once nothing more comes, or the device has failed.
-    #[tactic(auto, using(crate::proofs::Working::takes_out))]
+    #[tactic(auto, using(crate::proofs::Working::takes_out, crate::proofs::Working::ends_work))]
     pub fn wait_pen<R: Wait>(&self, rt: &R, end: &TakeEnd) -> Option<Loaded<P>>
         ensures takes { IfSome result (λ pen. TakesOutSome end.now.place end.now.number pen) }
+        ensures over { IfNone result (EndsWorkSome P end.now.place end.now.number) }
     {
         let mut inside = self.inside(rt);
-        let Some(bell) = inside.bell(end.place) else {
-            return None;
-        };
         for _ in rt.forever() {
             match inside.work(end.place, end.number) {
                 Some(Work::Write(pen)) => return Some(pen),
                 Some(Work::Over) => return None,
                 None => {}
             }
-            inside = bell.wait(rt, inside);
+            let bell = inside.bell(end.place);
+            inside = self.wait_for(rt, bell, inside);
         }
         None
     }
@@ -172,34 +176,61 @@ impl<C: Ledger, T: Ledger, P: PenPort + Drop> SharedKernel<C, T, P> {
     /// room.
     #[tactic(auto, using(crate::proofs::Working::lays_some))]
     pub fn give_back<R: Wait>(&self, rt: &R, pen: Loaded<P>)
-        ensures lays { LaysSome pen }
+        ensures lays { LaysSome P pen }
     {
         let mut errands = Errands::of(pen);
         self.inside(rt).take_back(&mut errands);
         self.carry(rt, &mut errands);
     }
 
-    /// Takes the lock once the box is empty. None once it is shut.
+    /// Lets go of the lock until a bell rings, and takes it again. Where no bell can be had others
+    /// are let run meanwhile.
+    fn wait_for<'a, R: Wait>(
+        &'a self,
+        rt: &R,
+        bell: Option<Arc<Condvar>>,
+        inside: MutexGuard<'a, Inside<C, T, P>>,
+    ) -> MutexGuard<'a, Inside<C, T, P>> {
+        match bell {
+            Some(bell) => bell.wait(rt, inside),
+            None => {
+                drop(inside);
+                yield_now();
+                self.inside(rt)
+            }
+        }
+    }
+
+    /// Takes the lock once the box of the connection of this number is empty. None once it is shut,
+    /// or gone.
+    #[tactic(auto, using(crate::proofs::Above::gone_shut, crate::proofs::Above::gone_other))]
     fn when_empty<'a, R: Wait>(
         &'a self,
         rt: &R,
         place: usize,
+        number: u64,
     ) -> Option<MutexGuard<'a, Inside<C, T, P>>>
+        ensures own { IfSome result (λ inside.
+            is_in number (slice_get (mutex_guard_value inside).boxes.items place) ≡ true) }
         ensures shut { IfSome result (λ inside.
             is_shut_in (slice_get (mutex_guard_value inside).boxes.items place) ≡ false) }
         ensures empty { IfSome result (λ inside.
             is_empty_in (slice_get (mutex_guard_value inside).boxes.items place) ≡ true) }
+        ensures gone { IfNone result (GoneSome place number) }
     {
         let mut inside = self.inside(rt);
         for _ in rt.forever() {
+            if !inside.is_in(place, number) {
+                return None;
+            }
             if inside.is_shut(place) {
                 return None;
             }
             if inside.is_empty(place) {
                 return Some(inside);
             }
-            let emptied = inside.emptied(place)?;
-            inside = emptied.wait(rt, inside);
+            let emptied = inside.emptied(place);
+            inside = self.wait_for(rt, emptied, inside);
         }
         None
     }

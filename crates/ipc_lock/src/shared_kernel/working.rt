@@ -1,7 +1,11 @@
 //! The mover and the ticker.
+ghost use Rattle.std.specs.Prelude.{◌≡◌, IfSome, IfNone};
+ghost use Rattle.std.specs.Sync.Mutex.{mutex_guard_value};
+ghost use Rattle.ipc_lock.specs.Above.{MovesAll, MovesSome, OverSome, RestsOrEnds, WorksSome, is_moved};
+ghost use Rattle.ipc_lock.specs.Alarms.{Rests};
 
 use super::SharedKernel;
-use crate::inside::After;
+use crate::inside::{After, Inside};
 use crate::rest::Rest;
 use crate::seated::Answered;
 use ipc_core::{Advance, Answer, Command};
@@ -10,7 +14,7 @@ use ipc_words::limits::{BLOCK_BYTES, MAX_STRING_BYTES};
 use std::hint::spin_loop;
 use std::rt::Clock;
 use std::sync::ledger::Ledger;
-use std::sync::{CondvarTimeouts, Wait};
+use std::sync::{CondvarTimeouts, MutexGuard, Wait};
 use std::time::{Duration, Instant};
 
 /// How many blocks of a transfer the thread copies that began it: those of the longest message, and
@@ -38,7 +42,9 @@ fn look_on<R: Clock>(rt: &R, time: Duration) {
 }
 
 /// Whether a step copied a block.
-fn has_moved<C: Ledger, T: Ledger>(answered: &Answered<C, T>) -> bool {
+fn has_moved<C: Ledger, T: Ledger>(answered: &Answered<C, T>) -> bool
+    ensures { result ≡ is_moved answered.now.answer }
+{
     matches!(answered.answer(), Answer::Advanced(Advance::Moved))
 }
 
@@ -52,8 +58,10 @@ impl<C: Ledger, T: Ledger, P: PenPort + Drop> SharedKernel<C, T, P> {
 
     /// Copies blocks of what is in transfer until nothing is. Where that are many the mover goes
     /// on.
-    pub(super) fn move_blocks<R: Wait>(&self, rt: &R, now: u64) {
-        for _ in 0..MOST_BLOCKS {
+    pub(super) fn move_blocks<R: Wait>(&self, rt: &R, now: u64)
+        ensures moves { MovesAll C P now }
+    {
+        'copies: for _ in 0..MOST_BLOCKS {
             if !self.move_block(rt, now) {
                 return;
             }
@@ -62,7 +70,10 @@ impl<C: Ledger, T: Ledger, P: PenPort + Drop> SharedKernel<C, T, P> {
     }
 
     /// Copies a block of what is in transfer; false where nothing is.
-    fn move_block<R: Wait>(&self, rt: &R, now: u64) -> bool {
+    #[tactic(auto, using(crate::proofs::Above::moves_some))]
+    fn move_block<R: Wait>(&self, rt: &R, now: u64) -> bool
+        ensures moves { MovesSome C P now result }
+    {
         let answered = self.step(rt, now, None, Command::Advance, false);
         let moved = has_moved(&answered);
         drop(answered);
@@ -72,12 +83,14 @@ impl<C: Ledger, T: Ledger, P: PenPort + Drop> SharedKernel<C, T, P> {
     /// Rests until a phase is due, or an earlier one comes, at the longest until the work is over.
     /// `now` is the moment, in microseconds. It ends a little before that moment; who rests then
     /// once more is awake when it comes.
-    pub fn rest<R: Wait + Clock>(&self, rt: &R, now: u64) {
-        let mut inside = self.inside(rt);
-        if inside.is_work_over() {
+    #[tactic(auto, using(crate::proofs::Above::rests_some, crate::proofs::Above::rests_none))]
+    pub fn rest<R: Wait + Clock>(&self, rt: &R, now: u64)
+        ensures rests { RestsOrEnds C T P now }
+    {
+        let Some((inside, rest)) = self.rest_at(rt, now) else {
             return;
-        }
-        match inside.rest(now) {
+        };
+        match rest {
             Rest::Not => {}
             Rest::For(micros) if micros <= LAST_MICROS => {
                 drop(inside);
@@ -92,8 +105,29 @@ impl<C: Ledger, T: Ledger, P: PenPort + Drop> SharedKernel<C, T, P> {
         }
     }
 
+    /// Takes the lock, and answers how long the ticker rests at a moment. None once the work is
+    /// over.
+    fn rest_at<'a, R: Wait>(
+        &'a self,
+        rt: &R,
+        now: u64,
+    ) -> Option<(MutexGuard<'a, Inside<C, T, P>>, Rest)>
+        ensures rests { IfSome result (λ found.
+            Rests (mutex_guard_value found.0).locked.kernel.history now found.1) }
+        ensures over { IfNone result (OverSome C T P) }
+    {
+        let mut inside = self.inside(rt);
+        if inside.is_work_over() {
+            return None;
+        }
+        let rest = inside.rest(now);
+        Some((inside, rest))
+    }
+
     /// Waits until a transfer has begun; false once the work is over or the kernel was closed.
-    pub fn wait_work<R: Wait>(&self, rt: &R) -> bool {
+    pub fn wait_work<R: Wait>(&self, rt: &R) -> bool
+        ensures works { WorksSome C T P result }
+    {
         let mut inside = self.inside(rt);
         for _ in rt.forever() {
             if inside.is_work_over() {

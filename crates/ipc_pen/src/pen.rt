@@ -88,10 +88,19 @@ impl<P: PenPort> Pen<P> {
         self.has_failed
     }
 
+    /// What holds of each pen at every moment, whoever wrote: what went out, and then the rest, is
+    /// the text of all that it was given. Does nothing.
+    pub fn follows(&self)
+        ensures { Follows self.now.out (rest_of self.now.rest) self.now.given }
+    {
+        let _ = &self.rest;
+    }
+
     /// Its port, with all that went out, and nothing more.
     pub fn into_port(self) -> P
         ensures out { P.written result ≡ self.out }
         ensures failures { P.failures result ≡ self.failures }
+        ensures follows { Follows (P.written result) (rest_of self.rest) self.given }
     {
         let Pen { port, .. } = self;
         port

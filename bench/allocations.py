@@ -2,7 +2,7 @@
 """Counts, in the built program l4sh, which functions ask for memory in a round of messages, and what a megabyte costs in the kernel.
 
 A round is a receive without lists, a send of one word to it, and the two outcomes. The counts are those of callgrind, which is
-repeatable: the difference of 1,500 and 500 rounds, divided by 1,000. It needs valgrind, and builds l4sh first by running it.
+repeatable: the difference of 1,500 and 500 rounds, divided by 1,000. It needs valgrind, and builds l4sh first.
 """
 
 import re
@@ -61,7 +61,7 @@ def asking(script):
 
 
 def main():
-    built("l4sh", "run")
+    built("l4sh")
     few, many = asking(rounds(500)), asking(rounds(1500))
     print("growths of memory in a round, by the function that asks")
     for name in sorted(many, key=lambda name: few.get(name, 0) - many[name]):

@@ -18,9 +18,10 @@ def program(name):
     return f"{ROOT}/out/{name}"
 
 
-def built(name, *words):
-    """The same, once it is built where that is needed: by a run of it with these words, with which it ends by itself."""
-    subprocess.run([f"{ROOT}/{name}", *words], stdin=subprocess.DEVNULL, stdout=subprocess.DEVNULL, check=True)
+def built(name):
+    """The same, once it is built where that is needed."""
+    if subprocess.run([f"{ROOT}/packaging/is_current", name], check=False).returncode:
+        subprocess.run([f"{ROOT}/build"], stdin=subprocess.DEVNULL, check=True)
     return program(name)
 
 

@@ -17,7 +17,7 @@ from frames import ANY, fault, hello, ipc, refused
 from kit import ROOT
 from processes import figures
 from protocol_tables import F_UNFINISHED, K_BAD_NUMBER, K_NUMBER_TAKEN, MAX_THREAD_NUMBER, WELCOME
-from serving import Client
+from serving import Client, opened
 from traces import entries_in
 
 STOP_RECEIVE, STOP_SEND = 2, 4
@@ -67,7 +67,8 @@ def answers(path, number, ready):
     """A process that answers each word with one more, until its server ends or it is killed."""
     child = os.fork()
     if child == 0:
-        client = Client(path, number)
+        # (the thread that had the number before may have been killed just now)
+        client = opened(path, number)
         os.write(ready, struct.pack(">Q", client.thread))
         try:
             got = client.call(0, ANY, [])
@@ -163,7 +164,7 @@ def calls_or_dies(path, number, to):
     child = os.fork()
     if child == 0:
         try:
-            client = Client(path, number)
+            client = opened(path, number)
             while True:
                 client.call(to, to, [1])
                 time.sleep(0.004 * random.random())

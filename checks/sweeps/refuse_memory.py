@@ -8,7 +8,7 @@ With one growth refused, a run may
 - print the same, where the program can do without;
 - end with `l4sh: no memory` and status 1, and what it printed is then a front of what it prints otherwise;
 - refuse one command with `! K4`: it prints no entry for that command, and all else is as if the command were not in the script.
-Anything else is told, and the status is then 1. It needs a C compiler (cc), and builds l4sh first by running it."""
+Anything else is told, and the status is then 1. It needs a C compiler (cc), and builds l4sh first."""
 import glob
 import os
 import subprocess
@@ -78,7 +78,7 @@ def growths_of(script, shim, room, word):
 
 def refuse_each(word, paths, every, kinds_of_runs, what_is_wrong):
     """Runs each script with each of its growths refused in turn, tells what came of it, and answers the status of the check."""
-    built("l4sh", word)
+    built("l4sh")
     faults = runs = 0
     with tempfile.TemporaryDirectory() as room:
         shim = built_shim(room, "refuse_memory")

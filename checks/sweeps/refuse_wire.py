@@ -12,7 +12,7 @@ With one growth refused, a run may
 - put out FAULT F14 as the last frame of a connection, which ends by that command; what was printed before is as otherwise.
 Behind one of the last three the dialogue is another one, so it is looked at for whole frames and nothing more. But an IPC behind
 a HELLO that was refused is FAULT S1, which a dialogue of its own shows, with each two of its growths refused. Anything else is
-told, and the status is then 1. It needs a C compiler (cc), and builds l4sh first by running it."""
+told, and the status is then 1. It needs a C compiler (cc), and builds l4sh first."""
 import sys
 import tempfile
 
@@ -74,7 +74,7 @@ def behind_a_refused_hello():
     hellos = "".join(f"connect 1\nfeed {it} {hello(it).hex()}\n" for it in numbers)
     script = (hellos + "".join(f"feed {it} {sent}\n" for it in numbers)).encode()
     refused = faults = 0
-    built("l4sh", "wire")
+    built("l4sh")
     with tempfile.TemporaryDirectory() as room:
         shim = built_shim(room, "refuse_memory")
         _, growths = growths_of(script, shim, room, "wire")

@@ -7,7 +7,7 @@ Without a script it takes those of checks/scripts/wire. With --every N it takes 
 Each `feed C HEXBYTES` is given again as pieces of one byte, of 7 bytes, and in two at each place, on its own and in all lines at once.
 Of more than 1,000 bytes only the first and the last 500 places are tried.
 The bytes that go out on each connection, the connections that end, in their order, and the answers of `connect` have to be the same.
-Scripts that end in a bad line are left out. It builds l4sh first by running it."""
+Scripts that end in a bad line are left out. It builds l4sh first."""
 import collections
 import subprocess
 import sys
@@ -67,7 +67,7 @@ def is_feed(line):
 
 
 def main(scripts, every):
-    built("l4sh", "wire")
+    built("l4sh")
     runs = failed = 0
     for number, script in enumerate(scripts):
         lines = [line for line in stored(script).decode().split("\n") if line]

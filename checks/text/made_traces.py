@@ -6,7 +6,7 @@
 Takes the traces of the scripts and of scripts made at random, of which both say `yes`. Of each it makes others: an entry
 is left out, doubled, moved to another place, or changed in one field. They are written in both versions in turn, and in version 2 alone where a number above
 255 is opened. Of each `l4sh check` has to say what the rules say: `yes`, or the first line that does not follow and what was expected
-there. It builds l4sh first by running it; the seed makes it repeat a run."""
+there. It builds l4sh first; the seed makes it repeat a run."""
 import os
 import random
 import sys
@@ -218,7 +218,7 @@ def wanted(header, lines, good):
 def main(words):
     seed = int(words[1]) if words[:1] == ["--seed"] else random.randrange(1 << 32)
     scripts = words[2:] if words[:1] == ["--seed"] else words
-    built("l4sh", "run")
+    built("l4sh")
     some = random.Random(seed)
     kinds = dict.fromkeys(["whole", "dropped", "doubled", "moved", "changed"], 0)
     yes = failed = 0

@@ -222,6 +222,10 @@ def refusals(place):
             shutil.copy(f"{ROOT}/{name}", f"{bare}/{name}")
         refused = run(f"{bare}/install", env={**os.environ, "DESTDIR": f"{bare}/to"})
         assert refused.returncode == 1 and "is not proved" in refused.stderr and not os.path.exists(f"{bare}/to"), refused
+        for name in ("l4d", "packaging/start"):
+            shutil.copy(f"{ROOT}/{name}", f"{bare}/{name}")
+        refused = run(f"{bare}/l4d", "--help")
+        assert refused.returncode == 1 and "./build" in refused.stderr and "./try l4d" in refused.stderr, refused
         for name in ("packaging/deb", "CHANGELOG.md"):
             shutil.copy(f"{ROOT}/{name}", f"{bare}/{name}")
         for told, more in (("is not proved", {"SOURCE_DATE_EPOCH": "0"}), ("SOURCE_DATE_EPOCH", {})):
@@ -232,7 +236,7 @@ def refusals(place):
     assert refused.returncode == 2 and "PREFIX" in refused.stderr, refused
     refused = installed(place, "--remove")
     assert refused.returncode == 2 and "usage" in refused.stderr, refused
-    return 5
+    return 6
 
 
 def debs(place):

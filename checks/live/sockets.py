@@ -7,7 +7,7 @@ checks/live/sockets.py --at PATH        asks the server that listens on PATH, bu
 Exit 0 where every answer was right: a receive that is held until another connection sends, half frames, refusals, 1,023 live threads and one
 more, a reconnection, ExchangeRegisters over connections, 100 processes in pairs and 100 in a star with each answer checked, and processes that
 are killed at random moments. At the end the server has as many threads and files as before, and its memory is told. The server writes a trace
-meanwhile, of which l4sh, which is built first where it is missing, says that it is a legal history.
+meanwhile, of which l4sh, which has to be built, says that it is a legal history.
 """
 import os, random, resource, signal, socket, struct, subprocess, sys, tempfile, time
 

@@ -30,6 +30,15 @@ def unproved(name):
     return f"{ROOT}/out/unproved/{name}"
 
 
+def lock_of(asks):
+    """The file by whose lock one run waits for another; ends where this tree cannot be written."""
+    try:
+        os.makedirs(f"{ROOT}/out", exist_ok=True)
+        return open(f"{ROOT}/out/{asks}.lock", "w")
+    except OSError as error:
+        sys.exit(f"{asks}: {error.filename}: {error.strerror}")
+
+
 def keep(name, built, began):
     """Makes what a build that began then has proved the program of that name."""
     os.makedirs(f"{ROOT}/out", exist_ok=True)

@@ -76,7 +76,7 @@ print("{}")
 
 def kits():
     """./build, ./test and ./try say in their first line where the kit has another logic, and nothing of a kit with another letter alone. All end that say
-    much, and ./try tells it."""
+    much, and ./try tells it. A tree that cannot be written is told in a line."""
     made_with, facts = ["build", "test", "try", "crates.txt", "checks/lib/kit.py", "crates/l4sh_options/src/version.rt"], 0
     for kit, is_other in ((f"any-kit logic {proved_with()}", False), ("any-kit logic 0123456789abcdef", True)):
         with tempfile.TemporaryDirectory() as place:
@@ -92,6 +92,12 @@ def kits():
                 first = told.stderr.partition("\n")[0]
                 assert told.returncode == 1 and (f"this kit is `{kit}`" in first) == is_other == ("proved with logic" in told.stderr), (words, kit, told)
                 assert words[0] != "try" or told.stderr.count("refused\n") == 20_000, told.stderr[-400:]
+                facts += 1
+            shutil.rmtree(f"{place}/out")
+            open(f"{place}/out", "w").close()
+            for words in (["build"], ["try", "l4d", "--help"]):
+                told = run(f"{place}/{words[0]}", *words[1:], env={**os.environ, "PATH": f"{place}:{os.environ['PATH']}"})
+                assert told.returncode == 1 and f"{place}/out" in told.stderr and "Traceback" not in told.stderr, told
                 facts += 1
     return facts
 

@@ -7,6 +7,7 @@ use Rattle.ipc_lock.specs.Boxes.{Begins, BoxParts, EndsWork, Loads, Works, Write
 use Rattle.ipc_lock.specs.Places.{StaysAll, TakesBack, WorksFor}
 use Rattle.ipc_lock.specs.Rounds.{Carries}
 use Rattle.ipc_lock.specs.declared.errands.Errands.{Errands}
+use Rattle.ipc_lock.specs.declared.inside.Inside.{Inside}
 use Rattle.ipc_lock.specs.declared.post_box.Work.{Work}
 use Rattle.ipc_lock.specs.declared.post_box.Work.TheVariants as work
 use Rattle.ipc_pen.specs.Pens.{Page}
@@ -59,9 +60,14 @@ takes_out P old new boxes after place number pen h = go (slice_get boxes place) 
     go None is h = absurd (subst (λ (next : Option (Work P)). GoesOn next) h.1 tt)
     go (Some box) is h = by_number box is (is_of number box.number) refl h
 
-pub ends_work : (P : Type 0) (old new : KernelParts) (boxes after : List BoxParts) (place number : ℕ)
-    → WorksFor {P = P} old new boxes after place number (slice_get boxes place) (Some work.Over) → EndsWorkSome P place number
-ends_work P old new boxes after place number over = record { old = old; new = new; boxes = boxes; boxes_now = after; over = over }
+pub ends_work : (C T P : Type 0) (old new : Inside C T P) (place number : ℕ) (next : Option (Work P))
+    → WorksFor {P = P} old.locked.kernel new.locked.kernel old.boxes.items new.boxes.items place number (slice_get old.boxes.items place) next
+    → next ≡ Some work.Over → EndsWorkSome C T P place number
+ends_work C T P old new place number next works is = record {
+  old = old;
+  new = new;
+  over = subst (λ (n : Option (Work P)). WorksFor {P = P} old.locked.kernel new.locked.kernel old.boxes.items new.boxes.items place number (slice_get old.boxes.items place) n) is works;
+}
 
 pub lays_some : {P : Type 0} (old new : KernelParts) (boxes after : List BoxParts) (errands again left : Errands P) (pen : Page)
     → TakesBack old new boxes after errands again → errands.first ≡ Some pen → errands.second ≡ None → errands.third ≡ None → Carries again left

@@ -187,12 +187,10 @@ pub record TakesOutSome (place number : ℕ) (pen : Page) : Type 0 where
 
 -- nothing more is written for the connection of this number: its box, that of this place, is shut
 -- and empty, its device failed, or it has none
-pub record EndsWorkSome (P : Type 0) (place number : ℕ) : Type 0 where
-  pub old : KernelParts
-  pub new : KernelParts
-  pub boxes : List BoxParts
-  pub boxes_now : List BoxParts
-  pub over : WorksFor {P = P} old new boxes boxes_now place number (slice_get boxes place) (Some work.Over)
+pub record EndsWorkSome (C T P : Type 0) (place number : ℕ) : Type 0 where
+  pub old : Inside C T P
+  pub new : Inside C T P
+  pub over : WorksFor {P = P} old.locked.kernel new.locked.kernel old.boxes.items new.boxes.items place number (slice_get old.boxes.items place) (Some work.Over)
 
 -- a pen was laid down in the box of its connection, if there is one; where it came out again with
 -- what is told next it went round until it was laid down

@@ -154,10 +154,10 @@ impl<C: Ledger, T: Ledger, P: PenPort + Drop> SharedKernel<C, T, P> {
 
     /// Waits until a box's pen lies there with something to write that nobody else has taken, and
     /// takes it out. None once nothing more comes, or the device has failed.
-    #[tactic(auto, using(crate::proofs::Working::takes_out, crate::proofs::Working::ends_work))]
+    #[tactic(auto, using(crate::proofs::Working::takes_out))]
     pub fn wait_pen<R: Wait>(&self, rt: &R, end: &TakeEnd) -> Option<Loaded<P>>
         ensures takes { IfSome result (λ pen. TakesOutSome end.now.place end.now.number pen) }
-        ensures over { IfNone result (EndsWorkSome P end.now.place end.now.number) }
+        ensures over { IfNone result (EndsWorkSome C T P end.now.place end.now.number) }
     {
         let mut inside = self.inside(rt);
         for _ in rt.forever() {

@@ -3,6 +3,9 @@
 
 mod checker;
 mod compacted;
+mod incremental;
+mod ongoing;
 
 pub use checker::{Verdict, check};
 pub use compacted::check_from;
+pub use incremental::Checker;

@@ -6,11 +6,11 @@ ghost use Rattle.ipc_shell.specs.Checking.{ChecksTrace, PrintsVerdict, expected_
 
 use crate::exit::Exit;
 use crate::output::put;
-use ipc_check::{Verdict, check};
+use ipc_check::{Checker, Verdict};
 use ipc_history::{Entry, Output};
 use ipc_lines::entry_line;
 use ipc_ports::{PortRead, PortWrite};
-use ipc_trace::{TraceEnd, TraceRead, TraceVersion, read_trace};
+use ipc_trace::{EntrySink, TraceEnd, TraceVersion, read_entries};
 use std::alloc::{AllocError, Global};
 
 /// Checks the trace of a reader, and prints to the writer whether it is a legal history: `yes`, or
@@ -32,10 +32,11 @@ pub fn check_trace<R: PortRead, W: PortWrite>(alloc: Global, reader: &mut R, wri
     ensures flushed { result ≢ Exit.DeviceFailed
         → W.flushed writer.old ≡ true → W.flushed writer.new ≡ true }
 {
-    let read = read_trace(alloc, reader);
+    let mut judge = Judge::new(alloc);
+    let read = read_entries(alloc, reader, &mut judge);
     match read.end {
-        TraceEnd::Whole => judge(alloc, &read, false, writer),
-        TraceEnd::Torn => judge(alloc, &read, true, writer),
+        TraceEnd::Whole => print_verdict(alloc, read.version, &judge, false, writer),
+        TraceEnd::Torn => print_verdict(alloc, read.version, &judge, true, writer),
         TraceEnd::BadLine(number) => Exit::BadLine(number),
         TraceEnd::UnknownVersion => Exit::UnknownVersion,
         TraceEnd::DeviceFailed => Exit::DeviceFailed,
@@ -43,17 +44,55 @@ pub fn check_trace<R: PortRead, W: PortWrite>(alloc: Global, reader: &mut R, wri
     }
 }
 
-/// Prints the verdict on the entries that were read, and whether a torn line stands behind them.
-fn judge<W: PortWrite>(alloc: Global, read: &TraceRead, is_torn: bool, writer: &mut W) -> Exit
-    ensures prints { PrintsVerdict read.now.version read.now.entries.items is_torn
+// The checker, as what the entries of a trace go to.
+#[derive(Drop)]
+struct Judge {
+    checker: Checker,
+}
+
+impl Judge {
+    ghost use Rattle.std.specs.Prelude.{◌≡◌, []};
+
+    // It was given no entry.
+    fn new(alloc: Global) -> Judge
+        ensures { result.checker ≡ [] }
+    {
+        Judge {
+            checker: Checker::new(alloc),
+        }
+    }
+}
+
+impl EntrySink for Judge {
+    ghost given = { λ judge. judge.checker };
+
+    fn count(&self) -> usize {
+        self.checker.count()
+    }
+
+    fn give(&mut self, entry: Entry) -> Result<(), AllocError> {
+        self.checker.give(entry)
+    }
+}
+
+// Prints the verdict on the entries that were given, and whether a torn line stands behind them.
+fn print_verdict<W: PortWrite>(
+    alloc: Global,
+    version: TraceVersion,
+    judge: &Judge,
+    is_torn: bool,
+    writer: &mut W,
+) -> Exit
+    ensures prints { PrintsVerdict version judge.now.checker is_torn
         (W.written writer.old) (W.written writer.new) result }
     ensures failed { result ≡ Exit.DeviceFailed → W.failures writer.old < W.failures writer.new }
     ensures kept { result ≢ Exit.DeviceFailed → W.failures writer.new ≡ W.failures writer.old }
     ensures flushed { result ≢ Exit.DeviceFailed
         → W.flushed writer.old ≡ true → W.flushed writer.new ≡ true }
 {
-    let verdict = check(&read.entries);
-    let Ok(text) = verdict_lines(alloc, read.version, &verdict, is_torn) else {
+    let _ = judge.checker.count();
+    let verdict = judge.checker.verdict();
+    let Ok(text) = verdict_lines(alloc, version, &verdict, is_torn) else {
         return Exit::NoMemory;
     };
     match put(writer, text.as_bytes()) {

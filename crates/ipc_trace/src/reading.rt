@@ -6,6 +6,7 @@ ghost use Rattle.ipc_trace.specs.Versions.{version_so_far};
 
 use crate::fault::{LineFault, TraceEnd};
 use crate::lines::{LineEnd, next_line};
+use crate::sink::EntrySink;
 use crate::version::{FirstLine, TraceVersion, first_line};
 use ipc_history::Entry;
 use ipc_lines::{lines_are_within_the_limit, lines_hold_no_newline, read_entry};
@@ -24,8 +25,7 @@ pub struct TraceRead {
     pub end: TraceEnd,
 }
 
-/// Reads a trace to its end, to its first bad line, or until the device or the memory fails. It
-/// keeps the entries, and of the lines no more than the one that is being read.
+/// Reads a trace as [`read_entries`] does, and keeps its entries.
 pub fn read_trace<P: PortRead>(alloc: Global, port: &mut P) -> TraceRead
     ensures read { IsRead (P.remaining port.old) (P.remaining port.new)
         result.version result.entries.items result.end }
@@ -36,16 +36,47 @@ pub fn read_trace<P: PortRead>(alloc: Global, port: &mut P) -> TraceRead
     ensures kept { result.end ≢ TraceEnd.DeviceFailed
         → P.failures port.new ≡ P.failures port.old }
 {
+    let mut entries = Vec::new(alloc);
+    let ending = read_entries(alloc, port, &mut entries);
+    TraceRead {
+        version: ending.version,
+        entries,
+        end: ending.end,
+    }
+}
+
+/// How a trace was read whose entries went to a sink.
+#[derive(Clone, Copy)]
+pub struct TraceEnding {
+    /// The version that its first line tells; version 1 where none was told.
+    pub version: TraceVersion,
+    /// How the reading ended.
+    pub end: TraceEnd,
+}
+
+/// Reads a trace to its end, to its first bad line, or until the device, the memory or the sink
+/// fails, and gives its entries to a sink that was given none. It keeps no more than the line that
+/// is being read.
+pub fn read_entries<P: PortRead, S: EntrySink>(
+    alloc: Global,
+    port: &mut P,
+    sink: &mut S,
+) -> TraceEnding
+    requires none { length (S.given sink.old) ≡ 0 }
+    ensures read { IsRead (P.remaining port.old) (P.remaining port.new)
+        result.version (S.given sink.new) result.end }
+    ensures unknown { IfSome (P.remaining port.old)
+        (λ bytes. HasUnknownVersion bytes → MayEndAtUnknown result.end) }
+    ensures failed { result.end ≡ TraceEnd.DeviceFailed
+        → P.failures port.old < P.failures port.new }
+    ensures kept { result.end ≢ TraceEnd.DeviceFailed
+        → P.failures port.new ≡ P.failures port.old }
+{
     lines_hold_no_newline();
     let mut reader = TraceLines::new(alloc);
-    let mut entries = Vec::new(alloc);
-    let end = read_entries(alloc, port, &mut reader, &mut entries);
+    let end = read_whole(alloc, port, &mut reader, sink);
     let version = reader.version();
-    TraceRead {
-        version,
-        entries,
-        end,
-    }
+    TraceEnding { version, end }
 }
 
 /// Reads the lines of a trace, which are given one by one. A contract sees the version that was
@@ -135,47 +166,47 @@ fn read_entry_of(alloc: Global, version: TraceVersion, line: &[u8]) -> Result<En
     }
 }
 
-// Appends the entries of a trace to none, and says how the reading ended.
-fn read_entries<P: PortRead>(
+// Gives the entries of a trace to a sink that was given none, and says how the reading ended.
+fn read_whole<P: PortRead, S: EntrySink>(
     alloc: Global,
     port: &mut P,
     reader: &mut TraceLines,
-    entries: &mut Vec<Entry>,
+    sink: &mut S,
 ) -> TraceEnd
     requires first { reader.old ≡ None }
-    requires none { length entries.old.items ≡ 0 }
+    requires none { length (S.given sink.old) ≡ 0 }
     ensures read { IsRead (P.remaining port.old) (P.remaining port.new)
-        (version_so_far reader.new) entries.new.items result }
+        (version_so_far reader.new) (S.given sink.new) result }
     ensures failed { result ≡ TraceEnd.DeviceFailed → P.failures port.old < P.failures port.new }
     ensures kept { result ≢ TraceEnd.DeviceFailed → P.failures port.new ≡ P.failures port.old }
 {
     let mut buffer = PieceBuffer::new();
     let mut line = Vec::new(alloc);
-    let end = read_lines(port, &mut buffer, &mut line, reader, entries);
+    let end = read_lines(port, &mut buffer, &mut line, reader, sink);
     drop(line);
     end
 }
 
 // The same, line by line, through a buffer that holds nothing and the memory of a line.
-fn read_lines<P: PortRead>(
+fn read_lines<P: PortRead, S: EntrySink>(
     port: &mut P,
     buffer: &mut PieceBuffer,
     line: &mut Vec<u8>,
     reader: &mut TraceLines,
-    entries: &mut Vec<Entry>,
+    sink: &mut S,
 ) -> TraceEnd
     requires first { reader.old ≡ None }
-    requires none { length entries.old.items ≡ 0 }
+    requires none { length (S.given sink.old) ≡ 0 }
     requires empty { buffer.old ≡ [] }
     ensures read { IsRead (P.remaining port.old) (P.remaining port.new)
-        (version_so_far reader.new) entries.new.items result }
+        (version_so_far reader.new) (S.given sink.new) result }
     ensures failed { result ≡ TraceEnd.DeviceFailed → P.failures port.old < P.failures port.new }
     ensures kept { result ≢ TraceEnd.DeviceFailed → P.failures port.new ≡ P.failures port.old }
 {
     'lines: loop {
         match next_line(port, buffer, line) {
             LineEnd::Newline => {
-                if let Some(end) = take_line(reader, line, entries) {
+                if let Some(end) = take_line(reader, line, sink) {
                     return end;
                 }
             }
@@ -187,17 +218,18 @@ fn read_lines<P: PortRead>(
     }
 }
 
-// Reads a line, and appends its entry. Where it is not read, the reading ends so.
-fn take_line(reader: &mut TraceLines, line: &[u8], entries: &mut Vec<Entry>) -> Option<TraceEnd>
-    ensures { TakesEntry reader.old reader.new entries.old.items entries.new.items line.now result }
+// Reads a line, and gives its entry to the sink. Where it is not read, the reading ends so.
+fn take_line<S: EntrySink>(reader: &mut TraceLines, line: &[u8], sink: &mut S) -> Option<TraceEnd>
+    ensures { TakesEntry reader.old reader.new (S.given sink.old) (S.given sink.new)
+        line.now result }
 {
     match reader.read(line) {
         Ok(None) => None,
-        Ok(Some(entry)) => match entries.push(entry) {
+        Ok(Some(entry)) => match sink.give(entry) {
             Ok(()) => None,
             Err(_) => Some(TraceEnd::NoMemory),
         },
-        Err(LineFault::Bad) => Some(TraceEnd::BadLine(reader.version().line_of(entries.len()))),
+        Err(LineFault::Bad) => Some(TraceEnd::BadLine(reader.version().line_of(sink.count()))),
         Err(LineFault::UnknownVersion) => Some(TraceEnd::UnknownVersion),
         Err(LineFault::NoMemory) => Some(TraceEnd::NoMemory),
     }

@@ -7,7 +7,7 @@ use Rattle.ipc_trace.proofs.reading.read_lines.Given as goal
 
 abbrev pub invariant-lines : goal.invariant-lines
 invariant-lines g l = record {
-  so_far : LinesSoFar (g.P.PortRead.remaining l.fn.port) (prepend_known l.buffer (g.P.PortRead.remaining l.port)) l.reader l.entries.items;
+  so_far : LinesSoFar (g.P.PortRead.remaining l.fn.port) (prepend_known l.buffer (g.P.PortRead.remaining l.port)) l.reader (g.S.EntrySink.given l.sink);
   failures : g.P.PortRead.failures l.port ≡ g.P.PortRead.failures l.fn.port;
 }
 

@@ -1,0 +1,42 @@
+//! Where the entries of a trace go that is read.
+ghost use Rattle.std.specs.Prelude.{◌≡◌, ◌+◌, ◌<◌, ◌^◌, ◌∷◌, ◌++◌, [], List, length, OnOk, OnErr};
+ghost use Rattle.ipc_history.specs.declared.entry.Entry.{Entry};
+
+use ipc_history::Entry;
+use std::alloc::AllocError;
+
+/// What takes entries one by one.
+pub trait EntrySink {
+    // The entries that it was given, oldest first.
+    ghost given: { Self → List Entry };
+
+    /// How many entries it was given.
+    fn count(&self) -> usize
+        ensures count { result ≡ length (given self.now) }
+        ensures few { result + 2 < 2 ^ 64 };
+
+    /// Gives it one more entry.
+    ///
+    /// # Errors
+    ///
+    /// It has no memory for the entry, which was not given to it.
+    fn give(&mut self, entry: Entry) -> Result<(), AllocError>
+        ensures ok { OnOk result (given self.new ≡ given self.old ++ entry ∷ []) }
+        ensures err { OnErr result (given self.new ≡ given self.old) };
+}
+
+/// It keeps them.
+impl EntrySink for Vec<Entry> {
+    ghost given = { λ entries. entries.items };
+
+    fn count(&self) -> usize {
+        self.len()
+    }
+
+    fn give(&mut self, entry: Entry) -> Result<(), AllocError> {
+        match self.push(entry) {
+            Ok(()) => Ok(()),
+            Err(_) => Err(AllocError),
+        }
+    }
+}

@@ -33,6 +33,8 @@ NOBODY, BIG = 99 << 32 | 1, 64 << 10
 FOLLOWERS, FOLLOWER_BYTES = 4, 8 << 20
 BLOCKED = "import signal, os, sys; signal.pthread_sigmask(signal.SIG_BLOCK, [signal.SIGTERM]); os.execv(sys.argv[1], sys.argv[1:])"
 
+PART, SLOW = b"l4part 1\n", b"the trace is slow: ask again\n"
+
 tally = Tally()
 check = tally.check
 
@@ -56,12 +58,23 @@ def answer_to(server, word):
         return rest_of(line)
 
 
+def begun(server):
+    """A connection that follows, and the first bytes that it got. Where the trace is slow, as on a busy machine, it asks again."""
+    while True:
+        line = asker(server)
+        first = line.recv(len(PART), socket.MSG_WAITALL)
+        if first != SLOW[:len(PART)]:
+            return line, first
+        line.close()
+
+
 class Following(threading.Thread):
     """Somebody who follows a server, and reads all."""
 
     def __init__(self, server):
         super().__init__(daemon=True)
-        self.line, self.text, self.has_begun = asker(server), b"", threading.Event()
+        self.line, self.text = begun(server)
+        self.has_begun = threading.Event()
         self.start()
         check("a part comes", self.has_begun.wait(SECONDS), self.text[:200])
 
@@ -232,9 +245,11 @@ def check_slow(l4d, l4sh):
     with served(l4d) as server:
         one, two = (Client(server.path, number) for number in (1, 2))
         load(server, one, two)
-        dead = [asker(server) for _ in range(FOLLOWERS)]
-        for line in dead:
-            check("a part comes first", line.recv(9) == b"l4part 1\n")
+        dead = []
+        for _ in range(FOLLOWERS):
+            line, first = begun(server)
+            tally.same("a part comes first", first, PART)
+            dead.append(line)
         time.sleep(0.5)
         tally.same("more do not follow at one time", answer_to(server, "trace follow"), "full: 4 follow already\n")
         check("but others ask", answer_to(server, "state").startswith("moment "))

@@ -9,7 +9,7 @@ import signal
 import subprocess
 import time
 
-SECONDS = 60
+SECONDS = 120
 PROMPT = b"ready> "
 # What a terminal puts around a paste for a shell that asks for it; the key behind it is Enter.
 PASTE = b"\x1b[200~%s\x1b[201~\r"
@@ -39,7 +39,7 @@ def pasted(block, last, folder):
 
 
 def typed_in_zsh(block, last, folder):
-    """In a shell that takes `#` for a word where somebody types it."""
+    """In a shell that takes `#` for a word where somebody types it, and runs what is in the background with less priority."""
     return at_a_terminal(keys(block + last), folder, "zsh", "-f", "-i")
 
 

@@ -1,5 +1,7 @@
 ghost use Rattle.std.specs.List.{list_any};
-ghost use Rattle.std.specs.Prelude.{◌≡◌};
+ghost use Rattle.std.specs.Prelude.{◌≡◌, ◌⊎◌, IfSome};
+ghost use Rattle.std.specs.Fmt.{decimal};
+ghost use Rattle.ipc_lines.specs.Texts.{hex_text};
 ghost use Rattle.l4sh_follow.specs.Selecting.{has_label, is_one_of, is_told, names_one};
 
 use ipc_lines::{read_decimal, read_hex};
@@ -30,7 +32,9 @@ pub(crate) struct Subject {
 }
 
 /// A label, a decimal or in HEX. None for other words.
-pub fn read_label(word: &str) -> Option<u64> {
+pub fn read_label(word: &str) -> Option<u64>
+    ensures { IfSome result (λ label. (word.now ≡ decimal label) ⊎ (word.now ≡ hex_text label)) }
+{
     match read_decimal(word.as_bytes()) {
         Some(label) => Some(label),
         None => read_hex(word.as_bytes()),

@@ -18,7 +18,7 @@ use std::marker::Model;
 const MOST_BYTES: u64 = 1 << 22;
 
 // What a call takes beside its strings, at most, in bytes.
-const CALL_BYTES: u64 = 1024;
+const CALL_BYTES: u64 = 2048;
 
 /// A legal history that goes on, seen as its entries, oldest first. Memory holds of them those that
 /// enter the open calls, and some that enter calls that are over.

@@ -97,19 +97,25 @@ fn print_state<W: PortWrite>(
 
 /// Leaves so many entries of parts, the first ones.
 fn cut(parts: &mut Vec<Part>, count: usize) {
+    let whole = cut_entries(parts, count);
+    parts.truncate(whole);
+}
+
+/// The same of the entries alone, and says up to which part they go.
+fn cut_entries(parts: &mut [Part], count: usize) -> usize {
     let mut left = count;
     let mut whole = parts.len();
     for place in 0..parts.len() {
-        let entries = &mut parts[place].entries;
-        if left < entries.len() {
-            entries.truncate(left);
+        let held = parts[place].entries.len();
+        if left < held {
+            parts[place].entries.truncate(left);
             whole = whole.min(place.saturating_add(1));
             left = 0;
         } else {
-            left -= entries.len();
+            left = left.saturating_sub(held);
         }
     }
-    parts.truncate(whole);
+    whole
 }
 
 /// The deliveries to anybody else that these entries tell.

@@ -16,7 +16,7 @@ const MAX_GIVEN: usize = 1 << 63;
 
 /// Judges the entries that it is given one by one, as [`check`](crate::check) judges a list, and is
 /// seen as the list of them. Of a legal history it holds the calls that are open, and of those that
-/// are over some 4 MiB; behind the first fault it only counts.
+/// are over some 32 MiB; behind the first fault it only counts.
 #[derive(Drop)]
 pub struct Checker {
     // the entries before the first fault

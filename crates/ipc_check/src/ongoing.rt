@@ -15,7 +15,7 @@ use std::alloc::{AllocError, Global};
 use std::marker::Model;
 
 // Where the calls that came since the last time have so many bytes, those that are over are let go.
-const MOST_BYTES: u64 = 1 << 22;
+const MOST_BYTES: u64 = 1 << 25;
 
 // What a call takes beside its strings, at most, in bytes.
 const CALL_BYTES: u64 = 2048;

@@ -3,9 +3,10 @@
 use Rattle.std.proofs.lemmas.Bool.{false≢true}
 use Rattle.std.proofs.lemmas.List.{take-append-le, take_all}
 use lib.Seq.{take-append_seam}
-use Rattle.std.proofs.lemmas.List.Elements.{All-filter, All-head, All-tail, All-weaker, Contains-append_left}
-use Rattle.std.proofs.Common.{◌≡◌, refl, sym, ap, ◌∙◌, subst, append-nil, append_assoc, ℕ, ◌+◌, ◌<◌, Bool, true, false, eqb-true, List, [], ◌∷◌, ◌++◌, length, length-append, take, filter, Option, Some, None, is_some, Result, Ok, Err, OnOk, OnErr, All, Contains, arith}
-use Rattle.std.specs.Prelude.{◌↔◌}
+use Rattle.std.proofs.lemmas.List.Elements.{All-head, All-push, All-set, All-weaker, Contains-append_left}
+use Rattle.std.proofs.Common.{◌≡◌, refl, sym, ap, ◌∙◌, subst, append-nil, append_assoc, ℕ, zero, suc, ◌+◌, ◌<◌, slice_index_or, slice_set, Bool, true, false, eqb-true, List, [], ◌∷◌, ◌++◌, length, length-append, take, Option, Some, None, is_some, Result, Ok, Err, OnOk, OnErr, All, Contains, if◌then◌else◌, arith}
+use Rattle.std.specs.Bool.{OnTrue}
+use Rattle.std.specs.Prelude.{◌↔◌, not}
 use Rattle.std.specs.Option.{option_or}
 use Rattle.ipc_words.specs.ThreadId.{number_of}
 use Rattle.ipc_history.specs.CallParts.{CallParts}
@@ -21,16 +22,17 @@ use Rattle.ipc_history.specs.declared.entry.Entry.TheVariants.{Given, Written}
 use Rattle.ipc_history.specs.declared.entry.Input.TheVariants.{At, Opened, Called, Exreg, Broke, Moved}
 use Rattle.ipc_history.specs.declared.entry.Output.{Output}
 use Rattle.ipc_history.proofs.EnteredOnce.{entered_once, silent_call}
-use Rattle.ipc_history.proofs.HoldingLemmas.{pushed_holds}
+use Rattle.ipc_history.proofs.HoldingLemmas.{first_among, pushed_holds, second_among}
 use Rattle.ipc_laws.proofs.Histories.{follows_last}
 use Rattle.ipc_laws.proofs.OneOpen.{caller_at}
 use Rattle.ipc_laws.proofs.Steps.{call_at_push}
+use Rattle.ipc_slots.specs.PastSlots.{PastSlots}
 use Rattle.ipc_slots.specs.Slot.{Slot}
 use Rattle.ipc_slots.specs.Slots.{slot_at, slot_of}
 use Rattle.ipc_slots.specs.Steps.{holds}
 use Rattle.ipc_slots.proofs.Holders.{held_somewhere}
-use Rattle.ipc_check.specs.Faults.{IfNo, IsFirstFault}
-use Rattle.ipc_check.specs.Ongoing.{IsJudged, IsJudgment, is_held_call, max_given}
+use Rattle.ipc_check.specs.Faults.{HasFaultAt, IfNo, IsFirstFault}
+use Rattle.ipc_check.specs.Ongoing.{IsJudged, IsJudgment, IsOngoing, IsSpare, is_held_call, max_given}
 use Rattle.ipc_check.specs.declared.checker.Verdict.{Verdict}
 use Rattle.ipc_check.specs.declared.checker.Verdict.TheVariants.{Yes, No}
 use Rattle.ipc_check.proofs.Walks.{fault_whole, no_is_not_yes}
@@ -52,29 +54,84 @@ some_first n (Given (Broke thread)) call is = absurd (false≢true is)
 some_first n (Given (Moved k count)) call is = absurd (false≢true is)
 some_first n (Written output) call is = absurd (false≢true is)
 
--- a call stays held where the entries that enter it pass the test
-passes_called : (test : Entry → Bool) (n : ℕ) (held : List Entry) → All (λ e. calls n e ≡ true → test e ≡ true) held → is_called held n ≡ true → is_called (filter test held) n ≡ true
+-- a call that is held stays so behind another entry
+later_called : (n : ℕ) (e : Entry) (rest : List Entry) → is_called rest n ≡ true → is_called (e ∷ rest) n ≡ true
 unfolding is_called call_at
-passes_called test n [] all is = is
-passes_called test n (e ∷ held) all is =
-    go (λ none. passes_called test n held (All-tail (λ e. calls n e ≡ true → test e ≡ true) e held all) (rw (silent_call n e none) at is)) (calls n e) refl (test e) refl
+later_called n e rest is = go (calls n e) refl
   where
-    pass : calls n e ≡ true → test e ≡ true
-    pass = All-head (λ e. calls n e ≡ true → test e ≡ true) e held all
+    go : (b : Bool) → calls n e ≡ b → is_some (first_some (call_in n) (e ∷ rest)) ≡ true
+    go true enters = some_first n e (first_some (call_in n) rest) enters
+    go false none = rw (silent_call n e none) is
 
-    go : (calls n e ≡ false → is_some (first_some (call_in n) (filter test held)) ≡ true) → (b : Bool) → calls n e ≡ b → (c : Bool) → test e ≡ c
-        → is_some (first_some (call_in n) (filter test (e ∷ held))) ≡ true
-    go later true enters true passes = rw passes (some_first n e (first_some (call_in n) (filter test held)) enters)
-    go later true enters false fails = absurd (false≢true (sym fails ∙ pass enters))
-    go later false none true passes = rw (passes, silent_call n e none) (later none)
-    go later false none false fails = rw fails (later none)
+-- an entry that does not enter it does not matter
+only_later : (n : ℕ) (e : Entry) (rest : List Entry) → calls n e ≡ false → is_called (e ∷ rest) n ≡ true → is_called rest n ≡ true
+unfolding is_called call_at
+only_later n e rest none is = rw (silent_call n e none) at is
 
--- of what is held the entries of open calls are kept
-pub filtered_holds : (P held : List Entry) (test : Entry → Bool) → Holds P held → ((n : ℕ) (e : Entry) → is_over P n ≡ false → Contains P e → calls n e ≡ true → test e ≡ true) → Holds P (filter test held)
-filtered_holds P held test holds keeps = record {
-  among = All-filter test (Contains P) held holds.among;
-  called = λ n opened. passes_called test n held (All-weaker (Contains P) (λ e. calls n e ≡ true → test e ≡ true) (λ e inside is. keeps n e opened inside is) held holds.among) (holds.called n opened);
+first_called : (n : ℕ) (e : Entry) (rest : List Entry) → calls n e ≡ true → is_called (e ∷ rest) n ≡ true
+unfolding is_called call_at
+first_called n e rest enters = some_first n e (first_some (call_in n) rest) enters
+
+-- the last entry may stand before the others
+moved_called : (n : ℕ) (e : Entry) (rest : List Entry) → is_called (rest ++ e ∷ []) n ≡ true → is_called (e ∷ rest) n ≡ true
+moved_called n e [] is = is
+moved_called n e (x ∷ rest) is = go (λ silent. moved_called n e rest (only_later n x (rest ++ e ∷ []) silent is)) (calls n e) refl (calls n x) refl
+  where
+    go : (calls n x ≡ false → is_called (e ∷ rest) n ≡ true) → (b : Bool) → calls n e ≡ b → (c : Bool) → calls n x ≡ c → is_called (e ∷ x ∷ rest) n ≡ true
+    go again true enters c is_c = first_called n e (x ∷ rest) enters
+    go again false none true enters = later_called n e (x ∷ rest) (first_called n x rest enters)
+    go again false none false silent = later_called n e (x ∷ rest) (later_called n x rest (only_later n e rest none (again silent)))
+
+-- the last entry may stand instead of one that does not enter it
+set_called : (n : ℕ) (e : Entry) (held : List Entry) (place : ℕ) → place < length held → ((d : Entry) → calls n (slice_index_or held place d) ≡ false)
+    → is_called (held ++ e ∷ []) n ≡ true → is_called (slice_set held place e) n ≡ true
+set_called n e [] place within silent is = absurd (omega (arith, within))
+set_called n e (x ∷ held) zero within silent is = moved_called n e held (only_later n x (held ++ e ∷ []) (silent x) is)
+set_called n e (x ∷ held) (suc place) within silent is =
+    go (λ none. set_called n e held place (omega (arith, within)) silent (only_later n x (held ++ e ∷ []) none is)) (calls n x) refl
+  where
+    go : (calls n x ≡ false → is_called (slice_set held place e) n ≡ true) → (b : Bool) → calls n x ≡ b → is_called (x ∷ slice_set held place e) n ≡ true
+    go again true enters = first_called n x (slice_set held place e) enters
+    go again false none = later_called n x (slice_set held place e) (again none)
+
+-- an entry takes the place of one that enters no open call
+pub set_holds : (P held : List Entry) (place : ℕ) (e : Entry) → IsSpare P held place → Holds P (held ++ e ∷ []) → Holds P (slice_set held place e)
+set_holds P held place e spare holds = record {
+  among = All-set (Contains P) held place e (All-head (Contains P) e [] (second_among P held (e ∷ []) holds)) (first_among P held (e ∷ []) holds);
+  called = λ n opened. set_called n e held place spare.within (spare.silent n opened) (holds.called n opened);
 }
+
+nothing_called : (n : ℕ) → is_called [] n ≡ true → ⊥
+unfolding is_called call_at
+nothing_called n is = false≢true is
+
+-- a call that is held stays so before another entry
+called_before : (n : ℕ) (rest : List Entry) (e : Entry) → is_called rest n ≡ true → is_called (rest ++ e ∷ []) n ≡ true
+called_before n [] e is = absurd (nothing_called n is)
+called_before n (x ∷ rest) e is = go (λ none. called_before n rest e (only_later n x rest none is)) (calls n x) refl
+  where
+    go : (calls n x ≡ false → is_called (rest ++ e ∷ []) n ≡ true) → (b : Bool) → calls n x ≡ b → is_called (x ∷ rest ++ e ∷ []) n ≡ true
+    go again true enters = first_called n x (rest ++ e ∷ []) enters
+    go again false none = later_called n x (rest ++ e ∷ []) (again none)
+
+-- a copy of an entry of the past may be held too
+pub copy_holds : (P held : List Entry) (e : Entry) → Contains P e → Holds P held → Holds P (held ++ e ∷ [])
+copy_holds P held e inside all = record {
+  among = All-push (Contains P) held e all.among inside;
+  called = λ n opened. called_before n held e (all.called n opened);
+}
+
+pub pushed_copy : (P held : List Entry) (e : Entry) (b : Bool) → Contains P e → Holds P held → Holds P (if b then held ++ e ∷ [] else held)
+pushed_copy P held e true inside all = copy_holds P held e inside all
+pushed_copy P held e false inside all = all
+
+-- a copy of an entry takes the place of one that enters no open call
+pub replaced : (P view held items : List Entry) (slots : PastSlots) (place : ℕ) (copy e : Entry) → IsOngoing P slots held → P ≡ view → copy ≡ e → Contains view e → items ≡ held
+    → IsSpare slots.past items place → IsOngoing P slots (slice_set held place copy)
+replaced P view held items slots place copy e was seen same inside all spare =
+    let among : Contains P copy = subst (λ l. Contains l copy) (sym seen) (subst (Contains view) (sym same) inside) in
+    let here : IsSpare P held place = subst (λ l. IsSpare l held place) was.told (subst (λ l. IsSpare slots.past l place) all spare) in
+    record { told = was.told; holds = set_holds P held place copy here (copy_holds P held copy among was.holds) }
 
 -- the slot of its caller holds an open call
 pub open_is_held : (P : List Entry) → Legal P → (table : List Slot) → ((k : ℕ) → slot_at table k ≡ slot_of P k) → (n : ℕ) (e : Entry) → is_over P n ≡ false → Contains P e → calls n e ≡ true → is_held_call table e ≡ true
@@ -91,6 +148,25 @@ open_is_held P legal table are n (Given (Exreg thread target control)) opened in
 open_is_held P legal table are n (Given (Broke thread)) opened inside is = absurd (false≢true is)
 open_is_held P legal table are n (Given (Moved k count)) opened inside is = absurd (false≢true is)
 open_is_held P legal table are n (Written output) opened inside is = absurd (false≢true is)
+
+-- an entry that no slot holds enters no open call
+pub spare_is : (P held : List Entry) (place : ℕ) (e : Entry) → Legal P → (table : List Slot) → ((k : ℕ) → slot_at table k ≡ slot_of P k) → All (Contains P) held
+    → place < length held → ((d : Entry) → slice_index_or held place d ≡ e) → is_held_call table e ≡ false → IsSpare P held place
+spare_is P held place e legal table are among within at free = record {
+  within = within;
+  silent = λ n opened d. rw (at d) (silent n opened (calls n e) refl);
+}
+  where
+    inside : Contains P e
+    inside = subst (Contains P) (at e) (among place e within)
+
+    silent : (n : ℕ) → is_over P n ≡ false → (b : Bool) → calls n e ≡ b → calls n e ≡ false
+    silent n opened true enters = absurd (false≢true (sym free ∙ open_is_held P legal table are n e opened inside enters))
+    silent n opened false none = none
+
+pub if_not : (Q : Type 0) (b : Bool) → (b ≡ false → Q) → OnTrue (not b) Q
+if_not Q true f = tt
+if_not Q false f = f refl
 
 -- an entry that does not follow is the first fault
 pub fault_here : (P : List Entry) (e : Entry) (expected : Option Output) → Legal P → (Follows P e → ⊥) → expected ≡ next_output P → IsFirstFault (P ++ e ∷ []) (length P) expected
@@ -118,10 +194,10 @@ fault_stays H e index expected fault =
 pub given_behind : (front rest new : List Entry) (e : Entry) → new ≡ rest ++ e ∷ [] → front ++ new ≡ (front ++ rest) ++ e ∷ []
 given_behind front rest new e is = ap (λ l. front ++ l) is ∙ sym (append_assoc front rest (e ∷ []))
 
-no_rest : (front rest : List Entry) → rest ≡ [] → front ++ rest ≡ front
+pub no_rest : (front rest : List Entry) → rest ≡ [] → front ++ rest ≡ front
 no_rest front rest none = ap (λ l. front ++ l) none ∙ append-nil front
 
-rest_is : (front rest : List Entry) (verdict : Verdict) → verdict ≡ Yes → IsJudgment front rest verdict → rest ≡ []
+pub rest_is : (front rest : List Entry) (verdict : Verdict) → verdict ≡ Yes → IsJudgment front rest verdict → rest ≡ []
 rest_is front rest verdict told_yes judged = subst (IsJudgment front rest) told_yes judged
 
 pub given_in_front : (front new rest : List Entry) (count : ℕ) (verdict : Verdict) (e : Entry) → verdict ≡ Yes → IsJudged front rest count verdict → new ≡ front ++ e ∷ []
@@ -179,6 +255,9 @@ pub yes_is_legal : (front rest : List Entry) (verdict : Verdict) → Legal front
 yes_is_legal front rest Yes legal none = ((λ told_yes. subst Legal (sym (no_rest front rest none)) legal), (λ whole. refl))
 yes_is_legal front rest (No index expected) legal fault =
     ((λ told_yes. absurd (no_is_not_yes index expected told_yes)), (λ whole. absurd (fault_whole (front ++ rest) index expected fault whole)))
+
+pub fault_at : (front rest : List Entry) (verdict : Verdict) (index : ℕ) (expected : Option Output) → verdict ≡ No index expected → IsJudgment front rest verdict → HasFaultAt (front ++ rest) index
+fault_at front rest verdict index expected told_no judged = (expected, subst (IsJudgment front rest) told_no judged)
 
 pub no_is_fault : (front rest : List Entry) (verdict : Verdict) → IsJudgment front rest verdict → IfNo verdict (IsFirstFault (front ++ rest))
 no_is_fault front rest Yes none = tt

@@ -15,6 +15,10 @@ pub record IsFirstFault (H : List Entry) (index : ℕ) (expected : Option Output
   pub fault : Legal (take (index + 1) H) → ⊥
   pub told : expected ≡ next_output (take index H)
 
+-- the first fault is at this place
+abbrev pub HasFaultAt : List Entry → ℕ → Type 0
+HasFaultAt H index = (expected : Option Output) × IsFirstFault H index expected
+
 -- behind a past: with the entries before the place it is legal, with those up to it not, and this
 -- is the output that the rules ask for there
 pub record IsFirstFaultAfter (P H : List Entry) (index : ℕ) (expected : Option Output) : Type 0 where

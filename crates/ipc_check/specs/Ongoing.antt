@@ -1,7 +1,9 @@
 -- A history that goes on, and what is judged of one that is given entry by entry.
-use Rattle.std.specs.Prelude.{◌≡◌, ℕ, ◌^◌, ◌≤◌, List, [], ◌++◌, length, Bool, false}
+use Rattle.std.specs.Prelude.{◌≡◌, ℕ, ◌^◌, ◌<◌, ◌≤◌, IsFalse, slice_index_or, List, [], ◌++◌, length, Bool, false}
 use Rattle.ipc_words.specs.ThreadId.{number_of}
+use Rattle.ipc_history.specs.Entries.{calls}
 use Rattle.ipc_history.specs.Holding.{Holds}
+use Rattle.ipc_history.specs.Phases.{is_over}
 use Rattle.ipc_history.specs.declared.entry.Entry.{Entry}
 use Rattle.ipc_history.specs.declared.entry.Entry.TheVariants.{Given}
 use Rattle.ipc_history.specs.declared.entry.Input.TheVariants.{Called}
@@ -22,6 +24,11 @@ pub record IsOngoing (P : List Entry) (slots : PastSlots) (held : List Entry) : 
 abbrev pub is_held_call : List Slot → Entry → Bool
 is_held_call table (Given (Called number caller call)) = holds (slot_at table (number_of caller)) number
 is_held_call table _ = false
+
+-- the entry at a place enters no open call
+pub record IsSpare (P held : List Entry) (place : ℕ) : Type 0 where
+  pub within : place < length held
+  pub silent : (n : ℕ) → IsFalse (is_over P n) → (d : Entry) → IsFalse (calls n (slice_index_or held place d))
 
 -- so many entries at most are given to a checker  -- limit
 abbrev pub max_given : ℕ

@@ -1,6 +1,6 @@
-ghost use Rattle.std.specs.Prelude.{◌≡◌, ◌↔◌, ◌∷◌, ◌++◌, ◌+◌, ◌<◌, ◌≤◌, [], length, OnOk, OnErr};
+ghost use Rattle.std.specs.Prelude.{◌≡◌, ◌↔◌, ◌∷◌, ◌++◌, ◌+◌, ◌<◌, ◌≤◌, [], length, IfOk, IfErr, OnOk, OnErr};
 ghost use Rattle.ipc_history.specs.Legal.{Legal};
-ghost use Rattle.ipc_check.specs.Faults.{IsFirstFault, IfNo};
+ghost use Rattle.ipc_check.specs.Faults.{HasFaultAt, IsFirstFault, IfNo};
 ghost use Rattle.ipc_check.specs.Ongoing.{IsJudged, max_given};
 ghost use Rattle.ipc_check.specs.declared.checker.Verdict.TheVariants.{Yes};
 
@@ -8,6 +8,7 @@ use crate::checker::Verdict;
 use crate::ongoing::Ongoing;
 use ipc_base::Past;
 use ipc_history::Entry;
+use ipc_slots::Slots;
 use std::alloc::{AllocError, Global};
 use std::marker::Model;
 
@@ -15,8 +16,8 @@ use std::marker::Model;
 const MAX_GIVEN: usize = 1 << 63;
 
 /// Judges the entries that it is given one by one, as [`check`](crate::check) judges a list, and is
-/// seen as the list of them. Of a legal history it holds the calls that are open, and of those that
-/// are over some 32 MiB; behind the first fault it only counts.
+/// seen as the list of them. Of a legal history it holds the calls that are open; behind the first
+/// fault it only counts.
 #[derive(Drop)]
 pub struct Checker {
     // the entries before the first fault
@@ -71,6 +72,21 @@ impl Checker {
     {
         let _ = self.front.slots();
         self.verdict
+    }
+
+    /// What the entries that it was given say of each thread number.
+    ///
+    /// # Errors
+    ///
+    /// They are no legal history: the place of the first that does not follow those before it.
+    pub fn slots(&self) -> Result<&Slots, usize>
+        ensures slots { IfOk result (λ slots. slots.now.past ≡ self.now) }
+        ensures fault { IfErr result (HasFaultAt self.now) }
+    {
+        match self.verdict {
+            Verdict::Yes => Ok(self.front.slots()),
+            Verdict::No { index, .. } => Err(index),
+        }
     }
 
     /// Gives it one more entry.

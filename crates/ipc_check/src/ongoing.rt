@@ -1,34 +1,28 @@
-ghost use Rattle.std.specs.Prelude.{◌≡◌, ◌∷◌, ◌++◌, [], OnOk, OnErr, None};
+ghost use Rattle.std.specs.Prelude.{◌≡◌, ◌+◌, ◌≤◌, ◌∷◌, ◌++◌, [], All, Contains, IfSome, OnOk, OnErr, None, vec_len, vec_capacity};
 ghost use Rattle.std.specs.Bool.{OnFalse, OnTrue};
 ghost use Rattle.ipc_history.specs.Entries.{number_in};
+ghost use Rattle.ipc_history.specs.Holding.{Holds};
 ghost use Rattle.ipc_history.specs.Legal.{Follows, Legal};
 ghost use Rattle.ipc_history.specs.NextOutput.{next_output};
 ghost use Rattle.ipc_slots.specs.Slots.{slot_at};
 ghost use Rattle.ipc_slots.specs.Steps.{holds};
-ghost use Rattle.ipc_check.specs.Ongoing.{is_held_call};
+ghost use Rattle.ipc_check.specs.Ongoing.{IsSpare, is_held_call};
 
 use ipc_base::Past;
 use ipc_history::{Entries, Entry, Input, Output};
 use ipc_rules::{follows, next_output};
-use ipc_slots::{KeptSlots, Slots};
+use ipc_slots::{Change, KeptSlots, Slots};
 use std::alloc::{AllocError, Global};
 use std::marker::Model;
 
-// Where the calls that came since the last time have so many bytes, those that are over are let go.
-const MOST_BYTES: u64 = 1 << 25;
-
-// What a call takes beside its strings, at most, in bytes.
-const CALL_BYTES: u64 = 2048;
-
 /// A legal history that goes on, seen as its entries, oldest first. Memory holds of them those that
-/// enter the open calls, and some that enter calls that are over.
+/// enter the open calls, each at the place of its caller's number, and at each other place one that
+/// enters no open call.
 #[derive(Drop)]
 pub(crate) struct Ongoing {
     past: Past<Entry>,
     slots: Slots,
     held: Vec<Entry>,
-    // the bytes of the calls that came since those that are over were let go
-    bytes: u64,
 }
 
 impl Model for Ongoing {
@@ -52,7 +46,6 @@ impl Ongoing {
             past: Past::new(),
             slots: Slots::new(),
             held: Vec::new(alloc),
-            bytes: 0,
         }
     }
 
@@ -112,28 +105,11 @@ impl Ongoing {
         ensures ok { OnOk result (self.new ≡ self.old ++ entry ∷ []) }
         ensures err { OnErr result (self.new ≡ self.old) }
     {
-        if self.is_full() {
-            self.let_go();
-        }
-        self.push(entry)
-    }
-
-    /// Whether the calls that came since those that are over were let go have many bytes.
-    fn is_full(&self) -> bool {
-        self.bytes >= MOST_BYTES
-    }
-
-    /// The same, and lets go of none.
-    fn push(&mut self, entry: Entry) -> Result<(), AllocError>
-        requires { Follows self.old entry }
-        ensures ok { OnOk result (self.new ≡ self.old ++ entry ∷ []) }
-        ensures err { OnErr result (self.new ≡ self.old) }
-    {
         self.held.reserve(1)?;
-        self.bytes = self.bytes.saturating_add(bytes_of(&entry));
-        let _ = self.slots.note(&entry, self.held.len());
+        let place = place_of(&entry);
+        let _ = self.slots.note(&entry, place);
         self.past.add(&entry);
-        self.held.push_reserved(entry);
+        lodge(&mut self.held, &self.slots, place, entry);
         Ok(())
     }
 
@@ -143,25 +119,96 @@ impl Ongoing {
         requires no_call { number_in entry.now ≡ None }
         ensures { self.new ≡ self.old ++ entry.now ∷ [] }
     {
-        let _ = self.slots.note(entry, 0);
+        let changes = self.slots.note(entry, 0);
         self.past.add(entry);
+        self.settle(changes.first, entry);
+        self.settle(changes.second, entry);
     }
 
-    /// Lets go of the entries of calls that are over.
-    fn let_go(&mut self)
+    /// Lets go of the call of a slot that the last entry changed, where that call is over. Where
+    /// the entry opened the first thread of a number, its calls have a place from then on.
+    fn settle(&mut self, change: Option<Change>, entry: &Entry)
+        requires { Contains self.old entry.now }
         ensures { self.new ≡ self.old }
     {
-        let slots = self.slots.kept();
-        self.held.retain(|entry| is_held_call(slots, entry));
-        self.bytes = 0;
+        let Some(change) = change else {
+            return;
+        };
+        for _ in self.held.len()..change.place.saturating_add(1) {
+            self.widen(entry);
+        }
+        self.replace(change.place, entry);
+    }
+
+    /// Holds a copy of an entry of the history behind all others.
+    fn widen(&mut self, entry: &Entry)
+        requires { Contains self.old entry.now }
+        ensures { self.new ≡ self.old }
+    {
+        if let Some(copy) = copy_of(entry) {
+            let _ = self.held.push(copy);
+        }
+    }
+
+    /// Holds a copy of an entry of the history at a place, instead of one that enters no open call.
+    fn replace(&mut self, place: usize, entry: &Entry)
+        requires { Contains self.old entry.now }
+        ensures { self.new ≡ self.old }
+    {
+        let Some(copy) = copy_of(entry) else {
+            return;
+        };
+        if is_spare(&self.held, &self.slots, place) {
+            self.held[place] = copy;
+        }
     }
 }
 
-/// How many bytes an entry that is held may take.
-fn bytes_of(entry: &Entry) -> u64 {
+/// Holds an entry at a place, instead of one that enters no open call; behind all others where
+/// there is none.
+fn lodge(held: &mut Vec<Entry>, slots: &Slots, place: usize, entry: Entry)
+    requires holds { Holds slots.now.past (held.old.items ++ entry ∷ []) }
+    requires room { vec_len held.old + 1 ≤ vec_capacity held.old }
+    ensures { Holds slots.now.past held.new.items }
+{
+    if is_spare(held, slots, place) {
+        held[place] = entry;
+    } else {
+        held.push_reserved(entry);
+    }
+}
+
+/// Whether the entry at a place, which is of the history of these slots, enters no open call.
+fn is_spare(held: &[Entry], slots: &Slots, place: usize) -> bool
+    requires { All (Contains slots.now.past) held.now }
+    ensures { OnTrue result (IsSpare slots.now.past held.now place) }
+{
+    let kept = slots.kept();
+    match held.get(place) {
+        Some(entry) => !is_held_call(kept, entry),
+        None => false,
+    }
+}
+
+/// The number of the caller of the call that an entry enters.
+fn place_of(entry: &Entry) -> usize {
     match entry {
-        Entry::Given(Input::Called(_, _, call)) => CALL_BYTES + call.call().strings().size(),
+        Entry::Given(Input::Called(_, caller, _)) => caller.number() as usize,
         _ => 0,
+    }
+}
+
+/// The same entry, where it opens a thread or may end calls.
+fn copy_of(entry: &Entry) -> Option<Entry>
+    ensures { IfSome result (λ copy. copy ≡ entry.now) }
+{
+    match entry {
+        Entry::Given(Input::Opened(thread, space)) => {
+            Some(Entry::Given(Input::Opened(*thread, *space)))
+        }
+        Entry::Given(Input::Broke(thread)) => Some(Entry::Given(Input::Broke(*thread))),
+        Entry::Written(output) => Some(Entry::Written(*output)),
+        _ => None,
     }
 }
 

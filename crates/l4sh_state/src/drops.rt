@@ -15,32 +15,38 @@ pub struct Dropped {
     pub originator: ThreadId,
 }
 
-/// The calls whose p was dropped, the last one of each originator.
+/// The calls of the entries so far whose p was dropped, the last one of each originator.
 #[derive(Drop)]
 pub struct Drops {
+    spaces: Spaces,
     drops: Vec<Dropped>,
 }
 
 /// The calls of a history whose p was dropped, the last one of each originator.
 pub fn drops_of(alloc: Global, entries: &[Entry]) -> Result<Drops, AllocError> {
-    let mut spaces = Spaces::new(alloc);
-    let mut drops = Drops {
-        drops: Vec::new(alloc),
-    };
+    let mut drops = Drops::new(alloc);
     for entry in entries {
-        spaces.note(entry)?;
-        drops.note(entry, &spaces)?;
+        drops.note(entry)?;
     }
-    drop(spaces);
     Ok(drops)
 }
 
 impl Drops {
-    fn note(&mut self, entry: &Entry, spaces: &Spaces) -> Result<(), AllocError> {
+    /// Of no entry. Takes no memory.
+    pub fn new(alloc: Global) -> Drops {
+        Drops {
+            spaces: Spaces::new(alloc),
+            drops: Vec::new(alloc),
+        }
+    }
+
+    /// Takes note of the next entry.
+    pub fn note(&mut self, entry: &Entry) -> Result<(), AllocError> {
+        self.spaces.note(entry)?;
         let Entry::Given(Input::Called(call, caller, entered)) = entry else {
             return Ok(());
         };
-        match spaces.shown_as(*caller, entered.call()).dropped() {
+        match self.spaces.shown_as(*caller, entered.call()).dropped() {
             Some(originator) => self.keep(Dropped {
                 call: *call,
                 caller: *caller,

@@ -12,3 +12,8 @@ pub mod Rounds
 pub mod Above
 pub mod Parting
 pub mod Telling
+pub mod InsideParts
+pub mod Gifts
+pub mod Making
+pub mod Turns
+pub mod Logs

@@ -2,7 +2,6 @@
 -- entries before it.
 use Rattle.std.specs.Prelude.{◌≡◌, ℕ, List, IfSome, drop, length}
 use Rattle.ipc_history.specs.Holding.{marked_to}
-use Rattle.ipc_history.specs.Legal.{Legal}
 use Rattle.ipc_history.specs.declared.entry.Entry.{Entry}
 use Rattle.ipc_compact.specs.Compact.{base_of, kept_of}
 use Rattle.ipc_core.specs.Compacting.{Compacts}
@@ -36,17 +35,3 @@ pub record IsPartOf (history : List Entry) (taken : List ℕ) (part : HeldPart) 
 pub record IsBehind (history : List Entry) (taken : List ℕ) (place : ℕ) (behind : Behind) : Type 0 where
   pub rest : behind.rest.items ≡ drop place history
   pub part : IfSome behind.part (IsPartOf history taken)
-
--- the base and the kept entries of some legal history
-pub record IsPart (part : HeldPart) : Type 0 where
-  pub history : List Entry
-  pub taken : List ℕ
-  pub legal : Legal history
-  pub is_of : IsPartOf history taken part
-
--- entries that end a legal history, and the part that begins behind them
-pub record EndsAPart (place : ℕ) (behind : Behind) : Type 0 where
-  pub history : List Entry
-  pub taken : List ℕ
-  pub legal : Legal history
-  pub is_behind : IsBehind history taken place behind

@@ -216,6 +216,14 @@ pub record Frees (free free_now : List ℕ) (place count room : ℕ) : Type 0 wh
   pub left : free_now ≡ (if noted then free ++ place ∷ [] else free)
   pub full : noted ≡ false → room ≤ count
 
+-- a place is free so, where its box is that of the connection of this number; else none is
+pub record FreesSome (boxes : List BoxParts) (place number : ℕ) : Type 0 where
+  pub free : List ℕ
+  pub free_now : List ℕ
+  pub count : ℕ
+  pub room : ℕ
+  pub frees : MatchBool (is_in number (slice_get boxes place)) (Frees free free_now place count room) (free_now ≡ free)
+
 -- the box of a number, once no thread is told in that of a place any more
 abbrev pub disowned : ℕ → Option ℕ → Option ℕ
 disowned place None = None

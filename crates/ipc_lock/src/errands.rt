@@ -1,5 +1,6 @@
 //! The pens that a step took out.
 ghost use Rattle.std.specs.Prelude.{◌≡◌, ◌&&◌, None, Some, true, IfSome, is_some, not};
+ghost use Rattle.ipc_lock.specs.Gifts.{no_errands};
 ghost use Rattle.ipc_lock.specs.Places.{OnlyWrites, added, entered_of};
 
 use crate::entered::Entered;
@@ -34,6 +35,7 @@ impl<P: PenPort + Drop> Errands<P> {
         ensures first { result.first ≡ None }
         ensures second { result.second ≡ None }
         ensures third { result.third ≡ None }
+        ensures none { result ≡ no_errands }
     {
         Errands {
             first: None,

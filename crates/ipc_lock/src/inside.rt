@@ -1,12 +1,12 @@
 //! What stands under the lock: the kernel with its books, and the boxes of the connections.
-ghost use Rattle.std.specs.Prelude.{◌≡◌, ◌+◌, ◌*◌, ◌^◌, ◌≤◌, ◌||◌, ◌&&◌, [], IfOk, IfErr, length, min, nat_lt, not, vec_capacity};
+ghost use Rattle.std.specs.Prelude.{◌≡◌, ◌+◌, ◌*◌, ◌^◌, ◌≤◌, ◌||◌, ◌&&◌, [], None, IfOk, IfErr, length, min, nat_lt, not, replicate, vec_capacity};
 ghost use Rattle.ipc_core.specs.Obeying.{empty_kernel};
 ghost use Rattle.ipc_history.specs.Legal.{Legal};
 ghost use Rattle.ipc_history.specs.Paired.{Paired};
 ghost use Rattle.ipc_lock.specs.Acting.{ActsOn, AnswersStep, GivesSeat, HandsBack, is_idle};
 ghost use Rattle.ipc_lock.specs.Upkeeping.{LetsGo, first_upkeep};
 ghost use Rattle.ipc_lock.specs.Noting.{NotesOn, has_begun_since, is_break};
-ghost use Rattle.ipc_words.specs.Limits.{max_calls, max_command_entries, max_entries};
+ghost use Rattle.ipc_words.specs.Limits.{max_calls, max_command_entries, max_entries, table_slots};
 
 mod asking;
 mod connecting;
@@ -18,7 +18,6 @@ mod reading;
 mod telling;
 mod waking;
 
-use crate::numbers::Numbers;
 use crate::post_box::PostBox;
 use crate::seated::{Answered, CallSeat, Locked};
 use crate::upkeep::Upkeep;
@@ -42,15 +41,14 @@ pub(crate) struct After {
     pub(crate) begun: bool,
 }
 
-/// The kernel with its books, the boxes, which of them are free, for each thread number the box
-/// where its outcomes are told, and the numbers of connections.
+/// The kernel with its books, the boxes, which of them are free, and for each thread number the box
+/// where its outcomes are told.
 #[derive(Drop)]
 pub(crate) struct Inside<C: Ledger, T: Ledger, P: PenPort + Drop> {
     locked: Locked<C, T>,
     boxes: Vec<PostBox<T, P>>,
     free: Vec<usize>,
     owners: Vec<Option<usize>>,
-    numbers: Numbers,
     finished: Vec<ThreadId>,
     // whether a transfer goes on, and whether the last step began one
     begun: bool,
@@ -86,6 +84,8 @@ impl<C: Ledger, T: Ledger, P: PenPort + Drop> Inside<C, T, P> {
         ensures upkeep { IfOk result (λ inside. inside.upkeep
             ≡ first_upkeep (min limits.entries max_entries)) }
         ensures boxes { IfOk result (λ inside. inside.boxes.items ≡ []) }
+        ensures owners { IfOk result (λ inside. inside.owners.items
+            ≡ replicate table_slots None) }
         ensures memory { IfErr result (λ refusal. refusal ≡ Refusal.NoMemory) }
     {
         let locked = Locked::new(alloc, limits, calls, takes)?;
@@ -101,13 +101,14 @@ impl<C: Ledger, T: Ledger, P: PenPort + Drop> Inside<C, T, P> {
         ensures locked { IfOk result (λ inside. inside.locked ≡ locked) }
         ensures upkeep { IfOk result (λ inside. inside.upkeep ≡ first_upkeep limit) }
         ensures boxes { IfOk result (λ inside. inside.boxes.items ≡ []) }
+        ensures owners { IfOk result (λ inside. inside.owners.items
+            ≡ replicate table_slots None) }
     {
         Ok(Inside {
             locked,
             boxes: Vec::new(alloc),
             free: Vec::new(alloc),
             owners: vec![in alloc; None; TABLE_SLOTS]?,
-            numbers: Numbers::new(),
             finished: Vec::with_capacity(alloc, 2 * TABLE_SLOTS)?,
             begun: false,
             has_begun: false,

@@ -12,7 +12,8 @@ mod reading;
 mod working;
 
 use crate::errands::Errands;
-use crate::inside::{After, Inside};
+use crate::inside::After;
+use crate::logged::Logged;
 use crate::seated::{Answered, CallSeat, TakeSeat, Taken};
 use ipc_core::{Command, Limits, Refusal};
 use ipc_pen::PenPort;
@@ -24,7 +25,7 @@ use std::sync::{Condvar, Mutex, Wait};
 /// port `P`.
 #[derive(Drop)]
 pub struct SharedKernel<C: Ledger, T: Ledger, P: PenPort + Drop> {
-    inside: Mutex<Inside<C, T, P>>,
+    inside: Mutex<Logged<C, T, P>>,
     work: Condvar,
     strays: Condvar,
     trace: Condvar,
@@ -44,7 +45,7 @@ impl<C: Ledger, T: Ledger, P: PenPort + Drop> SharedKernel<C, T, P> {
         requires many_takes { takes.parts ≡ 2 ^ 63 }
         ensures { IfErr result (λ refusal. refusal ≡ Refusal.NoMemory) }
     {
-        let inside = Inside::new(alloc, limits, calls, takes)?;
+        let inside = Logged::new(alloc, limits, calls, takes)?;
         Ok(SharedKernel {
             inside: Mutex::new(inside),
             work: Condvar::new(),
@@ -101,13 +102,13 @@ impl<C: Ledger, T: Ledger, P: PenPort + Drop> SharedKernel<C, T, P> {
     /// Waits for the outcome of the seat's thread's last call. None once the thread is not live.
     #[tactic(auto, using(crate::proofs::Above::gives_some, crate::proofs::Above::not_live))]
     pub fn wait_outcome<R: Wait>(&self, rt: &R, seat: &mut TakeSeat<T>) -> Option<Taken<T>>
-        ensures gives { IfSome result (λ taken. GivesSome seat.old.thread taken.outcome) }
+        ensures gives { IfSome result (λ taken. GivesSome C P seat.old.thread taken.outcome) }
         ensures thread { seat.new.thread ≡ seat.old.thread }
         ensures named { IfSome result (λ taken. (taken.thread ≡ seat.old.thread)
             × (taken.amount ≡ seat.new.taken)) }
         ensures taken { IfSome result (λ _. seat.new.taken ≡ seat.old.taken + 1) }
         ensures none { IfNone result (seat.new.taken ≡ seat.old.taken) }
-        ensures gone { IfNone result (NotLiveSome seat.old.thread) }
+        ensures gone { IfNone result (NotLiveSome C P seat.old.thread) }
     {
         let mut inside = self.inside(rt);
         for _ in rt.forever() {

@@ -1,8 +1,7 @@
 //! The workers of a server beside those of its connections and of its trace: one for each path, the
 //! ticker and the mover.
-ghost use Rattle.std.specs.Prelude.{◌≡◌, [], Some, map};
-ghost use Rattle.ipc_session.specs.Keeping.{call_of};
-ghost use Rattle.ipc_session.specs.Sessions.{MayAskFor};
+ghost use Rattle.std.specs.Prelude.{◌≡◌, [], Some};
+ghost use Rattle.ipc_server.specs.Doing.{ServesOne};
 
 use crate::control::answer_askers;
 use crate::counters::counters_now;
@@ -288,7 +287,8 @@ where
     host.guests.leave(server.rt, ticket);
 }
 
-/// Serves a socket. What came through it asked for what was asked.
+/// Serves a socket. What came through it asked for what was asked, and each of that was done by its
+/// own end, from the space of its guest.
 fn serve_stream<'a, C, T, R>(
     server: &Server<'_, C, T, SocketPort, R>,
     guest: &Guest<'a, R>,
@@ -300,7 +300,8 @@ where
     T: Ledger + Send,
     R: Threads + Wait + Clock + Eprint + Sync,
     requires { writer.taken ≡ [] }
-    ensures { MayAskFor (Some []) (Some result.reader.inlet.came) (map call_of result.asked) }
+    ensures { ServesOne C SocketPort guest.now.space (Some []) (Some result.reader.inlet.came)
+        result.asked }
 {
     let ports = Ports {
         space: guest.space,

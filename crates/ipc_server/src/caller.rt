@@ -1,5 +1,5 @@
-ghost use Rattle.std.specs.Prelude.{◌≡◌, [], Some, map};
-ghost use Rattle.ipc_session.specs.Keeping.{call_of};
+ghost use Rattle.std.specs.Prelude.{◌≡◌, [], Some, None};
+ghost use Rattle.ipc_server.specs.Doing.{Does, told_at, unseated};
 
 use crate::noted::NotedEnd;
 use crate::server::Server;
@@ -11,17 +11,37 @@ use ipc_lock::{Entered, PostEnd};
 use ipc_pen::PenPort;
 use ipc_session::KernelPort;
 use ipc_words::ThreadId;
+use std::marker::Model;
 use std::rt::Clock;
 use std::sync::Wait;
 use std::sync::ledger::Ledger;
 
-/// The kernel port of a connection's reader: the shared kernel, by the connection's own end.
+/// The kernel port of a connection's reader: the shared kernel, by the connection's own end. At
+/// every moment all that is noted of that end was done by it, in order.
 #[derive(Drop)]
 pub struct Caller<'a, C: Ledger, T: Ledger, P: PenPort + Drop, R: Wait + Clock, G: Link> {
     server: &'a Server<'a, C, T, P, R>,
-    pub(crate) end: NotedEnd<C>,
+    end: NotedEnd<C>,
     thread: Option<ThreadId>,
     link: G,
+}
+
+impl<'a, C, T, P, R, G> Model for Caller<'a, C, T, P, R, G>
+where
+    C: Ledger,
+    T: Ledger,
+    P: PenPort + Drop,
+    R: Wait + Clock,
+    G: Link,
+{
+    ghost use Rattle.ipc_server.specs.Doing.{Does, unseated};
+    ghost use Rattle.ipc_server.specs.declared.noted.NotedEnd.{NotedEnd};
+
+    ghost Value = { NotedEnd C };
+
+    ghost view = { λ port. port.end };
+
+    ghost invariant = { λ port. Does P (unseated port.end.end) port.end.deeds port.end.end };
 }
 
 impl<'a, C, T, P, R, G> Caller<'a, C, T, P, R, G>
@@ -32,9 +52,12 @@ where
     R: Wait + Clock,
     G: Link + Drop,
 {
-    /// A port that opens its thread in the end's space.
+    /// A port that opens its thread in the end's space. Nothing was asked by that end.
+    #[tactic(auto, using(crate::proofs::DoingLemmas::begins))]
     pub fn new(server: &'a Server<'a, C, T, P, R>, end: PostEnd<C>, link: G) -> Self
-        ensures { result.end.deeds ≡ [] }
+        requires { end.seat ≡ None }
+        ensures end { result.end ≡ end }
+        ensures deeds { result.deeds ≡ [] }
     {
         Caller {
             server,
@@ -46,7 +69,8 @@ where
 
     /// Its end, once its reader has ended, and what was asked by it.
     pub fn into_end(self) -> NotedEnd<C>
-        ensures { result.deeds ≡ self.entry.end.deeds }
+        ensures end { result ≡ self.entry }
+        ensures does { Does P (unseated result.end) result.deeds result.end }
     {
         let Caller { end, .. } = self;
         end
@@ -85,7 +109,7 @@ where
     R: Wait + Clock,
     G: Link,
 {
-    ghost log = { λ port. Some (map call_of port.end.deeds) };
+    ghost log = { λ port. Some (told_at port.end port.deeds) };
 
     #[tactic(auto, using(crate::proofs::NotedLemmas::tells_asked))]
     fn ask(&mut self, request: Request) -> Told {

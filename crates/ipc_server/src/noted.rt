@@ -1,5 +1,7 @@
 //! The end of a connection's reader, and what was asked by it.
 ghost use Rattle.std.specs.Prelude.{◌≡◌, List, [], ◌∷◌, ◌++◌};
+ghost use Rattle.ipc_lock.specs.Above.{PostsOrDrops};
+ghost use Rattle.ipc_server.specs.Doing.{AsksBy, BreaksBy};
 ghost use Rattle.ipc_session.specs.Serving.{IsAnswer};
 ghost use Rattle.ipc_session.specs.Sessions.{deeds_left};
 ghost use Rattle.ipc_session.specs.declared.deed.Deed.TheVariants as deed;
@@ -15,7 +17,7 @@ use std::sync::Wait;
 use std::sync::ledger::Ledger;
 
 /// The end by which a connection's reader asks the shared kernel. Contracts see all that was asked
-/// by it, with the answers, in order.
+/// by it, with the answers, in order, and what each call of the shared kernel did.
 #[derive(Drop)]
 pub(crate) struct NotedEnd<C: Ledger> {
     pub(crate) end: PostEnd<C>,
@@ -25,7 +27,8 @@ pub(crate) struct NotedEnd<C: Ledger> {
 impl<C: Ledger> NotedEnd<C> {
     /// An end by which nothing was asked.
     pub(crate) fn new(end: PostEnd<C>) -> NotedEnd<C>
-        ensures { result.deeds ≡ [] }
+        ensures end { result.end ≡ end }
+        ensures deeds { result.deeds ≡ [] }
     {
         NotedEnd {
             end,
@@ -46,6 +49,7 @@ impl<C: Ledger> NotedEnd<C> {
         R: Wait + Clock,
         ensures asked { self.new.deeds ≡ self.old.deeds ++ deed.Asked request result.0 ∷ [] }
         ensures answer { IsAnswer request result.0 }
+        ensures asks { AsksBy P self.old.end request result.0 self.new.end }
     {
         let mut asked = Past::new();
         asked.add(&request);
@@ -62,7 +66,9 @@ impl<C: Ledger> NotedEnd<C> {
         T: Ledger,
         P: PenPort + Drop,
         R: Wait + Clock,
-        ensures { self.new.deeds ≡ self.old.deeds ++ deeds_left told }
+        ensures posted { self.new.deeds ≡ self.old.deeds ++ deeds_left told }
+        ensures end { self.new.end ≡ self.old.end }
+        ensures posts { PostsOrDrops C P self.old.end.place self.old.end.number told }
     {
         let posted = told;
         server.shared.post(server.rt, &self.end, posted);
@@ -75,7 +81,9 @@ impl<C: Ledger> NotedEnd<C> {
         T: Ledger,
         P: PenPort + Drop,
         R: Wait + Clock,
-        ensures { self.new.deeds ≡ self.old.deeds ++ deed.Broke ∷ [] }
+        ensures broke { self.new.deeds ≡ self.old.deeds ++ deed.Broke ∷ [] }
+        ensures end { self.new.end ≡ self.old.end }
+        ensures breaks { BreaksBy P self.old.end }
     {
         let now = server.now();
         server.shared.hang_up(server.rt, now, &self.end);

@@ -1,8 +1,11 @@
 //! The two workers of a connection.
-ghost use Rattle.std.specs.Prelude.{◌≡◌, [], map};
+ghost use Rattle.std.specs.Prelude.{◌≡◌, [], None, false, map, true};
+ghost use Rattle.ipc_lock.specs.Above.{EndsWorkSome};
 ghost use Rattle.ipc_pen.specs.Pens.{BeginsEmpty};
+ghost use Rattle.ipc_server.specs.Doing.{ReadsBy, ServesOne, unseated};
+ghost use Rattle.ipc_server.specs.Writing.{EndsWriting, TakesTurn, WritesAndLays};
 ghost use Rattle.ipc_session.specs.Keeping.{call_of};
-ghost use Rattle.ipc_session.specs.Sessions.{AsksFor, MayAskFor};
+ghost use Rattle.ipc_session.specs.Sessions.{AsksFor};
 
 use crate::caller::Caller;
 use crate::noted::NotedEnd;
@@ -93,8 +96,8 @@ pub struct Served<I: PortRead> {
 
 /// Serves one connection to its end: reads in this thread, and in one that it starts writes what no
 /// other thread could. Where that cannot be started, or there is no memory for a box, the link is
-/// shut down. What came asked for what was asked.
-#[tactic(auto, using(crate::proofs::NotedLemmas::asks_nothing))]
+/// shut down. What came asked for what was asked, and each of that was done by the connection's own
+/// end.
 pub fn serve_connection<C, T, P, R, I, G>(
     server: &Server<'_, C, T, P, R>,
     ports: Ports<P, I, G>,
@@ -107,7 +110,7 @@ where
     I: PortRead + Drop,
     G: Gate + Link + Drop + Send,
     requires { BeginsEmpty (P.written ports.writer) }
-    ensures { MayAskFor (I.came ports.reader) (I.came result.reader) (map call_of result.asked) }
+    ensures { ServesOne C P ports.space (I.came ports.reader) (I.came result.reader) result.asked }
 {
     let Ports {
         space,
@@ -145,7 +148,7 @@ fn turn_away<I: PortRead + Drop, G: Gate + Link + Drop>(reading: Reading<I, G>) 
     }
 }
 
-/// Serves a connection that has a box, by both workers, and answers its end.
+/// Serves a connection that has a box, by both workers, and answers its end, which had no seat.
 fn serve_both_ways<C, T, P, R, I, G>(
     server: &Server<'_, C, T, P, R>,
     posts: PostEnd<C>,
@@ -160,15 +163,17 @@ where
     R: Threads + Wait + Clock + Sync,
     I: PortRead + Drop,
     G: Gate + Link + Drop + Send,
-    ensures { MayAskFor (I.came reading.reader) (I.came result.1.reader)
-        (map call_of result.1.asked) }
+    requires { posts.seat ≡ None }
+    ensures { ReadsBy P (I.came reading.reader) (I.came result.1.reader) posts result.0
+        result.1.asked }
 {
     thread::scope(
         thread::scope_env(),
         server.rt,
         |scope|
-            ensures { MayAskFor (I.came reading.reader) (I.came result.1.reader)
-                (map call_of result.1.asked) }
+            requires { posts.seat ≡ None }
+            ensures { ReadsBy P (I.came reading.reader) (I.came result.1.reader) posts result.0
+                result.1.asked }
         {
             let is_started = start_worker(
                 scope,
@@ -180,7 +185,6 @@ where
 }
 
 /// Reads what the client sends where its writer has started; else the connection is turned away.
-#[tactic(auto, using(crate::proofs::NotedLemmas::may_ask, crate::proofs::NotedLemmas::asks_nothing))]
 fn read_if<C, T, P, R, I, G>(
     is_started: bool,
     server: &Server<'_, C, T, P, R>,
@@ -194,8 +198,9 @@ where
     R: Wait + Clock,
     I: PortRead + Drop,
     G: Gate + Link + Drop,
-    ensures { MayAskFor (I.came reading.reader) (I.came result.1.reader)
-        (map call_of result.1.asked) }
+    requires { posts.seat ≡ None }
+    ensures { ReadsBy P (I.came reading.reader) (I.came result.1.reader) posts result.0
+        result.1.asked }
 {
     if is_started {
         read_to_the_end(server, posts, reading)
@@ -217,7 +222,9 @@ where
     R: Wait + Clock,
     I: PortRead + Drop,
     G: Gate + Link + Drop,
-    ensures { AsksFor (I.came reading.reader) (I.came result.1.reader) (map call_of result.1.asked) }
+    requires { posts.seat ≡ None }
+    ensures { ReadsBy P (I.came reading.reader) (I.came result.1.reader) posts result.0
+        result.1.asked }
 {
     let Reading {
         mut reader,
@@ -251,8 +258,10 @@ where
     R: Wait + Clock,
     I: PortRead,
     G: Gate + Link,
-    requires { kernel_port.old.end.deeds ≡ [] }
-    ensures { AsksFor (I.came reader.old) (I.came reader.new) (map call_of kernel_port.new.end.deeds) }
+    requires { kernel_port.old.deeds ≡ [] }
+    ensures asks { AsksFor (I.came reader.old) (I.came reader.new)
+        (map call_of kernel_port.new.deeds) }
+    ensures home { unseated kernel_port.new.end ≡ unseated kernel_port.old.end }
 {
     let mut blocks = server.blocks();
     let _ = read_loop(server.alloc, reader, kernel_port, reads, &mut blocks);
@@ -260,7 +269,7 @@ where
     reads.stop_reading();
 }
 
-/// Writes what no other thread could write at once, and then shuts the link down.
+/// Writes what no other thread could write at once, up to the end, and then shuts the link down.
 fn write_to_the_end<C, T, P, R, G>(server: &Server<'_, C, T, P, R>, takes: TakeEnd, link: G)
 where
     C: Ledger,
@@ -268,16 +277,47 @@ where
     P: PenPort + Drop,
     R: Wait + Clock,
     G: Link + Drop,
+    ensures { EndsWriting C T P takes.place takes.number }
 {
-    for _ in server.rt.forever() {
-        match server.shared.wait_pen(server.rt, &takes) {
-            Some(pen) => write_with(server, pen),
-            None => break,
-        }
-    }
+    write_pens(server, &takes);
     server.shared.leave(server.rt, server.now(), &takes);
     link.shut_down();
     drop(link);
+}
+
+/// Writes with each pen that comes out for a connection's writer, until nothing more is written.
+fn write_pens<C, T, P, R>(server: &Server<'_, C, T, P, R>, takes: &TakeEnd)
+where
+    C: Ledger,
+    T: Ledger,
+    P: PenPort + Drop,
+    R: Wait + Clock,
+    ensures { EndsWorkSome C T P takes.now.place takes.now.number }
+{
+    for _ in server.rt.forever() {
+        if !write_next(server, takes) {
+            return;
+        }
+    }
+}
+
+/// Waits for the pen of a connection, and writes with it. False once nothing more is written.
+fn write_next<C, T, P, R>(server: &Server<'_, C, T, P, R>, takes: &TakeEnd) -> bool
+where
+    C: Ledger,
+    T: Ledger,
+    P: PenPort + Drop,
+    R: Wait + Clock,
+    ensures turn { result ≡ true → TakesTurn C P takes.now.place takes.now.number }
+    ensures over { result ≡ false → EndsWorkSome C T P takes.now.place takes.now.number }
+{
+    match server.shared.wait_pen(server.rt, takes) {
+        Some(pen) => {
+            write_with(server, pen);
+            true
+        }
+        None => false,
+    }
 }
 
 /// Writes with a pen, with patience, and gives it back.
@@ -287,6 +327,7 @@ where
     T: Ledger,
     P: PenPort + Drop,
     R: Wait + Clock,
+    ensures { WritesAndLays C P pen }
 {
     let mut pen = pen;
     let _ = pen.write(Patience::Waits);

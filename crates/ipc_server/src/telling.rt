@@ -2,7 +2,7 @@
 use crate::ended;
 use crate::exit::Exit;
 use clap::error::ErrorKind;
-use l4sh_options::{server_options, tell_version};
+use l4sh_options::{mistake_text, server_options, tell_version};
 use std::alloc::{AllocError, Global};
 use std::io;
 use std::process::ExitCode;
@@ -58,9 +58,17 @@ pub(crate) fn tell_error<R: Alloc + Files + Print + Eprint>(
             tell_version(rt, alloc, error)?;
             Ok(ExitCode::from(0))
         }
-        _ => {
-            rt.eprint(error)?;
+        _ => tell_mistake(rt, alloc, error),
+    }
+}
+
+/// Tells what is wrong with the words, and answers the status of the program.
+fn tell_mistake<R: Eprint>(rt: &R, alloc: Global, mistake: &clap::Error) -> io::Result<ExitCode> {
+    match mistake_text(alloc, mistake) {
+        Ok(text) => {
+            rt.eprint(&text)?;
             Ok(ExitCode::from(2))
         }
+        Err(_) => ended(rt, &Exit::NoMemory),
     }
 }

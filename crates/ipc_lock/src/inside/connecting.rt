@@ -1,7 +1,6 @@
 //! The boxes of connections: made, given back, and looked at.
-ghost use Rattle.std.specs.Prelude.{◌≡◌, ◌++◌, ◌∷◌, [], IfOk, MatchBool, OnErr, false, if◌then◌else◌, map, slice_get, vec_capacity, vec_len};
+ghost use Rattle.std.specs.Prelude.{◌≡◌, IfOk, MatchBool, OnErr, if◌then◌else◌, map, slice_get, vec_capacity, vec_len};
 ghost use Rattle.ipc_lock.specs.Boxes.{changed_at, new_box};
-ghost use Rattle.ipc_lock.specs.Numbering.{is_taken};
 ghost use Rattle.ipc_lock.specs.Places.{ConnectsAt, Frees, disowned, gives_back, is_empty_in, is_free_in, is_in, is_shut_in};
 ghost use Rattle.ipc_pen.specs.Pens.{BeginsEmpty, new_page};
 
@@ -64,28 +63,9 @@ impl<C: Ledger, T: Ledger, P: PenPort + Drop> Inside<C, T, P> {
         self.boxes.get(place)?.emptied()
     }
 
-    /// A number that no connection had, and an empty box with the pen of its port: one that was
-    /// given back, else a new one.
-    pub(crate) fn connect(&mut self, port: P) -> Result<(usize, u64), AllocError>
-        requires { BeginsEmpty (P.written port) }
-        ensures fresh { IfOk result (λ own. ConnectsAt self.old.free.items self.new.free.items
-            self.old.boxes.items self.new.boxes.items own.0
-            (new_box own.0 own.1 (new_page own.0 own.1 (P.written port) (P.failures port)))) }
-        ensures is_new { IfOk result (λ own. is_taken own.1 self.old.numbers ≡ false) }
-        ensures counts { IfOk result (λ own. self.new.numbers ≡ self.old.numbers ++ own.1 ∷ []) }
-        ensures err { OnErr result (self.new.boxes.items ≡ self.old.boxes.items) }
-        ensures owners { self.new.owners ≡ self.old.owners }
-        ensures locked { self.new.locked ≡ self.old.locked }
-    {
-        let Some(number) = self.numbers.take() else {
-            return Err(AllocError);
-        };
-        let place = self.place_for(port, number)?;
-        Ok((place, number))
-    }
-
-    /// An empty box with the pen of a port, for the connection of this number.
-    fn place_for(&mut self, port: P, number: u64) -> Result<usize, AllocError>
+    /// An empty box with the pen of a port, for the connection of this number: one that was given
+    /// back, else a new one.
+    pub(crate) fn connect(&mut self, port: P, number: u64) -> Result<usize, AllocError>
         requires { BeginsEmpty (P.written port) }
         ensures fresh { IfOk result (λ place. ConnectsAt self.old.free.items self.new.free.items
             self.old.boxes.items self.new.boxes.items place
@@ -93,7 +73,7 @@ impl<C: Ledger, T: Ledger, P: PenPort + Drop> Inside<C, T, P> {
         ensures err { OnErr result (self.new.boxes.items ≡ self.old.boxes.items) }
         ensures owners { self.new.owners ≡ self.old.owners }
         ensures locked { self.new.locked ≡ self.old.locked }
-        ensures numbers { self.new.numbers ≡ self.old.numbers }
+        ensures upkeep { self.new.upkeep ≡ self.old.upkeep }
     {
         if let Some(place) = self.free.pop() {
             if self.is_free(place) {
@@ -135,6 +115,7 @@ impl<C: Ledger, T: Ledger, P: PenPort + Drop> Inside<C, T, P> {
             ≡ (if is_in number (slice_get self.old.boxes.items place)
             then map (disowned place) self.old.owners.items else self.old.owners.items) }
         ensures locked { self.new.locked ≡ self.old.locked }
+        ensures upkeep { self.new.upkeep ≡ self.old.upkeep }
     {
         let is_its = self.is_in(place, number);
         if let Some(post_box) = self.boxes.get_mut(place) {
@@ -163,6 +144,7 @@ impl<C: Ledger, T: Ledger, P: PenPort + Drop> Inside<C, T, P> {
         ensures disowns { self.new.owners.items ≡ map (disowned place) self.old.owners.items }
         ensures boxes { self.new.boxes ≡ self.old.boxes }
         ensures locked { self.new.locked ≡ self.old.locked }
+        ensures upkeep { self.new.upkeep ≡ self.old.upkeep }
     {
         self.disown(place);
         // its room was made with the box
@@ -174,6 +156,7 @@ impl<C: Ledger, T: Ledger, P: PenPort + Drop> Inside<C, T, P> {
         ensures boxes { self.new.boxes ≡ self.old.boxes }
         ensures free { self.new.free ≡ self.old.free }
         ensures locked { self.new.locked ≡ self.old.locked }
+        ensures upkeep { self.new.upkeep ≡ self.old.upkeep }
         ensures owners { self.new.owners.items ≡ map (disowned place) self.old.owners.items }
     {
         disown_all(&mut self.owners, place);

@@ -2,6 +2,7 @@
 ghost use Rattle.std.specs.Prelude.{◌≡◌, None, IfNone, slice_get};
 ghost use Rattle.ipc_lock.specs.Boxes.{changed_at};
 ghost use Rattle.ipc_lock.specs.Places.{Ends, EndsAt, OnlyLoads, shut_for, thread_for};
+ghost use Rattle.ipc_lock.specs.Telling.{BreaksFor, BrokeFor};
 
 use super::{After, Inside};
 use crate::errands::Errands;
@@ -28,6 +29,11 @@ impl<C: Ledger, T: Ledger, P: PenPort + Drop> Inside<C, T, P> {
             (thread_for number (slice_get self.old.boxes.items place) ≡ None) }
         ensures shut { OnlyLoads (changed_at (shut_for number) self.old.boxes.items place)
             self.new.boxes.items }
+        ensures breaks { BreaksFor C self.old.upkeep self.new.upkeep self.old.locked.kernel
+            self.new.locked.kernel now (thread_for number (slice_get self.old.boxes.items place))
+            self.old.owners.items (changed_at (shut_for number) self.old.boxes.items place)
+            self.new.boxes.items errands.old errands.new }
+        ensures owners { self.new.owners ≡ self.old.owners }
     {
         let told_here = self.thread_at(place, number);
         self.shut(place, number);
@@ -39,7 +45,11 @@ impl<C: Ledger, T: Ledger, P: PenPort + Drop> Inside<C, T, P> {
     fn end_thread(&mut self, now: u64, thread: ThreadId, errands: &mut Errands<P>) -> After
         ensures ends { Ends self.old.upkeep self.new.upkeep self.old.locked.kernel
             self.new.locked.kernel now thread }
+        ensures broke { BrokeFor C self.old.upkeep self.new.upkeep self.old.locked.kernel
+            self.new.locked.kernel now thread self.old.owners.items self.old.boxes.items
+            self.new.boxes.items errands.old errands.new }
         ensures stay { OnlyLoads self.old.boxes.items self.new.boxes.items }
+        ensures owners { self.new.owners ≡ self.old.owners }
     {
         let (answered, after) = self.act_and_tell(now, None, Command::Broke(thread), errands);
         drop(answered);
@@ -52,6 +62,7 @@ impl<C: Ledger, T: Ledger, P: PenPort + Drop> Inside<C, T, P> {
         ensures shut { self.new.boxes.items
             ≡ changed_at (shut_for number) self.old.boxes.items place }
         ensures locked { self.new.locked ≡ self.old.locked }
+        ensures owners { self.new.owners ≡ self.old.owners }
         ensures upkeep { self.new.upkeep ≡ self.old.upkeep }
     {
         if let Some(post_box) = self.boxes.get_mut(place) {

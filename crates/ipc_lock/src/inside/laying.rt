@@ -1,5 +1,5 @@
 //! Pens are laid down in their boxes, and taken out by their writers.
-ghost use Rattle.std.specs.Prelude.{slice_get};
+ghost use Rattle.std.specs.Prelude.{◌≡◌, slice_get};
 ghost use Rattle.ipc_lock.specs.Boxes.{OnlyTakes};
 ghost use Rattle.ipc_lock.specs.Places.{LaysAt, LooksAgain, TakesBack, WorksFor};
 
@@ -16,6 +16,8 @@ impl<C: Ledger, T: Ledger, P: PenPort + Drop> Inside<C, T, P> {
     pub(crate) fn take_back(&mut self, errands: &mut Errands<P>)
         ensures takes { TakesBack self.old.locked.kernel self.new.locked.kernel
             self.old.boxes.items self.new.boxes.items errands.old errands.new }
+        ensures owners { self.new.owners ≡ self.old.owners }
+        ensures upkeep { self.new.upkeep ≡ self.old.upkeep }
         ensures only { OnlyTakes self.old.locked.kernel self.new.locked.kernel }
     {
         self.look_again(&mut errands.first);
@@ -28,6 +30,8 @@ impl<C: Ledger, T: Ledger, P: PenPort + Drop> Inside<C, T, P> {
     fn look_again(&mut self, pen: &mut Option<Loaded<P>>)
         ensures looks { LooksAgain self.old.locked.kernel self.new.locked.kernel
             self.old.boxes.items self.new.boxes.items pen.old pen.new }
+        ensures owners { self.new.owners ≡ self.old.owners }
+        ensures upkeep { self.new.upkeep ≡ self.old.upkeep }
         ensures only { OnlyTakes self.old.locked.kernel self.new.locked.kernel }
     {
         let Some(own) = pen.take() else {
@@ -43,6 +47,8 @@ impl<C: Ledger, T: Ledger, P: PenPort + Drop> Inside<C, T, P> {
     fn lay_down(&mut self, pen: Loaded<P>) -> Option<Loaded<P>>
         ensures lays { LaysAt self.old.locked.kernel self.new.locked.kernel self.old.boxes.items
             self.new.boxes.items pen (slice_get self.old.boxes.items pen.place) result }
+        ensures owners { self.new.owners ≡ self.old.owners }
+        ensures upkeep { self.new.upkeep ≡ self.old.upkeep }
         ensures only { OnlyTakes self.old.locked.kernel self.new.locked.kernel }
     {
         let Inside { locked, boxes, .. } = self;
@@ -60,6 +66,8 @@ impl<C: Ledger, T: Ledger, P: PenPort + Drop> Inside<C, T, P> {
         ensures works { WorksFor self.old.locked.kernel self.new.locked.kernel
             self.old.boxes.items self.new.boxes.items place number
             (slice_get self.old.boxes.items place) result }
+        ensures owners { self.new.owners ≡ self.old.owners }
+        ensures upkeep { self.new.upkeep ≡ self.old.upkeep }
         ensures only { OnlyTakes self.old.locked.kernel self.new.locked.kernel }
     {
         let Inside { locked, boxes, .. } = self;

@@ -23,6 +23,7 @@ impl<C: Ledger, T: Ledger, P: PenPort + Drop> Inside<C, T, P> {
             result.wakes_ticker }
         ensures only { OnlyTakes self.old.locked.kernel self.new.locked.kernel }
         ensures stay { OnlyLoads self.old.boxes.items self.new.boxes.items }
+        ensures owners { self.new.owners ≡ self.old.owners }
         ensures upkeep { self.new.upkeep ≡ self.old.upkeep }
     {
         let begun = self.has_begun;
@@ -44,6 +45,7 @@ impl<C: Ledger, T: Ledger, P: PenPort + Drop> Inside<C, T, P> {
             self.new.boxes.items errands.old errands.new }
         ensures only { OnlyTakes self.old.locked.kernel self.new.locked.kernel }
         ensures stay { OnlyLoads self.old.boxes.items self.new.boxes.items }
+        ensures owners { self.new.owners ≡ self.old.owners }
         ensures upkeep { self.new.upkeep ≡ self.old.upkeep }
     {
         self.load_own(own, errands);
@@ -73,6 +75,7 @@ impl<C: Ledger, T: Ledger, P: PenPort + Drop> Inside<C, T, P> {
             self.new.boxes.items errands.old errands.new }
         ensures only { OnlyTakes self.old.locked.kernel self.new.locked.kernel }
         ensures stay { OnlyLoads self.old.boxes.items self.new.boxes.items }
+        ensures owners { self.new.owners ≡ self.old.owners }
         ensures upkeep { self.new.upkeep ≡ self.old.upkeep }
     {
         'finished: for index in 0..self.finished.len() {

@@ -1,5 +1,5 @@
 //! Parts of a trace: memory lets go of all that need not be kept, and what is left begins one.
-ghost use Rattle.std.specs.Prelude.{◌≡◌, ◌<◌, ◌≤◌, IfOk, IfSome, None, Ok, OnErr, OnOk, length};
+ghost use Rattle.std.specs.Prelude.{◌≡◌, ◌<◌, ◌≤◌, ◌⊎◌, IfOk, IfSome, None, Ok, OnErr, OnOk, length};
 ghost use Rattle.ipc_history.specs.Legal.{Legal};
 ghost use Rattle.ipc_lock.specs.Parting.{IsBehind, IsPartOf, LetGoOfAll};
 
@@ -54,6 +54,8 @@ impl<C: Ledger, T: Ledger, P: PenPort + Drop> Inside<C, T, P> {
         ensures lets_go { length self.old.locked.kernel.history ≤ self.old.locked.kernel.held.mark
             → OnOk result (LetGoOfAll self.old.upkeep self.new.upkeep self.old.locked.kernel
             self.new.locked.kernel) }
+        ensures either { LetGoOfAll self.old.upkeep self.new.upkeep self.old.locked.kernel
+            self.new.locked.kernel ⊎ (self.new ≡ self.old) }
         ensures boxes { self.new.boxes ≡ self.old.boxes }
         ensures owners { self.new.owners ≡ self.old.owners }
     {

@@ -21,9 +21,12 @@ use std::sync::ledger::Ledger;
 impl<C: Ledger, T: Ledger, P: PenPort + Drop> Inside<C, T, P> {
     /// The entries before a place of the history, counted from 0, are not read any more.
     pub(crate) fn mark(&mut self, upto: usize)
-        ensures { self.new.locked.kernel ≡ record self.old.locked.kernel {
+        ensures marks { self.new.locked.kernel ≡ record self.old.locked.kernel {
           held = marked_to upto self.old.locked.kernel.held;
         } }
+        ensures boxes { self.new.boxes ≡ self.old.boxes }
+        ensures owners { self.new.owners ≡ self.old.owners }
+        ensures upkeep { self.new.upkeep ≡ self.old.upkeep }
     {
         self.locked.mark(upto);
     }
@@ -35,6 +38,9 @@ impl<C: Ledger, T: Ledger, P: PenPort + Drop> Inside<C, T, P> {
         } }
         ensures left { result ≡ length self.old.locked.kernel.history - upto }
         ensures legal { Legal self.old.locked.kernel.history }
+        ensures boxes { self.new.boxes ≡ self.old.boxes }
+        ensures owners { self.new.owners ≡ self.old.owners }
+        ensures upkeep { self.new.upkeep ≡ self.old.upkeep }
     {
         let _ = self.locked.history();
         let left = self.locked.entries().saturating_sub(upto);
@@ -55,6 +61,9 @@ impl<C: Ledger, T: Ledger, P: PenPort + Drop> Inside<C, T, P> {
             × (taken.amount ≡ seat.new.taken)) }
         ensures taken { IfSome result (λ _. seat.new.taken ≡ seat.old.taken + 1) }
         ensures none { IfNone result (seat.new.taken ≡ seat.old.taken) }
+        ensures boxes { self.new.boxes ≡ self.old.boxes }
+        ensures owners { self.new.owners ≡ self.old.owners }
+        ensures upkeep { self.new.upkeep ≡ self.old.upkeep }
     {
         self.locked.take_seated(seat)
     }

@@ -1,6 +1,7 @@
 //! Steps, each with what it tells. Outside these files nobody makes one without the other.
+ghost use Rattle.std.specs.Prelude.{◌≡◌};
 ghost use Rattle.ipc_lock.specs.Acting.{AnswersStep, Asked, GivesSeat, HandsBack};
-ghost use Rattle.ipc_lock.specs.Places.{OnlyLoads};
+ghost use Rattle.ipc_lock.specs.Places.{OnlyLoads, new_seat, owned_by};
 ghost use Rattle.ipc_lock.specs.Telling.{ActsAndTells, AsksAndTells};
 
 use super::{After, Inside};
@@ -29,6 +30,7 @@ impl<C: Ledger, T: Ledger, P: PenPort + Drop> Inside<C, T, P> {
         ensures takes { GivesSeat result.0.answer result.0.takes }
         ensures back { HandsBack command result.0.answer result.0.back }
         ensures stay { OnlyLoads self.old.boxes.items self.new.boxes.items }
+        ensures owners { self.new.owners ≡ self.old.owners }
     {
         let answered = self.act(now, seat, command);
         let after = self.after(None, errands);
@@ -52,6 +54,8 @@ impl<C: Ledger, T: Ledger, P: PenPort + Drop> Inside<C, T, P> {
             result.0 self.old.owners.items place self.old.boxes.items self.new.boxes.items
             errands.old errands.new }
         ensures asked { Asked result.0 request seat result.1 }
+        ensures owners { self.new.owners.items
+            ≡ owned_by result.0 (new_seat result.0) self.old.owners.items place }
     {
         let (told, calls) = self.ask(now, place, seat, request, space);
         let after = self.after(Some(place), errands);

@@ -24,7 +24,13 @@ impl<C: Ledger, T: Ledger, P: PenPort + Drop> Inside<C, T, P> {
 
     pub(crate) fn end_work(&mut self)
         ensures over { self.new.is_work_over ≡ true }
+        ensures closed { self.new.closed ≡ self.old.closed }
+        ensures begun { self.new.begun ≡ self.old.begun }
+        ensures awaited { self.new.is_awaited ≡ self.old.is_awaited }
         ensures locked { self.new.locked ≡ self.old.locked }
+        ensures boxes { self.new.boxes ≡ self.old.boxes }
+        ensures owners { self.new.owners ≡ self.old.owners }
+        ensures upkeep { self.new.upkeep ≡ self.old.upkeep }
     {
         self.is_work_over = true;
     }
@@ -37,7 +43,13 @@ impl<C: Ledger, T: Ledger, P: PenPort + Drop> Inside<C, T, P> {
 
     pub(crate) fn close(&mut self)
         ensures closed { self.new.closed ≡ true }
+        ensures over { self.new.is_work_over ≡ self.old.is_work_over }
+        ensures begun { self.new.begun ≡ self.old.begun }
+        ensures awaited { self.new.is_awaited ≡ self.old.is_awaited }
         ensures locked { self.new.locked ≡ self.old.locked }
+        ensures boxes { self.new.boxes ≡ self.old.boxes }
+        ensures owners { self.new.owners ≡ self.old.owners }
+        ensures upkeep { self.new.upkeep ≡ self.old.upkeep }
     {
         self.closed = true;
     }
@@ -46,6 +58,13 @@ impl<C: Ledger, T: Ledger, P: PenPort + Drop> Inside<C, T, P> {
     /// earlier one that comes meanwhile wakes it.
     pub(crate) fn rest(&mut self, now: u64) -> Rest
         ensures locked { self.new.locked ≡ self.old.locked }
+        ensures boxes { self.new.boxes ≡ self.old.boxes }
+        ensures owners { self.new.owners ≡ self.old.owners }
+        ensures upkeep { self.new.upkeep ≡ self.old.upkeep }
+        ensures closed { self.new.closed ≡ self.old.closed }
+        ensures over { self.new.is_work_over ≡ self.old.is_work_over }
+        ensures begun { self.new.begun ≡ self.old.begun }
+        ensures awaited { self.new.is_awaited ≡ self.old.is_awaited }
         ensures rests { Rests self.old.locked.kernel.history now result }
     {
         match self.locked.least_due() {
@@ -87,7 +106,13 @@ impl<C: Ledger, T: Ledger, P: PenPort + Drop> Inside<C, T, P> {
     /// The trace waits for the next entry.
     pub(crate) fn await_entry(&mut self)
         ensures awaited { self.new.is_awaited ≡ true }
+        ensures closed { self.new.closed ≡ self.old.closed }
+        ensures over { self.new.is_work_over ≡ self.old.is_work_over }
+        ensures begun { self.new.begun ≡ self.old.begun }
         ensures locked { self.new.locked ≡ self.old.locked }
+        ensures boxes { self.new.boxes ≡ self.old.boxes }
+        ensures owners { self.new.owners ≡ self.old.owners }
+        ensures upkeep { self.new.upkeep ≡ self.old.upkeep }
     {
         self.is_awaited = true;
     }

@@ -10,7 +10,7 @@ use super::SharedKernel;
 use crate::ends::{PostEnd, TakeEnd};
 use crate::entered::Entered;
 use crate::errands::Errands;
-use crate::inside::Inside;
+use crate::logged::Logged;
 use crate::post_box::{Loaded, Work};
 use ipc_connection::{Request, Told};
 use ipc_core::Refusal;
@@ -35,7 +35,7 @@ impl<C: Ledger, T: Ledger, P: PenPort + Drop> SharedKernel<C, T, P> {
         ensures seat { IfOk result (λ ends. ends.0.seat ≡ None) }
         ensures place { IfOk result (λ ends. ends.1.place ≡ ends.0.place) }
         ensures number { IfOk result (λ ends. ends.1.number ≡ ends.0.number) }
-        ensures fresh { IfOk result (λ ends. ConnectsSome ends.0.place ends.0.number) }
+        ensures fresh { IfOk result (λ ends. ConnectsSome C P ends.0.place ends.0.number) }
         ensures err { IfErr result (λ refusal. refusal ≡ Refusal.NoMemory) }
     {
         match self.inside(rt).connect(port) {
@@ -55,7 +55,7 @@ impl<C: Ledger, T: Ledger, P: PenPort + Drop> SharedKernel<C, T, P> {
     /// Gives a connection's box back, once its writer has ended.
     #[tactic(auto, using(crate::proofs::Above::releases_some))]
     pub fn release<R: Wait>(&self, rt: &R, end: PostEnd<C>)
-        ensures releases { ReleasesSome end.place end.number }
+        ensures releases { ReleasesSome C P end.place end.number }
     {
         self.inside(rt).release(end.place, end.number);
     }
@@ -112,7 +112,7 @@ impl<C: Ledger, T: Ledger, P: PenPort + Drop> SharedKernel<C, T, P> {
     /// Tells it by its frame. A shut box drops it.
     #[tactic(auto, using(crate::proofs::Above::posts_some, crate::proofs::Above::posts_none))]
     pub fn post<R: Wait>(&self, rt: &R, end: &PostEnd<C>, told: Told)
-        ensures posts { PostsOrDrops P end.now.place end.now.number told }
+        ensures posts { PostsOrDrops C P end.now.place end.now.number told }
     {
         let Some(mut inside) = self.when_empty(rt, end.place, end.number) else {
             return;
@@ -126,21 +126,21 @@ impl<C: Ledger, T: Ledger, P: PenPort + Drop> SharedKernel<C, T, P> {
 
     /// Ends the thread of a reader's end, if there is one, and shuts its box.
     pub fn hang_up<R: Wait>(&self, rt: &R, now: u64, end: &PostEnd<C>)
-        ensures ends { EndsSome now end.now.place end.now.number }
+        ensures ends { EndsSome C P now end.now.place end.now.number }
     {
         self.end_at(rt, now, end.place, end.number);
     }
 
     /// Ends the thread of a writer's end, if there is one, and shuts its box.
     pub fn leave<R: Wait>(&self, rt: &R, now: u64, end: &TakeEnd)
-        ensures ends { EndsSome now end.now.place end.now.number }
+        ensures ends { EndsSome C P now end.now.place end.now.number }
     {
         self.end_at(rt, now, end.place, end.number);
     }
 
     /// Ends the thread that is told in the box of a connection, if there is one, and shuts it.
     fn end_at<R: Wait>(&self, rt: &R, now: u64, place: usize, number: u64)
-        ensures ends { EndsSome now place number }
+        ensures ends { EndsSome C P now place number }
     {
         let mut errands = Errands::none();
         let mut inside = self.inside(rt);
@@ -156,7 +156,7 @@ impl<C: Ledger, T: Ledger, P: PenPort + Drop> SharedKernel<C, T, P> {
     /// takes it out. None once nothing more comes, or the device has failed.
     #[tactic(auto, using(crate::proofs::Working::takes_out))]
     pub fn wait_pen<R: Wait>(&self, rt: &R, end: &TakeEnd) -> Option<Loaded<P>>
-        ensures takes { IfSome result (λ pen. TakesOutSome end.now.place end.now.number pen) }
+        ensures takes { IfSome result (λ pen. TakesOutSome C P end.now.place end.now.number pen) }
         ensures over { IfNone result (EndsWorkSome C T P end.now.place end.now.number) }
     {
         let mut inside = self.inside(rt);
@@ -176,7 +176,7 @@ impl<C: Ledger, T: Ledger, P: PenPort + Drop> SharedKernel<C, T, P> {
     /// room.
     #[tactic(auto, using(crate::proofs::Working::lays_some))]
     pub fn give_back<R: Wait>(&self, rt: &R, pen: Loaded<P>)
-        ensures lays { LaysSome P pen }
+        ensures lays { LaysSome C P pen }
     {
         let mut errands = Errands::of(pen);
         self.inside(rt).take_back(&mut errands);
@@ -189,8 +189,8 @@ impl<C: Ledger, T: Ledger, P: PenPort + Drop> SharedKernel<C, T, P> {
         &'a self,
         rt: &R,
         bell: Option<Arc<Condvar>>,
-        inside: MutexGuard<'a, Inside<C, T, P>>,
-    ) -> MutexGuard<'a, Inside<C, T, P>> {
+        inside: MutexGuard<'a, Logged<C, T, P>>,
+    ) -> MutexGuard<'a, Logged<C, T, P>> {
         match bell {
             Some(bell) => bell.wait(rt, inside),
             None => {
@@ -209,14 +209,14 @@ impl<C: Ledger, T: Ledger, P: PenPort + Drop> SharedKernel<C, T, P> {
         rt: &R,
         place: usize,
         number: u64,
-    ) -> Option<MutexGuard<'a, Inside<C, T, P>>>
+    ) -> Option<MutexGuard<'a, Logged<C, T, P>>>
         ensures own { IfSome result (λ inside.
-            is_in number (slice_get (mutex_guard_value inside).boxes.items place) ≡ true) }
+            is_in number (slice_get (mutex_guard_value inside).inside.boxes place) ≡ true) }
         ensures shut { IfSome result (λ inside.
-            is_shut_in (slice_get (mutex_guard_value inside).boxes.items place) ≡ false) }
+            is_shut_in (slice_get (mutex_guard_value inside).inside.boxes place) ≡ false) }
         ensures empty { IfSome result (λ inside.
-            is_empty_in (slice_get (mutex_guard_value inside).boxes.items place) ≡ true) }
-        ensures gone { IfNone result (GoneSome place number) }
+            is_empty_in (slice_get (mutex_guard_value inside).inside.boxes place) ≡ true) }
+        ensures gone { IfNone result (GoneSome C P place number) }
     {
         let mut inside = self.inside(rt);
         for _ in rt.forever() {

@@ -1,7 +1,7 @@
 //! The lock is taken.
 
 use super::SharedKernel;
-use crate::inside::Inside;
+use crate::logged::Logged;
 use ipc_pen::PenPort;
 use std::hint::spin_loop;
 use std::sync::ledger::Ledger;
@@ -19,7 +19,7 @@ const TURNS: u32 = 16;
 impl<C: Ledger, T: Ledger, P: PenPort + Drop> SharedKernel<C, T, P> {
     /// Takes the lock. It is tried for a while first: who sleeps for it has to be woken, and that
     /// costs more than most steps.
-    pub(super) fn inside<R: Wait>(&self, rt: &R) -> MutexGuard<'_, Inside<C, T, P>> {
+    pub(super) fn inside<R: Wait>(&self, rt: &R) -> MutexGuard<'_, Logged<C, T, P>> {
         if let Some(inside) = self.try_at_once() {
             return inside;
         }
@@ -30,7 +30,7 @@ impl<C: Ledger, T: Ledger, P: PenPort + Drop> SharedKernel<C, T, P> {
     }
 
     /// Tries to take the lock, again at once while another thread has it.
-    fn try_at_once(&self) -> Option<MutexGuard<'_, Inside<C, T, P>>> {
+    fn try_at_once(&self) -> Option<MutexGuard<'_, Logged<C, T, P>>> {
         for _ in 0..TRIES {
             if let Some(inside) = self.inside.try_lock() {
                 return Some(inside);
@@ -41,7 +41,7 @@ impl<C: Ledger, T: Ledger, P: PenPort + Drop> SharedKernel<C, T, P> {
     }
 
     /// Lets others run, and then tries to take the lock, again and again.
-    fn try_in_turns(&self) -> Option<MutexGuard<'_, Inside<C, T, P>>> {
+    fn try_in_turns(&self) -> Option<MutexGuard<'_, Logged<C, T, P>>> {
         for _ in 0..TURNS {
             yield_now();
             if let Some(inside) = self.inside.try_lock() {

@@ -1,6 +1,6 @@
 //! Parts of a trace, each of one holding of the lock.
 ghost use Rattle.std.specs.Prelude.{IfOk, IfSome};
-ghost use Rattle.ipc_lock.specs.Parting.{EndsAPart, IsPart};
+ghost use Rattle.ipc_lock.specs.Above.{EndsAPart, PartOfSome};
 
 use super::SharedKernel;
 use crate::not_given::NotGiven;
@@ -22,7 +22,7 @@ impl<C: Ledger, T: Ledger, P: PenPort + Drop> SharedKernel<C, T, P> {
     /// nothing has changed.
     #[tactic(auto, using(crate::proofs::Parts::ends_a_part))]
     pub fn part_behind<R: Wait>(&self, rt: &R, index: usize) -> Result<Behind, NotGiven>
-        ensures { IfOk result (EndsAPart index) }
+        ensures { IfOk result (EndsAPart C P index) }
     {
         self.inside(rt).part_behind(index)
     }
@@ -35,7 +35,7 @@ impl<C: Ledger, T: Ledger, P: PenPort + Drop> SharedKernel<C, T, P> {
     /// No memory for it.
     #[tactic(auto, using(crate::proofs::Parts::is_part))]
     pub fn part<R: Wait>(&self, rt: &R) -> Result<Option<HeldPart>, AllocError>
-        ensures { IfOk result (λ part. IfSome part IsPart) }
+        ensures { IfOk result (λ part. IfSome part (PartOfSome C P)) }
     {
         self.inside(rt).part_if_marked()
     }

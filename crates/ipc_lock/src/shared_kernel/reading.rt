@@ -1,8 +1,9 @@
 //! What is read of the history.
-ghost use Rattle.std.specs.Prelude.{List, IfOk};
-ghost use Rattle.ipc_history.specs.declared.entry.Entry.{Entry};
+ghost use Rattle.std.specs.Prelude.{IfOk};
 ghost use Rattle.ipc_history.specs.Legal.{Legal};
 ghost use Rattle.ipc_lock.specs.Above.{EntryOfSome, GroupOfSome, LeftOfSome, MarksSome};
+ghost use Rattle.ipc_lock.specs.InsideParts.{LoggedParts};
+ghost use Rattle.ipc_lock.specs.Turns.{Runs};
 ghost use Rattle.l4sh_state.specs.States.{IsStateOf};
 
 use super::SharedKernel;
@@ -31,7 +32,7 @@ impl<C: Ledger, T: Ledger, P: PenPort + Drop> SharedKernel<C, T, P> {
 
     #[tactic(auto, using(crate::proofs::Above::entry_some))]
     fn wait_entry<R: Wait>(&self, rt: &R, index: usize) -> Result<Option<Entry>, NotGiven>
-        ensures entry { IfOk result (λ entry. EntryOfSome index entry) }
+        ensures entry { IfOk result (λ entry. EntryOfSome C P index entry) }
     {
         let mut inside = self.inside(rt);
         for _ in rt.forever() {
@@ -54,7 +55,7 @@ impl<C: Ledger, T: Ledger, P: PenPort + Drop> SharedKernel<C, T, P> {
     /// TR5: no memory for the copies, or memory let go of the first entry, which was marked.
     #[tactic(auto, using(crate::proofs::Above::group_some))]
     pub fn wait_entries<R: Wait>(&self, rt: &R, index: usize) -> Result<Vec<Entry>, NotGiven>
-        ensures group { IfOk result (λ group. GroupOfSome index group.items) }
+        ensures group { IfOk result (λ group. GroupOfSome C P index group.items) }
     {
         let mut inside = self.inside(rt);
         for _ in rt.forever() {
@@ -72,7 +73,7 @@ impl<C: Ledger, T: Ledger, P: PenPort + Drop> SharedKernel<C, T, P> {
     /// step may let go of them, and of their strings. Until then all are held.
     #[tactic(auto, using(crate::proofs::Above::marks_some))]
     pub fn mark<R: Wait>(&self, rt: &R, upto: usize)
-        ensures marks { MarksSome upto }
+        ensures marks { MarksSome C P upto }
     {
         self.inside(rt).mark(upto);
     }
@@ -81,8 +82,8 @@ impl<C: Ledger, T: Ledger, P: PenPort + Drop> SharedKernel<C, T, P> {
     /// So a trace takes the lock once for both.
     #[tactic(auto, using(crate::proofs::Above::left_some, crate::proofs::Above::marks_some))]
     pub fn mark_traced<R: Wait>(&self, rt: &R, upto: usize) -> usize
-        ensures marks { MarksSome upto }
-        ensures left { LeftOfSome upto result }
+        ensures marks { MarksSome C P upto }
+        ensures left { LeftOfSome C P upto result }
     {
         self.inside(rt).mark_traced(upto)
     }
@@ -100,7 +101,8 @@ impl<C: Ledger, T: Ledger, P: PenPort + Drop> SharedKernel<C, T, P> {
     /// What each thread does, by a legal history (`state`): the one that stands while the lock is
     /// held.
     pub fn state<R: Wait>(&self, rt: &R) -> State
-        ensures state { (history : List Entry) × Legal history × IsStateOf history result }
+        ensures state { (logged : LoggedParts) × Runs C P logged.log logged.inside
+            × Legal logged.inside.kernel.history × IsStateOf logged.inside.kernel.history result }
     {
         self.inside(rt).state()
     }

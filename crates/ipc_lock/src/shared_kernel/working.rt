@@ -3,9 +3,11 @@ ghost use Rattle.std.specs.Prelude.{◌≡◌, IfSome, IfNone};
 ghost use Rattle.std.specs.Sync.Mutex.{mutex_guard_value};
 ghost use Rattle.ipc_lock.specs.Above.{MovesAll, MovesSome, OverSome, RestsOrEnds, WorksSome, is_moved};
 ghost use Rattle.ipc_lock.specs.Alarms.{Rests};
+ghost use Rattle.ipc_lock.specs.Turns.{Runs};
 
 use super::SharedKernel;
-use crate::inside::{After, Inside};
+use crate::inside::After;
+use crate::logged::Logged;
 use crate::rest::Rest;
 use crate::seated::Answered;
 use ipc_core::{Advance, Answer, Command};
@@ -111,9 +113,11 @@ impl<C: Ledger, T: Ledger, P: PenPort + Drop> SharedKernel<C, T, P> {
         &'a self,
         rt: &R,
         now: u64,
-    ) -> Option<(MutexGuard<'a, Inside<C, T, P>>, Rest)>
+    ) -> Option<(MutexGuard<'a, Logged<C, T, P>>, Rest)>
         ensures rests { IfSome result (λ found.
-            Rests (mutex_guard_value found.0).locked.kernel.history now found.1) }
+            Rests (mutex_guard_value found.0).inside.kernel.history now found.1) }
+        ensures runs { IfSome result (λ found.
+            Runs C P (mutex_guard_value found.0).log (mutex_guard_value found.0).inside) }
         ensures over { IfNone result (OverSome C T P) }
     {
         let mut inside = self.inside(rt);

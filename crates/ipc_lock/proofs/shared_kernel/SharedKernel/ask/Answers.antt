@@ -1,9 +1,7 @@
-use Rattle.std.proofs.Common.{ap}
 use Rattle.ipc_lock.proofs.Above.{asks_some}
 use Rattle.ipc_lock.proofs.shared_kernel.SharedKernel.ask.Goals as goal
 
 pub returns-clause-asks : goal.returns-clause-asks
 returns-clause-asks g c =
-    asks_some _ _ _ _ _ _ _ _ _ _ _ _ _ _ _ _ _ _ _ c.take-own.ensures.value (ap (λ i. i.boxes.items) c.deref_mut.ensures.value) c.in-Some.ensures.own
-    c.in-Some.ensures.shut c.in-Some.ensures.empty c.ask_and_tell-told.ensures.asks c.none-errands.ensures.first c.none-errands.ensures.second
-    c.none-errands.ensures.third c.settle.ensures.carries
+    asks_some _ _ _ _ _ _ _ _ _ _ _ _ _ c.take-own.ensures.value c.deref_mut.ensures.value c.in-Some.ensures.own c.in-Some.ensures.shut
+    c.in-Some.ensures.empty c.ask_and_tell-told.ensures.turned c.ask_and_tell-told.ensures.asks c.settle.ensures.carries

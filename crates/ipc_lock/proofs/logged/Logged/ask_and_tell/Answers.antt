@@ -1,0 +1,17 @@
+use Rattle.std.proofs.Common.{ap, refl}
+use Rattle.ipc_lock.proofs.Turning.{one_only, runs_on}
+use Rattle.ipc_lock.proofs.logged.Logged.ask_and_tell.Goals as goal
+
+pub invariant_of-self : goal.invariant_of-self
+invariant_of-self g c =
+    runs_on _ _ _ _ _ c.self.invariant c.add-2.ensures (record {
+      is_its = c.number_at-number.ensures;
+      request = c.args.request;
+      is_it = one_only _ _ _ c.new-requests.ensures c.add.ensures;
+      seat = c.args.seat;
+      errands = c.ask_and_tell-calls.new.errands;
+      gifts_are = c.gifts.ensures;
+      asks = rw (← c.requires.none) c.ask_and_tell-calls.ensures.asks;
+      owners = c.ask_and_tell-calls.ensures.owners;
+      numbers = refl;
+    })

@@ -1,0 +1,45 @@
+use Rattle.std.proofs.Common.{ap}
+use Rattle.std.specs.Vec.{vec_items}
+use Rattle.ipc_lock.proofs.Turning.{runs_on, turned}
+use Rattle.ipc_lock.proofs.logged.Logged.connect.Goals as goal
+
+pub invariant_of-self-in-Ok : goal.invariant_of-self-in-Ok
+invariant_of-self-in-Ok g c =
+    runs_on _ _ _ _ _ c.self.invariant c.add.ensures (record {
+      free = c.self.inside.inside.free.items;
+      free_now = c.connect.new.self.free.items;
+      out = _;
+      failures = _;
+      connects = c.in-Ok.ensures.fresh;
+      is_new = c.in-Some.ensures.some.0;
+      numbers = c.in-Some.ensures.some.1;
+      owners = ap vec_items c.connect.ensures.owners;
+      kernel = ap (λ l. l.kernel) c.connect.ensures.locked;
+      upkeep = c.connect.ensures.upkeep;
+    })
+
+pub returns-in-Ok-clause-turned : goal.returns-in-Ok-clause-turned
+returns-in-Ok-clause-turned g c =
+    turned _ _ _ _ c.self.view_is c.self.invariant c.add.ensures (record {
+      free = c.self.inside.inside.free.items;
+      free_now = c.connect.new.self.free.items;
+      out = _;
+      failures = _;
+      connects = c.in-Ok.ensures.fresh;
+      is_new = c.in-Some.ensures.some.0;
+      numbers = c.in-Some.ensures.some.1;
+      owners = ap vec_items c.connect.ensures.owners;
+      kernel = ap (λ l. l.kernel) c.connect.ensures.locked;
+      upkeep = c.connect.ensures.upkeep;
+    })
+
+pub invariant_of-self-in-Err : goal.invariant_of-self-in-Err
+invariant_of-self-in-Err g c =
+    runs_on _ _ _ _ _ c.self.invariant c.add-in-Err.ensures (record {
+      is_new = c.in-Some.ensures.some.0;
+      numbers = c.in-Some.ensures.some.1;
+      boxes = c.in-Err.ensures.err;
+      owners = ap vec_items c.connect.ensures.owners;
+      kernel = ap (λ l. l.kernel) c.connect.ensures.locked;
+      upkeep = c.connect.ensures.upkeep;
+    })

@@ -1,0 +1,14 @@
+use Rattle.std.proofs.Common.{ap, refl}
+use Rattle.std.specs.Vec.{vec_items}
+use Rattle.ipc_lock.proofs.Turning.{runs_on}
+use Rattle.ipc_lock.proofs.logged.Logged.mark.Goals as goal
+
+pub invariant_of-self : goal.invariant_of-self
+invariant_of-self g c =
+    runs_on _ _ _ _ _ c.self.invariant c.add.ensures (record {
+      marks = c.mark.ensures.marks;
+      boxes = ap vec_items c.mark.ensures.boxes;
+      owners = ap vec_items c.mark.ensures.owners;
+      numbers = refl;
+      upkeep = c.mark.ensures.upkeep;
+    })

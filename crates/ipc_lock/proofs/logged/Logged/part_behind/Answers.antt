@@ -1,0 +1,7 @@
+use Rattle.ipc_lock.proofs.Turning.{parted, runs_on, turned}
+use Rattle.ipc_lock.proofs.logged.Logged.part_behind.Goals as goal
+
+pub invariant_of-self : goal.invariant_of-self
+invariant_of-self g c =
+    runs_on _ _ _ _ _ c.self.invariant c.add.ensures (parted c.part_behind-behind.result _ _ _ c.part_behind-behind.ensures.lets_go
+    c.part_behind-behind.ensures.err c.part_behind-behind.ensures.boxes c.part_behind-behind.ensures.owners)

@@ -1,0 +1,15 @@
+use Rattle.std.proofs.Common.{ap, refl}
+use Rattle.std.specs.Vec.{vec_items}
+use Rattle.ipc_lock.proofs.Turning.{runs_on, turned}
+use Rattle.ipc_lock.proofs.logged.Logged.post.Goals as goal
+
+pub invariant_of-self : goal.invariant_of-self
+invariant_of-self g c =
+    runs_on _ _ _ _ _ c.self.invariant c.add.ensures (record {
+      is_its = c.number_at-number.ensures;
+      boxes = c.post.ensures.posted;
+      owners = ap vec_items c.post.ensures.owners;
+      numbers = refl;
+      kernel = ap (λ l. l.kernel) c.post.ensures.locked;
+      upkeep = c.post.ensures.upkeep;
+    })

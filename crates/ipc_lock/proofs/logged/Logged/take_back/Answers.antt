@@ -1,0 +1,16 @@
+use Rattle.std.proofs.Common.{ap, refl}
+use Rattle.std.specs.Vec.{vec_items}
+use Rattle.ipc_lock.proofs.Turning.{runs_on, turned}
+use Rattle.ipc_lock.proofs.logged.Logged.take_back.Goals as goal
+
+pub invariant_of-self : goal.invariant_of-self
+invariant_of-self g c =
+    runs_on _ _ _ _ _ c.self.invariant c.add.ensures (record {
+      errands = c.args.errands.now;
+      errands_now = c.take_back.new.errands;
+      gifts_are = c.gifts.ensures;
+      takes = c.take_back.ensures.takes;
+      owners = ap vec_items c.take_back.ensures.owners;
+      numbers = refl;
+      upkeep = c.take_back.ensures.upkeep;
+    })

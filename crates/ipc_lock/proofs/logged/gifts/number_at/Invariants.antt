@@ -1,0 +1,4 @@
+use Rattle.ipc_lock.proofs.logged.gifts.number_at.Given as goal
+
+abbrev pub ghost-told : goal.ghost-told
+ghost-told g a = g.items

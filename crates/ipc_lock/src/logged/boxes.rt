@@ -1,0 +1,87 @@
+//! The boxes of connections: made, posted to, looked into, and given back.
+ghost use Rattle.std.specs.Prelude.{◌≡◌, ◌⊎◌, ℕ, List, IfErr, IfOk, slice_get};
+ghost use Rattle.ipc_lock.specs.Boxes.{new_box};
+ghost use Rattle.ipc_lock.specs.Gifts.{gifts, no_errands, number_in};
+ghost use Rattle.ipc_lock.specs.Places.{ConnectsAt, FreesSome, LoadsAt};
+ghost use Rattle.ipc_lock.specs.Turns.{Turned};
+ghost use Rattle.ipc_lock.specs.declared.events.Event.TheVariants as event;
+ghost use Rattle.ipc_pen.specs.Pens.{BeginsEmpty, new_page};
+
+use super::Logged;
+use super::gifts::{gifts, number_at};
+use crate::errands::Errands;
+use crate::events::Event;
+use ipc_connection::Told;
+use ipc_pen::PenPort;
+use std::alloc::AllocError;
+use std::sync::ledger::Ledger;
+
+impl<C: Ledger, T: Ledger, P: PenPort + Drop> Logged<C, T, P> {
+    /// A number that no connection had, and an empty box with the pen of its port: one that was
+    /// given back, else a new one.
+    pub(crate) fn connect(&mut self, port: P) -> Result<(usize, u64), AllocError>
+        requires { BeginsEmpty (P.written port) }
+        ensures turned { IfOk result (λ own. Turned C P self.old self.new
+            (event.Connected own.0 own.1)) }
+        ensures fresh { IfOk result (λ own. (free : List ℕ) × (free_now : List ℕ)
+            × ConnectsAt free free_now self.old.inside.boxes self.new.inside.boxes own.0
+            (new_box own.0 own.1 (new_page own.0 own.1 (P.written port) (P.failures port)))) }
+        ensures err { IfErr result (λ _. (self.new ≡ self.old)
+            ⊎ ((number : ℕ) × Turned C P self.old self.new (event.Declined number))) }
+    {
+        let Some(number) = self.numbers.take() else {
+            return Err(AllocError);
+        };
+        match self.inside.connect(port, number) {
+            Ok(place) => {
+                self.log.add(&Event::Connected { place, number });
+                Ok((place, number))
+            }
+            Err(error) => {
+                self.log.add(&Event::Declined { number });
+                Err(error)
+            }
+        }
+    }
+
+    /// Leaves what is told. A full or shut box, or one that is not there, drops it.
+    pub(crate) fn post(&mut self, place: usize, told: Told)
+        ensures turned { Turned C P self.old self.new (event.Posted place
+            (number_in (slice_get self.old.inside.boxes place)) told) }
+    {
+        let said = told;
+        let number = number_at(&self.inside, place);
+        self.inside.post(place, said);
+        self.log.add(&Event::Posted {
+            place,
+            number,
+            said: told,
+        });
+    }
+
+    /// Takes a box's pen out, where it lies there and something is to be told. No pen is out
+    /// before.
+    pub(crate) fn load(&mut self, place: usize, errands: &mut Errands<P>)
+        requires none { errands.old ≡ no_errands }
+        ensures turned { Turned C P self.old self.new (event.Looked place (gifts errands.new)) }
+        ensures loads { LoadsAt self.old.inside.kernel self.new.inside.kernel
+            self.old.inside.boxes self.new.inside.boxes place
+            (slice_get self.old.inside.boxes place) no_errands errands.new }
+    {
+        self.inside.load(place, errands);
+        self.log.add(&Event::Looked {
+            place,
+            gave: gifts(errands),
+        });
+    }
+
+    /// Gives the box of a connection back that nobody uses any more. Where it is that of another
+    /// one all stays.
+    pub(crate) fn release(&mut self, place: usize, number: u64)
+        ensures turned { Turned C P self.old self.new (event.Released place number) }
+        ensures frees { FreesSome self.old.inside.boxes place number }
+    {
+        self.inside.release(place, number);
+        self.log.add(&Event::Released { place, number });
+    }
+}

@@ -1,0 +1,71 @@
+//! What an event is made of, where proofs alone know it.
+ghost use Rattle.std.specs.Prelude.{◌≡◌, Bool, List, ℕ};
+ghost use Rattle.ipc_history.specs.Outcomes.{OutcomeParts};
+ghost use Rattle.ipc_lock.specs.Gifts.{gifts};
+ghost use Rattle.ipc_lock.specs.declared.events.Gift.{Gift};
+
+use crate::errands::Errands;
+use crate::events::Gift;
+use crate::inside::Inside;
+use crate::post_box::Work;
+use crate::seated::Taken;
+use ipc_base::Past;
+use ipc_history::Outcome;
+use ipc_pen::PenPort;
+use std::sync::ledger::Ledger;
+
+/// What the pens on errands were given last.
+pub(super) fn gifts<P: PenPort + Drop>(errands: &Errands<P>) -> Past<Gift>
+    ensures { result ≡ gifts errands.now }
+{
+    told(errands)
+}
+
+/// What the caller's proof says of errands.
+fn told<P: PenPort + Drop>(errands: &Errands<P>) -> Past<Gift>
+    ghost items: { List Gift }
+    ensures { result ≡ items }
+{
+    Past::told()
+}
+
+/// What the caller's proof says of a box: the number of its connection, if there is one.
+pub(super) fn number_at<C: Ledger, T: Ledger, P: PenPort + Drop>(
+    inside: &Inside<C, T, P>,
+    place: usize,
+) -> Past<u64>
+    ghost items: { List ℕ }
+    ensures { result ≡ items }
+{
+    Past::told()
+}
+
+/// What the caller's proof says of a box: whether its pen lies there at its end, if it is there.
+pub(super) fn idle_at<C: Ledger, T: Ledger, P: PenPort + Drop>(
+    inside: &Inside<C, T, P>,
+    place: usize,
+) -> Past<bool>
+    ghost items: { List Bool }
+    ensures { result ≡ items }
+{
+    Past::told()
+}
+
+/// What the caller's proof says of a writer's pen: what it was given, where it lay at its end.
+pub(super) fn gifts_of_work<P: PenPort + Drop>(
+    idle: &Past<bool>,
+    next: &Option<Work<P>>,
+) -> Past<Gift>
+    ghost items: { List Gift }
+    ensures { result ≡ items }
+{
+    Past::told()
+}
+
+/// What the caller's proof says was taken.
+pub(super) fn outcomes<T: Ledger>(taken: &Option<Taken<T>>) -> Past<Outcome>
+    ghost items: { List OutcomeParts }
+    ensures { result ≡ items }
+{
+    Past::told()
+}

@@ -1,0 +1,138 @@
+//! What is read of what stands under the lock.
+ghost use Rattle.std.specs.Prelude.{◌≡◌, ◌<◌, ◌||◌, Err, IfOk, length, slice_get};
+ghost use Rattle.ipc_core.specs.KernelParts.{history_of};
+ghost use Rattle.ipc_history.specs.Holding.{held_of};
+ghost use Rattle.ipc_history.specs.Legal.{Legal};
+ghost use Rattle.ipc_history.specs.Threads.{is_live};
+ghost use Rattle.ipc_lock.specs.Groups.{IsGroupAt};
+ghost use Rattle.ipc_lock.specs.Places.{is_empty_in, is_in, is_shut_in};
+ghost use Rattle.ipc_lock.specs.Turns.{Runs};
+ghost use Rattle.l4sh_state.specs.States.{IsStateOf};
+
+use super::Logged;
+use crate::not_given::NotGiven;
+use crate::seated::TakeSeat;
+use ipc_history::Entry;
+use ipc_pen::PenPort;
+use l4sh_state::State;
+use std::sync::ledger::Ledger;
+use std::sync::{Arc, Condvar};
+
+impl<C: Ledger, T: Ledger, P: PenPort + Drop> Logged<C, T, P> {
+    /// Whether the seat's thread is live.
+    pub(crate) fn is_live(&self, seat: &TakeSeat<T>) -> bool
+        ensures live { result ≡ is_live self.now.inside.kernel.history seat.now.thread }
+        ensures runs { Runs C P self.now.log self.now.inside }
+        ensures legal { Legal self.now.inside.kernel.history }
+    {
+        self.inside.is_live(seat)
+    }
+
+    /// How many entries the history has, with those that were let go.
+    pub(crate) fn entries(&self) -> usize
+        ensures { result ≡ length self.now.inside.kernel.history }
+    {
+        self.inside.entries()
+    }
+
+    /// How many entries memory holds.
+    pub(crate) fn held(&self) -> usize
+        ensures { result ≡ length (held_of (history_of self.now.inside.kernel)) }
+    {
+        self.inside.held()
+    }
+
+    /// What each thread does, by the history.
+    pub(crate) fn state(&self) -> State
+        ensures state { IsStateOf self.now.inside.kernel.history result }
+        ensures runs { Runs C P self.now.log self.now.inside }
+        ensures legal { Legal self.now.inside.kernel.history }
+    {
+        self.inside.state()
+    }
+
+    /// How many outcomes were taken.
+    pub(crate) fn takes(&self) -> u64
+        ensures { result ≡ length self.now.inside.kernel.taken }
+    {
+        self.inside.takes()
+    }
+
+    /// A copy of the entry of this place.
+    pub(crate) fn entry(&self, index: usize) -> Result<Option<Entry>, NotGiven>
+        ensures entry { IfOk result (λ entry. entry
+            ≡ slice_get self.now.inside.kernel.history index) }
+        ensures runs { Runs C P self.now.log self.now.inside }
+        ensures legal { Legal self.now.inside.kernel.history }
+        ensures gone { result ≡ Err NotGiven.LetGo
+            → index < self.now.inside.kernel.held.whole_from }
+    {
+        self.inside.entry(index)
+    }
+
+    /// Copies of the entries from this place on, as many as one group has.
+    pub(crate) fn group(&self, index: usize) -> Result<Vec<Entry>, NotGiven>
+        ensures group { IfOk result (λ group.
+            IsGroupAt self.now.inside.kernel.history index group.items) }
+        ensures runs { Runs C P self.now.log self.now.inside }
+        ensures legal { Legal self.now.inside.kernel.history }
+        ensures gone { result ≡ Err NotGiven.LetGo
+            → index < self.now.inside.kernel.held.whole_from }
+    {
+        self.inside.group(index)
+    }
+
+    /// Whether a transfer has begun, so that the mover has work.
+    pub(crate) fn has_begun(&self) -> bool
+        ensures { result ≡ self.now.begun }
+    {
+        self.inside.has_begun()
+    }
+
+    /// Whether no transfer can begin any more.
+    pub(crate) fn is_work_over(&self) -> bool
+        ensures over { result ≡ (self.now.is_work_over || self.now.closed) }
+        ensures runs { Runs C P self.now.log self.now.inside }
+    {
+        self.inside.is_work_over()
+    }
+
+    pub(crate) fn is_closed(&self) -> bool
+        ensures { result ≡ self.now.closed }
+    {
+        self.inside.is_closed()
+    }
+
+    /// Whether nothing is posted in the box. One that is not there counts as empty.
+    pub(crate) fn is_empty(&self, place: usize) -> bool
+        ensures { result ≡ is_empty_in (slice_get self.now.inside.boxes place) }
+    {
+        self.inside.is_empty(place)
+    }
+
+    /// Whether the box was shut. One that is not there counts as shut.
+    pub(crate) fn is_shut(&self, place: usize) -> bool
+        ensures shut { result ≡ is_shut_in (slice_get self.now.inside.boxes place) }
+        ensures runs { Runs C P self.now.log self.now.inside }
+    {
+        self.inside.is_shut(place)
+    }
+
+    /// Whether the box of a place is that of the connection of this number.
+    pub(crate) fn is_in(&self, place: usize, number: u64) -> bool
+        ensures own { result ≡ is_in number (slice_get self.now.inside.boxes place) }
+        ensures runs { Runs C P self.now.log self.now.inside }
+    {
+        self.inside.is_in(place, number)
+    }
+
+    /// The bell of a box's writer.
+    pub(crate) fn bell(&self, place: usize) -> Option<Arc<Condvar>> {
+        self.inside.bell(place)
+    }
+
+    /// The bell of a box's reader.
+    pub(crate) fn emptied(&self, place: usize) -> Option<Arc<Condvar>> {
+        self.inside.emptied(place)
+    }
+}

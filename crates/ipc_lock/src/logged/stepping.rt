@@ -1,0 +1,129 @@
+//! Steps, each with what it tells.
+ghost use Rattle.std.specs.Prelude.{◌≡◌, ◌∷◌, [], IfNone, None, slice_get};
+ghost use Rattle.ipc_lock.specs.Acting.{AnswersStep, Asked, GivesSeat, HandsBack};
+ghost use Rattle.ipc_lock.specs.Boxes.{changed_at};
+ghost use Rattle.ipc_lock.specs.Gifts.{gifts, no_errands, number_in};
+ghost use Rattle.ipc_lock.specs.Places.{EndsAt, OnlyLoads, shut_for, thread_for};
+ghost use Rattle.ipc_lock.specs.Telling.{ActsAndTells, AsksAndTells};
+ghost use Rattle.ipc_lock.specs.Turns.{Turned};
+ghost use Rattle.ipc_lock.specs.declared.events.Event.TheVariants as event;
+
+use super::Logged;
+use super::gifts::{gifts, number_at};
+use crate::errands::Errands;
+use crate::events::Event;
+use crate::inside::After;
+use crate::seated::{Answered, CallSeat};
+use ipc_base::Past;
+use ipc_connection::{Request, Told};
+use ipc_core::Command;
+use ipc_pen::PenPort;
+use std::sync::ledger::Ledger;
+
+impl<C: Ledger, T: Ledger, P: PenPort + Drop> Logged<C, T, P> {
+    /// Makes one step, a command of the kernel by a seat where a thread calls, and takes the pens
+    /// out of those whom it told something. No pen is out before.
+    pub(crate) fn act_and_tell(
+        &mut self,
+        now: u64,
+        seat: Option<CallSeat<C>>,
+        command: Command,
+        errands: &mut Errands<P>,
+    ) -> (Answered<C, T>, After)
+        requires none { errands.old ≡ no_errands }
+        ensures turned { Turned C P self.old self.new (event.Acted now (command ∷ [])
+            (result.0.answer ∷ []) (gifts errands.new)) }
+        ensures acts { ActsAndTells self.old.inside.upkeep self.new.inside.upkeep
+            self.old.inside.kernel self.new.inside.kernel now seat command
+            result.0.answer self.old.inside.owners self.old.inside.boxes self.new.inside.boxes
+            no_errands errands.new }
+        ensures answers { AnswersStep seat command result.0.answer result.0.calls }
+        ensures takes { GivesSeat result.0.answer result.0.takes }
+        ensures back { HandsBack command result.0.answer result.0.back }
+        ensures stay { OnlyLoads self.old.inside.boxes self.new.inside.boxes }
+    {
+        let mut commands = Past::new();
+        commands.add(&command);
+        let (answered, after) = self.inside.act_and_tell(now, seat, command, errands);
+        let mut answers = Past::new();
+        answers.add(answered.answer());
+        self.log.add(&Event::Acted {
+            now,
+            commands,
+            answers,
+            gave: gifts(errands),
+        });
+        (answered, after)
+    }
+
+    /// Makes the step of a reader's request from a space, tells in its box what the kernel
+    /// accepted, and takes the pens out of those whom it told something, first that of the reader's
+    /// own box. No pen is out before.
+    pub(crate) fn ask_and_tell(
+        &mut self,
+        now: u64,
+        place: usize,
+        seat: Option<CallSeat<C>>,
+        request: Request,
+        space: u64,
+        errands: &mut Errands<P>,
+    ) -> (Told, Option<CallSeat<C>>, After)
+        requires none { errands.old ≡ no_errands }
+        ensures turned { Turned C P self.old self.new (event.Asked now place
+            (number_in (slice_get self.old.inside.boxes place)) (request ∷ []) space result.0
+            (gifts errands.new)) }
+        ensures asks { AsksAndTells self.old.inside.upkeep self.new.inside.upkeep
+            self.old.inside.kernel self.new.inside.kernel now seat request space
+            result.0 self.old.inside.owners place self.old.inside.boxes self.new.inside.boxes
+            no_errands errands.new }
+        ensures asked { Asked result.0 request seat result.1 }
+    {
+        let number = number_at(&self.inside, place);
+        let mut requests = Past::new();
+        requests.add(&request);
+        let (told, calls, after) = self
+            .inside
+            .ask_and_tell(now, place, seat, request, space, errands);
+        let said = told;
+        self.log.add(&Event::Asked {
+            now,
+            place,
+            number,
+            requests,
+            space,
+            said,
+            gave: gifts(errands),
+        });
+        (told, calls, after)
+    }
+
+    /// Shuts the box of the connection of this number, and ends the thread that is told there. None
+    /// where there is none. No pen is out before.
+    pub(crate) fn end_at(
+        &mut self,
+        now: u64,
+        place: usize,
+        number: u64,
+        errands: &mut Errands<P>,
+    ) -> Option<After>
+        requires none { errands.old ≡ no_errands }
+        ensures turned { Turned C P self.old self.new (event.Ended now place number
+            (gifts errands.new)) }
+        ensures ends { EndsAt self.old.inside.upkeep self.new.inside.upkeep
+            self.old.inside.kernel self.new.inside.kernel now
+            (thread_for number (slice_get self.old.inside.boxes place)) }
+        ensures none { IfNone result
+            (thread_for number (slice_get self.old.inside.boxes place) ≡ None) }
+        ensures shut { OnlyLoads (changed_at (shut_for number) self.old.inside.boxes place)
+            self.new.inside.boxes }
+    {
+        let ended = self.inside.end_at(now, place, number, errands);
+        self.log.add(&Event::Ended {
+            now,
+            place,
+            number,
+            gave: gifts(errands),
+        });
+        ended
+    }
+}

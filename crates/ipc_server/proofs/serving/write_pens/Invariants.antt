@@ -1,0 +1,5 @@
+-- The writer goes on.
+use Rattle.ipc_server.proofs.serving.write_pens.Given as goal
+
+abbrev pub invariant-loop : goal.invariant-loop
+invariant-loop g l = (goal.iterator-loop g).can_next l.iterator' × (goal.iterator-loop g).is_finite l.iterator'

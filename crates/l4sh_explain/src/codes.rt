@@ -145,6 +145,11 @@ pub fn meaning_of(word: &[u8]) -> Option<&'static str> {
     Some(code_of(word)?.meaning)
 }
 
+/// The same of a number behind the letter of its family, as a refusal or a FAULT tells it.
+pub fn meaning_behind(letter: u8, number: u8) -> Option<&'static str> {
+    Some(code_in(family_of(&FAMILIES, &[letter])?, u64::from(number))?.meaning)
+}
+
 /// The code of an error code that the C client made of it: 16 times the letter and the number.
 pub(crate) fn code_in_word(word: u64) -> Option<Code> {
     if word % 16 != 0 || word > 0xf_ffff {

@@ -9,7 +9,7 @@ mod times;
 mod told;
 mod words;
 
-pub use codes::meaning_of;
+pub use codes::{meaning_behind, meaning_of};
 pub use fields::read_number;
 pub use periods::{answer_period, tell_period};
 pub use tags::{TagRequest, answer_tag, tell_tag};

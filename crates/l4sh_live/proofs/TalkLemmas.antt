@@ -1,36 +1,16 @@
--- Requests that are made one after the other.
-use Rattle.std.proofs.Common.{◌≡◌, ℕ, zero, suc, ◌+◌, add-one, List, [], ◌∷◌, Option, Some, None, Ok, Err, refl, subst, sym}
+-- What was asked, and what was typed, so far.
+use Rattle.std.proofs.Common.{◌≡◌, ◌⊎◌, inl, inr, ℕ, zero, suc, ◌+◌, add-one, List, [], Option, Some, None, refl, subst, sym}
 use Rattle.std.specs.Prelude.{IfNone, IfSome}
+use Rattle.std.specs.Io.KnownBytes.{Appends, prepend_known}
 use Rattle.ipc_client.specs.ClientParts.{ClientParts}
-use Rattle.l4sh_live.specs.Talks.{AnswersHeard, EndsAtLines, HasTalked, Made}
-use Rattle.l4sh_live.specs.Versions.{AnswersVersion, HasMissed, IsMissing, request_of_version}
+use Rattle.ipc_trace.specs.Reading.{TakesLine}
+use Rattle.ipc_trace.specs.declared.lines.LineEnd.TheVariants.{Newline, Input}
+use Rattle.l4sh_live.specs.Talks.{EndsAtLine, EndsVisit, EndsWelcomed, HasTalked, Obeys, PartsBy, Quits, TakesTurn, TalkParts}
+use Rattle.l4sh_live.specs.Talks.{TalksToEnd, TalksUntil, talk_of}
 use Rattle.l4sh_live.specs.declared.ending.Ending.{Ending}
-use Rattle.l4sh_live.specs.declared.ending.Ending.TheVariants.{Done, NoMemory, DeviceFailed, NoServer, Refused, Ended}
-use Rattle.l4sh_live.specs.declared.reading.Heard.{Heard}
-use Rattle.l4sh_live.specs.declared.reading.Heard.TheVariants as heard
+use Rattle.l4sh_live.specs.Versions.{AnswersVersion, HasMissed, IsMissing, request_of_version}
 use Rattle.l4sh_live.specs.declared.request.Request.{Request}
 use Rattle.l4sh_live.specs.declared.request.Reply.{Reply}
-use Rattle.l4sh_live.specs.Requests.{reply_frame}
-
--- nothing changed since
-pub same_talked : (old now new : ClientParts) → HasTalked old now → new ≡ now → HasTalked old new
-same_talked old now new talked same = subst (λ (p : ClientParts). HasTalked old p) (sym same) talked
-
--- requests, and then these
-pub made_more : (old now new : ClientParts) (requests : List Request) → HasTalked old now → Made requests now new → HasTalked old new
-made_more old now new [] talked made = same_talked old now new talked made
-made_more old now new (request ∷ before) talked (then, made, asks) =
-    let more = made_more old now then before talked made in (request ∷ more.0, (then, more.1, asks))
-
-pub talked_on : (old now new : ClientParts) → HasTalked old now → HasTalked now new → HasTalked old new
-talked_on old now new talked (requests, made) = made_more old now new requests talked made
-
--- versions that were asked are requests that were made
-pub missed_talked : (old new : ClientParts) (request : Request) (missed : ℕ) → HasMissed old new request missed → HasTalked old new
-missed_talked old new request zero same = ([], same)
-missed_talked old new request (suc missed) (now, before, answered, answers, missing) =
-    let talked = missed_talked old now request missed before in
-    (request_of_version (suc missed) request ∷ talked.0, (now, talked.1, (reply_frame answered, answers)))
 
 -- one version more
 pub missed_one : (old now new : ClientParts) (asked : Request) (missed : ℕ) (answered : Reply) → HasMissed old now asked missed
@@ -45,71 +25,54 @@ missed_one old now new asked missed answered before answers missing =
       missing,
     )
 
--- a line that was obeyed
-pub obeyed : {T : Type 0} (old new : ClientParts) (line : Heard) (text : T) → AnswersHeard old new line (Ok (Some text)) → HasTalked old new
-obeyed old new (heard.Request request) text asks = (request ∷ [], (old, refl, asks))
-obeyed old new (heard.Number request) text (found, (now, missed, answers, stops)) =
-    let talked = missed_talked old now request found.missed missed in
-    (request_of_version (found.missed + 1) request ∷ talked.0, (now, talked.1, (reply_frame found.reply, answers)))
-obeyed old new heard.Nothing text same = ([], same)
-obeyed old new heard.Help text same = ([], same)
-obeyed old new (heard.Mistake reason) text same = ([], same)
-obeyed old new heard.Quit text (said, same) = absurd (cc said)
+-- before the first line a buffer holds nothing
+nothing_held : (typed : Option (List ℕ)) → prepend_known [] typed ≡ typed
+nothing_held None = refl
+nothing_held (Some bytes) = refl
 
--- a line whose answer ends the talk
-pub heard_ends : (T : Type 0) (old new : ClientParts) (line : Heard) (ending : Ending) → AnswersHeard {T = T} old new line (Err ending)
-    → EndsAtLines old new ending
-heard_ends T old new (heard.Request request) Done said = absurd said
-heard_ends T old new (heard.Request request) NoMemory said = tt
-heard_ends T old new (heard.Request request) DeviceFailed said = absurd said
-heard_ends T old new (heard.Request request) NoServer said = absurd said
-heard_ends T old new (heard.Request request) (Refused number) said = absurd said
-heard_ends T old new (heard.Request request) (Ended error) fails = (old, ([], refl), request, fails)
-heard_ends T old new (heard.Number request) Done said = absurd said
-heard_ends T old new (heard.Number request) NoMemory said = tt
-heard_ends T old new (heard.Number request) DeviceFailed said = absurd said
-heard_ends T old new (heard.Number request) NoServer said = absurd said
-heard_ends T old new (heard.Number request) (Refused number) said = absurd said
-heard_ends T old new (heard.Number request) (Ended error) (missed, now, before, fails) =
-    (now, missed_talked old now request missed before, request_of_version (missed + 1) request, fails)
-heard_ends T old new heard.Nothing Done said = absurd said
-heard_ends T old new heard.Nothing NoMemory said = tt
-heard_ends T old new heard.Nothing DeviceFailed said = absurd said
-heard_ends T old new heard.Nothing NoServer said = absurd said
-heard_ends T old new heard.Nothing (Refused number) said = absurd said
-heard_ends T old new heard.Nothing (Ended error) said = absurd said
-heard_ends T old new heard.Help Done said = absurd said
-heard_ends T old new heard.Help NoMemory said = tt
-heard_ends T old new heard.Help DeviceFailed said = absurd said
-heard_ends T old new heard.Help NoServer said = absurd said
-heard_ends T old new heard.Help (Refused number) said = absurd said
-heard_ends T old new heard.Help (Ended error) said = absurd said
-heard_ends T old new (heard.Mistake reason) Done said = absurd said
-heard_ends T old new (heard.Mistake reason) NoMemory said = tt
-heard_ends T old new (heard.Mistake reason) DeviceFailed said = absurd said
-heard_ends T old new (heard.Mistake reason) NoServer said = absurd said
-heard_ends T old new (heard.Mistake reason) (Refused number) said = absurd said
-heard_ends T old new (heard.Mistake reason) (Ended error) said = absurd said
-heard_ends T old new heard.Quit ending (said, same) = absurd (cc said)
+pub before_lines : (typed : Option (List ℕ)) (held : List ℕ) (client : ClientParts) (said : Option (List ℕ)) → held ≡ []
+    → HasTalked 0 (talk_of typed client said) (talk_of (prepend_known held typed) client said)
+before_lines typed held client said none =
+    subst (λ h. HasTalked 0 (talk_of typed client said) (talk_of (prepend_known h typed) client said)) (sym none)
+    (subst (λ t. HasTalked 0 (talk_of typed client said) (talk_of t client said)) (sym (nothing_held typed)) refl)
 
--- a line that ends the talk
-pub ends_at : (old now new : ClientParts) (ending : Ending) → HasTalked old now → EndsAtLines now new ending
-    → EndsAtLines old new ending
-ends_at old now new NoMemory talked ends = tt
-ends_at old now new DeviceFailed talked ends = talked_on old now new talked ends
-ends_at old now new (Ended error) talked (then, before, request, fails) =
-    (then, talked_on old now then talked before, request, fails)
-ends_at old now new Done talked ends = absurd ends
-ends_at old now new NoServer talked ends = absurd ends
-ends_at old now new (Refused number) talked ends = absurd ends
+-- a line more was obeyed
+pub turn_more : (old now new : TalkParts) (line : List ℕ) → (count : ℕ) × HasTalked count old now → TakesLine now.typed new.typed line Newline
+    → Obeys now.client new.client now.said new.said line → (count : ℕ) × HasTalked count old new
+turn_more old now new line (count, talked) read obeys =
+    (suc count, (now, talked, record { line = line; read = read; obeys = obeys }))
 
--- and the last line
-pub done_at : (result : Option Ending) (old now new : ClientParts) → HasTalked old now → IfNone result (HasTalked now new)
-    → IfNone result (HasTalked old new)
-done_at None old now new talked goes = talked_on old now new talked goes
-done_at (Some ending) old now new talked goes = tt
+-- a line asks to end
+pub quits_at : (old now : TalkParts) (typed : Option (List ℕ)) (client : ClientParts) (said : Option (List ℕ)) (line : List ℕ)
+    → (count : ℕ) × HasTalked count old now → TakesLine now.typed typed line Newline → Quits now.client client now.said said line
+    → TalksToEnd old client said
+quits_at old now typed client said line (count, talked) read quits = (count, now, talked, (line, typed, inl (read, quits)))
 
-pub some_ends_at : (result : Option Ending) (old now new : ClientParts) → HasTalked old now → IfSome result (EndsAtLines now new)
-    → IfSome result (EndsAtLines old new)
-some_ends_at None old now new talked ends = tt
-some_ends_at (Some ending) old now new talked ends = ends_at old now new ending talked ends
+-- a line ends the talk
+pub ends_at : (old now : TalkParts) (typed : Option (List ℕ)) (client : ClientParts) (line : List ℕ) (ending : Ending)
+    → (count : ℕ) × HasTalked count old now → TakesLine now.typed typed line Newline → EndsAtLine now.client client line ending
+    → TalksUntil old client ending
+ends_at old now typed client line ending (count, talked) read ends = (count, now, talked, inr (line, typed, inl read, ends))
+
+-- and the last one
+pub last_done : (result : Option Ending) (old now : TalkParts) (typed : Option (List ℕ)) (client : ClientParts) (said : Option (List ℕ))
+    (line : List ℕ) → (count : ℕ) × HasTalked count old now → TakesLine now.typed typed line Input
+    → IfNone result (Obeys now.client client now.said said line ⊎ Quits now.client client now.said said line)
+    → IfNone result (TalksToEnd old client said)
+last_done None old now typed client said line (count, talked) read goes = (count, now, talked, (line, typed, inr (read, goes)))
+last_done (Some ending) old now typed client said line talked read goes = tt
+
+pub last_ends : (result : Option Ending) (old now : TalkParts) (typed : Option (List ℕ)) (client : ClientParts) (line : List ℕ)
+    → (count : ℕ) × HasTalked count old now → TakesLine now.typed typed line Input
+    → IfSome result (EndsAtLine now.client client line) → IfSome result (TalksUntil old client)
+last_ends None old now typed client line talked read ends = tt
+last_ends (Some ending) old now typed client line (count, talked) read ends = (count, now, talked, inr (line, typed, inr read, ends))
+
+-- how a visit ends
+pub ends_all : (old : TalkParts) (now : ClientParts) (said : Option (List ℕ)) (client : ClientParts) (ending : Ending) → TalksToEnd old now said
+    → PartsBy now client ending → EndsWelcomed old client ending
+ends_all old now said client ending talks parts = inr (now, said, talks, parts)
+
+pub visits : (typed : Option (List ℕ)) (client : ClientParts) (before said : Option (List ℕ)) (text : List ℕ) (now : ClientParts) (ending : Ending)
+    → Appends before said text → EndsWelcomed (talk_of typed client said) now ending → EndsVisit (talk_of typed client before) now ending
+visits typed client before said text now ending appends ends = inr (text, said, appends, ends)

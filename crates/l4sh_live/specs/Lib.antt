@@ -1,4 +1,5 @@
 pub mod Endings
+pub mod Hearing
 pub mod Requests
 pub mod Talks
 pub mod Verbs

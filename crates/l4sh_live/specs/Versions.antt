@@ -1,14 +1,16 @@
 -- A thread of which a line tells the number alone: its versions are asked upward, to the first that
 -- is there (docs/NAMES.md looks for its server in the same way).
-use Rattle.std.specs.Prelude.{◌≡◌, ℕ, zero, suc, ◌+◌, Result, Ok, Err, ⊤, ◌⊎◌}
+use Rattle.std.specs.Prelude.{◌≡◌, ℕ, zero, suc, ◌+◌, Result, Ok, Err, ◌⊎◌}
 use Rattle.ipc_words.specs.ThreadId.{id_of, nilthread, number_of}
 use Rattle.ipc_client.specs.Asking.{Answers}
 use Rattle.ipc_client.specs.ClientParts.{ClientParts}
 use Rattle.ipc_client.specs.declared.answer.Answer.TheVariants as answer
 use Rattle.ipc_client.specs.declared.answer.Registers.TheVariants as registers
+use Rattle.ipc_client.specs.declared.error.ClientError.{ClientError}
+use Rattle.l4sh_live.specs.Endings.{ending_of}
 use Rattle.l4sh_live.specs.Requests.{FailsRequest, reply_frame, request_frame}
 use Rattle.l4sh_live.specs.declared.ending.Ending.{Ending}
-use Rattle.l4sh_live.specs.declared.ending.Ending.TheVariants.{NoMemory, Ended}
+use Rattle.l4sh_live.specs.declared.ending.Ending.TheVariants.{NoMemory}
 use Rattle.l4sh_live.specs.declared.request.Reply.{Reply}
 use Rattle.l4sh_live.specs.declared.request.Reply.TheVariants as reply
 use Rattle.l4sh_live.specs.declared.request.Request.{Request}
@@ -56,12 +58,14 @@ IsLast asked answered version = (IsMissing asked answered → ⊥) ⊎ (version 
 abbrev pub AnswersVersion : ClientParts → ClientParts → Request → Reply → Type 0
 AnswersVersion old new asked answered = Answers old new (request_frame asked) (reply_frame answered)
 
--- or why there is none
+-- or why there is none: no memory for the request, which did not go out, or an error
+abbrev pub FailsVersion : ClientParts → ClientParts → Request → Ending → Type 0
+FailsVersion old new asked ending = ((ending ≡ NoMemory) × (new ≡ old))
+    ⊎ ((error : ClientError) × FailsRequest old new asked error × (ending ≡ ending_of error))
+
 abbrev pub AsksVersion : ClientParts → ClientParts → Request → Result Reply Ending → Type 0
 AsksVersion old new asked (Ok answered) = AnswersVersion old new asked answered
-AsksVersion old new asked (Err NoMemory) = ⊤
-AsksVersion old new asked (Err (Ended error)) = FailsRequest old new asked error
-AsksVersion old new asked (Err other) = ⊥
+AsksVersion old new asked (Err ending) = FailsVersion old new asked ending
 
 -- versions 1 to this many were asked in turn, and none is there
 abbrev pub HasMissed : ClientParts → ClientParts → Request → ℕ → Type 0
@@ -78,7 +82,5 @@ Finds old new asked found = (now : ClientParts) × HasMissed old now asked found
 -- how versions are asked
 abbrev pub Seeks : ClientParts → ClientParts → Request → Result Found Ending → Type 0
 Seeks old new asked (Ok found) = Finds old new asked found
-Seeks old new asked (Err NoMemory) = ⊤
-Seeks old new asked (Err (Ended error)) = (missed : ℕ) × (now : ClientParts) × HasMissed old now asked missed
-    × FailsRequest now new (request_of_version (missed + 1) asked) error
-Seeks old new asked (Err other) = ⊥
+Seeks old new asked (Err ending) = (missed : ℕ) × (now : ClientParts) × HasMissed old now asked missed
+    × FailsVersion now new (request_of_version (missed + 1) asked) ending

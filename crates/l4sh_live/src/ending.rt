@@ -4,7 +4,7 @@ ghost use Rattle.l4sh_live.specs.Endings.{ending_of, status_of};
 
 use ipc_client::ClientError;
 use ipc_frame::FrameFault;
-use l4sh_explain::meaning_of;
+use l4sh_explain::meaning_behind;
 use std::alloc::{AllocError, Global};
 use std::fmt;
 
@@ -55,10 +55,10 @@ impl Ending {
     /// There is no memory.
     pub fn reason(self, alloc: Global) -> Result<Option<String>, AllocError> {
         match self {
-            Ending::Refused(2) => reason_in(alloc, 'K', 2, "; --thread N takes another number"),
-            Ending::Refused(number) => reason_in(alloc, 'K', number, ""),
+            Ending::Refused(2) => reason_in(alloc, b'K', 2, "; --thread N takes another number"),
+            Ending::Refused(number) => reason_in(alloc, b'K', number, ""),
             Ending::Ended(ClientError::Fault { class, number }) => {
-                reason_in(alloc, char::from(class), number, "")
+                reason_in(alloc, class, number, "")
             }
             _ => Ok(None),
         }
@@ -68,24 +68,14 @@ impl Ending {
 // What a number behind the letter of its class means, and what helps.
 fn reason_in(
     alloc: Global,
-    class: char,
+    class: u8,
     number: u8,
     helps: &str,
 ) -> Result<Option<String>, AllocError> {
-    match meaning_in(alloc, class, number)? {
+    match meaning_behind(class, number) {
         Some(meaning) => Ok(Some(format!(in alloc; "{meaning}{helps}")?)),
         None => Ok(None),
     }
-}
-
-/// What the number of a refusal or of a fault means, behind the letter of its class.
-pub(crate) fn meaning_in(
-    alloc: Global,
-    class: char,
-    number: u8,
-) -> Result<Option<&'static str>, AllocError> {
-    let name = format!(in alloc; "{class}{number}")?;
-    Ok(meaning_of(name.as_bytes()))
 }
 
 impl fmt::Display for Ending {

@@ -1,5 +1,7 @@
 //! What a typed line asks for.
-ghost use Rattle.std.specs.Prelude.{◌≡◌};
+ghost use Rattle.std.specs.Prelude.{◌≡◌, IfOk, IfSome};
+ghost use Rattle.ipc_items.specs.Strings.{strings_of};
+ghost use Rattle.l4sh_live.specs.Hearing.{Hears, HearsName, HearsStop, HearsVerb, HearsWords, IsMistake, command_word};
 ghost use Rattle.l4sh_live.specs.Verbs.{verb_request};
 
 use crate::fields::{FieldFault, Fields, Verb, wanted_for};
@@ -12,7 +14,7 @@ use ipc_words::{Control, ThreadId};
 use l4sh_talk::{read_control, read_thread, words_of};
 use std::alloc::{AllocError, Global};
 
-/// What can be typed.
+/// What can be typed, without the last newline.
 pub(crate) const HELP: &str =
     "receive ID                  waits for a message: any, local, 1.2, or 1; without ID of anybody
 wait                        the same as receive
@@ -25,11 +27,10 @@ reply_wait ID ..            answers a thread that waits, and then waits for a me
      timeout=2s             how long it may wait, as 20us, 2ms, 1min or never; without it never
      send=2ms receive=1s    of a call the same for one phase
      buffers=100,20         room for the strings that are received; without it none are taken
-exreg ID send|receive|both  stops phases of another thread of the space
+exreg ID PHASE              stops phases of a thread of this space: send, receive, both or nothing
 1, as an ID                 the live version of thread 1; behind as= it is 1.1
 help, quit, exit            and # begins a comment
-What waits is waited for here: Ctrl-C ends the program, and the server then ends its thread.
-";
+What waits is waited for here: Ctrl-C ends the program, and the server then ends its thread.";
 
 /// What a line stands for.
 #[derive(Drop)]
@@ -49,7 +50,9 @@ pub(crate) enum Heard {
 }
 
 /// What a line that was typed, without its newline, stands for.
-pub(crate) fn hear(alloc: Global, line: &[u8]) -> Result<Heard, AllocError> {
+pub(crate) fn hear(alloc: Global, line: &[u8]) -> Result<Heard, AllocError>
+    ensures { IfOk result (Hears line.now) }
+{
     if line.len() > MAX_LINE_BYTES {
         return told(format!(in alloc; "a line of more than {MAX_LINE_BYTES} bytes"));
     }
@@ -59,24 +62,75 @@ pub(crate) fn hear(alloc: Global, line: &[u8]) -> Result<Heard, AllocError> {
     }
 }
 
-fn hear_words(alloc: Global, words: &[Vec<u8>]) -> Result<Heard, AllocError> {
-    let Some(name) = words.first() else {
-        return Ok(Heard::Nothing);
-    };
-    match name.as_slice() {
-        b"help" | b"?" => Ok(Heard::Help),
-        b"quit" | b"exit" => Ok(Heard::Quit),
-        b"exreg" => hear_exreg(alloc, words),
-        b"wait" => hear_receive(alloc, words),
-        other => match Verb::read(other) {
-            Some(Verb::Receive) => hear_receive(alloc, words),
-            Some(verb) => hear_call(alloc, verb, words),
-            None => mistake_at(
-                alloc,
-                "wanted is send, receive, wait, call, reply_wait, exreg, help or quit; not ",
-                name,
-            ),
-        },
+fn hear_words(alloc: Global, words: &[Vec<u8>]) -> Result<Heard, AllocError>
+    ensures { IfOk result (HearsWords (strings_of words.now)) }
+{
+    match words {
+        [word, ..] => hear_named(alloc, word, words),
+        [] => Ok(Heard::Nothing),
+    }
+}
+
+/// The first word of a line that is none of the mistakes.
+#[derive(Clone, Copy)]
+enum Command {
+    Help,
+    Mark,
+    Quit,
+    Exit,
+    Exreg,
+    Wait,
+    Makes(Verb),
+}
+
+impl Command {
+    ghost use Rattle.std.specs.Prelude.{◌≡◌, IfSome};
+    ghost use Rattle.l4sh_live.specs.Hearing.{command_word};
+
+    fn read(word: &[u8]) -> Option<Command>
+        ensures { IfSome result (λ command. word.now ≡ command_word command) }
+    {
+        match word {
+            b"help" => Some(Command::Help),
+            b"?" => Some(Command::Mark),
+            b"quit" => Some(Command::Quit),
+            b"exit" => Some(Command::Exit),
+            b"exreg" => Some(Command::Exreg),
+            b"wait" => Some(Command::Wait),
+            other => Some(Command::Makes(Verb::read(other)?)),
+        }
+    }
+}
+
+// What words stand for, of which the first one is this.
+#[tactic(auto, using(crate::proofs::HearingLemmas::heard_command, crate::proofs::HearingLemmas::mistaken))]
+fn hear_named(alloc: Global, word: &[u8], words: &[Vec<u8>]) -> Result<Heard, AllocError>
+    ensures { IfOk result (HearsName word.now) }
+{
+    match Command::read(word) {
+        Some(command) => hear_command(alloc, command, words),
+        None => mistake_at(
+            alloc,
+            "wanted is send, receive, wait, call, reply_wait, exreg, help or quit; not ",
+            word,
+        ),
+    }
+}
+
+// The same by the command that it is.
+#[tactic(auto, using(crate::proofs::HearingLemmas::named, crate::proofs::HearingLemmas::waits, crate::proofs::HearingLemmas::stops))]
+fn hear_command(alloc: Global, command: Command, words: &[Vec<u8>]) -> Result<Heard, AllocError>
+    ensures { IfOk result (HearsName (command_word command)) }
+{
+    match command {
+        Command::Help => Ok(Heard::Help),
+        Command::Mark => Ok(Heard::Help),
+        Command::Quit => Ok(Heard::Quit),
+        Command::Exit => Ok(Heard::Quit),
+        Command::Exreg => hear_exreg(alloc, words),
+        Command::Wait => hear_receive(alloc, words),
+        Command::Makes(Verb::Receive) => hear_receive(alloc, words),
+        Command::Makes(verb) => hear_call(alloc, verb, words),
     }
 }
 
@@ -89,6 +143,8 @@ struct Partner {
 }
 
 impl Partner {
+    ghost use Rattle.l4sh_live.specs.Hearing.{IsRequest};
+
     const ANYBODY: Partner = Partner {
         thread: ThreadId::ANYTHREAD,
         is_number: false,
@@ -102,7 +158,9 @@ impl Partner {
     }
 
     // What is heard where this is asked of it.
-    fn asked(self, request: Request) -> Heard {
+    fn asked(self, request: Request) -> Heard
+        ensures { IsRequest request result }
+    {
         if self.is_number {
             Heard::Number(request)
         } else {
@@ -112,19 +170,25 @@ impl Partner {
 }
 
 // A mistake, and why it is one.
-fn told(reason: Result<String, AllocError>) -> Result<Heard, AllocError> {
+fn told(reason: Result<String, AllocError>) -> Result<Heard, AllocError>
+    ensures { IfOk result IsMistake }
+{
     match reason {
         Ok(reason) => Ok(Heard::Mistake(reason)),
         Err(lost) => Err(lost),
     }
 }
 
-fn mistake(alloc: Global, reason: &str) -> Result<Heard, AllocError> {
+fn mistake(alloc: Global, reason: &str) -> Result<Heard, AllocError>
+    ensures { IfOk result IsMistake }
+{
     told(String::from_str(alloc, reason))
 }
 
 // A mistake with the word that it is.
-fn mistake_at(alloc: Global, reason: &str, word: &[u8]) -> Result<Heard, AllocError> {
+fn mistake_at(alloc: Global, reason: &str, word: &[u8]) -> Result<Heard, AllocError>
+    ensures { IfOk result IsMistake }
+{
     let mut said = Said::new(alloc);
     said.put(reason);
     said.bytes(word);
@@ -132,7 +196,10 @@ fn mistake_at(alloc: Global, reason: &str, word: &[u8]) -> Result<Heard, AllocEr
 }
 
 // A command whose first word is a thread.
-fn hear_call(alloc: Global, verb: Verb, words: &[Vec<u8>]) -> Result<Heard, AllocError> {
+#[tactic(auto, using(crate::proofs::HearingLemmas::mistaken_verb))]
+fn hear_call(alloc: Global, verb: Verb, words: &[Vec<u8>]) -> Result<Heard, AllocError>
+    ensures { IfOk result (HearsVerb verb) }
+{
     let [_, thread, fields @ ..] = words else {
         return mistake_at(alloc, "wanted is ", verb.usage().as_bytes());
     };
@@ -145,7 +212,10 @@ fn hear_call(alloc: Global, verb: Verb, words: &[Vec<u8>]) -> Result<Heard, Allo
 }
 
 // A receive. Without a thread it is from anythread.
-fn hear_receive(alloc: Global, words: &[Vec<u8>]) -> Result<Heard, AllocError> {
+#[tactic(auto, using(crate::proofs::HearingLemmas::mistaken_verb))]
+fn hear_receive(alloc: Global, words: &[Vec<u8>]) -> Result<Heard, AllocError>
+    ensures { IfOk result (HearsVerb Verb.Receive) }
+{
     match words {
         [_, thread, ..] if !thread.contains(&b'=') => hear_call(alloc, Verb::Receive, words),
         [_, fields @ ..] => hear_fields(alloc, Verb::Receive, Partner::ANYBODY, fields),
@@ -153,12 +223,15 @@ fn hear_receive(alloc: Global, words: &[Vec<u8>]) -> Result<Heard, AllocError> {
     }
 }
 
+#[tactic(auto, using(crate::proofs::HearingLemmas::mistaken_verb))]
 fn hear_fields(
     alloc: Global,
     verb: Verb,
     partner: Partner,
     words: &[Vec<u8>],
-) -> Result<Heard, AllocError> {
+) -> Result<Heard, AllocError>
+    ensures { IfOk result (HearsVerb verb) }
+{
     let mut fields = Fields::new(alloc, verb);
     match take_words(alloc, verb, &mut fields, words)? {
         Some(mistake) => Ok(mistake),
@@ -172,7 +245,9 @@ fn take_words(
     verb: Verb,
     fields: &mut Fields,
     words: &[Vec<u8>],
-) -> Result<Option<Heard>, AllocError> {
+) -> Result<Option<Heard>, AllocError>
+    ensures { IfOk result (λ found. IfSome found IsMistake) }
+{
     for word in words {
         match fields.add(alloc, word)? {
             Ok(()) => {}
@@ -183,19 +258,24 @@ fn take_words(
     Ok(None)
 }
 
-fn long_strings(alloc: Global) -> Result<Heard, AllocError> {
+fn long_strings(alloc: Global) -> Result<Heard, AllocError>
+    ensures { IfOk result IsMistake }
+{
     told(format!(in alloc;
         "a message has 31 strings at most, of {MAX_STRING_BYTES} bytes together"
     ))
 }
 
 // The buffers, and then the request.
+#[tactic(auto, using(crate::proofs::HearingLemmas::mistaken_verb))]
 fn with_buffers(
     alloc: Global,
     verb: Verb,
     partner: Partner,
     fields: &Fields,
-) -> Result<Heard, AllocError> {
+) -> Result<Heard, AllocError>
+    ensures { IfOk result (HearsVerb verb) }
+{
     match fields.buffers(alloc) {
         Ok(buffers) => with_message(alloc, verb, partner, fields, buffers),
         Err(BufferFault::NoMemory) => Err(AllocError),
@@ -204,7 +284,9 @@ fn with_buffers(
     }
 }
 
-fn wrong_field(alloc: Global, verb: Verb, word: &[u8]) -> Result<Heard, AllocError> {
+fn wrong_field(alloc: Global, verb: Verb, word: &[u8]) -> Result<Heard, AllocError>
+    ensures { IfOk result IsMistake }
+{
     let mut said = Said::new(alloc);
     said.put("wanted is ");
     said.put(wanted_for(verb, word));
@@ -214,13 +296,16 @@ fn wrong_field(alloc: Global, verb: Verb, word: &[u8]) -> Result<Heard, AllocErr
 }
 
 // The message, where one is sent, and then the request.
+#[tactic(auto, using(crate::proofs::HearingLemmas::mistaken_verb, crate::proofs::HearingLemmas::asked_verb))]
 fn with_message(
     alloc: Global,
     verb: Verb,
     partner: Partner,
     fields: &Fields,
     buffers: Buffers,
-) -> Result<Heard, AllocError> {
+) -> Result<Heard, AllocError>
+    ensures { IfOk result (HearsVerb verb) }
+{
     match fields.message(alloc) {
         Ok(message) => {
             let request = request_of(verb, partner.thread, fields, message, buffers);
@@ -272,7 +357,10 @@ fn request_of(
     }
 }
 
-fn hear_exreg(alloc: Global, words: &[Vec<u8>]) -> Result<Heard, AllocError> {
+#[tactic(auto, using(crate::proofs::HearingLemmas::mistaken_stop, crate::proofs::HearingLemmas::asked_stop))]
+fn hear_exreg(alloc: Global, words: &[Vec<u8>]) -> Result<Heard, AllocError>
+    ensures { IfOk result HearsStop }
+{
     let [_, thread, control] = words else {
         return mistake(alloc, "wanted is exreg ID send, receive, both or nothing");
     };

@@ -1,4 +1,8 @@
 //! Text that is being said.
+ghost use Rattle.std.specs.Prelude.{◌≡◌, ◌++◌, IfOk, IsOk};
+ghost use Rattle.std.specs.String.{string_bytes};
+ghost use Rattle.l4sh_live.specs.Hearing.{IsLine};
+
 use ipc_lines::{HexText, IdText};
 use ipc_words::ThreadId;
 use l4sh_reasons::Printable;
@@ -21,7 +25,9 @@ impl Said {
     }
 
     /// What was said. An `Err` is want of memory.
-    pub(crate) fn finish(self) -> Result<String, AllocError> {
+    pub(crate) fn finish(self) -> Result<String, AllocError>
+        ensures { IfOk result (λ text. IsOk self.done × (text ≡ self.text)) }
+    {
         let Said { text, done } = self;
         match done {
             Ok(()) => Ok(text),
@@ -30,13 +36,19 @@ impl Said {
     }
 
     /// Keeps whether a part was said.
-    pub(crate) fn keep(&mut self, done: Result<(), AllocError>) {
+    pub(crate) fn keep(&mut self, done: Result<(), AllocError>)
+        ensures text { self.new.text ≡ self.old.text }
+        ensures done { IsOk self.new.done → IsOk done }
+    {
         if done.is_err() {
             self.done = done;
         }
     }
 
-    pub(crate) fn put(&mut self, words: &str) {
+    pub(crate) fn put(&mut self, words: &str)
+        ensures { IsOk self.new.done
+            → string_bytes self.new.text ≡ string_bytes self.old.text ++ words.now }
+    {
         let done = self.text.push_str(words);
         self.keep(done);
     }
@@ -74,4 +86,15 @@ impl Said {
         self.number(number);
         self.put(behind);
     }
+}
+
+/// Words as a line.
+pub(crate) fn line_of(alloc: Global, before: &str, words: &str) -> Result<String, AllocError>
+    ensures { IfOk result (λ text. IsLine (string_bytes text)) }
+{
+    let mut said = Said::new(alloc);
+    said.put(before);
+    said.put(words);
+    said.put("\n");
+    said.finish()
 }

@@ -1,12 +1,15 @@
 //! The lines of a talk, one by one.
-ghost use Rattle.std.specs.Prelude.{◌≡◌, ◌≢◌, ◌+◌, ◌<◌, IfNone, IfSome, IsSome, MatchResult, OnErr, OnOk, Some};
+ghost use Rattle.std.specs.Prelude.{◌≡◌, ◌≢◌, ◌+◌, ◌<◌, Err, IfErr, IfNone, IfOk, IfSome, Ok, OnErr, OnOk, Some, ◌⊎◌};
 ghost use Rattle.std.specs.Io.KnownBytes.{Appends};
-ghost use Rattle.l4sh_live.specs.Talks.{AnswersHeard, EndsAtLines, EndsTalk, EndsVisit};
-ghost use Rattle.l4sh_live.specs.Talks.{HasTalked};
+ghost use Rattle.std.specs.String.{string_bytes};
+ghost use Rattle.l4sh_live.specs.Hearing.{Says};
+ghost use Rattle.l4sh_live.specs.Talks.{AnswersHeard, EndsAtLine, EndsTalk, EndsVisit, EndsWelcomed, Obeys};
+ghost use Rattle.l4sh_live.specs.Talks.{PartsBy, Quits, TalksToEnd, TalksUntil, talk_of};
 
 use crate::asking::ask;
 use crate::ending::Ending;
 use crate::reading::{HELP, Heard, hear};
+use crate::said::line_of;
 use crate::telling::{tell_found, tell_reply};
 use crate::versions::seek;
 use ipc_client::{Client, Greeting};
@@ -40,7 +43,8 @@ pub fn talk_to<R: PortRead, W: PortWrite, I: PortRead, O: PortWrite>(
     reader: &mut R,
     writer: &mut W,
 ) -> Ending
-    ensures talks { EndsTalk number client.old client.new result }
+    ensures talks { EndsTalk number
+        (talk_of (R.remaining reader.old) client.old (W.written writer.old)) client.new result }
     ensures device { result ≡ Ending.DeviceFailed
         → R.failures reader.old + W.failures writer.old
         < R.failures reader.new + W.failures writer.new }
@@ -56,6 +60,7 @@ pub fn talk_to<R: PortRead, W: PortWrite, I: PortRead, O: PortWrite>(
 }
 
 // Talks as a thread that was welcomed.
+#[tactic(auto, using(crate::proofs::TalkLemmas::visits))]
 fn talk_as<R: PortRead, W: PortWrite, I: PortRead, O: PortWrite>(
     alloc: Global,
     thread: ThreadId,
@@ -63,7 +68,8 @@ fn talk_as<R: PortRead, W: PortWrite, I: PortRead, O: PortWrite>(
     reader: &mut R,
     writer: &mut W,
 ) -> Ending
-    ensures talks { EndsVisit client.old client.new result }
+    ensures talks { EndsVisit
+        (talk_of (R.remaining reader.old) client.old (W.written writer.old)) client.new result }
     ensures device { result ≡ Ending.DeviceFailed
         → R.failures reader.old + W.failures writer.old
         < R.failures reader.new + W.failures writer.new }
@@ -73,12 +79,35 @@ fn talk_as<R: PortRead, W: PortWrite, I: PortRead, O: PortWrite>(
     };
     let said = put(writer, welcome.as_bytes());
     drop(welcome);
-    if said.is_err() {
-        return Ending::DeviceFailed;
+    match said {
+        Ok(()) => talk_on(alloc, client, reader, writer),
+        Err(_) => Ending::DeviceFailed,
     }
-    if let Some(ending) = obey_lines(alloc, client, reader, writer) {
-        return ending;
+}
+
+// Talks once its id was said.
+fn talk_on<R: PortRead, W: PortWrite, I: PortRead, O: PortWrite>(
+    alloc: Global,
+    client: &mut Client<I, O>,
+    reader: &mut R,
+    writer: &mut W,
+) -> Ending
+    ensures talks { EndsWelcomed
+        (talk_of (R.remaining reader.old) client.old (W.written writer.old)) client.new result }
+    ensures device { result ≡ Ending.DeviceFailed
+        → R.failures reader.old + W.failures writer.old
+        < R.failures reader.new + W.failures writer.new }
+{
+    match obey_lines(alloc, client, reader, writer) {
+        Some(ending) => ending,
+        None => say_bye(client),
     }
+}
+
+fn say_bye<I: PortRead, O: PortWrite>(client: &mut Client<I, O>) -> Ending
+    ensures parts { PartsBy client.old client.new result }
+    ensures device { result ≢ Ending.DeviceFailed }
+{
     match client.bye() {
         Ok(()) => Ending::Done,
         Err(error) => Ending::of(error),
@@ -100,8 +129,11 @@ fn obey_lines<R: PortRead, W: PortWrite, I: PortRead, O: PortWrite>(
     reader: &mut R,
     writer: &mut W,
 ) -> Option<Ending>
-    ensures done { IfNone result (HasTalked client.old client.new) }
-    ensures ends { IfSome result (EndsAtLines client.old client.new) }
+    ensures done { IfNone result (TalksToEnd
+        (talk_of (R.remaining reader.old) client.old (W.written writer.old))
+        client.new (W.written writer.new)) }
+    ensures ends { IfSome result (TalksUntil
+        (talk_of (R.remaining reader.old) client.old (W.written writer.old)) client.new) }
     ensures device { result ≡ Some Ending.DeviceFailed
         → R.failures reader.old + W.failures writer.old
         < R.failures reader.new + W.failures writer.new }
@@ -130,8 +162,10 @@ fn obey_last<W: PortWrite, I: PortRead, O: PortWrite>(
     line: &[u8],
     writer: &mut W,
 ) -> Option<Ending>
-    ensures done { IfNone result (HasTalked client.old client.new) }
-    ensures ends { IfSome result (EndsAtLines client.old client.new) }
+    ensures done { IfNone result (
+        Obeys client.old client.new (W.written writer.old) (W.written writer.new) line.now
+        ⊎ Quits client.old client.new (W.written writer.old) (W.written writer.new) line.now) }
+    ensures ends { IfSome result (EndsAtLine client.old client.new line.now) }
     ensures failed { result ≡ Some Ending.DeviceFailed
         → W.failures writer.old < W.failures writer.new }
     ensures kept { result ≢ Some Ending.DeviceFailed
@@ -150,10 +184,12 @@ fn obey_line<W: PortWrite, I: PortRead, O: PortWrite>(
     line: &[u8],
     writer: &mut W,
 ) -> Step
-    ensures next { result ≡ Step.Next → HasTalked client.old client.new }
-    ensures quit { result ≡ Step.Quit → client.new ≡ client.old }
+    ensures next { result ≡ Step.Next
+        → Obeys client.old client.new (W.written writer.old) (W.written writer.new) line.now }
+    ensures quit { result ≡ Step.Quit
+        → Quits client.old client.new (W.written writer.old) (W.written writer.new) line.now }
     ensures ends { (ending : Ending) → result ≡ Step.End ending
-        → EndsAtLines client.old client.new ending }
+        → EndsAtLine client.old client.new line.now ending }
     ensures failed { result ≡ Step.End Ending.DeviceFailed
         → W.failures writer.old < W.failures writer.new }
     ensures kept { result ≢ Step.End Ending.DeviceFailed
@@ -179,7 +215,8 @@ fn answer<I: PortRead, O: PortWrite>(
     client: &mut Client<I, O>,
     heard: Heard,
 ) -> Result<Option<String>, Ending>
-    ensures { AnswersHeard client.old client.new heard result }
+    ensures answers { AnswersHeard client.old client.new heard result }
+    ensures says { IfOk result (λ said. IfSome said (λ text. Says heard (string_bytes text))) }
 {
     match heard {
         Heard::Request(request) => {
@@ -194,14 +231,15 @@ fn answer<I: PortRead, O: PortWrite>(
             Err(ending) => Err(ending),
         },
         Heard::Nothing => Ok(Some(String::new(alloc))),
-        Heard::Help => said(String::from_str(alloc, HELP)),
+        Heard::Help => said(line_of(alloc, HELP, "")),
         Heard::Quit => Ok(None),
-        Heard::Mistake(reason) => said(format!(in alloc; "? {reason}\n")),
+        Heard::Mistake(reason) => said(line_of(alloc, "? ", reason.as_str())),
     }
 }
 
 fn said(text: Result<String, AllocError>) -> Result<Option<String>, Ending>
-    ensures { MatchResult result (λ said. IsSome said) (λ ending. ending ≡ Ending.NoMemory) }
+    ensures said { IfOk text (λ text. result ≡ Ok (Some text)) }
+    ensures lost { IfErr text (λ _. result ≡ Err Ending.NoMemory) }
 {
     match text {
         Ok(text) => Ok(Some(text)),

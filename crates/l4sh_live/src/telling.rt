@@ -1,11 +1,15 @@
 //! What is said to an answer of the server.
-use crate::ending::meaning_in;
+ghost use Rattle.std.specs.Prelude.{IfOk};
+ghost use Rattle.std.specs.String.{string_bytes};
+ghost use Rattle.l4sh_live.specs.Hearing.{IsLine};
+
 use crate::request::{Reply, Request, version_of};
 use crate::said::Said;
 use crate::versions::{Found, is_missing};
 use ipc_client::{Answer, Failure, Received, Registers};
 use ipc_frame::{IpcrFrame, Placed};
 use ipc_words::{Control, ErrorKind, IpcError, ThreadId};
+use l4sh_explain::meaning_behind;
 use l4sh_talk::tell_error;
 use std::alloc::{AllocError, Global};
 
@@ -13,7 +17,9 @@ use std::alloc::{AllocError, Global};
 const MAX_SHOWN: usize = 60;
 
 /// The answer line, and words behind it.
-pub(crate) fn tell_reply(alloc: Global, reply: Reply) -> Result<String, AllocError> {
+pub(crate) fn tell_reply(alloc: Global, reply: Reply) -> Result<String, AllocError>
+    ensures { IfOk result (λ text. IsLine (string_bytes text)) }
+{
     let mut said = Said::new(alloc);
     put_reply(alloc, &mut said, reply);
     said.put("\n");
@@ -26,7 +32,9 @@ pub(crate) fn tell_found(
     alloc: Global,
     request: &Request,
     found: Found,
-) -> Result<String, AllocError> {
+) -> Result<String, AllocError>
+    ensures { IfOk result (λ text. IsLine (string_bytes text)) }
+{
     let Found { reply, missed } = found;
     let is_none = is_missing(request, &reply);
     let mut said = Said::new(alloc);
@@ -53,7 +61,7 @@ fn put_version(said: &mut Said, thread: ThreadId, missed: u32, is_none: bool) {
 fn put_reply(alloc: Global, said: &mut Said, reply: Reply) {
     match reply {
         Reply::Call(answer) => tell_answer(alloc, said, answer),
-        Reply::Registers(registers) => tell_registers(alloc, said, registers),
+        Reply::Registers(registers) => tell_registers(said, registers),
     }
 }
 
@@ -63,11 +71,11 @@ fn tell_answer(alloc: Global, said: &mut Said, answer: Answer) {
             put_outcome(said, &outcome);
             tell_outcome(alloc, said, outcome);
         }
-        Answer::Refused(number) => tell_refusal(alloc, said, number),
+        Answer::Refused(number) => tell_refusal(said, number),
     }
 }
 
-fn tell_registers(alloc: Global, said: &mut Said, registers: Registers) {
+fn tell_registers(said: &mut Said, registers: Registers) {
     match registers {
         Registers::Exchanged {
             result,
@@ -75,7 +83,7 @@ fn tell_registers(alloc: Global, said: &mut Said, registers: Registers) {
             code,
             moment: _,
         } => tell_exchanged(said, result, control, code),
-        Registers::Refused(number) => tell_refusal(alloc, said, number),
+        Registers::Refused(number) => tell_refusal(said, number),
     }
 }
 
@@ -106,15 +114,11 @@ fn phase_of(control: Control) -> &'static str {
 }
 
 // A refusal of the kernel: the number after K.
-fn tell_refusal(alloc: Global, said: &mut Said, number: u8) {
+fn tell_refusal(said: &mut Said, number: u8) {
     said.between("! K", u64::from(number), "");
-    match meaning_in(alloc, 'K', number) {
-        Ok(Some(meaning)) => {
-            said.put("    ");
-            said.put(meaning);
-        }
-        Ok(None) => {}
-        Err(lost) => said.keep(Err(lost)),
+    if let Some(meaning) = meaning_behind(b'K', number) {
+        said.put("    ");
+        said.put(meaning);
     }
 }
 
@@ -183,7 +187,7 @@ fn tell_received(alloc: Global, said: &mut Said, received: &Received, actual: Th
 fn tell_failure(alloc: Global, said: &mut Said, failure: Failure) {
     match failure {
         Failure::Failed(error) => tell_failed(said, error),
-        Failure::Refused(number) => tell_refusal(alloc, said, number),
+        Failure::Refused(number) => tell_refusal(said, number),
     }
 }
 

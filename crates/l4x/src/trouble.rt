@@ -1,6 +1,9 @@
 //! Why a role ends.
 use crate::naming::NameError;
 use ipc_client::{BufferFault, ClientError, MessageFault, PATIENCE};
+use ipc_words::IpcError;
+use l4sh_explain::meaning_behind;
+use l4sh_threads::cause_of;
 use std::fmt;
 
 /// The words that name a role.
@@ -96,15 +99,39 @@ impl From<BufferFault> for Trouble {
 impl fmt::Display for Trouble {
     fn fmt<W: fmt::Write>(&self, f: &mut fmt::Formatter<W>) -> fmt::Result {
         match self {
-            Trouble::Client(error) => write!(f, "{error}"),
+            Trouble::Client(error) => put_error(f, *error),
             Trouble::Silent => write!(
                 f,
                 "no WELCOME within {PATIENCE} seconds: the server is full, or does not answer"
             ),
-            Trouble::Refused(number) => write!(f, "refused: K{number}"),
-            Trouble::Failed(code) => write!(f, "the call failed: error {code:#x}"),
+            Trouble::Refused(number) => {
+                write!(f, "refused: K{number}")?;
+                put_meaning(f, b'K', *number)
+            }
+            Trouble::Failed(code) => {
+                let cause = cause_of(IpcError::from_word(*code));
+                write!(f, "the call failed: error {code:#x}: {cause}")
+            }
             Trouble::Name(error) => write!(f, "the name server answered: {error}"),
             other => f.write_str(other.words()),
         }
+    }
+}
+
+// Why a call has no answer, and what its code means.
+fn put_error<W: fmt::Write>(f: &mut fmt::Formatter<W>, error: ClientError) -> fmt::Result {
+    write!(f, "{error}")?;
+    match error {
+        ClientError::Frame(fault) => put_meaning(f, b'F', fault.number()),
+        ClientError::Fault { class, number } => put_meaning(f, class, number),
+        _ => Ok(()),
+    }
+}
+
+// What the code of these letter and number means.
+fn put_meaning<W: fmt::Write>(f: &mut fmt::Formatter<W>, letter: u8, number: u8) -> fmt::Result {
+    match meaning_behind(letter, number) {
+        Some(meaning) => write!(f, ": {meaning}"),
+        None => Ok(()),
     }
 }

@@ -20,6 +20,8 @@ pub(crate) enum Question {
     Began,
     /// Its trace from now on.
     Trace,
+    /// To go on with its trace in a further file.
+    Rotate,
 }
 
 impl fmt::Display for Question {
@@ -29,6 +31,7 @@ impl fmt::Display for Question {
             Question::Counters => "counters",
             Question::Began => "began",
             Question::Trace => "trace follow",
+            Question::Rotate => "rotate",
         })
     }
 }

@@ -21,7 +21,7 @@ use std::sync::ledger::Ledger;
 const MOST_LINES: u64 = u64::MAX;
 
 /// The status where a server ends what it was asked for.
-const BY_SERVER: u8 = 4;
+pub(crate) const BY_SERVER: u8 = 4;
 
 /// Why no more is told.
 #[derive(Clone, Copy)]

@@ -28,6 +28,7 @@ mod new_file;
 mod obeying;
 mod opening;
 mod printing;
+mod rotating;
 mod several;
 mod talk;
 mod terminal;
@@ -38,7 +39,7 @@ use clap::error::ErrorKind;
 use ending::{Ending, ended, ended_alone};
 use exit::Exit;
 use ipc_ports::{Failures, WritePort};
-use l4sh_options::{ShellOptions, shell_options, tell_version};
+use l4sh_options::{ShellOptions, mistake_text, shell_options, tell_version};
 use obeying::obey_into;
 use std::alloc::Global;
 use std::io;
@@ -96,10 +97,18 @@ fn tell_error<R: Alloc + Files + Print + Eprint>(
             tell_version(rt, alloc, error)?;
             Ok(ExitCode::from(0))
         }
-        _ => {
-            rt.eprint(error)?;
+        _ => tell_mistake(rt, alloc, error),
+    }
+}
+
+/// Tells what is wrong with the words, and answers the status of the program.
+fn tell_mistake<R: Eprint>(rt: &R, alloc: Global, mistake: &clap::Error) -> io::Result<ExitCode> {
+    match mistake_text(alloc, mistake) {
+        Ok(text) => {
+            rt.eprint(&text)?;
             Ok(ExitCode::from(2))
         }
+        Err(_) => ended_alone(rt, Exit::NoMemory, &None),
     }
 }
 

@@ -5,6 +5,7 @@ use crate::inputs::{run_input, talk_from_input, talk_over_input, wire_input};
 use crate::looking::print_answer;
 use crate::migrating::{Migration, migrate_file};
 use crate::printing::{chart_of, check_of, count_of, follow_of, script_in, state_of};
+use crate::rotating::rotate_trace;
 use ipc_ports::{Failures, PortWrite};
 use l4sh_explain::{Told, answer_period, answer_tag, explain};
 use l4sh_options::ShellOptions;
@@ -44,6 +45,7 @@ pub(crate) fn obey_into<L: Ledger, R: Files + Input + Eprint + Net, W: PortWrite
         ShellOptions::Migrate { old, new } => {
             migrate_file(rt, alloc, &Migration::new(*old, *new), reads, writer)
         }
+        ShellOptions::Rotate { dir } => rotate_trace(rt, alloc, *dir, writer),
         ShellOptions::Talk => talk_over_input(rt, alloc, reads, writer),
         ShellOptions::TalkTo(talk) => talk_from_input(rt, alloc, talk, reads, writer),
         ShellOptions::Explain { word } => answer_word(explain(alloc, *word), writer),

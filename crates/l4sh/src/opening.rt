@@ -72,12 +72,17 @@ fn look_at_opened<T: Task, L: Ledger, R: Files, W: PortWrite>(
 }
 
 /// A device failed. The reason is the file where that is a folder, which can be opened and not
-/// read. Without memory there is no reason.
+/// read, and what asks the server of one. Without memory there is no reason.
 fn device_failed<R: Files>(rt: &R, alloc: Global, file: &str) -> Ending {
     let exit = Exit::DeviceFailed;
     if is_folder(rt, file) {
-        let reason = format!(in alloc; "{file}: is a folder").ok();
-        Ending::Alone { exit, reason }
+        let reason = format!(in alloc;
+            "{file}: is a folder; of a live server l4sh state {file} tells what its threads do"
+        );
+        Ending::Alone {
+            exit,
+            reason: reason.ok(),
+        }
     } else {
         Ending::from(exit)
     }

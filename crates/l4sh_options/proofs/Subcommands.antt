@@ -27,7 +27,8 @@ reads_run name rows e (inr (inr (inr (inr (inr (inr (inr (inr (inl (is, reads)))
 reads_run name rows e (inr (inr (inr (inr (inr (inr (inr (inr (inr (inl (is, reads))))))))))) = absurd (never _ _ name e is refl)
 reads_run name rows e (inr (inr (inr (inr (inr (inr (inr (inr (inr (inr (inl is, reads))))))))))) = absurd (never _ _ name e is refl)
 reads_run name rows e (inr (inr (inr (inr (inr (inr (inr (inr (inr (inr (inr (inl is), reads))))))))))) = absurd (never _ _ name e is refl)
-reads_run name rows e (inr (inr (inr (inr (inr (inr (inr (inr (inr (inr (inr (inr is), reads))))))))))) = absurd (never _ _ name e is refl)
+reads_run name rows e (inr (inr (inr (inr (inr (inr (inr (inr (inr (inr (inr (inr (inl is)), reads))))))))))) = absurd (never _ _ name e is refl)
+reads_run name rows e (inr (inr (inr (inr (inr (inr (inr (inr (inr (inr (inr (inr (inr is)), reads))))))))))) = absurd (never _ _ name e is refl)
 
 pub reads_check : (name : Text) (rows : List Row) → name ≡ codes "check" → Reads name rows → ReadsAsFiles rows
 unfolding Reads
@@ -44,7 +45,8 @@ reads_check name rows e (inr (inr (inr (inr (inr (inr (inr (inr (inl (is, reads)
 reads_check name rows e (inr (inr (inr (inr (inr (inr (inr (inr (inr (inl (is, reads))))))))))) = absurd (never _ _ name e is refl)
 reads_check name rows e (inr (inr (inr (inr (inr (inr (inr (inr (inr (inr (inl is, reads))))))))))) = absurd (never _ _ name e is refl)
 reads_check name rows e (inr (inr (inr (inr (inr (inr (inr (inr (inr (inr (inr (inl is), reads))))))))))) = absurd (never _ _ name e is refl)
-reads_check name rows e (inr (inr (inr (inr (inr (inr (inr (inr (inr (inr (inr (inr is), reads))))))))))) = absurd (never _ _ name e is refl)
+reads_check name rows e (inr (inr (inr (inr (inr (inr (inr (inr (inr (inr (inr (inr (inl is)), reads))))))))))) = absurd (never _ _ name e is refl)
+reads_check name rows e (inr (inr (inr (inr (inr (inr (inr (inr (inr (inr (inr (inr (inr is)), reads))))))))))) = absurd (never _ _ name e is refl)
 
 pub reads_part : (name : Text) (rows : List Row) → name ≡ codes "part" → Reads name rows → ReadsAsFiles rows
 unfolding Reads
@@ -61,7 +63,8 @@ reads_part name rows e (inr (inr (inr (inr (inr (inr (inr (inr (inl (is, reads))
 reads_part name rows e (inr (inr (inr (inr (inr (inr (inr (inr (inr (inl (is, reads))))))))))) = absurd (never _ _ name e is refl)
 reads_part name rows e (inr (inr (inr (inr (inr (inr (inr (inr (inr (inr (inl is, reads))))))))))) = absurd (never _ _ name e is refl)
 reads_part name rows e (inr (inr (inr (inr (inr (inr (inr (inr (inr (inr (inr (inl is), reads))))))))))) = absurd (never _ _ name e is refl)
-reads_part name rows e (inr (inr (inr (inr (inr (inr (inr (inr (inr (inr (inr (inr is), reads))))))))))) = absurd (never _ _ name e is refl)
+reads_part name rows e (inr (inr (inr (inr (inr (inr (inr (inr (inr (inr (inr (inr (inl is)), reads))))))))))) = absurd (never _ _ name e is refl)
+reads_part name rows e (inr (inr (inr (inr (inr (inr (inr (inr (inr (inr (inr (inr (inr is)), reads))))))))))) = absurd (never _ _ name e is refl)
 
 pub reads_chart : (name : Text) (rows : List Row) → name ≡ codes "chart" → Reads name rows → ReadsAsChart rows
 unfolding Reads
@@ -78,7 +81,8 @@ reads_chart name rows e (inr (inr (inr (inr (inr (inr (inr (inr (inl (is, reads)
 reads_chart name rows e (inr (inr (inr (inr (inr (inr (inr (inr (inr (inl (is, reads))))))))))) = absurd (never _ _ name e is refl)
 reads_chart name rows e (inr (inr (inr (inr (inr (inr (inr (inr (inr (inr (inl is, reads))))))))))) = absurd (never _ _ name e is refl)
 reads_chart name rows e (inr (inr (inr (inr (inr (inr (inr (inr (inr (inr (inr (inl is), reads))))))))))) = absurd (never _ _ name e is refl)
-reads_chart name rows e (inr (inr (inr (inr (inr (inr (inr (inr (inr (inr (inr (inr is), reads))))))))))) = absurd (never _ _ name e is refl)
+reads_chart name rows e (inr (inr (inr (inr (inr (inr (inr (inr (inr (inr (inr (inr (inl is)), reads))))))))))) = absurd (never _ _ name e is refl)
+reads_chart name rows e (inr (inr (inr (inr (inr (inr (inr (inr (inr (inr (inr (inr (inr is)), reads))))))))))) = absurd (never _ _ name e is refl)
 
 pub reads_state : (name : Text) (rows : List Row) → name ≡ codes "state" → Reads name rows → ReadsAsState rows
 unfolding Reads
@@ -95,7 +99,8 @@ reads_state name rows e (inr (inr (inr (inr (inr (inr (inr (inr (inl (is, reads)
 reads_state name rows e (inr (inr (inr (inr (inr (inr (inr (inr (inr (inl (is, reads))))))))))) = absurd (never _ _ name e is refl)
 reads_state name rows e (inr (inr (inr (inr (inr (inr (inr (inr (inr (inr (inl is, reads))))))))))) = absurd (never _ _ name e is refl)
 reads_state name rows e (inr (inr (inr (inr (inr (inr (inr (inr (inr (inr (inr (inl is), reads))))))))))) = absurd (never _ _ name e is refl)
-reads_state name rows e (inr (inr (inr (inr (inr (inr (inr (inr (inr (inr (inr (inr is), reads))))))))))) = absurd (never _ _ name e is refl)
+reads_state name rows e (inr (inr (inr (inr (inr (inr (inr (inr (inr (inr (inr (inr (inl is)), reads))))))))))) = absurd (never _ _ name e is refl)
+reads_state name rows e (inr (inr (inr (inr (inr (inr (inr (inr (inr (inr (inr (inr (inr is)), reads))))))))))) = absurd (never _ _ name e is refl)
 
 pub reads_script : (name : Text) (rows : List Row) → name ≡ codes "script" → Reads name rows → ReadsAsFiles rows
 unfolding Reads
@@ -112,7 +117,8 @@ reads_script name rows e (inr (inr (inr (inr (inr (inr (inr (inr (inl (is, reads
 reads_script name rows e (inr (inr (inr (inr (inr (inr (inr (inr (inr (inl (is, reads))))))))))) = absurd (never _ _ name e is refl)
 reads_script name rows e (inr (inr (inr (inr (inr (inr (inr (inr (inr (inr (inl is, reads))))))))))) = absurd (never _ _ name e is refl)
 reads_script name rows e (inr (inr (inr (inr (inr (inr (inr (inr (inr (inr (inr (inl is), reads))))))))))) = absurd (never _ _ name e is refl)
-reads_script name rows e (inr (inr (inr (inr (inr (inr (inr (inr (inr (inr (inr (inr is), reads))))))))))) = absurd (never _ _ name e is refl)
+reads_script name rows e (inr (inr (inr (inr (inr (inr (inr (inr (inr (inr (inr (inr (inl is)), reads))))))))))) = absurd (never _ _ name e is refl)
+reads_script name rows e (inr (inr (inr (inr (inr (inr (inr (inr (inr (inr (inr (inr (inr is)), reads))))))))))) = absurd (never _ _ name e is refl)
 
 pub reads_count : (name : Text) (rows : List Row) → name ≡ codes "count" → Reads name rows → ReadsAsFiles rows
 unfolding Reads
@@ -129,7 +135,8 @@ reads_count name rows e (inr (inr (inr (inr (inr (inr (inr (inr (inl (is, reads)
 reads_count name rows e (inr (inr (inr (inr (inr (inr (inr (inr (inr (inl (is, reads))))))))))) = absurd (never _ _ name e is refl)
 reads_count name rows e (inr (inr (inr (inr (inr (inr (inr (inr (inr (inr (inl is, reads))))))))))) = absurd (never _ _ name e is refl)
 reads_count name rows e (inr (inr (inr (inr (inr (inr (inr (inr (inr (inr (inr (inl is), reads))))))))))) = absurd (never _ _ name e is refl)
-reads_count name rows e (inr (inr (inr (inr (inr (inr (inr (inr (inr (inr (inr (inr is), reads))))))))))) = absurd (never _ _ name e is refl)
+reads_count name rows e (inr (inr (inr (inr (inr (inr (inr (inr (inr (inr (inr (inr (inl is)), reads))))))))))) = absurd (never _ _ name e is refl)
+reads_count name rows e (inr (inr (inr (inr (inr (inr (inr (inr (inr (inr (inr (inr (inr is)), reads))))))))))) = absurd (never _ _ name e is refl)
 
 pub reads_follow : (name : Text) (rows : List Row) → name ≡ codes "follow" → Reads name rows → ReadsAsFiles rows
 unfolding Reads
@@ -146,7 +153,8 @@ reads_follow name rows e (inr (inr (inr (inr (inr (inr (inr (inr (inl (is, reads
 reads_follow name rows e (inr (inr (inr (inr (inr (inr (inr (inr (inr (inl (is, reads))))))))))) = absurd (never _ _ name e is refl)
 reads_follow name rows e (inr (inr (inr (inr (inr (inr (inr (inr (inr (inr (inl is, reads))))))))))) = absurd (never _ _ name e is refl)
 reads_follow name rows e (inr (inr (inr (inr (inr (inr (inr (inr (inr (inr (inr (inl is), reads))))))))))) = absurd (never _ _ name e is refl)
-reads_follow name rows e (inr (inr (inr (inr (inr (inr (inr (inr (inr (inr (inr (inr is), reads))))))))))) = absurd (never _ _ name e is refl)
+reads_follow name rows e (inr (inr (inr (inr (inr (inr (inr (inr (inr (inr (inr (inr (inl is)), reads))))))))))) = absurd (never _ _ name e is refl)
+reads_follow name rows e (inr (inr (inr (inr (inr (inr (inr (inr (inr (inr (inr (inr (inr is)), reads))))))))))) = absurd (never _ _ name e is refl)
 
 pub reads_talk : (name : Text) (rows : List Row) → name ≡ codes "talk" → Reads name rows → ReadsAsTalk rows
 unfolding Reads
@@ -163,7 +171,8 @@ reads_talk name rows e (inr (inr (inr (inr (inr (inr (inr (inr (inl (is, reads))
 reads_talk name rows e (inr (inr (inr (inr (inr (inr (inr (inr (inr (inl (is, reads))))))))))) = absurd (never _ _ name e is refl)
 reads_talk name rows e (inr (inr (inr (inr (inr (inr (inr (inr (inr (inr (inl is, reads))))))))))) = absurd (never _ _ name e is refl)
 reads_talk name rows e (inr (inr (inr (inr (inr (inr (inr (inr (inr (inr (inr (inl is), reads))))))))))) = absurd (never _ _ name e is refl)
-reads_talk name rows e (inr (inr (inr (inr (inr (inr (inr (inr (inr (inr (inr (inr is), reads))))))))))) = absurd (never _ _ name e is refl)
+reads_talk name rows e (inr (inr (inr (inr (inr (inr (inr (inr (inr (inr (inr (inr (inl is)), reads))))))))))) = absurd (never _ _ name e is refl)
+reads_talk name rows e (inr (inr (inr (inr (inr (inr (inr (inr (inr (inr (inr (inr (inr is)), reads))))))))))) = absurd (never _ _ name e is refl)
 
 pub reads_migrate : (name : Text) (rows : List Row) → name ≡ codes "migrate" → Reads name rows → ReadsAsMigrate rows
 unfolding Reads
@@ -180,4 +189,5 @@ reads_migrate name rows e (inr (inr (inr (inr (inr (inr (inr (inr (inl (is, read
 reads_migrate name rows e (inr (inr (inr (inr (inr (inr (inr (inr (inr (inl (is, reads))))))))))) = reads
 reads_migrate name rows e (inr (inr (inr (inr (inr (inr (inr (inr (inr (inr (inl is, reads))))))))))) = absurd (never _ _ name e is refl)
 reads_migrate name rows e (inr (inr (inr (inr (inr (inr (inr (inr (inr (inr (inr (inl is), reads))))))))))) = absurd (never _ _ name e is refl)
-reads_migrate name rows e (inr (inr (inr (inr (inr (inr (inr (inr (inr (inr (inr (inr is), reads))))))))))) = absurd (never _ _ name e is refl)
+reads_migrate name rows e (inr (inr (inr (inr (inr (inr (inr (inr (inr (inr (inr (inr (inl is)), reads))))))))))) = absurd (never _ _ name e is refl)
+reads_migrate name rows e (inr (inr (inr (inr (inr (inr (inr (inr (inr (inr (inr (inr (inr is)), reads))))))))))) = absurd (never _ _ name e is refl)

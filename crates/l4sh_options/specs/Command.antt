@@ -233,9 +233,13 @@ counting_app = with_subcommand (with_subcommand explaining_app (word_app (codes 
 abbrev pub talking_app : App
 talking_app = with_subcommand (with_subcommand counting_app follow_app.top) talk_app.top
 
+-- `l4sh` with `migrate` and `part` too
+abbrev pub writing_app : App
+writing_app = with_subcommand (with_subcommand talking_app migrate_app.top) part_app.top
+
 -- `l4sh` with its subcommands, of which one has to be there
 abbrev pub shell_app : App
-shell_app = with_subcommand (with_subcommand talking_app migrate_app.top) part_app.top
+shell_app = with_subcommand writing_app (word_app (codes "rotate")).top
 
 -- `--ID N`: a number from 1 up to most, by default the one that a text reads as
 abbrev pub count_rule : Text → ℕ → Text → Rule

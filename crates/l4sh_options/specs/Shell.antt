@@ -14,7 +14,7 @@ use Rattle.l4sh_options.specs.declared.asked.FollowOptions.{FollowOptions}
 use Rattle.l4sh_options.specs.declared.asked.ScriptLimits.{ScriptLimits}
 use Rattle.l4sh_options.specs.declared.asked.ShellOptions.{ShellOptions}
 use Rattle.l4sh_options.specs.declared.asked.ShellOptions.TheVariants.{Run, Wire, Check, Part, Chart, State}
-use Rattle.l4sh_options.specs.declared.asked.ShellOptions.TheVariants.{Script, Explain, Tag, Period, Count, Follow, Talk, TalkTo, Migrate}
+use Rattle.l4sh_options.specs.declared.asked.ShellOptions.TheVariants.{Script, Explain, Tag, Period, Count, Follow, Talk, TalkTo, Migrate, Rotate}
 use Rattle.l4sh_options.specs.declared.asked.StateOptions.{StateOptions}
 use Rattle.l4sh_options.specs.declared.asked.TalkOptions.{TalkOptions}
 
@@ -47,6 +47,7 @@ IsWithinLimits (Follow files follow) = ⊤
 IsWithinLimits Talk = ⊤
 IsWithinLimits (TalkTo talk) = AreNumbersWithin talk
 IsWithinLimits (Migrate old new) = ⊤
+IsWithinLimits (Rotate dir) = ⊤
 
 -- the number that an option has among the matches of a subcommand
 abbrev pub number_in : List Row → Text → Option ℕ
@@ -141,6 +142,8 @@ HasMatchesIn name rows Talk = (name ≡ codes "talk") × HasNoServerIn rows
 HasMatchesIn name rows (TalkTo talk) = (name ≡ codes "talk") × HasTalkIn rows talk
 HasMatchesIn name rows (Migrate old new) = (name ≡ codes "migrate")
     × (first_of (codes "old") rows ≡ Some old.now) × (first_of (codes "new") rows ≡ Some new.now)
+HasMatchesIn name rows (Rotate dir) = (name ≡ codes "rotate")
+    × (first_of (codes "word") rows ≡ Some dir.now)
 
 -- the matches have a decimal number within its limit for each limit of a script
 abbrev pub ReadsAsRun : List Row → Type 0
@@ -191,6 +194,7 @@ ReadsAsWord rows = IsSome (first_of (codes "word") rows)
 -- the subcommand of this name takes one word
 abbrev pub TakesWord : Text → Type 0
 TakesWord name = (name ≡ codes "explain") ⊎ (name ≡ codes "tag") ⊎ (name ≡ codes "period")
+    ⊎ (name ≡ codes "rotate")
 
 -- the matches of the subcommand of this name have what it needs
 unfoldable pub Reads : Text → List Row → Type 0

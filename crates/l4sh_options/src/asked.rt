@@ -61,6 +61,10 @@ pub enum ShellOptions<'a> {
         old: &'a str,
         new: &'a str,
     },
+    /// `l4sh rotate`, with the folder of a live server.
+    Rotate {
+        dir: &'a str,
+    },
 }
 
 /// The limits of the kernel under a script.

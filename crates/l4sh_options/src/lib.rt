@@ -4,6 +4,7 @@
 mod asked;
 mod default_texts;
 mod files;
+mod mistakes;
 mod parts;
 mod server;
 mod server_words;
@@ -17,6 +18,7 @@ pub use asked::{
     TalkOptions,
 };
 pub use default_texts::default_texts_are_the_limits;
+pub use mistakes::mistake_text;
 pub use server::{MAX_SPACES, OWNER_ONLY, ServerOptions};
 pub use server_words::server_options;
 pub use shell::shell_options;

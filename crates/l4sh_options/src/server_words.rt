@@ -20,7 +20,7 @@ use std::alloc::{AllocError, Global};
 use std::fmt;
 
 /// The arguments of `l4d`, in the order of its help.
-const ARGUMENTS: [Argument; 16] = [
+pub(crate) const ARGUMENTS: [Argument; 16] = [
     Argument {
         id: "dir",
         kind: Kind::Named("DIR", Values::Set),

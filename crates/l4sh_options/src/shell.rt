@@ -334,6 +334,7 @@ fn word_options<'a>(name: &str, found: &ArgMatches<'a>) -> Option<ShellOptions<'
         "explain" => Some(ShellOptions::Explain { word }),
         "tag" => Some(ShellOptions::Tag { word }),
         "period" => Some(ShellOptions::Period { word }),
+        "rotate" => Some(ShellOptions::Rotate { dir: word }),
         _ => None,
     }
 }

@@ -35,6 +35,14 @@ const SERVER_FOLDER: Argument = Argument {
     help: "The folder of a live l4d, as whose thread to talk; without it a kernel of its own",
 };
 
+/// DIR of `rotate`.
+const TRACED_FOLDER: Argument = Argument {
+    id: "word",
+    kind: Kind::Place("DIR"),
+    is_required: true,
+    help: "The folder of a live l4d that writes a trace",
+};
+
 /// `--entries N`.
 const ENTRIES: Argument = Argument {
     id: "entries",
@@ -212,7 +220,7 @@ const LASTS: Argument = Argument {
 };
 
 /// The subcommands of `l4sh`, in the order of its help.
-pub(crate) const SUBCOMMANDS: [Subcommand; 14] = [
+pub(crate) const SUBCOMMANDS: [Subcommand; 15] = [
     Subcommand {
         name: "run",
         about: "Runs the script that it reads from standard input",
@@ -284,5 +292,10 @@ pub(crate) const SUBCOMMANDS: [Subcommand; 14] = [
         name: "part",
         about: "Writes the part that begins where a trace ends, without entries",
         arguments: &[FILES, UNTAKEN],
+    },
+    Subcommand {
+        name: "rotate",
+        about: "Has a live l4d go on with its trace in a further file",
+        arguments: &[TRACED_FOLDER],
     },
 ];

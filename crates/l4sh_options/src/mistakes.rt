@@ -1,0 +1,61 @@
+//! What is told of words that are a mistake.
+use crate::parts::{Argument, Kind, Values};
+use crate::server_words::ARGUMENTS;
+use crate::shell_rows::SUBCOMMANDS;
+use clap::Error;
+use std::alloc::{AllocError, Global};
+
+/// What `clap` says of a value that is no number, behind the value and its option.
+const NO_NUMBER: [&str; 3] = [
+    "': invalid digit found in string",
+    "': number too large to fit in target type",
+    "': cannot parse integer from empty string",
+];
+
+/// The text of words that are a mistake: what `clap` says, and of a value that is no number, which
+/// numbers are wanted.
+pub fn mistake_text(alloc: Global, mistake: &Error) -> Result<String, AllocError> {
+    let text = mistake.to_string(alloc)?;
+    for reason in NO_NUMBER {
+        if let Some((before, behind)) = text.as_str().split_once(reason)
+            && let Some((least, most)) = range_in(alloc, before)?
+        {
+            return format!(in alloc; "{before}': wanted is a number, {least} to {most}{behind}");
+        }
+    }
+    Ok(text)
+}
+
+/// The least and the greatest number of the option with whose name a text ends.
+fn range_in(alloc: Global, text: &str) -> Result<Option<(u64, u64)>, AllocError> {
+    if let Some(range) = range_among(alloc, &ARGUMENTS, text)? {
+        return Ok(Some(range));
+    }
+    for command in SUBCOMMANDS {
+        if let Some(range) = range_among(alloc, command.arguments, text)? {
+            return Ok(Some(range));
+        }
+    }
+    Ok(None)
+}
+
+/// The same among these arguments.
+fn range_among(
+    alloc: Global,
+    rows: &[Argument],
+    text: &str,
+) -> Result<Option<(u64, u64)>, AllocError> {
+    for row in rows {
+        if let Kind::Named(
+            name,
+            Values::Number(least, most) | Values::Count(least, most, _),
+        ) = row.kind
+        {
+            let named = format!(in alloc; "'--{} <{name}>", row.id)?;
+            if text.ends_with(named.as_str()) {
+                return Ok(Some((least, most)));
+            }
+        }
+    }
+    Ok(None)
+}

@@ -52,9 +52,12 @@ static void spoil_item(L4_StringItem_t *s)
 
 L4_StringItem_t L4_StringItem(int size, void *address)
 {
-	if (size < 0)
-		return (L4_StringItem_t) { { ITEM_NONE } };
-	return (L4_StringItem_t) { { (L4_Word_t) size << 10, pointer_to(address) } };
+	L4_StringItem_t s;
+
+	/* the words behind these two are none of the item, and nobody reads them */
+	s.raw[0] = size < 0 ? ITEM_NONE : (L4_Word_t) size << 10;
+	s.raw[1] = pointer_to(address);
+	return s;
 }
 
 L4_Bool_t L4_IsStringItem(const L4_StringItem_t *s)
@@ -64,7 +67,8 @@ L4_Bool_t L4_IsStringItem(const L4_StringItem_t *s)
 
 L4_Bool_t L4_CompoundString(const L4_StringItem_t *s)
 {
-	return L4_Substrings(s) > 1;
+	/* one descriptor and one pointer are the least that an item has */
+	return l4_item_words(s->raw, 0, ITEM_WORDS) > 2;
 }
 
 L4_Word_t L4_Substrings(const L4_StringItem_t *s)

@@ -176,9 +176,9 @@ class Texts(unittest.TestCase):
         strings = Message(0, [], [b"k", b"", b"x" * 9])
         rows = [
             (0x2, lambda it: it.send(FIRST), "2.1: send phase to 1.1: timeout (error 0x2); nothing was delivered"),
-            (0x5, lambda it: it.call(FIRST), "2.1: receive phase from 1.1: non-existing partner (error 0x5); the message was delivered, and no answer came"),
+            (0x5, lambda it: it.call(FIRST), "2.1: receive phase from 1.1: non-existing partner (error 0x5); what was sent was delivered, and no answer came"),
             (0x3, lambda it: it.wait(1), "2.1: receive phase from anythread: timeout (error 0x3); nothing was received"),
-            (0x7, lambda it: it.reply_wait(FIRST, Message()), "cancelled by another thread (error 0x7); the message was delivered, and nothing was received"),
+            (0x7, lambda it: it.reply_wait(FIRST, Message()), "cancelled by another thread (error 0x7); what was sent was delivered, and nothing was received"),
             (0x4, lambda it: it.send(1), "that is no id of a thread: ThreadId.of(1, 1)"),
             (0x4, lambda it: it.send(it.id), "that is the thread itself"),
             (0x18, lambda it: it.send(FIRST, strings), "string 3, of 9 bytes, did not fit the receiver's buffers; nothing was delivered"),

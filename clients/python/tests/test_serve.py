@@ -3,12 +3,14 @@
 import unittest
 
 import l4ipc
-from l4ipc import FUNCTION_FAILED, Message, Received
+from l4ipc import FUNCTION_FAILED, Message, Received, ThreadId
+from l4ipc.names import Names
 
 from .scripted import REFUSED, STRING, WORDS, failed, outcome, said, scripted
 
 # An IPC frame's place of the word `to`, of its tag and of its first word.
 TO, TAG, FIRST_WORD = slice(5, 13), slice(33, 41), slice(50, 58)
+NAMES = ThreadId.of(255, 1)
 
 
 def served(answers, function, **more):
@@ -85,6 +87,18 @@ class Serve(unittest.TestCase):
         for text, wanted in zip(logged.output, ("nothing was received", "1.1 was not answered", "the connection has ended")):
             self.assertIn(wanted, text)
         self.assertIn("ZeroDivisionError", logged_by(self, WORDS, lambda request: 1 // 0).output[0])
+
+    def test_a_late_answer_of_a_name_server_is_no_request(self):
+        late, came = outcome(1, NAMES, words=(2 << 32 | 1,)), []
+        thread, server = scripted(failed(0x3) + failed(0x3) + late + WORDS + late)
+        with self.assertRaises(l4ipc.Timeout):
+            Names(thread, timeout=1).register("echo")
+        thread.serve(lambda request: came.append(request.sender) or Message(), tell=lambda error, request: None)
+        # (the one answer that was owed is dropped; a message of that thread behind it is a request as any other)
+        self.assertEqual(came, [1 << 32 | 1, NAMES])
+        self.assertEqual([message_of(frame)[0] for frame in said(server)[3:]], [0, 0, 1 << 32 | 1, NAMES])
+        thread.close()
+        server.close()
 
     def test_strings(self):
         memory = bytearray(8)

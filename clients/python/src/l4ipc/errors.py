@@ -71,7 +71,7 @@ class IpcError(L4Error):
             return "nothing was delivered"
         if not self.delivered:
             return "nothing was received"
-        return f"the message was delivered, and {'no answer came' if self.partner == self._of.to else 'nothing was received'}"
+        return f"what was sent was delivered, and {'no answer came' if self.partner == self._of.to else 'nothing was received'}"
 
 
 class Timeout(IpcError):

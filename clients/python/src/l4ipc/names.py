@@ -2,7 +2,7 @@
 
 import re
 import time
-from typing import TYPE_CHECKING, Dict, List, Optional, Tuple
+from typing import TYPE_CHECKING, Dict, List, Optional, Set, Tuple
 
 from . import arguments, protocol, steps
 from .errors import SEND, Circumstances, IpcError, L4Error, NoPartner, Refused, Timeout
@@ -73,11 +73,13 @@ class Unregistered(NoPartner):
 
 
 class Kept:
-    """The names that a thread has registered for itself, to be registered again, and the threads that it has found by their names."""
+    """The names that a thread has registered for itself, to be registered again, the threads that it has found by their names, and the name servers
+    that owe it the answer to a request for which it waits no longer."""
 
     def __init__(self) -> None:
         self.names: Dict[str, None] = {}
         self.found: Dict[str, ThreadId] = {}
+        self.owing: Set[ThreadId] = set()
         self.again_at = 0.0
         self.is_busy = False
 
@@ -93,6 +95,7 @@ class Kept:
     def restart(self) -> None:
         """The thread is a new one: it has no name yet, and nobody whom it knew is there."""
         self.found.clear()
+        self.owing.clear()
         self.again_at = 0.0
 
 
@@ -124,6 +127,10 @@ class Book:
                 break
             except NoPartner:
                 first, self.server = self.server.version + 1, None
+            except IpcError as error:
+                if error.delivered:
+                    self._thread.kept.owing.add(self.server)
+                raise
         if answer.label:
             raise NameFault(answer.label, ThreadId(answer.words[0] if answer.words else 0))
         if len(answer.words) != 1:

@@ -93,6 +93,10 @@ class Loop:
                 if pause:
                     yield Pause(pause)
                 continue
+            if kept.owing and request.sender in kept.owing:
+                # a name server's answer, for which its call did not wait: who answered that would be answered without an end
+                kept.owing.remove(request.sender)
+                continue
             self.request, self.life = request, self.thread.lives
             try:
                 self.answer = (yield Answer(function, request)) if awaits else function(request)

@@ -2,7 +2,7 @@
 """restarts.py L4D L4X: Python programs over restarts of `l4d` and of the name server.
 
 A server with a name and clients of it, all with reconnect=True. `l4d` is killed in midst of their calls and started again, several times, and so is the name
-server alone, with the `l4d` that there is; later it is stopped for a while. Each client makes numbered calls by the server's name. Each call either brings
+server alone, with the `l4d` that there is; later it is stopped for a while, and what it answers then is no request of a client. Each client makes numbered calls by the server's name. Each call either brings
 its answer or fails, calls go on after each restart, no message comes twice, and the server has its name again in each case without a word of its program.
 
 Its last line is `N checked, M failed`; the status is 0 where M is 0.
@@ -19,7 +19,7 @@ sys.path[1:1] = [f"{sys.path[0]}/../lib", f"{sys.path[0]}/../../clients/python/s
 
 from arguments import programs_of
 from counting import Tally
-from l4ipc import Closed, L4Error, Message, Thread
+from l4ipc import Closed, L4Error, Message, Thread, Timeout
 from l4ipc.names import Names
 from serving import Server, ended
 
@@ -57,6 +57,7 @@ class Counting:
 
     def __init__(self, folder):
         self.folder, self.came, self.answered, self.told, self.failures = folder, [], [], [], []
+        self.senders = set()
         self.is_over = False
         self.server = Thread(folder, 1, wait_for=SECONDS, reconnect=True)
         Names(self.server).wait_to_register("adds", SECONDS)
@@ -67,6 +68,7 @@ class Counting:
 
     def add(self, request):
         self.came.append(request.words[0])
+        self.senders.add(request.sender.number)
         return Message(0, [request.words[0] + 1])
 
     def ask(self, place):
@@ -102,6 +104,20 @@ def main():
     return tally.end()
 
 
+def late_answer(programs, counting, folder):
+    """A name server that is stopped answers once it goes on, when its call has ended; the server then waits for any thread."""
+    before, limit = len(counting.told), time.monotonic() + SECONDS
+    programs.running["names"].send_signal(signal.SIGSTOP)
+    while len(counting.told) == before and time.monotonic() < limit:
+        time.sleep(0.02)
+    check("a name server that is stopped is told", isinstance(counting.told[-1][0], Timeout), counting.told[-1])
+    programs.running["names"].send_signal(signal.SIGCONT)
+    with Thread(folder, 30) as thread:
+        check("the name server goes on", Names(thread).wait_for("adds", SECONDS) == counting.server.id)
+    time.sleep(1)
+    check("what comes is of the clients alone", counting.senders == {10 + place for place in range(CLIENTS)}, counting.senders)
+
+
 def run(programs, folder):
     programs.start("l4d")
     programs.start("names")
@@ -130,6 +146,7 @@ def run(programs, folder):
     for worker in counting.workers[1:]:
         worker.join(SECONDS)
         check("a client ends", not worker.is_alive())
+    late_answer(programs, counting, folder)
     check("no message comes twice", len(set(counting.came)) == len(counting.came), len(counting.came))
     check("each answer is right", all(answer == number + 1 for number, answer in counting.answered))
     check("what was answered had come", {number for number, _ in counting.answered} <= set(counting.came))

@@ -310,6 +310,12 @@ def check_kept(l4d, l4sh):
         tally.same("without --trace-keep the file is emptied", len([it for it in os.listdir(folder) if it.startswith("trace") and not it.endswith(".began")]), 4)
 
 
+def rotated(l4sh, server):
+    """How `l4sh rotate` of the server's folder ends."""
+    ran = subprocess.run([l4sh, "rotate", server.folder], stdin=subprocess.DEVNULL, capture_output=True, text=True, timeout=SECONDS)
+    return ran.returncode, ran.stdout, ran.stderr
+
+
 def check_asked_for(l4d, l4sh):
     """Who says `rotate` has the trace go on in a further file."""
     with Server(l4d, "--connections", "2", trace=True) as server, tempfile.TemporaryDirectory() as room:
@@ -319,14 +325,17 @@ def check_asked_for(l4d, l4sh):
         pair_works(pair)
         time.sleep(0.3)
         tally.same("there is one older file", [os.path.basename(file) for file in chain(server.trace)], ["trace.1", "trace"])
+        tally.same("l4sh rotate", rotated(l4sh, server), (0, "the next entries end the file\n", ""))
         pair_works(pair)
         for client in pair:
             client.bye()
         tally.same("it ends well", server.end()[:2], (0, "closed\n"))
         entries = check_chain(l4sh, server.trace, room)
         tally.same("all messages are there", count_of(entries, "ended"), 3)
+        tally.same("there are two older files", [os.path.basename(file) for file in chain(server.trace)], ["trace.2", "trace.1", "trace"])
     with Server(l4d) as server:
         tally.same("without a trace there is none", ask(server, b"rotate\n"), "no trace\n")
+        tally.same("l4sh rotate without a trace", rotated(l4sh, server), (4, "", f"l4sh: {server.folder}/control: no trace\n"))
 
 
 def little_room():

@@ -1,6 +1,8 @@
 #!/usr/bin/env python3
 """silent.py L4SH L4X: a server that takes a connection and never answers is given up after ten seconds, with its path and what was waited for.
 
+Of one that refuses, faults or goes, l4x says the code and its sentence, as l4sh does.
+
 Its last line is `N checked, M failed`; the status is 0 where M is 0.
 """
 
@@ -9,6 +11,7 @@ import socket
 import subprocess
 import sys
 import tempfile
+import threading
 import time
 
 sys.path.insert(1, f"{sys.path[0]}/../lib")
@@ -29,8 +32,38 @@ def listening(path):
     return door
 
 
+# What a server answers to HELLO before it goes, and what l4x says then.
+GOES = [
+    ("", "F9: the input ended inside a frame"),
+    ("00000002 84 02", "refused: K2: a thread of that number is live"),
+    ("00000002 84 04", "refused: K4: no memory"),
+    ("00000003 85 53 03", "the server answered S3: the server stops"),
+    ("00000003 81 00 02", "F3: a frame has a body length that its kind doesn't have"),
+]
+
+
+def answers_and_goes(door, frame):
+    """Answers one connection so."""
+    client, _ = door.accept()
+    with client:
+        client.recv(64)
+        client.sendall(bytes.fromhex(frame))
+
+
+def check_words(l4x):
+    """What l4x says of a server that answers so, and goes."""
+    for frame, words in GOES:
+        with tempfile.TemporaryDirectory() as folder, listening(f"{folder}/space1") as door:
+            serving = threading.Thread(target=answers_and_goes, args=(door, frame))
+            serving.start()
+            ran = subprocess.run([l4x, folder, "keyvalue"], stdin=subprocess.DEVNULL, capture_output=True, text=True, timeout=SECONDS)
+            serving.join(SECONDS)
+            tally.same(f"l4x behind {frame or 'nothing'}", (ran.returncode, ran.stdout, ran.stderr), (1, "", f"{words}\n"))
+
+
 def main(arguments):
     l4sh, l4x = programs_of(arguments, __doc__, 2)
+    check_words(l4x)
     with tempfile.TemporaryDirectory() as folder:
         doors = [listening(f"{folder}/{name}") for name in ("space1", "control")]
         hello = f"{folder}/space1: no WELCOME within {PATIENCE} seconds: the server is full, or does not answer\n"

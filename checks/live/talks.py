@@ -58,6 +58,8 @@ EXCHANGES = [
     ("wait label=3", "", "", "? wanted is receive ID timeout=TIME buffers=N,N; not label=3\n"),
     ('send 1 "hi', "", "", "? a quotation mark is missing\n"),
     ("exreg 2 all", "", "", "? wanted is exreg ID send, receive, both or nothing\n"),
+    ("exreg 2 nothing", "00000011 03 0000000200000001 0000000000000000", "00000019 83 0000000200000001 0000000000000000 0000000000000000",
+     "= 2.1 0x0 0x0    2.1 was in no phase\n"),
     ("send 1 label=0x1000000000000", "", "", "? a label has 48 bits at most\n"),
     ("quit", BYE, "", ""),
 ]
@@ -313,6 +315,9 @@ def stored_frames():
     answers = [WELCOME, *(answer for _, _, answer, _ in EXCHANGES)]
     for what, talk in (("lines", lambda words: ended(words, typed)), ("lines byte by byte", lambda words: ended_in_pieces(words, typed, 1))):
         same(f"{what} and their frames", beside_frames(answers, talk), ((said, 0, b""), sent))
+    (helped, *_), _ = beside_frames([WELCOME], lambda words: ended(words, b"help\n"))
+    same("each phase is in the help of exreg", [it for it in helped.decode().splitlines() if it.startswith("exreg ")],
+         ["exreg ID PHASE              stops phases of a thread of this space: send, receive, both or nothing"])
     for frames, status, told in ENDINGS:
         (_, *end), _ = beside_frames(frames, lambda words: ended(words, b"receive\nsend 1"))
         same(f"a server that sends {frames}", end, [status, told.encode()])

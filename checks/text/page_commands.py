@@ -26,7 +26,7 @@ SHOWN = re.compile(r"```sh\n(.*?)```\n(?:\n[^`\n|#][^\n]*\n)?(?=\n```text\n(.*?)
 # They want a live server.
 LIVE = ("l4sh talk meet",)
 # What asks a live server, of whose folder the name of a trace begins with the same letters.
-ASKS = ("l4sh state meet", "l4sh follow --failures meet")
+ASKS = ("l4sh state meet", "l4sh follow --failures meet", "l4sh rotate meet")
 FEWEST = {"blocks": 6, "commands": 12, "connections": 2, "codes": 45, "words": 10}
 
 

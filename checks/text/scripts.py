@@ -208,7 +208,9 @@ def faults_of_folder(l4sh, path):
     """A folder is no trace. `state`, `count` and `follow` ask the server of a folder, and here there is none."""
     for command in OF_A_FILE:
         there = ended([l4sh, command, path])
-        why = f"{path}/control: No such file or directory (os error 2)" if command in OF_A_SERVER else f"{path}: is a folder"
+        why = f"{path}: is a folder; of a live server l4sh state {path} tells what its threads do"
+        if command in OF_A_SERVER:
+            why = f"{path}/control: No such file or directory (os error 2)"
         if there != (b"", 1, f"l4sh: device failed\n{why}\n".encode()):
             yield f"{command} ends so: {there}"
 

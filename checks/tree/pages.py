@@ -1,7 +1,7 @@
 #!/usr/bin/env python3
 """Looks at the form of the documents: their width, their length, their dates, their links, and what they count.
 
-- No line has more than 100 columns, but for the rows of tables and what stands in a block of code.
+- No line has more than 100 columns, but for the rows of tables.
 - Nor has a comment of a source or a definition, but for a table's row.
 - All pages together have at most so many words as `MOST_WORDS` says. A word has a letter or a digit: the bars of a table are none.
 - A date stands only in bench/README.md and CHANGELOG.md: a page tells how things are.
@@ -121,7 +121,7 @@ def misplaced(line, crates):
 
 
 def faults_of_line(path, line, is_code, counts):
-    if len(line) > WIDTH and not is_code and not line.startswith("|"):
+    if len(line) > WIDTH and (is_code or not line.startswith("|")):
         yield f"{len(line)} columns"
     if path not in DATED:
         yield from (f"the date {it}" for it in DATE.findall(line))

@@ -290,7 +290,7 @@ def load_lines(protocol):
         fields = [tuple(it.split()) for it in record.all("field")]
         for place, parts in enumerate(fields):
             if not (len(parts) == 3 and parts[1] in ("decimal", "id", "hex") or len(parts) == 2 and parts[1] == "call"):
-                raise record.bad("field: wanted are a text, its kind (decimal, id, hex) and its name in l4sh_reasons, or a text and call",
+                raise record.bad("field: wanted are a text, its kind (decimal, id, hex) and its name in l4sh_explain, or a text and call",
                                  record.line_of("field", place))
         if record.one("is") not in ("input", "output"):
             raise record.bad(f"is: wanted is input or output; not {record.one('is')}", record.line_of("is"))

@@ -34,8 +34,8 @@ OF_ITEMS = {"TooManyBytes": "TooLong"}
 TOLD = [
     ("crates/ipc_items/src/item_fault.rt", "more than (N) string bytes", "string_bytes"),
     ("crates/ipc_items/specs/FaultText.antt", "more than (N) string bytes", "string_bytes"),
-    ("crates/ipc_ports/src/fault.rt", '"(N) interrupted turns in a row"', "interrupted_turns"),
-    ("crates/ipc_ports/specs/Faults.antt", '"(N) interrupted turns in a row"', "interrupted_turns"),
+    ("crates/ipc_base/src/fault.rt", '"(N) interrupted turns in a row"', "interrupted_turns"),
+    ("crates/ipc_base/specs/Faults.antt", '"(N) interrupted turns in a row"', "interrupted_turns"),
     ("crates/l4sh_options/src/shell_rows.rt", "The most entries that the history may hold, 0 to (N)", "entries"),
     ("crates/l4sh_options/src/shell_rows.rt", "The most calls that may be made, 0 to (N)", "calls"),
     ("crates/l4sh_options/src/shell_rows.rt", "The space of that thread, 1 to (N)", "space"),
@@ -64,7 +64,7 @@ TOLD = [
 NAMED = ("string_bytes", "too_many_bytes", "entries", "too_many_entries", "line_bytes", "whole_line_bytes", "body_bytes", "too_long_body", "outputs",
          "command_entries")
 # What has a size of its own, which may be the number of a limit.
-OF_ITS_OWN = ["const STACK: usize = (N);"]
+OF_ITS_OWN = ["const STACK: usize = (N);", "const MOST_BYTES: usize = (N);", "length lines.items + given ≤ (N) }"]
 # The families of l4sh explain, by their letters.
 FAMILIES = {"K": "KERNEL", "F": "FRAME", "S": "SESSION", "TR": "TRACE", "C": "CLIENT", "N": "NAMES"}
 
@@ -325,7 +325,7 @@ def lines(book):
     book.same(spec.path, "entry_fields", spelled, {name: (it.word, [field[1] for field in it.fields]) for name, it in entries.items()})
     inputs = {name: arguments.startswith("(Given") for arguments, _ in spec.equations("entry_fields") for name in entries if f"({name} " in arguments}
     book.same(spec.path, "which entries are inputs", inputs, {name: it.is_input for name, it in entries.items()})
-    reasons, grammars = book.source("crates/l4sh_reasons/src/grammars.rt"), book.source("crates/l4sh_reasons/specs/Grammars.antt")
+    reasons, grammars = book.source("crates/l4sh_explain/src/grammars.rt"), book.source("crates/l4sh_explain/specs/Grammars.antt")
     for told, path in ((in_code(reasons), reasons.path), (grammars.texts("name_text"), grammars.path)):
         book.same(path, "the words of entries", {name: told.get(name) for name in words}, words)
     of_lines = {arguments.split()[1]: value for arguments, value in grammars.equations("fields_of")}

@@ -1,1 +1,4 @@
 pub mod Memory
+pub mod Faults
+pub mod Lines
+pub mod Ports

@@ -16,7 +16,7 @@ use Rattle.ipc_laws.proofs.WordLemmas.{last_some_push}
 use Rattle.ipc_compact.specs.Agree.{SameCompact}
 use Rattle.ipc_compact.specs.Compact.{Base, base_of, from, last_version}
 use Rattle.ipc_compact.proofs.Following.{follow_compact}
-use Rattle.ipc_part.specs.Parts.{PartParts}
+use Rattle.ipc_trace.specs.Parts.{PartParts}
 use Rattle.ipc_chain.specs.Chains.{BeginsAt, FollowsEach, HasBefore}
 use Rattle.ipc_chain.proofs.Walking.{chain_legal}
 

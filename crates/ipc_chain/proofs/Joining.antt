@@ -27,13 +27,13 @@ use Rattle.ipc_laws.proofs.Tests.{not_both}
 use Rattle.ipc_compact.specs.Compact.{Base, base_of, dropped_of, from, further_calls, is_among, is_further, is_kept, is_kept_call, is_kept_thread, is_of_thread, is_told_of, kept_calls, kept_of, last_version, names_one}
 use Rattle.ipc_compact.specs.Later.{AreAmong}
 use Rattle.ipc_compact.proofs.CallReading.{among_filter, filter_among, there, not_further}
-use Rattle.ipc_compact.proofs.Keeping.{kept_was_there}
+use Rattle.ipc_compact.proofs.KeepLemmas.{kept_was_there}
 use Rattle.ipc_compact.proofs.KeptTold.{among_called, kept_called}
 use Rattle.ipc_compact.proofs.Reading.{call_read}
 use Rattle.ipc_compact.proofs.SameCompact.{among_numbers}
 use Rattle.ipc_desks.proofs.Finishing.{same_tests}
 use Rattle.ipc_desks.proofs.LastCalls.{live_below}
-use Rattle.ipc_partners.specs.Kept.{TookOthers}
+use Rattle.ipc_compact.specs.Kept.{TookOthers}
 use Rattle.ipc_chain.specs.Chains.{BeginsAt, IsCount, MayBeTaken, caller_kept, callers_kept}
 use Rattle.ipc_chain.specs.Judging.{AreBooks, ChainParts, Joins, SaysAs, TakesBelow}
 

@@ -7,15 +7,15 @@ use Rattle.ipc_history.specs.Legal.{Follows, Legal}
 use Rattle.ipc_history.specs.declared.entry.Entry.{Entry}
 use Rattle.ipc_history.proofs.HoldingLemmas.{reached_most}
 use Rattle.ipc_laws.proofs.Settling.{legal_push}
-use Rattle.ipc_slots.specs.PastSlots.{PastSlots}
+use Rattle.ipc_threads.specs.PastSlots.{PastSlots}
 use Rattle.ipc_compact.specs.Compact.{is_kept, kept_before, kept_of}
 use Rattle.ipc_compact.specs.Places.{WasPlaced}
 use Rattle.ipc_compact.proofs.PlaceLemmas.{to_the_end}
 use Rattle.ipc_desks.specs.Desks.{Keeps as DesksKeep}
 use Rattle.ipc_desks.specs.PastDesks.{PastDesks}
 use Rattle.ipc_desks.specs.declared.desk.Desk.{Desk}
-use Rattle.ipc_partners.specs.Kept.{KeptParts, TookOthers, passes}
-use Rattle.ipc_partners.specs.PastPartners.{PastPartners}
+use Rattle.ipc_compact.specs.Kept.{KeptParts, TookOthers, passes}
+use Rattle.ipc_compact.specs.PastPartners.{PastPartners}
 use Rattle.ipc_core.specs.Compacting.{kept_to}
 use Rattle.ipc_core.specs.CourseParts.{ComesIdle}
 use Rattle.ipc_core.proofs.CompactLemmas.{among_more, kept_more, kept_none, kept_now, kept_of_all, kept_taken}

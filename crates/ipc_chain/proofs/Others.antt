@@ -18,7 +18,7 @@ use Rattle.ipc_laws.proofs.OneOpen.{caller_at, free_parts, none_open}
 use Rattle.ipc_compact.specs.Compact.{is_among}
 use Rattle.ipc_desks.specs.CallsOf.{is_busy}
 use Rattle.ipc_desks.proofs.LastCalls.{last_is, last_push, new_call_at}
-use Rattle.ipc_partners.specs.Kept.{TookOthers}
+use Rattle.ipc_compact.specs.Kept.{TookOthers}
 use Rattle.ipc_core.specs.CourseParts.{ComesIdle}
 use Rattle.ipc_chain.specs.Judging.{IsSure, TakesLast, TakesSure}
 

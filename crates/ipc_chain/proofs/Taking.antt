@@ -11,8 +11,8 @@ use Rattle.ipc_history.specs.Phases.{is_over}
 use Rattle.ipc_history.specs.Threads.{has_broken, is_live, was_opened}
 use Rattle.ipc_history.specs.declared.entry.Entry.{Entry}
 use Rattle.ipc_laws.proofs.Tests.{refuted, right}
-use Rattle.ipc_slots.specs.Slots.{live_of}
-use Rattle.ipc_slots.proofs.Holders.{live_of_at, live_of_is}
+use Rattle.ipc_threads.specs.Slots.{live_of}
+use Rattle.ipc_threads.proofs.Holders.{live_of_at, live_of_is}
 use Rattle.ipc_compact.specs.Compact.{is_among}
 use Rattle.ipc_desks.specs.CallsOf.{outcome_to_take, untaken_outcome}
 use Rattle.ipc_desks.proofs.LastCalls.{last_is}

@@ -9,7 +9,7 @@ use Rattle.ipc_check.specs.Faults.{IsFirstFaultAfter}
 use Rattle.ipc_check.proofs.After.{fault_after}
 use Rattle.ipc_compact.specs.Compact.{Base, base_of, kept_of}
 use Rattle.ipc_compact.specs.Later.{AreAmong}
-use Rattle.ipc_part.specs.Parts.{PartParts}
+use Rattle.ipc_trace.specs.Parts.{PartParts}
 use Rattle.ipc_chain.specs.Chains.{BeginsAt, ChainFrom, IsChain, IsCount, begun, callers_kept}
 use Rattle.ipc_chain.specs.Judging.{AreBooks, ChainParts, GoesOn, IsFirstFile, IsSure, Joins, TakesSure, Walks}
 use Rattle.ipc_chain.proofs.Others.{sure_on}

@@ -9,9 +9,9 @@ use Rattle.ipc_history.specs.declared.entry.Entry.TheVariants.{Given}
 use Rattle.ipc_history.specs.declared.entry.Input.TheVariants.{Called}
 use Rattle.ipc_compact.specs.Compact.{Base, base_of, is_among, kept_of}
 use Rattle.ipc_compact.specs.Later.{AreAmong}
-use Rattle.ipc_partners.specs.Kept.{TookOthers}
-use Rattle.ipc_part.specs.Parts.{PartParts}
-use Rattle.ipc_part.specs.declared.part.Part.{Part}
+use Rattle.ipc_compact.specs.Kept.{TookOthers}
+use Rattle.ipc_trace.specs.Parts.{PartParts}
+use Rattle.ipc_trace.specs.declared.part.Part.{Part}
 use Rattle.ipc_chain.specs.declared.verdict.ChainVerdict.{ChainVerdict}
 use Rattle.ipc_chain.specs.declared.verdict.ChainVerdict.TheVariants.{NoPart}
 

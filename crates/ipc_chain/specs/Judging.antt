@@ -7,14 +7,14 @@ use Rattle.ipc_history.specs.Legal.{Follows, Legal}
 use Rattle.ipc_history.specs.Phases.{is_over}
 use Rattle.ipc_history.specs.Threads.{is_live}
 use Rattle.ipc_history.specs.declared.entry.Entry.{Entry}
-use Rattle.ipc_slots.specs.PastSlots.{PastSlots}
+use Rattle.ipc_threads.specs.PastSlots.{PastSlots}
 use Rattle.ipc_desks.specs.PastDesks.{PastDesks}
 use Rattle.ipc_compact.specs.Compact.{Base, base_of, is_among, kept_of}
 use Rattle.ipc_compact.specs.Later.{AreAmong}
 use Rattle.ipc_compact.specs.Places.{WasPlaced}
-use Rattle.ipc_partners.specs.Kept.{TookOthers}
-use Rattle.ipc_partners.specs.PastPartners.{PastPartners}
-use Rattle.ipc_part.specs.Parts.{PartParts}
+use Rattle.ipc_compact.specs.Kept.{TookOthers}
+use Rattle.ipc_compact.specs.PastPartners.{PastPartners}
+use Rattle.ipc_trace.specs.Parts.{PartParts}
 use Rattle.ipc_chain.specs.Chains.{BeginsAt, ChainFrom, IsChain, entries_of}
 
 -- the entries so far, what memory holds of them, the calls whose outcome was surely taken, and how

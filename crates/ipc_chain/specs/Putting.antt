@@ -2,7 +2,7 @@
 use Rattle.std.specs.Prelude.{◌≡◌, ℕ, List, [], ◌∷◌, ◌++◌}
 use Rattle.ipc_history.specs.declared.entry.Entry.{Entry}
 use Rattle.ipc_trace.specs.Putting.{PutsLine, TraceParts}
-use Rattle.ipc_part.specs.Parts.{PartParts, part_text}
+use Rattle.ipc_trace.specs.Parts.{PartParts, part_text}
 use Rattle.ipc_chain.specs.Chains.{BeginsAt, HasBefore, IsChain}
 use Rattle.ipc_chain.specs.Judging.{ChainParts}
 

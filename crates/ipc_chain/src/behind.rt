@@ -6,10 +6,9 @@ ghost use Rattle.ipc_chain.specs.declared.behind.Put.TheVariants.{Done};
 
 use crate::chain::Chain;
 use crate::verdict::{Behind, ChainVerdict, chain_behind, walk_files};
+use ipc_base::PortWrite;
 use ipc_history::{Entry, Output};
-use ipc_part::Part;
-use ipc_ports::PortWrite;
-use ipc_trace::{PutFault, TraceWriter};
+use ipc_trace::{Part, PutFault, TraceWriter};
 use std::alloc::{AllocError, Global};
 
 /// How the writing of a part ended.

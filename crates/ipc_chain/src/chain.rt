@@ -15,11 +15,11 @@ ghost use Rattle.ipc_chain.specs.Judging.{AreBooks, GoesOn, TakesLast, TakesSure
 mod joining;
 mod putting;
 
+use ipc_compact::{Keeping, Partners};
 use ipc_desks::{Desks, Prepared};
 use ipc_history::{Call, Entry, History, Input, Output};
-use ipc_partners::{Keeping, Partners};
 use ipc_rules::{follows, next_output};
-use ipc_slots::Slots;
+use ipc_threads::Slots;
 use ipc_words::ThreadId;
 use std::alloc::{AllocError, Global};
 use std::marker::Model;

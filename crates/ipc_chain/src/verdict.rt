@@ -1,6 +1,6 @@
 ghost use Rattle.std.specs.Prelude.{◌≡◌, ◌≢◌, ◌↔◌, [], ◌∷◌, ◌++◌, List, map, IfOk, IfSome, IsTrue, None, Some};
 ghost use Rattle.ipc_check.specs.Faults.{IsFirstFaultAfter};
-ghost use Rattle.ipc_part.specs.Parts.{PartParts};
+ghost use Rattle.ipc_trace.specs.Parts.{PartParts};
 ghost use Rattle.ipc_chain.specs.Chains.{BreaksBehind, ChainFrom, FollowsEach, HasBefore, IsChain, begun, entries_of, has_joined, parts_of};
 ghost use Rattle.ipc_chain.specs.Finding.{IfBroken, IfWhole};
 ghost use Rattle.ipc_chain.specs.Judging.{StandsBehind, Walks};
@@ -10,7 +10,7 @@ use crate::chain::{Chain, NotNext};
 use crate::difference::Difference;
 use crate::witness::seek;
 use ipc_history::{Entry, Output};
-use ipc_part::Part;
+use ipc_trace::Part;
 use std::alloc::{AllocError, Global};
 
 /// Whether the entries of several files are one history.

@@ -17,7 +17,7 @@ use Rattle.ipc_laws.proofs.Growth.{open_is_called}
 use Rattle.ipc_laws.proofs.Histories.{follows_last, legal_front}
 use Rattle.ipc_laws.proofs.OpenCalls.{caller_lives}
 use Rattle.ipc_laws.proofs.Settling.{legal_push}
-use Rattle.ipc_slots.specs.PastSlots.{PastSlots}
+use Rattle.ipc_threads.specs.PastSlots.{PastSlots}
 use Rattle.ipc_compact.specs.Compact.{Base, is_kept, kept_before, kept_of}
 use Rattle.ipc_compact.specs.Making.{Before, IsCompactOf}
 use Rattle.ipc_compact.proofs.CallReading as there

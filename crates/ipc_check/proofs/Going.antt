@@ -26,11 +26,11 @@ use Rattle.ipc_history.proofs.HoldingLemmas.{first_among, pushed_holds, second_a
 use Rattle.ipc_laws.proofs.Histories.{follows_last}
 use Rattle.ipc_laws.proofs.OneOpen.{caller_at}
 use Rattle.ipc_laws.proofs.Steps.{call_at_push}
-use Rattle.ipc_slots.specs.PastSlots.{PastSlots}
-use Rattle.ipc_slots.specs.Slot.{Slot}
-use Rattle.ipc_slots.specs.Slots.{slot_at, slot_of}
-use Rattle.ipc_slots.specs.Steps.{holds}
-use Rattle.ipc_slots.proofs.Holders.{held_somewhere}
+use Rattle.ipc_threads.specs.PastSlots.{PastSlots}
+use Rattle.ipc_threads.specs.Slot.{Slot}
+use Rattle.ipc_threads.specs.Slots.{slot_at, slot_of}
+use Rattle.ipc_threads.specs.Steps.{holds}
+use Rattle.ipc_threads.proofs.Holders.{held_somewhere}
 use Rattle.ipc_check.specs.Faults.{HasFaultAt, IfNo, IsFirstFault}
 use Rattle.ipc_check.specs.Ongoing.{IsJudged, IsJudgment, IsOngoing, IsSpare, is_held_call, max_given}
 use Rattle.ipc_check.specs.declared.checker.Verdict.{Verdict}

@@ -7,7 +7,7 @@ use Rattle.ipc_history.specs.declared.entry.Entry.{Entry}
 use Rattle.ipc_history.specs.declared.entry.Output.{Output}
 use Rattle.ipc_laws.proofs.Histories.{follows_last, legal_front}
 use Rattle.ipc_laws.proofs.Settling.{legal_push}
-use Rattle.ipc_slots.specs.PastSlots.{PastSlots}
+use Rattle.ipc_threads.specs.PastSlots.{PastSlots}
 use Rattle.ipc_check.specs.Faults.{IsFirstFault}
 use Rattle.ipc_check.specs.declared.checker.Verdict.TheVariants.{Yes, No}
 

@@ -7,10 +7,10 @@ use Rattle.ipc_history.specs.Phases.{is_over}
 use Rattle.ipc_history.specs.declared.entry.Entry.{Entry}
 use Rattle.ipc_history.specs.declared.entry.Entry.TheVariants.{Given}
 use Rattle.ipc_history.specs.declared.entry.Input.TheVariants.{Called}
-use Rattle.ipc_slots.specs.PastSlots.{PastSlots}
-use Rattle.ipc_slots.specs.Slot.{Slot}
-use Rattle.ipc_slots.specs.Slots.{slot_at}
-use Rattle.ipc_slots.specs.Steps.{holds}
+use Rattle.ipc_threads.specs.PastSlots.{PastSlots}
+use Rattle.ipc_threads.specs.Slot.{Slot}
+use Rattle.ipc_threads.specs.Slots.{slot_at}
+use Rattle.ipc_threads.specs.Steps.{holds}
 use Rattle.ipc_check.specs.Faults.{IsFirstFault}
 use Rattle.ipc_check.specs.declared.checker.Verdict.{Verdict}
 use Rattle.ipc_check.specs.declared.checker.Verdict.TheVariants.{Yes, No}

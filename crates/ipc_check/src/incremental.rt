@@ -8,7 +8,7 @@ use crate::checker::Verdict;
 use crate::ongoing::Ongoing;
 use ipc_base::Past;
 use ipc_history::Entry;
-use ipc_slots::Slots;
+use ipc_threads::Slots;
 use std::alloc::{AllocError, Global};
 use std::marker::Model;
 

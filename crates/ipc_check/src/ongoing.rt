@@ -4,14 +4,14 @@ ghost use Rattle.ipc_history.specs.Entries.{number_in};
 ghost use Rattle.ipc_history.specs.Holding.{Holds};
 ghost use Rattle.ipc_history.specs.Legal.{Follows, Legal};
 ghost use Rattle.ipc_history.specs.NextOutput.{next_output};
-ghost use Rattle.ipc_slots.specs.Slots.{slot_at};
-ghost use Rattle.ipc_slots.specs.Steps.{holds};
+ghost use Rattle.ipc_threads.specs.Slots.{slot_at};
+ghost use Rattle.ipc_threads.specs.Steps.{holds};
 ghost use Rattle.ipc_check.specs.Ongoing.{IsSpare, is_held_call};
 
 use ipc_base::Past;
 use ipc_history::{Entries, Entry, Input, Output};
 use ipc_rules::{follows, next_output};
-use ipc_slots::{Change, KeptSlots, Slots};
+use ipc_threads::{Change, KeptSlots, Slots};
 use std::alloc::{AllocError, Global};
 use std::marker::Model;
 

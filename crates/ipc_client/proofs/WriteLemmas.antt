@@ -4,7 +4,7 @@ use Rattle.std.proofs.Math.Seq.{drop-nil, take-add, take-length}
 use Rattle.std.proofs.lemmas.List.{length-drop, take_all, drop-drop}
 use Rattle.std.proofs.KnownBytes.{Appends-trans, Appends-kept}
 use Rattle.std.specs.Io.KnownBytes.{Appends, Keeps}
-use Rattle.ipc_ports.specs.Ports.{AppendsPart}
+use Rattle.ipc_base.specs.Ports.{AppendsPart}
 use Rattle.ipc_client.specs.Writing.{AppendsFront, Writes}
 
 -- more of the same bytes

@@ -2,8 +2,8 @@
 use Rattle.std.specs.Prelude.{⊤}
 use Rattle.ipc_frame.specs.declared.fault.FrameFault.{FrameFault}
 use Rattle.ipc_frame.specs.declared.fault.FrameFault.TheVariants as fault
-use Rattle.ipc_ports.specs.declared.fault.PortFault.{PortFault}
-use Rattle.ipc_ports.specs.declared.fault.PortFault.TheVariants as port
+use Rattle.ipc_base.specs.declared.fault.PortFault.{PortFault}
+use Rattle.ipc_base.specs.declared.fault.PortFault.TheVariants as port
 
 -- F10 and F11
 abbrev pub device_fault : PortFault → FrameFault

@@ -2,8 +2,8 @@
 ghost use Rattle.std.specs.Prelude.{◌≡◌};
 ghost use Rattle.ipc_client.specs.Devices.{device_fault};
 
+use ipc_base::PortFault;
 use ipc_frame::FrameFault;
-use ipc_ports::PortFault;
 
 /// F10 or F11.
 pub(crate) fn device_fault(fault: PortFault) -> FrameFault

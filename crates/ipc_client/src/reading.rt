@@ -6,8 +6,8 @@ ghost use Rattle.ipc_client.specs.Devices.{IsDeviceFault};
 ghost use Rattle.ipc_client.specs.Reading.{TakesFrame, TakesNoFrame, TakesNoPart, TakesPart};
 
 use crate::device::device_fault;
+use ipc_base::PortRead;
 use ipc_frame::{Frame, FrameFault, Judgement, Side, decode, judge};
-use ipc_ports::PortRead;
 use std::alloc::Global;
 
 /// The most bytes of one read.

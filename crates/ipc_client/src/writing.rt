@@ -2,13 +2,13 @@
 ghost use Rattle.std.specs.Prelude.{◌≡◌, ◌<◌, [], true, false, length, OnOk, OnErr, IfOk, IfErr};
 ghost use Rattle.std.specs.Io.KnownBytes.{Appends};
 ghost use Rattle.ipc_frame.specs.Frames.{spelling};
-ghost use Rattle.ipc_ports.specs.Ports.{AppendsPart};
+ghost use Rattle.ipc_base.specs.Ports.{AppendsPart};
 ghost use Rattle.ipc_client.specs.Devices.{IsDeviceFault};
 ghost use Rattle.ipc_client.specs.Writing.{AppendsFront, Writes};
 
 use crate::device::device_fault;
+use ipc_base::{PortFault, PortWrite, write_all};
 use ipc_frame::{Encoder, Frame, FrameFault};
-use ipc_ports::{PortFault, PortWrite, write_all};
 
 /// How many bytes are spelled at once. So many of a payload go out from where they stand.
 const PIECE: usize = 8192;

@@ -18,7 +18,7 @@ use Rattle.ipc_history.specs.declared.entry.Input.TheVariants.{At, Opened, Calle
 use Rattle.ipc_laws.proofs.Histories.{admitted_at}
 use Rattle.ipc_laws.proofs.Places.{Place}
 use Rattle.ipc_laws.proofs.Tests.{held, left, not_both, right}
-use Rattle.ipc_slots.specs.Slots.{live_of}
+use Rattle.ipc_threads.specs.Slots.{live_of}
 use Rattle.ipc_compact.specs.BaseTold.{DroppedTold, OverTold, VersionsTold, dropped_by, version_before}
 use Rattle.ipc_compact.specs.Compact.{dropped_of, further_calls, is_among, is_further, is_kept, keeps, kept_calls, kept_list, kept_of, last_version, made_in}
 use Rattle.ipc_compact.proofs.CallReading as there

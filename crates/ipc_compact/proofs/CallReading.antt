@@ -12,7 +12,7 @@ use Rattle.ipc_history.specs.declared.entry.Entry.{Entry}
 use Rattle.ipc_history.specs.declared.entry.Entry.TheVariants.{Given, Written}
 use Rattle.ipc_history.specs.declared.entry.Input.TheVariants.{At, Opened, Called, Exreg, Broke, Moved}
 use Rattle.ipc_compact.specs.Compact.{is_among, names_one, is_kept_call, kept_calls, is_further, further_calls, is_told_of, is_kept_thread, is_kept, kept_of}
-use Rattle.ipc_compact.proofs.Keeping.{IsKept, sum_kept}
+use Rattle.ipc_compact.proofs.KeepLemmas.{IsKept, sum_kept}
 use Rattle.ipc_compact.proofs.Reading.{among_named, marked_call, no_at}
 use Rattle.ipc_compact.proofs.ThreadReading.{stays, any_gone}
 

@@ -23,7 +23,7 @@ use Rattle.ipc_laws.proofs.Settling.{legal_push}
 use Rattle.ipc_laws.proofs.ThreadChanges.{is_live_push}
 use Rattle.ipc_laws.proofs.WordLemmas.{last_some_push}
 use Rattle.ipc_laws.proofs.Finds.{find_passes}
-use Rattle.ipc_slots.proofs.Overs.{over_not_transferring}
+use Rattle.ipc_threads.proofs.Overs.{over_not_transferring}
 use Rattle.ipc_compact.specs.Agree.{Agree, SameEnd, SameCompact}
 use Rattle.ipc_compact.proofs.SameCalls as same
 use Rattle.ipc_compact.proofs.SameRules.{by_over, output_same}

@@ -27,7 +27,7 @@ use Rattle.ipc_laws.proofs.WordLemmas.{first_some_append}
 use Rattle.ipc_compact.specs.Compact.{further_calls, is_among, is_further, is_kept, is_kept_call, kept_calls, kept_list, kept_of, names_one}
 use Rattle.ipc_compact.specs.Held.{CallsHeld, FurtherHeld, LiveHeld, SaysOf}
 use Rattle.ipc_compact.proofs.CallReading as there
-use Rattle.ipc_compact.proofs.Keeping.{IsKept, any_kept_at, kept_was_there}
+use Rattle.ipc_compact.proofs.KeepLemmas.{IsKept, any_kept_at, kept_was_there}
 use Rattle.ipc_compact.proofs.KeptTold.{among_called, filter_source}
 use Rattle.ipc_compact.proofs.NewThread.{broken_opened, no_space, opened_before}
 use Rattle.ipc_compact.proofs.NotNeeded as needed

@@ -29,7 +29,7 @@ use Rattle.ipc_compact.specs.Compact.{has_moment, is_among, is_kept, is_kept_cal
 use Rattle.ipc_compact.specs.Told.{OutcomesAgree}
 use Rattle.ipc_compact.proofs.CallReading as there
 use Rattle.ipc_compact.proofs.Following.{end2, follow_same, front_follows, quiet_end}
-use Rattle.ipc_compact.proofs.Keeping.{IsKept, IsMarked, before_kept, first_kept}
+use Rattle.ipc_compact.proofs.KeepLemmas.{IsKept, IsMarked, before_kept, first_kept}
 use Rattle.ipc_compact.proofs.Reading as reading
 use Rattle.ipc_compact.proofs.SameBases.{same_compact}
 use Rattle.ipc_compact.proofs.SameCompact as compacts

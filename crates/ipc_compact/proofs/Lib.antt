@@ -1,5 +1,5 @@
 pub mod RowLemmas
-pub mod Keeping
+pub mod KeepLemmas
 pub mod Reading
 pub mod ThreadReading
 pub mod ShownReading
@@ -28,3 +28,12 @@ pub mod SayingLemmas
 pub mod MakingLemmas
 pub mod Rebuilding
 pub mod BaseLaws
+pub mod PartnerLemmas
+pub mod ExchangeLemmas
+pub mod MeetingLemmas
+pub mod KeptLemmas
+pub mod OrderLemmas
+pub mod PassingLemmas
+pub mod KeptLaw
+pub mod BaseLemmas
+pub mod PassLemmas

@@ -13,7 +13,7 @@ use Rattle.ipc_history.specs.Words.{first_some}
 use Rattle.ipc_history.specs.declared.entry.Entry.{Entry}
 use Rattle.ipc_history.specs.declared.entry.Entry.TheVariants.{Given, Written}
 use Rattle.ipc_history.specs.declared.entry.Input.TheVariants.{At, Opened, Called, Exreg, Broke, Moved}
-use Rattle.ipc_slots.specs.Standings.{phase_of, since_of, standing_of}
+use Rattle.ipc_threads.specs.Standings.{phase_of, since_of, standing_of}
 use Rattle.ipc_compact.specs.Making.{is_open_from, open_in}
 use Rattle.ipc_compact.specs.SlotsKept.{open_from}
 

@@ -15,7 +15,7 @@ use Rattle.ipc_history.specs.declared.entry.Entry.TheVariants.{Given, Written}
 use Rattle.ipc_history.specs.declared.entry.Input.TheVariants.{At, Opened, Called, Exreg, Broke, Moved}
 use Rattle.ipc_history.specs.declared.entry.Output.TheVariants.{Began, Turned, Ended, Overflowed, Aborted, Failed}
 use Rattle.ipc_compact.specs.Compact.{is_among, names_one, kept_calls, is_at, has_moment, is_kept, kept_list, kept_of}
-use Rattle.ipc_compact.proofs.Keeping.{IsKept, IsMarked, first_kept, last_kept, any_kept, sum_kept, moment_kept, before_kept}
+use Rattle.ipc_compact.proofs.KeepLemmas.{IsKept, IsMarked, first_kept, last_kept, any_kept, sum_kept, moment_kept, before_kept}
 
 -- An entry that does not name a call says nothing of it
 

@@ -20,14 +20,14 @@ use Rattle.ipc_history.specs.declared.entry.Entry.TheVariants.{Given, Written}
 use Rattle.ipc_history.specs.declared.entry.Input.TheVariants.{At, Opened, Called, Exreg, Broke, Moved}
 use Rattle.ipc_laws.proofs.Normal.{moves_fit}
 use Rattle.ipc_laws.proofs.WordLemmas.{first_some_push}
-use Rattle.ipc_slots.specs.Making.{IsMade, IsOfNumber, made_slot}
-use Rattle.ipc_slots.specs.Slots.{Stands, blank, live_at, live_of, slot_at, slot_of}
-use Rattle.ipc_slots.specs.declared.slot.Live.{Live}
-use Rattle.ipc_slots.specs.declared.kept.KeptSlots.{KeptSlots}
-use Rattle.ipc_slots.proofs.Holders.{live_of_is}
-use Rattle.ipc_slots.proofs.MadeSlots.{slot_above, stands_made}
-use Rattle.ipc_slots.proofs.Starting.{length_replicate}
-use Rattle.ipc_slots.proofs.Tables.{slot_at-past, slot_at-replicate}
+use Rattle.ipc_threads.specs.Making.{IsMade, IsOfNumber, made_slot}
+use Rattle.ipc_threads.specs.Slots.{Stands, blank, live_at, live_of, slot_at, slot_of}
+use Rattle.ipc_threads.specs.declared.slot.Live.{Live}
+use Rattle.ipc_threads.specs.declared.kept.KeptSlots.{KeptSlots}
+use Rattle.ipc_threads.proofs.Holders.{live_of_is}
+use Rattle.ipc_threads.proofs.MadeSlots.{slot_above, stands_made}
+use Rattle.ipc_threads.proofs.Starting.{length_replicate}
+use Rattle.ipc_threads.proofs.Tables.{slot_at-past, slot_at-replicate}
 use Rattle.ipc_compact.specs.Compact.{Base, base_of, from, further_calls, is_kept, kept_of, last_version}
 use Rattle.ipc_compact.specs.Making.{Before, Fit, IsCompactOf}
 use Rattle.ipc_compact.specs.SlotsKept.{live_from}

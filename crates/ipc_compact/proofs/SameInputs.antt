@@ -10,7 +10,7 @@ use Rattle.ipc_history.specs.declared.entry.Input.{Input}
 use Rattle.ipc_history.specs.declared.entry.Input.TheVariants.{At, Opened, Called, Exreg, Broke, Moved}
 use Rattle.ipc_words.specs.ThreadId.{number_of}
 use Rattle.ipc_laws.proofs.Tests.{not_both}
-use Rattle.ipc_slots.proofs.Overs.{over_not_transferring}
+use Rattle.ipc_threads.proofs.Overs.{over_not_transferring}
 use Rattle.ipc_laws.proofs.Finds.{find_passes}
 use Rattle.ipc_compact.specs.Agree.{Agree}
 use Rattle.ipc_compact.proofs.SameCalls as same

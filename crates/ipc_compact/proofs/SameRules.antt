@@ -15,7 +15,7 @@ use Rattle.ipc_laws.proofs.Numbering.{numbered}
 use Rattle.ipc_laws.proofs.OpenCalls.{caller_lives}
 use Rattle.ipc_laws.proofs.PhaseParts.{meets_parts}
 use Rattle.ipc_laws.proofs.Finds.{find_passes}
-use Rattle.ipc_slots.proofs.Overs.{over_not_receiving, over_no_end, over_no_partner, over_no_meeting, over_not_due}
+use Rattle.ipc_threads.proofs.Overs.{over_not_receiving, over_no_end, over_no_partner, over_no_meeting, over_not_due}
 use Rattle.ipc_compact.specs.Agree.{Agree, SameEnd}
 use Rattle.ipc_compact.proofs.SameCalls as same
 

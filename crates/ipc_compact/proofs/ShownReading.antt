@@ -12,7 +12,7 @@ use Rattle.ipc_history.specs.Threads.{is_live, was_opened, has_broken, space_of}
 use Rattle.ipc_history.specs.Matching.{before_call, is_propagated, shown_sender}
 use Rattle.ipc_history.specs.declared.entry.Entry.{Entry}
 use Rattle.ipc_compact.specs.Compact.{keeps, is_kept, kept_list, kept_of}
-use Rattle.ipc_compact.proofs.Keeping.{IsKept, first_kept, kept_so}
+use Rattle.ipc_compact.proofs.KeepLemmas.{IsKept, first_kept, kept_so}
 use Rattle.ipc_compact.proofs.Reading.{silent_call}
 use Rattle.ipc_compact.proofs.ThreadReading.{stays, by_test, opened_is, broken_is, spaced_is, never_opened}
 

@@ -19,14 +19,14 @@ use Rattle.ipc_laws.proofs.Growth.{open_is_called}
 use Rattle.ipc_laws.proofs.OneOpen.{none_open, one_open}
 use Rattle.ipc_laws.proofs.Places.{Place}
 use Rattle.ipc_laws.proofs.Tests.{left, not_both, refuted, right}
-use Rattle.ipc_slots.specs.Slots.{live_at, live_of, slot_of}
-use Rattle.ipc_slots.specs.Standings.{standing_of}
+use Rattle.ipc_threads.specs.Slots.{live_at, live_of, slot_of}
+use Rattle.ipc_threads.specs.Standings.{standing_of}
 use Rattle.ipc_laws.proofs.Finds.{find_nothing, find_only, find_passes}
-use Rattle.ipc_slots.proofs.Holders.{live_of_at, live_of_is}
+use Rattle.ipc_threads.proofs.Holders.{live_of_at, live_of_is}
 use Rattle.ipc_compact.specs.Compact.{further_calls, is_among, is_kept, keeps, kept_list, kept_of, last_version}
 use Rattle.ipc_compact.specs.SlotsKept.{SlotsKept, live_from, open_from}
 use Rattle.ipc_compact.proofs.CallReading as there
-use Rattle.ipc_compact.proofs.Keeping.{IsKept, kept_so}
+use Rattle.ipc_compact.proofs.KeepLemmas.{IsKept, kept_so}
 use Rattle.ipc_compact.proofs.Reading as reading
 use Rattle.ipc_compact.proofs.SameCompact as compacts
 use Rattle.ipc_compact.proofs.StandingReading.{over_same, standing_same}

@@ -11,8 +11,8 @@ use Rattle.ipc_history.specs.Timing.{before_sent}
 use Rattle.ipc_history.specs.Legal.{Legal}
 use Rattle.ipc_history.specs.declared.entry.Entry.{Entry}
 use Rattle.ipc_laws.proofs.Growth.{open_is_called}
-use Rattle.ipc_slots.specs.Standings.{phase_of, since_of, standing_of}
-use Rattle.ipc_slots.specs.declared.slot.Phase.TheVariants.{Receiving, Taking}
+use Rattle.ipc_threads.specs.Standings.{phase_of, since_of, standing_of}
+use Rattle.ipc_threads.specs.declared.slot.Phase.TheVariants.{Receiving, Taking}
 use Rattle.ipc_compact.specs.Compact.{is_among, kept_calls, kept_of}
 use Rattle.ipc_compact.specs.Standings.{OverKept, StandingsKept}
 use Rattle.ipc_compact.proofs.CallReading as there

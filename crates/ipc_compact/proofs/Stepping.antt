@@ -32,7 +32,7 @@ use Rattle.ipc_laws.proofs.Pairing.{pair_called, receiver_of_sender}
 use Rattle.ipc_laws.proofs.Places.{any_place}
 use Rattle.ipc_laws.proofs.Settling.{legal_push}
 use Rattle.ipc_laws.proofs.WordLemmas.{first_some_push, last_some_push, option_or_none}
-use Rattle.ipc_slots.proofs.Spaces.{shown_space}
+use Rattle.ipc_threads.proofs.Spaces.{shown_space}
 use Rattle.ipc_compact.specs.Agree.{Agree, SameCall, SamePartner}
 use Rattle.ipc_compact.proofs.SameCompact.{among_numbers}
 use Rattle.ipc_compact.proofs.SameRules.{numbers_same}

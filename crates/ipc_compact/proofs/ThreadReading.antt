@@ -9,7 +9,7 @@ use Rattle.ipc_history.specs.declared.entry.Entry.{Entry}
 use Rattle.ipc_history.specs.declared.entry.Entry.TheVariants.{Given, Written}
 use Rattle.ipc_history.specs.declared.entry.Input.TheVariants.{At, Opened, Called, Exreg, Broke, Moved}
 use Rattle.ipc_compact.specs.Compact.{kept_calls, further_calls, is_kept_thread, is_at, keeps, is_kept, kept_list, kept_of}
-use Rattle.ipc_compact.proofs.Keeping.{IsKept, first_kept, any_kept}
+use Rattle.ipc_compact.proofs.KeepLemmas.{IsKept, first_kept, any_kept}
 
 third : (a b c : Bool) → c ≡ true → (a || b || c) ≡ true
 third a b c h = grind arith

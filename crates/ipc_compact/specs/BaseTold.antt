@@ -5,7 +5,7 @@ use Rattle.ipc_history.specs.Calls.{numbers}
 use Rattle.ipc_history.specs.Legal.{Legal}
 use Rattle.ipc_history.specs.Threads.{next_version}
 use Rattle.ipc_history.specs.declared.entry.Entry.{Entry}
-use Rattle.ipc_slots.specs.Slots.{live_of}
+use Rattle.ipc_threads.specs.Slots.{live_of}
 use Rattle.ipc_compact.specs.Compact.{dropped_of, further_calls, is_among, kept_calls, kept_of, last_version, made_in}
 
 -- the version before the next one of a number: 0 where that is the first, and the last one of all

@@ -12,3 +12,7 @@ pub mod Places
 pub mod Making
 pub mod BaseTold
 pub mod BaseRoom
+pub mod Partners
+pub mod PastPartners
+pub mod Kept
+pub mod Bases

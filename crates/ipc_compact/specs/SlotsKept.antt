@@ -7,10 +7,10 @@ use Rattle.ipc_history.specs.Legal.{Legal}
 use Rattle.ipc_history.specs.Phases.{is_over}
 use Rattle.ipc_history.specs.Threads.{space_of}
 use Rattle.ipc_history.specs.declared.entry.Entry.{Entry}
-use Rattle.ipc_slots.specs.Slot.{Slot}
-use Rattle.ipc_slots.specs.Slots.{live_of, slot_of}
-use Rattle.ipc_slots.specs.Standings.{standing_of}
-use Rattle.ipc_slots.specs.declared.slot.Live.{Live}
+use Rattle.ipc_threads.specs.Slot.{Slot}
+use Rattle.ipc_threads.specs.Slots.{live_of, slot_of}
+use Rattle.ipc_threads.specs.Standings.{standing_of}
+use Rattle.ipc_threads.specs.declared.slot.Live.{Live}
 use Rattle.ipc_compact.specs.Compact.{further_calls, is_among, kept_of, last_version}
 
 -- the open call of a thread: the one that is not over, and does not count as over

@@ -4,7 +4,7 @@ use Rattle.std.specs.Prelude.{◌≡◌, ℕ, List, IsFalse, IsTrue}
 use Rattle.ipc_history.specs.Legal.{Legal}
 use Rattle.ipc_history.specs.Phases.{is_over}
 use Rattle.ipc_history.specs.declared.entry.Entry.{Entry}
-use Rattle.ipc_slots.specs.Standings.{standing_of}
+use Rattle.ipc_threads.specs.Standings.{standing_of}
 use Rattle.ipc_compact.specs.Compact.{is_among, kept_calls, kept_of}
 
 -- a kept call is over in what is kept exactly where it is over

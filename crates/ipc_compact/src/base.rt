@@ -7,7 +7,7 @@ ghost use Rattle.ipc_compact.specs.Making.{Before, IsCompactOf};
 use crate::making;
 use crate::room::BaseRoom;
 use ipc_history::Entry;
-use ipc_slots::{KeptSlots, Slots};
+use ipc_threads::{KeptSlots, Slots};
 use ipc_words::limits::TABLE_SLOTS;
 use std::marker::Model;
 

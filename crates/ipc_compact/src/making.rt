@@ -3,15 +3,15 @@ ghost use Rattle.std.specs.Prelude.{◌≡◌, ◌<◌, ◌&&◌, ◌==◌, not,
 ghost use Rattle.ipc_history.specs.Calls.{call_at, caller_of, from_of, to_of};
 ghost use Rattle.ipc_history.specs.Matching.{from_specifier, is_propagated, shown_sender};
 ghost use Rattle.ipc_history.specs.Phases.{is_over};
-ghost use Rattle.ipc_slots.specs.Slots.{live_of};
-ghost use Rattle.ipc_slots.specs.Standings.{phase_of, since_of, standing_of};
+ghost use Rattle.ipc_threads.specs.Slots.{live_of};
+ghost use Rattle.ipc_threads.specs.Standings.{phase_of, since_of, standing_of};
 ghost use Rattle.ipc_compact.specs.Compact.{is_among};
 ghost use Rattle.ipc_compact.specs.Making.{Fit, is_open_from, open_in};
 ghost use Rattle.ipc_compact.specs.SlotsKept.{live_from, open_from};
 
 use crate::saying;
 use ipc_history::{Call, Entry};
-use ipc_slots::{Live, Phase, Standing};
+use ipc_threads::{Live, Phase, Standing};
 use ipc_words::ThreadId;
 
 // The caller of a call.
@@ -121,7 +121,7 @@ fn from_specifier(held: &[Entry], number: u64) -> ThreadId
 }
 
 // The moment at which its phase began.
-#[tactic(auto, unfolding(ipc_slots::specs::Standings::since_of, ipc_history::specs::Matching::before_call, ipc_history::specs::Timing::before_sent))]
+#[tactic(auto, unfolding(ipc_threads::specs::Standings::since_of, ipc_history::specs::Matching::before_call, ipc_history::specs::Timing::before_sent))]
 fn since_of(held: &[Entry], number: u64) -> u64
     ensures { result ≡ since_of held.now number }
 {
@@ -133,7 +133,7 @@ fn since_of(held: &[Entry], number: u64) -> u64
 }
 
 // Its phase.
-#[tactic(auto, unfolding(ipc_slots::specs::Standings::phase_of, ipc_history::specs::Phases::sender_of, ipc_history::specs::Phases::receiver_of))]
+#[tactic(auto, unfolding(ipc_threads::specs::Standings::phase_of, ipc_history::specs::Phases::sender_of, ipc_history::specs::Phases::receiver_of))]
 fn phase_of(held: &[Entry], number: u64) -> Phase
     requires { Fit held.now }
     ensures { result ≡ phase_of held.now number }
@@ -190,7 +190,7 @@ fn open_standing(held: &[Entry], over: &[u64], thread: ThreadId) -> Option<Stand
 }
 
 // The live thread of a number, with its open call.
-#[tactic(auto, unfolding(ipc_slots::specs::Slots::live_of))]
+#[tactic(auto, unfolding(ipc_threads::specs::Slots::live_of))]
 pub(crate) fn live_of(held: &[Entry], over: &[u64], number: u32) -> Option<Live>
     requires { Fit held.now }
     ensures { result ≡ option_map (live_from held.now over.now) (live_of held.now number) }

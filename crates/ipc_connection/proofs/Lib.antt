@@ -11,3 +11,4 @@ pub mod HearingLemmas
 pub mod PieceLemmas
 pub mod ReadOnLemmas
 pub mod ChainLemmas
+pub mod PenLemmas

@@ -2,8 +2,8 @@
 use Rattle.std.proofs.Common.{◌≡◌, ℕ, ◌+◌, ◌-◌, ◌<◌, ◌≤◌, false, List, [], ◌++◌, length, take, Option, Some, None, Result, Ok, Err, refl, sym, ap, ◌∙◌, arith, length-append}
 use Rattle.std.proofs.lemmas.List.{append-nil, append_assoc, take-append-le, take-take, nil_from_length}
 use Rattle.std.proofs.Math.Seq.{take-append-add}
-use Rattle.ipc_ports.specs.Ports.{Input}
-use Rattle.ipc_ports.specs.declared.fault.PortFault.{PortFault}
+use Rattle.ipc_base.specs.Ports.{Input}
+use Rattle.ipc_base.specs.declared.fault.PortFault.{PortFault}
 use Rattle.ipc_frame.specs.declared.kind.Side.TheVariants.{Server}
 use Rattle.ipc_frame.specs.Reading.{Short, reading}
 use Rattle.ipc_frame.proofs.StreamLemmas.{short_is_exact}

@@ -12,3 +12,4 @@ pub mod Faults
 pub mod Asking
 pub mod Replying
 pub mod KernelCalls
+pub mod Pens

@@ -1,8 +1,8 @@
 -- What a decoder reads by itself, straight into the memory of a payload.
 use Rattle.std.specs.Prelude.{◌≡◌, ◌<◌, ◌≤◌, ℕ, List, ◌++◌, length, Option, Some, None, Result, Ok, Err}
 use Rattle.std.specs.Io.KnownBytes.{IsAtEnd}
-use Rattle.ipc_ports.specs.Ports.{Gives, GivesNothing, Input}
-use Rattle.ipc_ports.specs.declared.fault.PortFault.{PortFault}
+use Rattle.ipc_base.specs.Ports.{Gives, GivesNothing, Input}
+use Rattle.ipc_base.specs.declared.fault.PortFault.{PortFault}
 use Rattle.ipc_connection.specs.Holding.{Kept}
 use Rattle.ipc_connection.specs.Taking.{Decoding, Holds, IsUnfinished, Takes}
 

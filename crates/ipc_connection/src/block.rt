@@ -1,10 +1,10 @@
 //! The memory of a payload that comes in pieces.
 ghost use Rattle.std.specs.Prelude.{◌≡◌, ℕ, true, ◌<◌, ◌≤◌, ◌+◌, ◌^◌, ◌++◌, ◌==◌, [], length, take, OnErr, OnOk};
-ghost use Rattle.ipc_ports.specs.Ports.{input_of};
+ghost use Rattle.ipc_base.specs.Ports.{input_of};
 ghost use Rattle.ipc_connection.specs.ReadOn.{Fails, ReadsInto};
 
 use crate::blocks::Blocks;
-use ipc_ports::{PortFault, PortRead};
+use ipc_base::{PortFault, PortRead};
 use std::alloc::{AllocError, Global};
 use std::marker::Model;
 

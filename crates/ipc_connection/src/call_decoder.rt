@@ -1,6 +1,6 @@
 ghost use Rattle.std.specs.Prelude.{◌≡◌, ℕ, List, [], true, false, Ok, Err};
 ghost use Rattle.ipc_connection.specs.Holding.{ForGone, FillsUp};
-ghost use Rattle.ipc_ports.specs.Ports.{input_of};
+ghost use Rattle.ipc_base.specs.Ports.{input_of};
 ghost use Rattle.ipc_connection.specs.ReadOn.{Fails, TakesOn};
 ghost use Rattle.ipc_connection.specs.Taking.{Holds, IsUnfinished, Takes, Finishes};
 
@@ -8,8 +8,8 @@ use crate::block::FEW;
 use crate::blocks::{Blocks, NoBlocks};
 use crate::heard::Heard;
 use crate::held::Held;
+use ipc_base::{PortFault, PortRead};
 use ipc_frame::{FrameFault, Judgement};
-use ipc_ports::{PortFault, PortRead};
 use std::alloc::Global;
 use std::marker::Model;
 

@@ -24,8 +24,8 @@ use Rattle.ipc_compact.proofs.Reading.{named}
 use Rattle.ipc_compact.proofs.SameCompact.{among_numbers}
 use Rattle.ipc_desks.specs.Desks.{Keeps as DesksKeep}
 use Rattle.ipc_desks.specs.declared.desk.Desk.{Desk}
-use Rattle.ipc_partners.specs.Kept.{KeptParts, PassesAs, kept_upto, passes}
-use Rattle.ipc_partners.proofs.KeptLaw.{kept_is}
+use Rattle.ipc_compact.specs.Kept.{KeptParts, PassesAs, kept_upto, passes}
+use Rattle.ipc_compact.proofs.KeptLaw.{kept_is}
 use Rattle.ipc_core.specs.Books.{AreBooks, TookOthers}
 use Rattle.ipc_core.specs.Compacting.{HoldsCompact, kept_to}
 use Rattle.ipc_core.specs.CourseParts.{CourseParts, history_of}

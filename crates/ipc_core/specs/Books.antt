@@ -2,7 +2,7 @@
 use Rattle.std.specs.Prelude.{◌≡◌, ℕ, ◌≤◌, List, ◌==◌, length, All}
 use Rattle.std.specs.List.{IsDistinct}
 use Rattle.ipc_history.specs.declared.entry.Entry.{Entry}
-pub use Rattle.ipc_partners.specs.Kept.{TookOthers}
+pub use Rattle.ipc_compact.specs.Kept.{TookOthers}
 use Rattle.ipc_core.specs.Outcomes.{IsTaken}
 
 -- each call that was taken was made and is over, and none was taken twice; of each thread every

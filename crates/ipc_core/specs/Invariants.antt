@@ -12,7 +12,7 @@ use Rattle.ipc_history.specs.declared.entry.Entry.{Entry}
 use Rattle.ipc_laws.specs.Counting.{room_owed}
 use Rattle.ipc_desks.specs.PastDesks.{PastDesks}
 use Rattle.ipc_compact.specs.Places.{WasPlaced}
-use Rattle.ipc_partners.specs.PastPartners.{PastPartners}
+use Rattle.ipc_compact.specs.PastPartners.{PastPartners}
 use Rattle.ipc_waits.specs.Waiting.{IsWaiting}
 use Rattle.ipc_waits.specs.declared.waiting.Waiting.{Waiting}
 use Rattle.ipc_core.specs.Books.{AreBooks}

@@ -30,12 +30,11 @@ mod room;
 
 use crate::answers::ExregAnswer;
 use ipc_base::Memory;
-use ipc_compact::{Base, BaseRoom};
+use ipc_compact::{Base, BaseRoom, Keeping, Partners};
 use ipc_desks::Desks;
 use ipc_history::{Entries, Entry, History, Output};
-use ipc_partners::{Keeping, Partners};
 use ipc_rules::{is_in_receive_phase, is_in_send_phase, next_block};
-use ipc_slots::Slots;
+use ipc_threads::Slots;
 use ipc_waits::Waiting;
 use ipc_words::limits::TABLE_SLOTS;
 use ipc_words::{Control, ThreadId};
@@ -149,7 +148,7 @@ impl Course {
         requires compact { held_of (history_of self.now) ≡ kept_of self.now.entries self.now.taken }
         ensures { result ≡ base_of self.now.entries self.now.taken }
     {
-        ipc_partners::base_of(
+        ipc_compact::base_of(
             self.takes,
             self.waiting.slots(),
             &self.desks,

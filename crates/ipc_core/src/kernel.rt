@@ -31,7 +31,7 @@ use crate::refusal::Refusal;
 use ipc_base::Memory;
 use ipc_compact::{Base, BaseRoom};
 use ipc_history::{Entries, Entry};
-use ipc_slots::Slots;
+use ipc_threads::Slots;
 use ipc_words::ThreadId;
 use ipc_words::limits::{MAX_CALLS, MAX_ENTRIES};
 use std::alloc::Global;

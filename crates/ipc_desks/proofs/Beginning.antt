@@ -4,7 +4,7 @@ use Rattle.std.proofs.lemmas.List.{length-replicate}
 use Rattle.std.proofs.Common.{◌≡◌, refl, sym, ap, ◌∙◌, ℕ, zero, suc, List, [], length}
 use Rattle.std.specs.Prelude.{replicate}
 use Rattle.ipc_words.specs.Limits.{table_slots}
-use Rattle.ipc_slots.specs.Slots.{live_of}
+use Rattle.ipc_threads.specs.Slots.{live_of}
 use Rattle.ipc_desks.specs.CallsOf.{is_busy, last_call, made_by, taken_by}
 use Rattle.ipc_desks.specs.Desks.{Keeps, blank_desk, desk_at, desk_of}
 use Rattle.ipc_desks.specs.declared.desk.Desk.{Desk}

@@ -26,9 +26,9 @@ use Rattle.ipc_laws.proofs.Places.{any_at, any_place}
 use Rattle.ipc_laws.proofs.Tests.{not_both}
 use Rattle.ipc_laws.proofs.ThreadChanges.{has_broken_push, is_live_push}
 use Rattle.ipc_laws.proofs.Told.{told_none}
-use Rattle.ipc_slots.specs.Slots.{live_of}
-use Rattle.ipc_slots.proofs.Holders.{live_of_at, live_of_is}
-use Rattle.ipc_slots.proofs.SlotSteps.{live_kept}
+use Rattle.ipc_threads.specs.Slots.{live_of}
+use Rattle.ipc_threads.proofs.Holders.{live_of_at, live_of_is}
+use Rattle.ipc_threads.proofs.SlotSteps.{live_kept}
 use Rattle.ipc_desks.specs.CallsOf.{is_among, is_busy, last_call, made_by, taken_by}
 use Rattle.ipc_desks.specs.Desks.{Keeps, blank_desk, desk_at, desk_of, is_unsent, message_at, one_if, thread_desk, told_at}
 use Rattle.ipc_desks.specs.Finishes.{ends_call, finishes, is_named}

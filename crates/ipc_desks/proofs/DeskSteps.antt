@@ -15,8 +15,8 @@ use Rattle.ipc_laws.proofs.OpenCalls.{caller_lives}
 use Rattle.ipc_laws.proofs.Places.{any_at}
 use Rattle.ipc_laws.proofs.Steps.{call_at_push}
 use Rattle.ipc_laws.proofs.Sums.{count_agrees}
-use Rattle.ipc_slots.specs.Slots.{live_of}
-use Rattle.ipc_slots.proofs.Holders.{live_of_at, live_of_is}
+use Rattle.ipc_threads.specs.Slots.{live_of}
+use Rattle.ipc_threads.proofs.Holders.{live_of_at, live_of_is}
 use Rattle.ipc_desks.specs.CallsOf.{is_among, is_busy, last_call, made_by, taken_by}
 use Rattle.ipc_desks.specs.Desks.{Keeps, blank_desk, desk_at, desk_of, message_at, thread_desk, told_at}
 use Rattle.ipc_desks.specs.declared.desk.Desk.{Desk}

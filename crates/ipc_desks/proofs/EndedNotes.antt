@@ -11,8 +11,8 @@ use Rattle.ipc_history.specs.declared.entry.Entry.{Entry}
 use Rattle.ipc_history.specs.declared.entry.Entry.TheVariants.{Written}
 use Rattle.ipc_history.specs.declared.entry.Output.TheVariants.{Ended}
 use Rattle.ipc_laws.proofs.Tests.{refuted}
-use Rattle.ipc_slots.specs.Standings.{standing_of}
-use Rattle.ipc_slots.specs.declared.slot.Standing.{Standing}
+use Rattle.ipc_threads.specs.Standings.{standing_of}
+use Rattle.ipc_threads.specs.declared.slot.Standing.{Standing}
 use Rattle.ipc_desks.specs.Desks.{Keeps}
 use Rattle.ipc_desks.specs.Finishes.{finishes, is_named}
 use Rattle.ipc_desks.specs.Messages.{MessageParts, delivered, message_of}
@@ -20,7 +20,7 @@ use Rattle.ipc_desks.specs.Steps.{Changed, Moved, finished}
 use Rattle.ipc_desks.specs.declared.desk.Desk.{Desk}
 use Rattle.ipc_desks.proofs.HandOver.{delivered_is, message_strings, strings_fit}
 use Rattle.ipc_desks.proofs.OutputDesks.{ended_finishes, ended_keeps_open, ended_keeps_over}
-use Rattle.ipc_slots.proofs.Holders.{standing_number}
+use Rattle.ipc_threads.proofs.Holders.{standing_number}
 use Rattle.ipc_desks.proofs.Standings.{standing_caller, standing_from, standing_shown}
 
 module _ (P : List Entry) (n m : ℕ) (legal : Legal P) (follows : Follows P (Written (Ended n m))) where

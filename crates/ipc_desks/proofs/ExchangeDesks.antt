@@ -25,10 +25,10 @@ use Rattle.ipc_laws.proofs.Growth.{caller_of_kept, open_is_called}
 use Rattle.ipc_laws.proofs.OpenCalls.{caller_lives}
 use Rattle.ipc_laws.proofs.Settling.{legal_push}
 use Rattle.ipc_laws.proofs.Steps.{call_at_written}
-use Rattle.ipc_slots.specs.Standings.{standing_of}
-use Rattle.ipc_slots.proofs.CallSteps.{new_caller}
-use Rattle.ipc_slots.proofs.Holders.{standing_number}
-use Rattle.ipc_slots.proofs.OutputCalls.{both_open}
+use Rattle.ipc_threads.specs.Standings.{standing_of}
+use Rattle.ipc_threads.proofs.CallSteps.{new_caller}
+use Rattle.ipc_threads.proofs.Holders.{standing_number}
+use Rattle.ipc_threads.proofs.OutputCalls.{both_open}
 use Rattle.ipc_desks.specs.CallsOf.{is_busy}
 use Rattle.ipc_desks.specs.Desks.{Keeps, blank_desk, desk_at}
 use Rattle.ipc_desks.specs.Finishes.{finishes, is_named}

@@ -26,7 +26,7 @@ use Rattle.ipc_laws.proofs.Places.{Place, any_at, any_place}
 use Rattle.ipc_laws.proofs.Steps.{call_at_push}
 use Rattle.ipc_laws.proofs.Tests.{not_both}
 use Rattle.ipc_laws.proofs.WordLemmas.{first_some_push, last_some_push, option_or_none}
-use Rattle.ipc_slots.proofs.ThreadSteps.{opened_within}
+use Rattle.ipc_threads.proofs.ThreadSteps.{opened_within}
 use Rattle.ipc_laws.proofs.Histories.{follows_at}
 use Rattle.ipc_desks.specs.CallsOf.{calls_by, number_by, last_call, made_by}
 use Rattle.ipc_desks.specs.Desks.{one_if}

@@ -36,10 +36,10 @@ use Rattle.ipc_laws.proofs.Tests.{not_both, left, right}
 use Rattle.ipc_laws.proofs.ThreadChanges.{has_broken_push, is_live_push}
 use Rattle.ipc_laws.proofs.Told.{told_none}
 use Rattle.ipc_laws.proofs.WordLemmas.{first_some_push}
-use Rattle.ipc_slots.specs.Slots.{live_of}
-use Rattle.ipc_slots.proofs.Holders.{live_of_is}
-use Rattle.ipc_slots.proofs.OutputCalls.{both_open}
-use Rattle.ipc_slots.proofs.SlotSteps.{live_kept}
+use Rattle.ipc_threads.specs.Slots.{live_of}
+use Rattle.ipc_threads.proofs.Holders.{live_of_is}
+use Rattle.ipc_threads.proofs.OutputCalls.{both_open}
+use Rattle.ipc_threads.proofs.SlotSteps.{live_kept}
 use Rattle.ipc_desks.specs.CallsOf.{is_among, last_call}
 use Rattle.ipc_desks.specs.Desks.{Keeps, desk_at, desk_of, is_unsent, message_at}
 use Rattle.ipc_desks.specs.Finishes.{finishes, is_named}

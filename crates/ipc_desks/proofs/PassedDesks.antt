@@ -14,10 +14,10 @@ use Rattle.ipc_laws.proofs.Befores.{shown_kept}
 use Rattle.ipc_laws.proofs.Changing.{changes}
 use Rattle.ipc_laws.proofs.Growth.{caller_of_kept, from_of_kept, open_is_called}
 use Rattle.ipc_laws.proofs.Settling.{legal_push}
-use Rattle.ipc_slots.specs.Standings.{standing_of}
-use Rattle.ipc_slots.specs.declared.slot.Standing.{Standing}
-use Rattle.ipc_slots.proofs.Holders.{standing_number}
-use Rattle.ipc_slots.proofs.OutputCalls.{both_open}
+use Rattle.ipc_threads.specs.Standings.{standing_of}
+use Rattle.ipc_threads.specs.declared.slot.Standing.{Standing}
+use Rattle.ipc_threads.proofs.Holders.{standing_number}
+use Rattle.ipc_threads.proofs.OutputCalls.{both_open}
 use Rattle.ipc_desks.specs.Desks.{Keeps, desk_at}
 use Rattle.ipc_desks.specs.Finishes.{finishes, is_named}
 use Rattle.ipc_desks.specs.Messages.{MessageParts, delivered, message_of}

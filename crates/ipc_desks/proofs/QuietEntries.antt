@@ -32,9 +32,9 @@ use Rattle.ipc_laws.proofs.Places.{Place, any_at, any_place, any_front}
 use Rattle.ipc_laws.proofs.Settling.{legal_push}
 use Rattle.ipc_laws.proofs.Tests.{not_both}
 use Rattle.ipc_laws.proofs.ThreadChanges.{is_live_push}
-use Rattle.ipc_slots.specs.Slots.{live_of}
-use Rattle.ipc_slots.proofs.Holders.{last_number, live_of_is}
-use Rattle.ipc_slots.proofs.SlotSteps.{last_kept as last_opened_kept, live_kept}
+use Rattle.ipc_threads.specs.Slots.{live_of}
+use Rattle.ipc_threads.proofs.Holders.{last_number, live_of_is}
+use Rattle.ipc_threads.proofs.SlotSteps.{last_kept as last_opened_kept, live_kept}
 use Rattle.ipc_desks.specs.CallsOf.{calls_by, is_among, last_call, made_by, taken_by}
 use Rattle.ipc_desks.specs.Desks.{Keeps, blank_desk, desk_of, thread_desk}
 use Rattle.ipc_desks.specs.Steps.{Changed, left}

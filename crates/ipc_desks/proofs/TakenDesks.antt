@@ -17,8 +17,8 @@ use Rattle.ipc_laws.proofs.Endings.{live_unbroken}
 use Rattle.ipc_history.specs.declared.entry.Entry.TheVariants.{Written}
 use Rattle.ipc_history.specs.declared.entry.Output.TheVariants.{Ended, Overflowed, Aborted, Failed}
 use Rattle.ipc_laws.proofs.Places.{first_place}
-use Rattle.ipc_slots.specs.Slots.{live_of}
-use Rattle.ipc_slots.proofs.Holders.{live_of_at, live_of_is}
+use Rattle.ipc_threads.specs.Slots.{live_of}
+use Rattle.ipc_threads.proofs.Holders.{live_of_at, live_of_is}
 use Rattle.ipc_desks.specs.CallsOf.{is_among, is_busy, last_call, made_by, outcome_to_take, taken_by, untaken_outcome}
 use Rattle.ipc_desks.specs.Desks.{Keeps, blank_desk, desk_at, desk_of, one_if, thread_desk, told_at}
 use Rattle.ipc_desks.specs.Steps.{Changed, cleared, is_nothing, is_ready, outcome_in_told, taken_from}

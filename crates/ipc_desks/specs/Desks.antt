@@ -9,7 +9,7 @@ use Rattle.ipc_history.specs.Phases.{is_over, is_sent}
 use Rattle.ipc_history.specs.Outcomes.{outcome_of}
 use Rattle.ipc_history.specs.declared.entry.Entry.{Entry}
 pub use Rattle.ipc_laws.specs.Laws.{one_if}
-use Rattle.ipc_slots.specs.Slots.{live_of}
+use Rattle.ipc_threads.specs.Slots.{live_of}
 use Rattle.ipc_desks.specs.CallsOf.{last_call, made_by, taken_by, is_among, is_busy}
 use Rattle.ipc_desks.specs.Messages.{MessageParts, message_of}
 use Rattle.ipc_desks.specs.declared.desk.Desk.{Desk}

@@ -25,7 +25,7 @@ use crate::kept::{KeptDesks, standing};
 use crate::message::Prepared;
 use ipc_base::{Memory, Past};
 use ipc_history::{Call, Entry, Input, Outcome, Output};
-use ipc_slots::Slots;
+use ipc_threads::Slots;
 use ipc_words::{IpcError, Phase as FailedPhase, ThreadId};
 use std::alloc::AllocError;
 use std::marker::Model;

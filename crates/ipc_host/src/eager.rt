@@ -1,10 +1,10 @@
 //! The reading side of a socket that may look for a little while before it sleeps.
 ghost use Rattle.std.specs.Prelude.{◌≡◌, ◌≤◌, ◌++◌, [], Some, None, take, length, IfSome, MatchOption};
-ghost use Rattle.ipc_ports.specs.Ports.{max_reads};
+ghost use Rattle.ipc_base.specs.Ports.{max_reads};
 
 use crate::clock::ServerClock;
 use crate::inlet::Inlet;
-use ipc_ports::{MAX_READS, PortFault, PortRead};
+use ipc_base::{MAX_READS, PortFault, PortRead};
 use std::os::unix::net::UnixStream;
 use std::rt::Clock;
 use std::sync::atomic::{AtomicBool, Ordering};

@@ -2,11 +2,10 @@
 ghost use Rattle.std.specs.Prelude.{◌≡◌, ◌≤◌, ◌++◌, [], Some, take, length, IfSome, MatchOption};
 ghost use Rattle.std.specs.Io.{ReadsAtMost};
 ghost use Rattle.libc.specs.Io.{Moved};
-ghost use Rattle.ipc_ports.specs.Ports.{ReadAppends};
+ghost use Rattle.ipc_base.specs.Ports.{ReadAppends};
 
 use crate::noting::with_more;
-use ipc_base::Past;
-use ipc_ports::{PortFault, read_turn};
+use ipc_base::{Past, PortFault, read_turn};
 use libc::net as c;
 use std::os::fd::AsRawFd;
 use std::os::unix::net::UnixStream;

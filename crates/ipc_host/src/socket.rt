@@ -3,9 +3,8 @@ ghost use Rattle.std.specs.Prelude.{◌≡◌, ◌≤◌, [], ◌++◌, Some, le
 ghost use Rattle.libc.specs.Io.{Moved};
 
 use crate::noting::with_more;
-use ipc_base::Past;
-use ipc_pen::{Patience, PenPort};
-use ipc_ports::PortFault;
+use ipc_base::{Past, PortFault};
+use ipc_connection::{Patience, PenPort};
 use libc::net as c;
 use std::os::fd::AsRawFd;
 use std::os::unix::net::UnixStream;

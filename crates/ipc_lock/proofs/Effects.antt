@@ -17,7 +17,7 @@ use Rattle.ipc_core.specs.declared.command.Command.TheVariants.{Broke}
 use Rattle.ipc_frame.specs.declared.version.WireVersion.{WireVersion}
 use Rattle.ipc_frame.specs.declared.version.WireVersion.TheVariants.{One}
 use Rattle.ipc_history.specs.Outcomes.{OutcomeParts}
-use Rattle.ipc_pen.specs.Pens.{new_page}
+use Rattle.ipc_connection.specs.Pens.{new_page}
 use Rattle.ipc_lock.specs.Boxes.{BoxParts, changed, changed_at, new_box, posted_to}
 use Rattle.ipc_lock.specs.Gifts.{gifts, no_errands, work_gifts}
 use Rattle.ipc_lock.specs.InsideParts.{InsideParts}

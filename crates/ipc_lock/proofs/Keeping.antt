@@ -10,7 +10,7 @@ use Rattle.ipc_connection.specs.declared.replying.Told.TheVariants as told
 use Rattle.ipc_core.specs.Outcomes.{is_among}
 use Rattle.ipc_core.proofs.BusyLaws.{still_among}
 use Rattle.ipc_frame.specs.declared.version.WireVersion.{WireVersion}
-use Rattle.ipc_pen.specs.Pens.{new_page}
+use Rattle.ipc_connection.specs.Pens.{new_page}
 use Rattle.ipc_lock.specs.Boxes.{BoxParts, changed, changed_at, cleared, is_full, is_of, new_box, posted_to, put_at, welcomed}
 use Rattle.ipc_lock.specs.Gifts.{number_in, number_of_box}
 use Rattle.ipc_lock.specs.Logs.{opened_in, said_in}

@@ -16,8 +16,8 @@ use Rattle.ipc_history.specs.Calls.{caller_of}
 use Rattle.ipc_history.specs.declared.entry.Entry.{Entry}
 use Rattle.ipc_laws.proofs.Promise.{paired}
 use Rattle.ipc_waits.specs.Finding.{IsRising, is_among as is_in}
-use Rattle.ipc_pen.specs.declared.given.Given.{Given}
-use Rattle.ipc_pen.specs.declared.given.Given.TheVariants as given
+use Rattle.ipc_connection.specs.declared.given.Given.{Given}
+use Rattle.ipc_connection.specs.declared.given.Given.TheVariants as given
 use Rattle.ipc_lock.specs.InsideParts.{InsideParts}
 use Rattle.ipc_lock.specs.Logs.{AreOwn, Ends, IsOwn, IsPart, Keeps, LogsGiveOnce, LogsLeadWell, LogsMakeHistory, LogsTellOnce, LogsTellOwners, Skips, call_of, calls_by, calls_given, calls_of, calls_told, given_in, given_to, gifts_by, opened_by, opened_for, said_by, said_for}
 use Rattle.ipc_lock.specs.Making.{Accepted, accepted_of, made_by, made_in}

@@ -3,7 +3,7 @@ use Rattle.std.proofs.Common.{◌≡◌, ℕ, List, [], ◌∷◌, ◌++◌, app
 use Rattle.std.proofs.lemmas.Bool.{false≢true}
 use Rattle.std.specs.Prelude.{is_some, slice_get, ⊤}
 use Rattle.ipc_core.specs.KernelParts.{KernelParts}
-use Rattle.ipc_pen.specs.Pens.{Page}
+use Rattle.ipc_connection.specs.Pens.{Page}
 use Rattle.ipc_lock.specs.Boxes.{BoxParts}
 use Rattle.ipc_lock.specs.Gifts.{gift_in, gift_of, gifts}
 use Rattle.ipc_lock.specs.Places.{LoadsAt, LoadsOne, LoadsRow, LooksAt, StaysAll, added}

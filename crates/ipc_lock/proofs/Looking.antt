@@ -14,9 +14,9 @@ use Rattle.ipc_frame.specs.declared.frame.Frame.{Frame}
 use Rattle.ipc_frame.specs.declared.version.WireVersion.{WireVersion}
 use Rattle.ipc_history.specs.declared.entry.Entry.{Entry}
 use Rattle.ipc_laws.proofs.Growth.{caller_of_kept, is_called_kept}
-use Rattle.ipc_pen.specs.Pens.{Page, given_next}
-use Rattle.ipc_pen.specs.declared.given.Given.{Given}
-use Rattle.ipc_pen.specs.declared.given.Given.TheVariants as given
+use Rattle.ipc_connection.specs.Pens.{Page, given_next}
+use Rattle.ipc_connection.specs.declared.given.Given.{Given}
+use Rattle.ipc_connection.specs.declared.given.Given.TheVariants as given
 use Rattle.ipc_lock.specs.Boxes.{Begins, BoxParts, ComesOut, EndsWork, GoesOn, HasNothing, Loads, LooksFirst, LooksInto, TakeParts, TellsNothing, Works, WritesOn, frame_posted, has_failed, is_idle, is_of, is_own, is_pen_of, risen, thread_at_seat, thread_of, told_box}
 use Rattle.ipc_lock.specs.Gifts.{gift_in, gift_of, gift_to, gifts, last_of, work_gifts}
 use Rattle.ipc_lock.specs.Logs.{IsOwn, IsReply, WasOutcome, call_of, calls_of}

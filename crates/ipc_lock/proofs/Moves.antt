@@ -14,9 +14,9 @@ use Rattle.ipc_connection.specs.Replying.{told_of}
 use Rattle.ipc_frame.specs.declared.version.WireVersion.{WireVersion}
 use Rattle.ipc_history.specs.Outcomes.{OutcomeParts}
 use Rattle.ipc_lock.specs.Acting.{ActsOn, GivesSeat, StepDoes}
-use Rattle.ipc_pen.specs.Pens.{Page}
-use Rattle.ipc_pen.specs.declared.given.Given.{Given}
-use Rattle.ipc_pen.specs.declared.given.Given.TheVariants as given
+use Rattle.ipc_connection.specs.Pens.{Page}
+use Rattle.ipc_connection.specs.declared.given.Given.{Given}
+use Rattle.ipc_connection.specs.declared.given.Given.TheVariants as given
 use Rattle.ipc_lock.specs.Boxes.{BoxParts, HasNothing, LooksInto, OnlyTakes, TakeParts, TellsNothing, changed, changed_at, is_idle, put_at, risen, seat_parts, thread_at_seat, told_box}
 use Rattle.ipc_lock.specs.Places.{Ends, LoadsAt, LooksAt, OnlyLoads, SameBox, StaysAll, added, new_seat, owned_by, told_in}
 use Rattle.ipc_lock.specs.Seats.{TakesNothing}

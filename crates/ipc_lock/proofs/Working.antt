@@ -14,7 +14,7 @@ use Rattle.ipc_lock.specs.declared.events.Event.TheVariants as event
 use Rattle.ipc_lock.specs.declared.events.Gift.{Gift}
 use Rattle.ipc_lock.specs.declared.post_box.Work.{Work}
 use Rattle.ipc_lock.specs.declared.post_box.Work.TheVariants as work
-use Rattle.ipc_pen.specs.Pens.{Page}
+use Rattle.ipc_connection.specs.Pens.{Page}
 
 -- a writer goes on
 abbrev GoesOn : {P : Type 0} → Option (Work P) → Type 0

@@ -31,7 +31,7 @@ use Rattle.ipc_lock.specs.declared.part.HeldPart.{HeldPart}
 use Rattle.ipc_lock.specs.declared.post_box.Work.TheVariants as work
 use Rattle.ipc_lock.specs.declared.rest.Rest.{Rest}
 use Rattle.ipc_lock.specs.declared.seated.seats.CallSeat.{CallSeat}
-use Rattle.ipc_pen.specs.Pens.{Page}
+use Rattle.ipc_connection.specs.Pens.{Page}
 use Rattle.ipc_words.specs.Limits.{block_bytes, max_string_bytes}
 
 -- a step was made and logged: at this moment, by this seat, this command, which was answered so;

@@ -8,9 +8,9 @@ use Rattle.ipc_frame.specs.declared.version.WireVersion.TheVariants.{One}
 use Rattle.ipc_connection.specs.Replying.{reply}
 use Rattle.ipc_connection.specs.declared.replying.Told.{Told}
 use Rattle.ipc_connection.specs.declared.replying.Told.TheVariants as told
-use Rattle.ipc_pen.specs.declared.given.Given.{Given}
-use Rattle.ipc_pen.specs.declared.given.Given.TheVariants as given
-use Rattle.ipc_pen.specs.Pens.{Page, given_next, is_ready}
+use Rattle.ipc_connection.specs.declared.given.Given.{Given}
+use Rattle.ipc_connection.specs.declared.given.Given.TheVariants as given
+use Rattle.ipc_connection.specs.Pens.{Page, given_next, is_ready}
 use Rattle.ipc_lock.specs.Seats.{TakesNothing}
 use Rattle.ipc_lock.specs.declared.post_box.Work.{Work}
 use Rattle.ipc_lock.specs.declared.post_box.Work.TheVariants as work

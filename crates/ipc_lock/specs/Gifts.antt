@@ -1,8 +1,8 @@
 -- What connections were given under the lock, as the pens show it that came out of their boxes.
 use Rattle.std.specs.Prelude.{ℕ, Bool, List, [], ◌∷◌, ◌++◌, Option, Some, None, if◌then◌else◌}
 use Rattle.ipc_history.specs.Outcomes.{OutcomeParts}
-use Rattle.ipc_pen.specs.Pens.{Page}
-use Rattle.ipc_pen.specs.declared.given.Given.{Given}
+use Rattle.ipc_connection.specs.Pens.{Page}
+use Rattle.ipc_connection.specs.declared.given.Given.{Given}
 use Rattle.ipc_lock.specs.Boxes.{BoxParts, is_idle}
 use Rattle.ipc_lock.specs.declared.errands.Errands.{Errands}
 use Rattle.ipc_lock.specs.declared.events.Gift.{Gift}

@@ -14,8 +14,8 @@ use Rattle.ipc_history.specs.Outcomes.{OutcomeParts, outcome_of}
 use Rattle.ipc_history.specs.Paired.{Paired}
 use Rattle.ipc_history.specs.declared.entry.Entry.{Entry}
 use Rattle.ipc_waits.specs.Finding.{IsRising}
-use Rattle.ipc_pen.specs.declared.given.Given.{Given}
-use Rattle.ipc_pen.specs.declared.given.Given.TheVariants as given
+use Rattle.ipc_connection.specs.declared.given.Given.{Given}
+use Rattle.ipc_connection.specs.declared.given.Given.TheVariants as given
 use Rattle.ipc_lock.specs.InsideParts.{InsideParts}
 use Rattle.ipc_lock.specs.Making.{accepted_of, made_in}
 use Rattle.ipc_lock.specs.Turns.{Runs}

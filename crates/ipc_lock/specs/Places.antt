@@ -9,7 +9,7 @@ use Rattle.ipc_core.specs.declared.command.Answer.{Answer}
 use Rattle.ipc_core.specs.declared.command.Command.TheVariants.{Broke}
 use Rattle.ipc_connection.specs.declared.replying.Told.{Told}
 use Rattle.ipc_connection.specs.declared.replying.Told.TheVariants as told
-use Rattle.ipc_pen.specs.Pens.{Page, Passes, rest_of}
+use Rattle.ipc_connection.specs.Pens.{Page, Passes, rest_of}
 use Rattle.ipc_lock.specs.Boxes.{BoxParts, LooksInto, OnlyTakes, TakeParts, Works, changed_at, cleared, is_of, is_pen_of, posted_to, thread_of, welcomed}
 use Rattle.ipc_lock.specs.Upkeeping.{LetsGo}
 use Rattle.ipc_lock.specs.declared.entered.Entered.{Entered}

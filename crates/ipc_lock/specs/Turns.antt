@@ -10,7 +10,7 @@ use Rattle.ipc_core.specs.declared.command.Answer.{Answer}
 use Rattle.ipc_core.specs.declared.command.Command.{Command}
 use Rattle.ipc_history.specs.Holding.{marked_to}
 use Rattle.ipc_history.specs.Outcomes.{OutcomeParts}
-use Rattle.ipc_pen.specs.Pens.{new_page}
+use Rattle.ipc_connection.specs.Pens.{new_page}
 use Rattle.ipc_words.specs.Limits.{max_calls, max_entries, table_slots}
 use Rattle.ipc_lock.specs.Boxes.{changed_at, new_box, posted_to}
 use Rattle.ipc_lock.specs.Gifts.{gifts, no_errands, number_in, work_gifts}

@@ -5,7 +5,7 @@ ghost use Rattle.ipc_lock.specs.Places.{OnlyWrites, added, entered_of};
 
 use crate::entered::Entered;
 use crate::post_box::Loaded;
-use ipc_pen::{Patience, PenPort};
+use ipc_connection::{Patience, PenPort};
 
 /// The pens with which a thread writes what its step told, its own connection's first. At most
 /// three: the writers of the others are woken.

@@ -1,10 +1,9 @@
 //! What is done under the lock at one time.
 
 use ipc_base::Past;
-use ipc_connection::{Request, Told};
+use ipc_connection::{Given, Request, Told};
 use ipc_core::{Answer, Command};
 use ipc_history::Outcome;
-use ipc_pen::Given;
 use ipc_words::ThreadId;
 
 /// What the connection of a number was given.

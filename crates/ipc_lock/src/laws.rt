@@ -3,7 +3,7 @@
 ghost use Rattle.ipc_lock.specs.Logs.{LogsGiveOnce, LogsLeadWell, LogsMakeHistory, LogsNumberOnce, LogsTellOnce, LogsTellOwners};
 ghost use Rattle.ipc_lock.specs.Upkeeping.{NearCovers};
 
-use ipc_pen::PenPort;
+use ipc_connection::PenPort;
 use std::sync::ledger::Ledger;
 
 /// Near the limit of entries is so far from it that what the greatest number of threads may have

@@ -2,14 +2,13 @@
 ghost use Rattle.std.specs.Prelude.{◌≡◌, None, Some, true, false, IfOk, OnOk, OnErr, IfErr, IfSome, IfNone, is_some, not};
 ghost use Rattle.ipc_lock.specs.Boxes.{Begins, ComesOut, EndsWork, LooksFirst, LooksInto, OnlyTakes, Works, WritesOn, cleared, has_failed, is_full, is_idle, is_of, is_pen_of, new_box, posted_to, take_parts, thread_of, told_box, welcomed};
 ghost use Rattle.ipc_lock.specs.Places.{gives_back, shut_for};
-ghost use Rattle.ipc_pen.specs.Pens.{BeginsEmpty, new_page};
+ghost use Rattle.ipc_connection.specs.Pens.{BeginsEmpty, new_page};
 
 mod loaded;
 
 use crate::seated::{Locked, TakeSeat};
-use ipc_connection::{Told, reply};
+use ipc_connection::{Given, Pen, PenPort, Told, reply};
 use ipc_frame::WireVersion;
-use ipc_pen::{Given, Pen, PenPort};
 use ipc_words::ThreadId;
 pub use loaded::Loaded;
 use std::alloc::{AllocError, Global};

@@ -16,9 +16,9 @@ use Rattle.ipc_laws.proofs.PhaseParts.{passes_parts}
 use Rattle.ipc_history.specs.ExchangeRegisters.{in_receive_phase, in_send_phase}
 use Rattle.ipc_laws.specs.Laws.{timeout_at}
 use Rattle.ipc_rules.specs.Rules.{first_number, in_receive_by, in_send_by, rule_of}
-use Rattle.ipc_slots.specs.Standings.{IsStanding, partner_by, standing_of}
+use Rattle.ipc_threads.specs.Standings.{IsStanding, partner_by, standing_of}
 use Rattle.ipc_rules.specs.declared.rules.Rule.TheVariants.{Expires, Copies}
-use Rattle.ipc_slots.specs.declared.slot.Standing.{Standing}
+use Rattle.ipc_threads.specs.declared.slot.Standing.{Standing}
 use Rattle.ipc_laws.proofs.Finds.{find_passes}
 use Rattle.ipc_rules.proofs.Stops.{in_receive_is, in_send_is}
 

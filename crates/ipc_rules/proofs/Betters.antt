@@ -5,10 +5,10 @@ use Rattle.std.proofs.Common.{◌≡◌, refl, sym, ap, ◌∙◌, ℕ, ◌+◌,
 use Rattle.std.specs.Option.{option_map_or}
 use Rattle.ipc_history.specs.declared.entry.Output.{Output}
 use Rattle.ipc_rules.specs.Least.{IsFound, IsLeast, better_of, earlier}
-use Rattle.ipc_slots.specs.Slots.{slot_at}
-use Rattle.ipc_slots.specs.Steps.{standing_in}
-use Rattle.ipc_slots.specs.Slot.{Slot}
-use Rattle.ipc_slots.specs.declared.slot.Standing.{Standing}
+use Rattle.ipc_threads.specs.Slots.{slot_at}
+use Rattle.ipc_threads.specs.Steps.{standing_in}
+use Rattle.ipc_threads.specs.Slot.{Slot}
+use Rattle.ipc_threads.specs.declared.slot.Standing.{Standing}
 
 -- the earlier one is no later than the one that came
 pub earlier_found : (best : Option (ℕ × Output)) (n : ℕ) (y : Output) → IsFound (earlier best n y) n

@@ -5,12 +5,12 @@ use Rattle.ipc_history.specs.Legal.{Legal}
 use Rattle.ipc_history.specs.declared.entry.Entry.{Entry}
 use Rattle.ipc_laws.proofs.Tests.{not_both}
 use Rattle.ipc_rules.specs.Rules.{abort_by, concerns, end_by, rule_of, timeout_by, waits_to_receive, waits_to_send}
-use Rattle.ipc_slots.specs.Standings.{IsStanding}
+use Rattle.ipc_threads.specs.Standings.{IsStanding}
 use Rattle.ipc_rules.specs.declared.rules.Rule.{Rule}
 use Rattle.ipc_rules.specs.declared.rules.Rule.TheVariants.{Ends, Fails, Expires, Copies}
-use Rattle.ipc_slots.specs.declared.slot.Phase.{Phase}
-use Rattle.ipc_slots.specs.declared.slot.Phase.TheVariants.{Sending, Passing, Receiving, Taking}
-use Rattle.ipc_slots.specs.declared.slot.Standing.{Standing}
+use Rattle.ipc_threads.specs.declared.slot.Phase.{Phase}
+use Rattle.ipc_threads.specs.declared.slot.Phase.TheVariants.{Sending, Passing, Receiving, Taking}
+use Rattle.ipc_threads.specs.declared.slot.Standing.{Standing}
 use Rattle.ipc_rules.proofs.PhaseRules.{end_at, timeout_at}
 use Rattle.ipc_rules.proofs.Stops.{abort_told}
 

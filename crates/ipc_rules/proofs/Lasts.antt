@@ -20,16 +20,16 @@ use Rattle.ipc_laws.proofs.OneOpen.{free_parts}
 use Rattle.ipc_laws.proofs.Tests.{left}
 use Rattle.ipc_laws.proofs.ThreadChanges.{is_live_push}
 use Rattle.ipc_laws.proofs.WordLemmas.{option_or_none}
-use Rattle.ipc_slots.specs.Last.{IsLast, last_output}
-use Rattle.ipc_slots.specs.declared.last.Last.{Last}
-use Rattle.ipc_slots.specs.Slots.{Stands}
+use Rattle.ipc_threads.specs.Last.{IsLast, last_output}
+use Rattle.ipc_threads.specs.declared.last.Last.{Last}
+use Rattle.ipc_threads.specs.Slots.{Stands}
 use Rattle.ipc_rules.specs.Rules.{turn_by, turn_of, turned_by}
-use Rattle.ipc_slots.specs.Standings.{IsStanding, standing_of}
-use Rattle.ipc_slots.specs.declared.slot.Standing.{Standing}
-use Rattle.ipc_slots.specs.declared.kept.KeptSlots.{KeptSlots}
+use Rattle.ipc_threads.specs.Standings.{IsStanding, standing_of}
+use Rattle.ipc_threads.specs.declared.slot.Standing.{Standing}
+use Rattle.ipc_threads.specs.declared.kept.KeptSlots.{KeptSlots}
 use Rattle.ipc_rules.proofs.Meets.{receiving_kept}
-use Rattle.ipc_slots.proofs.Lookups.{none_up}
-use Rattle.ipc_slots.proofs.StandingSteps.{own}
+use Rattle.ipc_threads.proofs.Lookups.{none_up}
+use Rattle.ipc_threads.proofs.StandingSteps.{own}
 
 last_kept : {X : Type 0} (x y : X) (ys : List X) → last (x ∷ y ∷ ys) ≡ last (y ∷ ys)
 last_kept x y ys = go (last ys)

@@ -15,17 +15,17 @@ use Rattle.ipc_laws.proofs.Growth.{open_is_called}
 use Rattle.ipc_laws.proofs.Numbering.{called_below, numbered, number_at}
 use Rattle.ipc_laws.proofs.Histories.{called_place}
 use Rattle.ipc_laws.proofs.WordLemmas.{first_some_push}
-use Rattle.ipc_slots.proofs.Overs.{over_no_end, over_no_partner, over_no_meeting, over_no_due, over_no_abort}
+use Rattle.ipc_threads.proofs.Overs.{over_no_end, over_no_partner, over_no_meeting, over_no_due, over_no_abort}
 use Rattle.ipc_rules.specs.Least.{IsFound, IsLeast}
 use Rattle.ipc_rules.specs.Rules.{rule_of}
-use Rattle.ipc_slots.specs.Slots.{Stands, slot_at}
-use Rattle.ipc_slots.specs.Standings.{standing_of}
-use Rattle.ipc_slots.specs.Steps.{standing_in}
+use Rattle.ipc_threads.specs.Slots.{Stands, slot_at}
+use Rattle.ipc_threads.specs.Standings.{standing_of}
+use Rattle.ipc_threads.specs.Steps.{standing_in}
 use Rattle.ipc_rules.specs.declared.rules.Rule.{Rule}
 use Rattle.ipc_rules.specs.declared.rules.Rule.TheVariants.{Ends, Fails, Expires, Copies}
-use Rattle.ipc_slots.specs.Slot.{Slot}
-use Rattle.ipc_slots.specs.declared.kept.KeptSlots.{KeptSlots}
-use Rattle.ipc_slots.proofs.Holders.{held_below, slot_of_call}
+use Rattle.ipc_threads.specs.Slot.{Slot}
+use Rattle.ipc_threads.specs.declared.kept.KeptSlots.{KeptSlots}
+use Rattle.ipc_threads.proofs.Holders.{held_below, slot_of_call}
 
 pub least_start : (f : ℕ → Option Output) (table : List Slot) → IsLeast f table 0 None
 least_start f table = record { seen = λ k h s e y g. absurd (omega arith); is = λ b e. absurd (none-some b e) }

@@ -16,17 +16,17 @@ use Rattle.ipc_laws.proofs.Places.{any_at}
 use Rattle.ipc_laws.proofs.Steps.{number_of_open}
 use Rattle.ipc_laws.proofs.Tests.{not_both}
 use Rattle.ipc_rules.specs.Rules.{awaits_by, may_meet_by, waits_to_receive, waits_to_send}
-use Rattle.ipc_slots.specs.Standings.{IsStanding, standing_of, phase_of}
-use Rattle.ipc_slots.specs.Slots.{Stands, space_in}
-use Rattle.ipc_slots.specs.declared.slot.Phase.{Phase}
-use Rattle.ipc_slots.specs.declared.slot.Phase.TheVariants.{Sending, Passing, Receiving, Taking}
-use Rattle.ipc_slots.specs.declared.slot.Standing.{Standing}
-use Rattle.ipc_slots.specs.declared.kept.KeptSlots.{KeptSlots}
+use Rattle.ipc_threads.specs.Standings.{IsStanding, standing_of, phase_of}
+use Rattle.ipc_threads.specs.Slots.{Stands, space_in}
+use Rattle.ipc_threads.specs.declared.slot.Phase.{Phase}
+use Rattle.ipc_threads.specs.declared.slot.Phase.TheVariants.{Sending, Passing, Receiving, Taking}
+use Rattle.ipc_threads.specs.declared.slot.Standing.{Standing}
+use Rattle.ipc_threads.specs.declared.kept.KeptSlots.{KeptSlots}
 use Rattle.ipc_laws.proofs.Finds.{find_nothing, find_only, find_passes, false_unless}
-use Rattle.ipc_slots.proofs.Lookups.{looked_up, none_up, space_found}
-use Rattle.ipc_slots.proofs.PhaseFacts.{Says, phase_says}
-use Rattle.ipc_slots.proofs.Spaces.{shown_space}
-use Rattle.ipc_slots.proofs.StandingSteps.{found, own}
+use Rattle.ipc_threads.proofs.Lookups.{looked_up, none_up, space_found}
+use Rattle.ipc_threads.proofs.PhaseFacts.{Says, phase_says}
+use Rattle.ipc_threads.proofs.Spaces.{shown_space}
+use Rattle.ipc_threads.proofs.StandingSteps.{found, own}
 
 -- The receiving call, in the words of the definitions
 

@@ -21,13 +21,13 @@ use Rattle.ipc_rules.specs.Resting.{has_no_time, lets_in_by, may_wait, takes}
 use Rattle.ipc_rules.specs.Rules.{awaits_by}
 use Rattle.ipc_rules.proofs.Meets.{standing_parts}
 use Rattle.ipc_rules.proofs.Reaching.{awaits_it}
-use Rattle.ipc_slots.specs.Standings.{IsStanding, standing_of}
-use Rattle.ipc_slots.specs.Slots.{Stands, space_in}
-use Rattle.ipc_slots.specs.declared.slot.Standing.{Standing}
-use Rattle.ipc_slots.specs.declared.kept.KeptSlots.{KeptSlots}
-use Rattle.ipc_slots.proofs.Lookups.{call_up, none_up, space_found}
-use Rattle.ipc_slots.proofs.Spaces.{shown_space}
-use Rattle.ipc_slots.proofs.StandingSteps.{found, own}
+use Rattle.ipc_threads.specs.Standings.{IsStanding, standing_of}
+use Rattle.ipc_threads.specs.Slots.{Stands, space_in}
+use Rattle.ipc_threads.specs.declared.slot.Standing.{Standing}
+use Rattle.ipc_threads.specs.declared.kept.KeptSlots.{KeptSlots}
+use Rattle.ipc_threads.proofs.Lookups.{call_up, none_up, space_found}
+use Rattle.ipc_threads.proofs.Spaces.{shown_space}
+use Rattle.ipc_threads.proofs.StandingSteps.{found, own}
 
 -- Periods
 

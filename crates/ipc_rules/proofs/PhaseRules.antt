@@ -19,17 +19,17 @@ use Rattle.ipc_laws.proofs.Moving.{paired_to}
 use Rattle.ipc_laws.proofs.Normal.{moves_fit}
 use Rattle.ipc_laws.proofs.OpenCalls.{caller_opened}
 use Rattle.ipc_laws.proofs.Pairing.{pair_called, receiver_of_sender}
-use Rattle.ipc_slots.specs.Steps.{taken}
+use Rattle.ipc_threads.specs.Steps.{taken}
 use Rattle.ipc_laws.proofs.OnePhase.{passes_apart}
 use Rattle.ipc_laws.proofs.PhaseParts.{sends_parts}
 use Rattle.ipc_laws.specs.Laws.{timeout_at as due_of}
 use Rattle.ipc_rules.specs.Rules.{IsSmall, end_by, timeout_by, failure_by, failure_code_by}
-use Rattle.ipc_slots.proofs.PhaseFacts.{Says, no_sender_yet, passes_not, passes_where_live, phase_says}
-use Rattle.ipc_slots.proofs.PhaseFacts.{receiver_is, since_receiving, since_sending, taken_is, taken_running, unended}
-use Rattle.ipc_slots.specs.Standings.{IsStanding, partner_by, standing_of, phase_of}
-use Rattle.ipc_slots.specs.declared.slot.Standing.{Standing}
-use Rattle.ipc_slots.specs.declared.slot.Phase.{Phase}
-use Rattle.ipc_slots.specs.declared.slot.Phase.TheVariants.{Sending, Passing, Receiving, Taking}
+use Rattle.ipc_threads.proofs.PhaseFacts.{Says, no_sender_yet, passes_not, passes_where_live, phase_says}
+use Rattle.ipc_threads.proofs.PhaseFacts.{receiver_is, since_receiving, since_sending, taken_is, taken_running, unended}
+use Rattle.ipc_threads.specs.Standings.{IsStanding, partner_by, standing_of, phase_of}
+use Rattle.ipc_threads.specs.declared.slot.Standing.{Standing}
+use Rattle.ipc_threads.specs.declared.slot.Phase.{Phase}
+use Rattle.ipc_threads.specs.declared.slot.Phase.TheVariants.{Sending, Passing, Receiving, Taking}
 
 module _ (P : List Entry) (legal : Legal P) (n : ℕ) (open_ : is_over P n ≡ false) where
   pub end_law : end_by (is_live P (to_of P n)) (standing_of P n) ≡ end_of P n

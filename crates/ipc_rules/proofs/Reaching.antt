@@ -16,12 +16,12 @@ use Rattle.ipc_laws.proofs.OpenCalls.{caller_lives}
 use Rattle.ipc_laws.proofs.PhaseParts.{receives_parts}
 use Rattle.ipc_laws.proofs.Tests.{left, not_both, right}
 use Rattle.ipc_rules.specs.Rules.{awaits_by, sends_words_by}
-use Rattle.ipc_slots.specs.Standings.{IsStanding, standing_of}
-use Rattle.ipc_slots.specs.Slots.{Stands, space_in}
-use Rattle.ipc_slots.specs.declared.slot.Standing.{Standing}
-use Rattle.ipc_slots.specs.declared.kept.KeptSlots.{KeptSlots}
-use Rattle.ipc_slots.proofs.Lookups.{call_up, space_found}
-use Rattle.ipc_slots.proofs.StandingSteps.{found, own}
+use Rattle.ipc_threads.specs.Standings.{IsStanding, standing_of}
+use Rattle.ipc_threads.specs.Slots.{Stands, space_in}
+use Rattle.ipc_threads.specs.declared.slot.Standing.{Standing}
+use Rattle.ipc_threads.specs.declared.kept.KeptSlots.{KeptSlots}
+use Rattle.ipc_threads.proofs.Lookups.{call_up, space_found}
+use Rattle.ipc_threads.proofs.StandingSteps.{found, own}
 use Rattle.ipc_rules.proofs.Meets.{receiving_kept}
 
 no_length : (n : ℕ) → (n == 0) ≡ true → n ≡ 0

@@ -23,12 +23,12 @@ use Rattle.ipc_laws.proofs.Tests.{not_both}
 use Rattle.ipc_laws.proofs.Together.{sender_open}
 use Rattle.ipc_history.specs.ExchangeRegisters.{in_receive_phase, in_send_phase}
 use Rattle.ipc_rules.specs.Rules.{abort_by, stop_by, in_send_by, in_receive_by}
-use Rattle.ipc_slots.specs.Standings.{IsStanding, partner_by, standing_of, phase_of}
-use Rattle.ipc_slots.specs.declared.slot.Phase.{Phase}
-use Rattle.ipc_slots.specs.declared.slot.Phase.TheVariants.{Sending, Passing, Receiving, Taking}
-use Rattle.ipc_slots.specs.declared.slot.Standing.{Standing}
-use Rattle.ipc_slots.proofs.PhaseFacts.{Says, no_sender_yet, passes_not, passes_where_live, phase_says, taken_is, taken_running}
-use Rattle.ipc_slots.proofs.StandingSteps.{own}
+use Rattle.ipc_threads.specs.Standings.{IsStanding, partner_by, standing_of, phase_of}
+use Rattle.ipc_threads.specs.declared.slot.Phase.{Phase}
+use Rattle.ipc_threads.specs.declared.slot.Phase.TheVariants.{Sending, Passing, Receiving, Taking}
+use Rattle.ipc_threads.specs.declared.slot.Standing.{Standing}
+use Rattle.ipc_threads.proofs.PhaseFacts.{Says, no_sender_yet, passes_not, passes_where_live, phase_says, taken_is, taken_running}
+use Rattle.ipc_threads.proofs.StandingSteps.{own}
 
 -- an option whose value is told only where a test holds
 told_if : {X Y : Type 0} (o : Option X) (test : X → Bool) (f : X → Y) → ((x : X) → o ≡ Some x → test x ≡ false) → option_and_then (λ x. if test x then Some (f x) else None) o ≡ None

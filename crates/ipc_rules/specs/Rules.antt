@@ -7,7 +7,7 @@ use Rattle.ipc_words.specs.MsgTag.{propagates}
 use Rattle.ipc_words.specs.IpcError.{failure_code}
 use Rattle.ipc_words.specs.declared.ipc_error.Phase.TheVariants.{Send, Receive}
 use Rattle.ipc_words.specs.declared.ipc_error.ErrorKind.TheVariants as kind
-use Rattle.ipc_slots.specs.Steps.{taken}
+use Rattle.ipc_threads.specs.Steps.{taken}
 use Rattle.ipc_history.specs.CallParts.{CallParts}
 use Rattle.ipc_history.specs.Calls.{caller_of, to_of}
 use Rattle.ipc_history.specs.Phases.{open_call, is_receiving}
@@ -20,9 +20,9 @@ use Rattle.ipc_history.specs.declared.entry.Output.TheVariants.{Began, Turned, E
 use Rattle.ipc_laws.specs.Laws.{timeout_at}
 use Rattle.ipc_rules.specs.declared.rules.Rule.{Rule}
 use Rattle.ipc_rules.specs.declared.rules.Rule.TheVariants.{Ends, Fails, Expires, Copies}
-use Rattle.ipc_slots.specs.declared.slot.Phase.{Phase}
-use Rattle.ipc_slots.specs.declared.slot.Phase.TheVariants.{Sending, Passing, Receiving, Taking}
-use Rattle.ipc_slots.specs.declared.slot.Standing.{Standing}
+use Rattle.ipc_threads.specs.declared.slot.Phase.{Phase}
+use Rattle.ipc_threads.specs.declared.slot.Phase.TheVariants.{Sending, Passing, Receiving, Taking}
+use Rattle.ipc_threads.specs.declared.slot.Standing.{Standing}
 
 -- the rule's output for a call
 abbrev pub rule_of : Rule → List Entry → ℕ → Option Output

@@ -4,7 +4,7 @@ ghost use Rattle.ipc_history.specs.Legal.{is_free, may_open, may_move, is_admiss
 
 use crate::transfers::{block_of, next_moving};
 use ipc_history::Input;
-use ipc_slots::Slots;
+use ipc_threads::Slots;
 use ipc_words::limits::{LAST_MOMENT, MAX_SPACE, MAX_THREAD_NUMBER};
 use ipc_words::{MaskedControl, ThreadId};
 

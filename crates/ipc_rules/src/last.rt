@@ -5,12 +5,12 @@ ghost use Rattle.ipc_history.specs.NextOutput.{stop, stop_after, turn_after};
 ghost use Rattle.ipc_history.specs.declared.entry.Entry.TheVariants.{Given, Written};
 ghost use Rattle.ipc_history.specs.declared.entry.Input.TheVariants.{Exreg};
 ghost use Rattle.ipc_history.specs.declared.entry.Output.TheVariants.{Began};
-ghost use Rattle.ipc_slots.specs.Last.{last_output};
-ghost use Rattle.ipc_slots.specs.Standings.{IsStanding};
+ghost use Rattle.ipc_threads.specs.Last.{last_output};
+ghost use Rattle.ipc_threads.specs.Standings.{IsStanding};
 ghost use Rattle.ipc_rules.specs.Rules.{stop_by, turn_by, turn_of};
 
 use ipc_history::Output;
-use ipc_slots::{Last, Phase, Slots, Standing};
+use ipc_threads::{Last, Phase, Slots, Standing};
 use ipc_words::{IpcError, MaskedControl, Phase as FailedPhase, ThreadId};
 
 /// What ExchangeRegisters stops of a call: by S its send phase, by R its receive phase.

@@ -2,11 +2,11 @@ ghost use Rattle.std.specs.Prelude.{◌≡◌, IfSome, IsTrue, None, option_copi
 ghost use Rattle.ipc_history.specs.Matching.{match_of};
 ghost use Rattle.ipc_history.specs.Threads.{is_live};
 ghost use Rattle.ipc_laws.specs.Exchange.{Reaches};
-ghost use Rattle.ipc_slots.specs.Standings.{IsStanding, standing_of};
+ghost use Rattle.ipc_threads.specs.Standings.{IsStanding, standing_of};
 ghost use Rattle.ipc_rules.specs.Rules.{may_meet_by, awaits_by, sends_words_by};
 
 use ipc_history::Call;
-use ipc_slots::{Phase, Slots, Standing};
+use ipc_threads::{Phase, Slots, Standing};
 use ipc_words::ThreadId;
 
 /// Whether a call waits to send to another thread.

@@ -2,7 +2,7 @@ ghost use Rattle.std.specs.Prelude.{◌≡◌};
 ghost use Rattle.ipc_history.specs.ExchangeRegisters.{in_receive_phase, in_send_phase};
 ghost use Rattle.ipc_rules.specs.Rules.{in_receive_by, in_send_by};
 
-use ipc_slots::{Phase, Slots, Standing};
+use ipc_threads::{Phase, Slots, Standing};
 use ipc_words::ThreadId;
 
 /// Whether a call is in a send phase: it waits, or its transfer goes on.

@@ -3,9 +3,9 @@ ghost use Rattle.std.specs.Bool.{OnTrue, OnFalse};
 ghost use Rattle.ipc_history.specs.Calls.{call_at};
 ghost use Rattle.ipc_history.specs.Legal.{Follows};
 ghost use Rattle.ipc_history.specs.NextOutput.{meeting, meeting_of, next_output};
-ghost use Rattle.ipc_slots.specs.Slots.{slot_at};
-ghost use Rattle.ipc_slots.specs.Standings.{IsStanding};
-ghost use Rattle.ipc_slots.specs.Steps.{standing_in};
+ghost use Rattle.ipc_threads.specs.Slots.{slot_at};
+ghost use Rattle.ipc_threads.specs.Standings.{IsStanding};
+ghost use Rattle.ipc_threads.specs.Steps.{standing_in};
 ghost use Rattle.ipc_rules.specs.Least.{better_of};
 ghost use Rattle.ipc_rules.specs.Outputs.{least_of, waiting_output};
 
@@ -14,7 +14,7 @@ use crate::last::after_last;
 use crate::meetings::met_by;
 use crate::rules::{Rule, earlier, first_timeout};
 use ipc_history::{Call, Entries, Entry, Output};
-use ipc_slots::{Slots, Standing};
+use ipc_threads::{Slots, Standing};
 use ipc_words::ThreadId;
 use std::marker::Model;
 
@@ -28,7 +28,7 @@ pub struct ReadSlots<'a> {
 
 impl<'a> Model for ReadSlots<'a> {
     ghost use Rattle.std.specs.Prelude.{◌≡◌};
-    ghost use Rattle.ipc_slots.specs.PastSlots.{PastSlots};
+    ghost use Rattle.ipc_threads.specs.PastSlots.{PastSlots};
 
     ghost Value = { PastSlots };
 

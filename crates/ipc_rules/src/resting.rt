@@ -2,12 +2,12 @@ ghost use Rattle.std.specs.Prelude.{◌≡◌, IsTrue, true, false};
 ghost use Rattle.ipc_history.specs.Matching.{shown_sender};
 ghost use Rattle.ipc_history.specs.Threads.{is_live};
 ghost use Rattle.ipc_laws.specs.Exchange.{Waits, lets_in};
-ghost use Rattle.ipc_slots.specs.Standings.{IsStanding};
+ghost use Rattle.ipc_threads.specs.Standings.{IsStanding};
 ghost use Rattle.ipc_rules.specs.Resting.{has_no_time, is_patient, lets_in_by, may_wait, takes};
 
 use crate::meetings::awaits;
 use ipc_history::Call;
-use ipc_slots::{Slots, Standing};
+use ipc_threads::{Slots, Standing};
 use ipc_words::{Period, ThreadId};
 
 /// Whether a period is over as soon as it begins.

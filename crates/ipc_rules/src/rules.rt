@@ -3,16 +3,16 @@ ghost use Rattle.ipc_history.specs.Words.{first_some};
 ghost use Rattle.ipc_history.specs.Calls.{numbers};
 ghost use Rattle.ipc_history.specs.NextOutput.{timeout_of};
 ghost use Rattle.ipc_history.specs.Timing.{is_past};
-ghost use Rattle.ipc_slots.specs.Slots.{slot_at};
-ghost use Rattle.ipc_slots.specs.Standings.{IsStanding};
-ghost use Rattle.ipc_slots.specs.Steps.{standing_in};
+ghost use Rattle.ipc_threads.specs.Slots.{slot_at};
+ghost use Rattle.ipc_threads.specs.Standings.{IsStanding};
+ghost use Rattle.ipc_threads.specs.Steps.{standing_in};
 ghost use Rattle.ipc_rules.specs.Least.{better_of, earlier};
 ghost use Rattle.ipc_rules.specs.Outputs.{least_of};
 ghost use Rattle.ipc_rules.specs.Rules.{concerns, rule_of, abort_by, timeout_by, end_by};
 ghost use Rattle.ipc_rules.specs.Rules.{failure_by, failure_code_by, IsSmall};
 
 use ipc_history::Output;
-use ipc_slots::{Phase, Slots, Standing};
+use ipc_threads::{Phase, Slots, Standing};
 use ipc_words::{IpcError, Period, Phase as FailedPhase, ThreadId};
 
 /// A rule of the next output that asks the open calls alone.

@@ -6,7 +6,7 @@ ghost use Rattle.ipc_rules.specs.Rules.{first_number};
 
 use crate::rules::Rule;
 use ipc_history::Output;
-use ipc_slots::Slots;
+use ipc_threads::Slots;
 use ipc_words::limits::BLOCK_BYTES;
 
 /// The call that an output names first.

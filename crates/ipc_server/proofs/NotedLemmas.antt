@@ -9,7 +9,7 @@ use Rattle.ipc_connection.specs.declared.replying.Told.{Told}
 use Rattle.ipc_connection.specs.declared.stage.Stage.{Stage}
 use Rattle.ipc_connection.specs.declared.stage.Stage.TheVariants.{Greeting}
 use Rattle.ipc_lock.specs.declared.ends.PostEnd.{PostEnd}
-use Rattle.ipc_ports.specs.Ports.{Gives, input_of}
+use Rattle.ipc_base.specs.Ports.{Gives, input_of}
 use Rattle.ipc_server.proofs.DoingLemmas.{same_home}
 use Rattle.ipc_server.specs.Doing.{AsksBy, told_at, unseated}
 use Rattle.ipc_session.specs.Keeping.{call_of}

@@ -2,7 +2,7 @@
 use Rattle.std.specs.Prelude.{ℕ, Some}
 use Rattle.ipc_lock.specs.Above.{EndsSome, EndsWorkSome, LaysSome, TakesOutSome}
 use Rattle.ipc_lock.specs.Places.{OnlyWrites}
-use Rattle.ipc_pen.specs.Pens.{Page}
+use Rattle.ipc_connection.specs.Pens.{Page}
 
 -- it was written with a pen, which was given nothing, and the pen was laid down in the box of its
 -- connection

@@ -8,9 +8,8 @@ ghost use Rattle.ipc_session.specs.declared.deed.Deed.TheVariants as deed;
 
 use crate::server::Server;
 use ipc_base::Past;
-use ipc_connection::{Request, Told};
+use ipc_connection::{PenPort, Request, Told};
 use ipc_lock::{Entered, PostEnd};
-use ipc_pen::PenPort;
 use ipc_session::Deed;
 use std::rt::Clock;
 use std::sync::Wait;

@@ -1,9 +1,9 @@
 use crate::shared_blocks::SharedBlocks;
+use ipc_connection::PenPort;
 use ipc_core::{Answer, Command};
 use ipc_host::ServerClock;
 use ipc_items::FreeBlocks;
 use ipc_lock::SharedKernel;
-use ipc_pen::PenPort;
 use std::alloc::Global;
 use std::rt::Clock;
 use std::sync::ledger::Ledger;

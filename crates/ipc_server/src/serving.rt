@@ -1,7 +1,7 @@
 //! The two workers of a connection.
 ghost use Rattle.std.specs.Prelude.{◌≡◌, [], None, false, map, true};
 ghost use Rattle.ipc_lock.specs.Above.{EndsWorkSome};
-ghost use Rattle.ipc_pen.specs.Pens.{BeginsEmpty};
+ghost use Rattle.ipc_connection.specs.Pens.{BeginsEmpty};
 ghost use Rattle.ipc_server.specs.Doing.{ReadsBy, ServesOne, unseated};
 ghost use Rattle.ipc_server.specs.Writing.{EndsWriting, TakesTurn, WritesAndLays};
 ghost use Rattle.ipc_session.specs.Keeping.{call_of};
@@ -10,11 +10,10 @@ ghost use Rattle.ipc_session.specs.Sessions.{AsksFor};
 use crate::caller::Caller;
 use crate::noted::NotedEnd;
 use crate::server::Server;
-use ipc_base::Past;
+use ipc_base::{Past, PortRead};
+use ipc_connection::{Patience, PenPort};
 use ipc_host::Notice;
 use ipc_lock::{Loaded, PostEnd, TakeEnd};
-use ipc_pen::{Patience, PenPort};
-use ipc_ports::PortRead;
 use ipc_session::{Deed, Gate, read_loop};
 use ipc_words::ThreadId;
 use std::rt::Clock;

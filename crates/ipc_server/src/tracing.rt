@@ -2,13 +2,12 @@
 use crate::host::Host;
 use crate::server::Server;
 use crate::trace_fault::TraceFault;
+use ipc_base::PortWrite;
 use ipc_core::MAX_ENTRIES;
 use ipc_history::Entry;
 use ipc_host::SocketPort;
 use ipc_lock::HeldPart;
-use ipc_part::{BaseNumbers, put_part};
-use ipc_ports::PortWrite;
-use ipc_trace::{PutFault, TraceWriter};
+use ipc_trace::{BaseNumbers, PutFault, TraceWriter, put_part};
 use std::alloc::Global;
 use std::rt::Clock;
 use std::sync::Wait;

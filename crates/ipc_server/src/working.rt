@@ -1,7 +1,7 @@
 //! The work that no connection asks for: the time is told, and transfers go on.
 use crate::server::Server;
+use ipc_connection::PenPort;
 use ipc_core::{Advance, Answer, Command};
-use ipc_pen::PenPort;
 use ipc_session::{Beat, Gate, WorkPort};
 use std::rt::Clock;
 use std::sync::Wait;

@@ -7,7 +7,7 @@ use Rattle.std.specs.Io.KnownBytes.{Appends}
 use Rattle.ipc_frame.specs.Frames.{spelling}
 use Rattle.ipc_frame.specs.Replies.{ipcr_of}
 use Rattle.ipc_frame.specs.declared.frame.Frame.{Frame}
-use Rattle.ipc_ports.specs.Ports.{AppendsPart}
+use Rattle.ipc_base.specs.Ports.{AppendsPart}
 use Rattle.ipc_session.specs.Taking.{TakeCall, Gave, Breaks, Encodes, TellsTaken, Writes, Wrote, given_by, text_of}
 use Rattle.ipc_session.specs.declared.next.Next.{Next}
 use Rattle.ipc_session.specs.declared.next.Next.TheVariants as next

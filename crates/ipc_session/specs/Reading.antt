@@ -1,7 +1,7 @@
 -- What a reader did with the bytes that it read, and how it ends by them.
 use Rattle.std.specs.Prelude.{◌≡◌, ◌<◌, ◌⊎◌, ℕ, List, [], ◌∷◌, ◌++◌, map, Option, Result, Ok, Err}
 use Rattle.std.specs.Io.KnownBytes.{IsAtEnd}
-use Rattle.ipc_ports.specs.Ports.{Gives, Input}
+use Rattle.ipc_base.specs.Ports.{Gives, Input}
 use Rattle.ipc_frame.specs.Stream.{End, Rest, Stopped, Stream, put_front, stream_of}
 use Rattle.ipc_frame.specs.declared.fault.FrameFault.{FrameFault}
 use Rattle.ipc_frame.specs.declared.fault.FrameFault.TheVariants.{Unfinished}

@@ -1,6 +1,6 @@
 ghost use Rattle.std.specs.Prelude.{◌≡◌, ◌≢◌, ◌<◌, ℕ, List, [], ◌∷◌, ◌++◌, Option, length, true};
 ghost use Rattle.std.specs.Io.KnownBytes.{IsAtEnd};
-ghost use Rattle.ipc_ports.specs.Ports.{Gives, input_of};
+ghost use Rattle.ipc_base.specs.Ports.{Gives, input_of};
 ghost use Rattle.ipc_connection.specs.Taking.{Holds};
 ghost use Rattle.ipc_connection.specs.KernelCalls.{Breaks};
 ghost use Rattle.ipc_session.specs.Reading.{EndsSo, HasServed, Log, ReadsOn, ServesPiece};
@@ -12,8 +12,8 @@ use crate::ending::Ending;
 use crate::gate::Gate;
 use crate::serving::serve;
 use crate::turned::Turned;
+use ipc_base::PortRead;
 use ipc_connection::{Blocks, CallDecoder, Stage};
-use ipc_ports::PortRead;
 use std::alloc::Global;
 
 /// Reads frames and serves each by the rules of a connection, one after the other, and then tells

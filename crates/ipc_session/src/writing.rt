@@ -1,6 +1,6 @@
 ghost use Rattle.std.specs.Prelude.{◌≡◌, ◌≢◌, ◌<◌, [], true, false, length, Some, OnOk, OnErr, IfOk};
 ghost use Rattle.std.specs.Io.KnownBytes.{Appends};
-ghost use Rattle.ipc_ports.specs.Ports.{AppendsPart};
+ghost use Rattle.ipc_base.specs.Ports.{AppendsPart};
 ghost use Rattle.ipc_session.specs.Taking.{Encodes, Writes, Wrote, broken_by, is_whole_at};
 
 use crate::buffers::{LONG, SHORT};
@@ -8,8 +8,8 @@ use crate::ending::WriteEnding;
 use crate::gate::Gate;
 use crate::next::Next;
 use crate::taking::AnswerPort;
+use ipc_base::{PortFault, PortWrite, write_all};
 use ipc_frame::Encoder;
-use ipc_ports::{PortFault, PortWrite, write_all};
 
 /// From so many bytes of strings on the frame of an outcome is a long one.
 const LONG_STRINGS: u64 = 512;

@@ -3,7 +3,7 @@ use Rattle.std.proofs.Common.{◌≡◌, ◌≢◌, ℕ, zero, suc, ◌<◌, con
 use Rattle.std.proofs.lemmas.List.Elements.{All-head, All-tail}
 use borrow.Author.Tests.{ne_eqb}
 use Rattle.ipc_shell.specs.ScriptLines.{lines_of, before_first}
-use Rattle.ipc_ports.specs.Lines.{IsOneLine}
+use Rattle.ipc_base.specs.Lines.{IsOneLine}
 
 -- a byte that is no newline is before the first line of the others
 lines_more : (x : ℕ) (bytes : List ℕ) → x ≢ 10 → lines_of (x ∷ bytes) ≡ before_first x (lines_of bytes)

@@ -4,7 +4,7 @@ use Rattle.std.specs.Io.KnownBytes.{Keeps, Consumes, IsAtEnd, prepend_known}
 use Rattle.std.proofs.KnownBytes.{Consumes-trans, Consumes-kept}
 use Rattle.std.proofs.lemmas.List.Elements.{All-append}
 use Rattle.ipc_shell.specs.ScriptLines.{lines_of, longest_line}
-use Rattle.ipc_ports.specs.Lines.{IsOneLine}
+use Rattle.ipc_base.specs.Lines.{IsOneLine}
 use Rattle.ipc_shell.specs.Reading.{Adds, ReadsPiece, ReadsLine}
 use Rattle.ipc_shell.specs.declared.lines.NextLine.TheVariants as next
 use Rattle.ipc_shell.specs.declared.lines.Piece.{Piece}

@@ -1,6 +1,6 @@
 -- A part of a text is a front of it.
 use Rattle.std.proofs.Common.{ℕ, List, Option, Result, Ok, Err, OnErr, take, drop, sym, take-append-drop}
-use Rattle.ipc_ports.specs.Ports.{AppendsPart}
+use Rattle.ipc_base.specs.Ports.{AppendsPart}
 use Rattle.ipc_shell.specs.Putting.{AppendsFront}
 
 pub on_err : {X E : Type 0} {P : Type 0} (result : Result X E) → P → OnErr result P

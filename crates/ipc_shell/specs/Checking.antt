@@ -8,7 +8,7 @@ use Rattle.ipc_history.specs.declared.entry.Entry.{Entry}
 use Rattle.ipc_history.specs.declared.entry.Entry.TheVariants.{Written}
 use Rattle.ipc_history.specs.declared.entry.Output.{Output}
 use Rattle.ipc_lines.specs.Lines.{entry_text}
-use Rattle.ipc_ports.specs.Lines.{IsOneLine}
+use Rattle.ipc_base.specs.Lines.{IsOneLine}
 use Rattle.ipc_check.specs.Faults.{IsFirstFault}
 use Rattle.ipc_check.specs.declared.checker.Verdict.{Verdict}
 use Rattle.ipc_check.specs.declared.checker.Verdict.TheVariants.{Yes, No}

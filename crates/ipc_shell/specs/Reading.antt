@@ -2,7 +2,7 @@
 use Rattle.std.specs.Prelude.{◌≡◌, ℕ, ◌<◌, ◌≤◌, [], ◌∷◌, ◌++◌}
 use Rattle.std.specs.Prelude.{List, Option, length, take, IfSome}
 use Rattle.std.specs.Option.{IsSomeAnd}
-use Rattle.ipc_ports.specs.Lines.{IsOneLine}
+use Rattle.ipc_base.specs.Lines.{IsOneLine}
 use Rattle.std.specs.Io.KnownBytes.{Consumes, IsAtEnd}
 use Rattle.ipc_shell.specs.ScriptLines.{lines_of, longest_line}
 use Rattle.ipc_shell.specs.declared.lines.NextLine.{NextLine}

@@ -6,10 +6,10 @@ ghost use Rattle.ipc_shell.specs.Checking.{ChecksTrace, PrintsVerdict, expected_
 
 use crate::exit::Exit;
 use crate::output::put;
+use ipc_base::{PortRead, PortWrite};
 use ipc_check::{Checker, Verdict};
 use ipc_history::{Entry, Output};
 use ipc_lines::entry_line;
-use ipc_ports::{PortRead, PortWrite};
 use ipc_trace::{EntrySink, TraceEnd, TraceVersion, read_entries};
 use std::alloc::{AllocError, Global};
 

@@ -1,9 +1,9 @@
 ghost use Rattle.std.specs.Prelude.{◌≡◌, ◌≢◌, ◌≤◌, ◌<◌, length};
 ghost use Rattle.std.specs.Io.KnownBytes.{prepend_known};
-ghost use Rattle.ipc_ports.specs.Ports.{most_left};
+ghost use Rattle.ipc_base.specs.Ports.{most_left};
 ghost use Rattle.ipc_shell.specs.Reading.{ReadsLine, ReadsPiece, Adds};
 
-use ipc_ports::{PieceBuffer, PortRead, line_end};
+use ipc_base::{PieceBuffer, PortRead, line_end};
 use ipc_words::limits::MAX_LINE_BYTES;
 
 /// What was read next.

@@ -3,8 +3,8 @@ ghost use Rattle.ipc_shell.specs.Migrating.{MigratesTrace, TellsTorn, WritesMigr
 
 use crate::exit::Exit;
 use crate::output::put;
+use ipc_base::{PortRead, PortWrite};
 use ipc_history::Entry;
-use ipc_ports::{PortRead, PortWrite};
 use ipc_trace::{PutFault, TraceEnd, TraceWriter, put_trace, read_trace};
 use std::alloc::Global;
 

@@ -2,7 +2,7 @@ ghost use Rattle.std.specs.Prelude.{◌≡◌, ◌<◌, OnOk, OnErr, true};
 ghost use Rattle.std.specs.Io.KnownBytes.{Appends};
 ghost use Rattle.ipc_shell.specs.Putting.{AppendsFront};
 
-use ipc_ports::{PortFault, PortWrite, write_all};
+use ipc_base::{PortFault, PortWrite, write_all};
 
 /// Writes a text and flushes.
 ///

@@ -11,8 +11,8 @@ use crate::exit::Exit;
 use crate::lines::{NextLine, next_line};
 use crate::output::put;
 use answering::answer;
+use ipc_base::{PieceBuffer, PortRead, PortWrite};
 use ipc_core::{Kernel, Limits, Refusal};
-use ipc_ports::{PieceBuffer, PortRead, PortWrite};
 use l4sh_commands::{ScriptCommand, read_command};
 use std::alloc::{AllocError, Global};
 

@@ -17,9 +17,9 @@ use crate::exit::Exit;
 use crate::lines::{NextLine, next_line};
 use crate::output::put;
 use commands::{WireCommand, read_wire_command};
+use ipc_base::{PieceBuffer, PortRead, PortWrite};
 use ipc_core::Limits;
 use ipc_exchange::{ConnectRefused, Exchange, Progress};
-use ipc_ports::{PieceBuffer, PortRead, PortWrite};
 use std::alloc::{AllocError, Global};
 
 /// How many bytes of a connection are put out at once.

@@ -2,3 +2,14 @@ pub mod Ids
 pub mod Refusal
 pub mod Restoring
 pub mod Threads
+pub mod Slot
+pub mod Standings
+pub mod Steps
+pub mod Last
+pub mod Slots
+pub mod PastSlots
+pub mod Pledges
+pub mod Changes
+pub mod Table
+pub mod Making
+pub mod Passing

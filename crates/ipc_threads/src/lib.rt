@@ -6,8 +6,23 @@
 //! `MAX_SPACE`, from its open to its close.
 #![tactic(auto)]
 
+mod answers;
+mod changes;
+mod kept;
+mod last;
+mod pair;
+mod pledges;
 mod refusal;
+mod slot;
+mod slot_table;
+mod slots;
 mod table;
 
+pub use changes::{Change, Changes};
+pub use kept::KeptSlots;
+pub use last::Last;
+pub use pair::Pair;
 pub use refusal::ThreadRefusal;
+pub use slot::{Live, Phase, Sender, Standing};
+pub use slots::Slots;
 pub use table::{Slot, ThreadTable};

@@ -13,7 +13,7 @@ use Rattle.ipc_lines.specs.declared.reading.LineFault.{LineFault}
 use Rattle.ipc_lines.specs.declared.reading.LineFault.TheVariants as spelling
 use Rattle.ipc_trace.specs.Reading.{kept, TakesLine}
 use Rattle.ipc_trace.specs.Taking.{EndsSo, KeepsBadLine, ReadsLine, TakesEntry}
-use Rattle.ipc_ports.specs.Lines.{IsOneLine}
+use Rattle.ipc_base.specs.Lines.{IsOneLine}
 use Rattle.ipc_trace.specs.Traces.{Begins, HasUnknownVersion, IsBadBehind, IsNoEntry, IsRead, ended, versioned_text}
 use Rattle.ipc_trace.specs.Versions.{header_lines, may_hold, tells_version, version_line, version_so_far}
 use Rattle.ipc_trace.specs.declared.fault.LineFault.TheVariants as fault

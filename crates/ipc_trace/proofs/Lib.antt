@@ -3,3 +3,12 @@ pub mod Stages
 pub mod Ends
 pub mod Unknown
 pub mod Puts
+pub mod Standing
+pub mod Numbers
+pub mod Following
+pub mod ReadBack
+pub mod Texts
+pub mod PartEnds
+pub mod OneText
+pub mod Readings
+pub mod Written

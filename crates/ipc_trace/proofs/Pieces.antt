@@ -6,7 +6,7 @@ use Rattle.std.proofs.Math.Seq.{take-append-add}
 use Rattle.std.specs.Io.KnownBytes.{Keeps, Consumes, IsAtEnd, prepend_known}
 use Rattle.std.proofs.KnownBytes.{Consumes-trans, Consumes-nil}
 use Rattle.ipc_words.specs.Limits.{max_line_bytes}
-use Rattle.ipc_ports.specs.Lines.{IsOneLine}
+use Rattle.ipc_base.specs.Lines.{IsOneLine}
 use Rattle.ipc_trace.specs.Traces.{ended}
 use Rattle.ipc_trace.specs.Reading.{kept, Adds, TakesPiece, TakesLine}
 use Rattle.ipc_trace.specs.declared.lines.LineEnd.{LineEnd}

@@ -9,7 +9,7 @@ use Rattle.ipc_history.specs.declared.entry.Input.TheVariants.{At, Opened, Calle
 use Rattle.ipc_history.specs.declared.entry.Output.TheVariants.{Began, Turned, Ended, Overflowed, Aborted, Failed}
 use Rattle.ipc_lines.specs.Laws.{LinesHoldNoNewline}
 use Rattle.ipc_lines.specs.Lines.{entry_text}
-use Rattle.ipc_ports.specs.Lines.{IsOneLine}
+use Rattle.ipc_base.specs.Lines.{IsOneLine}
 use Rattle.ipc_trace.specs.Traces.{HasUnknownVersion, IsBadBehind, IsRead, MayEndAtUnknown, ended, trace_text, versioned_text}
 use Rattle.ipc_trace.specs.Versions.{tells_version, version_line}
 use Rattle.ipc_trace.specs.declared.fault.TraceEnd.{TraceEnd}

@@ -4,3 +4,8 @@ pub mod Traces
 pub mod Putting
 pub mod Reading
 pub mod Taking
+pub mod Lines
+pub mod Parts
+pub mod Steps
+pub mod PartReading
+pub mod PartPutting

@@ -1,7 +1,7 @@
 -- What putting a line leaves written.
 use Rattle.std.specs.Prelude.{◌≡◌, ◌≢◌, ℕ, ◌<◌, List, Bool, true, false, Option, Result, IsErrOf, ◌⊎◌, ◌++◌}
 use Rattle.std.specs.Io.KnownBytes.{Appends, Keeps}
-use Rattle.ipc_ports.specs.Ports.{AppendsPart}
+use Rattle.ipc_base.specs.Ports.{AppendsPart}
 use Rattle.ipc_trace.specs.declared.fault.PutFault.{PutFault}
 use Rattle.ipc_trace.specs.declared.fault.PutFault.TheVariants.{Stopped, NoMemory}
 

@@ -2,7 +2,7 @@
 use Rattle.std.specs.Prelude.{◌≡◌, ℕ, ◌+◌, List, [], ◌∷◌, ◌++◌, Option, Some, None, length, take}
 use Rattle.std.specs.Io.KnownBytes.{Consumes, IsAtEnd}
 use Rattle.ipc_words.specs.Limits.{max_line_bytes}
-use Rattle.ipc_ports.specs.Lines.{IsOneLine}
+use Rattle.ipc_base.specs.Lines.{IsOneLine}
 use Rattle.ipc_trace.specs.Traces.{ended}
 use Rattle.ipc_trace.specs.declared.lines.LineEnd.{LineEnd}
 use Rattle.ipc_trace.specs.declared.lines.LineEnd.TheVariants.{Newline, Input, Failed, NoMemory}

@@ -5,7 +5,7 @@ use Rattle.std.specs.Io.KnownBytes.{Consumes, IsAtEnd}
 use Rattle.ipc_history.specs.declared.entry.Entry.{Entry}
 use Rattle.ipc_lines.specs.Lines.{entry_text}
 use Rattle.ipc_lines.specs.Reading.{IsReadable}
-use Rattle.ipc_ports.specs.Lines.{IsOneLine}
+use Rattle.ipc_base.specs.Lines.{IsOneLine}
 use Rattle.ipc_trace.specs.Versions.{MayHold, header_lines, header_text, may_hold, tells_version, version_line}
 use Rattle.ipc_trace.specs.declared.fault.TraceEnd.{TraceEnd}
 use Rattle.ipc_trace.specs.declared.fault.TraceEnd.TheVariants.{Whole, DeviceFailed, Torn, BadLine, UnknownVersion, NoMemory}

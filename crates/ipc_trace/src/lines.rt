@@ -3,10 +3,10 @@ ghost use Rattle.std.specs.Prelude.{◌≡◌, ◌≢◌, ◌≤◌, ◌<◌, �
 ghost use Rattle.std.specs.Prelude.{Some, None, IsNone, OnOk};
 ghost use Rattle.std.specs.Io.KnownBytes.{prepend_known};
 ghost use Rattle.ipc_words.specs.Limits.{max_line_bytes};
-ghost use Rattle.ipc_ports.specs.Ports.{most_left};
+ghost use Rattle.ipc_base.specs.Ports.{most_left};
 ghost use Rattle.ipc_trace.specs.Reading.{Adds, TakesLine, TakesPiece, kept};
 
-use ipc_ports::{PieceBuffer, PortRead, line_end};
+use ipc_base::{PieceBuffer, PortRead, line_end};
 use ipc_words::limits::MAX_LINE_BYTES;
 use std::alloc::AllocError;
 

@@ -8,9 +8,9 @@ use crate::fault::{LineFault, TraceEnd};
 use crate::lines::{LineEnd, next_line};
 use crate::sink::EntrySink;
 use crate::version::{FirstLine, TraceVersion, first_line};
+use ipc_base::{PieceBuffer, PortRead};
 use ipc_history::Entry;
 use ipc_lines::{lines_are_within_the_limit, lines_hold_no_newline, read_entry};
-use ipc_ports::{PieceBuffer, PortRead};
 use std::alloc::Global;
 use std::marker::Model;
 

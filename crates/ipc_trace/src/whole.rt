@@ -6,8 +6,8 @@ ghost use Rattle.ipc_trace.specs.declared.version.TraceVersion.TheVariants.{Two}
 
 use crate::fault::PutFault;
 use crate::writing::TraceWriter;
+use ipc_base::PortWrite;
 use ipc_history::Entry;
-use ipc_ports::PortWrite;
 
 /// Writes a whole trace of version 2: the line of the version and those of the entries, and makes
 /// the device hand them on.

@@ -7,9 +7,9 @@ ghost use Rattle.ipc_trace.specs.Traces.{ended};
 ghost use Rattle.ipc_trace.specs.Versions.{version_line};
 
 use crate::fault::PutFault;
+use ipc_base::{PortWrite, write_all};
 use ipc_history::Entry;
 use ipc_lines::entry_line;
-use ipc_ports::{PortWrite, write_all};
 use std::alloc::{AllocError, Global};
 use std::marker::Model;
 

@@ -18,11 +18,11 @@ use Rattle.ipc_laws.proofs.Exchanging.{exchanges}
 use Rattle.ipc_laws.proofs.ExchangeParts.{exchange_caller}
 use Rattle.ipc_laws.proofs.Giving.{names_open}
 use Rattle.ipc_laws.proofs.Tests.{both}
-use Rattle.ipc_slots.specs.Changes.{HaveExchanged}
-use Rattle.ipc_slots.specs.Slots.{slot_at}
-use Rattle.ipc_slots.specs.Steps.{standing_in}
-use Rattle.ipc_slots.specs.Slot.{Slot}
-use Rattle.ipc_slots.specs.declared.slot.Standing.{Standing}
+use Rattle.ipc_threads.specs.Changes.{HaveExchanged}
+use Rattle.ipc_threads.specs.Slots.{slot_at}
+use Rattle.ipc_threads.specs.Steps.{standing_in}
+use Rattle.ipc_threads.specs.Slot.{Slot}
+use Rattle.ipc_threads.specs.declared.slot.Standing.{Standing}
 use Rattle.ipc_waits.specs.Candidates.{FollowsPlace}
 use Rattle.ipc_waits.specs.Finding.{CoversAt, finds, is_among}
 use Rattle.ipc_waits.specs.Keys.{AreWaits, HasAt, HaveAt, IsSameElsewhere, Mirrors, SameElsewhere, is_of}

@@ -4,8 +4,8 @@ use Rattle.std.specs.List.{list_any}
 use Rattle.ipc_words.specs.Limits.{last_moment}
 use Rattle.ipc_history.specs.Legal.{Legal}
 use Rattle.ipc_history.specs.declared.entry.Entry.{Entry}
-use Rattle.ipc_slots.specs.Slots.{Stands}
-use Rattle.ipc_slots.specs.declared.kept.KeptSlots.{KeptSlots}
+use Rattle.ipc_threads.specs.Slots.{Stands}
+use Rattle.ipc_threads.specs.declared.kept.KeptSlots.{KeptSlots}
 use Rattle.ipc_waits.specs.FirstDue.{IsLeastDue}
 use Rattle.ipc_waits.specs.Keys.{Mirrors, due_under}
 use Rattle.ipc_waits.specs.Queues.{is_until}

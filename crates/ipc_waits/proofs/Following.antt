@@ -10,13 +10,13 @@ use Rattle.ipc_history.specs.declared.entry.Entry.{Entry}
 use Rattle.ipc_laws.proofs.Growth.{caller_of_kept, open_is_called}
 use Rattle.ipc_waits.specs.Finding.{CoversAt, is_among, touched as touched_by}
 use Rattle.ipc_waits.proofs.AtPlaces.{entry_covers_at}
-use Rattle.ipc_slots.specs.Changes.{HasNamed, HaveChanged, changes_at, names_place}
-use Rattle.ipc_slots.specs.Slots.{Stands, slot_at}
-use Rattle.ipc_slots.specs.Steps.{standing_in}
-use Rattle.ipc_slots.specs.declared.changes.Change.{Change}
-use Rattle.ipc_slots.specs.declared.changes.Changes.{Changes}
-use Rattle.ipc_slots.specs.Slot.{Slot}
-use Rattle.ipc_slots.specs.declared.slot.Standing.{Standing}
+use Rattle.ipc_threads.specs.Changes.{HasNamed, HaveChanged, changes_at, names_place}
+use Rattle.ipc_threads.specs.Slots.{Stands, slot_at}
+use Rattle.ipc_threads.specs.Steps.{standing_in}
+use Rattle.ipc_threads.specs.declared.changes.Change.{Change}
+use Rattle.ipc_threads.specs.declared.changes.Changes.{Changes}
+use Rattle.ipc_threads.specs.Slot.{Slot}
+use Rattle.ipc_threads.specs.declared.slot.Standing.{Standing}
 use Rattle.ipc_waits.specs.Following.{FollowsChange}
 use Rattle.ipc_waits.specs.Keys.{AreWaits, HasAt, HaveAt, IsSameElsewhere, SameElsewhere, due_under, is_of, sends_under, watches_under}
 use Rattle.ipc_waits.specs.Queues.{is_in}
@@ -26,7 +26,7 @@ use Rattle.ipc_waits.specs.declared.waiting.Waiting.{Waiting}
 use Rattle.ipc_waits.specs.declared.waits.Waits.{Waits}
 use Rattle.ipc_waits.specs.Candidates.{FollowsPlace}
 use Rattle.ipc_laws.proofs.Settling.{legal_push}
-use Rattle.ipc_slots.proofs.Holders.{slot_of_call}
+use Rattle.ipc_threads.proofs.Holders.{slot_of_call}
 use Rattle.ipc_waits.proofs.Numbers.{eqb_sym}
 
 -- the open call of each place

@@ -1,9 +1,9 @@
 -- The waits of the calls that the slots of a table hold.
 use Rattle.std.proofs.Common.{◌≡◌, sym, ap, ◌∙◌, ℕ, Option, None, List, []}
-use Rattle.ipc_slots.specs.Slots.{slot_at}
-use Rattle.ipc_slots.specs.Steps.{standing_in}
-use Rattle.ipc_slots.specs.Slot.{Slot}
-use Rattle.ipc_slots.specs.declared.slot.Standing.{Standing}
+use Rattle.ipc_threads.specs.Slots.{slot_at}
+use Rattle.ipc_threads.specs.Steps.{standing_in}
+use Rattle.ipc_threads.specs.Slot.{Slot}
+use Rattle.ipc_threads.specs.declared.slot.Standing.{Standing}
 use Rattle.ipc_waits.specs.Keys.{AreWaits, Mirrors, is_of, due_under, sends_under, watches_under}
 use Rattle.ipc_waits.specs.Queues.{is_in}
 use Rattle.ipc_waits.specs.declared.queue.Wait.{Wait}

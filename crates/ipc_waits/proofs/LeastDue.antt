@@ -22,8 +22,8 @@ use Rattle.ipc_waits.proofs.Among.{numbers_rise, open_among}
 use Rattle.ipc_waits.proofs.Kept.{due_at_open}
 use Rattle.ipc_rules.specs.Rules.{rule_of}
 use Rattle.ipc_rules.specs.declared.rules.Rule.TheVariants.{Expires}
-use Rattle.ipc_slots.specs.Slots.{Stands}
-use Rattle.ipc_slots.specs.declared.kept.KeptSlots.{KeptSlots}
+use Rattle.ipc_threads.specs.Slots.{Stands}
+use Rattle.ipc_threads.specs.declared.kept.KeptSlots.{KeptSlots}
 use Rattle.ipc_waits.specs.Keys.{Mirrors, due_under}
 use Rattle.ipc_waits.specs.Next.{IsOpenAt}
 use Rattle.ipc_waits.specs.Queues.{IsLeastWait, is_in, until}

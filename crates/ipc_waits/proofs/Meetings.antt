@@ -21,19 +21,19 @@ use Rattle.ipc_waits.proofs.AtPlaces.{found_at, source_is_sender}
 use Rattle.ipc_waits.proofs.Lists.{rising_filter}
 use Rattle.ipc_rules.specs.Least.{IsFound, earlier}
 use Rattle.ipc_rules.specs.Rules.{waits_to_receive}
-use Rattle.ipc_slots.specs.Standings.{IsStanding, standing_of}
-use Rattle.ipc_slots.specs.Slots.{Stands, slot_at}
-use Rattle.ipc_slots.specs.Steps.{standing_in}
-use Rattle.ipc_slots.specs.declared.slot.Phase.{Phase}
-use Rattle.ipc_slots.specs.declared.slot.Phase.TheVariants.{Sending, Passing, Receiving, Taking}
-use Rattle.ipc_slots.specs.Slot.{Slot}
-use Rattle.ipc_slots.specs.declared.slot.Standing.{Standing}
-use Rattle.ipc_slots.specs.declared.kept.KeptSlots.{KeptSlots}
+use Rattle.ipc_threads.specs.Standings.{IsStanding, standing_of}
+use Rattle.ipc_threads.specs.Slots.{Stands, slot_at}
+use Rattle.ipc_threads.specs.Steps.{standing_in}
+use Rattle.ipc_threads.specs.declared.slot.Phase.{Phase}
+use Rattle.ipc_threads.specs.declared.slot.Phase.TheVariants.{Sending, Passing, Receiving, Taking}
+use Rattle.ipc_threads.specs.Slot.{Slot}
+use Rattle.ipc_threads.specs.declared.slot.Standing.{Standing}
+use Rattle.ipc_threads.specs.declared.kept.KeptSlots.{KeptSlots}
 use Rattle.ipc_rules.proofs.Betters.{earlier_found, earlier_gives, earlier_keeps}
-use Rattle.ipc_slots.proofs.Holders.{slot_of_call, slot_standing, standing_number}
+use Rattle.ipc_threads.proofs.Holders.{slot_of_call, slot_standing, standing_number}
 use Rattle.ipc_rules.proofs.Leasts.{first_found}
 use Rattle.ipc_rules.proofs.Meets.{match_is, receiving_kept}
-use Rattle.ipc_slots.proofs.Overs.{over_no_meeting}
+use Rattle.ipc_threads.proofs.Overs.{over_no_meeting}
 use Rattle.ipc_waits.specs.Keys.{Mirrors, sends_under}
 use Rattle.ipc_waits.specs.Next.{IsLeastMeeting, IsOpenAt, better_meeting, meeting_by, meeting_under, slots_at}
 use Rattle.ipc_waits.specs.Queues.{IsOrdered, is_in, is_same, under}

@@ -17,17 +17,17 @@ use Rattle.ipc_laws.proofs.OutputLemmas.{next_output_means}
 use Rattle.ipc_laws.proofs.PhaseParts.{meets_parts}
 use Rattle.ipc_laws.proofs.Settling.{legal_push}
 use Rattle.ipc_laws.proofs.Tests.{both, left}
-use Rattle.ipc_slots.specs.Changes.{HasNamed, HaveChanged, IsChange, changes_at}
-use Rattle.ipc_slots.specs.Slots.{Stands, slot_at}
-use Rattle.ipc_slots.specs.Standings.{standing_of}
-use Rattle.ipc_slots.specs.Steps.{holds, standing_in}
-use Rattle.ipc_slots.specs.declared.changes.Change.{Change}
-use Rattle.ipc_slots.specs.declared.changes.Changes.{Changes}
-use Rattle.ipc_slots.specs.declared.kept.KeptSlots.{KeptSlots}
-use Rattle.ipc_slots.specs.declared.slot.Standing.{Standing}
-use Rattle.ipc_slots.specs.Slot.{Slot}
-use Rattle.ipc_slots.proofs.Holders.{slot_of_call}
-use Rattle.ipc_slots.proofs.OutputCalls.{both_open}
+use Rattle.ipc_threads.specs.Changes.{HasNamed, HaveChanged, IsChange, changes_at}
+use Rattle.ipc_threads.specs.Slots.{Stands, slot_at}
+use Rattle.ipc_threads.specs.Standings.{standing_of}
+use Rattle.ipc_threads.specs.Steps.{holds, standing_in}
+use Rattle.ipc_threads.specs.declared.changes.Change.{Change}
+use Rattle.ipc_threads.specs.declared.changes.Changes.{Changes}
+use Rattle.ipc_threads.specs.declared.kept.KeptSlots.{KeptSlots}
+use Rattle.ipc_threads.specs.declared.slot.Standing.{Standing}
+use Rattle.ipc_threads.specs.Slot.{Slot}
+use Rattle.ipc_threads.proofs.Holders.{slot_of_call}
+use Rattle.ipc_threads.proofs.OutputCalls.{both_open}
 use Rattle.ipc_waits.specs.Finding.{CoversAt, is_among, sends_to, touched}
 use Rattle.ipc_waits.specs.Following.{CanFollow, FollowsChange}
 use Rattle.ipc_waits.specs.Keys.{AreWaits, HasAt, HaveAt, IsSameElsewhere, Mirrors, SameElsewhere, due_under, is_of, sends_under, watches_under}

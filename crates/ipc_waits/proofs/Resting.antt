@@ -11,8 +11,8 @@ use Rattle.ipc_laws.specs.Exchange.{Rests, lets_in}
 use Rattle.ipc_laws.proofs.Tests.{both, left, not_both, refuted, right}
 use Rattle.ipc_rules.specs.Resting.{is_patient}
 use Rattle.ipc_rules.proofs.Patience.{has_no_time_is, has_time}
-use Rattle.ipc_slots.specs.Slots.{Stands}
-use Rattle.ipc_slots.specs.declared.kept.KeptSlots.{KeptSlots}
+use Rattle.ipc_threads.specs.Slots.{Stands}
+use Rattle.ipc_threads.specs.declared.kept.KeptSlots.{KeptSlots}
 use Rattle.ipc_waits.specs.Keys.{Mirrors, sends_under}
 use Rattle.ipc_waits.specs.Next.{IsOpenAt}
 use Rattle.ipc_waits.specs.Queues.{under}

@@ -18,9 +18,9 @@ use Rattle.ipc_waits.specs.Finding.{CoversAt, is_among, touched, watches}
 use Rattle.ipc_waits.proofs.AtPlaces.{IsTouched as Touching, touched_is}
 use Rattle.ipc_waits.proofs.AtPlaces.IsTouched.{Due, Named, Watching}
 use Rattle.ipc_waits.proofs.Kept.{due_at_open}
-use Rattle.ipc_slots.specs.Slots.{Stands, live_of, slot_of}
-use Rattle.ipc_slots.specs.Steps.{standing_in}
-use Rattle.ipc_slots.specs.declared.kept.KeptSlots.{KeptSlots}
+use Rattle.ipc_threads.specs.Slots.{Stands, live_of, slot_of}
+use Rattle.ipc_threads.specs.Steps.{standing_in}
+use Rattle.ipc_threads.specs.declared.kept.KeptSlots.{KeptSlots}
 use Rattle.ipc_waits.specs.Keys.{AreWaits}
 use Rattle.ipc_waits.specs.Touching.{waits_touched}
 use Rattle.ipc_waits.specs.Waiting.{IsTouched}

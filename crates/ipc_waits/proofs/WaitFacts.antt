@@ -20,13 +20,13 @@ use Rattle.ipc_waits.specs.Finding.{is_among, senders, sends_to, watches}
 use Rattle.ipc_waits.proofs.Among.{open_among}
 use Rattle.ipc_waits.proofs.Kept.{due_at_open}
 use Rattle.ipc_waits.proofs.Lists.{among_filtered}
-use Rattle.ipc_slots.specs.Slots.{Stands, slot_at}
-use Rattle.ipc_slots.specs.Standings.{standing_of}
-use Rattle.ipc_slots.specs.Steps.{standing_in}
-use Rattle.ipc_slots.specs.declared.slot.Standing.{Standing}
-use Rattle.ipc_slots.specs.declared.kept.KeptSlots.{KeptSlots}
-use Rattle.ipc_slots.proofs.Holders.{call_of_slot, slot_of_call}
-use Rattle.ipc_slots.proofs.ThreadSteps.{live_within}
+use Rattle.ipc_threads.specs.Slots.{Stands, slot_at}
+use Rattle.ipc_threads.specs.Standings.{standing_of}
+use Rattle.ipc_threads.specs.Steps.{standing_in}
+use Rattle.ipc_threads.specs.declared.slot.Standing.{Standing}
+use Rattle.ipc_threads.specs.declared.kept.KeptSlots.{KeptSlots}
+use Rattle.ipc_threads.proofs.Holders.{call_of_slot, slot_of_call}
+use Rattle.ipc_threads.proofs.ThreadSteps.{live_within}
 use Rattle.ipc_waits.specs.Keys.{Mirrors, due_under, is_of, sends_under, watches_under}
 use Rattle.ipc_waits.specs.Queues.{is_in, under, until}
 use Rattle.ipc_waits.specs.declared.queue.Wait.{Wait}

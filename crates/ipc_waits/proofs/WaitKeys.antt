@@ -17,12 +17,12 @@ use Rattle.ipc_laws.proofs.Moving.{paired_to}
 use Rattle.ipc_laws.proofs.PhaseParts.{passes_parts, receives_parts, sends_parts}
 use Rattle.ipc_laws.proofs.Tests.{left, not_both, right}
 use Rattle.ipc_waits.specs.Finding.{passes_to, sends_to, takes_from, waits_for, watches}
-use Rattle.ipc_slots.specs.Standings.{phase_of, standing_of}
-use Rattle.ipc_slots.specs.declared.slot.Phase.{Phase}
-use Rattle.ipc_slots.specs.declared.slot.Phase.TheVariants.{Sending, Passing, Receiving, Taking}
-use Rattle.ipc_slots.specs.declared.slot.Standing.{Standing}
+use Rattle.ipc_threads.specs.Standings.{phase_of, standing_of}
+use Rattle.ipc_threads.specs.declared.slot.Phase.{Phase}
+use Rattle.ipc_threads.specs.declared.slot.Phase.TheVariants.{Sending, Passing, Receiving, Taking}
+use Rattle.ipc_threads.specs.declared.slot.Standing.{Standing}
 use Rattle.ipc_rules.proofs.Meets.{sending_kept}
-use Rattle.ipc_slots.proofs.PhaseFacts.{Says, no_sender_yet, passes_not, phase_says, receiver_is, since_receiving, since_sending, taken_is}
+use Rattle.ipc_threads.proofs.PhaseFacts.{Says, no_sender_yet, passes_not, phase_says, receiver_is, since_receiving, since_sending, taken_is}
 use Rattle.ipc_waits.specs.Keys.{due_under, sends_under, watches_under}
 
 -- the open call n in this phase

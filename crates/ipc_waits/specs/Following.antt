@@ -1,9 +1,9 @@
 -- Queues and candidates in step with slots.
 use Rattle.std.specs.Prelude.{◌≡◌, ◌<◌, Option, None, IfSome, is_some}
 use Rattle.ipc_words.specs.Limits.{table_slots}
-use Rattle.ipc_slots.specs.Slots.{slot_at}
-use Rattle.ipc_slots.specs.Steps.{standing_in}
-use Rattle.ipc_slots.specs.declared.changes.Change.{Change}
+use Rattle.ipc_threads.specs.Slots.{slot_at}
+use Rattle.ipc_threads.specs.Steps.{standing_in}
+use Rattle.ipc_threads.specs.declared.changes.Change.{Change}
 use Rattle.ipc_waits.specs.Candidates.{FollowsPlace}
 use Rattle.ipc_waits.specs.Keys.{HaveAt, SameElsewhere}
 use Rattle.ipc_waits.specs.declared.waiting.Waiting.{Waiting}

@@ -3,9 +3,9 @@ use Rattle.std.specs.Prelude.{◌≡◌, ℕ, List, Bool, ◌==◌, ◌&&◌}
 use Rattle.ipc_history.specs.Calls.{caller_of, message_size}
 use Rattle.ipc_history.specs.Matching.{shown_sender}
 use Rattle.ipc_history.specs.declared.entry.Entry.{Entry}
-use Rattle.ipc_slots.specs.Passing.{AreHeld}
-use Rattle.ipc_slots.specs.Slot.{Slot}
-use Rattle.ipc_slots.specs.declared.pair.Pair.{Pair}
+use Rattle.ipc_threads.specs.Passing.{AreHeld}
+use Rattle.ipc_threads.specs.Slot.{Slot}
+use Rattle.ipc_threads.specs.declared.pair.Pair.{Pair}
 
 -- a message of words alone, which shows its caller
 abbrev pub passes_at_once : List Entry → ℕ → Bool

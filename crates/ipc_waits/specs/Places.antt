@@ -1,7 +1,7 @@
 -- What a queue has at one place.
 use Rattle.std.specs.Prelude.{◌≡◌, ℕ, List, Bool, false, Option, Some, None, option_map, option_and_then}
 use Rattle.std.specs.Option.{option_map_or}
-use Rattle.ipc_slots.specs.declared.slot.Standing.{Standing}
+use Rattle.ipc_threads.specs.declared.slot.Standing.{Standing}
 use Rattle.ipc_waits.specs.Queues.{is_in, is_same}
 use Rattle.ipc_waits.specs.declared.queue.Wait.{Wait}
 

@@ -3,7 +3,7 @@ ghost use Rattle.ipc_waits.specs.Keys.{due_after, due_under, sends_under, watche
 ghost use Rattle.ipc_waits.specs.Places.{wait_of};
 
 use crate::queue::Wait;
-use ipc_slots::{Phase, Standing};
+use ipc_threads::{Phase, Standing};
 use ipc_words::{Period, ThreadId};
 
 /// The receiver that a waiting send phase sends to.
@@ -51,7 +51,7 @@ fn due_under(call: &Standing) -> Option<u64>
 /// A key under which calls wait.
 pub(crate) trait Key {
     ghost use Rattle.std.specs.Prelude.{ℕ, Option};
-    ghost use Rattle.ipc_slots.specs.declared.slot.Standing.{Standing};
+    ghost use Rattle.ipc_threads.specs.declared.slot.Standing.{Standing};
 
     ghost key_of: { Standing → Option ℕ };
 

@@ -5,9 +5,9 @@ ghost use Rattle.ipc_history.specs.NextOutput.{meeting_of, next_output, timeout_
 ghost use Rattle.ipc_history.specs.Words.{first_some};
 ghost use Rattle.ipc_rules.specs.Outputs.{waiting_output};
 ghost use Rattle.ipc_rules.specs.Rules.{rule_of};
-ghost use Rattle.ipc_slots.specs.Slots.{slot_at};
-ghost use Rattle.ipc_slots.specs.Standings.{IsStanding};
-ghost use Rattle.ipc_slots.specs.Steps.{standing_in};
+ghost use Rattle.ipc_threads.specs.Slots.{slot_at};
+ghost use Rattle.ipc_threads.specs.Standings.{IsStanding};
+ghost use Rattle.ipc_threads.specs.Steps.{standing_in};
 ghost use Rattle.ipc_waits.specs.Next.{IsBest, IsLeastMeeting, IsOpenAt, better_meeting, meeting_by, meeting_under, slots_at};
 ghost use Rattle.ipc_waits.specs.Waiting.{IsWaiting};
 
@@ -15,7 +15,7 @@ use crate::queue::Wait;
 use crate::waiting::Waiting;
 use ipc_history::{Entries, Output};
 use ipc_rules::{ReadSlots, Rule, after_last, earlier};
-use ipc_slots::{Phase, Slots, Standing};
+use ipc_threads::{Phase, Slots, Standing};
 use std::marker::Model;
 
 /// Of what a rule gives for the calls at some places the first in call order.

@@ -11,7 +11,7 @@ ghost use Rattle.ipc_waits.specs.declared.queue.Wait.{Wait};
 use crate::keys::{Key, wait_of};
 use crate::row::Row;
 use ipc_base::Memory;
-use ipc_slots::Standing;
+use ipc_threads::Standing;
 use std::alloc::AllocError;
 use std::marker::Model;
 

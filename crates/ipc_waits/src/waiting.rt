@@ -19,7 +19,7 @@ use crate::candidates::Candidates;
 use crate::waits::Waits;
 use ipc_base::Memory;
 use ipc_history::{Entry, Input};
-use ipc_slots::{Change, Slots};
+use ipc_threads::{Change, Slots};
 use ipc_words::limits::LAST_MOMENT;
 use std::alloc::AllocError;
 

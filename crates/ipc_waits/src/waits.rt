@@ -7,7 +7,7 @@ use crate::keys::{Due, Partner, Receiver};
 use crate::queue::{Queue, Wait};
 use ipc_base::Memory;
 use ipc_history::{Entry, Input};
-use ipc_slots::Standing;
+use ipc_threads::Standing;
 use std::alloc::AllocError;
 
 /// The waits of the open calls: by the receiver that they send to, by the thread whose end fails

@@ -1,7 +1,7 @@
 //! A live server is asked what it does.
 use crate::exit::Exit;
+use ipc_base::{PortWrite, write_all};
 use ipc_client::{PATIENCE, is_late};
-use ipc_ports::{PortWrite, write_all};
 use std::alloc::Global;
 use std::fmt;
 use std::io::{self, Read, Write};

@@ -4,7 +4,7 @@ use crate::exit::Exit;
 use crate::kept::Tail;
 use ipc_trace::MAX_THREAD_NUMBER_OF_VERSION_1;
 use ipc_words::limits::{MAX_LINE_BYTES, MAX_SPACE};
-use l4sh_reasons::{Grammar, reason_text};
+use l4sh_explain::{Grammar, reason_text};
 use std::alloc::{AllocError, Global};
 
 /// An exit with the reason of a bad line, which is among the last that were read. Without memory

@@ -3,8 +3,8 @@ use crate::ending::{Ending, exit_alone, told};
 use crate::exit::Exit;
 use crate::files::{History, read_parts};
 use crate::history::{print_text, verdict_text};
+use ipc_base::PortWrite;
 use ipc_chain::{ChainVerdict, check_parts};
-use ipc_ports::PortWrite;
 use std::alloc::{AllocError, Global};
 use std::rt::Files;
 

@@ -3,16 +3,16 @@ ghost use Rattle.l4sh.specs.Looking.{ChartsTrace, IsDrawnOf, IsSilent, MayDraw};
 
 use crate::exit::{ChartFault, Exit};
 use crate::looking::{front, illegal_at, torn_behind};
+use ipc_base::{PortRead, PortWrite};
 use ipc_check::{Verdict, check};
 use ipc_history::Entry;
-use ipc_ports::{PortRead, PortWrite};
 use ipc_shell::put;
 use ipc_trace::{TraceEnd, TraceRead, read_trace};
 use ipc_words::ThreadId;
 use l4sh_chart::{Emptiness, Scene, Selection, scene_of};
 use l4sh_draw::{draw_html, draw_svg, draw_text};
 use l4sh_options::ChartOptions;
-use l4sh_threads::read_threads;
+use l4sh_state::read_threads;
 use l4sh_times::Times;
 use std::alloc::{AllocError, Global};
 

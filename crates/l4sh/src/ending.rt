@@ -59,7 +59,7 @@ pub(crate) fn ended_alone<R: Eprint>(
 /// The same of a thread of a server.
 fn ended_with_server<R: Eprint>(rt: &R, talked: &Talked) -> io::Result<ExitCode> {
     match talked.ending {
-        l4sh_live::Ending::Done => {}
+        l4sh_talk::Ending::Done => {}
         _ => rt.eprintln(&talked.ending)?,
     }
     tell_reason(rt, &talked.reason)?;

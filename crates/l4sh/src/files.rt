@@ -4,10 +4,11 @@ ghost use Rattle.std.specs.Prelude.{◌≡◌, ◌<◌};
 use crate::ending::{Ending, told};
 use crate::exit::Exit;
 use crate::opening::{Task, look};
+use ipc_base::{Failures, PortRead, PortWrite};
 use ipc_chain::lines_before;
-use ipc_part::{Part, PartFault, PartRead, read_part};
-use ipc_ports::{Failures, PortRead, PortWrite};
-use ipc_trace::{TraceEnd, TraceRead, TraceVersion, read_trace};
+use ipc_trace::{
+    Part, PartFault, PartRead, TraceEnd, TraceRead, TraceVersion, read_part, read_trace,
+};
 use std::alloc::{AllocError, Global};
 use std::marker::Brand;
 use std::rt::Files;

@@ -1,15 +1,14 @@
 ghost use Rattle.std.specs.Prelude.{◌≡◌, ◌≢◌, ◌+◌, ◌<◌, IsSome, Some};
 
 use crate::exit::Exit;
+use ipc_base::{PieceBuffer, PortRead, PortWrite};
 use ipc_history::Entry;
-use ipc_part::Part;
-use ipc_ports::{PieceBuffer, PortRead, PortWrite};
 use ipc_shell::put;
-use ipc_trace::{LineEnd, LineFault, TraceLines, next_line};
+use ipc_trace::{LineEnd, LineFault, Part, TraceLines, next_line};
 use ipc_words::ThreadId;
 use l4sh_follow::{Follower, Selection, read_label};
 use l4sh_options::FollowOptions;
-use l4sh_threads::read_threads;
+use l4sh_state::read_threads;
 use l4sh_times::Times;
 use std::alloc::Global;
 

@@ -1,4 +1,4 @@
-use ipc_ports::{PortFault, PortRead, line_end};
+use ipc_base::{PortFault, PortRead, line_end};
 use ipc_words::limits::MAX_LINE_BYTES;
 use std::alloc::Global;
 

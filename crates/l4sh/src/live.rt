@@ -1,9 +1,9 @@
 ghost use Rattle.std.specs.Prelude.{◌≡◌, ◌+◌, ◌<◌};
 
+use ipc_base::{Failures, PortRead, PortWrite, ReadPort, WritePort};
 use ipc_client::{Client, PATIENCE, PatientStream};
-use ipc_ports::{Failures, PortRead, PortWrite, ReadPort, WritePort};
-use l4sh_live::{Ending, talk_to};
 use l4sh_options::TalkOptions;
+use l4sh_talk::{Ending, talk_to};
 use std::alloc::{AllocError, Global};
 use std::marker::Brand;
 use std::net::Net;

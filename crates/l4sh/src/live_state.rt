@@ -3,7 +3,7 @@ use crate::asking::{Question, ask_server};
 use crate::began::{no_time, start_in};
 use crate::ending::{Ending, told};
 use crate::exit::Exit;
-use ipc_ports::{MemoryPort, PortWrite};
+use ipc_base::{MemoryPort, PortWrite};
 use ipc_shell::put;
 use l4sh_times::{Times, timed_state};
 use std::alloc::Global;

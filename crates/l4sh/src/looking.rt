@@ -6,14 +6,14 @@ ghost use Rattle.ipc_trace.specs.Versions.{header_lines};
 ghost use Rattle.l4sh.specs.Looking.{IsSaidOf, IsSilent, LooksAt, MayEnd, shown_of, torn_end};
 
 use crate::exit::Exit;
+use ipc_base::{PortRead, PortWrite};
 use ipc_check::{Verdict, check};
 use ipc_history::Entry;
-use ipc_ports::{PortRead, PortWrite};
 use ipc_shell::put;
 use ipc_trace::{TraceEnd, TraceRead, TraceVersion, read_trace};
+use l4sh_commands::script_of;
 use l4sh_count::{CountFault, Event, Span, events_of, grouped, json_of, span_of, tell_counts};
 use l4sh_explain::Told;
-use l4sh_script::script_of;
 use l4sh_state::{State, drops_of, state_of, tell_state};
 use l4sh_times::{Times, timed_state};
 use std::alloc::{AllocError, Global};

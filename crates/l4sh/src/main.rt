@@ -38,7 +38,7 @@ mod watched;
 use clap::error::ErrorKind;
 use ending::{Ending, ended, ended_alone};
 use exit::Exit;
-use ipc_ports::{Failures, WritePort};
+use ipc_base::{Failures, WritePort};
 use l4sh_options::{ShellOptions, mistake_text, shell_options, tell_version};
 use obeying::obey_into;
 use std::alloc::Global;

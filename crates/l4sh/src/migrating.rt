@@ -5,7 +5,7 @@ use crate::ending::Ending;
 use crate::exit::Exit;
 use crate::new_file::NewFile;
 use crate::opening::{Task, look, not_opened};
-use ipc_ports::{Failures, PortRead, PortWrite, WritePort};
+use ipc_base::{Failures, PortRead, PortWrite, WritePort};
 use ipc_shell::migrate_trace;
 use ipc_trace::TraceWriter;
 use std::alloc::Global;

@@ -6,7 +6,7 @@ use crate::looking::print_answer;
 use crate::migrating::{Migration, migrate_file};
 use crate::printing::{chart_of, check_of, count_of, follow_of, script_in, state_of};
 use crate::rotating::rotate_trace;
-use ipc_ports::{Failures, PortWrite};
+use ipc_base::{Failures, PortWrite};
 use l4sh_explain::{Told, answer_period, answer_tag, explain};
 use l4sh_options::ShellOptions;
 use std::alloc::{AllocError, Global};

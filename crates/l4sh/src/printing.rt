@@ -14,7 +14,7 @@ use crate::middle::print_begun;
 use crate::opening::{Task, is_folder, look};
 use crate::several::print_files;
 use crate::threads::{label_reason, threads_reason};
-use ipc_ports::{Failures, PortRead, PortWrite};
+use ipc_base::{Failures, PortRead, PortWrite};
 use ipc_shell::check_trace;
 use ipc_trace::TraceRead;
 use ipc_words::limits::MAX_CHART_ENTRY;

@@ -4,8 +4,8 @@ use crate::ending::{Ending, told};
 use crate::exit::Exit;
 use crate::following::BY_SERVER;
 use crate::several::put_printed;
-use ipc_ports::{MemoryPort, PortWrite};
-use l4sh_reasons::Printable;
+use ipc_base::{MemoryPort, PortWrite};
+use l4sh_explain::Printable;
 use std::alloc::Global;
 use std::net::Net;
 

@@ -4,12 +4,11 @@ use crate::exit::Exit;
 use crate::files::{History, read_files};
 use crate::history::{line_of, verdict_text};
 use crate::printing::Printing;
+use ipc_base::{MemoryPort, PortWrite};
 use ipc_chain::{ChainVerdict, check_chain};
 use ipc_history::Entry;
-use ipc_part::Part;
-use ipc_ports::{MemoryPort, PortWrite};
 use ipc_shell::put;
-use ipc_trace::TraceRead;
+use ipc_trace::{Part, TraceRead};
 use std::alloc::{AllocError, Global};
 use std::rt::Files;
 

@@ -2,16 +2,16 @@ ghost use Rattle.std.specs.Prelude.{◌≡◌, ◌≢◌, ◌+◌, ◌<◌, IfSo
 ghost use Rattle.l4sh.specs.Talking.{MayEndTalk};
 
 use crate::exit::Exit;
+use ipc_base::{PieceBuffer, PortFault, PortRead, PortWrite};
 use ipc_core::{Kernel, Limits};
 use ipc_history::{Entry, Input};
 use ipc_lines::IdText;
-use ipc_ports::{PieceBuffer, PortFault, PortRead, PortWrite};
 use ipc_shell::{marked_kernel, obey_line, put};
 use ipc_trace::{LineEnd, next_line};
 use ipc_words::ThreadId;
 use ipc_words::limits::MAX_LINE_BYTES;
+use l4sh_state::Spaces;
 use l4sh_talk::{HELP, Typed, read_typed, words_beside};
-use l4sh_threads::Spaces;
 use std::alloc::{AllocError, Global};
 
 /// Obeys what is typed, line by line, to the end of the reader or a request to end: for each line

@@ -1,6 +1,6 @@
 //! What is wrong with the options that say what is told of.
 use ipc_lines::read_id;
-use l4sh_reasons::Shown;
+use l4sh_explain::Shown;
 use std::alloc::{AllocError, Global};
 
 /// What is wrong with a list of threads: its first word that is no id.

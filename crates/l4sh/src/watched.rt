@@ -1,10 +1,10 @@
 //! What is said beside a run.
 use crate::talk::write_dropped_of;
+use ipc_base::{PortFault, PortWrite};
 use ipc_history::{Call, Entry, Input};
 use ipc_lines::read_entry;
-use ipc_ports::{PortFault, PortWrite};
 use ipc_words::ThreadId;
-use l4sh_threads::Spaces;
+use l4sh_state::Spaces;
 use std::alloc::{AllocError, Global};
 
 /// A port that hands on the lines of a run. Of each call whose p is dropped it tells that on

@@ -2,7 +2,7 @@ use crate::calls::{OpenCall, Wait};
 use crate::events::{Change, Changes, Event, Mark, Step};
 use ipc_history::{Call, Entry, Input, Output};
 use ipc_words::{ErrorKind, IpcError, Phase, ThreadId};
-use l4sh_threads::{ShownAs, Spaces};
+use l4sh_state::{ShownAs, Spaces};
 use std::alloc::{AllocError, Global};
 use std::collections::BTreeMap;
 

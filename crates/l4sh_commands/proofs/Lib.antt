@@ -1,1 +1,16 @@
 pub mod CommandLemmas
+pub mod Readable
+pub mod Texts
+pub mod Untaken
+pub mod AtEnds
+pub mod Busy
+pub mod Runs
+pub mod Stages
+pub mod Steps
+pub mod Takes
+pub mod Fronts
+pub mod Clock
+pub mod Replay
+pub mod Ends
+pub mod Replaying
+pub mod Kernels

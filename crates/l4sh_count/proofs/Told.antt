@@ -2,7 +2,7 @@
 use Rattle.std.proofs.Common.{◌≡◌, sym, ap, ◌∙◌, ℕ, ◌+◌, ◌<◌, ◌≤◌, List, [], ◌∷◌, ◌++◌, length, take, get_or, Option, append_assoc, append-nil}
 use Rattle.std.proofs.lemmas.List.{take_all, take_more}
 use Rattle.ipc_history.specs.declared.entry.Entry.{Entry}
-use Rattle.ipc_slots.specs.PastSlots.{PastSlots}
+use Rattle.ipc_threads.specs.PastSlots.{PastSlots}
 use Rattle.l4sh_state.proofs.Walks.{IsWalked}
 use Rattle.l4sh_count.specs.Events.{event_in, events_after, events_in, one}
 use Rattle.l4sh_count.specs.Walked.{IsTold}

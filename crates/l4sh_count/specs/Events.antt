@@ -14,7 +14,7 @@ use Rattle.ipc_history.specs.declared.entry.Input.{Input}
 use Rattle.ipc_history.specs.declared.entry.Input.TheVariants.{At, Opened, Called, Exreg, Broke, Moved}
 use Rattle.ipc_history.specs.declared.entry.Output.{Output}
 use Rattle.ipc_history.specs.declared.entry.Output.TheVariants.{Began, Turned, Ended, Overflowed, Aborted, Failed}
-use Rattle.ipc_slots.specs.Standings.{since_of}
+use Rattle.ipc_threads.specs.Standings.{since_of}
 use Rattle.l4sh_count.specs.declared.event.Event.{Event}
 use Rattle.l4sh_count.specs.declared.event.Happening.{Happening}
 use Rattle.l4sh_count.specs.declared.event.Happening.TheVariants.{Call, Message, Failure}

@@ -2,12 +2,12 @@ ghost use Rattle.std.specs.Prelude.{◌≡◌, IsFalse};
 ghost use Rattle.ipc_history.specs.Legal.{Follows};
 ghost use Rattle.ipc_history.specs.Phases.{is_over};
 ghost use Rattle.ipc_history.specs.declared.entry.Entry.TheVariants.{Written};
-ghost use Rattle.ipc_slots.specs.Standings.{standing_of};
-ghost use Rattle.ipc_slots.specs.Steps.{Names};
+ghost use Rattle.ipc_threads.specs.Standings.{standing_of};
+ghost use Rattle.ipc_threads.specs.Steps.{Names};
 ghost use Rattle.l4sh_count.specs.Events.{called, event_in, failed, given_in, met, written_in};
 
 use ipc_history::{Call, Entry, Input, Output};
-use ipc_slots::{Slots, Standing};
+use ipc_threads::{Slots, Standing};
 use ipc_words::{IpcError, Phase, ThreadId};
 
 /// What an entry adds to the counts of a pair of threads.
@@ -107,7 +107,7 @@ fn output_event(slots: &Slots, output: &Output) -> Option<Event>
 }
 
 // The pair of the two calls that the next output names, and whether the message came whole.
-#[tactic(auto, unfolding(ipc_slots::specs::Standings::standing_of))]
+#[tactic(auto, unfolding(ipc_threads::specs::Standings::standing_of))]
 fn meeting(slots: &Slots, output: &Output, sending: u64, receiving: u64, is_whole: bool) -> Event
     requires follows { Follows slots.now.past (Written output.now) }
     requires named { Names output.now sending receiving }
@@ -134,7 +134,7 @@ fn meeting(slots: &Slots, output: &Output, sending: u64, receiving: u64, is_whol
 }
 
 // The pair of the phase of a call that fails by the next output.
-#[tactic(auto, unfolding(ipc_slots::specs::Standings::standing_of))]
+#[tactic(auto, unfolding(ipc_threads::specs::Standings::standing_of))]
 fn failure(slots: &Slots, output: &Output, number: u64, error: IpcError) -> Event
     requires follows { Follows slots.now.past (Written output.now) }
     requires named { Names output.now number number }

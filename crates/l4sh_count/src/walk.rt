@@ -6,7 +6,7 @@ use crate::event::{Event, event_of};
 use ipc_base::Past;
 use ipc_history::{Entries, Entry};
 use ipc_rules::follows;
-use ipc_slots::Slots;
+use ipc_threads::Slots;
 use std::alloc::{AllocError, Global};
 
 /// Why a trace was not counted.

@@ -4,7 +4,7 @@ use crate::messages::put_message;
 use ipc_history::{Call, Entry, Input, Output};
 use ipc_words::{IpcError, MaskedControl, Phase, ThreadId};
 use l4sh_chart::{Mark, Row, Scene, call_at};
-use l4sh_threads::short_cause_of;
+use l4sh_state::short_cause_of;
 use std::alloc::Global;
 
 /// What a row says, in words.

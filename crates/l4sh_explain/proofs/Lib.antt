@@ -1,0 +1,4 @@
+pub mod CallWells
+pub mod NormalForms
+pub mod TraceLines
+pub mod Names

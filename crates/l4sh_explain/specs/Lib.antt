@@ -1,3 +1,9 @@
 pub mod Answers
 pub mod Requests
 pub mod Units
+pub mod Grammars
+pub mod Spellings
+pub mod Rules
+pub mod Whole
+pub mod Reasons
+pub mod Laws

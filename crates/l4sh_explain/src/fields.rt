@@ -1,9 +1,9 @@
 //! The fields of a tag as people type them.
+use crate::Shown;
 use crate::tags::TagRequest;
 use crate::told::Told;
 use ipc_lines::{read_decimal, read_hex};
 use ipc_words::limits::MAX_MESSAGE_WORDS;
-use l4sh_reasons::Shown;
 use std::alloc::{AllocError, Global};
 
 /// How many bits a label has.

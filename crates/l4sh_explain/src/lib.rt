@@ -3,16 +3,30 @@
 
 mod codes;
 mod fields;
+mod grammars;
+mod laws;
 mod periods;
+mod reasons;
+mod rules;
+mod shapes;
+mod spellings;
 mod tags;
+mod text;
 mod times;
 mod told;
+mod whole;
 mod words;
 
 pub use codes::{meaning_behind, meaning_of};
 pub use fields::read_number;
+pub use grammars::{Field, FieldKind, Grammar, LineName};
+pub use laws::{good_trace_lines_are_entries, rules_are_the_normal_form};
 pub use periods::{answer_period, tell_period};
+pub use reasons::{BadField, Reason, Wanted, reason_of, reason_text};
+pub use rules::CallRule;
 pub use tags::{TagRequest, answer_tag, tell_tag};
+pub use text::{Printable, Shown, wanted_hex};
 pub use times::{TimeFault, period_of, read_period, read_time};
 pub use told::Told;
+pub use whole::LineFault;
 pub use words::explain;

@@ -4,10 +4,10 @@ ghost use Rattle.l4sh_explain.specs.Requests.{requested};
 
 use crate::fields::read_fields;
 use crate::told::{Told, wanted};
+use crate::wanted_hex;
 use ipc_lines::{HexText, read_hex};
 use ipc_words::limits::MAX_MESSAGE_WORDS;
 use ipc_words::{MsgTag, TagFields};
-use l4sh_reasons::wanted_hex;
 use std::alloc::{AllocError, Global};
 
 /// What is asked of a tag that is made: all that a sender sets.

@@ -1,5 +1,5 @@
 //! What is said to a word that is asked about.
-use l4sh_reasons::Shown;
+use crate::Shown;
 use std::alloc::{AllocError, Global};
 
 /// What is said to a word that is asked about.

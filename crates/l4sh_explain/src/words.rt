@@ -2,9 +2,9 @@ use crate::codes::{Code, code_in_word, code_of, put_families};
 use crate::periods::tell_period;
 use crate::tags::tell_tag;
 use crate::told::{Told, wanted};
+use crate::{Shown, wanted_hex};
 use ipc_lines::{HexText, IdText, read_hex, read_id};
 use ipc_words::{ErrorKind, IpcError, MsgTag, Period, Phase, ThreadId, ThreadIdKind};
-use l4sh_reasons::{Shown, wanted_hex};
 use std::alloc::{AllocError, Global};
 
 /// What a code of a refusal or of a fault, a word in HEX or an id means, line by line.

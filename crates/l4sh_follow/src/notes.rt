@@ -5,7 +5,7 @@ ghost use Rattle.l4sh_follow.specs.Following.{call_of_note, noted, turned_note, 
 use ipc_base::Past;
 use ipc_history::{Call, Entry, Input, Output};
 use ipc_words::ThreadId;
-use l4sh_threads::{ShownAs, Spaces};
+use l4sh_state::{ShownAs, Spaces};
 use std::alloc::{AllocError, Global};
 use std::marker::Model;
 

@@ -2,7 +2,7 @@ use crate::notes::{Note, Notes};
 use ipc_history::{Entry, Input, Output};
 use ipc_lines::IdText;
 use ipc_words::{IpcError, MaskedControl, Phase, ThreadId, ThreadIdKind};
-use l4sh_threads::cause_of;
+use l4sh_state::cause_of;
 use std::alloc::AllocError;
 
 /// What an entry says, in the words of `l4sh state`. Nothing where it names a call that never came.

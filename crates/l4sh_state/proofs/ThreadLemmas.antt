@@ -4,9 +4,9 @@ use Rattle.std.proofs.Math.ListN.{set}
 use Rattle.std.proofs.lemmas.List.{get_or-set_same, get_or-set_other}
 use Rattle.ipc_history.specs.Threads.{space_of}
 use Rattle.ipc_history.specs.declared.entry.Entry.{Entry}
-use Rattle.ipc_slots.specs.Slots.{Stands, live_at, live_of, slot_of, slot_at}
-use Rattle.ipc_slots.specs.Steps.{standing_in}
-use Rattle.ipc_slots.specs.declared.kept.KeptSlots.{KeptSlots}
+use Rattle.ipc_threads.specs.Slots.{Stands, live_at, live_of, slot_of, slot_at}
+use Rattle.ipc_threads.specs.Steps.{standing_in}
+use Rattle.ipc_threads.specs.declared.kept.KeptSlots.{KeptSlots}
 
 -- no thread of the number is live
 pub live_none : (P : List Entry) (k : ℕ) → None ≡ live_of P k → None ≡ (slot_of P k).live

@@ -5,7 +5,7 @@ use Rattle.ipc_history.specs.Legal.{Legal, Follows}
 use Rattle.ipc_history.specs.declared.entry.Entry.{Entry}
 use Rattle.ipc_laws.proofs.Histories.{follows_last}
 use Rattle.ipc_laws.proofs.Settling.{legal_push}
-use Rattle.ipc_slots.specs.PastSlots.{PastSlots}
+use Rattle.ipc_threads.specs.PastSlots.{PastSlots}
 use Rattle.l4sh_state.specs.States.{IsFaultAt}
 
 -- the entries before a place are the past, that of the slots too, and they are legal

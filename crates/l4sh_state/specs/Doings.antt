@@ -2,10 +2,10 @@
 use Rattle.std.specs.Prelude.{ℕ, ◌+◌, ◌-◌, ◌^◌, min, Option, option_map}
 use Rattle.std.specs.Option.{option_map_or}
 use Rattle.ipc_words.specs.Time.{span}
-use Rattle.ipc_slots.specs.declared.slot.Live.{Live}
-use Rattle.ipc_slots.specs.declared.slot.Standing.{Standing}
-use Rattle.ipc_slots.specs.declared.slot.Phase.{Phase}
-use Rattle.ipc_slots.specs.declared.slot.Phase.TheVariants as phase
+use Rattle.ipc_threads.specs.declared.slot.Live.{Live}
+use Rattle.ipc_threads.specs.declared.slot.Standing.{Standing}
+use Rattle.ipc_threads.specs.declared.slot.Phase.{Phase}
+use Rattle.ipc_threads.specs.declared.slot.Phase.TheVariants as phase
 use Rattle.l4sh_state.specs.declared.doing.Doing.{Doing}
 use Rattle.l4sh_state.specs.declared.doing.Doing.TheVariants.{Free, Sends, Receives, Passes, Gets}
 

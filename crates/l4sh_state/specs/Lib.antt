@@ -2,3 +2,4 @@ pub mod States
 pub mod Doings
 pub mod Waits
 pub mod WaitsFor
+pub mod Propagation

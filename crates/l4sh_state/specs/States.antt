@@ -4,8 +4,8 @@ use Rattle.ipc_words.specs.Limits.{table_slots}
 use Rattle.ipc_history.specs.Threads.{now}
 use Rattle.ipc_history.specs.Legal.{Legal}
 use Rattle.ipc_history.specs.declared.entry.Entry.{Entry}
-use Rattle.ipc_slots.specs.Slots.{slot_of}
-use Rattle.ipc_slots.specs.declared.slot.Live.{Live}
+use Rattle.ipc_threads.specs.Slots.{slot_of}
+use Rattle.ipc_threads.specs.declared.slot.Live.{Live}
 use Rattle.l4sh_state.specs.declared.state.State.{State}
 
 -- the entries before the place are legal, those up to it are not

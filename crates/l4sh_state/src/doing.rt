@@ -1,7 +1,7 @@
 ghost use Rattle.std.specs.Prelude.{◌≡◌};
 ghost use Rattle.l4sh_state.specs.Doings.{does, does_in, due};
 
-use ipc_slots::{Live, Phase, Standing};
+use ipc_threads::{Live, Phase, Standing};
 use ipc_words::{Period, ThreadId};
 
 /// What a live thread does.

@@ -1,6 +1,6 @@
+use crate::Spaces;
 use ipc_history::{Entry, Input};
 use ipc_words::ThreadId;
-use l4sh_threads::Spaces;
 use std::alloc::{AllocError, Global};
 
 /// A call whose p was dropped: it names an originator that is no live thread of its caller's space,

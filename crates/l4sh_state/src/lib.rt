@@ -2,18 +2,24 @@
 #![tactic(auto)]
 
 mod building;
+mod causes;
 mod courses;
 mod doing;
 mod drops;
+mod lists;
+mod spaces;
 mod state;
 mod telling;
 mod threads;
 mod waits;
 
 pub use building::slots_of;
+pub use causes::{cause_of, short_cause_of};
 pub use courses::{Course, PLACES, course_from};
 pub use doing::{Doing, doing_of};
 pub use drops::{Dropped, Drops, drops_of};
+pub use lists::read_threads;
+pub use spaces::{ShownAs, Spaces};
 pub use state::{State, state_in, state_of};
 pub use telling::tell_state;
 pub use waits::{course_of, waits_of};

@@ -4,7 +4,7 @@ ghost use Rattle.l4sh_state.specs.States.{IsFaultAt, IsStateOf};
 use crate::building::slots_of;
 use crate::threads::threads_of;
 use ipc_history::Entry;
-use ipc_slots::{Live, Slots};
+use ipc_threads::{Live, Slots};
 use ipc_words::limits::TABLE_SLOTS;
 
 /// What a history says of its threads.

@@ -4,7 +4,7 @@ use crate::drops::{Dropped, Drops};
 use crate::state::State;
 use crate::waits::{course_of, waits_of};
 use ipc_lines::IdText;
-use ipc_slots::Live;
+use ipc_threads::Live;
 use ipc_words::{ThreadId, ThreadIdKind};
 use std::alloc::{AllocError, Global};
 

@@ -1,10 +1,10 @@
 ghost use Rattle.std.specs.Prelude.{◌≡◌, ◌<◌, slice_index_or, Some, None};
 ghost use Rattle.ipc_words.specs.Limits.{table_slots};
-ghost use Rattle.ipc_slots.specs.Slots.{slot_of};
+ghost use Rattle.ipc_threads.specs.Slots.{slot_of};
 ghost use Rattle.l4sh_state.specs.States.{HasThreads};
 ghost use Rattle.l4sh_state.specs.WaitsFor.{awaited_by};
 
-use ipc_slots::{Live, Phase, Slots, Standing};
+use ipc_threads::{Live, Phase, Slots, Standing};
 use ipc_words::ThreadId;
 use ipc_words::limits::TABLE_SLOTS;
 

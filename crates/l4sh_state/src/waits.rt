@@ -5,7 +5,7 @@ ghost use Rattle.l4sh_state.specs.WaitsFor.{HasWaits, place_in, waits_at};
 
 use crate::courses::{Course, PLACES, course_from};
 use crate::threads::{awaited, live_at};
-use ipc_slots::Live;
+use ipc_threads::Live;
 use ipc_words::ThreadId;
 
 /// For each number the number of the live thread for which its thread waits: the receiver of its

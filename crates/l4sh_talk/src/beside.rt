@@ -1,8 +1,7 @@
 use ipc_lines::read_hex;
 use ipc_words::{IpcError, MsgTag, Phase};
-use l4sh_explain::{meaning_of, tell_tag};
-use l4sh_reasons::Printable;
-use l4sh_threads::cause_of;
+use l4sh_explain::{Printable, meaning_of, tell_tag};
+use l4sh_state::cause_of;
 use std::alloc::{AllocError, Global};
 
 /// Words beside the answer line of a command, which stands here without its newline. None where the

@@ -1,5 +1,5 @@
 //! What is wrong with a word that was typed.
-use l4sh_reasons::Shown;
+use l4sh_explain::Shown;
 use std::fmt;
 
 /// What is wanted of a field that comes again.

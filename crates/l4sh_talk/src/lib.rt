@@ -1,15 +1,27 @@
-//! What people type to a shell, and the exact line of a script that it stands for.
+//! A thread of a live server, from a keyboard or a pipe: what people type, the call that is made of
+//! it, and what is said to its answer.
 #![tactic(auto)]
 
+mod asking;
 mod beside;
 mod calling;
+mod ending;
 mod faults;
+mod fields;
 mod quoting;
 mod reading;
+mod request;
+mod said;
+mod session;
 mod spelling;
+mod telling;
+mod typed_words;
+mod versions;
 
 pub use beside::{tell_error, words_beside};
+pub use ending::Ending;
 pub use faults::{BadWord, CONTROL, LABEL, NUMBERS, ONCE, SIZES, WordFault, comes_again};
 pub use quoting::words_of;
-pub use reading::{HELP, Typed, read_typed};
+pub use session::talk_to;
 pub use spelling::{read_control, read_thread};
+pub use typed_words::{HELP, Typed, read_typed};

@@ -1,44 +1,44 @@
-use crate::calling::{CallFault, THREAD, call_line};
-use crate::faults::{BadWord, CONTROL, WordFault};
-use crate::quoting::words_of;
-use crate::spelling::{read_control, read_thread};
-use ipc_lines::{HexText, IdText};
-use ipc_words::ThreadId;
-use l4sh_explain::{read_number, read_time};
-use l4sh_reasons::{Grammar, reason_of, reason_text};
+//! What a typed line asks for.
+ghost use Rattle.std.specs.Prelude.{◌≡◌, IfOk, IfSome};
+ghost use Rattle.ipc_items.specs.Strings.{strings_of};
+ghost use Rattle.l4sh_talk.specs.Hearing.{Hears, HearsName, HearsStop, HearsVerb, HearsWords, IsMistake, command_word};
+ghost use Rattle.l4sh_talk.specs.Verbs.{verb_request};
+
+use crate::fields::{FieldFault, Fields, Verb, wanted_for};
+use crate::request::Request;
+use crate::said::Said;
+use crate::{read_control, read_thread, words_of};
+use ipc_client::{BufferFault, Buffers, Message, MessageFault};
+use ipc_lines::read_decimal;
+use ipc_words::limits::{MAX_LINE_BYTES, MAX_STRING_BYTES};
+use ipc_words::{Control, ThreadId};
 use std::alloc::{AllocError, Global};
 
-/// What can be typed.
-pub const HELP: &str = "open NUMBER SPACE              a thread; without SPACE in space 1
-call ID to=ID from=ID ..       a call: to= sends, from= receives; any, local, 1.1, or 1 for 1.1
-     send=2ms receive=never    how long each phase may take, as 20us, 2ms, 1s, 1min or never
-     label=3 words=7,0x8       the message, and \"a text\" for each string
-     as=ID                     in the name of another thread of its space
-     buffers=100,20            for the strings that are received
-take ID                        the outcome of its last call
-exreg ID ID PHASE              stops phases of the second thread: send, receive, both or nothing
-broke ID                       the thread ends
-at TIME                        the clock, as 20us, 2ms or 1s
-advance                        copies the next block of a message
-help, quit, exit               and # begins a comment
-The lines of scripts are taken, too: there at 20 is the moment of 20 microseconds.
-Arrow keys, history and editing come by another program, as in: rlwrap l4sh talk
-";
+/// What can be typed, without the last newline.
+pub(crate) const HELP: &str =
+    "receive ID                  waits for a message: any, local, 1.2, or 1; without ID of anybody
+wait                        the same as receive
+send ID ..                  sends a message, once its receiver is there
+call ID ..                  sends one, and then waits for the answer of that thread
+reply_wait ID ..            answers a thread that waits, and then waits for a message of anybody
+     7 0x8 \"a text\"         words and strings of the message; also words=7,0x8
+     label=3                its label
+     as=ID                  in the name of another thread of the space
+     timeout=2s             how long it may wait, as 20us, 2ms, 1min or never; without it never
+     send=2ms receive=1s    of a call the same for one phase
+     buffers=100,20         room for the strings that are received; without it none are taken
+exreg ID PHASE              stops phases of a thread of this space: send, receive, both or nothing
+1, as an ID                 the live version of thread 1; behind as= it is 1.1
+help, quit, exit            and # begins a comment
+What waits is waited for here: Ctrl-C ends the program, and the server then ends its thread.";
 
-/// What is wanted of the first word of a line.
-const COMMANDS: &str = "open, call, take, exreg, broke, at, advance, help, quit or exit";
-
-/// What is wanted of the number of a thread or of a space.
-const NUMBER: &str = "a decimal or HEX, as 1";
-
-/// The fewest words that stand for a call of a script, which has ten.
-const SCRIPT_WORDS: usize = 8;
-
-/// What a typed line stands for.
+/// What a line stands for.
 #[derive(Drop)]
-pub enum Typed {
-    /// The exact line of a script.
-    Line(String),
+pub(crate) enum Heard {
+    /// Something that the server is asked to do.
+    Request(Request),
+    /// The same of a thread by its number alone. The request names version 1.
+    Number(Request),
     /// No word, or a comment alone.
     Nothing,
     /// A request for help.
@@ -49,224 +49,326 @@ pub enum Typed {
     Mistake(String),
 }
 
-/// What a line that was typed, without its newline, stands for. A line of a script stands for
-/// itself.
-pub fn read_typed(alloc: Global, typed: &[u8]) -> Result<Typed, AllocError> {
-    match exact(alloc, typed)? {
-        Some(line) => Ok(Typed::Line(line)),
-        None => read_words_of(alloc, typed),
+/// What a line that was typed, without its newline, stands for.
+pub(crate) fn hear(alloc: Global, line: &[u8]) -> Result<Heard, AllocError>
+    ensures { IfOk result (Hears line.now) }
+{
+    if line.len() > MAX_LINE_BYTES {
+        return told(format!(in alloc; "a line of more than {MAX_LINE_BYTES} bytes"));
     }
-}
-
-// A line that is none of a script.
-fn read_words_of(alloc: Global, typed: &[u8]) -> Result<Typed, AllocError> {
-    match words_of(alloc, typed)? {
-        Some(words) => {
-            let read = read_words(alloc, &words);
-            drop(words);
-            read
-        }
+    match words_of(alloc, line)? {
+        Some(words) => hear_words(alloc, &words),
         None => mistake(alloc, "a quotation mark is missing"),
     }
 }
 
-fn read_words(alloc: Global, words: &[Vec<u8>]) -> Result<Typed, AllocError> {
-    match words.first() {
-        Some(name) => read_command(alloc, name, words),
-        None => Ok(Typed::Nothing),
-    }
-}
-
-fn read_command(alloc: Global, name: &[u8], words: &[Vec<u8>]) -> Result<Typed, AllocError> {
-    match name {
-        b"help" | b"?" => Ok(Typed::Help),
-        b"quit" | b"exit" => Ok(Typed::Quit),
-        b"open" => read_open(alloc, words),
-        b"call" => read_call(alloc, words),
-        b"take" => read_one(alloc, "take", words),
-        b"broke" => read_one(alloc, "broke", words),
-        b"exreg" => read_exreg(alloc, words),
-        b"at" => read_at(alloc, words),
-        b"advance" => judged_words(alloc, words),
-        _ => bad(alloc, 0, "", COMMANDS, name),
-    }
-}
-
-// The line itself, where it is well formed.
-fn exact(alloc: Global, typed: &[u8]) -> Result<Option<String>, AllocError> {
-    match String::from_utf8(typed.to_vec(alloc)?) {
-        Ok(line) => where_well_formed(alloc, line),
-        Err(_) => Ok(None),
-    }
-}
-
-fn where_well_formed(alloc: Global, line: String) -> Result<Option<String>, AllocError> {
-    let is_well_formed = is_well_formed(alloc, line.as_bytes())?;
-    Ok(if is_well_formed { Some(line) } else { None })
-}
-
-fn is_well_formed(alloc: Global, line: &[u8]) -> Result<bool, AllocError> {
-    let reason = reason_of(alloc, Grammar::Script, line)?;
-    Ok(reason.is_none())
-}
-
-fn mistake(alloc: Global, reason: &str) -> Result<Typed, AllocError> {
-    Ok(Typed::Mistake(String::from_str(alloc, reason)?))
-}
-
-// A mistake of one word.
-fn bad(
-    alloc: Global,
-    place: usize,
-    name: &'static str,
-    wanted: &'static str,
-    word: &[u8],
-) -> Result<Typed, AllocError> {
-    let fault = WordFault { name, wanted };
-    let bad = BadWord { place, fault, word };
-    Ok(Typed::Mistake(format!(in alloc; "{bad}")?))
-}
-
-// A line, where it is well formed; else why it is not.
-fn judged(alloc: Global, line: String) -> Result<Typed, AllocError> {
-    match reason_text(alloc, Grammar::Script, line.as_bytes())? {
-        None => Ok(Typed::Line(line)),
-        Some(reason) => Ok(Typed::Mistake(reason)),
-    }
-}
-
-// The same of words as they were typed.
-fn judged_words(alloc: Global, words: &[Vec<u8>]) -> Result<Typed, AllocError> {
-    let line = joined(alloc, words)?;
-    if let Some(reason) = reason_text(alloc, Grammar::Script, &line)? {
-        return Ok(Typed::Mistake(reason));
-    }
-    match String::from_utf8(line) {
-        Ok(line) => Ok(Typed::Line(line)),
-        Err(_) => mistake(alloc, "a line of a script is of ASCII alone"),
-    }
-}
-
-// The words with one space between each two.
-fn joined(alloc: Global, words: &[Vec<u8>]) -> Result<Vec<u8>, AllocError> {
-    let mut line = Vec::new(alloc);
-    for word in words {
-        if !line.is_empty() {
-            line.push(b' ')?;
-        }
-        line.extend_from_slice(word)?;
-    }
-    Ok(line)
-}
-
-fn read_open(alloc: Global, words: &[Vec<u8>]) -> Result<Typed, AllocError> {
+fn hear_words(alloc: Global, words: &[Vec<u8>]) -> Result<Heard, AllocError>
+    ensures { IfOk result (HearsWords (strings_of words.now)) }
+{
     match words {
-        [_, number] => open_line(alloc, number, b"1"),
-        [_, number, space] => open_line(alloc, number, space),
-        _ => mistake(
+        [word, ..] => hear_named(alloc, word, words),
+        [] => Ok(Heard::Nothing),
+    }
+}
+
+/// The first word of a line that is none of the mistakes.
+#[derive(Clone, Copy)]
+enum Command {
+    Help,
+    Mark,
+    Quit,
+    Exit,
+    Exreg,
+    Wait,
+    Makes(Verb),
+}
+
+impl Command {
+    ghost use Rattle.std.specs.Prelude.{◌≡◌, IfSome};
+    ghost use Rattle.l4sh_talk.specs.Hearing.{command_word};
+
+    fn read(word: &[u8]) -> Option<Command>
+        ensures { IfSome result (λ command. word.now ≡ command_word command) }
+    {
+        match word {
+            b"help" => Some(Command::Help),
+            b"?" => Some(Command::Mark),
+            b"quit" => Some(Command::Quit),
+            b"exit" => Some(Command::Exit),
+            b"exreg" => Some(Command::Exreg),
+            b"wait" => Some(Command::Wait),
+            other => Some(Command::Makes(Verb::read(other)?)),
+        }
+    }
+}
+
+// What words stand for, of which the first one is this.
+#[tactic(auto, using(crate::proofs::HearingLemmas::heard_command, crate::proofs::HearingLemmas::mistaken))]
+fn hear_named(alloc: Global, word: &[u8], words: &[Vec<u8>]) -> Result<Heard, AllocError>
+    ensures { IfOk result (HearsName word.now) }
+{
+    match Command::read(word) {
+        Some(command) => hear_command(alloc, command, words),
+        None => mistake_at(
             alloc,
-            "wanted is open NUMBER or open NUMBER SPACE, as open 1 1",
+            "wanted is send, receive, wait, call, reply_wait, exreg, help or quit; not ",
+            word,
         ),
     }
 }
 
-fn open_line(alloc: Global, number: &[u8], space: &[u8]) -> Result<Typed, AllocError> {
-    match (read_number(number), read_number(space)) {
-        (Some(number), Some(space)) => Ok(Typed::Line(format!(in alloc; "open {number} {space}")?)),
-        (None, _) => bad(alloc, 1, "number", NUMBER, number),
-        (Some(_), None) => bad(alloc, 2, "space", NUMBER, space),
+// The same by the command that it is.
+#[tactic(auto, using(crate::proofs::HearingLemmas::named, crate::proofs::HearingLemmas::waits, crate::proofs::HearingLemmas::stops))]
+fn hear_command(alloc: Global, command: Command, words: &[Vec<u8>]) -> Result<Heard, AllocError>
+    ensures { IfOk result (HearsName (command_word command)) }
+{
+    match command {
+        Command::Help => Ok(Heard::Help),
+        Command::Mark => Ok(Heard::Help),
+        Command::Quit => Ok(Heard::Quit),
+        Command::Exit => Ok(Heard::Quit),
+        Command::Exreg => hear_exreg(alloc, words),
+        Command::Wait => hear_receive(alloc, words),
+        Command::Makes(Verb::Receive) => hear_receive(alloc, words),
+        Command::Makes(verb) => hear_call(alloc, verb, words),
     }
 }
 
-// A command of one thread.
-fn read_one(alloc: Global, name: &str, words: &[Vec<u8>]) -> Result<Typed, AllocError> {
-    match words {
-        [_, thread] => match read_thread(thread) {
-            Some(thread) => Ok(Typed::Line(format!(in alloc; "{name} {}", IdText(thread))?)),
-            None => bad(alloc, 1, "thread", THREAD, thread),
-        },
-        _ => Ok(Typed::Mistake(format!(in alloc; "wanted is {name} ID, as {name} 1.1")?)),
-    }
-}
-
-fn read_exreg(alloc: Global, words: &[Vec<u8>]) -> Result<Typed, AllocError> {
-    let [_, thread, target, control] = words else {
-        return mistake(
-            alloc,
-            "wanted is exreg ID ID, and send, receive, both or nothing",
-        );
-    };
-    let Some(thread) = read_thread(thread) else {
-        return bad(alloc, 1, "thread", THREAD, thread);
-    };
-    match (read_thread(target), read_control(control)) {
-        (Some(target), Some(control)) => exreg_line(alloc, thread, target, control),
-        (None, _) => bad(alloc, 2, "target", THREAD, target),
-        (Some(_), None) => bad(alloc, 3, "control", CONTROL, control),
-    }
-}
-
-fn exreg_line(
-    alloc: Global,
+/// Of whom something is asked.
+#[derive(Clone, Copy)]
+struct Partner {
     thread: ThreadId,
-    target: ThreadId,
-    control: u64,
-) -> Result<Typed, AllocError> {
-    Ok(Typed::Line(format!(in alloc;
-        "exreg {} {} {}",
-        IdText(thread),
-        IdText(target),
-        HexText(control)
-    )?))
+    /// Whether its number alone was typed.
+    is_number: bool,
 }
 
-fn read_at(alloc: Global, words: &[Vec<u8>]) -> Result<Typed, AllocError> {
+impl Partner {
+    ghost use Rattle.l4sh_talk.specs.Hearing.{IsRequest};
+
+    const ANYBODY: Partner = Partner {
+        thread: ThreadId::ANYTHREAD,
+        is_number: false,
+    };
+
+    fn read(word: &[u8]) -> Option<Partner> {
+        Some(Partner {
+            thread: read_thread(word)?,
+            is_number: read_decimal(word).is_some(),
+        })
+    }
+
+    // What is heard where this is asked of it.
+    fn asked(self, request: Request) -> Heard
+        ensures { IsRequest request result }
+    {
+        if self.is_number {
+            Heard::Number(request)
+        } else {
+            Heard::Request(request)
+        }
+    }
+}
+
+// A mistake, and why it is one.
+fn told(reason: Result<String, AllocError>) -> Result<Heard, AllocError>
+    ensures { IfOk result IsMistake }
+{
+    match reason {
+        Ok(reason) => Ok(Heard::Mistake(reason)),
+        Err(lost) => Err(lost),
+    }
+}
+
+fn mistake(alloc: Global, reason: &str) -> Result<Heard, AllocError>
+    ensures { IfOk result IsMistake }
+{
+    told(String::from_str(alloc, reason))
+}
+
+// A mistake with the word that it is.
+fn mistake_at(alloc: Global, reason: &str, word: &[u8]) -> Result<Heard, AllocError>
+    ensures { IfOk result IsMistake }
+{
+    let mut said = Said::new(alloc);
+    said.put(reason);
+    said.bytes(word);
+    told(said.finish())
+}
+
+// A command whose first word is a thread.
+#[tactic(auto, using(crate::proofs::HearingLemmas::mistaken_verb))]
+fn hear_call(alloc: Global, verb: Verb, words: &[Vec<u8>]) -> Result<Heard, AllocError>
+    ensures { IfOk result (HearsVerb verb) }
+{
+    let [_, thread, fields @ ..] = words else {
+        return mistake_at(alloc, "wanted is ", verb.usage().as_bytes());
+    };
+    match Partner::read(thread) {
+        Some(partner) if partner.thread != ThreadId::NILTHREAD => {
+            hear_fields(alloc, verb, partner, fields)
+        }
+        _ => mistake_at(alloc, "wanted is a thread, as 1.1, or 1; not ", thread),
+    }
+}
+
+// A receive. Without a thread it is from anythread.
+#[tactic(auto, using(crate::proofs::HearingLemmas::mistaken_verb))]
+fn hear_receive(alloc: Global, words: &[Vec<u8>]) -> Result<Heard, AllocError>
+    ensures { IfOk result (HearsVerb Verb.Receive) }
+{
     match words {
-        [_, time] => match read_time(time) {
-            Ok(moment) => Ok(Typed::Line(format!(in alloc; "at {moment}")?)),
-            Err(fault) => bad(alloc, 1, "moment", fault.wanted(), time),
-        },
-        _ => mistake(alloc, "wanted is at TIME, as at 2ms"),
+        [_, thread, ..] if !thread.contains(&b'=') => hear_call(alloc, Verb::Receive, words),
+        [_, fields @ ..] => hear_fields(alloc, Verb::Receive, Partner::ANYBODY, fields),
+        [] => mistake_at(alloc, "wanted is ", Verb::Receive.usage().as_bytes()),
     }
 }
 
-// A call. One that is typed with the fields of a script is judged by these.
-fn read_call(alloc: Global, words: &[Vec<u8>]) -> Result<Typed, AllocError> {
-    if words.len() >= SCRIPT_WORDS && !has_named(words) {
-        return judged_words(alloc, words);
+#[tactic(auto, using(crate::proofs::HearingLemmas::mistaken_verb))]
+fn hear_fields(
+    alloc: Global,
+    verb: Verb,
+    partner: Partner,
+    words: &[Vec<u8>],
+) -> Result<Heard, AllocError>
+    ensures { IfOk result (HearsVerb verb) }
+{
+    let mut fields = Fields::new(alloc, verb);
+    match take_words(alloc, verb, &mut fields, words)? {
+        Some(mistake) => Ok(mistake),
+        None => with_buffers(alloc, verb, partner, &fields),
     }
-    match call_line(alloc, words)? {
-        Ok(line) => judged(alloc, line),
-        Err(CallFault::Wide) => mistake(
+}
+
+// Takes the words; the mistake of the first one that is no field of the command.
+fn take_words(
+    alloc: Global,
+    verb: Verb,
+    fields: &mut Fields,
+    words: &[Vec<u8>],
+) -> Result<Option<Heard>, AllocError>
+    ensures { IfOk result (λ found. IfSome found IsMistake) }
+{
+    for word in words {
+        match fields.add(alloc, word)? {
+            Ok(()) => {}
+            Err(FieldFault::Wrong) => return Ok(Some(wrong_field(alloc, verb, word)?)),
+            Err(FieldFault::LongStrings) => return Ok(Some(long_strings(alloc)?)),
+        }
+    }
+    Ok(None)
+}
+
+fn long_strings(alloc: Global) -> Result<Heard, AllocError>
+    ensures { IfOk result IsMistake }
+{
+    told(format!(in alloc;
+        "a message has 31 strings at most, of {MAX_STRING_BYTES} bytes together"
+    ))
+}
+
+// The buffers, and then the request.
+#[tactic(auto, using(crate::proofs::HearingLemmas::mistaken_verb))]
+fn with_buffers(
+    alloc: Global,
+    verb: Verb,
+    partner: Partner,
+    fields: &Fields,
+) -> Result<Heard, AllocError>
+    ensures { IfOk result (HearsVerb verb) }
+{
+    match fields.buffers(alloc) {
+        Ok(buffers) => with_message(alloc, verb, partner, fields, buffers),
+        Err(BufferFault::NoMemory) => Err(AllocError),
+        Err(BufferFault::TooManyWords) => mistake(alloc, "there are 16 buffers at most"),
+        Err(BufferFault::TooLong) => mistake(alloc, "a buffer has less than 2^54 bytes"),
+    }
+}
+
+fn wrong_field(alloc: Global, verb: Verb, word: &[u8]) -> Result<Heard, AllocError>
+    ensures { IfOk result IsMistake }
+{
+    let mut said = Said::new(alloc);
+    said.put("wanted is ");
+    said.put(wanted_for(verb, word));
+    said.put("; not ");
+    said.bytes(word);
+    told(said.finish())
+}
+
+// The message, where one is sent, and then the request.
+#[tactic(auto, using(crate::proofs::HearingLemmas::mistaken_verb, crate::proofs::HearingLemmas::asked_verb))]
+fn with_message(
+    alloc: Global,
+    verb: Verb,
+    partner: Partner,
+    fields: &Fields,
+    buffers: Buffers,
+) -> Result<Heard, AllocError>
+    ensures { IfOk result (HearsVerb verb) }
+{
+    match fields.message(alloc) {
+        Ok(message) => {
+            let request = request_of(verb, partner.thread, fields, message, buffers);
+            Ok(partner.asked(request))
+        }
+        Err(MessageFault::NoMemory) => Err(AllocError),
+        Err(MessageFault::WideLabel) => mistake(alloc, "a label has 48 bits at most"),
+        Err(MessageFault::TooManyWords) => mistake(
             alloc,
             "a message has 63 words at most, with two for each string",
         ),
-        Err(CallFault::Word(place, fault)) => call_mistake(alloc, words, place, fault),
     }
 }
 
-// Whether one of the words is a text, or a field with its name.
-fn has_named(words: &[Vec<u8>]) -> bool {
-    for word in words {
-        if word.starts_with(b"\"") || word.contains(&b'=') {
-            return true;
-        }
+fn request_of(
+    verb: Verb,
+    thread: ThreadId,
+    fields: &Fields,
+    message: Message,
+    buffers: Buffers,
+) -> Request
+    ensures { result ≡ verb_request verb thread message fields.now.send fields.now.receive buffers }
+{
+    let (send, receive) = (fields.send(), fields.receive());
+    match verb {
+        Verb::Send => Request::Send {
+            to: thread,
+            message,
+            send,
+        },
+        Verb::Receive => Request::Receive {
+            from: thread,
+            receive,
+            buffers,
+        },
+        Verb::Call => Request::Call {
+            to: thread,
+            message,
+            send,
+            receive,
+            buffers,
+        },
+        Verb::ReplyWait => Request::ReplyWait {
+            to: thread,
+            message,
+            receive,
+            buffers,
+        },
     }
-    false
 }
 
-// The word of a call that is none of its fields.
-fn call_mistake(
-    alloc: Global,
-    words: &[Vec<u8>],
-    place: usize,
-    fault: WordFault,
-) -> Result<Typed, AllocError> {
-    match words.get(place) {
-        Some(word) => bad(alloc, place, fault.name, fault.wanted, word),
-        None => mistake(
-            alloc,
-            "wanted is call ID, and to=ID to send, from=ID to receive",
-        ),
+#[tactic(auto, using(crate::proofs::HearingLemmas::mistaken_stop, crate::proofs::HearingLemmas::asked_stop))]
+fn hear_exreg(alloc: Global, words: &[Vec<u8>]) -> Result<Heard, AllocError>
+    ensures { IfOk result HearsStop }
+{
+    let [_, thread, control] = words else {
+        return mistake(alloc, "wanted is exreg ID send, receive, both or nothing");
+    };
+    match (Partner::read(thread), read_control(control)) {
+        (Some(partner), Some(control)) => Ok(partner.asked(Request::ExchangeRegisters {
+            dest: partner.thread,
+            control: Control::from_word(control),
+        })),
+        _ => mistake(alloc, "wanted is exreg ID send, receive, both or nothing"),
     }
 }

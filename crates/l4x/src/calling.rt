@@ -3,8 +3,8 @@ use crate::finding::{live_thread, look_up};
 use crate::keyvalue::{FOUND, GET, PUT};
 use crate::messages::{Received, message, message_of};
 use crate::trouble::Trouble;
+use ipc_base::{PortRead, PortWrite};
 use ipc_client::{Buffers, Client, Timeout};
-use ipc_ports::{PortRead, PortWrite};
 use ipc_words::ThreadId;
 use std::alloc::Global;
 

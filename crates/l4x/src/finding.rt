@@ -3,8 +3,8 @@ use crate::messages::{code_of, message_with_name, name_buffer, next_of};
 use crate::naming::{LOOK_UP, NAMES_NUMBER, NameError, REGISTER};
 use crate::standing::{Standing, standing_of};
 use crate::trouble::Trouble;
+use ipc_base::{PortRead, PortWrite};
 use ipc_client::{Answer, Client, Message, Received, Timeout};
-use ipc_ports::{PortRead, PortWrite};
 use ipc_words::ThreadId;
 use std::alloc::Global;
 

@@ -3,8 +3,8 @@
 use crate::calling::{Search, Server, thread_of};
 use crate::messages::{Received, message, message_of, receive_any};
 use crate::trouble::Trouble;
+use ipc_base::{PortRead, PortWrite};
 use ipc_client::{Client, Message, Timeout};
-use ipc_ports::{PortRead, PortWrite};
 use std::alloc::Global;
 use std::sync::Wait;
 

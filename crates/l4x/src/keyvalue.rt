@@ -1,8 +1,8 @@
 //! A server that keeps words by words.
 use crate::messages::{Received, message, message_of, receive_any};
 use crate::trouble::Trouble;
+use ipc_base::{PortRead, PortWrite};
 use ipc_client::{Answer, Buffers, Client, Message, Timeout};
-use ipc_ports::{PortRead, PortWrite};
 use std::alloc::Global;
 use std::collections::BTreeMap;
 use std::sync::Wait;

@@ -18,8 +18,8 @@ mod table;
 mod trouble;
 
 use calling::{Search, Server};
+use ipc_base::{Failures, PortRead, PortWrite, ReadPort, WritePort};
 use ipc_client::{Client, PatientStream};
-use ipc_ports::{Failures, PortRead, PortWrite, ReadPort, WritePort};
 use ipc_words::ThreadId;
 use role::{Role, Task};
 use std::alloc::Global;

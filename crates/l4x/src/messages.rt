@@ -1,9 +1,9 @@
 //! What is sent, and what comes back from the server.
 use crate::table::MAX_NAME_BYTES;
 use crate::trouble::Trouble;
+use ipc_base::{PortRead, PortWrite};
 use ipc_client::{Answer, Buffers, Client, Failure, Greeting, Message, Timeout};
 use ipc_items::StringList;
-use ipc_ports::{PortRead, PortWrite};
 use ipc_words::ThreadId;
 use std::alloc::Global;
 

@@ -1,8 +1,8 @@
 //! A thread that sleeps: a closed receive from itself waits until its timeout.
 use crate::messages::message_of;
 use crate::trouble::Trouble;
+use ipc_base::{PortRead, PortWrite};
 use ipc_client::{Buffers, Client, Timeout};
-use ipc_ports::{PortRead, PortWrite};
 use ipc_words::{Period, ThreadId};
 use std::alloc::Global;
 

@@ -1,8 +1,8 @@
 //! Whether a thread is live.
 use crate::messages::{code_of, name_buffer, next_of};
 use crate::trouble::Trouble;
+use ipc_base::{PortRead, PortWrite};
 use ipc_client::{Answer, Client, Received, Timeout};
-use ipc_ports::{PortRead, PortWrite};
 use ipc_words::ThreadId;
 use std::alloc::Global;
 

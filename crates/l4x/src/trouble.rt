@@ -3,7 +3,7 @@ use crate::naming::NameError;
 use ipc_client::{BufferFault, ClientError, MessageFault, PATIENCE};
 use ipc_words::IpcError;
 use l4sh_explain::meaning_behind;
-use l4sh_threads::cause_of;
+use l4sh_state::cause_of;
 use std::fmt;
 
 /// The words that name a role.

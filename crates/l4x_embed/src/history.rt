@@ -11,14 +11,13 @@ ghost use Rattle.ipc_core.specs.KernelParts.{history_of};
 
 use crate::calls::{ROOM, receive, send, thread};
 use crate::trouble::Trouble;
+use ipc_base::PortWrite;
 use ipc_check::{Verdict, check_from};
 use ipc_compact::BaseRoom;
 use ipc_core::{Command, Kernel, laws};
 use ipc_history::{Entry, Input};
-use ipc_part::{BaseNumbers, put_part};
-use ipc_ports::PortWrite;
 use ipc_threads::ThreadTable;
-use ipc_trace::TraceWriter;
+use ipc_trace::{BaseNumbers, TraceWriter, put_part};
 use std::alloc::Global;
 
 /// A message from thread 2 to thread 1, and what each takes.

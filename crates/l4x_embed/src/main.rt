@@ -10,7 +10,7 @@ mod seats;
 mod session;
 mod trouble;
 
-use ipc_ports::{Failures, WritePort};
+use ipc_base::{Failures, WritePort};
 use ipc_trace::TraceWriter;
 use std::alloc::Global;
 use std::io;

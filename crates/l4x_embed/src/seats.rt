@@ -4,9 +4,9 @@ ghost use Rattle.std.specs.Prelude.{◌≡◌, ◌^◌};
 
 use crate::calls::{ROOM, receive, send};
 use crate::trouble::Trouble;
+use ipc_base::PortWrite;
 use ipc_history::{Call, Outcome};
 use ipc_lock::{CallSeat, Locked, TakeSeat};
-use ipc_ports::PortWrite;
 use ipc_trace::TraceWriter;
 use ipc_words::ThreadId;
 use std::alloc::Global;

@@ -2,10 +2,10 @@
 //! reader asks a kernel, and what its writer tells the client.
 use crate::calls::thread;
 use crate::trouble::Trouble;
+use ipc_base::{MemoryPort, PortWrite};
 use ipc_connection::{NoBlocks, Told};
 use ipc_frame::{Frame, WireVersion, encode, ipcr_of};
 use ipc_history::Outcome;
-use ipc_ports::{MemoryPort, PortWrite};
 use ipc_session::{
     Ending, MemoryAnswers, MemoryKernelPort, Open, WriteEnding, read_loop, write_loop,
 };

@@ -1,7 +1,7 @@
 ghost use Rattle.std.specs.Prelude.{◌≡◌, ◌<◌};
 
 use crate::comparing::same;
-use ipc_ports::{
+use ipc_base::{
     Failures, MemoryPort, PortFault, PortRead, PortWrite, ReadPort, Trouble, WritePort, write_all,
 };
 use std::alloc::Global;

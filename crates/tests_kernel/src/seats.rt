@@ -1,6 +1,7 @@
 ghost use Rattle.std.specs.Prelude.{◌≡◌, ◌^◌, None, Some};
 
-use ipc_connection::{Request, Told};
+use ipc_base::PortFault;
+use ipc_connection::{Patience, PenPort, Request, Told, Turn};
 use ipc_core::{Answer, Command, Limits, Refusal};
 use ipc_frame::WireVersion;
 use ipc_history::{Call, CallFields};
@@ -8,8 +9,6 @@ use ipc_items::StringList;
 use ipc_lock::{
     Answered, CallSeat, Entered, Loaded, NotGiven, PostEnd, SharedKernel, TakeEnd, TakeSeat, Taken,
 };
-use ipc_pen::{Patience, PenPort, Turn};
-use ipc_ports::PortFault;
 use ipc_words::limits::{MAX_CALLS, MAX_ENTRIES};
 use ipc_words::{MsgTag, Period, ThreadId};
 use std::alloc::Global;

@@ -1,9 +1,9 @@
 // The client over ports in memory, where no program shows it: a device that fails, and answers of
 // version 2.
 use crate::comparing::same;
+use ipc_base::{MemoryPort, Trouble};
 use ipc_client::{Answer, Buffers, Client, ClientError, Greeting, Registers, Timeout};
 use ipc_frame::{CallEnd, FrameFault, WireVersion};
-use ipc_ports::{MemoryPort, Trouble};
 use ipc_words::{Control, ThreadId};
 use std::alloc::Global;
 use std::process::Abort;

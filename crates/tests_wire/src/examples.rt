@@ -1,8 +1,8 @@
 // The server and the client of the README of ipc_client, over ports in memory.
 use crate::comparing::same;
+use ipc_base::{MemoryPort, PortRead, PortWrite};
 use ipc_client::{Buffers, Client, Message, Timeout};
 use ipc_items::StringList;
-use ipc_ports::{MemoryPort, PortRead, PortWrite};
 use ipc_words::ThreadId;
 use std::alloc::Global;
 use std::test::Fail;

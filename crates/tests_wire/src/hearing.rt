@@ -2,11 +2,11 @@
 // once it is spent.
 use crate::comparing::{holds, same};
 use crate::vectors::BYE;
+use ipc_base::{MemoryPort, Trouble};
 use ipc_connection::{Blocks, CallDecoder, Heard};
 use ipc_frame::FrameFault;
 use ipc_history::Call;
 use ipc_items::StringList;
-use ipc_ports::{MemoryPort, Trouble};
 use std::alloc::Global;
 use std::process::Abort;
 

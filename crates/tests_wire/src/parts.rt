@@ -1,9 +1,8 @@
 // Parts of traces: what is read of each text, and that a part is written as it was read.
 use crate::comparing::{same, same_at};
+use ipc_base::{MemoryPort, Trouble};
 use ipc_compact::Base;
-use ipc_part::{BaseNumbers, Part, PartFault, put_part, read_part};
-use ipc_ports::{MemoryPort, Trouble};
-use ipc_trace::TraceWriter;
+use ipc_trace::{BaseNumbers, Part, PartFault, TraceWriter, put_part, read_part};
 use std::alloc::Global;
 use std::process::Abort;
 

@@ -2,10 +2,10 @@ ghost use Rattle.std.specs.Prelude.{◌≡◌, None, true};
 
 // The loops of a session over ports in memory.
 use crate::comparing::same;
+use ipc_base::{MemoryPort, PortFault, PortRead, Trouble};
 use ipc_connection::{NoBlocks, Request, Told};
 use ipc_core::Refusal;
 use ipc_frame::{Frame, WireVersion};
-use ipc_ports::{MemoryPort, PortFault, PortRead, Trouble};
 use ipc_session::{
     Beat, Deed, Ending, MemoryAnswers, MemoryKernelPort, MoveEnding, Open, WorkPort, WriteEnding,
     move_loop, read_loop, tick_loop, write_loop,

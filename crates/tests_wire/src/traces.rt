@@ -1,7 +1,7 @@
 // Traces: read and written, of both versions, and how they end.
 use crate::comparing::{holds, same, same_at};
+use ipc_base::{MemoryPort, Trouble};
 use ipc_history::{Entry, Input};
-use ipc_ports::{MemoryPort, Trouble};
 use ipc_trace::{PutFault, TraceEnd, TraceVersion, TraceWriter, put_trace, read_trace};
 use ipc_words::ThreadId;
 use std::alloc::Global;

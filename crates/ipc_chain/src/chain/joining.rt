@@ -8,16 +8,15 @@ ghost use Rattle.ipc_history.specs.Calls.{calls_made};
 ghost use Rattle.ipc_history.specs.Legal.{Quiet};
 ghost use Rattle.ipc_history.specs.NextOutput.{next_output};
 ghost use Rattle.ipc_history.specs.Threads.{is_live};
-ghost use Rattle.ipc_slots.specs.Slots.{live_of};
+ghost use Rattle.ipc_threads.specs.Slots.{live_of};
 ghost use Rattle.ipc_chain.specs.Judging.{Joins, SaysAs, TakesBelow, TakesLast};
 ghost use Rattle.std.specs.Option.{option_to_list};
 
 use crate::chain::Chain;
 use crate::difference::{Difference, other_base, other_kept, other_takes, too_early};
 use crate::same::{are_same, is_same_base};
-use ipc_compact::{Base, BaseRoom};
+use ipc_compact::{Base, BaseRoom, base_of};
 use ipc_history::{Entry, Input, Output};
-use ipc_partners::base_of;
 use ipc_rules::next_output;
 use ipc_words::ThreadId;
 use ipc_words::limits::TABLE_SLOTS;

@@ -7,9 +7,8 @@ ghost use Rattle.ipc_chain.specs.declared.behind.Put.TheVariants.{Done};
 use crate::behind::Put;
 use crate::chain::Chain;
 use crate::chain::joining::callers_kept;
-use ipc_part::{BaseNumbers, put_part};
-use ipc_ports::PortWrite;
-use ipc_trace::TraceWriter;
+use ipc_base::PortWrite;
+use ipc_trace::{BaseNumbers, TraceWriter, put_part};
 use std::alloc::AllocError;
 
 impl Chain {

@@ -4,7 +4,7 @@ use super::calls::sending_call;
 use super::guide::{Guide, Turn, is_receiving, live};
 use ipc_history::{Entry, Input, Output};
 use ipc_rules::is_free;
-use ipc_slots::{Slots, Standing};
+use ipc_threads::{Slots, Standing};
 use ipc_words::limits::TABLE_SLOTS;
 use ipc_words::{ErrorKind, IpcError, MaskedControl, Phase, ThreadId};
 use std::alloc::AllocError;

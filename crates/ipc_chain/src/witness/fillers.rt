@@ -1,7 +1,7 @@
 // Threads that live only for a while: those of versions of which a part keeps nothing.
 use super::guide::{Guide, Turn, live};
 use ipc_history::{Entry, Input};
-use ipc_slots::Slots;
+use ipc_threads::Slots;
 use ipc_words::ThreadId;
 use ipc_words::limits::MAX_THREAD_NUMBER;
 use std::alloc::AllocError;

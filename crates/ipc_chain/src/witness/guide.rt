@@ -5,7 +5,7 @@ use super::plan::{Receipt, Step, plan};
 use super::wanted::Wanted;
 use ipc_history::{Call, Entry, Input, Output};
 use ipc_rules::is_free;
-use ipc_slots::{Phase, Slots, Standing};
+use ipc_threads::{Phase, Slots, Standing};
 use ipc_words::ThreadId;
 use ipc_words::limits::TABLE_SLOTS;
 use std::alloc::{AllocError, Global};

@@ -12,8 +12,8 @@ use crate::answer::Answer;
 use crate::error::ClientError;
 use crate::message::{Buffers, Message};
 use crate::timeout::Timeout;
+use ipc_base::{PortRead, PortWrite};
 use ipc_frame::{Frame, FrameFault, IpcFrame, IpcParts};
-use ipc_ports::{PortRead, PortWrite};
 use ipc_words::{Period, ThreadId, Timeouts};
 
 // The frame of a call, or F4, F3 or F1.

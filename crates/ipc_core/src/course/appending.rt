@@ -21,7 +21,7 @@ ghost use Rattle.ipc_core.specs.CommandRoom.{command_need, is_clock};
 use crate::course::Course;
 use ipc_desks::{Desks, Finished, Prepared};
 use ipc_history::{Entry, Input};
-use ipc_slots::Slots;
+use ipc_threads::Slots;
 use ipc_words::ThreadId;
 
 impl Course {

@@ -22,9 +22,9 @@ ghost use Rattle.ipc_core.specs.Steps.{with_input};
 
 use crate::course::Course;
 use crate::course::appending::add;
+use ipc_compact::Partners;
 use ipc_desks::{Desks, Finished, Prepared};
 use ipc_history::{Call, EnteredCall, Entry, Input, Output};
-use ipc_partners::Partners;
 use ipc_rules::reached;
 use ipc_waits::Waiting;
 use ipc_words::ThreadId;

@@ -4,7 +4,7 @@ ghost use Rattle.ipc_history.specs.NextOutput.{next_output};
 ghost use Rattle.ipc_history.specs.declared.entry.Entry.TheVariants.{Written};
 ghost use Rattle.ipc_history.specs.declared.entry.Output.TheVariants.{Began, Ended};
 ghost use Rattle.ipc_laws.specs.Counting.{room_owed};
-ghost use Rattle.ipc_slots.specs.Passing.{AreHeld};
+ghost use Rattle.ipc_threads.specs.Passing.{AreHeld};
 ghost use Rattle.ipc_waits.specs.Waiting.{IsWaiting};
 ghost use Rattle.ipc_desks.specs.Finishes.{finishes, is_named};
 ghost use Rattle.ipc_core.specs.CourseParts.{SameBooks};
@@ -12,10 +12,10 @@ ghost use Rattle.ipc_core.specs.Passing.{HasPassed, IsWritten};
 
 use crate::course::Course;
 use crate::course::appending::add;
+use ipc_compact::Partners;
 use ipc_desks::{Desks, Finished};
 use ipc_history::{Entry, Output};
-use ipc_partners::Partners;
-use ipc_slots::Pair;
+use ipc_threads::Pair;
 use ipc_waits::Waiting;
 
 impl Course {

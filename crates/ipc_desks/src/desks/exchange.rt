@@ -12,7 +12,7 @@ use crate::desks::Desks;
 use crate::finished::Finished;
 use crate::message::Prepared;
 use ipc_history::{Call, Entry, Output};
-use ipc_slots::Slots;
+use ipc_threads::Slots;
 use ipc_words::ThreadId;
 
 impl Desks {

@@ -3,13 +3,13 @@ ghost use Rattle.ipc_words.specs.ThreadId.{nilthread};
 ghost use Rattle.ipc_history.specs.Legal.{Follows};
 ghost use Rattle.ipc_history.specs.declared.entry.Entry.TheVariants.{Written};
 ghost use Rattle.ipc_history.specs.declared.entry.Output.TheVariants.{Began, Ended};
-ghost use Rattle.ipc_slots.specs.Passing.{AreHeld};
+ghost use Rattle.ipc_threads.specs.Passing.{AreHeld};
 ghost use Rattle.ipc_desks.specs.Finishes.{finishes, is_named};
 
 use crate::desks::Desks;
 use crate::finished::Finished;
 use ipc_history::Entry;
-use ipc_slots::{Pair, Slots, Standing};
+use ipc_threads::{Pair, Slots, Standing};
 use ipc_words::ThreadId;
 
 /// Whose calls are over where a message has passed: that of the receiver, and that of a sender

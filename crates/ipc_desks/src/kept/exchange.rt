@@ -12,7 +12,7 @@ use crate::kept::KeptDesks;
 use crate::message::Prepared;
 use ipc_base::Past;
 use ipc_history::Call;
-use ipc_slots::Slots;
+use ipc_threads::Slots;
 use ipc_words::ThreadId;
 
 impl KeptDesks {

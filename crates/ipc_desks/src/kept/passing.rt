@@ -2,14 +2,14 @@ ghost use Rattle.std.specs.Prelude.{◌≡◌, [], ◌∷◌, ◌++◌};
 ghost use Rattle.ipc_history.specs.Legal.{Follows};
 ghost use Rattle.ipc_history.specs.declared.entry.Entry.TheVariants.{Written};
 ghost use Rattle.ipc_history.specs.declared.entry.Output.TheVariants.{Began, Ended};
-ghost use Rattle.ipc_slots.specs.Passing.{AreHeld};
-ghost use Rattle.ipc_slots.specs.Standings.{standing_of};
+ghost use Rattle.ipc_threads.specs.Passing.{AreHeld};
+ghost use Rattle.ipc_threads.specs.Standings.{standing_of};
 ghost use Rattle.ipc_desks.specs.Desks.{Keeps};
 
 use crate::desk::{delivered, nothing};
 use crate::kept::KeptDesks;
 use ipc_base::Past;
-use ipc_slots::{Pair, Slots, Standing};
+use ipc_threads::{Pair, Slots, Standing};
 use ipc_words::ThreadId;
 
 // A message that passes at once.

@@ -10,9 +10,8 @@ ghost use Rattle.ipc_words.specs.ThreadId.{number_of};
 
 use super::Inside;
 use crate::seated::{CallSeat, TakeSeat};
-use ipc_connection::{Request, Told, command_of, told_of, version_asked};
+use ipc_connection::{PenPort, Request, Told, command_of, told_of, version_asked};
 use ipc_frame::WireVersion;
-use ipc_pen::PenPort;
 use std::sync::ledger::Ledger;
 
 impl<C: Ledger, T: Ledger, P: PenPort + Drop> Inside<C, T, P> {

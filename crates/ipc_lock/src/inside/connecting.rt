@@ -2,11 +2,11 @@
 ghost use Rattle.std.specs.Prelude.{◌≡◌, IfOk, MatchBool, OnErr, if◌then◌else◌, map, slice_get, vec_capacity, vec_len};
 ghost use Rattle.ipc_lock.specs.Boxes.{changed_at, new_box};
 ghost use Rattle.ipc_lock.specs.Places.{ConnectsAt, Frees, disowned, gives_back, is_empty_in, is_free_in, is_in, is_shut_in};
-ghost use Rattle.ipc_pen.specs.Pens.{BeginsEmpty, new_page};
+ghost use Rattle.ipc_connection.specs.Pens.{BeginsEmpty, new_page};
 
 use super::Inside;
 use crate::post_box::PostBox;
-use ipc_pen::PenPort;
+use ipc_connection::PenPort;
 use std::alloc::AllocError;
 use std::sync::ledger::Ledger;
 use std::sync::{Arc, Condvar};

@@ -6,8 +6,8 @@ ghost use Rattle.ipc_lock.specs.Telling.{BreaksFor, BrokeFor};
 
 use super::{After, Inside};
 use crate::errands::Errands;
+use ipc_connection::PenPort;
 use ipc_core::Command;
-use ipc_pen::PenPort;
 use ipc_words::ThreadId;
 use std::sync::ledger::Ledger;
 

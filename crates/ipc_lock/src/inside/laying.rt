@@ -6,7 +6,7 @@ ghost use Rattle.ipc_lock.specs.Places.{LaysAt, LooksAgain, TakesBack, WorksFor}
 use super::Inside;
 use crate::errands::Errands;
 use crate::post_box::{Loaded, Work};
-use ipc_pen::PenPort;
+use ipc_connection::PenPort;
 use std::sync::ledger::Ledger;
 
 impl<C: Ledger, T: Ledger, P: PenPort + Drop> Inside<C, T, P> {

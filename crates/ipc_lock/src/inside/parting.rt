@@ -7,7 +7,7 @@ use super::Inside;
 use crate::not_given::NotGiven;
 use crate::part::{Behind, HeldPart};
 use ipc_compact::BaseRoom;
-use ipc_pen::PenPort;
+use ipc_connection::PenPort;
 use std::alloc::AllocError;
 use std::sync::ledger::Ledger;
 

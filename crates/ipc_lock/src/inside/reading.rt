@@ -13,8 +13,8 @@ ghost use Rattle.l4sh_state.specs.States.{IsStateOf};
 use super::Inside;
 use crate::not_given::NotGiven;
 use crate::seated::{TakeSeat, Taken};
+use ipc_connection::PenPort;
 use ipc_history::Entry;
-use ipc_pen::PenPort;
 use l4sh_state::State;
 use std::sync::ledger::Ledger;
 

@@ -7,9 +7,8 @@ ghost use Rattle.ipc_lock.specs.Telling.{ActsAndTells, AsksAndTells};
 use super::{After, Inside};
 use crate::errands::Errands;
 use crate::seated::{Answered, CallSeat};
-use ipc_connection::{Request, Told};
+use ipc_connection::{PenPort, Request, Told};
 use ipc_core::Command;
-use ipc_pen::PenPort;
 use std::sync::ledger::Ledger;
 
 impl<C: Ledger, T: Ledger, P: PenPort + Drop> Inside<C, T, P> {

@@ -4,7 +4,7 @@ ghost use Rattle.ipc_lock.specs.Alarms.{Rests, WakesBefore};
 
 use super::Inside;
 use crate::rest::Rest;
-use ipc_pen::PenPort;
+use ipc_connection::PenPort;
 use std::sync::ledger::Ledger;
 
 impl<C: Ledger, T: Ledger, P: PenPort + Drop> Inside<C, T, P> {

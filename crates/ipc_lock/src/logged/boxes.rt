@@ -5,14 +5,13 @@ ghost use Rattle.ipc_lock.specs.Gifts.{gifts, no_errands, number_in};
 ghost use Rattle.ipc_lock.specs.Places.{ConnectsAt, FreesSome, LoadsAt};
 ghost use Rattle.ipc_lock.specs.Turns.{Turned};
 ghost use Rattle.ipc_lock.specs.declared.events.Event.TheVariants as event;
-ghost use Rattle.ipc_pen.specs.Pens.{BeginsEmpty, new_page};
+ghost use Rattle.ipc_connection.specs.Pens.{BeginsEmpty, new_page};
 
 use super::Logged;
 use super::gifts::{gifts, number_at};
 use crate::errands::Errands;
 use crate::events::Event;
-use ipc_connection::Told;
-use ipc_pen::PenPort;
+use ipc_connection::{PenPort, Told};
 use std::alloc::AllocError;
 use std::sync::ledger::Ledger;
 

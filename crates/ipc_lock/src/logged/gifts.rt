@@ -10,8 +10,8 @@ use crate::inside::Inside;
 use crate::post_box::Work;
 use crate::seated::Taken;
 use ipc_base::Past;
+use ipc_connection::PenPort;
 use ipc_history::Outcome;
-use ipc_pen::PenPort;
 use std::sync::ledger::Ledger;
 
 /// What the pens on errands were given last.

@@ -10,7 +10,7 @@ use super::gifts::{gifts, gifts_of_work, idle_at};
 use crate::errands::Errands;
 use crate::events::Event;
 use crate::post_box::Work;
-use ipc_pen::PenPort;
+use ipc_connection::PenPort;
 use std::sync::ledger::Ledger;
 
 impl<C: Ledger, T: Ledger, P: PenPort + Drop> Logged<C, T, P> {

@@ -15,7 +15,7 @@ use crate::events::Event;
 use crate::not_given::NotGiven;
 use crate::part::{Behind, HeldPart};
 use crate::seated::{TakeSeat, Taken};
-use ipc_pen::PenPort;
+use ipc_connection::PenPort;
 use std::alloc::AllocError;
 use std::sync::ledger::Ledger;
 

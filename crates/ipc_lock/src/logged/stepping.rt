@@ -15,9 +15,8 @@ use crate::events::Event;
 use crate::inside::After;
 use crate::seated::{Answered, CallSeat};
 use ipc_base::Past;
-use ipc_connection::{Request, Told};
+use ipc_connection::{PenPort, Request, Told};
 use ipc_core::Command;
-use ipc_pen::PenPort;
 use std::sync::ledger::Ledger;
 
 impl<C: Ledger, T: Ledger, P: PenPort + Drop> Logged<C, T, P> {

@@ -5,7 +5,7 @@ ghost use Rattle.ipc_lock.specs.Turns.{Runs};
 
 use super::Logged;
 use crate::rest::Rest;
-use ipc_pen::PenPort;
+use ipc_connection::PenPort;
 use std::sync::ledger::Ledger;
 
 impl<C: Ledger, T: Ledger, P: PenPort + Drop> Logged<C, T, P> {

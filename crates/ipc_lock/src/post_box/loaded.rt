@@ -1,8 +1,8 @@
 //! A pen that was taken out of its box.
 ghost use Rattle.std.specs.Prelude.{◌≡◌, ◌≢◌, ◌<◌, None, true, false};
-ghost use Rattle.ipc_pen.specs.Pens.{Passes, is_ready, rest_of};
+ghost use Rattle.ipc_connection.specs.Pens.{Passes, is_ready, rest_of};
 
-use ipc_pen::{Patience, Pen, PenPort, Turn};
+use ipc_connection::{Patience, Pen, PenPort, Turn};
 use std::marker::Model;
 
 /// A pen that is out of its box with what is told next. It can only be written with: it is given
@@ -14,7 +14,7 @@ pub struct Loaded<P: PenPort> {
 }
 
 impl<P: PenPort> Model for Loaded<P> {
-    ghost use Rattle.ipc_pen.specs.Pens.{Page};
+    ghost use Rattle.ipc_connection.specs.Pens.{Page};
 
     ghost Value = { Page };
 

@@ -2,7 +2,7 @@
 
 use super::SharedKernel;
 use crate::logged::Logged;
-use ipc_pen::PenPort;
+use ipc_connection::PenPort;
 use std::hint::spin_loop;
 use std::sync::ledger::Ledger;
 use std::sync::{MutexGuard, Wait};

@@ -5,7 +5,7 @@ ghost use Rattle.ipc_lock.specs.Above.{EndsAPart, PartOfSome};
 use super::SharedKernel;
 use crate::not_given::NotGiven;
 use crate::part::{Behind, HeldPart};
-use ipc_pen::PenPort;
+use ipc_connection::PenPort;
 use std::alloc::AllocError;
 use std::sync::Wait;
 use std::sync::ledger::Ledger;

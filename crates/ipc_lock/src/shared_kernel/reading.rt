@@ -8,9 +8,9 @@ ghost use Rattle.l4sh_state.specs.States.{IsStateOf};
 
 use super::SharedKernel;
 use crate::not_given::NotGiven;
+use ipc_connection::PenPort;
 use ipc_history::Entry;
 use ipc_lines::entry_line;
-use ipc_pen::PenPort;
 use l4sh_state::State;
 use std::sync::Wait;
 use std::sync::ledger::Ledger;

@@ -7,7 +7,7 @@ ghost use Rattle.ipc_waits.specs.Waiting.{IsWaiting};
 
 use crate::waiting::Waiting;
 use ipc_history::{Call, Entry};
-use ipc_slots::Change;
+use ipc_threads::Change;
 use ipc_words::ThreadId;
 
 impl Waiting {

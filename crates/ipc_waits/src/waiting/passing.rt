@@ -3,9 +3,9 @@ ghost use Rattle.std.specs.List.{list_any};
 ghost use Rattle.ipc_history.specs.Legal.{Follows};
 ghost use Rattle.ipc_history.specs.declared.entry.Entry.TheVariants.{Written};
 ghost use Rattle.ipc_history.specs.declared.entry.Output.TheVariants.{Began, Ended};
-ghost use Rattle.ipc_slots.specs.Passing.{AreHeld};
-ghost use Rattle.ipc_slots.specs.Slots.{slot_at};
-ghost use Rattle.ipc_slots.specs.Steps.{holds};
+ghost use Rattle.ipc_threads.specs.Passing.{AreHeld};
+ghost use Rattle.ipc_threads.specs.Slots.{slot_at};
+ghost use Rattle.ipc_threads.specs.Steps.{holds};
 ghost use Rattle.ipc_waits.specs.Finding.{sends_to};
 ghost use Rattle.ipc_waits.specs.Passing.{IsPairOf, passes_at_once};
 ghost use Rattle.ipc_waits.specs.Queues.{is_in};
@@ -14,7 +14,7 @@ ghost use Rattle.ipc_waits.specs.Waiting.{IsWaiting};
 use crate::queue::Wait;
 use crate::waiting::Waiting;
 use ipc_history::Entry;
-use ipc_slots::{Pair, Standing};
+use ipc_threads::{Pair, Standing};
 use ipc_words::ThreadId;
 
 /// The wait of a call among some waits.

@@ -10,7 +10,7 @@ use crate::queue::Wait;
 use crate::waiting::Waiting;
 use ipc_history::Call;
 use ipc_rules::{is_patient, lets_in};
-use ipc_slots::Slots;
+use ipc_threads::Slots;
 use ipc_words::ThreadId;
 
 /// Whether a live thread that waits with this FromSpecifier lets in a waiting send.

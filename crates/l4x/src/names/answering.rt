@@ -3,8 +3,8 @@ use super::Served;
 use crate::messages::{message, message_with_name, name_buffer, next_of};
 use crate::naming::Reply;
 use crate::trouble::Trouble;
+use ipc_base::{PortRead, PortWrite};
 use ipc_client::{Client, Message, Received, Timeout};
-use ipc_ports::{PortRead, PortWrite};
 use ipc_words::ThreadId;
 use std::alloc::Global;
 

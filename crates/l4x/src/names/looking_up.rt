@@ -4,8 +4,8 @@ use crate::naming::{NameError, Reply};
 use crate::standing::{Standing, standing_of};
 use crate::table::{MAX_NAMES, Name, Table};
 use crate::trouble::Trouble;
+use ipc_base::{PortRead, PortWrite};
 use ipc_client::{Client, Received};
-use ipc_ports::{PortRead, PortWrite};
 use ipc_words::ThreadId;
 use std::alloc::Global;
 

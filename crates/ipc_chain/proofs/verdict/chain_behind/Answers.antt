@@ -1,5 +1,5 @@
 use Rattle.std.proofs.Common.{◌∙◌, arith, refl, List, [], ◌∷◌, ◌++◌, ap, append_assoc, append-nil, map, subst, sym, IsTrue}
-use Rattle.ipc_part.specs.Parts.{PartParts}
+use Rattle.ipc_trace.specs.Parts.{PartParts}
 use Rattle.ipc_chain.specs.Chains.{BreaksBehind, ChainFrom, begun, entries_of, parts_of}
 use Rattle.ipc_chain.specs.Judging.{ChainParts, IsFirstFile}
 use Rattle.ipc_chain.proofs.Walking.{behind_first, first_behind}

@@ -1,5 +1,5 @@
 use Rattle.std.proofs.Common.{◌≡◌, ◌↔◌, List, ◌++◌, map}
-use Rattle.ipc_part.specs.Parts.{PartParts}
+use Rattle.ipc_trace.specs.Parts.{PartParts}
 use Rattle.std.specs.Vec.Iter.{into_iter_items, into_iter_len}
 use Rattle.ipc_chain.specs.Chains.{ChainFrom, entries_of, parts_of}
 use Rattle.ipc_chain.proofs.verdict.walk_parts.Given as goal

@@ -1,6 +1,6 @@
 use Rattle.std.proofs.Common.{sym, ◌∙◌}
 use Rattle.std.proofs.lemmas.Option.{none-some, same_Some}
-use Rattle.ipc_slots.specs.Standings.{standing_of}
+use Rattle.ipc_threads.specs.Standings.{standing_of}
 use Rattle.ipc_desks.proofs.Standings.{standing_there}
 use Rattle.ipc_desks.proofs.kept.standing.Goals as goal
 

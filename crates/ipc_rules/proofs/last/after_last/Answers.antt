@@ -1,5 +1,5 @@
 use Rattle.std.proofs.Common.{sym, ◌∙◌}
-use Rattle.ipc_slots.specs.declared.last.Last.TheVariants.{Nothing, ExchangeRegisters, Began}
+use Rattle.ipc_threads.specs.declared.last.Last.TheVariants.{Nothing, ExchangeRegisters, Began}
 use Rattle.ipc_rules.proofs.Lasts.{began_told, exreg_told, last_at}
 use Rattle.ipc_rules.proofs.last.after_last.Goals as goal
 

@@ -1,7 +1,7 @@
 use Rattle.std.proofs.Common.{sym, ap, ◌∙◌, option_and_then, option_copied}
 use Rattle.ipc_history.specs.NextOutput.{stop}
 use Rattle.ipc_rules.proofs.Lasts.{stop_absent}
-use Rattle.ipc_slots.proofs.Lookups.{call_up}
+use Rattle.ipc_threads.proofs.Lookups.{call_up}
 use Rattle.ipc_rules.proofs.last.stop_of.Goals as goal
 
 pub stop_call-requires : goal.stop_call-requires

@@ -1,7 +1,7 @@
 use Rattle.std.proofs.Common.{sym, ap, ◌∙◌}
 use Rattle.ipc_rules.specs.Rules.{turn_of}
 use Rattle.ipc_rules.proofs.Lasts.{began_open, began_turn}
-use Rattle.ipc_slots.proofs.Holders.{slot_call}
+use Rattle.ipc_threads.proofs.Holders.{slot_call}
 use Rattle.ipc_rules.proofs.last.turn_began.Goals as goal
 
 pub place_of-place-requires : goal.place_of-place-requires

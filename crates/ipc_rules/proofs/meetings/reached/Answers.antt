@@ -1,7 +1,7 @@
 use Rattle.std.proofs.Common.{sym, ap, ◌∙◌, option_map, option_copied}
 use Rattle.ipc_history.specs.Phases.{open_call}
-use Rattle.ipc_slots.proofs.Lookups.{none_up}
-use Rattle.ipc_slots.specs.Standings.{standing_of}
+use Rattle.ipc_threads.proofs.Lookups.{none_up}
+use Rattle.ipc_threads.specs.Standings.{standing_of}
 use Rattle.ipc_rules.proofs.Reaching.{reaches_awaits, reaches_it, reaches_open, reaches_words}
 use Rattle.ipc_rules.proofs.meetings.reached.Goals as goal
 

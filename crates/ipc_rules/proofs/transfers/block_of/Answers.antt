@@ -1,6 +1,6 @@
 use Rattle.std.proofs.Common.{sym, ◌∙◌}
 use Rattle.ipc_rules.proofs.Answering.{bytes_of, moving_open}
-use Rattle.ipc_slots.proofs.Holders.{slot_call}
+use Rattle.ipc_threads.proofs.Holders.{slot_call}
 use Rattle.ipc_rules.proofs.transfers.block_of.Goals as goal
 
 pub place_of-place-requires : goal.place_of-place-requires

@@ -1,8 +1,8 @@
 use Rattle.std.proofs.Common.{◌≡◌, ℕ, List, ◌+◌, ◌++◌, length, Option, Some, None, Result, Ok, refl, sym, subst, arith}
-use Rattle.ipc_ports.proofs.Giving.{gives_then}
-use Rattle.ipc_ports.specs.Ports.{Gives, Input, input_of}
+use Rattle.ipc_base.proofs.Giving.{gives_then}
+use Rattle.ipc_base.specs.Ports.{Gives, Input, input_of}
 use Rattle.ipc_connection.specs.ReadOn.{Fails, TakesMore, TakesOn}
-use Rattle.ipc_ports.specs.declared.fault.PortFault.{PortFault}
+use Rattle.ipc_base.specs.declared.fault.PortFault.{PortFault}
 use Rattle.ipc_connection.specs.Taking.{Decoding, Holds}
 use Rattle.ipc_connection.specs.declared.stage.Stage.{Stage}
 use Rattle.ipc_session.proofs.ReadLemmas.{begin, leaves_piece, on_not_over, over_is, over_not_on, stop}

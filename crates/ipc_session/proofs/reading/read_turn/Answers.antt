@@ -1,5 +1,5 @@
 use Rattle.std.proofs.Common.{◌++◌, ◌<◌, length, refl, rules}
-use Rattle.ipc_ports.proofs.Giving.{gives_kept, gives_no_more, gives_then}
+use Rattle.ipc_base.proofs.Giving.{gives_kept, gives_no_more, gives_then}
 use Rattle.ipc_session.proofs.ReadLemmas.{device_not_end, device_not_stopped, leaves_piece, not_at_end, not_by_piece, not_device, not_stopped, over_is, over_not_on}
 use Rattle.ipc_session.proofs.reading.read_turn.Goals as goal
 

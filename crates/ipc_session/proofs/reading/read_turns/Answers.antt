@@ -1,5 +1,5 @@
 use Rattle.std.proofs.Common.{[], ap, arith, refl, ◌∙◌}
-use Rattle.ipc_ports.proofs.Giving.{gives_none}
+use Rattle.ipc_base.proofs.Giving.{gives_none}
 use Rattle.ipc_connection.specs.declared.stage.Stage.TheVariants.{Greeting}
 use Rattle.ipc_session.proofs.ReadLemmas.{ends_with, goes_on, goes_on_with, served_none}
 use Rattle.ipc_session.specs.declared.turned.Turned.TheVariants.{Over}

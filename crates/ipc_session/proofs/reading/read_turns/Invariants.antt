@@ -1,6 +1,6 @@
 -- All whole frames of the bytes read were served, and the device has not failed.
 use Rattle.std.proofs.Common.{◌≡◌, ℕ, List, []}
-use Rattle.ipc_ports.specs.Ports.{Gives, input_of}
+use Rattle.ipc_base.specs.Ports.{Gives, input_of}
 use Rattle.ipc_connection.specs.Taking.{Holds}
 use Rattle.ipc_connection.specs.declared.stage.Stage.TheVariants.{Greeting}
 use Rattle.ipc_session.specs.Reading.{HasServed}

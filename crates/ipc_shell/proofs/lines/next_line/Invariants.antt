@@ -1,9 +1,9 @@
 -- The line so far is of one line, and is what was read.
 use Rattle.std.proofs.Common.{◌≡◌, ◌≤◌, length}
 use Rattle.std.specs.Io.KnownBytes.{Consumes, prepend_known}
-use Rattle.ipc_ports.specs.Ports.{most_left}
+use Rattle.ipc_base.specs.Ports.{most_left}
 use Rattle.ipc_shell.specs.ScriptLines.{longest_line}
-use Rattle.ipc_ports.specs.Lines.{IsOneLine}
+use Rattle.ipc_base.specs.Lines.{IsOneLine}
 use Rattle.ipc_shell.proofs.lines.next_line.Given as goal
 
 abbrev pub invariant-reads : goal.invariant-reads

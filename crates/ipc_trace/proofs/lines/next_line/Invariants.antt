@@ -1,7 +1,7 @@
 -- The line so far.
 use Rattle.std.proofs.Common.{◌≡◌, ◌≤◌}
 use Rattle.std.specs.Io.KnownBytes.{prepend_known}
-use Rattle.ipc_ports.specs.Ports.{most_left}
+use Rattle.ipc_base.specs.Ports.{most_left}
 use Rattle.ipc_trace.proofs.Pieces.{SoFar}
 use Rattle.ipc_trace.proofs.lines.next_line.Given as goal
 

@@ -1,7 +1,7 @@
 -- What was taken is the line of the version and those of the entries.
 use Rattle.std.proofs.Common.{◌≡◌}
 use Rattle.std.specs.Io.KnownBytes.{prepend_known}
-use Rattle.ipc_ports.specs.Ports.{most_left}
+use Rattle.ipc_base.specs.Ports.{most_left}
 use Rattle.ipc_trace.proofs.Stages.{LinesSoFar}
 use Rattle.ipc_trace.proofs.reading.read_lines.Given as goal
 

@@ -1,6 +1,6 @@
 -- No call failed so far.
 use Rattle.std.proofs.Common.{◌≡◌}
-use Rattle.ipc_ports.specs.Ports.{most_left}
+use Rattle.ipc_base.specs.Ports.{most_left}
 use Rattle.l4sh.proofs.talk.talk_lines.Given as goal
 
 abbrev pub invariant-lines : goal.invariant-lines

@@ -1,4 +1,4 @@
-use Rattle.ipc_slots.proofs.OutputCalls.{both_open}
+use Rattle.ipc_threads.proofs.OutputCalls.{both_open}
 use Rattle.l4sh_count.proofs.event.failure.Goals as goal
 
 pub open_call-call-requires : goal.open_call-call-requires

@@ -1,5 +1,5 @@
 use Rattle.std.proofs.Common.{◌≡◌, ◌∙◌, sym, Some, None}
-use Rattle.ipc_slots.specs.Standings.{standing_of}
+use Rattle.ipc_threads.specs.Standings.{standing_of}
 use Rattle.l4sh_count.proofs.Opening.{call_there}
 use Rattle.l4sh_count.proofs.event.open_call.Goals as goal
 

@@ -1,5 +1,5 @@
 use Rattle.std.proofs.Common.{◌∙◌, sym}
-use Rattle.ipc_slots.proofs.Holders.{live_of_is}
+use Rattle.ipc_threads.proofs.Holders.{live_of_is}
 use Rattle.l4sh_state.proofs.ThreadLemmas.{live_none, live_some}
 use Rattle.l4sh_state.proofs.threads.live_of.Goals as goal
 

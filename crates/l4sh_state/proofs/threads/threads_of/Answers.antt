@@ -1,6 +1,6 @@
 use Rattle.std.proofs.Common.{◌∙◌, None, arith, ◌<◌, length}
 use Rattle.std.proofs.Math.ListN.{length-set}
-use Rattle.ipc_slots.specs.Slots.{slot_of}
+use Rattle.ipc_threads.specs.Slots.{slot_of}
 use Rattle.l4sh_state.proofs.ThreadLemmas.{set_more}
 use Rattle.l4sh_state.proofs.threads.threads_of.Goals as goal
 

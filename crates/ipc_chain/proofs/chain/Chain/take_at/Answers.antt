@@ -1,5 +1,5 @@
 use Rattle.std.proofs.Common.{sym}
-use Rattle.ipc_slots.proofs.Holders.{live_of_is}
+use Rattle.ipc_threads.proofs.Holders.{live_of_is}
 use Rattle.ipc_chain.proofs.Taking.{below_apart, below_nobody}
 use Rattle.ipc_chain.proofs.chain.Chain.take_at.Goals as goal
 

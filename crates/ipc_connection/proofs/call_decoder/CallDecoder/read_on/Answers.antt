@@ -1,5 +1,5 @@
 use Rattle.std.proofs.Common.{false, sym, ap, subst, ◌∙◌}
-use Rattle.ipc_ports.specs.Ports.{input_of}
+use Rattle.ipc_base.specs.Ports.{input_of}
 use Rattle.ipc_connection.specs.ReadOn.{TakesOn}
 use Rattle.ipc_connection.specs.Taking.{Decoding}
 use Rattle.ipc_connection.proofs.ReadOnLemmas.{takes_on}

@@ -4,7 +4,7 @@ use Rattle.ipc_history.specs.declared.entry.Entry.{Entry}
 use Rattle.ipc_history.proofs.HoldingLemmas.{reached_most}
 use Rattle.ipc_compact.specs.Compact.{is_kept}
 use Rattle.ipc_compact.specs.Places.{WasPlaced}
-use Rattle.ipc_partners.specs.Kept.{passes}
+use Rattle.ipc_compact.specs.Kept.{passes}
 use Rattle.ipc_core.specs.Books.{TookOthers}
 use Rattle.ipc_core.specs.Compacting.{kept_to}
 use Rattle.ipc_core.specs.CourseParts.{history_of}

@@ -3,7 +3,7 @@ use Rattle.ipc_history.specs.Legal.{Follows}
 use Rattle.ipc_history.specs.declared.entry.Entry.TheVariants.{Written}
 use Rattle.ipc_history.specs.declared.entry.Output.TheVariants.{Began, Ended}
 use Rattle.ipc_compact.specs.Places.{WasPlaced}
-use Rattle.ipc_slots.specs.Passing.{AreHeld}
+use Rattle.ipc_threads.specs.Passing.{AreHeld}
 use Rattle.ipc_waits.specs.Waiting.{IsWaiting}
 use Rattle.ipc_core.specs.Finished.{with_name}
 use Rattle.ipc_core.specs.Outcomes.{is_among}

@@ -1,4 +1,4 @@
-use Rattle.ipc_slots.proofs.Starting.{nothing_legal}
+use Rattle.ipc_threads.proofs.Starting.{nothing_legal}
 use Rattle.ipc_desks.proofs.desks.Desks.new.Goals as goal
 
 pub invariant_of-result : goal.invariant_of-result

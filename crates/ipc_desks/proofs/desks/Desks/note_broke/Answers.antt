@@ -2,7 +2,7 @@ use Rattle.std.proofs.Common.{subst}
 use Rattle.ipc_history.specs.declared.entry.Entry.TheVariants.{Given}
 use Rattle.ipc_history.specs.declared.entry.Input.TheVariants.{Broke}
 use Rattle.ipc_laws.proofs.Settling.{legal_push}
-use Rattle.ipc_slots.proofs.ThreadSteps.{broke_live}
+use Rattle.ipc_threads.proofs.ThreadSteps.{broke_live}
 use Rattle.ipc_desks.specs.Steps.{Changed, left}
 use Rattle.ipc_desks.proofs.QuietEntries.{broke_finishes, broke_keeps}
 use Rattle.ipc_desks.proofs.desks.Desks.note_broke.Goals as goal

@@ -6,8 +6,8 @@ use Rattle.ipc_history.specs.Outcomes.{nothing, received, timed}
 use Rattle.ipc_history.specs.declared.entry.Entry.TheVariants.{Written}
 use Rattle.ipc_history.specs.declared.entry.Output.TheVariants.{Ended}
 use Rattle.ipc_laws.proofs.Settling.{legal_push}
-use Rattle.ipc_slots.specs.Standings.{standing_of}
-use Rattle.ipc_slots.proofs.Holders.{standing_number}
+use Rattle.ipc_threads.specs.Standings.{standing_of}
+use Rattle.ipc_threads.proofs.Holders.{standing_number}
 use Rattle.ipc_desks.proofs.EndedNotes.{is_done, tells_one, tells_two, waits_on}
 use Rattle.ipc_desks.proofs.OutputDesks.{ended_open, not_not}
 use Rattle.ipc_desks.proofs.desks.Desks.note_ended.Goals as goal

@@ -1,6 +1,6 @@
 use Rattle.std.proofs.Common.{sym, ◌∙◌}
 use Rattle.std.proofs.lemmas.Option.{none-some, same_Some}
-use Rattle.ipc_slots.proofs.Passed.{held_place, held_within}
+use Rattle.ipc_threads.proofs.Passed.{held_place, held_within}
 use Rattle.ipc_desks.proofs.OutputDesks.{not_not}
 use Rattle.ipc_desks.proofs.PassedDesks.{buffers_is, message_is, pass_done, pass_waits, told_fits, told_words}
 use Rattle.ipc_desks.proofs.kept.KeptDesks.pass.Goals as goal

@@ -1,5 +1,5 @@
 use Rattle.std.proofs.Common.{sym, ap, ◌∙◌, option_copied}
-use Rattle.ipc_slots.proofs.Holders.{slot_standing}
+use Rattle.ipc_threads.proofs.Holders.{slot_standing}
 use Rattle.ipc_rules.proofs.read.ReadSlots.better_meeting.Goals as goal
 
 pub meeting_of-requires : goal.meeting_of-requires

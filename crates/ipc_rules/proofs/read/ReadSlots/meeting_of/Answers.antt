@@ -1,6 +1,6 @@
 use Rattle.std.proofs.Common.{sym, ap, ◌∙◌, Some, option_copied}
 use Rattle.ipc_rules.proofs.Meets.{match_open, meeting_none, meeting_told}
-use Rattle.ipc_slots.proofs.Lookups.{looked_up}
+use Rattle.ipc_threads.proofs.Lookups.{looked_up}
 use Rattle.ipc_history.specs.Matching.{match_of}
 use Rattle.ipc_rules.proofs.read.ReadSlots.meeting_of.Goals as goal
 

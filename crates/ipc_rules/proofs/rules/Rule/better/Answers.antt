@@ -2,7 +2,7 @@ use Rattle.std.proofs.Common.{sym, ap, ◌∙◌, option_copied}
 use Rattle.ipc_rules.specs.Rules.{rule_of}
 use Rattle.ipc_rules.proofs.Betters.{better_passes}
 use Rattle.ipc_rules.proofs.Concerns.{unconcerned}
-use Rattle.ipc_slots.proofs.Holders.{slot_standing}
+use Rattle.ipc_threads.proofs.Holders.{slot_standing}
 use Rattle.ipc_rules.proofs.rules.Rule.better.Goals as goal
 
 pub apply-requires : goal.apply-requires

@@ -1,6 +1,6 @@
 use Rattle.std.proofs.Common.{[], ◌∙◌, ap}
 use Rattle.ipc_waits.proofs.AtPlaces.{quiet_covers_at}
-use Rattle.ipc_slots.specs.Steps.{standing_in}
+use Rattle.ipc_threads.specs.Steps.{standing_in}
 use Rattle.ipc_waits.proofs.Laws.{no_calls}
 use Rattle.ipc_waits.proofs.Touches.{nothing_held, nothing_quiet}
 use Rattle.ipc_waits.proofs.waiting.Waiting.new.Goals as goal

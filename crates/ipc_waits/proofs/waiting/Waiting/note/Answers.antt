@@ -1,6 +1,6 @@
 use Rattle.std.proofs.Common.{sym, ap, subst, [], ◌∷◌, ◌++◌, ◌∙◌}
 use Rattle.ipc_history.specs.Legal.{Follows}
-use Rattle.ipc_slots.specs.Slots.{Stands}
+use Rattle.ipc_threads.specs.Slots.{Stands}
 use Rattle.ipc_waits.specs.Keys.{AreWaits}
 use Rattle.ipc_waits.specs.Waiting.{IsTouched}
 use Rattle.ipc_waits.proofs.Following.{noted}

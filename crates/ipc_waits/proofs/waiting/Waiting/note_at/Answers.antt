@@ -1,9 +1,9 @@
 use Rattle.std.proofs.Common.{refl, sym, ap, subst, [], ◌∷◌, ◌++◌, ◌∙◌, None}
 use Rattle.std.proofs.lemmas.Bool.{false≢true}
 use Rattle.ipc_history.specs.Legal.{Follows}
-use Rattle.ipc_slots.specs.Changes.{HasNamed}
-use Rattle.ipc_slots.specs.declared.changes.Changes.{Changes}
-use Rattle.ipc_slots.proofs.Changed.{unchanged}
+use Rattle.ipc_threads.specs.Changes.{HasNamed}
+use Rattle.ipc_threads.specs.declared.changes.Changes.{Changes}
+use Rattle.ipc_threads.proofs.Changed.{unchanged}
 use Rattle.ipc_waits.specs.Following.{FollowsChange}
 use Rattle.ipc_waits.specs.Keys.{AreWaits}
 use Rattle.ipc_waits.specs.Waiting.{IsTouched}

@@ -1,6 +1,6 @@
 use Rattle.std.proofs.Common.{refl, sym, ap, subst, ◌∙◌, None}
 use Rattle.ipc_words.specs.ThreadId.{number_of}
-use Rattle.ipc_slots.proofs.Exchanged.{within_second}
+use Rattle.ipc_threads.proofs.Exchanged.{within_second}
 use Rattle.ipc_waits.specs.Finding.{CoversAt}
 use Rattle.ipc_waits.specs.Keys.{AreWaits, HaveAt, SameElsewhere}
 use Rattle.ipc_waits.proofs.Exchanged.{comes_there, exchange_covers, have_none, have_there, waits_again}

@@ -1,5 +1,5 @@
 use Rattle.std.proofs.Common.{ap, subst, ◌∙◌}
-use Rattle.ipc_slots.specs.Slots.{Stands}
+use Rattle.ipc_threads.specs.Slots.{Stands}
 use Rattle.ipc_waits.proofs.Passing.{passed, second_follows}
 use Rattle.ipc_waits.proofs.waiting.Waiting.note_pass.Goals as goal
 

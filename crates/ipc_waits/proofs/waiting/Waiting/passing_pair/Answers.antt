@@ -1,6 +1,6 @@
 use Rattle.std.proofs.Common.{◌≡◌, ◌∙◌, refl, sym, subst, true}
 use Rattle.ipc_history.specs.declared.entry.Output.TheVariants.{Began}
-use Rattle.ipc_slots.proofs.OutputCalls.{both_open}
+use Rattle.ipc_threads.proofs.OutputCalls.{both_open}
 use Rattle.ipc_waits.specs.Finding.{sends_to}
 use Rattle.ipc_waits.proofs.Passing.{caller_by, passes_by, sends_there}
 use Rattle.ipc_waits.proofs.waiting.Waiting.passing_pair.Goals as goal

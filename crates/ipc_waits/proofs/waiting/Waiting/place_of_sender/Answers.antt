@@ -1,8 +1,8 @@
 use Rattle.std.proofs.Common.{◌≡◌, ◌∙◌, ◌==◌, sym, ap, subst, true}
 use Rattle.std.proofs.lemmas.Bool.{false≢true}
 use Rattle.std.specs.List.{list_any}
-use Rattle.ipc_slots.specs.Slots.{slot_at}
-use Rattle.ipc_slots.specs.Steps.{holds}
+use Rattle.ipc_threads.specs.Slots.{slot_at}
+use Rattle.ipc_threads.specs.Steps.{holds}
 use Rattle.ipc_waits.specs.Queues.{is_in, under}
 use Rattle.ipc_waits.proofs.Passing.{sender_held, sender_there}
 use Rattle.ipc_waits.proofs.waiting.Waiting.place_of_sender.Goals as goal

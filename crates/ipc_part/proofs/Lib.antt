@@ -1,9 +1,0 @@
-pub mod Standing
-pub mod Numbers
-pub mod Following
-pub mod ReadBack
-pub mod Texts
-pub mod Ends
-pub mod OneText
-pub mod Readings
-pub mod Written

@@ -1,5 +1,0 @@
-use Rattle.ipc_part.proofs.Following.{lines_are_of_their_part}
-use Rattle.ipc_part.proofs.laws.lines_are_of_their_part.Goals as goal
-
-pub returns : goal.returns
-returns c = lines_are_of_their_part

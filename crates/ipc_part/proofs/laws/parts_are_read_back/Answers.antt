@@ -1,5 +1,0 @@
-use Rattle.ipc_part.proofs.ReadBack.{parts_are_read_back}
-use Rattle.ipc_part.proofs.laws.parts_are_read_back.Goals as goal
-
-pub returns : goal.returns
-returns c = parts_are_read_back

@@ -1,5 +1,0 @@
-pub mod Lines
-pub mod Parts
-pub mod Steps
-pub mod Reading
-pub mod Putting

@@ -1,9 +1,0 @@
-pub mod PartnerLemmas
-pub mod ExchangeLemmas
-pub mod MeetingLemmas
-pub mod KeptLemmas
-pub mod OrderLemmas
-pub mod PassingLemmas
-pub mod KeptLaw
-pub mod BaseLemmas
-pub mod PassLemmas

@@ -1,6 +1,0 @@
-use Rattle.ipc_partners.specs.Kept.{kept_upto}
-use Rattle.ipc_partners.proofs.found.Found.find.Goals as goal
-
-pub loop-place-init : goal.loop-place-init
-unfolding kept_upto
-loop-place-init c = c.clear.ensures

@@ -1,7 +1,0 @@
-use Rattle.std.proofs.Common.{◌∙◌, ap}
-use Rattle.ipc_partners.specs.Kept.{passes}
-use Rattle.ipc_partners.proofs.OrderLemmas.{same_pass}
-use Rattle.ipc_partners.proofs.keeping.Keeping.fill.Goals as goal
-
-pub returns : goal.returns
-returns c e = same_pass c.find.new.self c.sort.new.self c.sort.ensures.calls c.sort.ensures.partners c.sort.ensures.threads e ∙ ap (λ k. passes k e) c.find.ensures

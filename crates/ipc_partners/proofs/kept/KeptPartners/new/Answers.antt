@@ -1,6 +1,0 @@
-use Rattle.std.proofs.Common.{arith}
-use Rattle.ipc_partners.proofs.PartnerLemmas.{knows_none}
-use Rattle.ipc_partners.proofs.kept.KeptPartners.new.Goals as goal
-
-pub returns-clause-empty : goal.returns-clause-empty
-returns-clause-empty g c = knows_none _ (omega (arith, c.loop.invariant.size, c.loop-test.false))

@@ -1,4 +1,0 @@
-pub mod Partners
-pub mod PastPartners
-pub mod Kept
-pub mod Bases

@@ -1,5 +1,0 @@
-use Rattle.ipc_slots.proofs.Starting.{stands_none}
-use Rattle.ipc_slots.proofs.kept.KeptSlots.new.Goals as goal
-
-pub returns : goal.returns
-returns c = rw c.new.ensures stands_none

@@ -1,5 +1,0 @@
-use Rattle.ipc_slots.proofs.Changed.{unchanged}
-use Rattle.ipc_slots.proofs.slots.Slots.note_moment.Goals as goal
-
-pub returns-clause-changed : goal.returns-clause-changed
-returns-clause-changed c = rw c.note_at.ensures.table (unchanged c.args.self.now.kept.table)

@@ -1,4 +1,0 @@
-use Rattle.ipc_slots.proofs.slots.Slots.of.Given as goal
-
-abbrev pub ghost-told : goal.ghost-told
-ghost-told g a = g.past

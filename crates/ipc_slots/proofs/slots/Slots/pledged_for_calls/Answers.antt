@@ -1,5 +1,0 @@
-use Rattle.ipc_slots.proofs.SlotSums.{pledges_told}
-use Rattle.ipc_slots.proofs.slots.Slots.pledged_for_calls.Goals as goal
-
-pub returns : goal.returns
-returns c = pledges_told c.args.self.now.past c.kept-kept.result.now c.kept-kept.ensures.legal c.kept-kept.ensures.stands c.loop-place.place c.loop-place.total c.loop-place-test.false c.loop-place.auto.place-end c.loop-place.invariant.0

@@ -1,7 +1,0 @@
-use Rattle.std.proofs.Common.{sym, ap, ◌∙◌}
-use Rattle.ipc_slots.specs.Table.{live_slots}
-use Rattle.ipc_slots.proofs.SlotTables.{live_from_threads}
-use Rattle.ipc_slots.proofs.table.SlotTable.live_threads.Goals as goal
-
-pub returns : goal.returns
-returns c = c.live.ensures ∙ sym (live_from_threads 0 c.self.inside.threads c.self.inside.calls (c.self.invariant.0 ∙ sym c.self.invariant.1)) ∙ ap live_slots c.self.view_is

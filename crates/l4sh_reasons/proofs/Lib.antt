@@ -1,4 +1,0 @@
-pub mod CallWells
-pub mod NormalForms
-pub mod TraceLines
-pub mod Names

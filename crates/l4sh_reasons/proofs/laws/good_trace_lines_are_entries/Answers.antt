@@ -1,5 +1,0 @@
-use Rattle.l4sh_reasons.proofs.TraceLines.{good_lines_are_entries}
-use Rattle.l4sh_reasons.proofs.laws.good_trace_lines_are_entries.Goals as goal
-
-pub returns : goal.returns
-returns c = good_lines_are_entries

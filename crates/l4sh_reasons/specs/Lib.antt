@@ -1,6 +1,0 @@
-pub mod Grammars
-pub mod Spellings
-pub mod Rules
-pub mod Whole
-pub mod Reasons
-pub mod Laws

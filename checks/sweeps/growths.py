@@ -19,7 +19,7 @@ from apart import counts_by_ledgers, made_apart, rt
 from kit import ROOT
 from shims import built_shim, count_in
 
-NEEDS = "ipc_words ipc_items ipc_history ipc_base ipc_core ipc_frame ipc_connection ipc_connection ipc_lock ipc_client anyhow"
+NEEDS = "ipc_words ipc_base ipc_items ipc_history ipc_core ipc_frame ipc_connection ipc_client ipc_lock anyhow"
 UNPREPARED = "unprepared"
 
 

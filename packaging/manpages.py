@@ -29,6 +29,8 @@ FILES = {
 }
 ENVIRONMENT = [("NOTIFY_SOCKET", "the socket of a service manager, which is told READY=1 once clients can connect")]
 OPTION = re.compile(r"^ +((?:-\w, +)?--[\w-]+(?: <\w+>)?|[\[<]\w+[\]>](?:\.\.\.)?)(?:  +(\S.*))?$")
+# Of an argument that may be a folder, too, `--help` has the first name alone.
+FILES_ALONE, FILES_OR_DIR = "<FILE>...", "<FILE>... | <DIR>"
 COMMAND = re.compile(r"^  ([a-z]\w*) +(\S.*)$")
 
 
@@ -42,6 +44,9 @@ class Help:
         self.about = self.text.partition("\n")[0]
         found = [OPTION.match(line) for line in self.text.splitlines()]
         self.options = [(it[1].strip(), it[2]) for it in found if it]
+        if any("; or DIR," in (about or "") for _, about in self.options):
+            self.usage = self.usage.replace(FILES_ALONE, FILES_OR_DIR)
+            self.options = [(term.replace(FILES_ALONE, FILES_OR_DIR), about) for term, about in self.options]
         under = self.text.partition("\nCommands:\n")[2].partition("\n\n")[0]
         self.commands = [it.groups() for it in map(COMMAND.match, under.splitlines()) if it]
 

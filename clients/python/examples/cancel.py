@@ -9,7 +9,7 @@
 import sys
 import time
 
-from l4ipc import Cancelled, Message, Thread
+from l4ipc import Cancelled, L4Error, Message, Thread
 from l4ipc.names import Names
 
 
@@ -45,8 +45,11 @@ def cancel(directory):
 
 
 if __name__ == "__main__":
-    roles = {"silent": silent, "call": call, "cancel": cancel}
-    if len(sys.argv) == 3 and sys.argv[2] in roles:
-        roles[sys.argv[2]](sys.argv[1])
-    else:
-        sys.exit(__doc__)
+    try:
+        roles = {"silent": silent, "call": call, "cancel": cancel}
+        if len(sys.argv) == 3 and sys.argv[2] in roles:
+            roles[sys.argv[2]](sys.argv[1])
+        else:
+            sys.exit(__doc__)
+    except (L4Error, OSError) as end:
+        sys.exit(f"cancel: {end}")

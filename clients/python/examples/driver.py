@@ -87,5 +87,5 @@ if __name__ == "__main__":
             ask(sys.argv[1])
         else:
             sys.exit(__doc__)
-    except L4Error as end:
+    except (L4Error, OSError) as end:
         sys.exit(f"driver: {end}")

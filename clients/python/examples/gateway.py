@@ -7,7 +7,7 @@
 
 import sys
 
-from l4ipc import Message, Thread
+from l4ipc import L4Error, Message, Thread
 from l4ipc.names import Names
 
 NO_SERVER = 1
@@ -37,9 +37,12 @@ def ask(directory, word):
 
 
 if __name__ == "__main__":
-    if sys.argv[2:] == ["serve"]:
-        serve(sys.argv[1])
-    elif sys.argv[2:3] == ["ask"] and len(sys.argv) == 4:
-        ask(sys.argv[1], int(sys.argv[3]))
-    else:
-        sys.exit(__doc__)
+    try:
+        if sys.argv[2:] == ["serve"]:
+            serve(sys.argv[1])
+        elif sys.argv[2:3] == ["ask"] and len(sys.argv) == 4:
+            ask(sys.argv[1], int(sys.argv[3]))
+        else:
+            sys.exit(__doc__)
+    except (L4Error, OSError) as end:
+        sys.exit(f"gateway: {end}")

@@ -10,7 +10,7 @@ pager keeps a table of pages, gives a page the next frame at its first fault, an
 
 import sys
 
-from l4ipc import Message, Thread
+from l4ipc import L4Error, Message, Thread
 from l4ipc.names import Names
 
 PAGE_FAULT = -2 << 4 & 0xFFFF_FFFF_FFFF  # the manual's label: -2 in its upper bits, the access in its lowest three
@@ -47,9 +47,12 @@ def fault(directory, addresses):
 
 
 if __name__ == "__main__":
-    if sys.argv[2:] == ["serve"]:
-        serve(sys.argv[1])
-    elif sys.argv[2:3] == ["fault"] and len(sys.argv) > 3:
-        fault(sys.argv[1], [int(word, 0) for word in sys.argv[3:]])
-    else:
-        sys.exit(__doc__)
+    try:
+        if sys.argv[2:] == ["serve"]:
+            serve(sys.argv[1])
+        elif sys.argv[2:3] == ["fault"] and len(sys.argv) > 3:
+            fault(sys.argv[1], [int(word, 0) for word in sys.argv[3:]])
+        else:
+            sys.exit(__doc__)
+    except (L4Error, OSError) as end:
+        sys.exit(f"pager: {end}")

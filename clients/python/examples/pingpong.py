@@ -8,7 +8,7 @@
 import sys
 import time
 
-from l4ipc import Message, Thread
+from l4ipc import L4Error, Message, Thread
 from l4ipc.names import Names
 
 
@@ -31,9 +31,12 @@ def ask(directory, count=1000):
 
 
 if __name__ == "__main__":
-    if sys.argv[2:] == ["serve"]:
-        serve(sys.argv[1])
-    elif sys.argv[2:3] == ["ask"] and len(sys.argv) <= 4:
-        ask(sys.argv[1], *map(int, sys.argv[3:]))
-    else:
-        sys.exit(__doc__)
+    try:
+        if sys.argv[2:] == ["serve"]:
+            serve(sys.argv[1])
+        elif sys.argv[2:3] == ["ask"] and len(sys.argv) <= 4:
+            ask(sys.argv[1], *map(int, sys.argv[3:]))
+        else:
+            sys.exit(__doc__)
+    except (L4Error, OSError) as end:
+        sys.exit(f"pingpong: {end}")

@@ -8,7 +8,7 @@
 import hashlib
 import sys
 
-from l4ipc import Message, Thread
+from l4ipc import L4Error, Message, Thread
 from l4ipc.names import Names
 
 ROOM = 1_048_576
@@ -37,9 +37,12 @@ def send(directory, count):
 
 
 if __name__ == "__main__":
-    if sys.argv[2:] == ["serve"]:
-        serve(sys.argv[1])
-    elif sys.argv[2:3] == ["send"] and len(sys.argv) == 4:
-        send(sys.argv[1], int(sys.argv[3]))
-    else:
-        sys.exit(__doc__)
+    try:
+        if sys.argv[2:] == ["serve"]:
+            serve(sys.argv[1])
+        elif sys.argv[2:3] == ["send"] and len(sys.argv) == 4:
+            send(sys.argv[1], int(sys.argv[3]))
+        else:
+            sys.exit(__doc__)
+    except (L4Error, OSError) as end:
+        sys.exit(f"string_copy: {end}")

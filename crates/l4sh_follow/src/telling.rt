@@ -27,9 +27,10 @@ pub(crate) fn tell_entry(
         Entry::Given(Input::Moved(number, count)) => match notes.get(*number) {
             Some(call) => write!(
                 text,
-                "{} to {}: {count} bytes copied  (call {number})",
+                "{} to {}: {count} {} copied  (call {number})",
                 IdText(call.caller),
-                IdText(call.to)
+                IdText(call.to),
+                bytes_word(*count)
             ),
             None => Ok(()),
         },
@@ -78,12 +79,23 @@ fn tell_shown(text: &mut String, call: &Note) -> Result<(), AllocError> {
 // The label and the size of a message.
 fn tell_message(text: &mut String, call: &Note) -> Result<(), AllocError> {
     let (label, words) = (call.label, call.words);
-    write!(text, "label {label}, {words} words")?;
+    let noun = plural(words, "word", "words");
+    write!(text, "label {label}, {words} {noun}")?;
     if call.strings > 0 {
         let (strings, bytes) = (call.strings, call.bytes);
-        write!(text, ", {strings} strings of {bytes} bytes")?;
+        let noun = plural(strings, "string", "strings");
+        write!(text, ", {strings} {noun} of {bytes} {}", bytes_word(bytes))?;
     }
     Ok(())
+}
+
+// The word of one thing, or of none or many.
+fn plural(count: u64, one: &'static str, many: &'static str) -> &'static str {
+    if count == 1 { one } else { many }
+}
+
+fn bytes_word(count: u64) -> &'static str {
+    plural(count, "byte", "bytes")
 }
 
 // A FromSpecifier in words.
@@ -125,11 +137,12 @@ fn tell_output(text: &mut String, output: Output, notes: &Notes) -> Result<(), A
         }
         Output::Overflowed(sending, receiving, bytes) => {
             tell_pair(text, notes, sending, receiving)?;
-            write!(text, "FAILED, the message did not fit: {bytes} bytes did")
+            let noun = bytes_word(bytes);
+            write!(text, "FAILED, the message did not fit: {bytes} {noun} did")
         }
         Output::Aborted(sending, receiving, bytes) => {
             tell_pair(text, notes, sending, receiving)?;
-            write!(text, "FAILED, aborted after {bytes} bytes")
+            write!(text, "FAILED, aborted after {bytes} {}", bytes_word(bytes))
         }
         Output::Turned(number, thread) => match notes.get(number) {
             Some(call) => write!(

@@ -34,7 +34,7 @@ def listening(path):
 
 # What a server answers to HELLO before it goes, and what l4x says then.
 GOES = [
-    ("", "F9: the input ended inside a frame"),
+    ("", "F9: the connection ended"),
     ("00000002 84 02", "refused: K2: a thread of that number is live"),
     ("00000002 84 04", "refused: K4: no memory"),
     ("00000003 85 53 03", "the server answered S3: the server stops"),

@@ -1,6 +1,7 @@
 //! Why a role ends.
 use crate::naming::NameError;
 use ipc_client::{BufferFault, ClientError, MessageFault, PATIENCE};
+use ipc_frame::FrameFault;
 use ipc_words::IpcError;
 use l4sh_explain::meaning_behind;
 use l4sh_state::cause_of;
@@ -122,6 +123,9 @@ impl fmt::Display for Trouble {
 fn put_error<W: fmt::Write>(f: &mut fmt::Formatter<W>, error: ClientError) -> fmt::Result {
     write!(f, "{error}")?;
     match error {
+        // what a client hears where its server ends
+        ClientError::Frame(FrameFault::Unfinished) => f.write_str(": the connection ended"),
+        ClientError::Frame(FrameFault::Device) => f.write_str(": the connection failed"),
         ClientError::Frame(fault) => put_meaning(f, b'F', fault.number()),
         ClientError::Fault { class, number } => put_meaning(f, class, number),
         _ => Ok(()),

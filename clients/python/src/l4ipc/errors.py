@@ -28,6 +28,11 @@ class Circumstances:
 _UNKNOWN = Circumstances()
 
 
+def _bytes(count: int) -> str:
+    """So many bytes, in words."""
+    return f"{count} byte" if count == 1 else f"{count} bytes"
+
+
 class IpcError(L4Error):
     """A phase of a call failed, as the ErrorCode says. The thread goes on.
 
@@ -124,9 +129,9 @@ class Overflow(IpcError):
 
     def _details(self) -> str:
         if self.string is None:
-            return f": a string did not fit the buffers, behind {self.offset} bytes that did"
+            return f": a string did not fit the buffers, behind {_bytes(self.offset)} that did"
         length = self._of.lengths[self.string - 1]
-        return f": string {self.string}, of {length} bytes, did not fit the receiver's buffers"
+        return f": string {self.string}, of {_bytes(length)}, did not fit the receiver's buffers"
 
 
 class Aborted(IpcError):
@@ -143,7 +148,7 @@ class Aborted(IpcError):
         return self.offset
 
     def _details(self) -> str:
-        return f" after {self.offset} bytes"
+        return f" after {_bytes(self.offset)}"
 
 
 class Refused(L4Error):

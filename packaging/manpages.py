@@ -15,12 +15,14 @@ ABOUT = {
     "hashkarst": (7, "words, frames, lines and codes of l4d and l4sh"),
 }
 # What follows in the pages of programs, by the headings of docs/.
-OF_L4D = ["When it is ready", "Permissions", "Ending", "What a client sees", "A trace", "What it tells", "Memory over time", "At home on a system"]
+OF_L4D = ["When it is ready", "Permissions", "Ending", "What a client sees", "Asking it", "A trace", "What it tells", "Memory over time", "At home on a system"]
 OF_L4X = ["Finding the server", "Requests", "Answers", "Who is registered"]
 OF_L4SH = ["Run and wire", "Looking at a trace", "Talking to a kernel", "Questions about words", "When a server hangs"]
-FORMATS = ["Words", "Frames", "Text lines", "The script of `l4sh run`", "The script of `l4sh wire`", "Traces", "Codes", "Limits", "Glossary"]
+FORMATS = ["Words", "Frames", "Text lines", "The script of `l4sh run`", "The script of `l4sh wire`", "Traces", "Parts of traces", "Codes", "Limits",
+           "Glossary"]
 FILES = {
     "l4d": [("DIR/spaceN", "the path of space N, a Unix socket, which is there as long as l4d runs"),
+            ("DIR/control", "the path by which its owner asks what it does"),
             ("FILE.began", "when moment 0 of the trace FILE was, which l4d writes beside it"),
             ("/run/l4d", "DIR of the unit l4d.service"),
             ("PREFIX/lib/hashkarst/l4d", "the program itself, which l4d starts with SIGINT and SIGTERM blocked")],

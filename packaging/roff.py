@@ -1,8 +1,12 @@
 """Markdown of docs/ as roff, for the man pages. What names a file of the sources, which is not installed, is left out: links and sentences."""
 import re
 
-# A sentence that names such a file.
-OF_SOURCES = re.compile(r"(?:crates|checks|bench|examples|clients|proofs|specs|packaging)/|\.antt|\.rt\b|`\./test`|`\./build`|`\./install`")
+# A sentence that names such a file, or a page of docs/ that is no page of man.
+OF_SOURCES = re.compile(r"(?:crates|checks|bench|examples|clients|proofs|specs|packaging)/|\.antt|\.rt\b|`\./test`|`\./build`|`\./install`|"
+                        r"\b(?:CHANGING|DECISIONS|LAYERS|PROFILE|PROMISES|TUTORIAL)\.md")
+# What stands before a command of the tree.
+OF_THE_TREE = re.compile(r"(?<![\w/])\./(?=l4(?:d|sh|x)\b)")
+OF_THE_TREE_WITH_WORDS = re.compile(OF_THE_TREE.pattern + r"(?=\w+ )")
 
 # Which page of man has what a page of docs/ has.
 PAGES = {"FORMATS": "hashkarst(7)", "TOOLS": "l4sh(1)", "OPERATING": "l4d(1)", "NAMES": "l4x(1)"}
@@ -10,10 +14,12 @@ PAGES = {"FORMATS": "hashkarst(7)", "TOOLS": "l4sh(1)", "OPERATING": "l4d(1)", "
 
 def plain(text, is_head=False, is_code=False):
     """A line's text as roff: links as their texts, code and bold."""
+    if not is_code:
+        # (before pages are named, since those names have parentheses)
+        text = re.sub(r"\[([^\]]+)\]\([^)]+\)", r"\1", OF_THE_TREE_WITH_WORDS.sub("", text))
     text = re.sub(r"\b([A-Z]{3,})\.md", lambda it: PAGES.get(it[1], it[1]), text)
     text = text.replace("\\", "\\e").replace("-", "\\-")
     if not is_code:
-        text = re.sub(r"\[([^\]]+)\]\([^)]+\)", r"\1", text)
         bold = r"\1" if is_head else r"\\fB\1\\fR"
         text = re.sub(r"`([^`]+)`", bold, text)
         text = re.sub(r"\*\*([^*]+)\*\*", bold, text)
@@ -56,7 +62,7 @@ def table_of(lines, first):
 
 def code(lines):
     """A block of code, with the commands as they are called once they are installed."""
-    return [".PP", ".EX", *[plain(re.sub(r"(?<![\w/])\./(?=l4(?:d|sh|x)\b)", "", line), is_code=True) for line in lines], ".EE"]
+    return [".PP", ".EX", *[plain(OF_THE_TREE.sub("", line), is_code=True) for line in lines], ".EE"]
 
 
 def paragraph(lines):

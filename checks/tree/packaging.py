@@ -136,14 +136,14 @@ def completions(below):
 
 
 def pages(below):
-    """Each page begins as one of its kind does, says all that the help says, names no file of the sources, and can be shown."""
+    """Each page begins as one of its kind does, says all that the help says, has no file of the sources and no piece of a link, and can be shown."""
     facts, heads = 0, {}
     for name, number in (("l4d", 1), ("l4sh", 1), ("l4x", 1), ("hashkarst", 7)):
         path = f"{below}/share/man/man{number}/{name}.{number}"
         with open(path) as file:
             text = file.read().replace("\\-", "-")
         heads[name] = re.findall(r"^\.SH (.*)$", text, re.M)
-        of_sources = re.search(r".*(?:(?:crates|checks|bench|proofs|protocol|specs)/|\w\.md\b|<!--).*", text)
+        of_sources = re.search(r".*(?:(?:crates|checks|bench|proofs|protocol|specs)/|\w\.md\b|<!--|#[a-z-]+\)).*", text)
         assert not of_sources, (name, of_sources[0])
         if number == 1:
             assert heads[name][:3] == ["NAME", "SYNOPSIS", "DESCRIPTION"] and {"EXIT STATUS", "FILES", "SEE ALSO"} <= set(heads[name]), heads[name]

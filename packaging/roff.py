@@ -38,8 +38,9 @@ def cells(line):
 
 
 def table(rows):
-    """A table as paragraphs: the first cell leads, the others follow under their heads."""
-    head, lines = cells(rows[0]), []
+    """A table as paragraphs: the first cell leads, the others follow under their heads. What the first ones are is said before them where one word does not."""
+    head = cells(rows[0])
+    lines = [".PP", plain(head[0]) + ":"] if " " in head[0] else []
     for row in rows[2:]:
         first, *rest = cells(row)
         told = [value if len(rest) == 1 or not name else f"{name}: {value}" for name, value in zip(head[1:], rest) if value]

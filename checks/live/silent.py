@@ -58,7 +58,7 @@ def check_words(l4x):
             serving.start()
             ran = subprocess.run([l4x, folder, "keyvalue"], stdin=subprocess.DEVNULL, capture_output=True, text=True, timeout=SECONDS)
             serving.join(SECONDS)
-            tally.same(f"l4x behind {frame or 'nothing'}", (ran.returncode, ran.stdout, ran.stderr), (1, "", f"{words}\n"))
+            tally.same(f"l4x behind {frame or 'nothing'}", (ran.returncode, ran.stdout, ran.stderr), (1, "", f"l4x: {folder}/space1: {words}\n"))
 
 
 def main(arguments):
@@ -73,7 +73,7 @@ def main(arguments):
             ([l4sh, "state", folder], 1, asked(folder, "state", PATIENCE)),
             ([l4sh, "count", folder], 1, asked(folder, "counters", PATIENCE)),
             ([l4sh, "follow", folder], 1, asked(folder, "trace follow", PATIENCE)),
-            ([l4x, folder, "get", "1"], 1, hello),
+            ([l4x, folder, "get", "1"], 1, "l4x: " + hello),
         ]
         began = time.monotonic()
         ran = [subprocess.Popen(words, stdin=subprocess.DEVNULL, stdout=subprocess.PIPE, stderr=subprocess.PIPE, text=True) for words, *_ in rows]

@@ -29,7 +29,7 @@ from shims import built_shim, count_in
 
 SECONDS = 60
 # What a program says that got no memory.
-NO_MEMORY = {"l4sh": b"l4sh: no memory\n", "l4d": b"l4d: no memory\n", "l4x": b"no memory\n"}
+NO_MEMORY = {"l4sh": b"l4sh: no memory\n", "l4d": b"l4d: no memory\n", "l4x": b"l4x: no memory\n"}
 DRAWN = (["chart"], ["chart", "--text"], ["chart", "--html"])
 # The options of each program: what is printed, and what is refused.
 SHELL_WORDS = ([], ["--help"], ["--version"], ["run", "--help"], ["chart", "--help"], ["no-command"], ["run", "--entries", "x"],

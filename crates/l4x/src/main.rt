@@ -267,11 +267,13 @@ fn say_names<R: Print>(rt: &R, own: ThreadId) -> Result<(), Trouble> {
     said.or(Err(Trouble::NoOutput))
 }
 
-/// Says on standard error why a role ended; of a silent server with its path in a folder.
+/// Says on standard error why a role ended, with the path of its server where that has to do with
+/// it.
 fn ended<R: Eprint>(rt: &R, dir: &str, trouble: &Trouble) -> io::Result<ExitCode> {
     match trouble {
-        Trouble::Silent => eprintln!(rt; "{dir}/space1: {trouble}")?,
-        other => rt.eprintln(other)?,
+        Trouble::Usage => rt.eprintln(trouble)?,
+        Trouble::NoMemory | Trouble::NoOutput => eprintln!(rt; "l4x: {trouble}")?,
+        other => eprintln!(rt; "l4x: {dir}/space1: {other}")?,
     }
     Ok(ExitCode::from(trouble.status()))
 }

@@ -56,10 +56,10 @@ impl Trouble {
         match self {
             Trouble::Usage => USAGE,
             Trouble::NoMemory => "no memory",
-            Trouble::NoServer => "nobody listens on space1 of this folder",
+            Trouble::NoServer => "nobody listens there: start l4d with this folder",
             Trouble::NoOutput => "standard output failed",
             Trouble::LongMessage => "the message is past its limits",
-            Trouble::NoNames => "there is no name server",
+            Trouble::NoNames => "there is no name server: start l4x DIR names",
             _ => "there is no such server",
         }
     }

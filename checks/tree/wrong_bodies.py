@@ -1,9 +1,10 @@
 #!/usr/bin/env python3
-"""checks/tree/wrong_bodies.py [--promised] [CRATE ..]: tries the wrong bodies of crates/CRATE/wrong, many in one check.
+"""checks/tree/wrong_bodies.py [--promised | --proved] [CRATE ..]: tries the wrong bodies of crates/CRATE/wrong, many in one check.
 
 An edit stands in wrong/ in the format of must-fail/: a line `file: src/lib.rt`, then pairs of lines `old: TEXT` and `new: TEXT`. `rt ci` tries
 those of must-fail/ one by one, each with all proofs of its crate. Those of wrong/ are tried here, before a landing that touches the crate. Those of
-wrong/promised/ break what a public call promises: `./test` tries them behind the gate (--promised).
+wrong/promised/ break what a public call promises: `./test` tries them behind the gate (--promised). Those of wrong/proved/ no contract refuses yet, as
+docs/PROMISES.md says of each crate (--proved): one that is refused now goes to wrong/.
 
 Each function is proved by the contracts of those that it calls. So edits of different functions do not touch each other, and one check tries one
 edit of each function; it asks for the proofs of these functions alone. An edit of a definition says by lines `only: PATH` which proofs shall fall;
@@ -13,7 +14,7 @@ was not asked for, it is tried again with that one. A body that the toolchain ca
 
 It needs the kit's command rt, whose modules it uses, and changes no source. The crates below are built first where they are not; with --promised the
 libraries that the gate has just made are taken. It prints a line for each edit, and the goal that refused it. Its last line is
-`N refused, M passed`; the status is 1 where one passed or could not be tried.
+`N refused, M passed`; the status is 1 where one passed or could not be tried, with --proved where one was refused.
 """
 
 import glob
@@ -218,15 +219,16 @@ def main():
     os.chdir(ROOT)
     rt = kit("wrong_bodies")
     rt.rtlib.guarded()
-    named = [it for it in sys.argv[1:] if it != "--promised"]
-    is_promised = "--promised" in sys.argv[1:]
+    named = [it for it in sys.argv[1:] if it not in ("--promised", "--proved")]
+    is_promised, is_proved = "--promised" in sys.argv[1:], "--proved" in sys.argv[1:]
     crates = rt.rtlib.crates_below(os.getcwd())
     unknown = [it for it in named if it not in [crate.name for crate in crates]]
     if unknown:
         sys.exit(f"wrong_bodies: {unknown[0]} is no crate")
     tasks = {}
     for crate in crates:
-        paths = glob.glob(f"{crate.folder}/wrong/promised/*.edit") + ([] if is_promised else glob.glob(f"{crate.folder}/wrong/*.edit"))
+        places = ["proved/"] if is_proved else ["promised/"] if is_promised else ["promised/", ""]
+        paths = [path for place in places for path in glob.glob(f"{crate.folder}/wrong/{place}*.edit")]
         edits = [Edit(crate, path) for path in sorted(paths)] if not named or crate.name in named else []
         if not edits:
             continue
@@ -236,7 +238,7 @@ def main():
     counts = rt.in_lanes(tasks).values()
     refused, passed = sum(it[0] for it in counts), sum(it[1] for it in counts)
     print(f"{refused} refused, {passed} passed")
-    return 1 if passed or not refused else 0
+    return 1 if (refused if is_proved else passed) or not tasks else 0
 
 
 def told(result):

@@ -7,3 +7,4 @@ pub mod Rules
 pub mod Whole
 pub mod Reasons
 pub mod Laws
+pub mod Numbers

@@ -1,4 +1,7 @@
 //! The fields of a tag as people type them.
+ghost use Rattle.std.specs.Prelude.{IfSome};
+ghost use Rattle.l4sh_explain.specs.Numbers.{IsNumber};
+
 use crate::Shown;
 use crate::tags::TagRequest;
 use crate::told::Told;
@@ -201,7 +204,9 @@ fn named<'a>(names: &[(&'static str, Name)], field: &'a str) -> Option<(Name, &'
 }
 
 /// A decimal or HEX.
-pub fn read_number(bytes: &[u8]) -> Option<u64> {
+pub fn read_number(bytes: &[u8]) -> Option<u64>
+    ensures { IfSome result (IsNumber bytes.now) }
+{
     match read_decimal(bytes) {
         Some(number) => Some(number),
         None => read_hex(bytes),

@@ -1,12 +1,13 @@
 //! The connections that are there.
-ghost use Rattle.std.specs.Prelude.{◌≤◌, ◌+◌, ◌↔◌, IsTrue};
+ghost use Rattle.std.specs.Prelude.{◌≡◌, ◌<◌, ◌≤◌, ◌+◌, IsSome, false, map, true, vec_len};
+ghost use Rattle.ipc_host.specs.Guests.{greeted};
 
 use crate::admission::Admission;
 use crate::clock::ServerClock;
 use crate::counts::Counts;
+use crate::guest::{Guest, is_overdue};
 use crate::notice::Notice;
 use std::alloc::Global;
-use std::net::Shutdown;
 use std::os::unix::net::UnixStream;
 use std::rt::Clock;
 use std::sync::{Arc, Condvar, CondvarTimeouts, Mutex, MutexGuard, Wait};
@@ -18,16 +19,6 @@ const TURN: u64 = 10;
 /// How long nothing is told after something was, in microseconds.
 const QUIET: u64 = 60_000_000;
 
-/// A connection that is there.
-#[derive(Drop)]
-struct Guest {
-    ticket: u64,
-    since: u64,
-    has_thread: bool,
-    is_closing: bool,
-    stream: Arc<UnixStream>,
-}
-
 /// Where a server stands.
 #[derive(Clone, Copy, PartialEq, Eq)]
 enum Stage {
@@ -38,9 +29,11 @@ enum Stage {
     Finished,
 }
 
+/// The connections that are there, never more than may be there at one time.
 #[derive(Drop)]
 struct Table {
     guests: Vec<Guest>,
+    most: u64,
     next: u64,
     stage: Stage,
     counts: Counts,
@@ -48,6 +41,7 @@ struct Table {
     told: Option<u64>,
     /// When it was told last that there is no room.
     told_full: Option<u64>,
+    ghost within: { vec_len guests ≤ most },
 }
 
 /// The connections of a server, at most so many at one time.
@@ -56,54 +50,29 @@ pub struct Guests {
     alloc: Global,
     table: Mutex<Table>,
     ended: Condvar,
-    most: u64,
     within: u64,
     clock: ServerClock,
 }
 
-/// Whether a connection that came at a moment has had its time to say HELLO. All in microseconds.
-pub fn is_overdue(since: u64, now: u64, within: u64) -> bool
-    ensures { IsTrue result ↔ (since + within ≤ now) }
-{
-    match since.checked_add(within) {
-        Some(end) => end <= now,
-        None => false,
+/// Shuts down the oldest connection that has had its time for a HELLO and is no thread.
+fn close_overdue(guests: &mut [Guest], now: u64, within: u64) {
+    for guest in guests.iter_mut() {
+        if guest.close_overdue(now, within) {
+            return;
+        }
     }
 }
 
-impl Guest {
-    /// Whether it has had its time for a HELLO and is no thread, and was not yet shut down.
-    fn is_overdue(&self, now: u64, within: u64) -> bool {
-        !self.has_thread && !self.is_closing && is_overdue(self.since, now, within)
-    }
-
-    /// Shuts it down.
-    fn shut_down(&self) {
-        let _ = self.stream.shutdown(Shutdown::Both);
-    }
-
-    /// Shuts it down once it has had its time for a HELLO and is no thread, and says whether it
-    /// did.
-    fn close_overdue(&mut self, now: u64, within: u64) -> bool {
-        let is_overdue = self.is_overdue(now, within);
-        if is_overdue {
-            self.is_closing = true;
-            self.shut_down();
-        }
-        is_overdue
+/// The connection of this ticket is a thread from here on.
+fn greet(guests: &mut Vec<Guest>, ticket: u64)
+    ensures { guests.new.items ≡ map (greeted ticket) guests.old.items }
+{
+    'guests: for guest in guests.iter_mut() {
+        guest.greet(ticket);
     }
 }
 
 impl Table {
-    /// Shuts down the oldest connection that has had its time for a HELLO and is no thread.
-    fn close_overdue(&mut self, now: u64, within: u64) {
-        for guest in self.guests.iter_mut() {
-            if guest.close_overdue(now, within) {
-                return;
-            }
-        }
-    }
-
     fn place(&self, ticket: u64) -> Option<usize> {
         self.guests.iter().position(|guest| guest.ticket == ticket)
     }
@@ -120,20 +89,23 @@ impl Table {
 
     /// Whether there is room for one more connection. Where there is none, the oldest one that has
     /// had its time is shut down.
-    fn make_room(&mut self, most: u64, now: u64, within: u64) -> bool {
-        let has_room = (self.guests.len() as u64) < most;
+    fn make_room(&mut self, now: u64, within: u64) -> bool
+        ensures room { result ≡ true → vec_len self.new.guests < self.new.most }
+        ensures full { result ≡ false → self.old.most ≤ vec_len self.old.guests }
+    {
+        let has_room = (self.guests.len() as u64) < self.most;
         if !has_room {
-            self.close_overdue(now, within);
+            close_overdue(&mut self.guests, now, within);
         }
         has_room
     }
 
     /// Takes a connection in, where there is room for it.
-    fn admit(&mut self, most: u64, now: u64, within: u64, stream: Arc<UnixStream>) -> Admission {
+    fn admit(&mut self, now: u64, within: u64, stream: Arc<UnixStream>) -> Admission {
         if self.is_stopping() {
             return Admission::Closed;
         }
-        if !self.make_room(most, now, within) {
+        if !self.make_room(now, within) {
             return Admission::Full;
         }
         match self.take_in(now, stream) {
@@ -143,27 +115,22 @@ impl Table {
     }
 
     /// Takes a connection in, and answers its ticket. None: there is no memory.
-    fn take_in(&mut self, since: u64, stream: Arc<UnixStream>) -> Option<u64> {
+    fn take_in(&mut self, since: u64, stream: Arc<UnixStream>) -> Option<u64>
+        requires { vec_len self.old.guests < self.old.most }
+        ensures { IsSome result → vec_len self.new.guests ≡ vec_len self.old.guests + 1 }
+    {
         let ticket = self.next;
-        let guest = Guest {
-            ticket,
-            since,
-            has_thread: false,
-            is_closing: false,
-            stream,
-        };
+        let guest = Guest::new(ticket, since, stream);
         self.guests.push(guest).ok()?;
         self.next = ticket.saturating_add(1);
         Some(ticket)
     }
 
     /// The connection is a thread from here on.
-    fn greet(&mut self, ticket: u64) {
-        if let Some(place) = self.place(ticket) {
-            if let Some(guest) = self.guests.get_mut(place) {
-                guest.has_thread = true;
-            }
-        }
+    fn greet(&mut self, ticket: u64)
+        ensures { self.new.guests.items ≡ map (greeted ticket) self.old.guests.items }
+    {
+        greet(&mut self.guests, ticket);
     }
 
     /// The connection has ended.
@@ -187,7 +154,10 @@ impl Table {
 
     /// How many of the connections are threads.
     fn threads(&self) -> usize {
-        self.guests.iter().filter(|guest| guest.has_thread).count()
+        self.guests
+            .iter()
+            .filter(|guest| guest.has_thread())
+            .count()
     }
 
     /// How many connections are there, how many of them are threads, and what was told so far.
@@ -229,6 +199,7 @@ impl Guests {
     pub fn new(alloc: Global, most: u64, within: u64, clock: ServerClock) -> Guests {
         let table = Table {
             guests: Vec::new(alloc),
+            most,
             next: 0,
             stage: Stage::Serving,
             counts: Counts::new(),
@@ -239,7 +210,6 @@ impl Guests {
             alloc,
             table: Mutex::new(table),
             ended: Condvar::new(),
-            most,
             within,
             clock,
         }
@@ -256,7 +226,7 @@ impl Guests {
             return Admission::Closed;
         };
         let mut table = self.wait_room(rt, time);
-        let admission = table.admit(self.most, self.clock.now(rt), self.within, stream);
+        let admission = table.admit(self.clock.now(rt), self.within, stream);
         drop(table);
         admission
     }
@@ -276,7 +246,7 @@ impl Guests {
 
     /// Whether there is room for one more connection, or the server stops.
     fn ends_wait<R: Clock>(&self, rt: &R, table: &mut Table) -> bool {
-        table.is_stopping() || table.make_room(self.most, self.clock.now(rt), self.within)
+        table.is_stopping() || table.make_room(self.clock.now(rt), self.within)
     }
 
     /// Waits until a connection has ended, at most this long.

@@ -1,6 +1,7 @@
 //! The socket of a connection, as the port of its pen.
 ghost use Rattle.std.specs.Prelude.{◌≡◌, ◌≤◌, [], ◌++◌, Some, length, take};
 ghost use Rattle.libc.specs.Io.{Moved};
+ghost use Rattle.ipc_host.specs.Errors.{is_no_room};
 
 use crate::noting::with_more;
 use ipc_base::{Past, PortFault};
@@ -64,6 +65,13 @@ fn send_in_time(stream: &UnixStream, buf: &[u8]) -> isize
     unsafe { c::send(stream.as_raw_fd(), buf, c::MSG_NOSIGNAL) }
 }
 
+/// Whether a send that failed so may be made again: there was no room, or a signal came.
+fn is_no_room(errno: i32) -> bool
+    ensures { result ≡ is_no_room errno }
+{
+    errno == libc::EAGAIN || errno == libc::EINTR
+}
+
 impl PenPort for SocketPort {
     ghost written = { λ port. Some port.taken };
 
@@ -80,8 +88,7 @@ impl PenPort for SocketPort {
             self.note(buf, count);
             return Ok(count);
         }
-        let errno = os::errno();
-        if errno == libc::EAGAIN || errno == libc::EINTR {
+        if is_no_room(os::errno()) {
             return Ok(0);
         }
         self.failures += 1;

@@ -3,13 +3,15 @@
 
 Three threads that wait for each other are told as a deadlock, in the words of `l4sh state` of the trace of such a history; counters are told. The path `control` is
 its owner's alone whatever --mode says, it is not there with --no-control, and it goes with the others. Those who ask nothing, ask what is unknown, ask in pieces,
-do not read, or come in crowds hold up nobody.
+do not read, or come in crowds hold up nobody. Of each thread the socket is told, by which `l4ipc.who` finds its process.
 
 Its last line is `N checked, M failed`; the status is 0 where M is 0.
 """
 
+import contextlib
 import os
 import re
+import shutil
 import socket
 import stat
 import subprocess
@@ -23,12 +25,17 @@ sys.path[1:1] = [f"{sys.path[0]}/../lib", f"{sys.path[0]}/../../clients/python/s
 from arguments import programs_of
 from counting import Tally
 from frames import hello
-from l4ipc import L4Error, Message, Thread, ThreadId
+from l4ipc import L4Error, Message, Thread, ThreadId, who
 from protocol_tables import K_NUMBER_TAKEN, REFUSED
 from serving import Client, rest_of
 
 SECONDS = 60
 CROWD = 40
+PACKAGE = f"{sys.path[0]}/../../clients/python/src"
+# A process that is a thread of a server until its input ends.
+CLIENT = "import sys; from l4ipc import Thread; thread = Thread(sys.argv[1], int(sys.argv[2]), int(sys.argv[3])); print('there', flush=True); sys.stdin.read()"
+# A system that tells of no descriptor what it is.
+NO_LINKS = "#include <errno.h>\nlong readlink(const char *path, char *into, unsigned long size) { errno = EACCES; return -1; }\n"
 
 tally = Tally()
 check = tally.check
@@ -37,12 +44,13 @@ check = tally.check
 class Server:
     """An l4d in a folder of its own."""
 
-    def __init__(self, l4d, *words):
+    def __init__(self, l4d, *words, spaces=1, **more):
         self.folder = tempfile.mkdtemp(prefix="l4control")
-        command = [l4d, "--dir", self.folder, "--spaces", "1", "--keep-open", *words]
+        command = [l4d, "--dir", self.folder, "--spaces", str(spaces), "--keep-open", *words]
         # SIGTERM is blocked, so that it ends the service
         blocked = "import signal, os, sys; signal.pthread_sigmask(signal.SIG_BLOCK, [signal.SIGTERM]); os.execv(sys.argv[1], sys.argv[1:])"
-        self.process = subprocess.Popen([sys.executable, "-c", blocked, *command], stdin=subprocess.DEVNULL, stdout=subprocess.PIPE, text=True)
+        self.process = subprocess.Popen([sys.executable, "-c", blocked, *command], stdin=subprocess.DEVNULL, stdout=subprocess.PIPE, text=True,
+                                        env={**os.environ, **more})
         self.process.stdout.readline()
         self.path = f"{self.folder}/control"
 
@@ -169,9 +177,9 @@ def check_askers(l4d):
     with Server(l4d) as server, Thread(server.folder, 1):
         state = "1.1  space 1  free\n"
         check("a word in pieces", state in server.ask(b"st", b"ate", b"\n"), "")
-        for word in (b"\n", b"states\n", b"STATE\n", b"state \n", b"\0" * 64, b"x" * 64, b"counters\r\n"):
+        for word in (b"\n", b"states\n", b"thread\n", b"threads \n", b"Threads\n", b"STATE\n", b"state \n", b"\0" * 64, b"x" * 64, b"counters\r\n"):
             told = server.ask(word)
-            check(f"{word[:12]!r} is unknown", told == "unknown: one of state, counters, trace, trace follow, rotate, began\n", told)
+            check(f"{word[:12]!r} is unknown", told == "unknown: one of state, counters, trace, trace follow, rotate, began, threads\n", told)
         crowd = [server.connect() for _ in range(CROWD)]
         time.sleep(0.2)
         closed = sum(1 for asker in crowd if is_closed(asker))
@@ -216,12 +224,81 @@ def check_path(l4d, l4sh):
         check("then nobody can ask", status == 1 and "No such file" in error, (status, error))
 
 
+def client(server, number, space=1):
+    """A process that is a thread of a server."""
+    process = subprocess.Popen([sys.executable, "-c", CLIENT, server.folder, str(number), str(space)], stdin=subprocess.PIPE, stdout=subprocess.PIPE, text=True,
+                               env={**os.environ, "PYTHONPATH": PACKAGE})
+    process.stdout.readline()
+    return process
+
+
+def told_threads(server, count):
+    """The lines of the threads of a server, once there are so many: each as the thread, the space and the inode of its socket."""
+    wait_until(lambda: server.ask(b"threads\n").startswith(f"threads {count}\n"))
+    return [re.fullmatch(r"(\d+\.\d+)  space (\d+)  socket (\d+)", line).groups() for line in server.ask(b"threads\n").splitlines()[1:]]
+
+
+def held_by(pid):
+    """The inodes of what a process has open."""
+    inodes = set()
+    for descriptor in os.listdir(f"/proc/{pid}/fd"):
+        with contextlib.suppress(FileNotFoundError):  # closed meanwhile
+            inodes.add(os.stat(f"/proc/{pid}/fd/{descriptor}").st_ino)
+    return inodes
+
+
+def pids_of(server):
+    """Of each thread the processes that have its connection."""
+    return [(str(it.thread), [process.pid for process in it.processes]) for it in who.processes(server.folder)]
+
+
+def check_threads(l4d):
+    """Of each thread the socket is told, and its process is found by that; who is no thread is not told."""
+    with Server(l4d, spaces=2) as server:
+        tally.same("a server without threads", (server.ask(b"threads\n"), who.processes(server.folder)), ("threads 0\n", []))
+        silent = Client(f"{server.folder}/space1")
+        with Thread(server.folder, 3):
+            one, two = client(server, 1), client(server, 2, 2)
+            told = told_threads(server, 3)
+            check("each thread is told with its space", sorted(it[:2] for it in told) == [("1.1", "1"), ("2.1", "2"), ("3.1", "1")], told)
+            inodes, held = {int(it[2]) for it in told}, held_by(server.process.pid)
+            check("their sockets are the server's", len(inodes) == 3 and inodes <= held, (told, held))
+            tally.same("each has its process", pids_of(server), [("1.1", [one.pid]), ("2.1", [two.pid]), ("3.1", [os.getpid()])])
+            ran = subprocess.run([sys.executable, "-m", "l4ipc.who", server.folder], capture_output=True, text=True, env={**os.environ, "PYTHONPATH": PACKAGE})
+            line = f"1.1  space 1  pid {one.pid}  uid {os.geteuid()}  {sys.executable} -c import"
+            check("l4ipc.who prints them", (ran.returncode, ran.stderr, ran.stdout.count("\n")) == (0, "", 3) and ran.stdout.startswith(line), ran)
+            one.communicate()
+            check("a thread that has ended is told no more", [it[0] for it in sorted(told_threads(server, 2))] == ["2.1", "3.1"], "")
+            again = client(server, 1)
+            told_threads(server, 3)
+            tally.same("its number and its descriptor are another process's", pids_of(server), [("1.2", [again.pid]), ("2.1", [two.pid]), ("3.1", [os.getpid()])])
+            for process in (two, again):
+                process.communicate()
+        silent.line.close()
+    check_untold(l4d)
+
+
+def check_untold(l4d):
+    """A server that cannot tell a socket tells its thread all the same."""
+    if not shutil.which("cc"):
+        print("a server that is told no socket: left out, since cc is not there")
+        return
+    with tempfile.TemporaryDirectory() as room:
+        with open(f"{room}/no_links.c", "w") as file:
+            file.write(NO_LINKS)
+        subprocess.run(["cc", "-shared", "-fPIC", "-o", f"{room}/no_links.so", f"{room}/no_links.c"], check=True)
+        with Server(l4d, LD_PRELOAD=f"{room}/no_links.so") as server, Thread(server.folder, 1):
+            tally.same("a thread whose socket is not known", server.ask(b"threads\n"), "threads 1\n1.1  space 1\n")
+            check("its process is not known", [it.unknown for it in who.processes(server.folder)] == [who.Unknown.NO_SOCKET], who.processes(server.folder))
+
+
 def main(arguments):
     l4d, l4sh = programs_of(arguments, __doc__, 2)
     check_hang(l4d, l4sh)
     check_counters(l4d, l4sh)
     check_askers(l4d)
     check_path(l4d, l4sh)
+    check_threads(l4d)
     return tally.end()
 
 

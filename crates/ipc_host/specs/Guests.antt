@@ -1,7 +1,8 @@
 -- The connections that are there.
-use Rattle.std.specs.Prelude.{ℕ, ◌==◌, if◌then◌else◌, true}
+use Rattle.std.specs.Prelude.{ℕ, ◌==◌, if◌then◌else◌, Some}
 use Rattle.ipc_host.specs.declared.guest.Guest.{Guest}
+use Rattle.ipc_host.specs.declared.thread_socket.ThreadSocket.{ThreadSocket}
 
--- a connection once that of a ticket is a thread
-abbrev pub greeted : ℕ → Guest → Guest
-greeted ticket guest = if guest.ticket == ticket then record guest { has_thread = true } else guest
+-- a connection once that of a ticket is a thread, which has this socket
+abbrev pub greeted : ℕ → ThreadSocket → Guest → Guest
+greeted ticket socket guest = if guest.ticket == ticket then record guest { socket = Some socket } else guest

@@ -2,6 +2,7 @@
 ghost use Rattle.std.specs.Prelude.{◌≡◌, ◌≤◌, ◌+◌, ◌↔◌, IsTrue};
 ghost use Rattle.ipc_host.specs.Guests.{greeted};
 
+use crate::thread_socket::ThreadSocket;
 use std::net::Shutdown;
 use std::os::unix::net::UnixStream;
 use std::sync::Arc;
@@ -12,7 +13,8 @@ pub(crate) struct Guest {
     pub(crate) ticket: u64,
     /// Since when, in microseconds.
     since: u64,
-    has_thread: bool,
+    /// That of the thread that it is; None where it is none.
+    pub(crate) socket: Option<ThreadSocket>,
     is_closing: bool,
     stream: Arc<UnixStream>,
 }
@@ -33,7 +35,7 @@ impl Guest {
         Guest {
             ticket,
             since,
-            has_thread: false,
+            socket: None,
             is_closing: false,
             stream,
         }
@@ -41,7 +43,7 @@ impl Guest {
 
     /// Whether it is a thread.
     pub(crate) fn has_thread(&self) -> bool {
-        self.has_thread
+        self.socket.is_some()
     }
 
     /// Whether it has had its time for a HELLO and is no thread, and was not yet shut down.
@@ -65,12 +67,12 @@ impl Guest {
         is_overdue
     }
 
-    /// It is a thread from here on, where it has this ticket.
-    pub(crate) fn greet(&mut self, ticket: u64)
-        ensures { self.new ≡ greeted ticket self.old }
+    /// It is a thread from here on, and this is its socket, where it has this ticket.
+    pub(crate) fn greet(&mut self, ticket: u64, socket: ThreadSocket)
+        ensures { self.new ≡ greeted ticket socket self.old }
     {
         if self.ticket == ticket {
-            self.has_thread = true;
+            self.socket = Some(socket);
         }
     }
 }

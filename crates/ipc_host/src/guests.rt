@@ -7,7 +7,9 @@ use crate::clock::ServerClock;
 use crate::counts::Counts;
 use crate::guest::{Guest, is_overdue};
 use crate::notice::Notice;
-use std::alloc::Global;
+use crate::thread_socket::ThreadSocket;
+use ipc_words::ThreadId;
+use std::alloc::{AllocError, Global};
 use std::os::unix::net::UnixStream;
 use std::rt::Clock;
 use std::sync::{Arc, Condvar, CondvarTimeouts, Mutex, MutexGuard, Wait};
@@ -63,12 +65,12 @@ fn close_overdue(guests: &mut [Guest], now: u64, within: u64) {
     }
 }
 
-/// The connection of this ticket is a thread from here on.
-fn greet(guests: &mut Vec<Guest>, ticket: u64)
-    ensures { guests.new.items ≡ map (greeted ticket) guests.old.items }
+/// The connection of this ticket is a thread from here on, and this is its socket.
+fn greet(guests: &mut Vec<Guest>, ticket: u64, socket: ThreadSocket)
+    ensures { guests.new.items ≡ map (greeted ticket socket) guests.old.items }
 {
     'guests: for guest in guests.iter_mut() {
-        guest.greet(ticket);
+        guest.greet(ticket, socket);
     }
 }
 
@@ -126,11 +128,11 @@ impl Table {
         Some(ticket)
     }
 
-    /// The connection is a thread from here on.
-    fn greet(&mut self, ticket: u64)
-        ensures { self.new.guests.items ≡ map (greeted ticket) self.old.guests.items }
+    /// The connection is a thread from here on, and this is its socket.
+    fn greet(&mut self, ticket: u64, socket: ThreadSocket)
+        ensures { self.new.guests.items ≡ map (greeted ticket socket) self.old.guests.items }
     {
-        greet(&mut self.guests, ticket);
+        greet(&mut self.guests, ticket, socket);
     }
 
     /// The connection has ended.
@@ -158,6 +160,14 @@ impl Table {
             .iter()
             .filter(|guest| guest.has_thread())
             .count()
+    }
+
+    /// The sockets of the threads, in the order in which they connected.
+    fn sockets(&self, alloc: Global) -> Result<Vec<ThreadSocket>, AllocError> {
+        self.guests
+            .iter()
+            .filter_map(|guest| guest.socket)
+            .collect::<Vec<ThreadSocket>>(alloc)
     }
 
     /// How many connections are there, how many of them are threads, and what was told so far.
@@ -260,10 +270,18 @@ impl Guests {
         table
     }
 
-    /// The connection is a thread from here on.
-    pub fn greet<R: Wait>(&self, rt: &R, ticket: u64) {
+    /// The connection, which this is, is a thread of a space from here on.
+    pub fn greet<R: Wait>(
+        &self,
+        rt: &R,
+        ticket: u64,
+        thread: ThreadId,
+        space: u64,
+        stream: &UnixStream,
+    ) {
+        let socket = ThreadSocket::new(self.alloc, thread, space, stream);
         let mut table = self.table.lock(rt);
-        table.greet(ticket);
+        table.greet(ticket, socket);
         drop(table);
     }
 
@@ -340,6 +358,18 @@ impl Guests {
         let state = table.state();
         drop(table);
         state
+    }
+
+    /// The sockets of the threads that are there, in the order in which they connected.
+    ///
+    /// # Errors
+    ///
+    /// There is no memory for them.
+    pub fn sockets<R: Wait>(&self, rt: &R) -> Result<Vec<ThreadSocket>, AllocError> {
+        let table = self.table.lock(rt);
+        let sockets = table.sockets(self.alloc);
+        drop(table);
+        sockets
     }
 
     /// Whether something that is told once a minute at most may be told now; it then counts as

@@ -18,6 +18,7 @@ mod ready;
 mod signals;
 mod socket;
 mod status;
+mod thread_socket;
 
 pub use admission::Admission;
 pub use clock::ServerClock;
@@ -32,3 +33,4 @@ pub use ready::Readiness;
 pub use signals::{have_come, may_be_blocked};
 pub use socket::SocketPort;
 pub use status::{ProcessStatus, field, resident};
+pub use thread_socket::ThreadSocket;

@@ -36,7 +36,8 @@ const WORD_READS: usize = 64;
 const STACK: usize = 4_194_304;
 
 /// What is said to a word that asks for nothing.
-const UNKNOWN: &str = "unknown: one of state, counters, trace, trace follow, rotate, began\n";
+const UNKNOWN: &str =
+    "unknown: one of state, counters, trace, trace follow, rotate, began, threads\n";
 
 /// What is said where there is no memory for an answer.
 pub(crate) const NO_MEMORY: &str = "no memory\n";
@@ -175,6 +176,8 @@ enum Asked {
     Rotate,
     /// When moment 0 was.
     Began,
+    /// Which socket each thread has.
+    Threads,
     /// Nothing that is known.
     Unknown,
 }
@@ -210,6 +213,7 @@ fn asked_by(bytes: &[u8]) -> Asked {
         b"trace follow" | b"trace follow\n" => Asked::Follow,
         b"rotate" | b"rotate\n" => Asked::Rotate,
         b"began" | b"began\n" => Asked::Began,
+        b"threads" | b"threads\n" => Asked::Threads,
         _ => Asked::Unknown,
     }
 }
@@ -228,6 +232,7 @@ fn answer_to<C: Ledger, T: Ledger, R: Wait + Clock>(
         }
         Asked::Rotate => Ok(Some(String::from_str(server.alloc, rotated(host))?)),
         Asked::Began => Ok(Some(began_text(server)?)),
+        Asked::Threads => Ok(Some(threads_text(server, host)?)),
         Asked::Trace | Asked::Follow | Asked::Unknown => Ok(None),
     }
 }
@@ -235,6 +240,20 @@ fn answer_to<C: Ledger, T: Ledger, R: Wait + Clock>(
 /// Has the trace go on in a further file, and answers what is said.
 fn rotated(host: &Host) -> &'static str {
     if host.end_file() { ROTATED } else { UNTRACED }
+}
+
+/// How many threads are there, and behind it a line for each with its socket.
+fn threads_text<C: Ledger, T: Ledger, R: Wait>(
+    server: &Server<'_, C, T, SocketPort, R>,
+    host: &Host,
+) -> Result<String, AllocError> {
+    let sockets = host.guests.sockets(server.rt)?;
+    let mut text = String::new(server.alloc);
+    write!(text, "threads {}\n", sockets.len())?;
+    for socket in &sockets {
+        write!(text, "{socket}\n")?;
+    }
+    Ok(text)
 }
 
 /// What each thread does at this moment, in the words of `l4sh state`.

@@ -85,11 +85,17 @@ impl<R: Wait + Eprint> Link for SocketGate<'_, R> {
         let _ = self.stream.shutdown(Shutdown::Both);
     }
 
-    fn welcomes(&self, _thread: ThreadId) {
+    fn welcomes(&self, thread: ThreadId) {
+        let Guest {
+            rt,
+            ticket,
+            space,
+            ..
+        } = *self.guest;
         self.guest
             .host
             .guests
-            .greet(self.guest.rt, self.guest.ticket);
+            .greet(rt, ticket, thread, space, self.stream);
     }
 
     fn sees_outcome(&self) {

@@ -50,13 +50,19 @@ class Place:
         return None if left is None or self.connect_timeout is None else max(left, self.connect_timeout)
 
 
-def place_of(directory: object, number: int, space: int, version: int, wait_for: Optional[float], connect_timeout: Optional[float]) -> Place:
-    """The place of a thread of a server's folder; a wrong argument is a TypeError or a ValueError."""
+def path_in(directory: object, name: str) -> str:
+    """The path of a socket of a server's folder; a wrong argument is a TypeError or a ValueError."""
     if not isinstance(directory, (str, os.PathLike)):
         raise arguments.wanted("directory", "a path is", directory)
-    path = os.path.join(os.fspath(directory), f"space{arguments.integer('space', space, 1, MAX_SPACE)}")
+    path = os.path.join(os.fspath(directory), name)
     if "\0" in path or len(os.fsencode(path)) > MAX_PATH_BYTES:
         raise ValueError(f"directory: {arguments.shown(path)} is no path of at most {MAX_PATH_BYTES} bytes")
+    return path
+
+
+def place_of(directory: object, number: int, space: int, version: int, wait_for: Optional[float], connect_timeout: Optional[float]) -> Place:
+    """The place of a thread of a server's folder; a wrong argument is a TypeError or a ValueError."""
+    path = path_in(directory, f"space{arguments.integer('space', space, 1, MAX_SPACE)}")
     frames.hello(number, version)
     waits = arguments.seconds_or_none("wait_for", wait_for)
     return Place(path, number, version, waits, arguments.seconds_or_none("connect_timeout", connect_timeout))

@@ -2,7 +2,7 @@
 
 A `Thread` is a connection to the server. Its calls are those of the manual: `send`, `receive`, `wait`, `call`, `reply_wait`, `sleep` and
 `exchange_registers`. `serve` is the loop of a server.
-`begin_wait` and `finish` are for programs that wait for other things, too. `names` finds other threads by their names.
+`begin_wait` and `finish` are for programs that wait for other things, too. `names` finds other threads by their names, and `who` their processes.
 """
 
 from . import names

@@ -25,7 +25,6 @@ _ANSWER = struct.Struct("=BBBBIII")  # struct unix_diag_msg
 _ATTRIBUTE = struct.Struct("=HH")  # struct rtattr
 
 _SOCKET = re.compile(r"socket:\[([0-9]+)\]")
-_USERS = re.compile(rb"^Uid:\s+[0-9]+\s+([0-9]+)", re.M)
 
 
 @dataclass(frozen=True)
@@ -80,15 +79,15 @@ def _attributes(data: bytes) -> Iterator[Tuple[int, int]]:
 
 def holders_of(inodes: Set[int]) -> Dict[int, List[Process]]:
     """Which processes have the sockets with these inodes open, the oldest first, as far as this user may look."""
-    held: Dict[int, List[Tuple[int, Process]]] = {inode: [] for inode in inodes}
-    for pid in filter(str.isdigit, os.listdir("/proc")):
+    found: Dict[int, List[Tuple[int, int, Process]]] = {inode: [] for inode in inodes}
+    for pid in map(int, filter(str.isdecimal, os.listdir("/proc"))):
         with contextlib.suppress(OSError):  # it has ended, or this user may not look at it
-            open_there = inodes & set(_sockets(f"/proc/{pid}/fd"))
-            began_and_process = _process(int(pid)) if open_there else None
-            for inode in open_there:
-                if began_and_process is not None:
-                    held[inode].append(began_and_process)
-    return {inode: [process for _, process in sorted(those, key=lambda it: it[0])] for inode, those in held.items()}
+            held = inodes.intersection(_sockets(f"/proc/{pid}/fd"))
+            if held:
+                began, process = _process(pid)
+                for inode in held:
+                    found[inode].append((began, pid, process))
+    return {inode: [process for _, _, process in sorted(those, key=lambda it: it[:2])] for inode, those in found.items()}
 
 
 def _sockets(folder: str) -> Iterator[int]:
@@ -100,15 +99,13 @@ def _sockets(folder: str) -> Iterator[int]:
                 yield int(found[1])
 
 
-def _process(pid: int) -> Optional[Tuple[int, Process]]:
-    """When a process began, and what is told of it; ``None`` where the system tells it in another form."""
+def _process(pid: int) -> Tuple[int, Process]:
+    """When a process began, in ticks of the system, and what is told of it."""
     status, words, stat = (_read(f"/proc/{pid}/{name}") for name in ("status", "cmdline", "stat"))
+    fields = dict(line.split(b":", 1) for line in status.splitlines())
     name, _, numbers = stat.partition(b"(")[2].rpartition(b")")
-    user, began = _USERS.search(status), numbers.split()[19:20]
-    if user is None or not began:
-        return None
     command = words.rstrip(b"\0").replace(b"\0", b" ") or name
-    return int(began[0]), Process(pid, int(user[1]), os.fsdecode(command))
+    return int(numbers.split()[19]), Process(pid, int(fields[b"Uid"].split()[1]), os.fsdecode(command))
 
 
 def _read(path: str) -> bytes:

@@ -152,9 +152,11 @@ class Who(unittest.TestCase):
         reader, writer = os.pipe()
         child = os.fork()
         if child == 0:
-            os.setuid(NOBODY)
-            os.write(writer, json.dumps(printed(self.folder)).encode())
-            os._exit(0)
+            try:
+                os.setuid(NOBODY)
+                os.write(writer, json.dumps(printed(self.folder)).encode())
+            finally:
+                os._exit(0)
         os.close(writer)
         with open(reader) as told:
             status, output, error = json.load(told)

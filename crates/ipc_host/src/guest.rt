@@ -68,11 +68,11 @@ impl Guest {
     }
 
     /// It is a thread from here on, and this is its socket, where it has this ticket.
-    pub(crate) fn greet(&mut self, ticket: u64, socket: ThreadSocket)
-        ensures { self.new ≡ greeted ticket socket self.old }
+    pub(crate) fn greet(&mut self, ticket: u64, socket: &ThreadSocket)
+        ensures { self.new ≡ greeted ticket socket.now self.old }
     {
         if self.ticket == ticket {
-            self.socket = Some(socket);
+            self.socket = Some(*socket);
         }
     }
 }

@@ -66,8 +66,8 @@ fn close_overdue(guests: &mut [Guest], now: u64, within: u64) {
 }
 
 /// The connection of this ticket is a thread from here on, and this is its socket.
-fn greet(guests: &mut Vec<Guest>, ticket: u64, socket: ThreadSocket)
-    ensures { guests.new.items ≡ map (greeted ticket socket) guests.old.items }
+fn greet(guests: &mut Vec<Guest>, ticket: u64, socket: &ThreadSocket)
+    ensures { guests.new.items ≡ map (greeted ticket socket.now) guests.old.items }
 {
     'guests: for guest in guests.iter_mut() {
         guest.greet(ticket, socket);
@@ -132,7 +132,7 @@ impl Table {
     fn greet(&mut self, ticket: u64, socket: ThreadSocket)
         ensures { self.new.guests.items ≡ map (greeted ticket socket) self.old.guests.items }
     {
-        greet(&mut self.guests, ticket, socket);
+        greet(&mut self.guests, ticket, &socket);
     }
 
     /// The connection has ended.

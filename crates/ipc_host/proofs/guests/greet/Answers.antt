@@ -5,7 +5,7 @@ use Rattle.ipc_host.proofs.guests.greet.Goals as goal
 
 pub guests-preserved : goal.guests-preserved
 guests-preserved c =
-    let greets = greeted c.args.ticket c.args.socket in
+    let greets = greeted c.args.ticket c.args.socket.now in
     let changed : c.greet.new.self ≡ greets c.guest-item.result = c.greet.ensures ∙ ap greets (sym c.guest-item.is) in
     let less : c.guests.guest-index < length c.args.guests.now.items =
     omega (arith, c.guests-test.true, ap length c.deref_mut-guest-items.ensures.value) in

@@ -1,7 +1,7 @@
 -- The pieces of the strings of a message, string by string.
 use Rattle.std.proofs.Common.{◌≡◌, ℕ, ◌+◌, ◌*◌, ◌^◌, ◌<◌, ◌≤◌, ◌==◌, nat_lt, true, false, List, [], ◌∷◌, ◌++◌, None, IfNone, Ok, Result, length, take, drop, map, get_or, sum_by, refl, sym, ap, ap₂, ◌∙◌, arith, length-append, length-drop, length-take}
 use Rattle.std.specs.List.{flat_map}
-use Rattle.std.proofs.lemmas.List.{take_more, map-append}
+use Rattle.std.proofs.lemmas.List.{nil_from_length, take_more, map-append}
 use Rattle.ipc_words.specs.Limits.{max_frame_body}
 use Rattle.ipc_items.specs.declared.buffer_list.Substring.{Substring}
 use Rattle.ipc_items.specs.declared.placing.Piece.{Piece}
@@ -15,11 +15,16 @@ use Rattle.ipc_frame.specs.declared.version.WireVersion.{WireVersion}
 use Rattle.ipc_frame.specs.Versions.{end_of, version_told}
 use Rattle.ipc_frame.specs.Parts.{IpcrParts, IsIpcr, words_of, pieces_text, end_size}
 use Rattle.ipc_frame.specs.Making.{ipcr_fault}
-use Rattle.ipc_frame.specs.Replies.{reply_of}
+use Rattle.ipc_frame.specs.Replies.{pieces_told, reply_of}
 use Rattle.ipc_frame.proofs.VersionLemmas.{few_words}
 use Rattle.ipc_frame.proofs.WindowLemmas.{piece_size}
 use Rattle.std.proofs.lemmas.List.Sums.{sum_by-cons}
-use Rattle.std.proofs.lemmas.Bool.{le-ltb, eq-eqb}
+use Rattle.std.proofs.lemmas.Bool.{le-ltb, eq-eqb, eqb-true}
+
+-- without strings there are no pieces
+pub none_told : (outcome : OutcomeParts) → (length outcome.strings == 0) ≡ true → pieces_told outcome ≡ []
+none_told outcome none =
+    ap (λ strings. flat_map (λ pieces. pieces) (pieces_of_all outcome.buffers strings)) (nil_from_length outcome.strings (eqb-true (length outcome.strings) 0 none))
 
 -- how many pieces there are, and how many bytes spell them
 put_count : (pointer : ℕ) (bytes : List ℕ) (others : List PlacedBytes) → length (put_piece pointer bytes others) ≤ 1 + length others

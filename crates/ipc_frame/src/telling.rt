@@ -20,8 +20,24 @@ pub(crate) struct Measure {
     bytes: usize,
 }
 
-/// The measure of the pieces of an outcome.
+/// The measure of the pieces of an outcome. Without strings it looks no further.
+#[tactic(auto, using(crate::proofs::PlacingLemmas::none_told))]
 fn measure_of(outcome: &Outcome) -> Measure
+    ensures pieces { result.pieces ≡ length (pieces_told outcome.now) }
+    ensures bytes { result.bytes ≡ length (pieces_text (pieces_told outcome.now)) }
+{
+    if outcome.strings.is_empty() {
+        Measure {
+            pieces: 0,
+            bytes: 0,
+        }
+    } else {
+        measure_pieces(outcome)
+    }
+}
+
+/// The measure of the pieces, one by one.
+fn measure_pieces(outcome: &Outcome) -> Measure
     ensures pieces { result.pieces ≡ length (pieces_told outcome.now) }
     ensures bytes { result.bytes ≡ length (pieces_text (pieces_told outcome.now)) }
 {
@@ -48,7 +64,20 @@ pub(crate) fn reply_size(version: WireVersion, outcome: &Outcome) -> usize
     34 + 8 * version.end_count() + 8 * outcome.words.len() + measure.bytes
 }
 
-// The pieces of the strings.
+// The pieces of the strings, none without strings.
+fn put_strings(window: &mut Window, out: &mut [u8], outcome: &Outcome)
+    requires { window.old.filled ≤ length out.old }
+    ensures shown { page window.new out.new
+        ≡ passed (pieces_text (pieces_told outcome.now)) (page window.old out.old) }
+    ensures within { window.new.filled ≤ length out.new }
+{
+    if outcome.strings.is_empty() {
+        return;
+    }
+    put_scattered(window, out, outcome);
+}
+
+// The pieces of the strings, one by one.
 fn put_scattered(window: &mut Window, out: &mut [u8], outcome: &Outcome)
     requires { window.old.filled ≤ length out.old }
     ensures shown { page window.new out.new
@@ -72,7 +101,7 @@ fn put_reply_tail(window: &mut Window, out: &mut [u8], outcome: &Outcome)
     let measure = measure_of(outcome);
     put_words(window, out, &outcome.words);
     window.put_u8(out, measure.pieces as u8);
-    put_scattered(window, out, outcome);
+    put_strings(window, out, outcome);
 }
 
 // The numbers after the kind, and the rest.

@@ -14,9 +14,9 @@ returns-clause-shown c =
     let p0 = page c.args.window.now c.args.out.now in
     let p1 = page c.put_words.new.window c.put_words.new.out in
     let p2 = page c.put_u8.new.self c.put_u8.new.out in
-    let p3 = page c.put_scattered.new.window c.put_scattered.new.out in
+    let p3 = page c.put_strings.new.window c.put_strings.new.out in
     let told = c.deref.ensures.value ∙ ap (λ (o : OutcomeParts). o.words) c.outcome.view_is in
     let words = c.put_words.ensures.shown ∙ ap (λ ws. passed (words_text ws) p0) told in
     let count = c.put_u8.ensures.shown ∙ ap (λ n. passed (number_text 1 n) p1) c.measure_of-measure.ensures.pieces in
     tail_passed (words_text parts.words) (number_text 1 (length parts.pieces)) (pieces_text parts.pieces) p0 p1 p2 p3
-    words count c.put_scattered.ensures.shown
+    words count c.put_strings.ensures.shown

@@ -2,7 +2,7 @@ use Rattle.std.proofs.Common.{length, ap, arith}
 use Rattle.ipc_items.specs.Placed.{placed}
 use Rattle.ipc_frame.specs.Parts.{pieces_text}
 use Rattle.ipc_frame.proofs.WindowLemmas.{piece_size}
-use Rattle.ipc_frame.proofs.telling.measure_of.Goals as goal
+use Rattle.ipc_frame.proofs.telling.measure_pieces.Goals as goal
 
 pub loop-piece-preserved : goal.loop-piece-preserved
 loop-piece-preserved c =

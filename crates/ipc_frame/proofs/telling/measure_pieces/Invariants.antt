@@ -1,7 +1,7 @@
 use Rattle.std.proofs.Common.{◌≡◌, ◌+◌, length}
 use Rattle.ipc_frame.specs.Parts.{pieces_text}
 use Rattle.ipc_frame.specs.Replies.{pieces_told}
-use Rattle.ipc_frame.proofs.telling.measure_of.Given as goal
+use Rattle.ipc_frame.proofs.telling.measure_pieces.Given as goal
 
 abbrev pub invariant-loop-piece : goal.invariant-loop-piece
 invariant-loop-piece l = record {

@@ -113,6 +113,25 @@ fn gather<K: Keeps>(
     first
 }
 
+/// Lets go of so many first ones. Where the others are fewer, each of those is moved once, to the
+/// place of a first one, and nothing else is.
+fn let_go_of_first<T: Drop>(list: &mut Vec<T>, first: usize)
+    requires { first ≤ vec_len list.old }
+    ensures items { list.new.items ≡ drop first list.old.items }
+    ensures len { vec_len list.new + first ≡ vec_len list.old }
+    ensures capacity { vec_capacity list.new ≡ vec_capacity list.old }
+{
+    let left = list.len() - first;
+    if left > first {
+        drop(list.drain(0..first));
+        return;
+    }
+    let (front, back) = list.split_at_mut(first);
+    let (begin, _) = front.split_at_mut(left);
+    begin.swap_with_slice(back);
+    list.truncate(left);
+}
+
 /// Keeps of so many first entries those that are to be kept, with their places, and all behind
 /// them, and says how many of the first were kept. Takes no memory.
 pub(crate) fn keep_before<K: Keeps>(
@@ -137,7 +156,7 @@ pub(crate) fn keep_before<K: Keeps>(
 {
     let wanted = keeps_at(&entries[behind..], keeps);
     let first = gather(entries, places, behind, wanted, keeps);
-    drop(entries.drain(0..first));
-    drop(places.drain(0..first));
+    let_go_of_first(entries, first);
+    let_go_of_first(places, first);
     behind - first
 }

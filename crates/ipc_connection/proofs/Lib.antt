@@ -12,3 +12,4 @@ pub mod PieceLemmas
 pub mod ReadOnLemmas
 pub mod ChainLemmas
 pub mod PenLemmas
+pub mod BareLemmas

@@ -97,11 +97,11 @@ takes_bad old piece kept new fault spent h = let e = spoilt old piece kept fault
 no_bytes : (new : Decoding) → new ≡ record { kept = []; lost = 0; spent = false } → Holds new []
 no_bytes new e = rw e (record { unspent = refl; gone = []; counted = refl; are_bytes = λ i. omega arith; bytes_are = refl })
 
-heard_answer : (f : Frame) (used n : ℕ) (heard : Heard) → used ≡ n → HearsOf f (Ok heard) → (wrapped used heard ≡ answer_of n (heard_of f)) ⊎ ((wrapped used heard ≡ Err NoMemory) × MayLack f)
+pub heard_answer : (f : Frame) (used n : ℕ) (heard : Heard) → used ≡ n → HearsOf f (Ok heard) → (wrapped used heard ≡ answer_of n (heard_of f)) ⊎ ((wrapped used heard ≡ Err NoMemory) × MayLack f)
 heard_answer f used n heard e (inl h) = inl (rw (e, sym h) refl)
 heard_answer f used n heard e (inr h) = let no = h.0 in absurd (cc)
 
-fault_answer : (f : Frame) (n : ℕ) (fault : FrameFault) → HearsOf f (Err fault) → (failed fault ≡ answer_of n (heard_of f)) ⊎ ((failed fault ≡ Err NoMemory) × MayLack f)
+pub fault_answer : (f : Frame) (n : ℕ) (fault : FrameFault) → HearsOf f (Err fault) → (failed fault ≡ answer_of n (heard_of f)) ⊎ ((failed fault ≡ Err NoMemory) × MayLack f)
 fault_answer f n fault (inl h) = inl (rw (sym h) refl)
 fault_answer f n fault (inr h) = let e = h.0 in let same : fault ≡ NoMemory = cc in inr (ap failed same, h.1)
 

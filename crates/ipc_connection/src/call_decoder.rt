@@ -1,13 +1,15 @@
-ghost use Rattle.std.specs.Prelude.{◌≡◌, ℕ, List, [], true, false, Ok, Err};
-ghost use Rattle.ipc_connection.specs.Holding.{ForGone, FillsUp};
+ghost use Rattle.std.specs.Prelude.{◌≡◌, ℕ, List, [], true, false, Ok, Err, length};
+ghost use Rattle.ipc_frame.specs.declared.frame.Frame.{Frame};
+ghost use Rattle.ipc_connection.specs.Holding.{ForGone, FillsUp, FrameAt};
 ghost use Rattle.ipc_base.specs.Ports.{input_of};
 ghost use Rattle.ipc_connection.specs.ReadOn.{Fails, TakesOn};
-ghost use Rattle.ipc_connection.specs.Taking.{Holds, IsUnfinished, Takes, Finishes};
+ghost use Rattle.ipc_connection.specs.Taking.{Ends, Holds, IsUnfinished, Takes, Finishes};
 
 use crate::block::FEW;
 use crate::blocks::{Blocks, NoBlocks};
 use crate::heard::Heard;
-use crate::held::Held;
+use crate::held::{Held, hear};
+use crate::whole::bare_frame;
 use ipc_base::{PortFault, PortRead};
 use ipc_frame::{FrameFault, Judgement};
 use std::alloc::Global;
@@ -112,6 +114,41 @@ impl CallDecoder {
         ensures spent { self.old.spent ≡ true → (result ≡ Err FrameFault.Spent)
             × (self.new ≡ self.old) }
     {
+        if !self.spent && self.held.is_empty() {
+            if let Some(size) = bare_frame(piece) {
+                return self.hear_bare(&piece[..size]);
+            }
+        }
+        self.take_part(piece, blocks)
+    }
+
+    /// Hears a whole frame without a payload, where nothing is held.
+    fn hear_bare(&mut self, frame: &[u8]) -> Result<(usize, Option<Heard>), FrameFault>
+        requires frame { (f : Frame) × FrameAt frame.now [] f }
+        requires empty { Holds self.old [] }
+        ensures { (f : Frame) → FrameAt frame.now [] f
+            → Ends f (length frame.now) self.new result }
+    {
+        match hear(self.alloc, frame, Vec::new(self.alloc)) {
+            Ok(heard) => Ok((frame.len(), Some(heard))),
+            Err(fault) => {
+                self.spent = true;
+                Err(fault)
+            }
+        }
+    }
+
+    /// The same of any piece, by way of the bytes that are held.
+    fn take_part<B: Blocks>(
+        &mut self,
+        piece: &[u8],
+        blocks: &mut B,
+    ) -> Result<(usize, Option<Heard>), FrameFault>
+        ensures taken { (bytes : List ℕ) → Holds self.old bytes
+            → IsUnfinished bytes × Takes bytes piece.now self.new result }
+        ensures spent { self.old.spent ≡ true → (result ≡ Err FrameFault.Spent)
+            × (self.new ≡ self.old) }
+    {
         if self.spent {
             return Err(FrameFault::Spent);
         }
@@ -127,7 +164,7 @@ impl CallDecoder {
         }
         match self.held.hear(self.alloc) {
             Ok(heard) => {
-                self.held = Held::new(self.alloc);
+                self.held.clear(self.alloc);
                 keep_strings(&heard, blocks);
                 Ok((found.0, Some(heard)))
             }

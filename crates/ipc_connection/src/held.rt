@@ -25,7 +25,7 @@ use std::marker::Model;
 use std::mem;
 
 /// The bytes of an IPC frame before its words: length, kind and numbers.
-const HEAD: usize = 50;
+pub(crate) const HEAD: usize = 50;
 
 /// The most bytes before a payload: the head, the words and the buffer words.
 const MAX_START: usize = HEAD + 8 * (MAX_MESSAGE_WORDS + MAX_BUFFER_WORDS);
@@ -72,7 +72,7 @@ fn read_u16(bytes: &[u8]) -> u16
 }
 
 #[tactic(auto, unfolding(ipc_frame::specs::Numbers::number_in))]
-fn read_u32(bytes: &[u8]) -> u32
+pub(crate) fn read_u32(bytes: &[u8]) -> u32
     requires { 4 ≤ length bytes.now }
     ensures { result ≡ number_in 4 bytes.now }
 {
@@ -89,7 +89,7 @@ fn read_u64(bytes: &[u8]) -> u64
 
 // How many bytes come before a payload.
 #[tactic(auto, unfolding(ipc_frame::specs::Numbers::number_in))]
-fn start_size(head: &[u8]) -> usize
+pub(crate) fn start_size(head: &[u8]) -> usize
     requires { 50 ≤ length head.now }
     ensures { result ≡ start_size head.now }
 {
@@ -161,7 +161,7 @@ fn version_at(size: usize) -> WireVersion
 }
 
 // What a whole frame says.
-fn hear(alloc: Global, start: &[u8], payload: Vec<u8>) -> Result<Heard, FrameFault>
+pub(crate) fn hear(alloc: Global, start: &[u8], payload: Vec<u8>) -> Result<Heard, FrameFault>
     requires { (f : Frame) × FrameAt start.now payload.items f }
     ensures { (f : Frame) → FrameAt start.now payload.items f → HearsOf f result }
 {
@@ -209,6 +209,15 @@ impl Held {
         }
     }
 
+    /// Lets go of the bytes.
+    pub(crate) fn clear(&mut self, alloc: Global)
+        ensures { self.new ≡ record { bytes = []; lost = 0 } }
+    {
+        self.len = 0;
+        self.payload = Block::new(alloc);
+        self.lost = 0;
+    }
+
     /// What the bytes show.
     pub(crate) fn judge(&self) -> Judgement
         ensures tells { ForGone self.now (λ bytes. TellsOf result bytes) }
@@ -254,11 +263,14 @@ impl Held {
             (input_of (P.came port.new) (P.remaining port.new))
             (P.failures port.old) (P.failures port.new) result }
     {
+        if self.payload.is_empty() || self.lost > 0 {
+            return None;
+        }
         let wanted = match self.judge() {
             Judgement::Short(wanted) => wanted,
             Judgement::Bad(_) | Judgement::Whole => return None,
         };
-        if wanted <= FEW || self.payload.is_empty() || self.lost > 0 {
+        if wanted <= FEW {
             return None;
         }
         self.payload.read_behind(port, (wanted - 1).min(MANY))

@@ -19,6 +19,7 @@ mod port;
 mod replying;
 mod stage;
 mod turn;
+mod whole;
 mod writing;
 
 pub use asking::{Reaction, Request, asks, command_of, version_asked};

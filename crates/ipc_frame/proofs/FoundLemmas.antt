@@ -344,6 +344,10 @@ head_is_least Fault e = omega arith
 head_is_least HelloTwo e = omega arith
 head_is_least ExregrTwo e = omega arith
 
+-- the frame ends where its length says
+pub whole_ends : (side : Side) (bytes : List ℕ) (f : Frame) (n : ℕ) → reading side bytes ≡ Whole f n → n ≡ 4 + number_in 4 (take 4 bytes)
+whole_ends side bytes f n e = (whole_shown side bytes f n e).1.behind.fields.count
+
 -- the frame ends within the bytes
 pub whole_within : (side : Side) (bytes : List ℕ) (f : Frame) (n : ℕ) → reading side bytes ≡ Whole f n → (5 ≤ n) × (n ≤ length bytes)
 whole_within side bytes f n e =

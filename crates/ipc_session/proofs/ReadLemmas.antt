@@ -1,6 +1,6 @@
 -- The bytes that are read are served, piece by piece and frame by frame.
 use Rattle.std.specs.Prelude.{⊤}
-use Rattle.std.proofs.Common.{◌≡◌, ◌≢◌, ◌⊎◌, inl, inr, ℕ, ◌-◌, ◌<◌, ◌≤◌, List, [], ◌∷◌, ◌++◌, map, Option, Result, Ok, Err, refl, sym, ap, subst, ◌∙◌, length, drop, take, arith, length-drop}
+use Rattle.std.proofs.Common.{◌≡◌, ◌≢◌, ◌⊎◌, inl, inr, ℕ, ◌-◌, ◌<◌, ◌≤◌, min, List, [], ◌∷◌, ◌++◌, map, Option, Result, Ok, Err, refl, sym, ap, subst, ◌∙◌, length, drop, take, arith, length-drop}
 use Rattle.std.proofs.lemmas.List.{append-nil, append_assoc, map-append}
 use Rattle.std.specs.Io.KnownBytes.{IsAtEnd}
 use Rattle.ipc_frame.specs.Reading.{reading}
@@ -173,8 +173,8 @@ begin log stage left piece decoder turns holds few = record {
   moves = inl few;
 }
 
--- one frame more
-pub step : (a b c : Log) (before stage next : Stage) (bytes : List ℕ) (decoder new : Decoding) (rest : List ℕ) (turns used : ℕ) (heard : Heard) → (p : Progress a b before bytes stage decoder rest turns) → 0 < turns → TookOne p.held rest new used heard → ServedNext b c stage (Ok heard) (On next) → Progress a c before bytes next new (drop used rest) (turns - 1)
+-- one frame more; behind it no more turns are left than bytes
+pub step : (a b c : Log) (before stage next : Stage) (bytes : List ℕ) (decoder new : Decoding) (rest : List ℕ) (turns used : ℕ) (heard : Heard) → (p : Progress a b before bytes stage decoder rest turns) → 0 < turns → TookOne p.held rest new used heard → ServedNext b c stage (Ok heard) (On next) → Progress a c before bytes next new (drop used rest) (min (turns - 1) (length (drop used rest)))
 step a b c before stage next bytes decoder new rest turns used heard p some one served =
     let left = length-drop used rest in
     let within = one.within in
@@ -188,7 +188,7 @@ step a b c before stage next bytes decoder new rest turns used heard p some one 
         tells = tells_end a b c p.served.calls served.0 p.served.tells served.1;
         serves = rw (map-append heard_of p.served.frames (one.frame ∷ []), one.says) (chain_push Steps (map heard_of p.served.frames) (Ok heard) (On before) (On stage) (On next) p.served.calls served.0 p.served.serves served.2);
       };
-      moves = inr (refl, fewer p.moves);
+      moves = inr (refl, let few = fewer p.moves in omega (arith, few));
     }
   where
     fewer : (length rest < turns) ⊎ ((p.held ≡ []) × (length rest ≤ turns)) → length (drop used rest) ≤ turns - 1

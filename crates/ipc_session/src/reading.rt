@@ -83,8 +83,10 @@ fn read_turns<P: PortRead, K: KernelPort, G: Gate, B: Blocks>(
 {
     let mut stage = Stage::Greeting;
     let mut is_long = false;
+    let mut short = [0u8; SHORT];
     'turns: while gate.turn() {
-        let (turned, was_much) = read_next(port, kernel_port, decoder, stage, is_long, blocks);
+        let (turned, was_much) =
+            read_next(port, kernel_port, decoder, stage, is_long, &mut short, blocks);
         match turned {
             Turned::On(next) => stage = next,
             Turned::Over(ending) => return ending,
@@ -102,6 +104,7 @@ fn read_next<P: PortRead, K: KernelPort, B: Blocks>(
     decoder: &mut CallDecoder,
     stage: Stage,
     is_long: bool,
+    short: &mut [u8; SHORT],
     blocks: &mut B,
 ) -> (Turned, bool)
     requires { stage ≢ Stage.Finished }
@@ -111,21 +114,22 @@ fn read_next<P: PortRead, K: KernelPort, B: Blocks>(
         (P.failures port.old) (P.failures port.new) stage result.0 }
 {
     match decoder.read_on(port) {
-        None => read_piece(port, kernel_port, decoder, stage, is_long, blocks),
+        None => read_piece(port, kernel_port, decoder, stage, is_long, short, blocks),
         Some(Ok(0)) => (Turned::Over(end_input(kernel_port, decoder, stage)), false),
         Some(Ok(_)) => (Turned::On(stage), true),
         Some(Err(_)) => (Turned::Over(Ending::Device), false),
     }
 }
 
-/// Reads once into a buffer, and serves the frames that end in what was read. Also answers whether
-/// that was much.
+/// Reads once, into the short buffer or a long one, and serves the frames that end in what was
+/// read. Also answers whether that was much.
 fn read_piece<P: PortRead, K: KernelPort, B: Blocks>(
     port: &mut P,
     kernel_port: &mut K,
     decoder: &mut CallDecoder,
     stage: Stage,
     is_long: bool,
+    short: &mut [u8; SHORT],
     blocks: &mut B,
 ) -> (Turned, bool)
     requires { stage ≢ Stage.Finished }
@@ -137,7 +141,7 @@ fn read_piece<P: PortRead, K: KernelPort, B: Blocks>(
     if is_long {
         read_long(port, kernel_port, decoder, stage, blocks)
     } else {
-        read_turn(port, kernel_port, decoder, stage, &mut [0u8; SHORT], blocks)
+        read_turn(port, kernel_port, decoder, stage, short, blocks)
     }
 }
 
@@ -223,7 +227,7 @@ fn serve_piece<K: KernelPort, B: Blocks>(
 {
     let mut stage = stage;
     let mut rest = piece;
-    // each frame uses bytes, so the piece is used up before the turns are
+    // each frame uses bytes, so no more turns are left than bytes
     let mut turns = piece.len().saturating_add(1);
     'frames: while turns > 0 {
         turns -= 1;
@@ -238,6 +242,7 @@ fn serve_piece<K: KernelPort, B: Blocks>(
         }
         let (_, behind) = rest.split_at(used.min(rest.len()));
         rest = behind;
+        turns = turns.min(rest.len());
     }
     Turned::On(stage)
 }

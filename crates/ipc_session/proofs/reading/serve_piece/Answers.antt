@@ -31,7 +31,7 @@ frames-preserved g c = λ left holds.
     let within = one.within in
     let least = c.min.ensures in
     let same : c.min.result ≡ c.in-Ok-default-Some.used = omega (arith, within, least) in
-    rw (c.split_at.ensures.back, same) (step _ _ _ _ _ _ _ _ _ _ _ _ _ p some one c.in-On.ensures)
+    rw (c.min-turns.ensures, c.split_at.ensures.back, same) (step _ _ _ _ _ _ _ _ _ _ _ _ _ p some one c.in-On.ensures)
 
 pub returns : goal.returns
 returns g c = λ left input holds.

@@ -36,6 +36,7 @@ pub(crate) struct Desk {
 
 impl Told {
     /// The buffer strings of the open call, none where there is none.
+    #[inline(always)]
     fn into_buffers(self, alloc: Global) -> BufferList
         ensures { result ≡ buffers_in self }
     {
@@ -76,6 +77,7 @@ impl Desk {
     }
 
     /// Keeps an outcome.
+    #[inline(always)]
     pub(crate) fn finish(&mut self, outcome: Outcome)
         ensures { self.new ≡ finished outcome self.old }
     {
@@ -86,6 +88,7 @@ impl Desk {
 
 impl Desk {
     /// Moves its message out, which was sent.
+    #[inline(always)]
     pub(crate) fn take_message(&mut self) -> Option<Message>
         ensures result { result ≡ self.old.message }
         ensures desk { self.new ≡ emptied self.old }
@@ -94,6 +97,7 @@ impl Desk {
     }
 
     /// Moves the buffer strings of its open call out.
+    #[inline(always)]
     pub(crate) fn take_buffers(&mut self, alloc: Global) -> BufferList
         ensures result { result ≡ buffers_in self.old.told }
         ensures desk { self.new ≡ unbuffered self.old }
@@ -134,6 +138,7 @@ impl Desk {
     }
 
     /// Keeps what a new call wants whose message is sent at once, and hands that out.
+    #[inline(always)]
     pub(crate) fn send(&mut self, number: u64, copies: Prepared) -> Message
         requires { self.old.made + 1 < 2 ^ 64 }
         ensures message { result ≡ copies.message }
@@ -203,6 +208,7 @@ pub(crate) fn nothing(alloc: Global, moment: u64, call: u64) -> Outcome
 
 /// What a call is told that received a message at this moment, of a caller, which shows a sender.
 /// Takes no memory.
+#[inline(always)]
 pub(crate) fn delivered(
     moment: u64,
     number: u64,

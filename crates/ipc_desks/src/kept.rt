@@ -78,6 +78,7 @@ impl KeptDesks {
     }
 
     /// Keeps the outcome of a call.
+    #[inline(always)]
     pub(crate) fn finish(&mut self, place: usize, outcome: Outcome)
         requires { place < length self.old }
         ensures { Changed place (finished outcome) self.old self.new }
@@ -95,6 +96,7 @@ impl KeptDesks {
     }
 
     /// Moves the buffer strings out that were filled.
+    #[inline(always)]
     pub(crate) fn take_buffers(&mut self, place: usize) -> BufferList
         requires { place < length self.old }
         ensures result { result ≡ buffers_in (desk_at self.old place).told }
@@ -124,6 +126,7 @@ impl KeptDesks {
     }
 
     /// Keeps what a new call wants whose message is sent at once, and hands that out.
+    #[inline(always)]
     pub(crate) fn send(&mut self, place: usize, number: u64, copies: Prepared) -> Message
         requires within { place < length self.old }
         requires few { (desk_at self.old place).made + 1 < 2 ^ 64 }

@@ -75,6 +75,7 @@ impl Message {
 
     /// What the receiver gets: the untyped words, followed by a simple item of two words for each
     /// string, and the strings. Takes no memory.
+    #[inline(always)]
     pub(crate) fn into_received(self, buffers: &BufferList) -> (Vec<u64>, StringList)
         requires { length self.strings ≤ length buffers.now }
         ensures words { result.0.items ≡ self.words ++ simple_items buffers.now self.strings }

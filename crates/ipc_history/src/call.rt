@@ -56,6 +56,7 @@ impl Call {
     /// nilthread unless p is set; without a send phase the tag and the send period are 0; without a
     /// receive phase the receive period is 0 and there are no buffers. None for others, which are
     /// dropped.
+    #[inline(always)]
     #[tactic(auto, unfolding(crate::specs::CallParts::is_normal))]
     pub fn new(fields: CallFields) -> Option<Call>
         ensures normal { IsSome result ↔ IsTrue (is_normal (parts_of fields)) }

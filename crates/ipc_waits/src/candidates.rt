@@ -46,6 +46,7 @@ impl Candidates {
     }
 
     /// Forgets them all.
+    #[inline(always)]
     pub(crate) fn clear(&mut self)
         ensures { self.new ≡ [] }
     {
@@ -53,6 +54,7 @@ impl Candidates {
     }
 
     /// Whether a place is among them.
+    #[inline(always)]
     fn has(&self, place: usize) -> bool
         ensures { result ≡ is_among self.now place }
     {
@@ -60,6 +62,7 @@ impl Candidates {
     }
 
     /// Adds a place, where it is not yet there.
+    #[inline(always)]
     fn add(&mut self, place: usize)
         requires { place < table_slots }
         ensures { self.new ≡ with_place self.old place }
@@ -72,6 +75,7 @@ impl Candidates {
 
 impl Candidates {
     /// Where a place stands among them, if it does.
+    #[inline(always)]
     fn index_of(&self, place: usize) -> Option<usize>
         ensures found { IfSome result (λ index. (index < length self.now)
             × (slice_index_or self.now index place ≡ place)) }
@@ -84,6 +88,7 @@ impl Candidates {
     }
 
     /// Drops a place, where it is there.
+    #[inline(always)]
     fn remove(&mut self, place: usize)
         ensures { FollowsPlace self.old self.new place false }
     {
@@ -93,6 +98,7 @@ impl Candidates {
     }
 
     /// Adds a place whose slot holds a call, and drops one whose slot holds none.
+    #[inline(always)]
     pub(crate) fn follow(&mut self, place: usize, is_open: bool)
         requires { place < table_slots }
         ensures { FollowsPlace self.old self.new place is_open }
@@ -105,6 +111,7 @@ impl Candidates {
     }
 
     /// Adds the places of waits.
+    #[inline(always)]
     pub(crate) fn add_all(&mut self, waits: &[Wait])
         requires { All (λ w. w.place < table_slots) waits.now }
         ensures { (place : ℕ) → is_among self.new place

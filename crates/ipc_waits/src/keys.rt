@@ -7,6 +7,7 @@ use ipc_threads::{Phase, Standing};
 use ipc_words::{Period, ThreadId};
 
 /// The receiver that a waiting send phase sends to.
+#[inline(always)]
 fn sends_under(call: &Standing) -> Option<ThreadId>
     ensures { result ≡ sends_under call.now }
 {
@@ -17,6 +18,7 @@ fn sends_under(call: &Standing) -> Option<ThreadId>
 }
 
 /// The thread whose end fails the call; None for a receive from any thread.
+#[inline(always)]
 fn watches_under(call: &Standing) -> Option<ThreadId>
     ensures { result ≡ watches_under call.now }
 {
@@ -30,6 +32,7 @@ fn watches_under(call: &Standing) -> Option<ThreadId>
 }
 
 /// The moment at which a period is over that begins at another moment; None for never.
+#[inline(always)]
 fn due_after(since: u64, period: Period) -> Option<u64>
     ensures { result ≡ due_after since period }
 {
@@ -38,6 +41,7 @@ fn due_after(since: u64, period: Period) -> Option<u64>
 }
 
 /// The moment from which the waiting phase of a call is due, in microseconds.
+#[inline(always)]
 fn due_under(call: &Standing) -> Option<u64>
     ensures { result ≡ due_under call.now }
 {
@@ -71,6 +75,7 @@ pub(crate) struct Due;
 impl Key for Receiver {
     ghost key_of = { sends_under };
 
+    #[inline(always)]
     fn key_of(call: &Standing) -> Option<u64> {
         let receiver = sends_under(call)?;
         Some(receiver.to_word())
@@ -80,6 +85,7 @@ impl Key for Receiver {
 impl Key for Partner {
     ghost key_of = { watches_under };
 
+    #[inline(always)]
     fn key_of(call: &Standing) -> Option<u64> {
         let partner = watches_under(call)?;
         Some(partner.to_word())
@@ -89,12 +95,14 @@ impl Key for Partner {
 impl Key for Due {
     ghost key_of = { due_under };
 
+    #[inline(always)]
     fn key_of(call: &Standing) -> Option<u64> {
         due_under(call)
     }
 }
 
 /// The wait of a call at a place, where it has one.
+#[inline(always)]
 pub(crate) fn wait_of<K: Key>(place: usize, call: Option<&Standing>) -> Option<Wait>
     ensures { result ≡ wait_of K.key_of place (option_copied call.entry) }
 {

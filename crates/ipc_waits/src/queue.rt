@@ -140,6 +140,7 @@ impl Queue {
     }
 
     /// Adds the wait of a place that has none.
+    #[inline(never)]
     pub(crate) fn insert(&mut self, wait: Wait)
         requires within { wait.place < table_slots }
         requires fresh { is_placed self.old wait.place ≡ false }
@@ -150,6 +151,7 @@ impl Queue {
     }
 
     /// Takes a wait out, if it is there.
+    #[inline(never)]
     pub(crate) fn remove(&mut self, wait: Wait)
         ensures { (w : Wait) → is_in self.new w ≡ (is_in self.old w && not (is_same w wait)) }
     {
@@ -159,6 +161,8 @@ impl Queue {
     }
 
     /// Takes the wait of a place out, if it had one, and adds another, if it has one from now on.
+    /// Mostly it has none, before and after, and then there is nothing to do.
+    #[inline(always)]
     pub(crate) fn replace(&mut self, place: usize, before: Option<Wait>, after: Option<Wait>)
         requires within { place < table_slots }
         requires before { HasHere self.old place before }
@@ -181,6 +185,7 @@ impl Queue {
     }
 
     /// The call at a place was this one, and is another from now on.
+    #[inline(always)]
     pub(crate) fn change<K: Key>(
         &mut self,
         place: usize,

@@ -74,6 +74,7 @@ impl Waiting {
     /// Before an entry, finds the calls that it touches without naming them: those whose partner
     /// ends, and those that are due. An input comes where nothing more is possible, so that what
     /// was looked at before is forgotten.
+    #[inline(always)]
     fn touch(&mut self, entry: &Entry)
         requires follows { Follows self.old.slots.past entry.now }
         requires waiting { IsWaiting self.old }
@@ -89,6 +90,7 @@ impl Waiting {
     }
 
     /// Brings queues and candidates in step with a slot that has changed.
+    #[inline(always)]
     fn follow(&mut self, change: &Option<Change>)
         requires { CanFollow self.old change.now }
         ensures { FollowsChange self.old self.new change.now }
@@ -103,6 +105,7 @@ impl Waiting {
     }
 
     /// Takes note of a moment.
+    #[inline(always)]
     fn note_at(&mut self, entry: &Entry, moment: u64)
         requires entry { entry.now ≡ Given (At moment) }
         requires follows { Follows self.old.slots.past entry.now }
@@ -128,6 +131,18 @@ impl Waiting {
             self.note_at(entry, *moment);
             return;
         }
+        self.note_other(entry, hint);
+    }
+
+    /// Takes note of an entry that may change slots. It has a large frame, so it is never inlined:
+    /// a moment needs none of it.
+    #[inline(never)]
+    fn note_other(&mut self, entry: &Entry, hint: usize)
+        requires follows { Follows self.old.slots.past entry.now }
+        requires waiting { IsWaiting self.old }
+        ensures past { self.new.slots.past ≡ self.old.slots.past ++ entry.now ∷ [] }
+        ensures waiting { IsWaiting self.new }
+    {
         self.touch(entry);
         let _ = self.slots.kept();
         let changes = self.slots.note(entry, hint);

@@ -61,6 +61,7 @@ impl Waits {
 
     /// The waits of the calls that an entry touches without naming them: of those whose partner
     /// ends, and of those that are due.
+    #[inline(always)]
     pub(crate) fn touched(&self, entry: &Entry) -> &[Wait]
         ensures value { result.now ≡ waits_touched entry.now self.now }
         ensures within { All (λ w. w.place < table_slots) result.now }
@@ -73,6 +74,7 @@ impl Waits {
     }
 
     /// The call at a place was this one, and is another from now on.
+    #[inline(always)]
     pub fn change(&mut self, place: usize, before: Option<&Standing>, after: Option<&Standing>)
         requires within { place < table_slots }
         requires before { HaveAt self.old place (option_copied before) }

@@ -13,6 +13,7 @@ use ipc_words::ThreadId;
 impl Waiting {
     /// Takes note of a call that reaches a receiving call, of the transfer that it begins, and of
     /// the end of that. Memory may hold the call at the hint. Takes no memory.
+    #[inline(always)]
     pub fn note_exchange(
         &mut self,
         entry: &Entry,

@@ -4,7 +4,7 @@ use Rattle.ipc_threads.specs.Slots.{Stands}
 use Rattle.ipc_waits.specs.Keys.{AreWaits}
 use Rattle.ipc_waits.specs.Waiting.{IsTouched}
 use Rattle.ipc_waits.proofs.Following.{noted}
-use Rattle.ipc_waits.proofs.waiting.Waiting.note.Goals as goal
+use Rattle.ipc_waits.proofs.waiting.Waiting.note_other.Goals as goal
 
 pub note-changes-requires : goal.note-changes-requires
 note-changes-requires c = subst (λ s. Follows s.past c.args.entry.now) (sym c.touch.ensures.slots) c.requires.follows

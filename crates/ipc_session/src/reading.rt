@@ -85,8 +85,15 @@ fn read_turns<P: PortRead, K: KernelPort, G: Gate, B: Blocks>(
     let mut is_long = false;
     let mut short = [0u8; SHORT];
     'turns: while gate.turn() {
-        let (turned, was_much) =
-            read_next(port, kernel_port, decoder, stage, is_long, &mut short, blocks);
+        let (turned, was_much) = read_next(
+            port,
+            kernel_port,
+            decoder,
+            stage,
+            is_long,
+            &mut short,
+            blocks,
+        );
         match turned {
             Turned::On(next) => stage = next,
             Turned::Over(ending) => return ending,

@@ -6,3 +6,4 @@ pub mod Verbs
 pub mod Versions
 pub mod Quoting
 pub mod Stops
+pub mod Typed

@@ -1,5 +1,6 @@
 //! The fields of a command: what is sent, how long each phase may take, and where strings go.
-ghost use Rattle.std.specs.Prelude.{◌≤◌, length};
+ghost use Rattle.std.specs.Prelude.{◌≡◌, ◌<◌, ◌≤◌, IfNone, IfOk, IfSome, Some, false, length, slice_get, true};
+ghost use Rattle.ipc_lines.specs.Reading.{parts_at, texts_of};
 
 use crate::read_thread;
 use ipc_client::{BufferFault, Buffers, Message, MessageFault, Timeout};
@@ -159,6 +160,21 @@ fn field_at(word: &[u8], end: usize) -> Option<Field<'_>>
     Some((name_of(&NAMES, name)?, behind.strip_prefix(b"=")?))
 }
 
+// The values of a list, with commas between them.
+fn values_of(alloc: Global, list: &[u8]) -> Result<Vec<&[u8]>, AllocError>
+    ensures { IfOk result (λ values. texts_of values.items ≡ parts_at 44 list.now) }
+{
+    list.split(|byte| *byte == b',').collect(alloc)
+}
+
+// The value in a place.
+fn value_at<'a>(values: &[&'a [u8]], place: usize) -> &'a [u8]
+    requires { place < length values.now }
+    ensures { slice_get (texts_of values.now) place ≡ Some result.now }
+{
+    values[place]
+}
+
 // Whether a byte stands between two values of a list.
 fn is_comma(byte: &u8) -> bool {
     *byte == b','
@@ -183,7 +199,10 @@ fn right(is_read: bool) -> Result<(), FieldFault> {
 }
 
 // Sets a field to what was read for it. False where that is none.
-fn set<T: Copy>(field: &mut T, read: Option<T>) -> bool {
+fn set<T: Copy>(field: &mut T, read: Option<T>) -> bool
+    ensures some { IfSome read (λ value. (field.new ≡ value) × (result ≡ true)) }
+    ensures none { IfNone read ((field.new ≡ field.old) × (result ≡ false)) }
+{
     match read {
         Some(value) => {
             *field = value;
@@ -212,7 +231,9 @@ pub(crate) struct Fields {
 }
 
 impl Fields {
-    ghost use Rattle.std.specs.Prelude.{◌≡◌};
+    ghost use Rattle.std.specs.Prelude.{◌≡◌, IfOk, true};
+    ghost use Rattle.ipc_lines.specs.Reading.{parts_at, texts_of};
+    ghost use Rattle.l4sh_talk.specs.Typed.{AddsWords};
 
     /// Of a command without a field.
     pub(crate) fn new(alloc: Global, verb: Verb) -> Fields {
@@ -266,7 +287,7 @@ impl Fields {
             Name::Send => Ok(right(set(&mut self.send, read_timeout(value)))),
             Name::Receive => Ok(right(set(&mut self.receive, read_timeout(value)))),
             Name::Label => Ok(right(set(&mut self.label, read_number(value)))),
-            Name::Words => Ok(right(self.add_words(value)?)),
+            Name::Words => Ok(right(self.add_words(alloc, value)?)),
             Name::As => Ok(right(self.add_originator(value))),
             Name::Buffers => Ok(right(self.add_buffers(value)?)),
             Name::Text => self.add_text(alloc, value),
@@ -285,8 +306,25 @@ impl Fields {
         }
     }
 
-    fn add_timeout(&mut self, time: &[u8]) -> bool {
-        set(&mut self.send, read_timeout(time)) && set(&mut self.receive, read_timeout(time))
+    // Sets both phases to a time.
+    fn set_both(&mut self, time: Timeout)
+        ensures send { self.new.send ≡ time }
+        ensures receive { self.new.receive ≡ time }
+    {
+        self.send = time;
+        self.receive = time;
+    }
+
+    fn add_timeout(&mut self, time: &[u8]) -> bool
+        ensures { result ≡ true → self.new.send ≡ self.new.receive }
+    {
+        match read_timeout(time) {
+            Some(time) => {
+                self.set_both(time);
+                true
+            }
+            None => false,
+        }
     }
 
     fn add_originator(&mut self, id: &[u8]) -> bool {
@@ -294,9 +332,21 @@ impl Fields {
         self.originator.is_some()
     }
 
-    fn add_words(&mut self, list: &[u8]) -> Result<bool, AllocError> {
-        for word in list.split(is_comma) {
-            let Some(word) = read_number(word) else {
+    // Each number is a word of the message, behind those that came before.
+    fn add_words(&mut self, alloc: Global, list: &[u8]) -> Result<bool, AllocError>
+        ensures { IfOk result (λ read. read ≡ true
+            → AddsWords (parts_at 44 list.now) self.old.words.items self.new.words.items) }
+    {
+        let values = values_of(alloc, list)?;
+        self.add_numbers(&values)
+    }
+
+    fn add_numbers(&mut self, values: &[&[u8]]) -> Result<bool, AllocError>
+        ensures { IfOk result (λ read. read ≡ true
+            → AddsWords (texts_of values.now) self.old.words.items self.new.words.items) }
+    {
+        'words: for place in 0..values.len() {
+            let Some(word) = read_number(value_at(values, place)) else {
                 return Ok(false);
             };
             self.words.push(word)?;

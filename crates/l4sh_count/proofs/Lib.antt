@@ -1,3 +1,4 @@
 pub mod Told
 pub mod Grouping
 pub mod Opening
+pub mod Texts

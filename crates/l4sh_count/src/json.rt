@@ -1,3 +1,7 @@
+ghost use Rattle.std.specs.Prelude.{◌≡◌, ◌++◌, OnOk};
+ghost use Rattle.std.specs.String.{string_bytes};
+ghost use Rattle.l4sh_count.specs.Texts.{json_numbers_text, json_row_text, json_times_text, json_waits_text};
+
 use crate::event::Event;
 use crate::groups::Groups;
 use crate::row::{Row, Waits, row_of};
@@ -42,13 +46,10 @@ pub fn json_of(
 }
 
 // The members of a row, and the end of its object.
-fn put_row(text: &mut String, row: &Row) -> Result<(), AllocError> {
-    let (calls, messages) = (row.calls, row.messages);
-    let (bytes, failures) = (row.bytes, row.failures);
-    write!(
-        text,
-        "\"calls\": {calls}, \"messages\": {messages}, \"bytes\": {bytes}, \"failures\": {failures}, "
-    )?;
+fn put_row(text: &mut String, row: &Row) -> Result<(), AllocError>
+    ensures { OnOk result (string_bytes text.new ≡ string_bytes text.old ++ json_row_text row.now) }
+{
+    put_numbers(text, row)?;
     text.push_str("\"sends_took\": ")?;
     put_waits(text, &row.sent)?;
     text.push_str(", \"receives_took\": ")?;
@@ -56,15 +57,36 @@ fn put_row(text: &mut String, row: &Row) -> Result<(), AllocError> {
     text.push_str("}")
 }
 
-fn put_waits(text: &mut String, waits: &Option<Waits>) -> Result<(), AllocError> {
+fn put_numbers(text: &mut String, row: &Row) -> Result<(), AllocError>
+    ensures { OnOk result (string_bytes text.new
+        ≡ string_bytes text.old ++ json_numbers_text row.now) }
+{
+    let (calls, messages) = (row.calls, row.messages);
+    let (bytes, failures) = (row.bytes, row.failures);
+    write!(
+        text,
+        "\"calls\": {calls}, \"messages\": {messages}, \"bytes\": {bytes}, \"failures\": {failures}, "
+    )
+}
+
+fn put_waits(text: &mut String, waits: &Option<Waits>) -> Result<(), AllocError>
+    ensures { OnOk result (string_bytes text.new
+        ≡ string_bytes text.old ++ json_waits_text waits.now) }
+{
     match waits {
-        Some(waits) => {
-            let (median, most, longest) = (waits.median, waits.most, waits.longest);
-            write!(
-                text,
-                "{{\"median\": {median}, \"99_of_100\": {most}, \"longest\": {longest}}}"
-            )
-        }
+        Some(waits) => put_times(text, waits),
         None => text.push_str("null"),
     }
+}
+
+fn put_times(text: &mut String, waits: &Waits) -> Result<(), AllocError>
+    ensures { OnOk result (string_bytes text.new
+        ≡ string_bytes text.old ++ json_times_text waits.now) }
+{
+    let (median, most) = (waits.median, waits.most);
+    let longest = waits.longest;
+    write!(
+        text,
+        "{{\"median\": {median}, \"99_of_100\": {most}, \"longest\": {longest}}}"
+    )
 }

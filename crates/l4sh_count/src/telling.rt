@@ -1,3 +1,8 @@
+ghost use Rattle.std.specs.Prelude.{◌≡◌, ◌++◌, IfOk, OnOk, replicate};
+ghost use Rattle.std.specs.Fmt.{decimal};
+ghost use Rattle.std.specs.String.{string_bytes};
+ghost use Rattle.l4sh_count.specs.Texts.{cell_text, row_text, times_text, waits_text};
+
 use crate::event::Event;
 use crate::groups::Groups;
 use crate::row::{Row, Waits, row_of};
@@ -62,7 +67,10 @@ fn tell_row(
     from: &str,
     to: &str,
     row: &Row,
-) -> Result<(), AllocError> {
+) -> Result<(), AllocError>
+    ensures { OnOk result (string_bytes text.new
+        ≡ string_bytes text.old ++ row_text from.now to.now row.now) }
+{
     tell_cell(text, from, WIDTHS[0])?;
     tell_cell(text, to, WIDTHS[1])?;
     tell_number(alloc, text, row.calls, WIDTHS[2])?;
@@ -81,28 +89,47 @@ fn tell_number(
     text: &mut String,
     number: u64,
     width: usize,
-) -> Result<(), AllocError> {
+) -> Result<(), AllocError>
+    ensures { OnOk result (string_bytes text.new
+        ≡ string_bytes text.old ++ cell_text width (decimal number)) }
+{
     let number = format!(in alloc; "{number}")?;
     tell_cell(text, number.as_str(), width)
 }
 
 // Median, 99 of 100 and longest.
-fn waits_text(alloc: Global, waits: &Option<Waits>) -> Result<String, AllocError> {
+fn waits_text(alloc: Global, waits: &Option<Waits>) -> Result<String, AllocError>
+    ensures { IfOk result (λ text. string_bytes text ≡ waits_text waits.now) }
+{
     match waits {
-        Some(waits) => {
-            let (median, most, longest) = (waits.median, waits.most, waits.longest);
-            format!(in alloc; "{median} {most} {longest}")
-        }
+        Some(waits) => times_text(alloc, waits),
         None => String::from_str(alloc, "-"),
     }
 }
 
-// A text, and spaces up to a width; at least two.
-fn tell_cell(text: &mut String, cell: &str, width: usize) -> Result<(), AllocError> {
+fn times_text(alloc: Global, waits: &Waits) -> Result<String, AllocError>
+    ensures { IfOk result (λ text. string_bytes text ≡ times_text waits.now) }
+{
+    let (median, most) = (waits.median, waits.most);
+    let longest = waits.longest;
+    format!(in alloc; "{median} {most} {longest}")
+}
+
+// A text of ASCII, and spaces up to a width; at least two.
+fn tell_cell(text: &mut String, cell: &str, width: usize) -> Result<(), AllocError>
+    ensures { OnOk result (string_bytes text.new
+        ≡ string_bytes text.old ++ cell_text width cell.now) }
+{
     text.push_str(cell)?;
-    let taken = cell.chars().count();
     text.push_str("  ")?;
-    for _ in 0..width.saturating_sub(taken.saturating_add(2)) {
+    tell_spaces(text, width.saturating_sub(cell.len().saturating_add(2)))
+}
+
+// So many spaces.
+fn tell_spaces(text: &mut String, count: usize) -> Result<(), AllocError>
+    ensures { OnOk result (string_bytes text.new ≡ string_bytes text.old ++ replicate count 32) }
+{
+    'spaces: for _ in 0..count {
         text.push_str(" ")?;
     }
     Ok(())

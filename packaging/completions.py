@@ -39,7 +39,7 @@ def bash(name, words):
         wanted = sorted({long for each in every for _, long, value, _ in each.options if value == kind})
         if wanted:
             lines += [f"    case $before in {'|'.join(wanted)})", "        compopt -o filenames 2>/dev/null",
-                      f"        COMPREPLY=($(compgen {made} -- \"$word\")); return;;", "    esac"]
+                      f"        local IFS=$'\\n'; COMPREPLY=($(compgen {made} -- \"$word\")); return;;", "    esac"]
     # of other values nothing is known
     valued = sorted({long for each in every for _, long, value, _ in each.options if value and value not in PLACES})
     if valued:
@@ -50,7 +50,7 @@ def bash(name, words):
                   "    fi", "    case $command in"]
         for command, (_, below) in words.commands.items():
             made = {"file": "-f", "folder": "-d"}.get(below.takes)
-            files = f"; [[ $word == -* ]] || {{ compopt -o filenames 2>/dev/null; COMPREPLY+=($(compgen {made} -- \"$word\")); }}" if made else ""
+            files = f"; [[ $word == -* ]] || {{ compopt -o filenames 2>/dev/null; local IFS=$'\\n'; COMPREPLY+=($(compgen {made} -- \"$word\")); }}" if made else ""
             lines += [f"    {command}) COMPREPLY=($(compgen -W \"{' '.join(below.long())}\" -- \"$word\")){files};;"]
         lines += ["    esac"]
     else:

@@ -1,5 +1,6 @@
-//! What every crate may stand on: memory as a bound that contracts can speak of, and lists that
-//! proofs alone know.
+//! What every crate may stand on: lists that proofs alone know; memory as a bound that contracts
+//! can speak of; and ports, reads and writes of bytes with a count of the device's failures that
+//! contracts alone see.
 #![tactic(auto)]
 
 mod failures;

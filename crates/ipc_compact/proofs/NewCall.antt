@@ -1,4 +1,4 @@
--- A call that is entered: nothing is said of it yet. From ipc_slots, whose lemmas are private.
+-- A call that is entered: nothing is said of it yet. From ipc_threads, whose lemmas are private.
 use Rattle.std.proofs.lemmas.Bool.{false_from_ne_true}
 use Rattle.std.proofs.Common.{◌≡◌, refl, ◌∙◌, ℕ, ◌==◌, ◌&&◌, eq-eqb, Bool, true, false, List, [], ◌∷◌, ◌++◌, append-nil, Some, None, ◌⊎◌, inl, inr, arith}
 use Rattle.std.specs.List.{list_any}

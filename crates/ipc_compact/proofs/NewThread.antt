@@ -1,4 +1,4 @@
--- A thread that opens was not opened before. From ipc_slots, whose lemmas are private.
+-- A thread that opens was not opened before. From ipc_threads, whose lemmas are private.
 use Rattle.std.proofs.lemmas.Bool.{false≢true, false_from_ne_true}
 use Rattle.std.proofs.lemmas.List.Sums.{sum_by-cons, sum_by-append}
 use Rattle.std.proofs.Common.{◌≡◌, refl, ℕ, ◌≤◌, eqb-true, eq-eqb, cond, Bool, true, false, List, [], ◌∷◌, ◌++◌, count_by, None, arith}

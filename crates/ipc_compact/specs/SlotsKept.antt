@@ -1,4 +1,4 @@
--- The slots of a history (ipc_slots) are read of what is kept of it and of the base: its last
+-- The slots of a history (ipc_threads) are read of what is kept of it and of the base: its last
 -- versions, and the calls that count as over.
 use Rattle.std.specs.Prelude.{◌≡◌, ℕ, List, Option, option_map, find, not, ◌&&◌, ◌==◌}
 use Rattle.ipc_words.specs.Version.{next_version_of}

@@ -1,4 +1,5 @@
-//! What is kept of a quiet history when it is compacted, and the base that stands beside it.
+//! What may be let go of a quiet history: which calls met which, by the last calls of the live
+//! threads; which entries a compaction keeps for that; and the base that stands beside them.
 #![tactic(auto)]
 
 mod base;

@@ -1,6 +1,10 @@
 //! The rules of a connection: what a frame to the server asks for, in normal form, read from a
 //! stream in any pieces; what that asks of the kernel, how its answer is told, what stage comes
 //! next.
+//!
+//! And a pen: the port that a connection's client is written by, and the frame that is not yet
+//! written whole. Whoever has the pen writes, and gives it back; so no frame is overtaken and none
+//! is written twice, by however many threads.
 #![tactic(auto)]
 
 mod asking;

@@ -1,5 +1,6 @@
-//! The threads of a kernel: which numbers are live, in which space, and the version that each
-//! number had last.
+//! The thread numbers of a kernel. [`Slots`] has what a history says of each number now, in a slot
+//! for each that is changed in place by each entry. [`ThreadTable`] has, without a history, which
+//! numbers are live, in which space, and the version that each had last.
 //!
 //! A thread is a connection. Its id is global: the number, 1 to `MAX_THREAD_NUMBER`, in the upper
 //! 32 bits of the word, and the version in the lower 32. It lives in one of the spaces 1 to

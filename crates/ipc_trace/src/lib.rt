@@ -1,5 +1,5 @@
 //! A trace: the lines of the entries of a history, each ended by a newline, behind the line of its
-//! version.
+//! version. And a part of a trace: a file that begins in the middle of a history, with its base.
 #![tactic(auto)]
 
 mod base_text;

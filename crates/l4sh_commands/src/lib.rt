@@ -1,5 +1,5 @@
 //! The commands of `l4sh run` as lines: each has one spelling, which is written and read back here
-//! alone.
+//! alone. And the commands whose history a trace is.
 #![tactic(auto)]
 
 mod acts;

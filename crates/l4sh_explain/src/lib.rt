@@ -1,4 +1,11 @@
-//! What codes and words of the manual mean, and words made of what people type.
+//! What codes and words of the manual mean, and words made of what people type. And why a line of a
+//! script or of a trace is bad: its first fault, as a value. A [`Reason`] prints as the words that
+//! people read.
+//!
+//! ```text
+//! // field 2, thread: wanted is an id, NUMBER.VERSION, as 1.1; not 1
+//! reason_of(alloc, Grammar::Script, b"take 1")?
+//! ```
 #![tactic(auto)]
 
 mod codes;

@@ -1,4 +1,6 @@
-//! What a history says of each live thread: what it does, for whom it waits, and each deadlock.
+//! What a history says of each live thread: what it does, for whom it waits, and each deadlock. And
+//! what the views of a trace share: which threads live and in which space, as whom a message is
+//! shown, which threads were asked for, and why a phase failed.
 #![tactic(auto)]
 
 mod building;

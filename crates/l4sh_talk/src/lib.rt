@@ -1,5 +1,6 @@
-//! A thread of a live server, from a keyboard or a pipe: what people type, the call that is made of
-//! it, and what is said to its answer.
+//! What people type to a shell, and the exact line of a script that it stands for. And a thread of
+//! a live server, from a keyboard or a pipe: what people type, the call that is made of it, and
+//! what is said to its answer.
 #![tactic(auto)]
 
 mod asking;

@@ -48,18 +48,16 @@ impl TagRequest {
 /// A tag in words: its label, its counts and its flags.
 pub fn tell_tag(text: &mut String, tag: MsgTag) -> Result<(), AllocError> {
     let label = tag.label();
-    let words = tag.untyped();
-    let typed = tag.typed();
-    write!(
-        text,
-        "label {label} ({}), {words} untyped words",
-        HexText(label)
-    )?;
+    let (words, typed) = (tag.untyped(), tag.typed());
+    let noun = plural(words, "untyped word", "untyped words");
+    write!(text, "label {label} ({}), {words} {noun}", HexText(label))?;
     if typed % 2 == 0 {
         let strings = typed / 2;
-        write!(text, ", {strings} strings")?;
+        let noun = plural(strings, "string", "strings");
+        write!(text, ", {strings} {noun}")?;
     } else {
-        write!(text, ", {typed} typed words")?;
+        let noun = plural(typed, "typed word", "typed words");
+        write!(text, ", {typed} {noun}")?;
     }
     let flags = [
         (tag.propagates(), ", p: propagated"),
@@ -79,6 +77,11 @@ pub fn tell_tag(text: &mut String, tag: MsgTag) -> Result<(), AllocError> {
         )?;
     }
     Ok(())
+}
+
+// The word of one thing, or of none or many.
+fn plural(count: u8, one: &'static str, many: &'static str) -> &'static str {
+    if count == 1 { one } else { many }
 }
 
 /// The answer to the fields of a tag, or to its word in HEX: the word, and its fields.

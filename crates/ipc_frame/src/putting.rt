@@ -12,6 +12,7 @@ use crate::version::{WireVersion, put_end};
 use crate::window::Window;
 use ipc_words::{Control, IpcError, MsgTag, ThreadId};
 
+#[inline(always)]
 pub(crate) fn put_words(window: &mut Window, out: &mut [u8], words: &[u64])
     requires { window.old.filled ≤ length out.old }
     ensures shown { page window.new out.new ≡ passed (words_text words.now)
@@ -75,6 +76,7 @@ fn put_ipcr_tail(window: &mut Window, out: &mut [u8], ipcr: &IpcrFrame)
 }
 
 // The numbers of an outcome that all versions tell.
+#[inline(always)]
 pub(crate) fn put_ipcr_numbers(
     window: &mut Window,
     out: &mut [u8],

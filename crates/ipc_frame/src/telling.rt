@@ -21,6 +21,7 @@ pub(crate) struct Measure {
 }
 
 /// The measure of the pieces of an outcome. Without strings it looks no further.
+#[inline(always)]
 #[tactic(auto, using(crate::proofs::PlacingLemmas::none_told))]
 fn measure_of(outcome: &Outcome) -> Measure
     ensures pieces { result.pieces ≡ length (pieces_told outcome.now) }
@@ -54,6 +55,7 @@ fn measure_pieces(outcome: &Outcome) -> Measure
 }
 
 /// The body length of the frame that tells an outcome.
+#[inline(always)]
 #[tactic(auto, using(crate::proofs::VersionLemmas::told_of))]
 pub(crate) fn reply_size(version: WireVersion, outcome: &Outcome) -> usize
     ensures value { result ≡ ipcr_size (reply_of version outcome.now) }
@@ -65,6 +67,7 @@ pub(crate) fn reply_size(version: WireVersion, outcome: &Outcome) -> usize
 }
 
 // The pieces of the strings, none without strings.
+#[inline(always)]
 fn put_strings(window: &mut Window, out: &mut [u8], outcome: &Outcome)
     requires { window.old.filled ≤ length out.old }
     ensures shown { page window.new out.new
@@ -91,6 +94,7 @@ fn put_scattered(window: &mut Window, out: &mut [u8], outcome: &Outcome)
 }
 
 // The words, how many pieces there are, and the pieces.
+#[inline(always)]
 fn put_reply_tail(window: &mut Window, out: &mut [u8], outcome: &Outcome)
     requires { window.old.filled ≤ length out.old }
     ensures shown { page window.new out.new
@@ -105,6 +109,7 @@ fn put_reply_tail(window: &mut Window, out: &mut [u8], outcome: &Outcome)
 }
 
 // The numbers after the kind, and the rest.
+#[inline(always)]
 #[tactic(auto, unfolding(crate::specs::Window::passed_parts), using(crate::proofs::WindowLemmas::outcome_passed))]
 fn put_reply_parts(window: &mut Window, out: &mut [u8], version: WireVersion, outcome: &Outcome)
     requires { window.old.filled ≤ length out.old }
@@ -125,6 +130,7 @@ fn put_reply_parts(window: &mut Window, out: &mut [u8], version: WireVersion, ou
 }
 
 /// The spelling of the frame that tells an outcome in a version.
+#[inline(always)]
 pub(crate) fn put_reply(
     window: &mut Window,
     out: &mut [u8],

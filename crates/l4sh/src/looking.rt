@@ -1,11 +1,9 @@
-ghost use Rattle.std.specs.Prelude.{◌≡◌, ◌≢◌, ◌+◌, ◌^◌, ◌<◌, ℕ, IfErr, IfOk, Some, option_map, take};
+ghost use Rattle.std.specs.Prelude.{◌≡◌, ◌≢◌, ◌+◌, ◌^◌, ◌<◌, IfOk, Some, option_map, take};
 ghost use Rattle.l4sh_explain.specs.Answers.{IfAnswer, IfMistake};
 ghost use Rattle.std.specs.Io.KnownBytes.{Appends};
 ghost use Rattle.std.specs.String.{string_bytes};
 ghost use Rattle.ipc_trace.specs.Versions.{header_lines};
-ghost use Rattle.l4sh.specs.Looking.{IsPrinted, IsSaidOf, IsSilent, LooksAt, MayEnd, Prints, PrintsOf};
-ghost use Rattle.l4sh.specs.Looking.{shown_of, torn_end};
-ghost use Rattle.l4sh.specs.declared.looking.Look.TheVariants as look;
+ghost use Rattle.l4sh.specs.Looking.{IsSaidOf, IsSilent, LooksAt, MayEnd, shown_of, torn_end};
 
 use crate::exit::Exit;
 use ipc_base::{PortRead, PortWrite};
@@ -48,8 +46,6 @@ pub fn look_at_trace<R: PortRead, W: PortWrite>(
         → R.failures reader.old + W.failures writer.old
         < R.failures reader.new + W.failures writer.new }
     ensures silent { IsSilent result → W.written writer.new ≡ W.written writer.old }
-    ensures prints { IsPrinted result → PrintsOf look (R.remaining reader.old)
-        (W.written writer.old) (W.written writer.new) }
 {
     let read = read_trace(alloc, reader);
     match read.end {
@@ -77,8 +73,6 @@ pub(crate) fn tell<W: PortWrite>(
     ensures failed { result ≡ Exit.DeviceFailed → W.failures writer.old < W.failures writer.new }
     ensures silent { result ≢ Exit.Done → result ≢ Exit.DeviceFailed
         → W.written writer.new ≡ W.written writer.old }
-    ensures prints { result ≡ Exit.Done → Prints look (shown_of look read.now.entries.items)
-        (W.written writer.old) (W.written writer.new) }
 {
     let (version, entries) = (read.version, read.entries.as_slice());
     match look {
@@ -103,8 +97,6 @@ fn print_counts<W: PortWrite>(
     ensures failed { result ≡ Exit.DeviceFailed → W.failures writer.old < W.failures writer.new }
     ensures silent { result ≢ Exit.Done → result ≢ Exit.DeviceFailed
         → W.written writer.new ≡ W.written writer.old }
-    ensures prints { result ≡ Exit.Done → Prints (look.Counts is_json) entries.now
-        (W.written writer.old) (W.written writer.new) }
 {
     match events_of(alloc, entries) {
         Ok(events) => {
@@ -151,8 +143,6 @@ fn print_script<W: PortWrite>(
     ensures failed { result ≡ Exit.DeviceFailed → W.failures writer.old < W.failures writer.new }
     ensures silent { result ≢ Exit.Done → result ≢ Exit.DeviceFailed
         → W.written writer.new ≡ W.written writer.old }
-    ensures prints { result ≡ Exit.Done → Prints look.Script entries.now
-        (W.written writer.old) (W.written writer.new) }
 {
     match check(entries) {
         Verdict::Yes => print(script_of(alloc, entries), writer),
@@ -172,8 +162,6 @@ fn print_state<W: PortWrite>(
     ensures failed { result ≡ Exit.DeviceFailed → W.failures writer.old < W.failures writer.new }
     ensures silent { result ≢ Exit.Done → result ≢ Exit.DeviceFailed
         → W.written writer.new ≡ W.written writer.old }
-    ensures prints { (count : ℕ) → result ≡ Exit.Done → Prints (look.StateAt count) entries.now
-        (W.written writer.old) (W.written writer.new) }
 {
     match state_of(entries) {
         Ok(state) => print(state_text(alloc, &state, entries, times), writer),
@@ -250,8 +238,6 @@ pub fn print_answer<W: PortWrite>(
 
 // Prints a text, where there was memory for it.
 fn print<W: PortWrite>(text: Result<String, AllocError>, writer: &mut W) -> Exit
-    ensures memory { IfOk text (λ _. result ≢ Exit.NoMemory) }
-    ensures lost { IfErr text (λ _. result ≡ Exit.NoMemory) }
     ensures whole { IfOk text (λ text. result ≡ Exit.Done
         → Appends (W.written writer.old) (W.written writer.new) (string_bytes text)) }
     ensures ends { MayEnd result }

@@ -1,3 +1,4 @@
 pub mod Exits
+pub mod Fronts
 pub mod Looking
 pub mod Talking

@@ -6,7 +6,7 @@ use crate::history::{print_text, verdict_text};
 use ipc_base::PortWrite;
 use ipc_chain::{ChainVerdict, check_parts};
 use std::alloc::{AllocError, Global};
-use std::rt::Files;
+use std::rt::{Clock, Files};
 
 /// The status where no history was found.
 const NOT_FOUND: u8 = 6;
@@ -14,7 +14,7 @@ const NOT_FOUND: u8 = 6;
 /// Checks files of which the first is a part, where the check of a trace ended at its first line.
 /// Prints `yes from FILE` where a history was found that ends as FILE says, and the entries of all
 /// files are one history with it; `no FILE N EXPECTED` where they are none.
-pub(crate) fn check_begun<R: Files + Input, W: PortWrite>(
+pub(crate) fn check_begun<R: Files + Input + Eprint + Clock, W: PortWrite>(
     rt: &R,
     alloc: Global,
     files: &[&str],

@@ -11,7 +11,7 @@ use ipc_trace::{
 };
 use std::alloc::{AllocError, Global};
 use std::marker::Brand;
-use std::rt::Files;
+use std::rt::{Clock, Files};
 use std::sync::ledger::{Blank, Ledger};
 
 /// What was read of the first file.
@@ -81,7 +81,7 @@ pub(crate) struct History {
 }
 
 /// Reads the files of one history; how that ended, where it failed.
-pub(crate) fn read_files<R: Files + Input, W: PortWrite>(
+pub(crate) fn read_files<R: Files + Input + Eprint + Clock, W: PortWrite>(
     rt: &R,
     alloc: Global,
     files: &[&str],
@@ -103,7 +103,7 @@ pub(crate) fn read_files<R: Files + Input, W: PortWrite>(
 }
 
 /// Reads files of one history of which the first is a part, too; None where it is none.
-pub(crate) fn read_parts<R: Files + Input, W: PortWrite>(
+pub(crate) fn read_parts<R: Files + Input + Eprint + Clock, W: PortWrite>(
     rt: &R,
     alloc: Global,
     files: &[&str],
@@ -133,7 +133,7 @@ struct Unread {
 }
 
 /// Reads a file as a part.
-fn read_as_part<R: Files + Input, W: PortWrite>(
+fn read_as_part<R: Files + Input + Eprint + Clock, W: PortWrite>(
     rt: &R,
     alloc: Global,
     file: &str,
@@ -176,7 +176,7 @@ impl History {
     }
 
     /// Reads the first file.
-    fn read_first<R: Files + Input, W: PortWrite>(
+    fn read_first<R: Files + Input + Eprint + Clock, W: PortWrite>(
         &mut self,
         rt: &R,
         alloc: Global,
@@ -204,7 +204,7 @@ impl History {
     }
 
     /// Reads a further file.
-    fn read_next<R: Files + Input, W: PortWrite>(
+    fn read_next<R: Files + Input + Eprint + Clock, W: PortWrite>(
         &mut self,
         rt: &R,
         alloc: Global,
@@ -286,7 +286,7 @@ struct FilePath<'a> {
 }
 
 /// Opens a file, and does this with it. Its count of failures is its own.
-fn look_anew<T: Task, R: Files + Input, W: PortWrite>(
+fn look_anew<T: Task, R: Files + Input + Eprint + Clock, W: PortWrite>(
     rt: &R,
     alloc: Global,
     file: &FilePath<'_>,
@@ -297,7 +297,7 @@ fn look_anew<T: Task, R: Files + Input, W: PortWrite>(
 }
 
 /// The same. The count of failures begins as a blank.
-fn look_over<T: Task, L: Ledger, R: Files + Input, W: PortWrite>(
+fn look_over<T: Task, L: Ledger, R: Files + Input + Eprint + Clock, W: PortWrite>(
     rt: &R,
     alloc: Global,
     file: &FilePath<'_>,

@@ -10,13 +10,13 @@ use ipc_lines::entry_line;
 use ipc_shell::put;
 use ipc_trace::{PutFault, TraceRead, TraceWriter};
 use std::alloc::{AllocError, Global};
-use std::rt::Files;
+use std::rt::{Clock, Files};
 
 /// Checks whether several files are one history, and prints `yes`, or `no FILE N EXPECTED`: line N
 /// of FILE is the first that does not follow, and EXPECTED the line that is to stand there, or
 /// `input`. Behind a `yes` or a `no`, `torn` tells of a last line of the last file without its
 /// newline.
-pub(crate) fn check_files<R: Files + Input, W: PortWrite>(
+pub(crate) fn check_files<R: Files + Input + Eprint + Clock, W: PortWrite>(
     rt: &R,
     alloc: Global,
     files: &[&str],
@@ -29,7 +29,7 @@ pub(crate) fn check_files<R: Files + Input, W: PortWrite>(
 }
 
 /// Writes the part that begins where several files end.
-pub(crate) fn part_files<R: Files + Input, W: PortWrite>(
+pub(crate) fn part_files<R: Files + Input + Eprint + Clock, W: PortWrite>(
     rt: &R,
     alloc: Global,
     files: &[&str],

@@ -1,4 +1,5 @@
-ghost use Rattle.std.specs.Prelude.{◌≡◌, ◌≢◌, ◌+◌, ◌^◌, ◌<◌, IfOk, Some, option_map, take};
+ghost use Rattle.std.specs.Prelude.{◌≡◌, ◌≢◌, ◌+◌, ◌^◌, ◌<◌, IfOk, List, Some, length, option_map, take};
+ghost use Rattle.ipc_history.specs.declared.entry.Entry.{Entry};
 ghost use Rattle.l4sh_explain.specs.Answers.{IfAnswer, IfMistake};
 ghost use Rattle.std.specs.Io.KnownBytes.{Appends};
 ghost use Rattle.std.specs.String.{string_bytes};
@@ -6,6 +7,7 @@ ghost use Rattle.ipc_trace.specs.Versions.{header_lines};
 ghost use Rattle.l4sh.specs.Looking.{IsSaidOf, IsSilent, LooksAt, MayEnd, shown_of, torn_end};
 
 use crate::exit::Exit;
+use crate::last_state::{state_of_trace, state_text};
 use ipc_base::{PortRead, PortWrite};
 use ipc_check::{Verdict, check};
 use ipc_history::Entry;
@@ -14,8 +16,8 @@ use ipc_trace::{TraceEnd, TraceRead, TraceVersion, read_trace};
 use l4sh_commands::script_of;
 use l4sh_count::{CountFault, Event, Span, events_of, grouped, json_of, span_of, tell_counts};
 use l4sh_explain::Told;
-use l4sh_state::{State, drops_of, state_of, tell_state};
-use l4sh_times::{Times, timed_state};
+use l4sh_state::{State, drops_of, state_of};
+use l4sh_times::Times;
 use std::alloc::{AllocError, Global};
 
 /// What is asked of a trace.
@@ -35,6 +37,26 @@ pub enum Look {
 ///
 /// It ends as `DeviceFailed` only where a call of the reader or of the writer failed in this run.
 pub fn look_at_trace<R: PortRead, W: PortWrite>(
+    alloc: Global,
+    look: Look,
+    times: Times,
+    reader: &mut R,
+    writer: &mut W,
+) -> Exit
+    ensures looks { LooksAt look (R.remaining reader.old) result }
+    ensures device { result ≡ Exit.DeviceFailed
+        → R.failures reader.old + W.failures writer.old
+        < R.failures reader.new + W.failures writer.new }
+    ensures silent { IsSilent result → W.written writer.new ≡ W.written writer.old }
+{
+    match look {
+        Look::StateAt(last) => state_of_trace(alloc, last, times, reader, writer),
+        _ => look_at_whole(alloc, look, times, reader, writer),
+    }
+}
+
+// The same, and keeps the entries.
+fn look_at_whole<R: PortRead, W: PortWrite>(
     alloc: Global,
     look: Look,
     times: Times,
@@ -164,23 +186,20 @@ fn print_state<W: PortWrite>(
         → W.written writer.new ≡ W.written writer.old }
 {
     match state_of(entries) {
-        Ok(state) => print(state_text(alloc, &state, entries, times), writer),
+        Ok(state) => print(state_after(alloc, &state, entries, times), writer),
         Err(index) => illegal_at(version, index),
     }
 }
 
 // The state of the threads after these entries, in words.
-fn state_text(
+fn state_after(
     alloc: Global,
     state: &State,
     entries: &[Entry],
     times: Times,
 ) -> Result<String, AllocError> {
     let drops = drops_of(alloc, entries)?;
-    let told = tell_state(alloc, state, &drops);
-    drop(drops);
-    let text = told?;
-    timed_state(alloc, text.as_str(), times)
+    state_text(alloc, state, &drops, times)
 }
 
 // The first entries, so many, or all where there are fewer.
@@ -209,8 +228,16 @@ pub(crate) fn illegal_at(version: TraceVersion, place: usize) -> Exit
 pub(crate) fn torn_behind(read: &TraceRead, exit: Exit) -> Exit
     ensures { result ≡ torn_end read.now.version read.now.entries.items exit }
 {
+    torn_after(read.version, read.entries.len(), exit)
+}
+
+// The same where so many entries were read.
+pub(crate) fn torn_after(version: TraceVersion, count: usize, exit: Exit) -> Exit
+    ensures { (entries : List Entry) → count ≡ length entries → count + 2 < 2 ^ 64
+        → result ≡ torn_end version entries exit }
+{
     match exit {
-        Exit::Done => Exit::Torn(read.version.line_of(read.entries.len()).saturating_sub(1)),
+        Exit::Done => Exit::Torn(version.line_of(count).saturating_sub(1)),
         other => other,
     }
 }
@@ -237,7 +264,7 @@ pub fn print_answer<W: PortWrite>(
 }
 
 // Prints a text, where there was memory for it.
-fn print<W: PortWrite>(text: Result<String, AllocError>, writer: &mut W) -> Exit
+pub(crate) fn print<W: PortWrite>(text: Result<String, AllocError>, writer: &mut W) -> Exit
     ensures whole { IfOk text (λ text. result ≡ Exit.Done
         → Appends (W.written writer.old) (W.written writer.new) (string_bytes text)) }
     ensures ends { MayEnd result }

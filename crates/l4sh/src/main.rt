@@ -19,6 +19,7 @@ mod following;
 mod history;
 mod inputs;
 mod kept;
+mod last_state;
 mod live;
 mod live_state;
 mod looking;
@@ -28,6 +29,7 @@ mod new_file;
 mod obeying;
 mod opening;
 mod printing;
+mod progress;
 mod rotating;
 mod several;
 mod talk;
@@ -46,7 +48,7 @@ use std::io;
 use std::marker::Brand;
 use std::net::Net;
 use std::process::ExitCode;
-use std::rt::Files;
+use std::rt::{Clock, Files};
 use std::sync::ledger::{Blank, Ledger};
 
 fn main(rt: HostRuntime) -> io::Result<ExitCode> {
@@ -64,7 +66,7 @@ fn words_of(rt: &HostRuntime, alloc: Global) -> Option<Vec<String>> {
 }
 
 /// Does what the words ask for, and answers the status of the program.
-fn obey_words<R: Alloc + Files + Input + Print + Eprint + Net>(
+fn obey_words<R: Alloc + Files + Input + Print + Eprint + Clock + Net>(
     rt: &R,
     alloc: Global,
     words: &[String],
@@ -122,7 +124,7 @@ fn is_help(words: &[String]) -> bool {
 
 /// Does what was asked for. The counts of failures, of the reader and of the writer, begin as
 /// blanks.
-fn obey<L: Ledger, M: Ledger, R: Files + Input + Print + Eprint + Net>(
+fn obey<L: Ledger, M: Ledger, R: Files + Input + Print + Eprint + Clock + Net>(
     rt: &R,
     alloc: Global,
     options: &ShellOptions<'_>,

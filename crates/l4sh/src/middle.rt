@@ -6,6 +6,7 @@ use crate::exit::Exit;
 use crate::files::{History, read_parts};
 use crate::follow::follow_parts;
 use crate::history::{print_text, verdict_text};
+use crate::last_state::state_text;
 use crate::looking::Look;
 use crate::printing::Printing;
 use crate::several::{join, named, part, put_printed, torn_behind, torn_line};
@@ -13,14 +14,14 @@ use ipc_base::{MemoryPort, PortWrite};
 use ipc_chain::{Behind, Chain, chain_behind};
 use ipc_trace::Part;
 use l4sh_options::FollowOptions;
-use l4sh_state::{Drops, drops_of, state_in, tell_state};
-use l4sh_times::{Times, timed_state};
+use l4sh_state::{Drops, drops_of, state_in};
+use l4sh_times::Times;
 use std::alloc::{AllocError, Global};
-use std::rt::Files;
+use std::rt::{Clock, Files};
 
 /// Prints this of files of which the first is a part, where the reading of a trace ended at its
 /// first line. Counts, a chart and a script want the files from the beginning: these end as before.
-pub(crate) fn print_begun<R: Files + Input, W: PortWrite>(
+pub(crate) fn print_begun<R: Files + Input + Eprint + Clock, W: PortWrite>(
     rt: &R,
     alloc: Global,
     files: &[&str],
@@ -88,8 +89,8 @@ fn print_state<W: PortWrite>(
     };
     match behind(alloc, files, history) {
         Ok(chain) => {
-            let text = state_text(alloc, &chain, &drops, times);
-            print_text(text, end_of(torn), writer)
+            let state = state_in(chain.slots());
+            print_text(state_text(alloc, &state, &drops, times), end_of(torn), writer)
         }
         Err(ending) => ending,
     }
@@ -125,18 +126,6 @@ fn drops_in(alloc: Global, parts: &mut Vec<Part>) -> Result<Drops, AllocError> {
     let drops = drops_of(alloc, &entries)?;
     part(&mut entries, parts, &places)?;
     Ok(drops)
-}
-
-/// The state of the threads at the end of a history, in words.
-fn state_text(
-    alloc: Global,
-    chain: &Chain,
-    drops: &Drops,
-    times: Times,
-) -> Result<String, AllocError> {
-    let state = state_in(chain.slots());
-    let text = tell_state(alloc, &state, drops)?;
-    timed_state(alloc, text.as_str(), times)
 }
 
 /// Tells the entries of parts in words.

@@ -11,7 +11,7 @@ use ipc_trace::TraceWriter;
 use std::alloc::Global;
 use std::io::{BufWriter, Write};
 use std::marker::Brand;
-use std::rt::Files;
+use std::rt::{Clock, Files};
 use std::sync::ledger::{Blank, Ledger};
 
 /// How many bytes of a file that is written are handed on at once, at most.
@@ -45,7 +45,7 @@ impl<'a> Migration<'a> {
 
 /// Writes the trace of a file, or of standard input, anew into a file, which is made at its first
 /// write.
-pub(crate) fn migrate_file<L: Ledger, R: Files + Input, W: PortWrite>(
+pub(crate) fn migrate_file<L: Ledger, R: Files + Input + Eprint + Clock, W: PortWrite>(
     rt: &R,
     alloc: Global,
     files: &Migration<'_>,
@@ -56,7 +56,7 @@ pub(crate) fn migrate_file<L: Ledger, R: Files + Input, W: PortWrite>(
 }
 
 /// The same. The count of the failures of the new file begins as a blank.
-fn migrate_over<L: Ledger, N: Ledger, R: Files + Input, W: PortWrite>(
+fn migrate_over<L: Ledger, N: Ledger, R: Files + Input + Eprint + Clock, W: PortWrite>(
     rt: &R,
     alloc: Global,
     files: &Migration<'_>,
@@ -84,7 +84,7 @@ fn migrate_over<L: Ledger, N: Ledger, R: Files + Input, W: PortWrite>(
 
 /// Writes the trace of a file, or of standard input, anew into this file. The count of the failures
 /// of the new one begins as a blank.
-fn migrate_into<L: Ledger, N: Ledger, F: Write, R: Files + Input, W: PortWrite>(
+fn migrate_into<L: Ledger, N: Ledger, F: Write, R: Files + Input + Eprint + Clock, W: PortWrite>(
     rt: &R,
     alloc: Global,
     old: &str,

@@ -11,11 +11,11 @@ use l4sh_explain::{Told, answer_period, answer_tag, explain};
 use l4sh_options::ShellOptions;
 use std::alloc::{AllocError, Global};
 use std::net::Net;
-use std::rt::Files;
+use std::rt::{Clock, Files};
 use std::sync::ledger::Ledger;
 
 /// Does what was asked for, and prints to a writer.
-pub(crate) fn obey_into<L: Ledger, R: Files + Input + Eprint + Net, W: PortWrite>(
+pub(crate) fn obey_into<L: Ledger, R: Files + Input + Eprint + Clock + Net, W: PortWrite>(
     rt: &R,
     alloc: Global,
     options: &ShellOptions<'_>,

@@ -3,12 +3,14 @@ use crate::bad_lines::with_reason;
 use crate::ending::Ending;
 use crate::exit::Exit;
 use crate::kept::KeptPort;
+use crate::progress::{Progress, ToldPort};
+use crate::terminal::is_typed_at_terminal;
 use ipc_base::{Failures, PortRead, PortWrite, ReadPort};
 use l4sh_explain::Grammar;
 use std::alloc::Global;
 use std::fs::{self, File};
 use std::io;
-use std::rt::Files;
+use std::rt::{Clock, Files};
 use std::sync::ledger::Ledger;
 
 /// What is done with the trace of a reader.
@@ -20,10 +22,15 @@ pub(crate) trait Task {
         reader: &mut R,
         writer: &mut W,
     ) -> Exit;
+
+    /// Whether it prints while it reads.
+    fn prints_early(&self) -> bool {
+        false
+    }
 }
 
 /// Opens the file of a trace, or takes standard input for `-`, and does this with it.
-pub(crate) fn look<T: Task, L: Ledger, R: Files + Input, W: PortWrite>(
+pub(crate) fn look<T: Task, L: Ledger, R: Files + Input + Eprint + Clock, W: PortWrite>(
     rt: &R,
     alloc: Global,
     file: &str,
@@ -41,20 +48,27 @@ pub(crate) fn look<T: Task, L: Ledger, R: Files + Input, W: PortWrite>(
 }
 
 /// Does this with the trace of standard input.
-fn look_at_input<T: Task, L: Ledger, R: Input, W: PortWrite>(
+fn look_at_input<T: Task, L: Ledger, R: Input + Eprint + Clock, W: PortWrite>(
     rt: &R,
     alloc: Global,
     task: &mut T,
     reads: Failures<L>,
     writer: &mut W,
 ) -> Ending {
-    let mut reader = KeptPort::new(alloc, ReadPort::new(rt.reader(), reads));
+    let progress = if task.prints_early() || is_typed_at_terminal() {
+        Progress::untold()
+    } else {
+        Progress::new(rt, None)
+    };
+    let kept = KeptPort::new(alloc, ReadPort::new(rt.reader(), reads));
+    let mut reader = ToldPort::new(rt, kept, progress);
     let exit = task.perform(alloc, &mut reader, writer);
-    with_reason(alloc, exit, Grammar::Trace, reader.tail())
+    let kept = reader.into_port();
+    with_reason(alloc, exit, Grammar::Trace, kept.tail())
 }
 
 /// Does this with the trace of a file that was opened.
-fn look_at_opened<T: Task, L: Ledger, R: Files, W: PortWrite>(
+fn look_at_opened<T: Task, L: Ledger, R: Files + Eprint + Clock, W: PortWrite>(
     rt: &R,
     alloc: Global,
     file: &str,
@@ -63,11 +77,28 @@ fn look_at_opened<T: Task, L: Ledger, R: Files, W: PortWrite>(
     reads: Failures<L>,
     writer: &mut W,
 ) -> Ending {
-    let mut reader = KeptPort::new(alloc, ReadPort::new(opened, reads));
+    let progress = if task.prints_early() {
+        Progress::untold()
+    } else {
+        Progress::new(rt, size_of(rt, file))
+    };
+    let kept = KeptPort::new(alloc, ReadPort::new(opened, reads));
+    let mut reader = ToldPort::new(rt, kept, progress);
     let exit = task.perform(alloc, &mut reader, writer);
+    let kept = reader.into_port();
     match exit {
         Exit::DeviceFailed => device_failed(rt, alloc, file),
-        _ => with_reason(alloc, exit, Grammar::Trace, reader.tail()),
+        _ => with_reason(alloc, exit, Grammar::Trace, kept.tail()),
+    }
+}
+
+/// How many bytes a file has. None of what is no regular file, as a pipe.
+fn size_of<R: Files>(rt: &R, file: &str) -> Option<u64> {
+    let found = fs::metadata(rt, file).ok()?;
+    if found.is_file() {
+        Some(found.len())
+    } else {
+        None
     }
 }
 

@@ -22,7 +22,7 @@ use l4sh_options::{ChartOptions, CountOptions, FollowOptions, StateOptions};
 use l4sh_times::Times;
 use std::alloc::Global;
 use std::net::Net;
-use std::rt::Files;
+use std::rt::{Clock, Files};
 use std::sync::ledger::Ledger;
 
 /// What is printed of a trace.
@@ -68,6 +68,10 @@ impl Task for Printing<'_> {
             }
         }
     }
+
+    fn prints_early(&self) -> bool {
+        matches!(self, Printing::Follow(_, _))
+    }
 }
 
 /// A trace is checked.
@@ -86,7 +90,7 @@ impl Task for Checking {
 }
 
 /// Checks a trace, or the files of one history.
-pub(crate) fn check_of<L: Ledger, R: Files + Input, W: PortWrite>(
+pub(crate) fn check_of<L: Ledger, R: Files + Input + Eprint + Clock, W: PortWrite>(
     rt: &R,
     alloc: Global,
     files: &[&str],
@@ -101,7 +105,7 @@ pub(crate) fn check_of<L: Ledger, R: Files + Input, W: PortWrite>(
 }
 
 /// Tells the state of the threads of a history, or of a live server where a folder is named.
-pub(crate) fn state_of<L: Ledger, R: Files + Input + Net, W: PortWrite>(
+pub(crate) fn state_of<L: Ledger, R: Files + Input + Eprint + Clock + Net, W: PortWrite>(
     rt: &R,
     alloc: Global,
     files: &[&str],
@@ -120,7 +124,7 @@ pub(crate) fn state_of<L: Ledger, R: Files + Input + Net, W: PortWrite>(
 }
 
 /// Counts what a history tells, or tells the counters of a live server where a folder is named.
-pub(crate) fn count_of<L: Ledger, R: Files + Input + Net, W: PortWrite>(
+pub(crate) fn count_of<L: Ledger, R: Files + Input + Eprint + Clock + Net, W: PortWrite>(
     rt: &R,
     alloc: Global,
     files: &[&str],
@@ -161,7 +165,7 @@ fn only_of_traces(alloc: Global, file: &str, option: &str) -> Ending {
 }
 
 /// Prints the script whose history these files are.
-pub(crate) fn script_in<L: Ledger, R: Files + Input, W: PortWrite>(
+pub(crate) fn script_in<L: Ledger, R: Files + Input + Eprint + Clock, W: PortWrite>(
     rt: &R,
     alloc: Global,
     files: &[&str],
@@ -172,7 +176,7 @@ pub(crate) fn script_in<L: Ledger, R: Files + Input, W: PortWrite>(
 }
 
 /// Prints what is asked of the history of files, or of standard input.
-fn look_at_files<L: Ledger, R: Files + Input, W: PortWrite>(
+fn look_at_files<L: Ledger, R: Files + Input + Eprint + Clock, W: PortWrite>(
     rt: &R,
     alloc: Global,
     files: &[&str],
@@ -188,7 +192,7 @@ fn look_at_files<L: Ledger, R: Files + Input, W: PortWrite>(
 }
 
 /// Prints this of the history of files, or of standard input.
-fn print_of<L: Ledger, R: Files + Input, W: PortWrite>(
+fn print_of<L: Ledger, R: Files + Input + Eprint + Clock, W: PortWrite>(
     rt: &R,
     alloc: Global,
     files: &[&str],
@@ -205,7 +209,7 @@ fn print_of<L: Ledger, R: Files + Input, W: PortWrite>(
 }
 
 /// Draws the history of files, or of standard input.
-pub(crate) fn chart_of<L: Ledger, R: Files + Input, W: PortWrite>(
+pub(crate) fn chart_of<L: Ledger, R: Files + Input + Eprint + Clock, W: PortWrite>(
     rt: &R,
     alloc: Global,
     files: &[&str],
@@ -227,7 +231,7 @@ pub(crate) fn chart_of<L: Ledger, R: Files + Input, W: PortWrite>(
 
 /// Tells the history of files, or of standard input, in words, or what a live server does where a
 /// folder is named.
-pub(crate) fn follow_of<L: Ledger, R: Files + Input + Net, W: PortWrite>(
+pub(crate) fn follow_of<L: Ledger, R: Files + Input + Eprint + Clock + Net, W: PortWrite>(
     rt: &R,
     alloc: Global,
     files: &[&str],
@@ -243,7 +247,7 @@ pub(crate) fn follow_of<L: Ledger, R: Files + Input + Net, W: PortWrite>(
 }
 
 /// Tells the history of files, or of standard input, in words.
-fn follow_files<L: Ledger, R: Files + Input, W: PortWrite>(
+fn follow_files<L: Ledger, R: Files + Input + Eprint + Clock, W: PortWrite>(
     rt: &R,
     alloc: Global,
     files: &[&str],

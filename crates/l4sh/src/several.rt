@@ -10,11 +10,11 @@ use ipc_history::Entry;
 use ipc_shell::put;
 use ipc_trace::{Part, TraceRead};
 use std::alloc::{AllocError, Global};
-use std::rt::Files;
+use std::rt::{Clock, Files};
 
 /// Prints what is asked of the history of several files. Nothing is printed where they are not one,
 /// and the ending then names the first file and line that do not follow.
-pub(crate) fn print_files<R: Files + Input, W: PortWrite>(
+pub(crate) fn print_files<R: Files + Input + Eprint + Clock, W: PortWrite>(
     rt: &R,
     alloc: Global,
     files: &[&str],

@@ -5,7 +5,7 @@ const PROMPT: &str = "l4sh> ";
 
 /// The prompt: none where standard input or standard output is no terminal.
 pub fn prompt() -> &'static str {
-    if libc::isatty(libc::STDIN_FILENO) == 1 && libc::isatty(libc::STDOUT_FILENO) == 1 {
+    if is_typed_at_terminal() && libc::isatty(libc::STDOUT_FILENO) == 1 {
         PROMPT
     } else {
         ""
@@ -15,4 +15,9 @@ pub fn prompt() -> &'static str {
 /// Whether somebody reads standard error at a terminal.
 pub fn is_told_at_terminal() -> bool {
     libc::isatty(libc::STDERR_FILENO) == 1
+}
+
+/// Whether standard input is typed at a terminal.
+pub fn is_typed_at_terminal() -> bool {
+    libc::isatty(libc::STDIN_FILENO) == 1
 }

@@ -3,7 +3,7 @@ use Rattle.ipc_trace.specs.Traces.{IsRead}
 use Rattle.l4sh.specs.Looking.{IsSilent}
 use Rattle.ipc_shell.proofs.CheckLemmas.{bad_line, torn_lines, whole_lines}
 use Rattle.l4sh.proofs.LookLemmas.{looked, looked_torn, silent_torn, silent_whole}
-use Rattle.l4sh.proofs.looking.look_at_trace.Goals as goal
+use Rattle.l4sh.proofs.looking.look_at_whole.Goals as goal
 
 pub returns-in-Whole-clause-looks : goal.returns-in-Whole-clause-looks
 returns-in-Whole-clause-looks g c =

@@ -1,5 +1,5 @@
 -- From a trace that is read to what is said of it.
-use Rattle.std.proofs.Common.{◌≢◌, ℕ, Bool, true, false, Option, Some, None, IfSome, List, refl, take}
+use Rattle.std.proofs.Common.{◌≢◌, ℕ, true, false, Option, Some, None, IfSome, List, refl, take}
 use Rattle.ipc_history.specs.declared.entry.Entry.{Entry}
 use Rattle.ipc_trace.specs.declared.version.TraceVersion.{TraceVersion}
 use Rattle.ipc_shell.specs.Checking.{HasLines}

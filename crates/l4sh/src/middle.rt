@@ -90,7 +90,11 @@ fn print_state<W: PortWrite>(
     match behind(alloc, files, history) {
         Ok(chain) => {
             let state = state_in(chain.slots());
-            print_text(state_text(alloc, &state, &drops, times), end_of(torn), writer)
+            print_text(
+                state_text(alloc, &state, &drops, times),
+                end_of(torn),
+                writer,
+            )
         }
         Err(ending) => ending,
     }

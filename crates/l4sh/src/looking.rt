@@ -6,6 +6,7 @@ ghost use Rattle.std.specs.String.{string_bytes};
 ghost use Rattle.ipc_trace.specs.Versions.{header_lines};
 ghost use Rattle.l4sh.specs.Looking.{IsSaidOf, IsSilent, LooksAt, MayEnd, shown_of, torn_end};
 
+use crate::counting::counts_of_trace;
 use crate::exit::Exit;
 use crate::last_state::{state_of_trace, state_text};
 use ipc_base::{PortRead, PortWrite};
@@ -14,7 +15,7 @@ use ipc_history::Entry;
 use ipc_shell::put;
 use ipc_trace::{TraceEnd, TraceRead, TraceVersion, read_trace};
 use l4sh_commands::script_of;
-use l4sh_count::{CountFault, Event, Span, events_of, grouped, json_of, span_of, tell_counts};
+use l4sh_count::{CountFault, Counts, Moments, Span, counts_of, json_of, tell_counts};
 use l4sh_explain::Told;
 use l4sh_state::{State, drops_of, state_of};
 use l4sh_times::Times;
@@ -51,7 +52,8 @@ pub fn look_at_trace<R: PortRead, W: PortWrite>(
 {
     match look {
         Look::StateAt(last) => state_of_trace(alloc, last, times, reader, writer),
-        _ => look_at_whole(alloc, look, times, reader, writer),
+        Look::Counts { is_json } => counts_of_trace(alloc, is_json, times, reader, writer),
+        Look::Script => look_at_whole(alloc, look, times, reader, writer),
     }
 }
 
@@ -120,10 +122,10 @@ fn print_counts<W: PortWrite>(
     ensures silent { result ≢ Exit.Done → result ≢ Exit.DeviceFailed
         → W.written writer.new ≡ W.written writer.old }
 {
-    match events_of(alloc, entries) {
-        Ok(events) => {
-            let span = timed_span(entries, times);
-            print(counts_text(alloc, &events, is_json, span), writer)
+    match counts_of(alloc, entries) {
+        Ok(counts) => {
+            let span = timed_span(Moments::of(entries), times);
+            print(counts_text(alloc, &counts, is_json, span), writer)
         }
         Err(CountFault::Illegal(index)) => illegal_at(version, index),
         Err(CountFault::NoMemory) => Exit::NoMemory,
@@ -131,26 +133,25 @@ fn print_counts<W: PortWrite>(
 }
 
 // From when to when the entries go, where that is told as times of day.
-fn timed_span(entries: &[Entry], times: Times) -> Option<Span> {
+pub(crate) fn timed_span(moments: Moments, times: Times) -> Option<Span> {
     if times.are_of_day() {
-        Some(span_of(entries, times))
+        Some(moments.span(times))
     } else {
         None
     }
 }
 
-// The counts of events, in JSON or in words.
-fn counts_text(
+// The counts, in JSON or in words.
+pub(crate) fn counts_text(
     alloc: Global,
-    events: &[Event],
+    counts: &Counts,
     is_json: bool,
     span: Option<Span>,
 ) -> Result<String, AllocError> {
-    let groups = grouped(alloc, events)?;
     if is_json {
-        json_of(alloc, &groups, events, span)
+        json_of(alloc, counts, span)
     } else {
-        tell_counts(alloc, &groups, events, span)
+        tell_counts(alloc, counts, span)
     }
 }
 

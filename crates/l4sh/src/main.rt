@@ -11,6 +11,7 @@ mod bad_lines;
 mod began;
 mod begun;
 mod chart;
+mod counting;
 mod ending;
 mod exit;
 mod files;

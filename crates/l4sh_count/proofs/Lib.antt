@@ -1,4 +1,5 @@
-pub mod Told
-pub mod Grouping
 pub mod Opening
 pub mod Texts
+pub mod RunLemmas
+pub mod TallyLemmas
+pub mod Told

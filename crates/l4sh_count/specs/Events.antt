@@ -1,5 +1,5 @@
 -- What each entry of a history adds to the counts of a pair of threads.
-use Rattle.std.specs.Prelude.{ℕ, ◌-◌, List, [], ◌∷◌, ◌++◌, Bool, true, false, Option, Some, None, ◌==◌, if◌then◌else◌}
+use Rattle.std.specs.Prelude.{ℕ, ◌-◌, List, [], ◌∷◌, ◌++◌, Bool, true, false, Option, Some, None, IsFalse, ◌==◌, if◌then◌else◌}
 use Rattle.ipc_words.specs.ThreadId.{nilthread}
 use Rattle.ipc_words.specs.IpcError.{phase_of}
 use Rattle.ipc_words.specs.declared.ipc_error.Phase.{Phase}
@@ -7,6 +7,7 @@ use Rattle.ipc_words.specs.declared.ipc_error.Phase.TheVariants.{Send, Receive}
 use Rattle.ipc_history.specs.CallParts.{CallParts}
 use Rattle.ipc_history.specs.Calls.{caller_of, to_of, message_size}
 use Rattle.ipc_history.specs.Matching.{from_specifier}
+use Rattle.ipc_history.specs.Phases.{is_over}
 use Rattle.ipc_history.specs.Threads.{now}
 use Rattle.ipc_history.specs.declared.entry.Entry.{Entry}
 use Rattle.ipc_history.specs.declared.entry.Entry.TheVariants.{Given, Written}
@@ -29,6 +30,10 @@ called caller call =
 -- and the receive phase of m took
 abbrev pub message : List Entry → ℕ → ℕ → Happening
 message P n m = Message (message_size P n) (now P - since_of P n) (now P - since_of P m)
+
+-- two calls are open
+abbrev pub AreOpen : List Entry → ℕ → ℕ → Type 0
+AreOpen P n m = IsFalse (is_over P n) × IsFalse (is_over P m)
 
 -- the transfer from n to m ends, well or not
 abbrev pub met : List Entry → ℕ → ℕ → Bool → Event

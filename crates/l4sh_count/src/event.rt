@@ -1,13 +1,12 @@
-ghost use Rattle.std.specs.Prelude.{◌≡◌, IsFalse};
+ghost use Rattle.std.specs.Prelude.{◌≡◌, IsFalse, Some};
 ghost use Rattle.ipc_history.specs.Legal.{Follows};
 ghost use Rattle.ipc_history.specs.Phases.{is_over};
 ghost use Rattle.ipc_history.specs.declared.entry.Entry.TheVariants.{Written};
-ghost use Rattle.ipc_threads.specs.Standings.{standing_of};
-ghost use Rattle.ipc_threads.specs.Steps.{Names};
-ghost use Rattle.l4sh_count.specs.Events.{called, event_in, failed, given_in, met, written_in};
+ghost use Rattle.l4sh_count.specs.Events.{AreOpen, called, event_in, failed, given_in, met, written_in};
 
+use crate::finding::Places;
 use ipc_history::{Call, Entry, Input, Output};
-use ipc_threads::{Slots, Standing};
+use ipc_threads::Slots;
 use ipc_words::{IpcError, Phase, ThreadId};
 
 /// What an entry adds to the counts of a pair of threads.
@@ -39,15 +38,14 @@ pub enum Happening {
     Failure,
 }
 
-// What the next entry of a history adds, of which these are the slots before it.
+// What an entry adds, where it is the next one of the history of these slots.
 #[tactic(auto, unfolding(crate::specs::Events::event_in))]
-pub(crate) fn event_of(slots: &Slots, entry: &Entry) -> Option<Event>
-    requires { Follows slots.now.past entry.now }
-    ensures { result ≡ event_in slots.now.past entry.now }
+pub(crate) fn event_of(slots: &Slots, places: &Places, entry: &Entry) -> Option<Event>
+    ensures { Follows slots.now.past entry.now → result ≡ event_in slots.now.past entry.now }
 {
     match entry {
         Entry::Given(input) => input_event(input),
-        Entry::Written(output) => output_event(slots, output),
+        Entry::Written(output) => output_event(slots, places, output),
     }
 }
 
@@ -85,37 +83,43 @@ fn called(caller: ThreadId, call: &Call) -> Event
     }
 }
 
-// What the next output adds.
-fn output_event(slots: &Slots, output: &Output) -> Option<Event>
-    requires { Follows slots.now.past (Written output.now) }
-    ensures { result ≡ written_in slots.now.past output.now }
+// What an output adds, where it is the next one.
+fn output_event(slots: &Slots, places: &Places, output: &Output) -> Option<Event>
+    ensures { Follows slots.now.past (Written output.now)
+        → result ≡ written_in slots.now.past output.now }
 {
     match *output {
         Output::Began(_, _) => None,
         Output::Turned(_, _) => None,
-        Output::Ended(sending, receiving) => {
-            Some(meeting(slots, output, sending, receiving, true))
-        }
+        Output::Ended(sending, receiving) => meeting(slots, places, sending, receiving, true),
         Output::Overflowed(sending, receiving, _) => {
-            Some(meeting(slots, output, sending, receiving, false))
+            meeting(slots, places, sending, receiving, false)
         }
         Output::Aborted(sending, receiving, _) => {
-            Some(meeting(slots, output, sending, receiving, false))
+            meeting(slots, places, sending, receiving, false)
         }
-        Output::Failed(number, error) => Some(failure(slots, output, number, error)),
+        Output::Failed(number, error) => failure(slots, places, number, error),
     }
 }
 
-// The pair of the two calls that the next output names, and whether the message came whole.
+// The pair of two open calls, and whether the message came whole.
 #[tactic(auto, unfolding(ipc_threads::specs::Standings::standing_of))]
-fn meeting(slots: &Slots, output: &Output, sending: u64, receiving: u64, is_whole: bool) -> Event
-    requires follows { Follows slots.now.past (Written output.now) }
-    requires named { Names output.now sending receiving }
-    ensures { result ≡ met slots.now.past sending receiving is_whole }
+fn meeting(
+    slots: &Slots,
+    places: &Places,
+    sending: u64,
+    receiving: u64,
+    is_whole: bool,
+) -> Option<Event>
+    ensures { AreOpen slots.now.past sending receiving
+        → result ≡ Some (met slots.now.past sending receiving is_whole) }
 {
-    let _ = output;
-    let sender = open_call(slots, sending);
-    let receiver = open_call(slots, receiving);
+    let Some(sender) = places.call(slots, sending) else {
+        return None;
+    };
+    let Some(receiver) = places.call(slots, receiving) else {
+        return None;
+    };
     let moment = slots.now();
     let what = if is_whole {
         Happening::Message {
@@ -126,23 +130,23 @@ fn meeting(slots: &Slots, output: &Output, sending: u64, receiving: u64, is_whol
     } else {
         Happening::Failure
     };
-    Event {
+    Some(Event {
         from: sender.caller,
         to: receiver.caller,
         what,
-    }
+    })
 }
 
-// The pair of the phase of a call that fails by the next output.
+// The pair of the phase of an open call that fails.
 #[tactic(auto, unfolding(ipc_threads::specs::Standings::standing_of))]
-fn failure(slots: &Slots, output: &Output, number: u64, error: IpcError) -> Event
-    requires follows { Follows slots.now.past (Written output.now) }
-    requires named { Names output.now number number }
-    ensures { result ≡ failed slots.now.past number error }
+fn failure(slots: &Slots, places: &Places, number: u64, error: IpcError) -> Option<Event>
+    ensures { IsFalse (is_over slots.now.past number)
+        → result ≡ Some (failed slots.now.past number error) }
 {
-    let _ = output;
-    let call = open_call(slots, number);
-    match error.phase() {
+    let Some(call) = places.call(slots, number) else {
+        return None;
+    };
+    Some(match error.phase() {
         Phase::Send => Event {
             from: call.caller,
             to: call.to,
@@ -153,17 +157,5 @@ fn failure(slots: &Slots, output: &Output, number: u64, error: IpcError) -> Even
             to: call.caller,
             what: Happening::Failure,
         },
-    }
-}
-
-// An open call, by its number.
-fn open_call(slots: &Slots, number: u64) -> Standing
-    requires { IsFalse (is_over slots.now.past number) }
-    ensures { result ≡ standing_of slots.now.past number }
-{
-    let place = slots.place_of(number);
-    match slots.kept().call_at(place) {
-        Some(call) => call,
-        None => unreachable!(),
-    }
+    })
 }

@@ -2,9 +2,8 @@ ghost use Rattle.std.specs.Prelude.{◌≡◌, ◌++◌, OnOk};
 ghost use Rattle.std.specs.String.{string_bytes};
 ghost use Rattle.l4sh_count.specs.Texts.{json_numbers_text, json_row_text, json_times_text, json_waits_text};
 
-use crate::event::Event;
-use crate::groups::Groups;
-use crate::row::{Row, Waits, row_of};
+use crate::counts::Counts;
+use crate::row::{Row, Waits};
 use crate::span::Span;
 use ipc_lines::IdText;
 use ipc_words::ThreadId;
@@ -13,12 +12,7 @@ use std::alloc::{AllocError, Global};
 /// The counts as a JSON object: `first` and `last`, when the first and the last entry came, where
 /// that is told; `pairs`, an object for each pair of threads in the order of their words; and
 /// `all`, all together. Times are in microseconds; null without a message.
-pub fn json_of(
-    alloc: Global,
-    groups: &Groups,
-    events: &[Event],
-    span: Option<Span>,
-) -> Result<String, AllocError> {
+pub fn json_of(alloc: Global, counts: &Counts, span: Option<Span>) -> Result<String, AllocError> {
     let mut text = String::new(alloc);
     text.push_str("{")?;
     if let Some(span) = span {
@@ -30,17 +24,17 @@ pub fn json_of(
     }
     text.push_str("\"pairs\": [")?;
     let mut is_first = true;
-    for (pair, of_pair) in groups {
+    for (pair, tally) in &counts.groups {
         text.push_str(if is_first { "\n" } else { ",\n" })?;
         is_first = false;
         let (from, to) = *pair;
         let from = IdText(ThreadId::from_word(from));
         let to = IdText(ThreadId::from_word(to));
         write!(text, "  {{\"from\": \"{from}\", \"to\": \"{to}\", ")?;
-        put_row(&mut text, &row_of(alloc, of_pair)?)?;
+        put_row(&mut text, &tally.row(alloc)?)?;
     }
     text.push_str("\n], \"all\": {")?;
-    put_row(&mut text, &row_of(alloc, events)?)?;
+    put_row(&mut text, &counts.all.row(alloc)?)?;
     text.push_str("}\n")?;
     Ok(text)
 }

@@ -10,25 +10,45 @@ pub struct Span {
     pub last: MomentText,
 }
 
-/// When the first and the last of these entries came, told by these times.
-pub fn span_of(entries: &[Entry], times: Times) -> Span {
-    let (first, last) = moments_of(entries);
-    Span {
-        first: times.moment(first),
-        last: times.moment(last),
-    }
+/// The moments of the first and of the last entry so far, in microseconds.
+#[derive(Clone, Copy)]
+pub struct Moments {
+    // None before the first
+    first: Option<u64>,
+    last: u64,
 }
 
-// The moments of the first and of the last entry, in microseconds.
-fn moments_of(entries: &[Entry]) -> (u64, u64) {
-    let mut last = 0u64;
-    for entry in entries {
-        if let Entry::Given(Input::At(moment)) = entry {
-            last = *moment;
+impl Moments {
+    /// Of no entry.
+    pub(crate) fn new() -> Moments {
+        Moments {
+            first: None,
+            last: 0,
         }
     }
-    match entries.first() {
-        Some(Entry::Given(Input::At(moment))) => (*moment, last),
-        _ => (0, last),
+
+    /// Those of these entries.
+    pub fn of(entries: &[Entry]) -> Moments {
+        let mut moments = Moments::new();
+        for entry in entries {
+            moments.note(entry);
+        }
+        moments
+    }
+
+    /// Takes note of the next entry.
+    pub(crate) fn note(&mut self, entry: &Entry) {
+        if let Entry::Given(Input::At(moment)) = entry {
+            self.last = *moment;
+        }
+        self.first = Some(self.first.unwrap_or(self.last));
+    }
+
+    /// The same, told by these times.
+    pub fn span(&self, times: Times) -> Span {
+        Span {
+            first: times.moment(self.first.unwrap_or(0)),
+            last: times.moment(self.last),
+        }
     }
 }

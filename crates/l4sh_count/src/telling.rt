@@ -3,9 +3,8 @@ ghost use Rattle.std.specs.Fmt.{decimal};
 ghost use Rattle.std.specs.String.{string_bytes};
 ghost use Rattle.l4sh_count.specs.Texts.{cell_text, row_text, times_text, waits_text};
 
-use crate::event::Event;
-use crate::groups::Groups;
-use crate::row::{Row, Waits, row_of};
+use crate::counts::Counts;
+use crate::row::{Row, Waits};
 use crate::span::Span;
 use ipc_lines::IdText;
 use ipc_words::ThreadId;
@@ -30,8 +29,7 @@ const HEADS: [(&str, usize); 7] = [
 /// in microseconds.
 pub fn tell_counts(
     alloc: Global,
-    groups: &Groups,
-    events: &[Event],
+    counts: &Counts,
     span: Option<Span>,
 ) -> Result<String, AllocError> {
     let mut text = String::new(alloc);
@@ -39,14 +37,14 @@ pub fn tell_counts(
         write!(text, "from {} to {}\n", span.first, span.last)?;
     }
     tell_heads(&mut text)?;
-    for (pair, of_pair) in groups {
+    for (pair, tally) in &counts.groups {
         let (from, to) = *pair;
         let from = format!(in alloc; "{}", IdText(ThreadId::from_word(from)))?;
         let to = format!(in alloc; "{}", IdText(ThreadId::from_word(to)))?;
-        let row = row_of(alloc, of_pair)?;
+        let row = tally.row(alloc)?;
         tell_row(alloc, &mut text, from.as_str(), to.as_str(), &row)?;
     }
-    let row = row_of(alloc, events)?;
+    let row = counts.all.row(alloc)?;
     tell_row(alloc, &mut text, "all", "all", &row)?;
     Ok(text)
 }

@@ -1,8 +1,12 @@
-ghost use Rattle.std.specs.Prelude.{◌≡◌, ◌++◌, IfErr, IfOk, OnOk};
+ghost use Rattle.std.specs.Prelude.{◌++◌, List, IfErr, IfOk, OnOk};
 ghost use Rattle.l4sh_count.specs.Events.{one};
+ghost use Rattle.l4sh_count.specs.Tallies.{IsCounted};
 ghost use Rattle.l4sh_count.specs.Walked.{IsFaultOf, IsTold};
+ghost use Rattle.l4sh_count.specs.declared.event.Event.{Event};
 
+use crate::counts::Counts;
 use crate::event::{Event, event_of};
+use crate::finding::Places;
 use ipc_base::Past;
 use ipc_history::{Entries, Entry};
 use ipc_rules::follows;
@@ -18,18 +22,19 @@ pub enum CountFault {
     NoMemory,
 }
 
-/// What the entries of a history add to the counts, in their order.
+/// The counts of what the entries of a history add.
 ///
 /// # Errors
 ///
 /// [`CountFault::Illegal`] where they are no legal history, [`CountFault::NoMemory`] where a growth
 /// is refused.
 #[tactic(auto, using(crate::proofs::Told::told_whole))]
-pub fn events_of(alloc: Global, entries: &[Entry]) -> Result<Vec<Event>, CountFault>
-    ensures told { IfOk result (λ events. IsTold entries.now events.items) }
+pub fn counts_of(alloc: Global, entries: &[Entry]) -> Result<Counts, CountFault>
+    ensures told { IfOk result (IsTold entries.now) }
     ensures fault { IfErr result (IsFaultOf entries.now) }
 {
-    let mut events = Vec::new(alloc);
+    let mut counts = Counts::new(alloc);
+    let mut places = Places::new();
     let mut slots = Slots::new();
     let mut past = Past::new();
     for index in 0..entries.len() {
@@ -38,25 +43,28 @@ pub fn events_of(alloc: Global, entries: &[Entry]) -> Result<Vec<Event>, CountFa
         if !follows(&slots, &before, entry) {
             return Err(CountFault::Illegal(index));
         }
-        let event = event_of(&slots, entry);
-        let Ok(()) = add(&mut events, event) else {
+        let event = event_of(&slots, &places, entry);
+        let Ok(()) = add(alloc, &mut counts, event) else {
             return Err(CountFault::NoMemory);
         };
+        places.note(entry);
         let _ = slots.note(entry, index);
         past.add(entry);
     }
-    Ok(events)
+    Ok(counts)
 }
 
-// Appends an event, if there is one.
-fn add(events: &mut Vec<Event>, event: Option<Event>) -> Result<(), AllocError>
-    ensures { OnOk result (events.new.items ≡ events.old.items ++ one event) }
+// Counts an event, if there is one.
+pub(crate) fn add(
+    alloc: Global,
+    counts: &mut Counts,
+    event: Option<Event>,
+) -> Result<(), AllocError>
+    ensures { OnOk result ((events : List Event) → IsCounted events counts.old
+        → IsCounted (events ++ one event) counts.new) }
 {
     match event {
-        Some(event) => {
-            events.push(event)?;
-            Ok(())
-        }
+        Some(event) => counts.add(alloc, &event),
         None => Ok(()),
     }
 }

@@ -1,9 +1,11 @@
 -- From a trace that is read to what is said of it.
-use Rattle.std.proofs.Common.{◌≢◌, ℕ, true, false, Option, Some, None, IfSome, List, refl, take}
+use Rattle.std.proofs.Common.{◌≡◌, ◌≢◌, ℕ, Bool, true, false, Option, Some, None, Result, Ok, Err, IfErr, IfOk, IfSome, List, refl, sym, take, ◌∙◌}
+use Rattle.std.specs.Prelude.{⊤}
+use Rattle.std.specs.Io.KnownBytes.{Appends}
 use Rattle.ipc_history.specs.declared.entry.Entry.{Entry}
 use Rattle.ipc_trace.specs.declared.version.TraceVersion.{TraceVersion}
 use Rattle.ipc_shell.specs.Checking.{HasLines}
-use Rattle.l4sh.specs.Looking.{ChartsTrace, IsDrawnOf, IsSaidOf, IsSilent, LooksAt, shown_of, torn_end}
+use Rattle.l4sh.specs.Looking.{ChartsTrace, IsDrawnOf, IsPrinted, IsSaidOf, IsShown, IsSilent, LooksAt, Prints, PrintsOf, shown_of, torn_end}
 use Rattle.l4sh.specs.declared.looking.Look.{Look}
 use Rattle.l4sh.specs.declared.exit.Exit.{Exit}
 use Rattle.l4sh.specs.declared.exit.Exit.TheVariants.{Done, BadLine, NoMemory, DeviceFailed, Illegal, BadThreads, NoChart, BadWord, UnknownVersion, IllegalLine, Torn}
@@ -40,6 +42,57 @@ looked_torn look (Some bytes) version entries BadThreads lines said = absurd sai
 looked_torn look (Some bytes) version entries (NoChart fault) lines said = absurd said
 looked_torn look (Some bytes) version entries BadWord lines said = absurd said
 looked_torn look (Some bytes) version entries (Torn number) lines said = absurd said
+
+-- what is told of the lines was printed
+pub printed : (look : Look) (bytes : Option (List ℕ)) (version : TraceVersion) (entries : List Entry) (is_torn : Bool) (old new : Option (List ℕ))
+    → IfSome bytes (λ bytes. HasLines bytes version entries is_torn) → Prints look (shown_of look entries) old new → PrintsOf look bytes old new
+printed look None version entries is_torn old new lines prints = tt
+printed look (Some bytes) version entries is_torn old new lines prints =
+    record { version = version; entries = entries; is_torn = is_torn; lines = lines; prints = prints }
+
+differs : Done ≡ NoMemory → ⊥
+differs e = cc
+
+-- a text that was made is printed, and without one nothing is
+pub prints_made : {X E : Type 0} (bytes : X → List ℕ) (look : Look) (entries : List Entry) (text : Result X E) (exit : Exit) (old new : Option (List ℕ))
+    → IfOk text (λ text. exit ≡ Done → Appends old new (bytes text)) → IfErr text (λ lost. exit ≡ NoMemory)
+    → IfOk text (λ text. IsShown look entries (bytes text)) → exit ≡ Done → Prints look entries old new
+prints_made bytes look entries (Ok text) exit old new whole lost shown done = record { text = bytes text; appends = whole done; is_shown = shown }
+prints_made bytes look entries (Err e) exit old new whole lost shown done = absurd (differs (sym done ∙ lost))
+
+pub any_made : {X E : Type 0} (text : Result X E) → IfOk text (λ text. ⊤)
+any_made (Ok text) = tt
+any_made (Err e) = tt
+
+-- what ends as printed is done
+pub printed_whole : (version : TraceVersion) (entries : List Entry) (exit : Exit) (P : Type 0) → IsSaidOf version entries exit
+    → (exit ≡ Done → P) → IsPrinted exit → P
+printed_whole version entries Done P said done is = done refl
+printed_whole version entries (Torn number) P said done is = absurd said
+printed_whole version entries UnknownVersion P said done is = absurd is
+printed_whole version entries (IllegalLine number place) P said done is = absurd is
+printed_whole version entries (BadLine number) P said done is = absurd is
+printed_whole version entries NoMemory P said done is = absurd is
+printed_whole version entries DeviceFailed P said done is = absurd is
+printed_whole version entries Illegal P said done is = absurd is
+printed_whole version entries BadThreads P said done is = absurd is
+printed_whole version entries (NoChart fault) P said done is = absurd is
+printed_whole version entries BadWord P said done is = absurd is
+
+-- the same where a torn line stands behind the whole ones
+pub printed_torn : (version : TraceVersion) (lines entries : List Entry) (exit : Exit) (P : Type 0) → IsSaidOf version entries exit
+    → (exit ≡ Done → P) → IsPrinted (torn_end version lines exit) → P
+printed_torn version lines entries Done P said done is = done refl
+printed_torn version lines entries (Torn number) P said done is = absurd said
+printed_torn version lines entries UnknownVersion P said done is = absurd is
+printed_torn version lines entries (IllegalLine number place) P said done is = absurd is
+printed_torn version lines entries (BadLine number) P said done is = absurd is
+printed_torn version lines entries NoMemory P said done is = absurd is
+printed_torn version lines entries DeviceFailed P said done is = absurd is
+printed_torn version lines entries Illegal P said done is = absurd is
+printed_torn version lines entries BadThreads P said done is = absurd is
+printed_torn version lines entries (NoChart fault) P said done is = absurd is
+printed_torn version lines entries BadWord P said done is = absurd is
 
 -- a chart of the lines, which are all whole, ended so
 pub drawn : (last : ℕ) (bytes : Option (List ℕ)) (version : TraceVersion) (entries : List Entry) (exit : Exit)

@@ -1,11 +1,14 @@
 -- Our choice (docs/FORMATS.md): what is said of a trace that is looked at.
 use Rattle.std.specs.Prelude.{◌≡◌, ℕ, ◌+◌, List, length, take, Bool, true, false, Option, IfSome, ⊤}
+use Rattle.std.specs.Io.KnownBytes.{Appends}
 use Rattle.ipc_history.specs.Legal.{Legal}
 use Rattle.ipc_history.specs.declared.entry.Entry.{Entry}
 use Rattle.ipc_trace.specs.Traces.{HasUnknownVersion}
 use Rattle.ipc_trace.specs.Versions.{header_lines}
 use Rattle.ipc_trace.specs.declared.version.TraceVersion.{TraceVersion}
 use Rattle.ipc_shell.specs.Checking.{HasLines, HasBadLine}
+use Rattle.l4sh_commands.specs.Commands.{script_text}
+use Rattle.l4sh_commands.specs.Script.{commands_of}
 use Rattle.l4sh.specs.declared.exit.Exit.{Exit}
 use Rattle.l4sh.specs.declared.exit.Exit.TheVariants.{Done, BadLine, NoMemory, DeviceFailed, Illegal, BadThreads, NoChart, BadWord, UnknownVersion, IllegalLine, Torn}
 use Rattle.l4sh.specs.declared.looking.Look.{Look}
@@ -78,6 +81,37 @@ LooksAtBytes look bytes BadWord = ⊥
 -- where the reader tells its bytes
 abbrev pub LooksAt : Look → Option (List ℕ) → Exit → Type 0
 LooksAt look bytes exit = IfSome bytes (λ bytes. LooksAtBytes look bytes exit)
+
+-- what is told of entries: the commands whose history they are; of the words of a state, and of the
+-- lines of counts together, nothing is said
+abbrev pub IsShown : Look → List Entry → List ℕ → Type 0
+IsShown Script entries text = text ≡ script_text (commands_of entries)
+IsShown (StateAt count) entries text = ⊤
+IsShown (Counts is_json) entries text = ⊤
+
+-- this is printed, and nothing else
+pub record Prints (look : Look) (entries : List Entry) (old new : Option (List ℕ)) : Type 0 where
+  pub text : List ℕ
+  pub appends : Appends old new text
+  pub is_shown : IsShown look entries text
+
+-- what is told of the entries of the whole lines of these bytes is printed
+pub record PrintsBytes (look : Look) (bytes : List ℕ) (old new : Option (List ℕ)) : Type 0 where
+  pub version : TraceVersion
+  pub entries : List Entry
+  pub is_torn : Bool
+  pub lines : HasLines bytes version entries is_torn
+  pub prints : Prints look (shown_of look entries) old new
+
+-- where the reader tells its bytes
+abbrev pub PrintsOf : Look → Option (List ℕ) → Option (List ℕ) → Option (List ℕ) → Type 0
+PrintsOf look bytes old new = IfSome bytes (λ bytes. PrintsBytes look bytes old new)
+
+-- what ends so has printed
+abbrev pub IsPrinted : Exit → Type 0
+IsPrinted Done = ⊤
+IsPrinted (Torn number) = ⊤
+IsPrinted other = ⊥
 
 -- what a chart's end says of the entries up to the last that it may show: it is drawn of a legal
 -- history alone, and a line is named only where it is at fault

@@ -1,10 +1,12 @@
-ghost use Rattle.std.specs.Prelude.{◌≡◌, ◌≢◌, ◌+◌, ◌^◌, ◌<◌, IfOk, List, Some, length, option_map, take};
+ghost use Rattle.std.specs.Prelude.{◌≡◌, ◌≢◌, ◌+◌, ◌^◌, ◌<◌, ℕ, IfErr, IfOk, List, Some, length, option_map, take};
 ghost use Rattle.ipc_history.specs.declared.entry.Entry.{Entry};
 ghost use Rattle.l4sh_explain.specs.Answers.{IfAnswer, IfMistake};
 ghost use Rattle.std.specs.Io.KnownBytes.{Appends};
 ghost use Rattle.std.specs.String.{string_bytes};
 ghost use Rattle.ipc_trace.specs.Versions.{header_lines};
-ghost use Rattle.l4sh.specs.Looking.{IsSaidOf, IsSilent, LooksAt, MayEnd, shown_of, torn_end};
+ghost use Rattle.l4sh.specs.Looking.{IsPrinted, IsSaidOf, IsSilent, LooksAt, MayEnd, Prints, PrintsOf};
+ghost use Rattle.l4sh.specs.Looking.{shown_of, torn_end};
+ghost use Rattle.l4sh.specs.declared.looking.Look.TheVariants as look;
 
 use crate::counting::counts_of_trace;
 use crate::exit::Exit;
@@ -49,6 +51,8 @@ pub fn look_at_trace<R: PortRead, W: PortWrite>(
         → R.failures reader.old + W.failures writer.old
         < R.failures reader.new + W.failures writer.new }
     ensures silent { IsSilent result → W.written writer.new ≡ W.written writer.old }
+    ensures prints { look ≡ look.Script → IsPrinted result → PrintsOf look.Script
+        (R.remaining reader.old) (W.written writer.old) (W.written writer.new) }
 {
     match look {
         Look::StateAt(last) => state_of_trace(alloc, last, times, reader, writer),
@@ -70,6 +74,8 @@ fn look_at_whole<R: PortRead, W: PortWrite>(
         → R.failures reader.old + W.failures writer.old
         < R.failures reader.new + W.failures writer.new }
     ensures silent { IsSilent result → W.written writer.new ≡ W.written writer.old }
+    ensures prints { IsPrinted result → PrintsOf look (R.remaining reader.old)
+        (W.written writer.old) (W.written writer.new) }
 {
     let read = read_trace(alloc, reader);
     match read.end {
@@ -97,6 +103,8 @@ pub(crate) fn tell<W: PortWrite>(
     ensures failed { result ≡ Exit.DeviceFailed → W.failures writer.old < W.failures writer.new }
     ensures silent { result ≢ Exit.Done → result ≢ Exit.DeviceFailed
         → W.written writer.new ≡ W.written writer.old }
+    ensures prints { result ≡ Exit.Done → Prints look (shown_of look read.now.entries.items)
+        (W.written writer.old) (W.written writer.new) }
 {
     let (version, entries) = (read.version, read.entries.as_slice());
     match look {
@@ -121,6 +129,8 @@ fn print_counts<W: PortWrite>(
     ensures failed { result ≡ Exit.DeviceFailed → W.failures writer.old < W.failures writer.new }
     ensures silent { result ≢ Exit.Done → result ≢ Exit.DeviceFailed
         → W.written writer.new ≡ W.written writer.old }
+    ensures prints { result ≡ Exit.Done → Prints (look.Counts is_json) entries.now
+        (W.written writer.old) (W.written writer.new) }
 {
     match counts_of(alloc, entries) {
         Ok(counts) => {
@@ -166,6 +176,8 @@ fn print_script<W: PortWrite>(
     ensures failed { result ≡ Exit.DeviceFailed → W.failures writer.old < W.failures writer.new }
     ensures silent { result ≢ Exit.Done → result ≢ Exit.DeviceFailed
         → W.written writer.new ≡ W.written writer.old }
+    ensures prints { result ≡ Exit.Done → Prints look.Script entries.now
+        (W.written writer.old) (W.written writer.new) }
 {
     match check(entries) {
         Verdict::Yes => print(script_of(alloc, entries), writer),
@@ -185,6 +197,8 @@ fn print_state<W: PortWrite>(
     ensures failed { result ≡ Exit.DeviceFailed → W.failures writer.old < W.failures writer.new }
     ensures silent { result ≢ Exit.Done → result ≢ Exit.DeviceFailed
         → W.written writer.new ≡ W.written writer.old }
+    ensures prints { (count : ℕ) → result ≡ Exit.Done → Prints (look.StateAt count) entries.now
+        (W.written writer.old) (W.written writer.new) }
 {
     match state_of(entries) {
         Ok(state) => print(state_after(alloc, &state, entries, times), writer),
@@ -266,6 +280,8 @@ pub fn print_answer<W: PortWrite>(
 
 // Prints a text, where there was memory for it.
 pub(crate) fn print<W: PortWrite>(text: Result<String, AllocError>, writer: &mut W) -> Exit
+    ensures memory { IfOk text (λ _. result ≢ Exit.NoMemory) }
+    ensures lost { IfErr text (λ _. result ≡ Exit.NoMemory) }
     ensures whole { IfOk text (λ text. result ≡ Exit.Done
         → Appends (W.written writer.old) (W.written writer.new) (string_bytes text)) }
     ensures ends { MayEnd result }

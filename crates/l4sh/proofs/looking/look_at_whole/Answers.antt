@@ -1,8 +1,8 @@
-use Rattle.std.proofs.Common.{subst}
+use Rattle.std.proofs.Common.{false, true, subst}
 use Rattle.ipc_trace.specs.Traces.{IsRead}
-use Rattle.l4sh.specs.Looking.{IsSilent}
+use Rattle.l4sh.specs.Looking.{IsPrinted, IsSilent, PrintsOf}
 use Rattle.ipc_shell.proofs.CheckLemmas.{bad_line, torn_lines, whole_lines}
-use Rattle.l4sh.proofs.LookLemmas.{looked, looked_torn, silent_torn, silent_whole}
+use Rattle.l4sh.proofs.LookLemmas.{looked, looked_torn, printed, printed_torn, printed_whole, silent_torn, silent_whole}
 use Rattle.l4sh.proofs.looking.look_at_whole.Goals as goal
 
 pub returns-in-Whole-clause-looks : goal.returns-in-Whole-clause-looks
@@ -39,3 +39,24 @@ pub returns-in-Torn-clause-silent : goal.returns-in-Torn-clause-silent
 returns-in-Torn-clause-silent g c silent =
     silent_torn c.read_trace-read.result.version c.read_trace-read.result.entries.items c.tell-exit.result _ c.tell-exit.ensures.silent
     (subst IsSilent c.torn_behind.ensures silent)
+
+pub returns-in-Whole-clause-prints : goal.returns-in-Whole-clause-prints
+returns-in-Whole-clause-prints g c is =
+    let bytes = g.R.PortRead.remaining c.args.reader.now in
+    let left = g.R.PortRead.remaining c.read_trace-read.new.port in
+    let version = c.read_trace-read.result.version in
+    let entries = c.read_trace-read.result.entries.items in
+    let read = subst (IsRead bytes left version entries) c.in-Whole.is c.read_trace-read.ensures.read in
+    printed_whole version _ c.tell.result _ c.tell.ensures.said
+    (λ done. printed c.args.look bytes version entries false _ _ (whole_lines bytes left version entries read) (c.tell.ensures.prints done)) is
+
+pub returns-in-Torn-clause-prints : goal.returns-in-Torn-clause-prints
+returns-in-Torn-clause-prints g c is =
+    let bytes = g.R.PortRead.remaining c.args.reader.now in
+    let left = g.R.PortRead.remaining c.read_trace-read.new.port in
+    let version = c.read_trace-read.result.version in
+    let entries = c.read_trace-read.result.entries.items in
+    let read = subst (IsRead bytes left version entries) c.in-Torn.is c.read_trace-read.ensures.read in
+    printed_torn version entries _ c.tell-exit.result _ c.tell-exit.ensures.said
+    (λ done. printed c.args.look bytes version entries true _ _ (torn_lines bytes left version entries read) (c.tell-exit.ensures.prints done))
+    (subst IsPrinted c.torn_behind.ensures is)

@@ -1,4 +1,12 @@
+use Rattle.std.specs.String.{string_bytes}
+use Rattle.l4sh.specs.declared.looking.Look.TheVariants as look
+use Rattle.l4sh.proofs.LookLemmas.{any_made, prints_made}
 use Rattle.l4sh.proofs.looking.print_counts.Goals as goal
 
 pub returns-in-Ok-clause-said : goal.returns-in-Ok-clause-said
 returns-in-Ok-clause-said g c = c.print.ensures.ends c.args.version c.args.entries.now c.in-Ok.ensures.told.legal
+
+pub returns-in-Ok-clause-prints : goal.returns-in-Ok-clause-prints
+returns-in-Ok-clause-prints g c done =
+    prints_made (λ text. string_bytes text) (look.Counts c.args.is_json) c.args.entries.now c.counts_text.result c.print.result _ _ c.print.ensures.whole c.print.ensures.lost
+    (any_made c.counts_text.result) done

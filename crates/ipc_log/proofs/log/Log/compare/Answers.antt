@@ -1,0 +1,19 @@
+use Rattle.std.proofs.Common.{◌∙◌, ap, sym}
+use Rattle.ipc_log.proofs.Keeping.{compares, meets}
+use Rattle.ipc_log.proofs.log.Log.compare.Goals as goal
+
+pub join_seat-requires : goal.join_seat-requires
+join_seat-requires g c = (
+  c.one.invariant.0 ∙ sym c.args.self.now.is_it,
+  c.other.invariant.0 ∙ sym c.args.self.now.is_it,
+  ap (λ m. m.1) c.other.invariant.1,
+  c.args.self.now.has_word,
+  meets g.E.Entry.is_of g.E.Entry.begins _ _ _ _ _ _ (ap (λ m. m.0) c.one.invariant.1) (ap (λ m. m.0) c.other.invariant.1),
+)
+
+pub load-requires : goal.load-requires
+load-requires g c = (
+  c.join_seat.ensures.0 ∙ (c.one.invariant.0 ∙ sym c.args.self.now.is_it),
+  c.args.self.now.has_word,
+  compares g.E.Entry.is_of g.E.Entry.begins _ _ 0 0 0 (λ n. n) _,
+)

@@ -1,0 +1,97 @@
+-- There is one log, of which all that is known is true.
+use Rattle.std.specs.Prelude.{◌≡◌, ◌⊎◌, ℕ, List, [], ◌∷◌, ◌++◌, Bool, true, false, Contains, filter}
+use mathlib.Core.List.{IsPrefix}
+use mathlib.Core.Option.{Option, some, none}
+use lib.ListN.{get_elem?}
+use Rattle.atomic_table.specs.Table.{State, Me, Step}
+use Rattle.ipc_log.specs.Views.{fronting}
+use Rattle.ipc_log.specs.declared.rule.View.{View}
+
+-- the numbers that owners got by the entries of a log
+abbrev pub numbers_of : {E : Type 0} → (E → List ℕ) → List E → List ℕ
+numbers_of begins [] = []
+numbers_of begins (next ∷ log) = begins next ++ numbers_of begins log
+
+-- the entries of the owner of a number
+abbrev pub entries_of : {E : Type 0} → (E → ℕ → Bool) → ℕ → List E → List E
+entries_of is_of number log = filter (λ e. is_of e number) log
+
+-- an entry is nobody's
+abbrev pub IsNobodys : {E : Type 0} → (E → ℕ → Bool) → E → Type 0
+IsNobodys is_of e = (number : ℕ) → is_of e number ≡ false
+
+-- an entry is that of the owner of a number, and of nobody else
+abbrev pub IsOnlyOf : {E : Type 0} → (E → ℕ → Bool) → E → ℕ → Type 0
+IsOnlyOf is_of e owner = (is_of e owner ≡ true) × ((number : ℕ) → ¬ (number ≡ owner) → is_of e number ≡ false)
+
+abbrev pub first_of : List ℕ → ℕ
+first_of [] = 0
+first_of (n ∷ ns) = n
+
+-- of two lists one begins the other
+abbrev pub AreOne : {E : Type 0} → List E → List E → Type 0
+AreOne xs ys = IsPrefix xs ys ⊎ IsPrefix ys xs
+
+-- what two saw is of one log
+abbrev pub ComparesTwo : {E : Type 0} → Step E → Me E (View E) → ℕ → Me E (View E) → Type 0
+ComparesTwo s v found w = (w ≡ (fronting v.0.seen, v.1)) × AreOne v.0.seen v.0.before
+
+module _ {E : Type 0} (is_of : E → ℕ → Bool) where
+  -- what is known of an owner is true of what was seen of the log
+  abbrev pub IsTrueOf : View E → List E → Type 0
+  IsTrueOf v log = IsPrefix v.before log × (v.owns ≡ true → v.mine ≡ entries_of is_of v.number log)
+
+  -- what the pass by knows of this log is true: one pass at most, that of this seat, knows it whole,
+  -- and the number of an owner stands in one pass
+  pub record Fits (begins : E → List ℕ) (seat : ℕ) (holder : ℕ → ℕ) (log : List E) (by : ℕ) (v : View E) : Type 0 where
+    pub seen : IsPrefix v.seen log
+    pub before : IsPrefix v.before log
+    pub whole : v.keeps ≡ true → (by ≡ seat) × (v.seen ≡ log)
+    pub mine : v.owns ≡ true → v.mine ≡ entries_of is_of v.number log
+    pub began : v.owns ≡ true → Contains (numbers_of begins log) v.number
+    pub alone : v.owns ≡ true → by ≡ holder v.number
+
+  pub record Kept (begins : E → List ℕ) (views : List (View E)) : Type 0 where
+    pub seat : ℕ
+    pub holder : ℕ → ℕ
+    pub log : List E
+    pub fits : (by : ℕ) (v : View E) → get_elem? views by ≡ some v → Fits begins seat holder log by v
+    pub others : (number : ℕ) → ¬ Contains (numbers_of begins log) number → entries_of is_of number log ≡ []
+
+  abbrev pub KeepsOne : (E → List ℕ) → State E (View E) → Type 0
+  KeepsOne begins s = Kept begins s.views
+
+  abbrev pub said_of : Option E → List E
+  said_of none = []
+  said_of (some e) = e ∷ []
+
+  -- these entries are added
+  abbrev pub added : View E → List E → View E
+  added v more = record {
+    keeps = v.keeps;
+    seen = v.seen ++ more;
+    before = v.before;
+    owns = v.owns;
+    number = v.number;
+    mine = v.mine ++ entries_of is_of v.number more;
+  }
+
+  abbrev pub AddsOne : Step E → Me E (View E) → ℕ → Me E (View E) → Type 0
+  AddsOne s v found w = (w ≡ (added v.0 (said_of s.said), v.1)) × IsTrueOf v.0 v.0.seen
+
+  -- these entries are added, from which on there is an owner
+  abbrev pub begun : (E → List ℕ) → View E → List E → View E
+  begun begins v more = record {
+    keeps = v.keeps;
+    seen = v.seen ++ more;
+    before = [];
+    owns = true;
+    number = first_of (numbers_of begins more);
+    mine = entries_of is_of (first_of (numbers_of begins more)) more;
+  }
+
+  abbrev pub BeginsOne : (E → List ℕ) → Step E → Me E (View E) → ℕ → Me E (View E) → Type 0
+  BeginsOne begins s v found w = w ≡ (begun begins v.0 (said_of s.said), v.1)
+
+  abbrev pub LooksOn : Step E → Me E (View E) → ℕ → Me E (View E) → Type 0
+  LooksOn s v found w = (w ≡ v) × IsTrueOf v.0 v.0.seen

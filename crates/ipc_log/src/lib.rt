@@ -1,0 +1,16 @@
+//! One log for all threads, which proofs alone know. Who keeps it adds to it; each owner knows
+//! which of its entries are its own, wherever the owner is.
+#![tactic(auto)]
+
+mod entry;
+mod front;
+mod keeper;
+mod log;
+mod own;
+mod rule;
+
+pub use entry::{Entry, Naming};
+pub use front::Front;
+pub use keeper::Keeper;
+pub use log::{Blank, Log};
+pub use own::Own;

@@ -1,0 +1,174 @@
+//! The log that threads share, and what is done with it. Nothing waits, and no step fails.
+ghost use Rattle.std.specs.Prelude.{◌≡◌, ◌<◌, [], ◌∷◌, ◌++◌, Contains};
+ghost use mathlib.Core.List.{IsPrefix};
+ghost use Rattle.ipc_log.specs.Rules.{AreOne, IsNobodys, IsOnlyOf, entries_of, numbers_of};
+
+use crate::entry::{Entry, Naming};
+use crate::front::Front;
+use crate::keeper::Keeper;
+use crate::own::Own;
+use crate::rule::{
+    Adds, Begins, Compares, Goes, Looks, Meets, OneLog, Parts, Pass, Shows, Takes, View,
+};
+use atomic_table::Table;
+use std::alloc::{AllocError, Global};
+use std::marker::{Model, PhantomData};
+use std::sync::ledger::Total;
+
+/// A new log, in which nothing stands, and which no type stands for yet.
+#[derive(Drop)]
+pub struct Blank<E: Entry + Drop> {
+    table: Table<E, View<E>, (), OneLog, Global>,
+    pass: Pass<E>,
+}
+
+impl<E: Entry + Drop> Model for Blank<E> {
+    ghost use Rattle.std.specs.Prelude.{◌≡◌, ◌<◌, []};
+    ghost use Rattle.atomic_table.specs.Seated.{TableId};
+
+    ghost Value = { TableId };
+
+    ghost use Rattle.ipc_log.specs.Views.{keeping};
+
+    ghost view = { λ b. b.table.shared.table_id };
+
+    ghost invariant = { λ b. (0 < b.table.shared.table_id.words) × (b.pass.table_id ≡ b.table.shared.table_id) × (b.pass.me ≡ (keeping [], [])) };
+}
+
+impl<E: Entry + Drop> Blank<E> {
+    /// Nothing stands in it.
+    ///
+    /// # Errors
+    ///
+    /// No memory.
+    pub fn new(alloc: Global) -> Result<Blank<E>, AllocError> {
+        let (table, pass) = Table::of_words(alloc, &[0], &())?;
+        Ok(Blank { table, pass })
+    }
+
+    /// The log, and who keeps it.
+    pub fn open<C: Naming>(self) -> (Log<E, C>, Keeper<E, C>)
+        requires { self ≡ C.table }
+        ensures { result.1 ≡ [] }
+    {
+        let Blank { table, pass } = self;
+        let log = Log {
+            table,
+            of: PhantomData,
+        };
+        let keeper = Keeper {
+            pass,
+            of: PhantomData,
+        };
+        (log, keeper)
+    }
+}
+
+/// One log, which all threads share. What stands in it proofs alone know.
+#[derive(Drop)]
+pub struct Log<E: Entry + Drop, C: Naming> {
+    table: Table<E, View<E>, (), OneLog, Global>,
+    of: PhantomData<Total<C>>,
+    ghost is_it: { table.shared.table_id ≡ C.table },
+    ghost has_word: { 0 < table.shared.table_id.words },
+}
+
+impl<E: Entry + Drop, C: Naming> Log<E, C> {
+    /// Adds an entry that is no owner's.
+    pub fn add(&self, keeper: &mut Keeper<E, C>, entry: &E)
+        requires nobodys { IsNobodys E.is_of entry.now }
+        ensures { keeper.new ≡ keeper.old ++ entry.now ∷ [] }
+    {
+        self.table
+            .shared
+            .compare_exchange_with::<Adds>(&mut keeper.pass, 0, 0, 0, entry);
+    }
+
+    /// Adds an entry, from which on there is an owner of a number that nobody had.
+    pub fn begin(&self, keeper: &mut Keeper<E, C>, entry: &E, number: u64) -> Own<E, C>
+        requires begins { E.begins entry.now ≡ number ∷ [] }
+        requires is_new { Contains (numbers_of E.begins keeper.old) number → ⊥ }
+        requires only { IsOnlyOf E.is_of entry.now number }
+        ensures log { keeper.new ≡ keeper.old ++ entry.now ∷ [] }
+        ensures number { result.number ≡ number }
+        ensures mine { result.mine ≡ entry.now ∷ [] }
+        ensures seen { result.seen ≡ keeper.new }
+    {
+        self.table
+            .shared
+            .compare_exchange_with::<Begins>(&mut keeper.pass, 0, 0, 0, entry);
+        let pass = self.table.shared.split_seat::<Parts>(&mut keeper.pass);
+        Own {
+            number,
+            pass,
+            of: PhantomData,
+        }
+    }
+
+    /// Adds an entry of an owner.
+    pub fn add_own(&self, keeper: &mut Keeper<E, C>, own: &mut Own<E, C>, entry: &E)
+        requires only { IsOnlyOf E.is_of entry.now own.old.number }
+        ensures log { keeper.new ≡ keeper.old ++ entry.now ∷ [] }
+        ensures number { own.new.number ≡ own.old.number }
+        ensures mine { own.new.mine ≡ own.old.mine ++ entry.now ∷ [] }
+        ensures seen { own.new.seen ≡ keeper.new }
+        ensures goes_on { IsPrefix own.old.seen keeper.old }
+        ensures all { own.old.mine ≡ entries_of E.is_of own.old.number keeper.old }
+    {
+        let pass = self.table.shared.split_seat::<Goes>(&mut own.pass);
+        self.table.shared.join_seat::<Takes>(&mut keeper.pass, pass);
+        self.table
+            .shared
+            .compare_exchange_with::<Adds>(&mut keeper.pass, 0, 0, 0, entry);
+        own.pass = self.table.shared.split_seat::<Parts>(&mut keeper.pass);
+    }
+
+    /// What the log is to an owner.
+    pub fn look(&self, keeper: &mut Keeper<E, C>, own: &mut Own<E, C>)
+        ensures log { keeper.new ≡ keeper.old }
+        ensures number { own.new.number ≡ own.old.number }
+        ensures mine { own.new.mine ≡ own.old.mine }
+        ensures seen { own.new.seen ≡ keeper.new }
+        ensures goes_on { IsPrefix own.old.seen keeper.old }
+        ensures all { own.old.mine ≡ entries_of E.is_of own.old.number keeper.old }
+    {
+        let pass = self.table.shared.split_seat::<Goes>(&mut own.pass);
+        self.table.shared.join_seat::<Takes>(&mut keeper.pass, pass);
+        self.table.shared.load::<Looks>(&mut keeper.pass, 0);
+        own.pass = self.table.shared.split_seat::<Parts>(&mut keeper.pass);
+    }
+
+    /// The log so far.
+    pub fn front(&self, keeper: &mut Keeper<E, C>) -> Front<E, C>
+        ensures log { keeper.new ≡ keeper.old }
+        ensures front { result ≡ keeper.old }
+    {
+        let pass = self.table.shared.split_seat::<Shows>(&mut keeper.pass);
+        Front {
+            pass,
+            of: PhantomData,
+        }
+    }
+
+    /// The log so far, as an owner saw it.
+    pub fn front_of(&self, own: &mut Own<E, C>) -> Front<E, C>
+        ensures own { own.new ≡ own.old }
+        ensures front { result ≡ own.old.seen }
+    {
+        let pass = self.table.shared.split_seat::<Shows>(&mut own.pass);
+        Front {
+            pass,
+            of: PhantomData,
+        }
+    }
+
+    /// What two saw is of one log: one of them saw what the other did, and perhaps more.
+    pub fn compare(&self, one: &mut Front<E, C>, other: Front<E, C>)
+        ensures same { one.new ≡ one.old }
+        ensures are_one { AreOne one.old other }
+    {
+        let Front { pass, of: _ } = other;
+        self.table.shared.join_seat::<Meets>(&mut one.pass, pass);
+        self.table.shared.load::<Compares>(&mut one.pass, 0);
+    }
+}

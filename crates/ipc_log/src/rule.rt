@@ -1,0 +1,127 @@
+//! The rule of a log, over what each pass knows.
+
+use crate::entry::Entry;
+use atomic_table::{Join, Play, Seat, Split, TableRule};
+use std::collections::LinkedList;
+
+/// What a pass knows. No value of it is made.
+pub struct View<E> {
+    /// Whether it is the one that knows the whole log.
+    pub keeps: bool,
+    /// The log so far as it was seen.
+    pub seen: LinkedList<E>,
+    /// What a pass that was taken in had seen.
+    pub before: LinkedList<E>,
+    /// Whether it has an owner's number, and which.
+    pub owns: bool,
+    pub number: u64,
+    /// The entries of that owner.
+    pub mine: LinkedList<E>,
+}
+
+/// A caller's pass. It has no bytes.
+pub type Pass<E> = Seat<E, View<E>>;
+
+/// There is one log.
+pub struct OneLog;
+
+impl<E: Entry> TableRule<E, View<E>, ()> for OneLog {
+    ghost use Rattle.std.specs.Prelude.{[]};
+    ghost use Rattle.ipc_log.specs.Views.{keeping};
+    ghost use Rattle.ipc_log.specs.Rules.{KeepsOne};
+
+    ghost holds = { λ _. KeepsOne E.is_of E.begins };
+
+    ghost first = { λ _. keeping [] };
+}
+
+/// An entry is added.
+pub struct Adds;
+
+impl<E: Entry> Play<E, View<E>> for Adds {
+    ghost use Rattle.ipc_log.specs.Rules.{AddsOne};
+
+    ghost then = { AddsOne E.is_of };
+}
+
+/// An entry is added from which on there is an owner.
+pub struct Begins;
+
+impl<E: Entry> Play<E, View<E>> for Begins {
+    ghost use Rattle.ipc_log.specs.Rules.{BeginsOne};
+
+    ghost then = { BeginsOne E.is_of E.begins };
+}
+
+/// Nothing is added.
+pub struct Looks;
+
+impl<E: Entry> Play<E, View<E>> for Looks {
+    ghost use Rattle.ipc_log.specs.Rules.{LooksOn};
+
+    ghost then = { LooksOn E.is_of };
+}
+
+/// Two that saw the log compare what they saw.
+pub struct Compares;
+
+impl<E> Play<E, View<E>> for Compares {
+    ghost use Rattle.ipc_log.specs.Rules.{ComparesTwo};
+
+    ghost then = { ComparesTwo };
+}
+
+/// What two saw of the log meets.
+pub struct Meets;
+
+impl<E> Join<View<E>> for Meets {
+    ghost use Rattle.ipc_log.specs.Views.{meeting, nobody};
+
+    ghost both = { meeting };
+
+    ghost spent = { nobody };
+}
+
+/// A pass goes, and leaves one that knows nothing.
+pub struct Goes;
+
+impl<E> Split<View<E>> for Goes {
+    ghost use Rattle.ipc_log.specs.Views.{nobody};
+
+    ghost left = { λ _. nobody };
+
+    ghost right = { λ v. v };
+}
+
+/// Who keeps the log shows what stands in it.
+pub struct Shows;
+
+impl<E> Split<View<E>> for Shows {
+    ghost use Rattle.ipc_log.specs.Views.{fronting};
+
+    ghost left = { λ v. v };
+
+    ghost right = { λ v. fronting v.seen };
+}
+
+/// Who keeps the log gives an owner back what is its own.
+pub struct Parts;
+
+impl<E> Split<View<E>> for Parts {
+    ghost use Rattle.ipc_log.specs.Views.{keeping, parted};
+
+    ghost left = { λ v. keeping v.seen };
+
+    ghost right = { parted };
+}
+
+/// Who keeps the log takes an owner in.
+pub struct Takes;
+
+impl<E> Join<View<E>> for Takes {
+    ghost use Rattle.ipc_log.specs.Views.{joined, nobody};
+
+    ghost both = { joined };
+
+    ghost spent = { nobody };
+}

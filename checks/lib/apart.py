@@ -36,7 +36,7 @@ def made_apart(room, name, needs, program, parts=None):
 
 
 def counts_by_ledgers(folder, function):
-    """Writes the proofs that give a function of this crate its ledgers: C, of calls, and T, of takes."""
+    """Writes the proofs that give a function of this crate its ledgers, C, of calls, and T, of takes, and its log."""
     os.makedirs(f"{folder}/proofs/once")
     with open(f"{folder}/proofs/once/Invariants.antt", "w", encoding="utf-8") as file:
         file.write(f"use Rattle.{os.path.basename(folder)}.proofs.once.Given as goal\n")
@@ -44,6 +44,8 @@ def counts_by_ledgers(folder, function):
             name = f"ghosts-{function}-{ledger}-Ledger"
             file.write(f"\nabbrev pub {name} : goal.{name}\n")
             file.write(f"{name} g a = record {{ name = a.{blank}.name; parts = a.{blank}.parts }}\n")
+        file.write(f"\nabbrev pub ghosts-{function}-C-Naming : goal.ghosts-{function}-C-Naming\n")
+        file.write(f"ghosts-{function}-C-Naming g a = record {{ table = a.log }}\n")
 
 
 def rt():

@@ -13,12 +13,14 @@ use Rattle.ipc_history.specs.Legal.{Legal}
 use Rattle.ipc_history.specs.Outcomes.{OutcomeParts}
 use Rattle.ipc_history.specs.Threads.{is_live}
 use Rattle.ipc_history.specs.declared.entry.Entry.{Entry}
-use Rattle.ipc_lock.specs.Above.{ActsSome, AsksOrRefuses, ConnectsSome, EndsSome, EntryOfSome, GivesSome, GoneSome, GroupOfSome, IsReady, LeftOfSome, MarksSome, MovesEach, MovesSome, NotLiveSome, OverSome, PostsOrDrops, ReleasesSome, RestsOrEnds, WorksSome, is_moved}
+use Rattle.ipc_lock.specs.Above.{ActsSome, AsksOrRefuses, ConnectsSome, EndsSome, EntryOfSome, GivesSome, GoneSome, GroupOfSome, HangsUpSome, IsReady, LeftOfSome, MarksSome, MovesEach, MovesSome, NotLiveSome, OverSome, PostsOrDrops, ReleasesSome, RestsOrEnds, WorksSome, is_moved}
 use Rattle.ipc_lock.specs.Alarms.{Rests}
 use Rattle.ipc_lock.specs.Boxes.{BoxParts, changed_at}
 use Rattle.ipc_lock.specs.Gifts.{gifts, no_errands, number_in}
 use Rattle.ipc_lock.specs.Groups.{IsGroupAt}
 use Rattle.ipc_lock.specs.InsideParts.{LoggedParts}
+use Rattle.ipc_log.specs.Views.{Known}
+use Rattle.ipc_lock.specs.Owning.{Begins, Knows, Makes, Sees}
 use Rattle.ipc_lock.specs.Noting.{NotesOn, NotesStep}
 use Rattle.ipc_lock.specs.Places.{EndsAt, FreesSome, LoadsAt, LoadsOne, OnlyLoads, is_empty_in, is_in, is_shut_in, shut_for, thread_for}
 use Rattle.ipc_lock.specs.Rounds.{Carries}
@@ -26,6 +28,7 @@ use Rattle.ipc_lock.specs.Telling.{ActsAndTells, AsksAndTells}
 use Rattle.ipc_lock.specs.Turns.{Runs, Turned}
 use Rattle.ipc_lock.specs.Upkeeping.{LetsGo, noted}
 use Rattle.ipc_lock.specs.declared.errands.Errands.{Errands}
+use Rattle.ipc_lock.specs.declared.events.Event.{Event}
 use Rattle.ipc_lock.specs.declared.events.Event.TheVariants as event
 use Rattle.ipc_lock.specs.declared.rest.Rest.{Rest}
 use Rattle.ipc_lock.specs.declared.seated.seats.CallSeat.{CallSeat}
@@ -47,68 +50,83 @@ acts_some before after now seat command answer pens left turned acts carries = r
 }
 
 pub asks_some : {C P : Type 0} (before there after : LoggedParts) (now : ℕ) (seat own_seat : Option (CallSeat C)) (asked : Request) (space : ℕ) (said : Told)
-    (place number : ℕ) (pens left : Errands P) → own_seat ≡ seat → before ≡ there
-    → is_in number (slice_get there.inside.boxes place) ≡ true → is_shut_in (slice_get there.inside.boxes place) ≡ false
+    (place : ℕ) (pens left : Errands P) (own own_then own_now : Known Event) → own_seat ≡ seat → own_then ≡ own → before ≡ there
+    → is_in own.number (slice_get there.inside.boxes place) ≡ true → is_shut_in (slice_get there.inside.boxes place) ≡ false
     → is_empty_in (slice_get there.inside.boxes place) ≡ true
     → Turned C P before after (event.Asked now place (number_in (slice_get before.inside.boxes place)) (asked ∷ []) space said (gifts pens))
     → AsksAndTells before.inside.upkeep after.inside.upkeep before.inside.kernel after.inside.kernel now own_seat asked space said before.inside.owners place
     before.inside.boxes after.inside.boxes no_errands pens
-    → Carries pens left → AsksOrRefuses P now place number seat asked space said
-asks_some {C} {P} before there after now seat own_seat asked space said place number pens left by at own is_open is_empty turned asks carries = inl (record {
+    → Makes own_then own_now before.log after.log (event.Asked now place (number_in (slice_get before.inside.boxes place)) (asked ∷ []) space said (gifts pens))
+    → Carries pens left → AsksOrRefuses P now place seat asked space said own own_now
+asks_some {C} {P} before there after now seat own_seat asked space said place pens left own own_then own_now by same at its is_open is_empty turned asks makes carries = inl (record {
   before = before;
   after = after;
   pens = pens;
   left = left;
-  ready = subst (λ (l : LoggedParts). IsReady number (slice_get l.inside.boxes place)) (sym at) (record { own = own; is_open = is_open; is_empty = is_empty });
+  ready = subst (λ (l : LoggedParts). IsReady own.number (slice_get l.inside.boxes place)) (sym at) (record { own = its; is_open = is_open; is_empty = is_empty });
   turned = turned;
+  makes = subst (λ (o : Known Event). Makes o own_now before.log after.log
+      (event.Asked now place (number_in (slice_get before.inside.boxes place)) (asked ∷ []) space said (gifts pens))) same makes;
   asks = subst (λ (s : Option (CallSeat C)). AsksAndTells before.inside.upkeep after.inside.upkeep before.inside.kernel after.inside.kernel now s asked space said
       before.inside.owners place before.inside.boxes after.inside.boxes no_errands pens) by asks;
   carries = carries;
 })
 
-pub asks_none : {C : Type 0} (P : Type 0) (now place number : ℕ) (seat : Option (CallSeat C)) (asked : Request) (space : ℕ) (said : Told)
-    → said ≡ told.Refused NoThread → GoneSome C P place number → AsksOrRefuses P now place number seat asked space said
-asks_none P now place number seat asked space said is gone = inr (is, gone)
+pub asks_none : {C : Type 0} (P : Type 0) (now place : ℕ) (seat : Option (CallSeat C)) (asked : Request) (space : ℕ) (said : Told)
+    (own own_now : Known Event) → said ≡ told.Refused NoThread → GoneSome C P place own own_now
+    → AsksOrRefuses P now place seat asked space said own own_now
+asks_none P now place seat asked space said own own_now is gone = inr (is, gone)
 
 -- a box is shut, or is another one's
-pub gone_shut : (C P : Type 0) (logged : LoggedParts) (place number : ℕ) → Runs C P logged.log logged.inside
-    → is_shut_in (slice_get logged.inside.boxes place) ≡ true → GoneSome C P place number
-gone_shut C P logged place number runs shut =
-    record { logged = logged; runs = runs; gone = either (not (is_in number (slice_get logged.inside.boxes place))) shut }
+pub gone_shut : (C P : Type 0) (logged shown there : LoggedParts) (place : ℕ) (own own_then own_now : Known Event) → logged ≡ there → shown ≡ there
+    → own_then ≡ own → Runs C P logged.log logged.inside → Sees own_then own_now shown.log
+    → is_shut_in (slice_get logged.inside.boxes place) ≡ true → GoneSome C P place own own_now
+gone_shut C P logged shown there place own own_then own_now at shown_at same runs sees shut = record {
+  logged = logged;
+  runs = runs;
+  sees = subst (λ (o : Known Event). Sees o own_now logged.log) same (subst (λ (l : LoggedParts). Sees own_then own_now l.log) (shown_at ∙ sym at) sees);
+  gone = either (not (is_in own.number (slice_get logged.inside.boxes place))) shut;
+}
   where
     either : {b : Bool} (a : Bool) → b ≡ true → a || b ≡ true
     either true h = refl
     either false h = h
 
-pub gone_other : (C P : Type 0) (logged : LoggedParts) (place number : ℕ) → Runs C P logged.log logged.inside
-    → is_in number (slice_get logged.inside.boxes place) ≡ false → GoneSome C P place number
-gone_other C P logged place number runs other = record {
+pub gone_other : (C P : Type 0) (logged shown there : LoggedParts) (place number : ℕ) (own own_then own_now : Known Event) → logged ≡ there → shown ≡ there
+    → own_then ≡ own → number ≡ own.number → Runs C P logged.log logged.inside → Sees own_then own_now shown.log
+    → is_in number (slice_get logged.inside.boxes place) ≡ false → GoneSome C P place own own_now
+gone_other C P logged shown there place number own own_then own_now at shown_at same is runs sees other = record {
   logged = logged;
   runs = runs;
-  gone = subst (λ (b : Bool). not b || is_shut_in (slice_get logged.inside.boxes place) ≡ true) (sym other) refl;
+  sees = subst (λ (o : Known Event). Sees o own_now logged.log) same (subst (λ (l : LoggedParts). Sees own_then own_now l.log) (shown_at ∙ sym at) sees);
+  gone = subst (λ (b : Bool). not b || is_shut_in (slice_get logged.inside.boxes place) ≡ true)
+      (sym (ap (λ (n : ℕ). is_in n (slice_get logged.inside.boxes place)) (sym is) ∙ other)) refl;
 }
 
-pub posts_some : (C P : Type 0) (before between after : LoggedParts) (place number : ℕ) (said : Told) (pens left : Errands P)
-    → is_in number (slice_get before.inside.boxes place) ≡ true → is_shut_in (slice_get before.inside.boxes place) ≡ false
+pub posts_some : (C P : Type 0) (before between after : LoggedParts) (place : ℕ) (said : Told) (pens left : Errands P) (own own_then own_now : Known Event)
+    → own_then ≡ own → is_in own.number (slice_get before.inside.boxes place) ≡ true → is_shut_in (slice_get before.inside.boxes place) ≡ false
     → is_empty_in (slice_get before.inside.boxes place) ≡ true
     → Turned C P before between (event.Posted place (number_in (slice_get before.inside.boxes place)) said) → Turned C P between after (event.Looked place (gifts pens))
     → LoadsAt between.inside.kernel after.inside.kernel between.inside.boxes after.inside.boxes place (slice_get between.inside.boxes place) no_errands pens
-    → Carries pens left → PostsOrDrops C P place number said
-posts_some C P before between after place number said pens left own is_open is_empty posted looked loads carries = inl (record {
+    → Makes own_then own_now before.log between.log (event.Posted place (number_in (slice_get before.inside.boxes place)) said)
+    → Carries pens left → PostsOrDrops C P place said own own_now
+posts_some C P before between after place said pens left own own_then own_now same its is_open is_empty posted looked loads makes carries = inl (record {
   before = before;
   between = between;
   after = after;
   pens = pens;
   left = left;
-  ready = record { own = own; is_open = is_open; is_empty = is_empty };
+  ready = record { own = its; is_open = is_open; is_empty = is_empty };
   posted = posted;
+  makes = subst (λ (o : Known Event). Makes o own_now before.log between.log (event.Posted place (number_in (slice_get before.inside.boxes place)) said)) same makes;
   looked = looked;
   posts = subst (λ (b : List BoxParts). LoadsOne (Some place) between.inside.kernel after.inside.kernel b after.inside.boxes no_errands pens) posted.turn.boxes loads;
   carries = carries;
 })
 
-pub posts_none : (C P : Type 0) (place number : ℕ) (said : Told) → GoneSome C P place number → PostsOrDrops C P place number said
-posts_none C P place number said gone = inr gone
+pub posts_none : (C P : Type 0) (place : ℕ) (said : Told) (own own_now : Known Event) → GoneSome C P place own own_now
+    → PostsOrDrops C P place said own own_now
+posts_none C P place said own own_now gone = inr gone
 
 pub moves_some : (C P : Type 0) (now : ℕ) (answer : Answer) (moved : Bool) → ActsSome {C = C} P now None Advance answer → moved ≡ is_moved answer
     → MovesSome C P now moved
@@ -151,20 +169,34 @@ works_begun C T P logged first second said begun f s runs is goes has_begun hold
 pub marks_some : (C P : Type 0) (before after : LoggedParts) (upto : ℕ) → Turned C P before after (event.Marked upto) → MarksSome C P upto
 marks_some C P before after upto turned = record { before = before; after = after; turned = turned }
 
-pub connects_some : (C P : Type 0) (before after : LoggedParts) (place number : ℕ) → Turned C P before after (event.Connected place number)
-    → ConnectsSome C P place number
-connects_some C P before after place number turned = record { before = before; after = after; turned = turned }
+pub connects_some : (C P : Type 0) (before after : LoggedParts) (place number : ℕ) (own : Known Event) → own.number ≡ number
+    → Turned C P before after (event.Connected place number) → Begins own after.log (event.Connected place own.number) → ConnectsSome C P place own
+connects_some C P before after place number own is turned begins = record {
+  before = before;
+  after = after;
+  turned = subst (λ (n : ℕ). Turned C P before after (event.Connected place n)) (sym is) turned;
+  begins = begins;
+}
 
-pub releases_some : (C P : Type 0) (before after : LoggedParts) (place number : ℕ) → Turned C P before after (event.Released place number)
-    → FreesSome before.inside.boxes place number → ReleasesSome C P place number
-releases_some C P before after place number turned frees = record { before = before; after = after; turned = turned; frees = frees }
+pub releases_some : (C P : Type 0) (before after : LoggedParts) (place : ℕ) (own : Known Event) → Turned C P before after (event.Released place own.number)
+    → Knows own before.log → FreesSome before.inside.boxes place own.number → ReleasesSome C P place own
+releases_some C P before after place own turned knew frees = record { before = before; after = after; knew = knew; turned = turned; frees = frees }
 
-pub ends_some : (C P : Type 0) (before after : LoggedParts) (pens : Errands P) (now place number : ℕ)
-    → Turned C P before after (event.Ended now place number (gifts pens))
+pub ends_some : (C P : Type 0) (before after : LoggedParts) (pens : Errands P) (now place number : ℕ) (is_by_reader : Bool)
+    → Turned C P before after (event.Ended now place number is_by_reader (gifts pens))
     → EndsAt before.inside.upkeep after.inside.upkeep before.inside.kernel after.inside.kernel now (thread_for number (slice_get before.inside.boxes place))
-    → OnlyLoads (changed_at (shut_for number) before.inside.boxes place) after.inside.boxes → EndsSome C P now place number
-ends_some C P before after pens now place number turned ends shut =
+    → OnlyLoads (changed_at (shut_for number) before.inside.boxes place) after.inside.boxes → EndsSome C P now place number is_by_reader
+ends_some C P before after pens now place number is_by_reader turned ends shut =
     record { before = before; after = after; pens = pens; turned = turned; ends = ends; shut = shut }
+
+pub hangs_up : (C P : Type 0) (before after : LoggedParts) (pens : Errands P) (now place : ℕ) (own own_now : Known Event)
+    → Turned C P before after (event.Ended now place own.number true (gifts pens))
+    → EndsAt before.inside.upkeep after.inside.upkeep before.inside.kernel after.inside.kernel now (thread_for own.number (slice_get before.inside.boxes place))
+    → OnlyLoads (changed_at (shut_for own.number) before.inside.boxes place) after.inside.boxes
+    → Makes own own_now before.log after.log (event.Ended now place own.number true (gifts pens)) → HangsUpSome C P now place own own_now
+unfolding ends_some
+hangs_up C P before after pens now place own own_now turned ends shut makes =
+    record { ends = ends_some C P before after pens now place own.number true turned ends shut; makes = makes }
 
 pub group_some : (C P : Type 0) (logged : LoggedParts) (index : ℕ) (group : List Entry) → Runs C P logged.log logged.inside
     → Legal logged.inside.kernel.history → IsGroupAt logged.inside.kernel.history index group → GroupOfSome C P index group

@@ -267,7 +267,7 @@ effect_of C P known before after (event.Acted now commands answers gave) h =
     as_before known before after (calls_of gave) gave (made_for commands answers) (acted {C = C} {P = P} known before after now commands answers gave h)
 effect_of C P known before after (event.Asked now place owns requests space said gave) h =
     asked {C = C} {P = P} known before after now place owns requests space said gave h
-effect_of C P known before after (event.Ended now place number gave) h =
+effect_of C P known before after (event.Ended now place number is_by_reader gave) h =
     as_before known before after (calls_of gave) gave [] (ended {C = C} {P = P} known before after now place number gave h)
 effect_of C P known before after (event.Posted place owns said) h = posted known before after place owns said h
 effect_of C P known before after (event.Looked place gave) h = as_before known before after (calls_of gave) gave [] (looked {P = P} known before after place gave h)

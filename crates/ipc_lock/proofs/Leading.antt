@@ -225,7 +225,7 @@ part_given number (gift ∷ gave) = go (gift.number == number) (part_given numbe
 part_by : (number : ℕ) (next : Event) → IsPart (calls_given (given_in number (gifts_by next))) (calls_by next)
 part_by number (event.Acted now commands answers gave) = part_given number gave
 part_by number (event.Asked now place owns requests space said gave) = part_given number gave
-part_by number (event.Ended now place own gave) = part_given number gave
+part_by number (event.Ended now place own is_by_reader gave) = part_given number gave
 part_by number (event.Looked place gave) = part_given number gave
 part_by number (event.Laid gave) = part_given number gave
 part_by number (event.Worked place own gave) = part_given number gave

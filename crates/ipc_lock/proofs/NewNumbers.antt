@@ -5,8 +5,9 @@ use Rattle.std.specs.List.{IsDistinct}
 use Rattle.ipc_core.specs.Outcomes.{is_among}
 use Rattle.ipc_core.proofs.BookLemmas.{taken_once}
 use Rattle.ipc_lock.specs.InsideParts.{InsideParts}
-use Rattle.ipc_lock.specs.Logs.{LogsNumberOnce, numbers_by, numbers_in}
+use Rattle.ipc_lock.specs.Logs.{LogsNumberOnce, numbers_in}
 use Rattle.ipc_lock.specs.Numbering.{is_taken}
+use Rattle.ipc_lock.specs.Owning.{numbers_by}
 use Rattle.ipc_lock.specs.Turns.{Goes, Starts, Turn}
 use Rattle.ipc_lock.specs.declared.events.Event.{Event}
 use Rattle.ipc_lock.specs.declared.events.Event.TheVariants as event
@@ -28,7 +29,7 @@ numbers_of C P before after (event.Connected place number) h = record { numbers 
 numbers_of C P before after (event.Declined number) h = record { numbers = h.numbers; new = h.is_new }
 numbers_of C P before after (event.Acted now commands answers gave) h = record { numbers = same_numbers before after h.numbers; new = tt }
 numbers_of C P before after (event.Asked now place owns requests space said gave) h = record { numbers = same_numbers before after h.numbers; new = tt }
-numbers_of C P before after (event.Ended now place number gave) h = record { numbers = same_numbers before after h.numbers; new = tt }
+numbers_of C P before after (event.Ended now place number is_by_reader gave) h = record { numbers = same_numbers before after h.numbers; new = tt }
 numbers_of C P before after (event.Posted place number said) h = record { numbers = same_numbers before after h.numbers; new = tt }
 numbers_of C P before after (event.Looked place gave) h = record { numbers = same_numbers before after h.numbers; new = tt }
 numbers_of C P before after (event.Laid gave) h = record { numbers = same_numbers before after h.numbers; new = tt }
@@ -51,7 +52,7 @@ still_once (event.Connected place number) taken new once = taken_once taken numb
 still_once (event.Declined number) taken new once = taken_once taken number once (among_taken number taken ∙ new)
 still_once (event.Acted now commands answers gave) taken new once = with_none taken once
 still_once (event.Asked now place owns requests space said gave) taken new once = with_none taken once
-still_once (event.Ended now place number gave) taken new once = with_none taken once
+still_once (event.Ended now place number is_by_reader gave) taken new once = with_none taken once
 still_once (event.Posted place number said) taken new once = with_none taken once
 still_once (event.Looked place gave) taken new once = with_none taken once
 still_once (event.Laid gave) taken new once = with_none taken once

@@ -19,12 +19,15 @@ use Rattle.ipc_lock.specs.Boxes.{BoxParts, Loads, changed_at, is_of, posted_to}
 use Rattle.ipc_lock.specs.Gifts.{gifts, no_errands, number_in, work_gifts}
 use Rattle.ipc_lock.specs.Groups.{IsGroupAt}
 use Rattle.ipc_lock.specs.InsideParts.{LoggedParts}
+use Rattle.ipc_log.specs.Views.{Known}
+use Rattle.ipc_lock.specs.Owning.{Begins, Knows, Makes, Sees}
 use Rattle.ipc_lock.specs.Parting.{IsBehind, IsPartOf}
 use Rattle.ipc_lock.specs.Places.{EndsAt, FreesSome, LoadsOne, OnlyLoads, TakesBack, WorksFor, is_empty_in, is_in, is_shut_in, shut_for, thread_for}
 use Rattle.ipc_lock.specs.Rounds.{Carries}
 use Rattle.ipc_lock.specs.Telling.{ActsAndTells, AsksAndTells}
 use Rattle.ipc_lock.specs.Turns.{Runs, Turned}
 use Rattle.ipc_lock.specs.declared.errands.Errands.{Errands}
+use Rattle.ipc_lock.specs.declared.events.Event.{Event}
 use Rattle.ipc_lock.specs.declared.events.Event.TheVariants as event
 use Rattle.ipc_lock.specs.declared.part.Behind.{Behind}
 use Rattle.ipc_lock.specs.declared.part.HeldPart.{HeldPart}
@@ -56,50 +59,56 @@ pub record IsReady (number : ℕ) (box : Option BoxParts) : Type 0 where
 abbrev pub is_gone : ℕ → Option BoxParts → Bool
 is_gone number box = not (is_in number box) || is_shut_in box
 
--- the box of this place was so
-pub record GoneSome (C P : Type 0) (place number : ℕ) : Type 0 where
+-- the box of this place was so, and its end, which knew the log up to there, saw that
+pub record GoneSome (C P : Type 0) (place : ℕ) (own own_now : Known Event) : Type 0 where
   pub logged : LoggedParts
   pub runs : Runs C P logged.log logged.inside
-  pub gone : is_gone number (slice_get logged.inside.boxes place) ≡ true
+  pub sees : Sees own own_now logged.log
+  pub gone : is_gone own.number (slice_get logged.inside.boxes place) ≡ true
 
 -- a reader's step was made and logged: at this moment, by this seat, what this request asks for
--- from this space, and it was told so, in the box of this place, which was that of the connection
--- of this number, open and empty; the pens that came out behind it went round until all were laid
--- down
-pub record AsksSome {C : Type 0} (P : Type 0) (now place number : ℕ) (seat : Option (CallSeat C)) (asked : Request) (space : ℕ) (said : Told) : Type 0 where
+-- from this space, and it was told so, in the box of this place, which was that of its
+-- connection, open and empty; the pens that came out behind it went round until all were laid
+-- down. Of all that the log says of this end it is the one event more
+pub record AsksSome {C : Type 0} (P : Type 0) (now place : ℕ) (seat : Option (CallSeat C)) (asked : Request) (space : ℕ) (said : Told)
+    (own own_now : Known Event) : Type 0 where
   pub before : LoggedParts
   pub after : LoggedParts
   pub pens : Errands P
   pub left : Errands P
-  pub ready : IsReady number (slice_get before.inside.boxes place)
+  pub ready : IsReady own.number (slice_get before.inside.boxes place)
   pub turned : Turned C P before after (event.Asked now place (number_in (slice_get before.inside.boxes place)) (asked ∷ []) space said (gifts pens))
+  pub makes : Makes own own_now before.log after.log
+      (event.Asked now place (number_in (slice_get before.inside.boxes place)) (asked ∷ []) space said (gifts pens))
   pub asks : AsksAndTells before.inside.upkeep after.inside.upkeep before.inside.kernel after.inside.kernel now seat asked space said before.inside.owners
       place before.inside.boxes after.inside.boxes no_errands pens
   pub carries : Carries pens left
 
 -- the same; or no step was made, and it was refused, as its box was shut
-abbrev pub AsksOrRefuses : {C : Type 0} (P : Type 0) → ℕ → ℕ → ℕ → Option (CallSeat C) → Request → ℕ → Told → Type 0
-AsksOrRefuses {C} P now place number seat asked space said =
-    AsksSome P now place number seat asked space said ⊎ ((said ≡ told.Refused NoThread) × GoneSome C P place number)
+abbrev pub AsksOrRefuses : {C : Type 0} (P : Type 0) → ℕ → ℕ → Option (CallSeat C) → Request → ℕ → Told → Known Event → Known Event → Type 0
+AsksOrRefuses {C} P now place seat asked space said own own_now =
+    AsksSome P now place seat asked space said own own_now ⊎ ((said ≡ told.Refused NoThread) × GoneSome C P place own own_now)
 
--- this was left in the box of this place, which was that of the connection of this number, open and
--- empty, and no other box changed; where its pen came out then it went round until it was laid down
-pub record PostsSome (C P : Type 0) (place number : ℕ) (said : Told) : Type 0 where
+-- this was left in the box of this place, which was that of the end's connection, open and
+-- empty, and no other box changed; where its pen came out then it went round until it was laid
+-- down. Of all that the log says of this end it is the one event more
+pub record PostsSome (C P : Type 0) (place : ℕ) (said : Told) (own own_now : Known Event) : Type 0 where
   pub before : LoggedParts
   pub between : LoggedParts
   pub after : LoggedParts
   pub pens : Errands P
   pub left : Errands P
-  pub ready : IsReady number (slice_get before.inside.boxes place)
+  pub ready : IsReady own.number (slice_get before.inside.boxes place)
   pub posted : Turned C P before between (event.Posted place (number_in (slice_get before.inside.boxes place)) said)
+  pub makes : Makes own own_now before.log between.log (event.Posted place (number_in (slice_get before.inside.boxes place)) said)
   pub looked : Turned C P between after (event.Looked place (gifts pens))
   pub posts : LoadsOne (Some place) between.inside.kernel after.inside.kernel (changed_at (posted_to said) before.inside.boxes place) after.inside.boxes
       no_errands pens
   pub carries : Carries pens left
 
 -- the same, or the box was shut
-abbrev pub PostsOrDrops : (C P : Type 0) → ℕ → ℕ → Told → Type 0
-PostsOrDrops C P place number said = PostsSome C P place number said ⊎ GoneSome C P place number
+abbrev pub PostsOrDrops : (C P : Type 0) → ℕ → Told → Known Event → Known Event → Type 0
+PostsOrDrops C P place said own own_now = PostsSome C P place said own own_now ⊎ GoneSome C P place own own_now
 
 -- these are the entries from a place on, as many as a group has
 pub record GroupOfSome (C P : Type 0) (index : ℕ) (group : List Entry) : Type 0 where
@@ -146,29 +155,36 @@ pub record EndsAPart (C P : Type 0) (place : ℕ) (behind : Behind) : Type 0 whe
   pub is_behind : IsBehind before.inside.kernel.history before.inside.kernel.taken place behind
 
 -- a connection got this number, which was never taken, and the box of this place, which was no
--- connection's or is a further one, and is as new
-pub record ConnectsSome (C P : Type 0) (place number : ℕ) : Type 0 where
+-- connection's or is a further one, and is as new. Its end knows that this is all it did
+pub record ConnectsSome (C P : Type 0) (place : ℕ) (own : Known Event) : Type 0 where
   pub before : LoggedParts
   pub after : LoggedParts
-  pub turned : Turned C P before after (event.Connected place number)
+  pub turned : Turned C P before after (event.Connected place own.number)
+  pub begins : Begins own after.log (event.Connected place own.number)
 
 -- the box of this place was given back, where it is that of the connection of this number: nothing
--- is left in it, it is free, and no thread is told there any more
-pub record ReleasesSome (C P : Type 0) (place number : ℕ) : Type 0 where
+-- is left in it, it is free, and no thread is told there any more. Its end knew all that it did
+pub record ReleasesSome (C P : Type 0) (place : ℕ) (own : Known Event) : Type 0 where
   pub before : LoggedParts
   pub after : LoggedParts
-  pub turned : Turned C P before after (event.Released place number)
-  pub frees : FreesSome before.inside.boxes place number
+  pub knew : Knows own before.log
+  pub turned : Turned C P before after (event.Released place own.number)
+  pub frees : FreesSome before.inside.boxes place own.number
 
--- the box of this place, where it is that of the connection of this number, was shut, and the
--- thread that was told there, if any, was broken at this moment by one step
-pub record EndsSome (C P : Type 0) (now place number : ℕ) : Type 0 where
+-- the box of this place, where it is that of the connection of this number, was shut by its reader
+-- or its writer, and the thread that was told there, if any, was broken at this moment by one step
+pub record EndsSome (C P : Type 0) (now place number : ℕ) (is_by_reader : Bool) : Type 0 where
   pub before : LoggedParts
   pub after : LoggedParts
   pub pens : Errands P
-  pub turned : Turned C P before after (event.Ended now place number (gifts pens))
+  pub turned : Turned C P before after (event.Ended now place number is_by_reader (gifts pens))
   pub ends : EndsAt before.inside.upkeep after.inside.upkeep before.inside.kernel after.inside.kernel now (thread_for number (slice_get before.inside.boxes place))
   pub shut : OnlyLoads (changed_at (shut_for number) before.inside.boxes place) after.inside.boxes
+
+-- the same by its reader, whose end made no event but this one
+pub record HangsUpSome (C P : Type 0) (now place : ℕ) (own own_now : Known Event) : Type 0 where
+  pub ends : EndsSome C P now place own.number true
+  pub makes : Makes own own_now ends.before.log ends.after.log (event.Ended now place own.number true (gifts ends.pens))
 
 -- the pen of the connection of this number came out of the box of this place, with what is told
 -- next, or as it is, within a frame

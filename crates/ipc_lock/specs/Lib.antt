@@ -16,4 +16,5 @@ pub mod InsideParts
 pub mod Gifts
 pub mod Making
 pub mod Turns
+pub mod Owning
 pub mod Logs

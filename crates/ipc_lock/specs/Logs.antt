@@ -18,6 +18,7 @@ use Rattle.ipc_connection.specs.declared.given.Given.{Given}
 use Rattle.ipc_connection.specs.declared.given.Given.TheVariants as given
 use Rattle.ipc_lock.specs.InsideParts.{InsideParts}
 use Rattle.ipc_lock.specs.Making.{accepted_of, made_in}
+use Rattle.ipc_lock.specs.Owning.{done_by, numbers_by}
 use Rattle.ipc_lock.specs.Turns.{Runs}
 use Rattle.ipc_lock.specs.declared.events.Event.{Event}
 use Rattle.ipc_lock.specs.declared.events.Event.TheVariants as event
@@ -27,7 +28,7 @@ use Rattle.ipc_lock.specs.declared.events.Gift.{Gift}
 abbrev pub gifts_by : Event → List Gift
 gifts_by (event.Acted now commands answers gave) = gave
 gifts_by (event.Asked now place number requests space said gave) = gave
-gifts_by (event.Ended now place number gave) = gave
+gifts_by (event.Ended now place number is_by_reader gave) = gave
 gifts_by (event.Looked place gave) = gave
 gifts_by (event.Laid gave) = gave
 gifts_by (event.Worked place number gave) = gave
@@ -60,7 +61,7 @@ abbrev pub calls_by : Event → List ℕ
 calls_by (event.Took thread taken outcomes) = map (λ (o : OutcomeParts). o.call) outcomes
 calls_by (event.Acted now commands answers gave) = calls_of gave
 calls_by (event.Asked now place number requests space said gave) = calls_of gave
-calls_by (event.Ended now place number gave) = calls_of gave
+calls_by (event.Ended now place number is_by_reader gave) = calls_of gave
 calls_by (event.Looked place gave) = calls_of gave
 calls_by (event.Laid gave) = calls_of gave
 calls_by (event.Worked place number gave) = calls_of gave
@@ -85,22 +86,7 @@ pub record LeadsWell (inside : InsideParts) : Type 0 where
 abbrev pub LogsLeadWell : (C P : Type 0) → Type 0
 LogsLeadWell C P = (log : List Event) (inside : InsideParts) → Runs C P log inside → LeadsWell inside
 
--- the number that an event gave, to a connection that got a box, or for which there was no memory
-abbrev pub numbers_by : Event → List ℕ
-numbers_by (event.Connected place number) = number ∷ []
-numbers_by (event.Declined number) = number ∷ []
-numbers_by (event.Acted now commands answers gave) = []
-numbers_by (event.Asked now place number requests space said gave) = []
-numbers_by (event.Ended now place number gave) = []
-numbers_by (event.Posted place number said) = []
-numbers_by (event.Looked place gave) = []
-numbers_by (event.Laid gave) = []
-numbers_by (event.Worked place number gave) = []
-numbers_by (event.Released place number) = []
-numbers_by (event.Took thread taken outcomes) = []
-numbers_by (event.Marked upto) = []
-numbers_by event.Parted = []
-
+-- the numbers that the events of a log gave
 abbrev pub numbers_in : List Event → List ℕ
 numbers_in [] = []
 numbers_in (next ∷ log) = numbers_by next ++ numbers_in log
@@ -215,3 +201,9 @@ abbrev pub LogsTellOwners : (C P : Type 0) → Type 0
 LogsTellOwners C P =
     (log : List Event) (inside : InsideParts) → Runs C P log inside
     → (number : ℕ) → AreOwn inside.kernel.history (opened_for number log) (said_for number log) (given_to number log)
+
+-- what a log says that a connection was told, and which threads its requests opened, is what the
+-- events say that its reader's end made
+abbrev pub EndsKnowAll : Type 0
+EndsKnowAll = (number : ℕ) (log : List Event)
+    → (said_for number (done_by number log) ≡ said_for number log) × (opened_for number (done_by number log) ≡ opened_for number log)

@@ -62,7 +62,7 @@ asked_for requests space said = []
 abbrev pub made_by : Event → List Accepted
 made_by (event.Acted now commands answers gave) = made_for commands answers
 made_by (event.Asked now place number requests space said gave) = asked_for requests space said
-made_by (event.Ended now place number gave) = []
+made_by (event.Ended now place number is_by_reader gave) = []
 made_by (event.Looked place gave) = []
 made_by (event.Laid gave) = []
 made_by (event.Worked place number gave) = []

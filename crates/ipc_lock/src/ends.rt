@@ -1,16 +1,18 @@
 //! The two ends of a connection's box. Neither has a copy, so no worker reaches the box of another
 //! connection.
+use crate::events::Event;
 use crate::seated::CallSeat;
-use std::sync::ledger::Ledger;
+use ipc_log::{Naming, Own};
 
-/// The end of a connection's reader: the box that it posts to, the connection's number, the space
-/// that it opens its thread in, and the seat by which that thread calls, once it was opened.
+/// The end of a connection's reader: the box that it posts to, the space that it opens its thread
+/// in, the seat by which that thread calls, once it was opened, and the connection's number, with
+/// what it knows of the one log: which events it made.
 #[derive(Drop)]
-pub struct PostEnd<C: Ledger> {
+pub struct PostEnd<C: Naming> {
     pub(crate) place: usize,
-    pub(crate) number: u64,
     pub(crate) space: u64,
     pub(crate) seat: Option<CallSeat<C>>,
+    pub(crate) own: Own<Event, C>,
 }
 
 /// The end of a connection's writer: the box that it takes from, and the connection's number.

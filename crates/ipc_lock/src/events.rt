@@ -4,6 +4,7 @@ use ipc_base::Past;
 use ipc_connection::{Given, Request, Told};
 use ipc_core::{Answer, Command};
 use ipc_history::Outcome;
+use ipc_log::Entry;
 use ipc_words::ThreadId;
 
 /// What the connection of a number was given.
@@ -42,11 +43,12 @@ pub(crate) enum Event {
         said: Told,
         gave: Past<Gift>,
     },
-    /// A connection ended.
+    /// A connection was ended, by its reader or by its writer.
     Ended {
         now: u64,
         place: usize,
         number: u64,
+        is_by_reader: bool,
         gave: Past<Gift>,
     },
     /// Something was posted in a box.
@@ -87,4 +89,12 @@ pub(crate) enum Event {
     },
     /// A part of a trace was asked for.
     Parted,
+}
+
+impl Entry for Event {
+    ghost use Rattle.ipc_lock.specs.Owning.{is_by, numbers_by};
+
+    ghost is_of = { is_by };
+
+    ghost begins = { numbers_by };
 }

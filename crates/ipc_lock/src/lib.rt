@@ -2,6 +2,7 @@
 //! box, whose pen is handed from thread to thread.
 #![tactic(auto)]
 
+mod blank_log;
 mod copying;
 mod ends;
 mod entered;
@@ -20,8 +21,10 @@ mod seated;
 mod shared_kernel;
 mod upkeep;
 
+pub use blank_log::BlankLog;
 pub use ends::{PostEnd, TakeEnd};
 pub use entered::Entered;
+pub use ipc_log::Naming;
 pub use not_given::NotGiven;
 pub use part::{Behind, HeldPart};
 pub use post_box::Loaded;

@@ -1,4 +1,4 @@
-//! What stands under the lock, and the list of all that was done to it, which proofs alone know.
+//! What stands under the lock, and the log of all that was done to it, which proofs alone know.
 ghost use Rattle.std.specs.Prelude.{◌≡◌, ◌^◌, [], IfErr, IfOk, min};
 ghost use Rattle.ipc_lock.specs.Turns.{first_inside};
 ghost use Rattle.ipc_words.specs.Limits.{max_calls, max_entries};
@@ -14,24 +14,24 @@ mod waking;
 use crate::events::Event;
 use crate::inside::Inside;
 use crate::numbers::Numbers;
-use ipc_base::Past;
 use ipc_connection::PenPort;
 use ipc_core::{Limits, Refusal};
+use ipc_log::{Keeper, Naming};
 use std::alloc::Global;
 use std::marker::Model;
 use std::sync::ledger::{Blank, Ledger};
 
-/// What stands under the lock, the numbers of connections, and all that was done so far, oldest
-/// first: from an empty kernel without boxes those events lead to what stands here, one after the
-/// other. The list only grows.
+/// What stands under the lock, the numbers of connections, and who keeps the log of all that was
+/// done so far: from an empty kernel without boxes those events lead to what stands here, one after
+/// the other. Nobody else adds to the log.
 #[derive(Drop)]
-pub(crate) struct Logged<C: Ledger, T: Ledger, P: PenPort + Drop> {
+pub(crate) struct Logged<C: Naming, T: Ledger, P: PenPort + Drop> {
     inside: Inside<C, T, P>,
     numbers: Numbers,
-    log: Past<Event>,
+    keeper: Keeper<Event, C>,
 }
 
-impl<C: Ledger, T: Ledger, P: PenPort + Drop> Model for Logged<C, T, P> {
+impl<C: Naming, T: Ledger, P: PenPort + Drop> Model for Logged<C, T, P> {
     ghost use Rattle.ipc_lock.specs.InsideParts.{LoggedParts};
 
     ghost Value = { LoggedParts };
@@ -41,24 +41,25 @@ impl<C: Ledger, T: Ledger, P: PenPort + Drop> Model for Logged<C, T, P> {
 
     ghost view = { λ l. record {
       inside = parts_of l.inside l.numbers;
-      log = l.log;
+      log = l.keeper;
       begun = l.inside.begun;
       is_work_over = l.inside.is_work_over;
       closed = l.inside.closed;
       is_awaited = l.inside.is_awaited;
     } };
 
-    ghost invariant = { λ l. Runs C P l.log (parts_of l.inside l.numbers) };
+    ghost invariant = { λ l. Runs C P l.keeper (parts_of l.inside l.numbers) };
 }
 
-impl<C: Ledger, T: Ledger, P: PenPort + Drop> Logged<C, T, P> {
-    /// An empty kernel, with the books of two new ledgers, and no box: nothing was done. The only
+impl<C: Naming, T: Ledger, P: PenPort + Drop> Logged<C, T, P> {
+    /// An empty kernel, with the books of two new ledgers and a new log, and no box. The only
     /// refusal is K4.
     pub(crate) fn new(
         alloc: Global,
         limits: Limits,
         calls: Blank,
         takes: Blank,
+        keeper: Keeper<Event, C>,
     ) -> Result<Self, Refusal>
         requires calls_name { calls.name ≡ C.name }
         requires calls_parts { calls.parts ≡ C.parts }
@@ -66,6 +67,7 @@ impl<C: Ledger, T: Ledger, P: PenPort + Drop> Logged<C, T, P> {
         requires takes_name { takes.name ≡ T.name }
         requires takes_parts { takes.parts ≡ T.parts }
         requires many_takes { takes.parts ≡ 2 ^ 63 }
+        requires nothing { keeper ≡ [] }
         ensures log { IfOk result (λ logged. logged.log ≡ []) }
         ensures inside { IfOk result (λ logged. logged.inside
             ≡ first_inside (min limits.entries max_entries) (min limits.calls max_calls)) }
@@ -75,7 +77,7 @@ impl<C: Ledger, T: Ledger, P: PenPort + Drop> Logged<C, T, P> {
         Ok(Logged {
             inside,
             numbers: Numbers::new(),
-            log: Past::new(),
+            keeper,
         })
     }
 }

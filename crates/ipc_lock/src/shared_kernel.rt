@@ -11,20 +11,24 @@ mod parting;
 mod reading;
 mod working;
 
+use crate::blank_log::BlankLog;
 use crate::errands::Errands;
+use crate::events::Event;
 use crate::inside::After;
 use crate::logged::Logged;
 use crate::seated::{Answered, CallSeat, TakeSeat, Taken};
 use ipc_connection::PenPort;
 use ipc_core::{Command, Limits, Refusal};
+use ipc_log::{Log, Naming};
 use std::alloc::Global;
 use std::sync::ledger::{Blank, Ledger};
 use std::sync::{Condvar, Mutex, Wait};
 
-/// One kernel for all workers of a server, and a box for each connection, which has a pen of the
-/// port `P`.
+/// One kernel for all workers of a server, with one log of all that was done, and a box for each
+/// connection, which has a pen of the port `P`.
 #[derive(Drop)]
-pub struct SharedKernel<C: Ledger, T: Ledger, P: PenPort + Drop> {
+pub struct SharedKernel<C: Naming, T: Ledger, P: PenPort + Drop> {
+    log: Log<Event, C>,
     inside: Mutex<Logged<C, T, P>>,
     work: Condvar,
     strays: Condvar,
@@ -33,20 +37,29 @@ pub struct SharedKernel<C: Ledger, T: Ledger, P: PenPort + Drop> {
     alloc: Global,
 }
 
-impl<C: Ledger, T: Ledger, P: PenPort + Drop> SharedKernel<C, T, P> {
+impl<C: Naming, T: Ledger, P: PenPort + Drop> SharedKernel<C, T, P> {
     /// An empty kernel without boxes, whose entries are all held until [`SharedKernel::mark`] is
     /// called. The only refusal is K4.
-    pub fn new(alloc: Global, limits: Limits, calls: Blank, takes: Blank) -> Result<Self, Refusal>
+    pub fn new(
+        alloc: Global,
+        limits: Limits,
+        calls: Blank,
+        takes: Blank,
+        log: BlankLog,
+    ) -> Result<Self, Refusal>
         requires calls_name { calls.name ≡ C.name }
         requires calls_parts { calls.parts ≡ C.parts }
         requires many_calls { calls.parts ≡ 2 ^ 63 }
         requires takes_name { takes.name ≡ T.name }
         requires takes_parts { takes.parts ≡ T.parts }
         requires many_takes { takes.parts ≡ 2 ^ 63 }
+        requires log_table { log ≡ C.table }
         ensures { IfErr result (λ refusal. refusal ≡ Refusal.NoMemory) }
     {
-        let inside = Logged::new(alloc, limits, calls, takes)?;
+        let (log, keeper) = log.open::<C>();
+        let inside = Logged::new(alloc, limits, calls, takes, keeper)?;
         Ok(SharedKernel {
+            log,
             inside: Mutex::new(inside),
             work: Condvar::new(),
             strays: Condvar::new(),
@@ -90,7 +103,7 @@ impl<C: Ledger, T: Ledger, P: PenPort + Drop> SharedKernel<C, T, P> {
     {
         let mut errands = Errands::none();
         let mut inside = self.inside(rt);
-        let (answered, after) = inside.act_and_tell(now, seat, command, &mut errands);
+        let (answered, after) = inside.act_and_tell(&self.log, now, seat, command, &mut errands);
         drop(inside);
         if wakes_mover {
             self.wake_mover(&after);
@@ -112,7 +125,7 @@ impl<C: Ledger, T: Ledger, P: PenPort + Drop> SharedKernel<C, T, P> {
     {
         let mut inside = self.inside(rt);
         for _ in rt.forever() {
-            if let Some(taken) = inside.take_for(seat) {
+            if let Some(taken) = inside.take_for(&self.log, seat) {
                 return Some(taken);
             }
             if !inside.is_live(seat) {
@@ -149,7 +162,7 @@ impl<C: Ledger, T: Ledger, P: PenPort + Drop> SharedKernel<C, T, P> {
                 return;
             }
             errands.write();
-            self.inside(rt).take_back(errands);
+            self.inside(rt).take_back(&self.log, errands);
         }
     }
 }

@@ -1,5 +1,5 @@
 -- What was asked by an end, as calls of a kernel port.
-use Rattle.std.proofs.Common.{◌≡◌, ℕ, List, [], ◌∷◌, ◌++◌, map, drop, Option, Some, None, refl, ap, subst, ◌∙◌}
+use Rattle.std.proofs.Common.{◌≡◌, ℕ, List, [], ◌∷◌, ◌++◌, map, drop, Option, Some, None, refl, sym, ap, subst, ◌∙◌}
 use Rattle.std.proofs.lemmas.List.{map-append}
 use Rattle.ipc_frame.specs.declared.frame.Frame.{Frame}
 use Rattle.ipc_frame.specs.declared.frame.Frame.TheVariants as frame
@@ -10,8 +10,8 @@ use Rattle.ipc_connection.specs.declared.stage.Stage.{Stage}
 use Rattle.ipc_connection.specs.declared.stage.Stage.TheVariants.{Greeting}
 use Rattle.ipc_lock.specs.declared.ends.PostEnd.{PostEnd}
 use Rattle.ipc_base.specs.Ports.{Gives, input_of}
-use Rattle.ipc_server.proofs.DoingLemmas.{same_home}
-use Rattle.ipc_server.specs.Doing.{AsksBy, told_at, unseated}
+use Rattle.ipc_server.proofs.DoingLemmas.{at_home}
+use Rattle.ipc_server.specs.Doing.{AsksBy, BreaksBy, IsAtHome, PostsIfLeft, PostsWith, told_at}
 use Rattle.ipc_session.specs.Keeping.{call_of}
 use Rattle.ipc_session.specs.Reading.{EndsSo, HasEnded, HasServed, Log}
 use Rattle.ipc_session.specs.Sessions.{AsksFor, deed_of, deeds_left}
@@ -23,31 +23,42 @@ use Rattle.ipc_session.specs.declared.ending.Ending.TheVariants as ending
 abbrev Tells : {C : Type 0} → PostEnd C → PostEnd C → List Deed → List Deed → List KernelCall → Type 0
 Tells end end_now old new calls = TellsMore (Some (told_at end old)) (Some (told_at end_now new)) calls
 
-tells_on : {C : Type 0} (end end_now : PostEnd C) (old new : List Deed) (calls : List KernelCall) → unseated end_now ≡ unseated end
+same_told : {C : Type 0} (end end_now : PostEnd C) (deeds : List Deed) → IsAtHome end end_now → told_at end_now deeds ≡ told_at end deeds
+same_told end end_now deeds home =
+    ap (λ (p : ℕ). Posts (frame.Fault p end_now.own.number) ∷ Posts (frame.Refused end_now.space) ∷ map call_of deeds) home.place
+    ∙ (ap (λ (n : ℕ). Posts (frame.Fault end.place n) ∷ Posts (frame.Refused end_now.space) ∷ map call_of deeds) home.number
+    ∙ ap (λ (s : ℕ). Posts (frame.Fault end.place end.own.number) ∷ Posts (frame.Refused s) ∷ map call_of deeds) home.space)
+
+tells_on : {C : Type 0} (end end_now : PostEnd C) (old new : List Deed) (calls : List KernelCall) → IsAtHome end end_now
     → map call_of new ≡ map call_of old ++ calls → Tells end end_now old new calls
 tells_on end end_now old new calls home is =
-    ap (λ e. told_at e new) home ∙ ap (λ (l : List KernelCall). Posts (frame.Fault end.place end.number) ∷ Posts (frame.Refused end.space) ∷ l) is
+    same_told end end_now new home
+    ∙ ap (λ (l : List KernelCall). Posts (frame.Fault end.place end.own.number) ∷ Posts (frame.Refused end.space) ∷ l) is
 
 pub tells_asked : {C : Type 0} (P : Type 0) (end end_now : PostEnd C) (old new : List Deed) (request : Request) (told : Told) → AsksBy P end request told end_now
     → new ≡ old ++ deed.Asked request told ∷ [] → Tells end end_now old new (Asks request told ∷ [])
 tells_asked P end end_now old new request told asks is =
-    tells_on end end_now old new (Asks request told ∷ []) (same_home end end_now asks.place asks.number asks.space)
+    tells_on end end_now old new (Asks request told ∷ []) asks.home
     (ap (map call_of) is ∙ map-append call_of old (deed.Asked request told ∷ []))
 
-pub tells_posted : {C : Type 0} (end end_now : PostEnd C) (old new : List Deed) (told : Told) → end_now ≡ end → new ≡ old ++ deeds_left told
-    → Tells end end_now old new (left_to_post told)
-tells_posted end end_now old new told same is =
-    tells_on end end_now old new (left_to_post told) (ap unseated same)
+pub tells_posted : {C : Type 0} (P : Type 0) (end end_now : PostEnd C) (old new : List Deed) (told : Told) → PostsIfLeft P end told end_now
+    → new ≡ old ++ deeds_left told → Tells end end_now old new (left_to_post told)
+tells_posted P end end_now old new told posts is =
+    tells_on end end_now old new (left_to_post told) (home (posted told) posts)
     (ap (map call_of) is ∙ (map-append call_of old (deeds_left told) ∙ ap (λ (l : List KernelCall). map call_of old ++ l) (left (posted told))))
   where
     left : (frame : Option Frame) → map call_of (deed_of frame) ≡ post_of frame
     left None = refl
     left (Some frame) = refl
 
-pub tells_broke : {C : Type 0} (end end_now : PostEnd C) (old new : List Deed) → end_now ≡ end → new ≡ old ++ deed.Broke ∷ []
+    home : (f : Option Frame) → PostsWith P end f end_now → IsAtHome end end_now
+    home None same = subst (λ e. IsAtHome end e) (sym same) (at_home end)
+    home (Some frame) by = by.home
+
+pub tells_broke : {C : Type 0} (P : Type 0) (end end_now : PostEnd C) (old new : List Deed) → BreaksBy P end end_now → new ≡ old ++ deed.Broke ∷ []
     → Tells end end_now old new (Breaks ∷ [])
-tells_broke end end_now old new same is =
-    tells_on end end_now old new (Breaks ∷ []) (ap unseated same) (ap (map call_of) is ∙ map-append call_of old (deed.Broke ∷ []))
+tells_broke P end end_now old new breaks is =
+    tells_on end end_now old new (Breaks ∷ []) breaks.home (ap (map call_of) is ∙ map-append call_of old (deed.Broke ∷ []))
 
 -- whose port tells these calls
 place_in : List KernelCall → ℕ
@@ -63,9 +74,9 @@ space_in (first ∷ Posts (frame.Refused space) ∷ calls) = space
 space_in calls = 0
 
 -- a port that told nothing is that of the same end
-same_port : {C : Type 0} (end end_now : PostEnd C) (new : List Deed) (calls : List KernelCall) → Tells end end_now [] new calls → unseated end_now ≡ unseated end
+same_port : {C : Type 0} (end end_now : PostEnd C) (new : List Deed) (calls : List KernelCall) → Tells end end_now [] new calls → IsAtHome end end_now
 unfolding place_in number_in space_in
-same_port end end_now new calls h = same_home end end_now (ap place_in h) (ap number_in h) (ap space_in h)
+same_port end end_now new calls h = record { place = ap place_in h; number = ap number_in h; space = ap space_in h }
 
 -- what was told so to an ending, whoever tells
 tells_of : (ended : Ending) (old new : Log) (bytes : List ℕ) (input : Option (List ℕ)) (last : List KernelCall) → EndsSo ended old new bytes input last
@@ -123,7 +134,7 @@ asks_for came came_now left left_now ended end end_now old new none h = record {
 }
 
 pub stays_home : {C : Type 0} (came came_now left left_now : Option (List ℕ)) (ended : Ending) (end end_now : PostEnd C) (old new : List Deed) → old ≡ []
-    → Reads came came_now left left_now ended end end_now old new → unseated end_now ≡ unseated end
+    → Reads came came_now left left_now ended end end_now old new → IsAtHome end end_now
 stays_home came came_now left left_now ended end end_now old new none h =
     let tells = tells_of ended _ _ h.0 left_now (Breaks ∷ [])
     (subst (λ (l : List Deed). EndsSo ended (Some (told_at end l)) (Some (told_at end_now new)) h.0 left_now (Breaks ∷ [])) none h.2) in

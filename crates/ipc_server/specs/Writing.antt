@@ -1,5 +1,5 @@
 -- What the writer of a connection does.
-use Rattle.std.specs.Prelude.{ℕ, Some}
+use Rattle.std.specs.Prelude.{ℕ, Some, false}
 use Rattle.ipc_lock.specs.Above.{EndsSome, EndsWorkSome, LaysSome, TakesOutSome}
 use Rattle.ipc_lock.specs.Places.{OnlyWrites}
 use Rattle.ipc_connection.specs.Pens.{Page}
@@ -23,4 +23,4 @@ pub record TakesTurn (C P : Type 0) (place number : ℕ) : Type 0 where
 pub record EndsWriting (C T P : Type 0) (place number : ℕ) : Type 0 where
   pub over : EndsWorkSome C T P place number
   pub now : ℕ
-  pub ends : EndsSome C P now place number
+  pub ends : EndsSome C P now place number false

@@ -12,6 +12,7 @@ use crate::serving::{Ports, Served, serve_connection, start_worker};
 use crate::socket::{Guest, SocketGate};
 use crate::working::{Alarm, OverGate, Worker};
 use ipc_host::{Admission, EagerStream, Notice, SocketPort};
+use ipc_lock::Naming;
 use ipc_session::{Open, move_loop, tick_loop};
 use std::io::ErrorKind;
 use std::os::unix::net::UnixStream;
@@ -34,7 +35,7 @@ const ROOM_TURN: u64 = 100;
 
 /// Serves all paths until each has had its connections and these have ended, or the service was
 /// stopped. False where a worker could not be started.
-pub fn serve_all<C: Ledger + Send, T: Ledger + Send, R>(
+pub fn serve_all<C: Naming + Send, T: Ledger + Send, R>(
     server: &Server<'_, C, T, SocketPort, R>,
     host: &Host,
 ) -> bool
@@ -54,7 +55,7 @@ where
 
 /// Starts the workers that no space has: the ticker, the mover, and those of signals, of counters
 /// and of who asks, where they are wanted. False where one could not be started.
-fn start_others<'s, E, C: Ledger + Send, T: Ledger + Send, R>(
+fn start_others<'s, E, C: Naming + Send, T: Ledger + Send, R>(
     scope: &Scope<'s, E>,
     server: &'s Server<'_, C, T, SocketPort, R>,
     host: &'s Host,
@@ -76,7 +77,7 @@ where
 }
 
 /// Stops the service once SIGINT or SIGTERM has come.
-fn watch_signals<C: Ledger, T: Ledger, R: Wait + Clock>(
+fn watch_signals<C: Naming, T: Ledger, R: Wait + Clock>(
     server: &Server<'_, C, T, SocketPort, R>,
     host: &Host,
 ) {
@@ -93,7 +94,7 @@ fn watch_signals<C: Ledger, T: Ledger, R: Wait + Clock>(
 }
 
 /// Tells counters once a minute, and at the end.
-fn log_counters<C: Ledger, T: Ledger, R: Wait + Clock + Eprint>(
+fn log_counters<C: Naming, T: Ledger, R: Wait + Clock + Eprint>(
     server: &Server<'_, C, T, SocketPort, R>,
     host: &Host,
 ) {
@@ -110,7 +111,7 @@ fn log_counters<C: Ledger, T: Ledger, R: Wait + Clock + Eprint>(
 }
 
 /// Tells the kernel the time where a phase is due, for the timeouts.
-fn tick<C: Ledger, T: Ledger, R: Wait + Clock>(
+fn tick<C: Naming, T: Ledger, R: Wait + Clock>(
     server: &Server<'_, C, T, SocketPort, R>,
     over: &AtomicBool,
 ) {
@@ -120,14 +121,14 @@ fn tick<C: Ledger, T: Ledger, R: Wait + Clock>(
 }
 
 /// Copies blocks while transfers go on that nobody else copies, and else waits for one.
-fn move_blocks<C: Ledger, T: Ledger, R: Wait + Clock>(server: &Server<'_, C, T, SocketPort, R>) {
+fn move_blocks<C: Naming, T: Ledger, R: Wait + Clock>(server: &Server<'_, C, T, SocketPort, R>) {
     let mut work_port = Worker::new(server);
     let _ = move_loop(&mut work_port, &mut Open::new(u64::MAX));
 }
 
 /// One worker for each path, until all have ended. False where one could not be started; the others
 /// are then stopped.
-fn accept_all<C: Ledger + Send, T: Ledger + Send, R>(
+fn accept_all<C: Naming + Send, T: Ledger + Send, R>(
     server: &Server<'_, C, T, SocketPort, R>,
     host: &Host,
 ) -> bool
@@ -149,7 +150,7 @@ where
 /// Takes connections until the path has had its number, if it has one, or the service is stopped,
 /// and starts a worker for each. An accept that fails counts for nothing: it is tried again once a
 /// connection has ended, or after 10 milliseconds.
-fn accept<C: Ledger + Send, T: Ledger + Send, R>(
+fn accept<C: Naming + Send, T: Ledger + Send, R>(
     server: &Server<'_, C, T, SocketPort, R>,
     host: &Host,
     listener: &Listener,
@@ -186,7 +187,7 @@ where
 
 /// Takes a connection in, once there is room for it, and answers its ticket. None: the server
 /// stops, or there is no memory; the connection is then closed.
-fn admit<C: Ledger, T: Ledger, R: Wait + Clock + Eprint>(
+fn admit<C: Naming, T: Ledger, R: Wait + Clock + Eprint>(
     server: &Server<'_, C, T, SocketPort, R>,
     host: &Host,
     space: u64,
@@ -243,7 +244,7 @@ fn let_go<R: Wait + Clock + Eprint>(rt: &R, host: &Host, ticket: u64, error: io:
 }
 
 /// What follows an accept that failed.
-fn miss<C: Ledger, T: Ledger, R: Wait + Clock + Eprint>(
+fn miss<C: Naming, T: Ledger, R: Wait + Clock + Eprint>(
     server: &Server<'_, C, T, SocketPort, R>,
     host: &Host,
     error: io::Error,
@@ -268,7 +269,7 @@ fn serve_guest<C, T, R>(
     stream: Arc<UnixStream>,
 )
 where
-    C: Ledger + Send,
+    C: Naming + Send,
     T: Ledger + Send,
     R: Threads + Wait + Clock + Eprint + Sync,
 {
@@ -296,7 +297,7 @@ fn serve_stream<'a, C, T, R>(
     writer: SocketPort,
 ) -> Served<EagerStream<'a, R>>
 where
-    C: Ledger + Send,
+    C: Naming + Send,
     T: Ledger + Send,
     R: Threads + Wait + Clock + Eprint + Sync,
     requires { writer.taken ≡ [] }

@@ -1,5 +1,5 @@
 ghost use Rattle.std.specs.Prelude.{◌≡◌, [], Some, None};
-ghost use Rattle.ipc_server.specs.Doing.{Does, told_at, unseated};
+ghost use Rattle.ipc_server.specs.Doing.{DidAll, IsNew, told_at};
 
 use crate::noted::NotedEnd;
 use crate::server::Server;
@@ -7,7 +7,7 @@ use crate::serving::Link;
 use ipc_connection::{PenPort, Request, Told, reply};
 use ipc_frame::{Frame, WireVersion};
 use ipc_host::{Notice, class_letter};
-use ipc_lock::{Entered, PostEnd};
+use ipc_lock::{Entered, Naming, PostEnd};
 use ipc_session::KernelPort;
 use ipc_words::ThreadId;
 use std::marker::Model;
@@ -16,9 +16,9 @@ use std::sync::Wait;
 use std::sync::ledger::Ledger;
 
 /// The kernel port of a connection's reader: the shared kernel, by the connection's own end. At
-/// every moment all that is noted of that end was done by it, in order.
+/// every moment all that is noted of that end was done by it, in order, and nothing else.
 #[derive(Drop)]
-pub struct Caller<'a, C: Ledger, T: Ledger, P: PenPort + Drop, R: Wait + Clock, G: Link> {
+pub struct Caller<'a, C: Naming, T: Ledger, P: PenPort + Drop, R: Wait + Clock, G: Link> {
     server: &'a Server<'a, C, T, P, R>,
     end: NotedEnd<C>,
     thread: Option<ThreadId>,
@@ -27,34 +27,35 @@ pub struct Caller<'a, C: Ledger, T: Ledger, P: PenPort + Drop, R: Wait + Clock, 
 
 impl<'a, C, T, P, R, G> Model for Caller<'a, C, T, P, R, G>
 where
-    C: Ledger,
+    C: Naming,
     T: Ledger,
     P: PenPort + Drop,
     R: Wait + Clock,
     G: Link,
 {
-    ghost use Rattle.ipc_server.specs.Doing.{Does, unseated};
+    ghost use Rattle.ipc_server.specs.Doing.{DidAll};
     ghost use Rattle.ipc_server.specs.declared.noted.NotedEnd.{NotedEnd};
 
     ghost Value = { NotedEnd C };
 
     ghost view = { λ port. port.end };
 
-    ghost invariant = { λ port. Does P (unseated port.end.end) port.end.deeds port.end.end };
+    ghost invariant = { λ port. DidAll P port.end.deeds port.end.end };
 }
 
 impl<'a, C, T, P, R, G> Caller<'a, C, T, P, R, G>
 where
-    C: Ledger,
+    C: Naming,
     T: Ledger,
     P: PenPort + Drop,
     R: Wait + Clock,
     G: Link + Drop,
 {
-    /// A port that opens its thread in the end's space. Nothing was asked by that end.
+    /// A port that opens its thread in the end's space. Nothing was asked by that end, which only
+    /// began.
     #[tactic(auto, using(crate::proofs::DoingLemmas::begins))]
     pub fn new(server: &'a Server<'a, C, T, P, R>, end: PostEnd<C>, link: G) -> Self
-        requires { end.seat ≡ None }
+        requires { IsNew P end }
         ensures end { result.end ≡ end }
         ensures deeds { result.deeds ≡ [] }
     {
@@ -69,7 +70,7 @@ where
     /// Its end, once its reader has ended, and what was asked by it.
     pub fn into_end(self) -> NotedEnd<C>
         ensures end { result ≡ self.entry }
-        ensures does { Does P (unseated result.end) result.deeds result.end }
+        ensures did { DidAll P result.deeds result.end }
     {
         let Caller { end, .. } = self;
         end
@@ -102,7 +103,7 @@ fn say<G: Link>(link: &G, told: Told, thread: Option<ThreadId>) {
 
 impl<C, T, P, R, G> KernelPort for Caller<'_, C, T, P, R, G>
 where
-    C: Ledger,
+    C: Naming,
     T: Ledger,
     P: PenPort + Drop,
     R: Wait + Clock,

@@ -8,6 +8,7 @@ use crate::part_answer::answer_with_part;
 use crate::paths::Door;
 use crate::server::Server;
 use ipc_host::SocketPort;
+use ipc_lock::Naming;
 use l4sh_state::{State, drops_of, tell_state};
 use std::alloc::AllocError;
 use std::io::{Read, Write};
@@ -49,7 +50,7 @@ const ROTATED: &str = "the next entries end the file\n";
 const UNTRACED: &str = "no trace\n";
 
 /// Answers those who ask, until the service ends.
-pub(crate) fn answer_askers<C: Ledger + Send, T: Ledger + Send, R>(
+pub(crate) fn answer_askers<C: Naming + Send, T: Ledger + Send, R>(
     server: &Server<'_, C, T, SocketPort, R>,
     host: &Host,
     door: &Door,
@@ -91,7 +92,7 @@ fn admit(host: &Host, stream: UnixStream) -> Option<UnixStream> {
 }
 
 /// Waits a little where nobody could be accepted.
-fn rest<C: Ledger, T: Ledger, R: Wait + Clock>(
+fn rest<C: Naming, T: Ledger, R: Wait + Clock>(
     server: &Server<'_, C, T, SocketPort, R>,
     host: &Host,
 ) {
@@ -117,7 +118,7 @@ fn leave(host: &Host) {
 }
 
 /// Hears the word of one who asks, and answers it. Who is slow is left: nothing waits for him.
-fn serve_asker<C: Ledger, T: Ledger, R: Wait + Clock>(
+fn serve_asker<C: Naming, T: Ledger, R: Wait + Clock>(
     server: &Server<'_, C, T, SocketPort, R>,
     host: &Host,
     stream: UnixStream,
@@ -132,7 +133,7 @@ fn serve_asker<C: Ledger, T: Ledger, R: Wait + Clock>(
 /// # Errors
 ///
 /// The system's; he was too slow.
-fn answer_over<C: Ledger, T: Ledger, R: Wait + Clock>(
+fn answer_over<C: Naming, T: Ledger, R: Wait + Clock>(
     server: &Server<'_, C, T, SocketPort, R>,
     host: &Host,
     stream: &UnixStream,
@@ -219,7 +220,7 @@ fn asked_by(bytes: &[u8]) -> Asked {
 }
 
 /// The answer; None where nothing was asked that is known.
-fn answer_to<C: Ledger, T: Ledger, R: Wait + Clock>(
+fn answer_to<C: Naming, T: Ledger, R: Wait + Clock>(
     server: &Server<'_, C, T, SocketPort, R>,
     host: &Host,
     asked: Asked,
@@ -257,7 +258,7 @@ fn threads_text<C: Ledger, T: Ledger, R: Wait>(
 }
 
 /// What each thread does at this moment, in the words of `l4sh state`.
-fn state_text<C: Ledger, T: Ledger, R: Wait + Clock>(
+fn state_text<C: Naming, T: Ledger, R: Wait + Clock>(
     server: &Server<'_, C, T, SocketPort, R>,
 ) -> Result<String, AllocError> {
     let State { threads, .. } = server.shared.state(server.rt);

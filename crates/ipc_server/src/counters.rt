@@ -2,12 +2,13 @@
 use crate::host::Host;
 use crate::server::Server;
 use ipc_host::{Counts, SocketPort};
+use ipc_lock::Naming;
 use std::fmt;
 use std::sync::Wait;
 use std::sync::ledger::Ledger;
 
 /// The counters of this moment.
-pub(crate) fn counters_now<C: Ledger, T: Ledger, R: Wait>(
+pub(crate) fn counters_now<C: Naming, T: Ledger, R: Wait>(
     server: &Server<'_, C, T, SocketPort, R>,
     host: &Host,
 ) -> Counters {

@@ -7,6 +7,7 @@ use crate::part_answer::{SLOW, write_part};
 use crate::parts::PlacedPart;
 use crate::server::Server;
 use ipc_host::SocketPort;
+use ipc_lock::Naming;
 use std::io;
 use std::io::{ErrorKind, Read, Write};
 use std::os::unix::net::UnixStream;
@@ -36,7 +37,7 @@ const CUT: &str = "cut off: too slow\n";
 /// # Errors
 ///
 /// The system's; he has left, or was too slow.
-pub(crate) fn follow<C: Ledger, T: Ledger, R: Wait + Clock>(
+pub(crate) fn follow<C: Naming, T: Ledger, R: Wait + Clock>(
     server: &Server<'_, C, T, SocketPort, R>,
     host: &Host,
     stream: &UnixStream,
@@ -54,7 +55,7 @@ pub(crate) fn follow<C: Ledger, T: Ledger, R: Wait + Clock>(
 }
 
 /// The same by a ticket.
-fn follow_as<C: Ledger, T: Ledger, R: Wait + Clock>(
+fn follow_as<C: Naming, T: Ledger, R: Wait + Clock>(
     server: &Server<'_, C, T, SocketPort, R>,
     host: &Host,
     stream: &UnixStream,
@@ -72,7 +73,7 @@ fn follow_as<C: Ledger, T: Ledger, R: Wait + Clock>(
 }
 
 /// Sends the part, whose strings are held no longer.
-fn begin<C: Ledger, T: Ledger, R: Wait + Clock>(
+fn begin<C: Naming, T: Ledger, R: Wait + Clock>(
     server: &Server<'_, C, T, SocketPort, R>,
     stream: &UnixStream,
     placed: PlacedPart,
@@ -84,7 +85,7 @@ fn begin<C: Ledger, T: Ledger, R: Wait + Clock>(
 }
 
 /// Sends lines as they come.
-fn send_lines<C: Ledger, T: Ledger, R: Wait + Clock>(
+fn send_lines<C: Naming, T: Ledger, R: Wait + Clock>(
     server: &Server<'_, C, T, SocketPort, R>,
     host: &Host,
     stream: &UnixStream,
@@ -108,7 +109,7 @@ fn send_lines<C: Ledger, T: Ledger, R: Wait + Clock>(
 }
 
 /// Whether the service has ended, and the trace has all entries.
-fn has_all<C: Ledger, T: Ledger, R: Wait + Clock>(
+fn has_all<C: Naming, T: Ledger, R: Wait + Clock>(
     server: &Server<'_, C, T, SocketPort, R>,
     host: &Host,
 ) -> bool {
@@ -120,7 +121,7 @@ fn has_all<C: Ledger, T: Ledger, R: Wait + Clock>(
 
 /// Sends lines. Where he does not read, that is waited for until he is cut off, or the service
 /// ends.
-fn send<C: Ledger, T: Ledger, R: Wait + Clock>(
+fn send<C: Naming, T: Ledger, R: Wait + Clock>(
     server: &Server<'_, C, T, SocketPort, R>,
     host: &Host,
     stream: &UnixStream,

@@ -37,7 +37,7 @@ use followers::Followers;
 use host::{Bound, Host};
 use ipc_core::{Limits, MAX_CALLS, MAX_ENTRIES};
 use ipc_host::{Guests, ProcessStatus, Readiness, ServerClock, SocketPort, descriptors, room};
-use ipc_lock::SharedKernel;
+use ipc_lock::{BlankLog, Naming, SharedKernel};
 use l4sh_options::{ServerOptions, server_options};
 use meter::Meter;
 use parts::Parts;
@@ -111,8 +111,8 @@ where
     }
 }
 
-/// Serves as the options say, and answers the status of the program. The ledgers of the seats begin
-/// as blanks.
+/// Serves as the options say, and answers the status of the program. The ledgers of the seats and
+/// the log begin as blanks.
 fn obey<R>(rt: &R, alloc: Global, options: &ServerOptions<'_>) -> io::Result<ExitCode>
 where
     R: Threads
@@ -131,19 +131,23 @@ where
     if let Some(fd) = readiness.fault() {
         return ended(rt, &Exit::NoReadyDescriptor(fd));
     }
+    let Ok(log) = BlankLog::new(alloc) else {
+        return ended(rt, &Exit::NoMemory);
+    };
     let (calls, takes) = (Blank::new(PARTS), Blank::new(PARTS));
-    let exit = start::<Brand, Brand, _>(rt, alloc, options, readiness, calls, takes);
+    let exit = start::<Brand, Brand, _>(rt, alloc, options, readiness, calls, takes, log);
     ended(rt, &exit)
 }
 
 /// Makes the kernel, and serves over it.
-fn start<C: Ledger + Send, T: Ledger + Send, R>(
+fn start<C: Naming + Send, T: Ledger + Send, R>(
     rt: &R,
     alloc: Global,
     options: &ServerOptions<'_>,
     readiness: Readiness,
     calls: Blank,
     takes: Blank,
+    log: BlankLog,
 ) -> Exit
 where
     R: Threads
@@ -159,19 +163,20 @@ where
     requires calls_parts { (calls.parts ≡ C.parts) × (calls.parts ≡ 2 ^ 63) }
     requires takes_name { takes.name ≡ T.name }
     requires takes_parts { (takes.parts ≡ T.parts) × (takes.parts ≡ 2 ^ 63) }
+    requires log_table { log ≡ C.table }
 {
     let limits = Limits {
         entries: MAX_ENTRIES,
         calls: MAX_CALLS,
     };
-    match SharedKernel::<C, T, SocketPort>::new(alloc, limits, calls, takes) {
+    match SharedKernel::<C, T, SocketPort>::new(alloc, limits, calls, takes, log) {
         Ok(shared) => start_over(rt, alloc, options, readiness, &shared),
         Err(_) => Exit::NoMemory,
     }
 }
 
 /// Starts the clock, and serves over a kernel.
-fn start_over<C: Ledger + Send, T: Ledger + Send, R>(
+fn start_over<C: Naming + Send, T: Ledger + Send, R>(
     rt: &R,
     alloc: Global,
     options: &ServerOptions<'_>,
@@ -198,7 +203,7 @@ where
 }
 
 /// Listens, serves, and removes the paths again.
-fn listen_and_serve<C: Ledger + Send, T: Ledger + Send, R>(
+fn listen_and_serve<C: Naming + Send, T: Ledger + Send, R>(
     server: &Server<'_, C, T, SocketPort, R>,
     options: &ServerOptions<'_>,
     readiness: Readiness,
@@ -230,7 +235,7 @@ where
 /// Binds the paths of the spaces, and the one for those who ask. Where one cannot be bound the
 /// others are removed.
 fn bind_paths<
-    C: Ledger,
+    C: Naming,
     T: Ledger,
     R: Files<File = File> + Net<Listener = TcpListener, Stream = TcpStream>,
 >(
@@ -248,7 +253,7 @@ fn bind_paths<
 }
 
 /// What the workers share beside the kernel, with so many connections at one time.
-fn host_of<C: Ledger, T: Ledger, R: Threads + Files<File = File>>(
+fn host_of<C: Naming, T: Ledger, R: Threads + Files<File = File>>(
     server: &Server<'_, C, T, SocketPort, R>,
     options: &ServerOptions<'_>,
     most: u64,
@@ -300,7 +305,7 @@ fn has_several_processors<R: Threads>(rt: &R) -> bool {
 }
 
 /// Serves the paths that are bound, removes them, and says that it closed where it ended well.
-fn serve_host<C: Ledger + Send, T: Ledger + Send, R>(
+fn serve_host<C: Naming + Send, T: Ledger + Send, R>(
     server: &Server<'_, C, T, SocketPort, R>,
     host: &Host,
     options: &ServerOptions<'_>,

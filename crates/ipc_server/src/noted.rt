@@ -1,15 +1,14 @@
 //! The end of a connection's reader, and what was asked by it.
 ghost use Rattle.std.specs.Prelude.{◌≡◌, List, [], ◌∷◌, ◌++◌};
-ghost use Rattle.ipc_lock.specs.Above.{PostsOrDrops};
-ghost use Rattle.ipc_server.specs.Doing.{AsksBy, BreaksBy};
+ghost use Rattle.ipc_server.specs.Doing.{AsksBy, BreaksBy, PostsIfLeft};
 ghost use Rattle.ipc_session.specs.Serving.{IsAnswer};
 ghost use Rattle.ipc_session.specs.Sessions.{deeds_left};
 ghost use Rattle.ipc_session.specs.declared.deed.Deed.TheVariants as deed;
 
 use crate::server::Server;
 use ipc_base::Past;
-use ipc_connection::{PenPort, Request, Told};
-use ipc_lock::{Entered, PostEnd};
+use ipc_connection::{PenPort, Request, Told, is_posted};
+use ipc_lock::{Entered, Naming, PostEnd};
 use ipc_session::Deed;
 use std::rt::Clock;
 use std::sync::Wait;
@@ -18,12 +17,12 @@ use std::sync::ledger::Ledger;
 /// The end by which a connection's reader asks the shared kernel. Contracts see all that was asked
 /// by it, with the answers, in order, and what each call of the shared kernel did.
 #[derive(Drop)]
-pub(crate) struct NotedEnd<C: Ledger> {
+pub(crate) struct NotedEnd<C: Naming> {
     pub(crate) end: PostEnd<C>,
     pub(crate) deeds: Past<Deed>,
 }
 
-impl<C: Ledger> NotedEnd<C> {
+impl<C: Naming> NotedEnd<C> {
     /// An end by which nothing was asked.
     pub(crate) fn new(end: PostEnd<C>) -> NotedEnd<C>
         ensures end { result.end ≡ end }
@@ -59,18 +58,21 @@ impl<C: Ledger> NotedEnd<C> {
         answered
     }
 
-    /// Posts the frame of what is told.
+    /// Posts the frame of what is told, if it has one.
     pub(crate) fn post<T, P, R>(&mut self, server: &Server<'_, C, T, P, R>, told: Told)
     where
         T: Ledger,
         P: PenPort + Drop,
         R: Wait + Clock,
         ensures posted { self.new.deeds ≡ self.old.deeds ++ deeds_left told }
-        ensures end { self.new.end ≡ self.old.end }
-        ensures posts { PostsOrDrops C P self.old.end.place self.old.end.number told }
+        ensures posts { PostsIfLeft P self.old.end told self.new.end }
     {
+        let left = told;
+        if !is_posted(left) {
+            return;
+        }
         let posted = told;
-        server.shared.post(server.rt, &self.end, posted);
+        server.shared.post(server.rt, &mut self.end, posted);
         self.deeds = with_posted(&self.deeds, told);
     }
 
@@ -81,11 +83,10 @@ impl<C: Ledger> NotedEnd<C> {
         P: PenPort + Drop,
         R: Wait + Clock,
         ensures broke { self.new.deeds ≡ self.old.deeds ++ deed.Broke ∷ [] }
-        ensures end { self.new.end ≡ self.old.end }
-        ensures breaks { BreaksBy P self.old.end }
+        ensures breaks { BreaksBy P self.old.end self.new.end }
     {
         let now = server.now();
-        server.shared.hang_up(server.rt, now, &self.end);
+        server.shared.hang_up(server.rt, now, &mut self.end);
         self.deeds.add(&Deed::Broke);
     }
 }

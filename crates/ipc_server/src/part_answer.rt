@@ -7,7 +7,7 @@ use crate::server::Server;
 use crate::tracing::put_held;
 use ipc_base::{Failures, WritePort};
 use ipc_host::SocketPort;
-use ipc_lock::HeldPart;
+use ipc_lock::{HeldPart, Naming};
 use ipc_trace::TraceWriter;
 use std::alloc::Global;
 use std::io;
@@ -34,7 +34,7 @@ pub(crate) const SLOW: &str = "the trace is slow: ask again\n";
 /// # Errors
 ///
 /// The system's; he was too slow.
-pub(crate) fn answer_with_part<C: Ledger, T: Ledger, R: Wait + Clock>(
+pub(crate) fn answer_with_part<C: Naming, T: Ledger, R: Wait + Clock>(
     server: &Server<'_, C, T, SocketPort, R>,
     host: &Host,
     stream: &UnixStream,
@@ -74,7 +74,7 @@ impl<R: Clock> Write for HurriedStream<'_, R> {
 /// # Errors
 ///
 /// The system's; he was too slow.
-pub(crate) fn write_part<C: Ledger, T: Ledger, R: Wait + Clock>(
+pub(crate) fn write_part<C: Naming, T: Ledger, R: Wait + Clock>(
     server: &Server<'_, C, T, SocketPort, R>,
     stream: &UnixStream,
     part: &HeldPart,

@@ -2,7 +2,7 @@
 //! alone may let go of what it reads.
 use crate::server::Server;
 use ipc_host::SocketPort;
-use ipc_lock::HeldPart;
+use ipc_lock::{HeldPart, Naming};
 use std::alloc::AllocError;
 use std::rt::Clock;
 use std::sync::ledger::Ledger;
@@ -70,7 +70,7 @@ impl Parts {
 
     /// The part that begins behind the last entry of this moment. None where the trace is so slow
     /// that nobody made it within a second.
-    pub(crate) fn ask<C: Ledger, T: Ledger, R: Wait + Clock>(
+    pub(crate) fn ask<C: Naming, T: Ledger, R: Wait + Clock>(
         &self,
         server: &Server<'_, C, T, SocketPort, R>,
     ) -> Result<Option<HeldPart>, AllocError> {
@@ -82,7 +82,7 @@ impl Parts {
     }
 
     /// Waits for the part, which is made here where nobody reads the history.
-    fn wait_part<C: Ledger, T: Ledger, R: Wait + Clock>(
+    fn wait_part<C: Naming, T: Ledger, R: Wait + Clock>(
         &self,
         server: &Server<'_, C, T, SocketPort, R>,
     ) -> Result<Option<HeldPart>, AllocError> {
@@ -105,7 +105,7 @@ impl Parts {
 
     /// The part that begins behind the last entry, and its place. None where the trace is so slow
     /// that nobody made it within a second.
-    pub(crate) fn ask_placed<C: Ledger, T: Ledger, R: Wait + Clock>(
+    pub(crate) fn ask_placed<C: Naming, T: Ledger, R: Wait + Clock>(
         &self,
         server: &Server<'_, C, T, SocketPort, R>,
     ) -> Result<Option<PlacedPart>, AllocError> {
@@ -117,7 +117,7 @@ impl Parts {
     }
 
     /// Waits for the part, which is made here where no entry comes meanwhile.
-    fn wait_placed<C: Ledger, T: Ledger, R: Wait + Clock>(
+    fn wait_placed<C: Naming, T: Ledger, R: Wait + Clock>(
         &self,
         server: &Server<'_, C, T, SocketPort, R>,
     ) -> Result<Option<PlacedPart>, AllocError> {
@@ -149,7 +149,7 @@ impl Parts {
 
 /// The part that begins behind the last entry. None where an entry is not marked, or came while it
 /// was made, so that its place is not known.
-fn made_here<C: Ledger, T: Ledger, R: Wait + Clock>(
+fn made_here<C: Naming, T: Ledger, R: Wait + Clock>(
     server: &Server<'_, C, T, SocketPort, R>,
 ) -> Result<Option<PlacedPart>, AllocError> {
     let place = server.shared.entries(server.rt);

@@ -3,7 +3,7 @@ use ipc_connection::PenPort;
 use ipc_core::{Answer, Command};
 use ipc_host::ServerClock;
 use ipc_items::FreeBlocks;
-use ipc_lock::SharedKernel;
+use ipc_lock::{Naming, SharedKernel};
 use std::alloc::Global;
 use std::rt::Clock;
 use std::sync::ledger::Ledger;
@@ -12,7 +12,7 @@ use std::sync::{Mutex, Wait};
 /// What all workers of a server share: the kernel under its lock, the clock, and the memory of long
 /// strings.
 #[derive(Drop)]
-pub struct Server<'a, C: Ledger, T: Ledger, P: PenPort + Drop, R> {
+pub struct Server<'a, C: Naming, T: Ledger, P: PenPort + Drop, R> {
     pub(crate) rt: &'a R,
     pub(crate) alloc: Global,
     pub(crate) shared: &'a SharedKernel<C, T, P>,
@@ -20,7 +20,7 @@ pub struct Server<'a, C: Ledger, T: Ledger, P: PenPort + Drop, R> {
     blocks: Mutex<FreeBlocks>,
 }
 
-impl<'a, C: Ledger, T: Ledger, P: PenPort + Drop, R: Wait + Clock> Server<'a, C, T, P, R> {
+impl<'a, C: Naming, T: Ledger, P: PenPort + Drop, R: Wait + Clock> Server<'a, C, T, P, R> {
     /// A server over a kernel.
     pub fn new(
         rt: &'a R,

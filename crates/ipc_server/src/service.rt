@@ -9,6 +9,7 @@ use crate::ready::tell_ready;
 use crate::server::Server;
 use crate::serving::start_worker;
 use ipc_host::SocketPort;
+use ipc_lock::Naming;
 use l4sh_options::ServerOptions;
 use std::alloc::Global;
 use std::net::{Net, TcpListener, TcpStream};
@@ -20,7 +21,7 @@ use std::thread;
 use std::thread::Threads;
 
 /// Serves the paths, and closes the kernel once all workers but the trace's were joined.
-pub(crate) fn serve_and_close<C: Ledger + Send, T: Ledger + Send, R>(
+pub(crate) fn serve_and_close<C: Naming + Send, T: Ledger + Send, R>(
     server: &Server<'_, C, T, SocketPort, R>,
     host: &Host,
     options: &ServerOptions<'_>,
@@ -41,7 +42,7 @@ where
 
 /// Serves the paths until all connections have ended, with the client of the program's own where it
 /// is asked for.
-fn serve<C: Ledger + Send, T: Ledger + Send, R>(
+fn serve<C: Naming + Send, T: Ledger + Send, R>(
     server: &Server<'_, C, T, SocketPort, R>,
     host: &Host,
     options: &ServerOptions<'_>,
@@ -78,7 +79,7 @@ fn tell_paths<R: Eprint>(rt: &R, listeners: &[Listener]) {
 }
 
 /// Serves the paths beside the client of the program's own.
-fn serve_with_client<C: Ledger + Send, T: Ledger + Send, R>(
+fn serve_with_client<C: Naming + Send, T: Ledger + Send, R>(
     server: &Server<'_, C, T, SocketPort, R>,
     host: &Host,
     options: &ServerOptions<'_>,
@@ -113,7 +114,7 @@ fn served(started: bool) -> Result<(), Exit> {
 
 /// Serves beside a client that sends one word and prints it as soon as it has come. Answers whether
 /// the workers could be started, and whether the word was printed.
-fn serve_probed<C: Ledger + Send, T: Ledger + Send, R>(
+fn serve_probed<C: Naming + Send, T: Ledger + Send, R>(
     server: &Server<'_, C, T, SocketPort, R>,
     host: &Host,
     path: &str,

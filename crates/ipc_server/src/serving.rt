@@ -2,7 +2,7 @@
 ghost use Rattle.std.specs.Prelude.{◌≡◌, [], None, false, map, true};
 ghost use Rattle.ipc_lock.specs.Above.{EndsWorkSome};
 ghost use Rattle.ipc_connection.specs.Pens.{BeginsEmpty};
-ghost use Rattle.ipc_server.specs.Doing.{ReadsBy, ServesOne, unseated};
+ghost use Rattle.ipc_server.specs.Doing.{IsAtHome, IsNew, ReadsBy, ServesOne};
 ghost use Rattle.ipc_server.specs.Writing.{EndsWriting, TakesTurn, WritesAndLays};
 ghost use Rattle.ipc_session.specs.Keeping.{call_of};
 ghost use Rattle.ipc_session.specs.Sessions.{AsksFor};
@@ -13,7 +13,7 @@ use crate::server::Server;
 use ipc_base::{Past, PortRead};
 use ipc_connection::{Patience, PenPort};
 use ipc_host::Notice;
-use ipc_lock::{Loaded, PostEnd, TakeEnd};
+use ipc_lock::{Loaded, Naming, PostEnd, TakeEnd};
 use ipc_session::{Deed, Gate, read_loop};
 use ipc_words::ThreadId;
 use std::rt::Clock;
@@ -96,13 +96,13 @@ pub struct Served<I: PortRead> {
 /// Serves one connection to its end: reads in this thread, and in one that it starts writes what no
 /// other thread could. Where that cannot be started, or there is no memory for a box, the link is
 /// shut down. What came asked for what was asked, and each of that was done by the connection's own
-/// end.
+/// end, of which the one log of the kernel says nothing else.
 pub fn serve_connection<C, T, P, R, I, G>(
     server: &Server<'_, C, T, P, R>,
     ports: Ports<P, I, G>,
 ) -> Served<I>
 where
-    C: Ledger + Send,
+    C: Naming + Send,
     T: Ledger + Send,
     P: PenPort + Drop + Send,
     R: Threads + Wait + Clock + Sync,
@@ -156,13 +156,13 @@ fn serve_both_ways<C, T, P, R, I, G>(
     writes: G,
 ) -> (PostEnd<C>, Served<I>)
 where
-    C: Ledger + Send,
+    C: Naming + Send,
     T: Ledger + Send,
     P: PenPort + Drop + Send,
     R: Threads + Wait + Clock + Sync,
     I: PortRead + Drop,
     G: Gate + Link + Drop + Send,
-    requires { posts.seat ≡ None }
+    requires { IsNew P posts }
     ensures { ReadsBy P (I.came reading.reader) (I.came result.1.reader) posts result.0
         result.1.asked }
 {
@@ -170,7 +170,7 @@ where
         thread::scope_env(),
         server.rt,
         |scope|
-            requires { posts.seat ≡ None }
+            requires { IsNew P posts }
             ensures { ReadsBy P (I.came reading.reader) (I.came result.1.reader) posts result.0
                 result.1.asked }
         {
@@ -191,13 +191,13 @@ fn read_if<C, T, P, R, I, G>(
     reading: Reading<I, G>,
 ) -> (PostEnd<C>, Served<I>)
 where
-    C: Ledger,
+    C: Naming,
     T: Ledger,
     P: PenPort + Drop,
     R: Wait + Clock,
     I: PortRead + Drop,
     G: Gate + Link + Drop,
-    requires { posts.seat ≡ None }
+    requires { IsNew P posts }
     ensures { ReadsBy P (I.came reading.reader) (I.came result.1.reader) posts result.0
         result.1.asked }
 {
@@ -215,13 +215,13 @@ fn read_to_the_end<C, T, P, R, I, G>(
     reading: Reading<I, G>,
 ) -> (PostEnd<C>, Served<I>)
 where
-    C: Ledger,
+    C: Naming,
     T: Ledger,
     P: PenPort + Drop,
     R: Wait + Clock,
     I: PortRead + Drop,
     G: Gate + Link + Drop,
-    requires { posts.seat ≡ None }
+    requires { IsNew P posts }
     ensures { ReadsBy P (I.came reading.reader) (I.came result.1.reader) posts result.0
         result.1.asked }
 {
@@ -251,7 +251,7 @@ fn read_with<C, T, P, R, I, G>(
     reads: &mut G,
 )
 where
-    C: Ledger,
+    C: Naming,
     T: Ledger,
     P: PenPort + Drop,
     R: Wait + Clock,
@@ -260,7 +260,7 @@ where
     requires { kernel_port.old.deeds ≡ [] }
     ensures asks { AsksFor (I.came reader.old) (I.came reader.new)
         (map call_of kernel_port.new.deeds) }
-    ensures home { unseated kernel_port.new.end ≡ unseated kernel_port.old.end }
+    ensures home { IsAtHome kernel_port.old.end kernel_port.new.end }
 {
     let mut blocks = server.blocks();
     let _ = read_loop(server.alloc, reader, kernel_port, reads, &mut blocks);
@@ -271,7 +271,7 @@ where
 /// Writes what no other thread could write at once, up to the end, and then shuts the link down.
 fn write_to_the_end<C, T, P, R, G>(server: &Server<'_, C, T, P, R>, takes: TakeEnd, link: G)
 where
-    C: Ledger,
+    C: Naming,
     T: Ledger,
     P: PenPort + Drop,
     R: Wait + Clock,
@@ -287,7 +287,7 @@ where
 /// Writes with each pen that comes out for a connection's writer, until nothing more is written.
 fn write_pens<C, T, P, R>(server: &Server<'_, C, T, P, R>, takes: &TakeEnd)
 where
-    C: Ledger,
+    C: Naming,
     T: Ledger,
     P: PenPort + Drop,
     R: Wait + Clock,
@@ -303,7 +303,7 @@ where
 /// Waits for the pen of a connection, and writes with it. False once nothing more is written.
 fn write_next<C, T, P, R>(server: &Server<'_, C, T, P, R>, takes: &TakeEnd) -> bool
 where
-    C: Ledger,
+    C: Naming,
     T: Ledger,
     P: PenPort + Drop,
     R: Wait + Clock,
@@ -322,7 +322,7 @@ where
 /// Writes with a pen, with patience, and gives it back.
 fn write_with<C, T, P, R>(server: &Server<'_, C, T, P, R>, pen: Loaded<P>)
 where
-    C: Ledger,
+    C: Naming,
     T: Ledger,
     P: PenPort + Drop,
     R: Wait + Clock,

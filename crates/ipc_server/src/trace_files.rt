@@ -11,6 +11,7 @@ use crate::trace_fault::{Failed, TraceFault};
 use crate::tracing::{Next, Trace};
 use ipc_base::{Failures, PortWrite, WritePort};
 use ipc_host::SocketPort;
+use ipc_lock::Naming;
 use l4sh_options::ServerOptions;
 use l4sh_times::Start;
 use std::alloc::{AllocError, Global};
@@ -89,7 +90,7 @@ impl<'a> TraceFiles<'a> {
         first: Trace<P>,
     ) -> Result<(), TraceFault>
     where
-        C: Ledger,
+        C: Naming,
         T: Ledger,
         R: Wait + Clock + Eprint + TraceDisk,
         P: PortWrite + Drop,
@@ -113,7 +114,7 @@ impl<'a> TraceFiles<'a> {
         next: Next,
     ) -> Result<Option<Next>, TraceFault>
     where
-        C: Ledger,
+        C: Naming,
         T: Ledger,
         R: Wait + Clock + Eprint + TraceDisk,
     {
@@ -128,7 +129,7 @@ impl<'a> TraceFiles<'a> {
         writes: Blank,
     ) -> Result<Option<Next>, TraceFault>
     where
-        C: Ledger,
+        C: Naming,
         T: Ledger,
         L: Ledger,
         R: Wait + Clock + Eprint + TraceDisk,

@@ -12,6 +12,7 @@ use crate::trace_files::TraceFiles;
 use crate::tracing::Trace;
 use ipc_base::{Failures, PortWrite};
 use ipc_host::SocketPort;
+use ipc_lock::Naming;
 use l4sh_options::ServerOptions;
 use std::fs::File;
 use std::marker::Brand;
@@ -23,7 +24,7 @@ use std::thread;
 use std::thread::Threads;
 
 /// Serves the paths, with a trace where one is asked for.
-pub(crate) fn serve_as_asked<C: Ledger + Send, T: Ledger + Send, R>(
+pub(crate) fn serve_as_asked<C: Naming + Send, T: Ledger + Send, R>(
     server: &Server<'_, C, T, SocketPort, R>,
     host: &Host,
     options: &ServerOptions<'_>,
@@ -47,7 +48,7 @@ where
 }
 
 /// Serves the paths while no trace is written: none was asked for, or it has stopped already.
-fn serve_untraced<C: Ledger + Send, T: Ledger + Send, R>(
+fn serve_untraced<C: Naming + Send, T: Ledger + Send, R>(
     server: &Server<'_, C, T, SocketPort, R>,
     host: &Host,
     options: &ServerOptions<'_>,
@@ -69,7 +70,7 @@ where
 
 /// Opens the file of the trace, and serves the paths while a worker writes it. The count of the
 /// file's failures begins as a blank.
-fn serve_traced<C: Ledger + Send, T: Ledger + Send, L: Ledger + Send, R>(
+fn serve_traced<C: Naming + Send, T: Ledger + Send, L: Ledger + Send, R>(
     server: &Server<'_, C, T, SocketPort, R>,
     host: &Host,
     options: &ServerOptions<'_>,
@@ -99,7 +100,7 @@ where
 }
 
 /// Tells why the trace cannot be written, and serves the paths without it, unless it is required.
-fn serve_without<C: Ledger + Send, T: Ledger + Send, R>(
+fn serve_without<C: Naming + Send, T: Ledger + Send, R>(
     server: &Server<'_, C, T, SocketPort, R>,
     host: &Host,
     options: &ServerOptions<'_>,
@@ -124,7 +125,7 @@ where
 
 /// Serves the paths while a worker writes the trace. Where the worker cannot be started the trace
 /// is written at the end.
-fn serve_beside<C: Ledger + Send, T: Ledger + Send, R, P: PortWrite + Drop + Send>(
+fn serve_beside<C: Naming + Send, T: Ledger + Send, R, P: PortWrite + Drop + Send>(
     server: &Server<'_, C, T, SocketPort, R>,
     host: &Host,
     options: &ServerOptions<'_>,
@@ -168,7 +169,7 @@ fn write_trace<C, T, R, P>(
     trace: Trace<P>,
 ) -> bool
 where
-    C: Ledger,
+    C: Naming,
     T: Ledger,
     R: Wait + Clock + Eprint + TraceDisk,
     P: PortWrite + Drop,

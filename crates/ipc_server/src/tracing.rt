@@ -6,7 +6,7 @@ use ipc_base::PortWrite;
 use ipc_core::MAX_ENTRIES;
 use ipc_history::Entry;
 use ipc_host::SocketPort;
-use ipc_lock::HeldPart;
+use ipc_lock::{HeldPart, Naming};
 use ipc_trace::{BaseNumbers, PutFault, TraceWriter, put_part};
 use std::alloc::Global;
 use std::rt::Clock;
@@ -109,7 +109,7 @@ impl<P: PortWrite> Trace<P> {
     /// # Errors
     ///
     /// TR1, TR5: the trace has stopped there.
-    pub fn follow<C: Ledger, T: Ledger, R: Wait + Clock + Eprint>(
+    pub fn follow<C: Naming, T: Ledger, R: Wait + Clock + Eprint>(
         self,
         server: &Server<'_, C, T, SocketPort, R>,
         host: &Host,
@@ -122,7 +122,7 @@ impl<P: PortWrite> Trace<P> {
     }
 
     // The same, by a trace that somebody else has.
-    fn put_all<C: Ledger, T: Ledger, R: Wait + Clock + Eprint>(
+    fn put_all<C: Naming, T: Ledger, R: Wait + Clock + Eprint>(
         &mut self,
         server: &Server<'_, C, T, SocketPort, R>,
         host: &Host,
@@ -142,7 +142,7 @@ impl<P: PortWrite> Trace<P> {
 
     // Hands a part to who asked for one. Where the file is full, answers that with which a further
     // one begins.
-    fn part_where_due<C: Ledger, T: Ledger, R: Wait + Clock + Eprint>(
+    fn part_where_due<C: Naming, T: Ledger, R: Wait + Clock + Eprint>(
         &mut self,
         server: &Server<'_, C, T, SocketPort, R>,
         host: &Host,
@@ -159,7 +159,7 @@ impl<P: PortWrite> Trace<P> {
 
     // Puts the entries that are left, hands them on, and answers the part that begins behind them;
     // None where there is no memory for it.
-    fn part_here<C: Ledger, T: Ledger, R: Wait + Clock + Eprint>(
+    fn part_here<C: Naming, T: Ledger, R: Wait + Clock + Eprint>(
         &mut self,
         server: &Server<'_, C, T, SocketPort, R>,
         host: &Host,
@@ -178,7 +178,7 @@ impl<P: PortWrite> Trace<P> {
 
     // Puts the entries that come next, and answers how many they are; none where the kernel was
     // closed.
-    fn put_group<C: Ledger, T: Ledger, R: Wait + Clock + Eprint>(
+    fn put_group<C: Naming, T: Ledger, R: Wait + Clock + Eprint>(
         &mut self,
         server: &Server<'_, C, T, SocketPort, R>,
         host: &Host,
@@ -190,7 +190,7 @@ impl<P: PortWrite> Trace<P> {
     }
 
     // Hands these entries to those who follow, puts them, and answers how many they are.
-    fn put_entries<C: Ledger, T: Ledger, R: Wait + Clock + Eprint>(
+    fn put_entries<C: Naming, T: Ledger, R: Wait + Clock + Eprint>(
         &mut self,
         server: &Server<'_, C, T, SocketPort, R>,
         host: &Host,

@@ -2,6 +2,7 @@
 use crate::server::Server;
 use ipc_connection::PenPort;
 use ipc_core::{Advance, Answer, Command};
+use ipc_lock::Naming;
 use ipc_session::{Beat, Gate, WorkPort};
 use std::rt::Clock;
 use std::sync::Wait;
@@ -10,12 +11,12 @@ use std::sync::ledger::Ledger;
 
 /// The work port of the ticker and of the mover.
 #[derive(Drop)]
-pub struct Worker<'a, C: Ledger, T: Ledger, P: PenPort + Drop, R: Wait + Clock> {
+pub struct Worker<'a, C: Naming, T: Ledger, P: PenPort + Drop, R: Wait + Clock> {
     server: &'a Server<'a, C, T, P, R>,
     is_gone: bool,
 }
 
-impl<'a, C: Ledger, T: Ledger, P: PenPort + Drop, R: Wait + Clock> Worker<'a, C, T, P, R> {
+impl<'a, C: Naming, T: Ledger, P: PenPort + Drop, R: Wait + Clock> Worker<'a, C, T, P, R> {
     /// A port that works on a server's kernel.
     pub fn new(server: &'a Server<'a, C, T, P, R>) -> Self {
         Worker {
@@ -25,7 +26,7 @@ impl<'a, C: Ledger, T: Ledger, P: PenPort + Drop, R: Wait + Clock> Worker<'a, C,
     }
 }
 
-impl<C: Ledger, T: Ledger, P: PenPort + Drop, R: Wait + Clock> WorkPort for Worker<'_, C, T, P, R> {
+impl<C: Naming, T: Ledger, P: PenPort + Drop, R: Wait + Clock> WorkPort for Worker<'_, C, T, P, R> {
     ghost gone = { λ port. port.is_gone };
 
     fn tick(&mut self) {
@@ -50,18 +51,18 @@ impl<C: Ledger, T: Ledger, P: PenPort + Drop, R: Wait + Clock> WorkPort for Work
 
 /// The clock of the ticker: its next turn comes when a phase is due.
 #[derive(Drop)]
-pub struct Alarm<'a, C: Ledger, T: Ledger, P: PenPort + Drop, R: Wait + Clock> {
+pub struct Alarm<'a, C: Naming, T: Ledger, P: PenPort + Drop, R: Wait + Clock> {
     server: &'a Server<'a, C, T, P, R>,
 }
 
-impl<'a, C: Ledger, T: Ledger, P: PenPort + Drop, R: Wait + Clock> Alarm<'a, C, T, P, R> {
+impl<'a, C: Naming, T: Ledger, P: PenPort + Drop, R: Wait + Clock> Alarm<'a, C, T, P, R> {
     /// The clock of a server's kernel.
     pub fn new(server: &'a Server<'a, C, T, P, R>) -> Self {
         Alarm { server }
     }
 }
 
-impl<C: Ledger, T: Ledger, P: PenPort + Drop, R: Wait + Clock> Beat for Alarm<'_, C, T, P, R> {
+impl<C: Naming, T: Ledger, P: PenPort + Drop, R: Wait + Clock> Beat for Alarm<'_, C, T, P, R> {
     fn wait(&mut self) {
         self.server.shared.rest(self.server.rt, self.server.now());
     }

@@ -7,7 +7,8 @@ use ipc_frame::WireVersion;
 use ipc_history::{Call, CallFields};
 use ipc_items::StringList;
 use ipc_lock::{
-    Answered, CallSeat, Entered, Loaded, NotGiven, PostEnd, SharedKernel, TakeEnd, TakeSeat, Taken,
+    Answered, BlankLog, CallSeat, Entered, Loaded, Naming, NotGiven, PostEnd, SharedKernel,
+    TakeEnd, TakeSeat, Taken,
 };
 use ipc_words::limits::{MAX_CALLS, MAX_ENTRIES};
 use ipc_words::{MsgTag, Period, ThreadId};
@@ -78,21 +79,23 @@ fn sends(rt: &impl Abort, alloc: Global, to: ThreadId, word: u64) -> Call {
 }
 
 // A kernel under its lock, with so much room.
-fn shared<C: Ledger, T: Ledger, R: Abort>(
+fn shared<C: Naming, T: Ledger, R: Abort>(
     rt: &R,
     alloc: Global,
     limits: Limits,
     calls: Blank,
     takes: Blank,
+    log: BlankLog,
 ) -> SharedKernel<C, T, SlowPort>
     requires calls { (calls.name ≡ C.name) × (calls.parts ≡ C.parts) × (calls.parts ≡ 2 ^ 63) }
     requires takes { (takes.name ≡ T.name) × (takes.parts ≡ T.parts) × (takes.parts ≡ 2 ^ 63) }
+    requires log { log ≡ C.table }
 {
-    SharedKernel::new(alloc, limits, calls, takes).expect(rt, "a kernel")
+    SharedKernel::new(alloc, limits, calls, takes, log).expect(rt, "a kernel")
 }
 
 // A step, by a seat or by none.
-fn submit<C: Ledger, T: Ledger, R: Wait>(
+fn submit<C: Naming, T: Ledger, R: Wait>(
     rt: &R,
     kernel: &SharedKernel<C, T, SlowPort>,
     seat: Option<CallSeat<C>>,
@@ -102,7 +105,7 @@ fn submit<C: Ledger, T: Ledger, R: Wait>(
 }
 
 // What is waited for, where it comes.
-fn outcome<C: Ledger, T: Ledger, R: Wait>(
+fn outcome<C: Naming, T: Ledger, R: Wait>(
     rt: &R,
     kernel: &SharedKernel<C, T, SlowPort>,
     takes: &mut TakeSeat<T>,
@@ -132,7 +135,7 @@ fn refused(answer: &Answer) -> Option<Refusal> {
 }
 
 // Ends a thread; why that is refused.
-fn broken<C: Ledger, T: Ledger, R: Wait>(
+fn broken<C: Naming, T: Ledger, R: Wait>(
     rt: &R,
     kernel: &SharedKernel<C, T, SlowPort>,
     thread: ThreadId,
@@ -144,13 +147,13 @@ fn broken<C: Ledger, T: Ledger, R: Wait>(
 }
 
 // One of a test's threads, with its seats. Each of its steps lays its seat back.
-struct Party<C: Ledger, T: Ledger> {
+struct Party<C: Naming, T: Ledger> {
     thread: ThreadId,
     calls: Option<CallSeat<C>>,
     takes: TakeSeat<T>,
 }
 
-impl<C: Ledger, T: Ledger> Drop for Party<C, T> {
+impl<C: Naming, T: Ledger> Drop for Party<C, T> {
     fn drop(self) {
         let Party {
             thread: _,
@@ -162,7 +165,7 @@ impl<C: Ledger, T: Ledger> Drop for Party<C, T> {
     }
 }
 
-impl<C: Ledger, T: Ledger> Party<C, T> {
+impl<C: Naming, T: Ledger> Party<C, T> {
     // Opens the thread of a number.
     fn open<R: Wait + Abort>(rt: &R, kernel: &SharedKernel<C, T, SlowPort>, number: u64) -> Self {
         let answered = submit(rt, kernel, None, Command::Open { number, space: 1 });
@@ -264,7 +267,7 @@ impl<C: Ledger, T: Ledger> Party<C, T> {
 }
 
 // The line of a place of the history.
-fn line_at<C: Ledger, T: Ledger, R: Wait + Abort>(
+fn line_at<C: Naming, T: Ledger, R: Wait + Abort>(
     rt: &R,
     kernel: &SharedKernel<C, T, SlowPort>,
     index: usize,
@@ -274,7 +277,7 @@ fn line_at<C: Ledger, T: Ledger, R: Wait + Abort>(
 }
 
 // The history from its first entry on is these lines, and no more.
-fn assert_lines<C: Ledger, T: Ledger, R: Wait + Abort>(
+fn assert_lines<C: Naming, T: Ledger, R: Wait + Abort>(
     rt: &R,
     kernel: &SharedKernel<C, T, SlowPort>,
     lines: &[&str],
@@ -294,7 +297,7 @@ fn assert_lines<C: Ledger, T: Ledger, R: Wait + Abort>(
 }
 
 // The kernel was closed, and has nothing at this place.
-fn assert_no_lines<C: Ledger, T: Ledger, R: Wait + Abort>(
+fn assert_no_lines<C: Naming, T: Ledger, R: Wait + Abort>(
     rt: &R,
     kernel: &SharedKernel<C, T, SlowPort>,
     index: usize,
@@ -309,23 +312,27 @@ fn assert_no_lines<C: Ledger, T: Ledger, R: Wait + Abort>(
 
 #[test]
 fn a_seat_is_stale_once_its_number_was_opened_again(rt: HostRuntime) {
-    stale_seats::<Brand, Brand, _>(&rt, rt.alloc(), Blank::new(1 << 63), Blank::new(1 << 63));
+    let (calls, takes) = (Blank::new(1 << 63), Blank::new(1 << 63));
+    let log = BlankLog::new(rt.alloc()).expect(&rt, "a log");
+    stale_seats::<Brand, Brand, _>(&rt, rt.alloc(), calls, takes, log);
 }
 
-fn stale_seats<C: Ledger, T: Ledger, R: Wait + Abort>(
+fn stale_seats<C: Naming, T: Ledger, R: Wait + Abort>(
     rt: &R,
     alloc: Global,
     calls: Blank,
     takes: Blank,
+    log: BlankLog,
 )
     requires calls { (calls.name ≡ C.name) × (calls.parts ≡ C.parts) × (calls.parts ≡ 2 ^ 63) }
     requires takes { (takes.name ≡ T.name) × (takes.parts ≡ T.parts) × (takes.parts ≡ 2 ^ 63) }
+    requires log { log ≡ C.table }
 {
     let limits = Limits {
         entries: MAX_ENTRIES,
         calls: 1,
     };
-    let kernel = shared::<C, T, R>(rt, alloc, limits, calls, takes);
+    let kernel = shared::<C, T, R>(rt, alloc, limits, calls, takes, log);
     open_again(rt, alloc, &kernel);
     assert_lines(
         rt,
@@ -341,7 +348,7 @@ fn stale_seats<C: Ledger, T: Ledger, R: Wait + Abort>(
     drop(kernel);
 }
 
-fn open_again<C: Ledger, T: Ledger, R: Wait + Abort>(
+fn open_again<C: Naming, T: Ledger, R: Wait + Abort>(
     rt: &R,
     alloc: Global,
     kernel: &SharedKernel<C, T, SlowPort>,
@@ -355,7 +362,7 @@ fn open_again<C: Ledger, T: Ledger, R: Wait + Abort>(
 }
 
 // Nothing goes by a seat whose thread has ended.
-fn by_a_stale_seat<C: Ledger, T: Ledger, R: Wait + Abort>(
+fn by_a_stale_seat<C: Naming, T: Ledger, R: Wait + Abort>(
     rt: &R,
     alloc: Global,
     kernel: &SharedKernel<C, T, SlowPort>,
@@ -369,7 +376,7 @@ fn by_a_stale_seat<C: Ledger, T: Ledger, R: Wait + Abort>(
 }
 
 // The one call that there may be.
-fn by_the_last_call<C: Ledger, T: Ledger, R: Wait + Abort>(
+fn by_the_last_call<C: Naming, T: Ledger, R: Wait + Abort>(
     rt: &R,
     alloc: Global,
     kernel: &SharedKernel<C, T, SlowPort>,
@@ -417,27 +424,54 @@ fn slow(alloc: Global, is_open: bool) -> SlowPort {
 
 #[test]
 fn a_pen_writes_outcomes_before_answers_and_ends_when_its_box_is_shut(rt: HostRuntime) {
-    boxes::<Brand, Brand, _>(&rt, rt.alloc(), Blank::new(1 << 63), Blank::new(1 << 63));
+    let (calls, takes) = (Blank::new(1 << 63), Blank::new(1 << 63));
+    let log = BlankLog::new(rt.alloc()).expect(&rt, "a log");
+    boxes::<Brand, Brand, _>(&rt, rt.alloc(), calls, takes, log);
 }
 
 // A client that reads nothing: its pen waits, and its writer goes on. Then one that reads: its
 // reader writes all by itself.
-fn boxes<C: Ledger, T: Ledger, R: Wait + Abort>(rt: &R, alloc: Global, calls: Blank, takes: Blank)
+fn boxes<C: Naming, T: Ledger, R: Wait + Abort>(
+    rt: &R,
+    alloc: Global,
+    calls: Blank,
+    takes: Blank,
+    log: BlankLog,
+)
     requires calls { (calls.name ≡ C.name) × (calls.parts ≡ C.parts) × (calls.parts ≡ 2 ^ 63) }
     requires takes { (takes.name ≡ T.name) × (takes.parts ≡ T.parts) × (takes.parts ≡ 2 ^ 63) }
+    requires log { log ≡ C.table }
 {
-    let kernel = shared::<C, T, R>(rt, alloc, ROOM, calls, takes);
+    let kernel = shared::<C, T, R>(rt, alloc, ROOM, calls, takes, log);
     let takes = fill_box(rt, alloc, &kernel);
     let told = told_slowly(rt, &kernel, &takes);
     same(rt, told.as_slice(), TOLD.as_slice());
     drop(told);
     shut_box(rt, alloc, &kernel);
     shut_box(rt, alloc, &kernel);
+    compare_ends(rt, alloc, &kernel);
     drop(kernel);
 }
 
+// Two connections speak of one log, and both go on.
+fn compare_ends<C: Naming, T: Ledger, R: Wait + Abort>(
+    rt: &R,
+    alloc: Global,
+    kernel: &SharedKernel<C, T, SlowPort>,
+) {
+    let (mut one, _) = connect(rt, alloc, kernel, true);
+    let (mut other, _) = connect(rt, alloc, kernel, true);
+    kernel.compare(&mut one, &mut other);
+    let (opened, _) = ask(rt, kernel, &mut one, Request::Open(5, WireVersion::One));
+    holds(rt, matches!(opened, Told::Opened(_, _)));
+    let (opened, _) = ask(rt, kernel, &mut other, Request::Open(6, WireVersion::One));
+    holds(rt, matches!(opened, Told::Opened(_, _)));
+    kernel.release(rt, one);
+    kernel.release(rt, other);
+}
+
 // A connection, whose port has room or not.
-fn connect<C: Ledger, T: Ledger, R: Wait + Abort>(
+fn connect<C: Naming, T: Ledger, R: Wait + Abort>(
     rt: &R,
     alloc: Global,
     kernel: &SharedKernel<C, T, SlowPort>,
@@ -448,7 +482,7 @@ fn connect<C: Ledger, T: Ledger, R: Wait + Abort>(
         .expect(rt, "a box")
 }
 
-fn ask<C: Ledger, T: Ledger, R: Wait>(
+fn ask<C: Naming, T: Ledger, R: Wait>(
     rt: &R,
     kernel: &SharedKernel<C, T, SlowPort>,
     posts: &mut PostEnd<C>,
@@ -466,7 +500,7 @@ const TOLD: [u8; 57] = [
 ];
 
 // An open, an outcome and a refusal come into the box of a client that reads nothing.
-fn fill_box<C: Ledger, T: Ledger, R: Wait + Abort>(
+fn fill_box<C: Naming, T: Ledger, R: Wait + Abort>(
     rt: &R,
     alloc: Global,
     kernel: &SharedKernel<C, T, SlowPort>,
@@ -482,13 +516,13 @@ fn fill_box<C: Ledger, T: Ledger, R: Wait + Abort>(
     let send = sends(rt, alloc, first(3), 1);
     let (entered, _) = ask(rt, kernel, &mut posts, Request::Enter(one, send));
     same(rt, entered, Told::Entered);
-    kernel.post(rt, &posts, Told::Refused(Refusal::CallsSpent));
+    kernel.post(rt, &mut posts, Told::Refused(Refusal::CallsSpent));
     drop(posts);
     takes
 }
 
 // The pen of a box, which a writer wrote with as long as its device takes.
-fn written_pen<C: Ledger, T: Ledger, R: Wait + Abort>(
+fn written_pen<C: Naming, T: Ledger, R: Wait + Abort>(
     rt: &R,
     kernel: &SharedKernel<C, T, SlowPort>,
     takes: &TakeEnd,
@@ -499,7 +533,7 @@ fn written_pen<C: Ledger, T: Ledger, R: Wait + Abort>(
 }
 
 // The bytes of three frames that a writer writes, each when it is given.
-fn told_slowly<C: Ledger, T: Ledger, R: Wait + Abort>(
+fn told_slowly<C: Naming, T: Ledger, R: Wait + Abort>(
     rt: &R,
     kernel: &SharedKernel<C, T, SlowPort>,
     takes: &TakeEnd,
@@ -516,7 +550,7 @@ fn told_slowly<C: Ledger, T: Ledger, R: Wait + Abort>(
 }
 
 // A box that is shut takes nothing more, and its pen goes; one that was given back comes again.
-fn shut_box<C: Ledger, T: Ledger, R: Wait + Abort>(
+fn shut_box<C: Naming, T: Ledger, R: Wait + Abort>(
     rt: &R,
     alloc: Global,
     kernel: &SharedKernel<C, T, SlowPort>,
@@ -524,7 +558,7 @@ fn shut_box<C: Ledger, T: Ledger, R: Wait + Abort>(
     let (mut posts, takes) = connect(rt, alloc, kernel, true);
     let (opened, _) = ask(rt, kernel, &mut posts, Request::Open(2, WireVersion::One));
     holds(rt, matches!(opened, Told::Opened(_, _)));
-    kernel.hang_up(rt, 0, &posts);
+    kernel.hang_up(rt, 0, &mut posts);
     let (shut, _) = ask(rt, kernel, &mut posts, Request::Open(4, WireVersion::One));
     same(rt, shut, Told::Refused(Refusal::NoThread));
     let pen = kernel.wait_pen(rt, &takes);
@@ -536,25 +570,29 @@ fn shut_box<C: Ledger, T: Ledger, R: Wait + Abort>(
 
 #[test]
 fn two_threads_of_the_machine_meet_ten_thousand_times(rt: HostRuntime) {
-    meetings::<Brand, Brand, _>(&rt, rt.alloc(), Blank::new(1 << 63), Blank::new(1 << 63));
+    let (calls, takes) = (Blank::new(1 << 63), Blank::new(1 << 63));
+    let log = BlankLog::new(rt.alloc()).expect(&rt, "a log");
+    meetings::<Brand, Brand, _>(&rt, rt.alloc(), calls, takes, log);
 }
 
-fn meetings<C: Ledger + Send + Sync, T: Ledger + Send + Sync, R: Threads + Wait + Abort + Sync>(
+fn meetings<C: Naming + Send + Sync, T: Ledger + Send + Sync, R: Threads + Wait + Abort + Sync>(
     rt: &R,
     alloc: Global,
     calls: Blank,
     takes: Blank,
+    log: BlankLog,
 )
     requires calls { (calls.name ≡ C.name) × (calls.parts ≡ C.parts) × (calls.parts ≡ 2 ^ 63) }
     requires takes { (takes.name ≡ T.name) × (takes.parts ≡ T.parts) × (takes.parts ≡ 2 ^ 63) }
+    requires log { log ≡ C.table }
 {
-    let kernel = shared::<C, T, R>(rt, alloc, ROOM, calls, takes);
+    let kernel = shared::<C, T, R>(rt, alloc, ROOM, calls, takes, log);
     meet_often(rt, alloc, &kernel);
     has_let_go(rt, &kernel);
     drop(kernel);
 }
 
-fn meet_often<C: Ledger + Send + Sync, T: Ledger + Send + Sync, R: Threads + Wait + Abort + Sync>(
+fn meet_often<C: Naming + Send + Sync, T: Ledger + Send + Sync, R: Threads + Wait + Abort + Sync>(
     rt: &R,
     alloc: Global,
     kernel: &SharedKernel<C, T, SlowPort>,
@@ -569,7 +607,7 @@ fn meet_often<C: Ledger + Send + Sync, T: Ledger + Send + Sync, R: Threads + Wai
     );
 }
 
-fn has_let_go<C: Ledger, T: Ledger, R: Wait + Abort>(
+fn has_let_go<C: Naming, T: Ledger, R: Wait + Abort>(
     rt: &R,
     kernel: &SharedKernel<C, T, SlowPort>,
 ) {
@@ -584,7 +622,7 @@ const MEETINGS: u64 = 10_000;
 
 // Makes calls in turn, each once the one before is over: it receives the words from 0 on in their
 // order, or sends them.
-fn make_calls<C: Ledger, T: Ledger, R: Wait + Abort>(
+fn make_calls<C: Naming, T: Ledger, R: Wait + Abort>(
     rt: &R,
     alloc: Global,
     kernel: &SharedKernel<C, T, SlowPort>,
@@ -609,7 +647,9 @@ fn call_of_word(rt: &impl Abort, alloc: Global, is_receiver: bool, word: u64) ->
 
 #[test]
 fn a_history_of_which_all_may_go_never_fills(rt: HostRuntime) {
-    never_fills::<Brand, Brand, _>(&rt, rt.alloc(), Blank::new(1 << 63), Blank::new(1 << 63));
+    let (calls, takes) = (Blank::new(1 << 63), Blank::new(1 << 63));
+    let log = BlankLog::new(rt.alloc()).expect(&rt, "a log");
+    never_fills::<Brand, Brand, _>(&rt, rt.alloc(), calls, takes, log);
 }
 
 const FEW_ENTRIES: Limits = Limits {
@@ -619,16 +659,18 @@ const FEW_ENTRIES: Limits = Limits {
 
 // Calls that are over at once, each of whose entries may go: of a history that holds 200 entries
 // far more are written, and K5 never comes.
-fn never_fills<C: Ledger, T: Ledger, R: Wait + Abort>(
+fn never_fills<C: Naming, T: Ledger, R: Wait + Abort>(
     rt: &R,
     alloc: Global,
     calls: Blank,
     takes: Blank,
+    log: BlankLog,
 )
     requires calls { (calls.name ≡ C.name) × (calls.parts ≡ C.parts) × (calls.parts ≡ 2 ^ 63) }
     requires takes { (takes.name ≡ T.name) × (takes.parts ≡ T.parts) × (takes.parts ≡ 2 ^ 63) }
+    requires log { log ≡ C.table }
 {
-    let kernel = shared::<C, T, R>(rt, alloc, FEW_ENTRIES, calls, takes);
+    let kernel = shared::<C, T, R>(rt, alloc, FEW_ENTRIES, calls, takes, log);
     let mut party = Party::open(rt, &kernel, 1);
     for word in 0..400 {
         let call = sends(rt, alloc, first(9), word);

@@ -1,8 +1,9 @@
 //! The boxes of connections: made, posted to, looked into, and given back.
-ghost use Rattle.std.specs.Prelude.{◌≡◌, ◌⊎◌, ℕ, List, IfErr, IfOk, slice_get};
+ghost use Rattle.std.specs.Prelude.{◌≡◌, ◌⊎◌, ℕ, List, IfErr, IfOk, slice_get, true};
 ghost use Rattle.ipc_lock.specs.Boxes.{new_box};
 ghost use Rattle.ipc_lock.specs.Gifts.{gifts, no_errands, number_in};
-ghost use Rattle.ipc_lock.specs.Places.{ConnectsAt, FreesSome, LoadsAt};
+ghost use Rattle.ipc_lock.specs.Places.{ConnectsAt, FreesSome, LoadsAt, is_in};
+ghost use Rattle.ipc_lock.specs.Owning.{Begins, Knows, Makes};
 ghost use Rattle.ipc_lock.specs.Turns.{Turned};
 ghost use Rattle.ipc_lock.specs.declared.events.Event.TheVariants as event;
 ghost use Rattle.ipc_connection.specs.Pens.{BeginsEmpty, new_page};
@@ -12,16 +13,24 @@ use super::gifts::{gifts, number_at};
 use crate::errands::Errands;
 use crate::events::Event;
 use ipc_connection::{PenPort, Told};
+use ipc_log::{Log, Naming, Own};
 use std::alloc::AllocError;
 use std::sync::ledger::Ledger;
 
-impl<C: Ledger, T: Ledger, P: PenPort + Drop> Logged<C, T, P> {
+impl<C: Naming, T: Ledger, P: PenPort + Drop> Logged<C, T, P> {
     /// A number that no connection had, and an empty box with the pen of its port: one that was
-    /// given back, else a new one.
-    pub(crate) fn connect(&mut self, port: P) -> Result<(usize, u64), AllocError>
+    /// given back, else a new one. With them goes what the connection knows of the log.
+    pub(crate) fn connect(
+        &mut self,
+        log: &Log<Event, C>,
+        port: P,
+    ) -> Result<(usize, u64, Own<Event, C>), AllocError>
         requires { BeginsEmpty (P.written port) }
         ensures turned { IfOk result (λ own. Turned C P self.old self.new
             (event.Connected own.0 own.1)) }
+        ensures number { IfOk result (λ own. own.2.number ≡ own.1) }
+        ensures own { IfOk result (λ own. Begins own.2 self.new.log
+            (event.Connected own.0 own.2.number)) }
         ensures fresh { IfOk result (λ own. (free : List ℕ) × (free_now : List ℕ)
             × ConnectsAt free free_now self.old.inside.boxes self.new.inside.boxes own.0
             (new_box own.0 own.1 (new_page own.0 own.1 (P.written port) (P.failures port)))) }
@@ -33,34 +42,45 @@ impl<C: Ledger, T: Ledger, P: PenPort + Drop> Logged<C, T, P> {
         };
         match self.inside.connect(port, number) {
             Ok(place) => {
-                self.log.add(&Event::Connected { place, number });
-                Ok((place, number))
+                let connected = Event::Connected { place, number };
+                let own = log.begin(&mut self.keeper, &connected, number);
+                Ok((place, number, own))
             }
             Err(error) => {
-                self.log.add(&Event::Declined { number });
+                log.add(&mut self.keeper, &Event::Declined { number });
                 Err(error)
             }
         }
     }
 
-    /// Leaves what is told. A full or shut box, or one that is not there, drops it.
-    pub(crate) fn post(&mut self, place: usize, told: Told)
+    /// Leaves what is told in the box of an owner. A full or shut box drops it.
+    pub(crate) fn post(
+        &mut self,
+        log: &Log<Event, C>,
+        own: &mut Own<Event, C>,
+        place: usize,
+        told: Told,
+    )
+        requires its { is_in own.old.number (slice_get self.old.inside.boxes place) ≡ true }
+        ensures own { Makes own.old own.new self.old.log self.new.log (event.Posted place
+            (number_in (slice_get self.old.inside.boxes place)) told) }
         ensures turned { Turned C P self.old self.new (event.Posted place
             (number_in (slice_get self.old.inside.boxes place)) told) }
     {
         let said = told;
         let number = number_at(&self.inside, place);
         self.inside.post(place, said);
-        self.log.add(&Event::Posted {
+        let posted = Event::Posted {
             place,
             number,
             said: told,
-        });
+        };
+        log.add_own(&mut self.keeper, own, &posted);
     }
 
     /// Takes a box's pen out, where it lies there and something is to be told. No pen is out
     /// before.
-    pub(crate) fn load(&mut self, place: usize, errands: &mut Errands<P>)
+    pub(crate) fn load(&mut self, log: &Log<Event, C>, place: usize, errands: &mut Errands<P>)
         requires none { errands.old ≡ no_errands }
         ensures turned { Turned C P self.old self.new (event.Looked place (gifts errands.new)) }
         ensures loads { LoadsAt self.old.inside.kernel self.new.inside.kernel
@@ -68,19 +88,26 @@ impl<C: Ledger, T: Ledger, P: PenPort + Drop> Logged<C, T, P> {
             (slice_get self.old.inside.boxes place) no_errands errands.new }
     {
         self.inside.load(place, errands);
-        self.log.add(&Event::Looked {
-            place,
-            gave: gifts(errands),
-        });
+        log.add(
+            &mut self.keeper,
+            &Event::Looked {
+                place,
+                gave: gifts(errands),
+            },
+        );
     }
 
     /// Gives the box of a connection back that nobody uses any more. Where it is that of another
     /// one all stays.
-    pub(crate) fn release(&mut self, place: usize, number: u64)
-        ensures turned { Turned C P self.old self.new (event.Released place number) }
-        ensures frees { FreesSome self.old.inside.boxes place number }
+    pub(crate) fn release(&mut self, log: &Log<Event, C>, own: Own<Event, C>, place: usize)
+        ensures knew { Knows own self.old.log }
+        ensures turned { Turned C P self.old self.new (event.Released place own.number) }
+        ensures frees { FreesSome self.old.inside.boxes place own.number }
     {
+        let mut own = own;
+        let number = own.number();
         self.inside.release(place, number);
-        self.log.add(&Event::Released { place, number });
+        let released = Event::Released { place, number };
+        log.add_own(&mut self.keeper, &mut own, &released);
     }
 }

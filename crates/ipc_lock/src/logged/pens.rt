@@ -11,25 +11,29 @@ use crate::errands::Errands;
 use crate::events::Event;
 use crate::post_box::Work;
 use ipc_connection::PenPort;
+use ipc_log::{Log, Naming};
 use std::sync::ledger::Ledger;
 
-impl<C: Ledger, T: Ledger, P: PenPort + Drop> Logged<C, T, P> {
+impl<C: Naming, T: Ledger, P: PenPort + Drop> Logged<C, T, P> {
     /// Lays pens down, each in its own box, and takes those out again for which something came
     /// meanwhile.
-    pub(crate) fn take_back(&mut self, errands: &mut Errands<P>)
+    pub(crate) fn take_back(&mut self, log: &Log<Event, C>, errands: &mut Errands<P>)
         ensures turned { Turned C P self.old self.new (event.Laid (gifts errands.new)) }
         ensures takes { TakesBack self.old.inside.kernel self.new.inside.kernel
             self.old.inside.boxes self.new.inside.boxes errands.old errands.new }
     {
         self.inside.take_back(errands);
-        self.log.add(&Event::Laid {
-            gave: gifts(errands),
-        });
+        log.add(
+            &mut self.keeper,
+            &Event::Laid {
+                gave: gifts(errands),
+            },
+        );
     }
 
     /// What the writer of the connection of a number does next, whose box is that of a place; None
     /// while there is nothing to do. It ends where that has no such box any more.
-    pub(crate) fn work(&mut self, place: usize, number: u64) -> Option<Work<P>>
+    pub(crate) fn work(&mut self, log: &Log<Event, C>, place: usize, number: u64) -> Option<Work<P>>
         ensures turned { Turned C P self.old self.new (event.Worked place number
             (work_gifts (slice_get self.old.inside.boxes place) result)) }
         ensures works { WorksFor self.old.inside.kernel self.new.inside.kernel
@@ -38,11 +42,14 @@ impl<C: Ledger, T: Ledger, P: PenPort + Drop> Logged<C, T, P> {
     {
         let idle = idle_at(&self.inside, place);
         let next = self.inside.work(place, number);
-        self.log.add(&Event::Worked {
-            place,
-            number,
-            gave: gifts_of_work(&idle, &next),
-        });
+        log.add(
+            &mut self.keeper,
+            &Event::Worked {
+                place,
+                number,
+                gave: gifts_of_work(&idle, &next),
+            },
+        );
         next
     }
 }

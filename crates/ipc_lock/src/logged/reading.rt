@@ -16,31 +16,36 @@ use crate::not_given::NotGiven;
 use crate::part::{Behind, HeldPart};
 use crate::seated::{TakeSeat, Taken};
 use ipc_connection::PenPort;
+use ipc_log::{Log, Naming};
 use std::alloc::AllocError;
 use std::sync::ledger::Ledger;
 
-impl<C: Ledger, T: Ledger, P: PenPort + Drop> Logged<C, T, P> {
+impl<C: Naming, T: Ledger, P: PenPort + Drop> Logged<C, T, P> {
     /// The entries before a place of the history, counted from 0, are not read any more.
-    pub(crate) fn mark(&mut self, upto: usize)
+    pub(crate) fn mark(&mut self, log: &Log<Event, C>, upto: usize)
         ensures turned { Turned C P self.old self.new (event.Marked upto) }
     {
         self.inside.mark(upto);
-        self.log.add(&Event::Marked { upto });
+        log.add(&mut self.keeper, &Event::Marked { upto });
     }
 
     /// The same, and how many entries stand at that place and behind it.
-    pub(crate) fn mark_traced(&mut self, upto: usize) -> usize
+    pub(crate) fn mark_traced(&mut self, log: &Log<Event, C>, upto: usize) -> usize
         ensures turned { Turned C P self.old self.new (event.Marked upto) }
         ensures left { result ≡ length self.old.inside.kernel.history - upto }
         ensures legal { Legal self.old.inside.kernel.history }
     {
         let left = self.inside.mark_traced(upto);
-        self.log.add(&Event::Marked { upto });
+        log.add(&mut self.keeper, &Event::Marked { upto });
         left
     }
 
     /// Takes the outcome of the seat's thread's last call, where it is over.
-    pub(crate) fn take_for(&mut self, seat: &mut TakeSeat<T>) -> Option<Taken<T>>
+    pub(crate) fn take_for(
+        &mut self,
+        log: &Log<Event, C>,
+        seat: &mut TakeSeat<T>,
+    ) -> Option<Taken<T>>
         ensures turned { Turned C P self.old self.new (event.Took seat.old.thread seat.old.taken
             (outcomes_in result)) }
         ensures some { IfSome result (λ taken. Gives self.old.inside.kernel
@@ -58,11 +63,14 @@ impl<C: Ledger, T: Ledger, P: PenPort + Drop> Logged<C, T, P> {
         let thread = seat.thread();
         let taken = seat.taken();
         let outcome = self.inside.take_for(seat);
-        self.log.add(&Event::Took {
-            thread,
-            taken,
-            outcomes: outcomes(&outcome),
-        });
+        log.add(
+            &mut self.keeper,
+            &Event::Took {
+                thread,
+                taken,
+                outcomes: outcomes(&outcome),
+            },
+        );
         outcome
     }
 
@@ -73,7 +81,11 @@ impl<C: Ledger, T: Ledger, P: PenPort + Drop> Logged<C, T, P> {
     /// # Errors
     ///
     /// Memory let go of the first entry, or there is none for the copies; nothing has changed.
-    pub(crate) fn part_behind(&mut self, index: usize) -> Result<Behind, NotGiven>
+    pub(crate) fn part_behind(
+        &mut self,
+        log: &Log<Event, C>,
+        index: usize,
+    ) -> Result<Behind, NotGiven>
         ensures turned { Turned C P self.old self.new event.Parted }
         ensures behind { IfOk result (IsBehind self.old.inside.kernel.history
             self.old.inside.kernel.taken index) }
@@ -83,7 +95,7 @@ impl<C: Ledger, T: Ledger, P: PenPort + Drop> Logged<C, T, P> {
         ensures err { OnErr result (self.new.inside ≡ self.old.inside) }
     {
         let behind = self.inside.part_behind(index);
-        self.log.add(&Event::Parted);
+        log.add(&mut self.keeper, &Event::Parted);
         behind
     }
 
@@ -93,7 +105,10 @@ impl<C: Ledger, T: Ledger, P: PenPort + Drop> Logged<C, T, P> {
     /// # Errors
     ///
     /// No memory for it.
-    pub(crate) fn part_if_marked(&mut self) -> Result<Option<HeldPart>, AllocError>
+    pub(crate) fn part_if_marked(
+        &mut self,
+        log: &Log<Event, C>,
+    ) -> Result<Option<HeldPart>, AllocError>
         ensures turned { Turned C P self.old self.new event.Parted }
         ensures part { IfOk result (λ part. IfSome part (IsPartOf self.old.inside.kernel.history
             self.old.inside.kernel.taken)) }
@@ -108,7 +123,7 @@ impl<C: Ledger, T: Ledger, P: PenPort + Drop> Logged<C, T, P> {
             self.old.inside.kernel self.new.inside.kernel) }
     {
         let part = self.inside.part_if_marked();
-        self.log.add(&Event::Parted);
+        log.add(&mut self.keeper, &Event::Parted);
         part
     }
 }

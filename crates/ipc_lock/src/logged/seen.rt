@@ -5,20 +5,31 @@ ghost use Rattle.ipc_history.specs.Holding.{held_of};
 ghost use Rattle.ipc_history.specs.Legal.{Legal};
 ghost use Rattle.ipc_history.specs.Threads.{is_live};
 ghost use Rattle.ipc_lock.specs.Groups.{IsGroupAt};
+ghost use Rattle.ipc_lock.specs.Owning.{Sees};
 ghost use Rattle.ipc_lock.specs.Places.{is_empty_in, is_in, is_shut_in};
 ghost use Rattle.ipc_lock.specs.Turns.{Runs};
 ghost use Rattle.l4sh_state.specs.States.{IsStateOf};
 
 use super::Logged;
+use crate::events::Event;
 use crate::not_given::NotGiven;
 use crate::seated::TakeSeat;
 use ipc_connection::PenPort;
 use ipc_history::Entry;
+use ipc_log::{Log, Naming, Own};
 use l4sh_state::State;
 use std::sync::ledger::Ledger;
 use std::sync::{Arc, Condvar};
 
-impl<C: Ledger, T: Ledger, P: PenPort + Drop> Logged<C, T, P> {
+impl<C: Naming, T: Ledger, P: PenPort + Drop> Logged<C, T, P> {
+    /// Shows an owner the log.
+    pub(crate) fn show(&mut self, log: &Log<Event, C>, own: &mut Own<Event, C>)
+        ensures stays { self.new ≡ self.old }
+        ensures own { Sees own.old own.new self.old.log }
+    {
+        log.look(&mut self.keeper, own);
+    }
+
     /// Whether the seat's thread is live.
     pub(crate) fn is_live(&self, seat: &TakeSeat<T>) -> bool
         ensures live { result ≡ is_live self.now.inside.kernel.history seat.now.thread }

@@ -1,9 +1,10 @@
 //! Steps, each with what it tells.
-ghost use Rattle.std.specs.Prelude.{◌≡◌, ◌∷◌, [], IfNone, None, slice_get};
+ghost use Rattle.std.specs.Prelude.{◌≡◌, ◌∷◌, [], IfNone, None, false, slice_get, true};
 ghost use Rattle.ipc_lock.specs.Acting.{AnswersStep, Asked, GivesSeat, HandsBack};
 ghost use Rattle.ipc_lock.specs.Boxes.{changed_at};
 ghost use Rattle.ipc_lock.specs.Gifts.{gifts, no_errands, number_in};
-ghost use Rattle.ipc_lock.specs.Places.{EndsAt, OnlyLoads, shut_for, thread_for};
+ghost use Rattle.ipc_lock.specs.Owning.{Makes};
+ghost use Rattle.ipc_lock.specs.Places.{EndsAt, OnlyLoads, is_in, shut_for, thread_for};
 ghost use Rattle.ipc_lock.specs.Telling.{ActsAndTells, AsksAndTells};
 ghost use Rattle.ipc_lock.specs.Turns.{Turned};
 ghost use Rattle.ipc_lock.specs.declared.events.Event.TheVariants as event;
@@ -17,13 +18,15 @@ use crate::seated::{Answered, CallSeat};
 use ipc_base::Past;
 use ipc_connection::{PenPort, Request, Told};
 use ipc_core::Command;
+use ipc_log::{Log, Naming, Own};
 use std::sync::ledger::Ledger;
 
-impl<C: Ledger, T: Ledger, P: PenPort + Drop> Logged<C, T, P> {
+impl<C: Naming, T: Ledger, P: PenPort + Drop> Logged<C, T, P> {
     /// Makes one step, a command of the kernel by a seat where a thread calls, and takes the pens
     /// out of those whom it told something. No pen is out before.
     pub(crate) fn act_and_tell(
         &mut self,
+        log: &Log<Event, C>,
         now: u64,
         seat: Option<CallSeat<C>>,
         command: Command,
@@ -46,12 +49,15 @@ impl<C: Ledger, T: Ledger, P: PenPort + Drop> Logged<C, T, P> {
         let (answered, after) = self.inside.act_and_tell(now, seat, command, errands);
         let mut answers = Past::new();
         answers.add(answered.answer());
-        self.log.add(&Event::Acted {
-            now,
-            commands,
-            answers,
-            gave: gifts(errands),
-        });
+        log.add(
+            &mut self.keeper,
+            &Event::Acted {
+                now,
+                commands,
+                answers,
+                gave: gifts(errands),
+            },
+        );
         (answered, after)
     }
 
@@ -60,6 +66,8 @@ impl<C: Ledger, T: Ledger, P: PenPort + Drop> Logged<C, T, P> {
     /// own box. No pen is out before.
     pub(crate) fn ask_and_tell(
         &mut self,
+        log: &Log<Event, C>,
+        own: &mut Own<Event, C>,
         now: u64,
         place: usize,
         seat: Option<CallSeat<C>>,
@@ -68,6 +76,10 @@ impl<C: Ledger, T: Ledger, P: PenPort + Drop> Logged<C, T, P> {
         errands: &mut Errands<P>,
     ) -> (Told, Option<CallSeat<C>>, After)
         requires none { errands.old ≡ no_errands }
+        requires its { is_in own.old.number (slice_get self.old.inside.boxes place) ≡ true }
+        ensures own { Makes own.old own.new self.old.log self.new.log (event.Asked now place
+            (number_in (slice_get self.old.inside.boxes place)) (request ∷ []) space result.0
+            (gifts errands.new)) }
         ensures turned { Turned C P self.old self.new (event.Asked now place
             (number_in (slice_get self.old.inside.boxes place)) (request ∷ []) space result.0
             (gifts errands.new)) }
@@ -84,7 +96,7 @@ impl<C: Ledger, T: Ledger, P: PenPort + Drop> Logged<C, T, P> {
             .inside
             .ask_and_tell(now, place, seat, request, space, errands);
         let said = told;
-        self.log.add(&Event::Asked {
+        let asked = Event::Asked {
             now,
             place,
             number,
@@ -92,21 +104,59 @@ impl<C: Ledger, T: Ledger, P: PenPort + Drop> Logged<C, T, P> {
             space,
             said,
             gave: gifts(errands),
-        });
+        };
+        log.add_own(&mut self.keeper, own, &asked);
         (told, calls, after)
     }
 
-    /// Shuts the box of the connection of this number, and ends the thread that is told there. None
-    /// where there is none. No pen is out before.
-    pub(crate) fn end_at(
+    /// Shuts the box of the connection of this number, and ends the thread that is told there, as
+    /// its reader asks. None where there is none. No pen is out before.
+    pub(crate) fn hang_up(
         &mut self,
+        log: &Log<Event, C>,
+        own: &mut Own<Event, C>,
+        now: u64,
+        place: usize,
+        errands: &mut Errands<P>,
+    ) -> Option<After>
+        requires none { errands.old ≡ no_errands }
+        ensures own { Makes own.old own.new self.old.log self.new.log (event.Ended now place
+            own.old.number true (gifts errands.new)) }
+        ensures turned { Turned C P self.old self.new (event.Ended now place
+            own.old.number true (gifts errands.new)) }
+        ensures ends { EndsAt self.old.inside.upkeep self.new.inside.upkeep
+            self.old.inside.kernel self.new.inside.kernel now
+            (thread_for own.old.number (slice_get self.old.inside.boxes place)) }
+        ensures none { IfNone result
+            (thread_for own.old.number (slice_get self.old.inside.boxes place) ≡ None) }
+        ensures shut { OnlyLoads (changed_at (shut_for own.old.number) self.old.inside.boxes place)
+            self.new.inside.boxes }
+    {
+        let number = own.number();
+        let ended = self.inside.end_at(now, place, number, errands);
+        let by_reader = Event::Ended {
+            now,
+            place,
+            number,
+            is_by_reader: true,
+            gave: gifts(errands),
+        };
+        log.add_own(&mut self.keeper, own, &by_reader);
+        ended
+    }
+
+    /// Shuts the box of the connection of this number, and ends the thread that is told there, as
+    /// its writer asks. None where there is none. No pen is out before.
+    pub(crate) fn leave(
+        &mut self,
+        log: &Log<Event, C>,
         now: u64,
         place: usize,
         number: u64,
         errands: &mut Errands<P>,
     ) -> Option<After>
         requires none { errands.old ≡ no_errands }
-        ensures turned { Turned C P self.old self.new (event.Ended now place number
+        ensures turned { Turned C P self.old self.new (event.Ended now place number false
             (gifts errands.new)) }
         ensures ends { EndsAt self.old.inside.upkeep self.new.inside.upkeep
             self.old.inside.kernel self.new.inside.kernel now
@@ -117,12 +167,16 @@ impl<C: Ledger, T: Ledger, P: PenPort + Drop> Logged<C, T, P> {
             self.new.inside.boxes }
     {
         let ended = self.inside.end_at(now, place, number, errands);
-        self.log.add(&Event::Ended {
-            now,
-            place,
-            number,
-            gave: gifts(errands),
-        });
+        log.add(
+            &mut self.keeper,
+            &Event::Ended {
+                now,
+                place,
+                number,
+                is_by_reader: false,
+                gave: gifts(errands),
+            },
+        );
         ended
     }
 }

@@ -6,9 +6,10 @@ ghost use Rattle.ipc_lock.specs.Turns.{Runs};
 use super::Logged;
 use crate::rest::Rest;
 use ipc_connection::PenPort;
+use ipc_log::Naming;
 use std::sync::ledger::Ledger;
 
-impl<C: Ledger, T: Ledger, P: PenPort + Drop> Logged<C, T, P> {
+impl<C: Naming, T: Ledger, P: PenPort + Drop> Logged<C, T, P> {
     pub(crate) fn end_work(&mut self)
         ensures { self.new ≡ record self.old { is_work_over = true } }
     {

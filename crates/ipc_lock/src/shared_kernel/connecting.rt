@@ -1,25 +1,29 @@
 //! Connections: their boxes, what their readers ask for, and what their writers write.
 ghost use Rattle.std.specs.Prelude.{◌≡◌, None, IfOk, IfSome, IfNone, IfErr, false, true, slice_get};
 ghost use Rattle.std.specs.Sync.Mutex.{mutex_guard_value};
-ghost use Rattle.ipc_lock.specs.Above.{AsksOrRefuses, ConnectsSome, EndsSome, EndsWorkSome, GoneSome, LaysSome, PostsOrDrops, ReleasesSome, TakesOutSome};
+ghost use Rattle.ipc_lock.specs.Above.{AsksOrRefuses, ConnectsSome, EndsSome, EndsWorkSome, GoneSome, HangsUpSome, LaysSome, PostsOrDrops, ReleasesSome, TakesOutSome};
 ghost use Rattle.ipc_lock.specs.Acting.{Asked};
 ghost use Rattle.ipc_lock.specs.Places.{is_empty_in, is_in, is_shut_in};
 ghost use Rattle.ipc_connection.specs.Pens.{BeginsEmpty};
+ghost use Rattle.ipc_log.specs.Rules.{AreOne};
 
 use super::SharedKernel;
 use crate::ends::{PostEnd, TakeEnd};
 use crate::entered::Entered;
 use crate::errands::Errands;
+use crate::events::Event;
+use crate::inside::After;
 use crate::logged::Logged;
 use crate::post_box::{Loaded, Work};
 use ipc_connection::{PenPort, Request, Told};
 use ipc_core::Refusal;
+use ipc_log::{Naming, Own};
 use std::mem::replace;
 use std::sync::ledger::Ledger;
 use std::sync::{Arc, Condvar, MutexGuard, Wait};
 use std::thread::yield_now;
 
-impl<C: Ledger, T: Ledger, P: PenPort + Drop> SharedKernel<C, T, P> {
+impl<C: Naming, T: Ledger, P: PenPort + Drop> SharedKernel<C, T, P> {
     /// Makes an empty box for the connection of a port, to which nothing was written, and answers
     /// its two ends. Its thread will be of this space, 1 to `MAX_SPACE`. The only refusal is K4.
     #[tactic(auto, using(crate::proofs::Above::connects_some))]
@@ -33,17 +37,17 @@ impl<C: Ledger, T: Ledger, P: PenPort + Drop> SharedKernel<C, T, P> {
         ensures space { IfOk result (λ ends. ends.0.space ≡ space) }
         ensures seat { IfOk result (λ ends. ends.0.seat ≡ None) }
         ensures place { IfOk result (λ ends. ends.1.place ≡ ends.0.place) }
-        ensures number { IfOk result (λ ends. ends.1.number ≡ ends.0.number) }
-        ensures fresh { IfOk result (λ ends. ConnectsSome C P ends.0.place ends.0.number) }
+        ensures number { IfOk result (λ ends. ends.1.number ≡ ends.0.own.number) }
+        ensures fresh { IfOk result (λ ends. ConnectsSome C P ends.0.place ends.0.own) }
         ensures err { IfErr result (λ refusal. refusal ≡ Refusal.NoMemory) }
     {
-        match self.inside(rt).connect(port) {
-            Ok((place, number)) => {
+        match self.inside(rt).connect(&self.log, port) {
+            Ok((place, number, own)) => {
                 let posts = PostEnd {
                     place,
-                    number,
                     space,
                     seat: None,
+                    own,
                 };
                 Ok((posts, TakeEnd { place, number }))
             }
@@ -54,9 +58,15 @@ impl<C: Ledger, T: Ledger, P: PenPort + Drop> SharedKernel<C, T, P> {
     /// Gives a connection's box back, once its writer has ended.
     #[tactic(auto, using(crate::proofs::Above::releases_some))]
     pub fn release<R: Wait>(&self, rt: &R, end: PostEnd<C>)
-        ensures releases { ReleasesSome C P end.place end.number }
+        ensures releases { ReleasesSome C P end.place end.own }
     {
-        self.inside(rt).release(end.place, end.number);
+        let PostEnd {
+            place,
+            space: _,
+            seat: _,
+            own,
+        } = end;
+        self.inside(rt).release(&self.log, own, place);
     }
 
     /// Asks the kernel for a connection at a moment, in microseconds, and tells at once what it
@@ -78,21 +88,23 @@ impl<C: Ledger, T: Ledger, P: PenPort + Drop> SharedKernel<C, T, P> {
         request: Request,
     ) -> (Told, Entered)
         ensures place { end.new.place ≡ end.old.place }
-        ensures number { end.new.number ≡ end.old.number }
+        ensures number { end.new.own.number ≡ end.old.own.number }
         ensures space { end.new.space ≡ end.old.space }
         ensures asked { Asked result.0 request end.old.seat end.new.seat }
-        ensures asks { AsksOrRefuses P now end.old.place end.old.number end.old.seat request
-            end.old.space result.0 }
+        ensures asks { AsksOrRefuses P now end.old.place end.old.seat request
+            end.old.space result.0 end.old.own end.new.own }
     {
-        let Some(mut inside) = self.when_empty(rt, end.place, end.number) else {
+        let Some(mut inside) = self.when_empty(rt, &mut end.own, end.place) else {
             return (Told::Refused(Refusal::NoThread), Entered::Open);
         };
         let mut errands = Errands::none();
-        let own = end.seat.take();
+        let own_seat = end.seat.take();
         let (told, seat, after) = inside.ask_and_tell(
+            &self.log,
+            &mut end.own,
             now,
             end.place,
-            own,
+            own_seat,
             request,
             end.space,
             &mut errands,
@@ -110,45 +122,63 @@ impl<C: Ledger, T: Ledger, P: PenPort + Drop> SharedKernel<C, T, P> {
 
     /// Tells it by its frame. A shut box drops it.
     #[tactic(auto, using(crate::proofs::Above::posts_some, crate::proofs::Above::posts_none))]
-    pub fn post<R: Wait>(&self, rt: &R, end: &PostEnd<C>, told: Told)
-        ensures posts { PostsOrDrops C P end.now.place end.now.number told }
+    pub fn post<R: Wait>(&self, rt: &R, end: &mut PostEnd<C>, told: Told)
+        ensures stays { end.new ≡ record end.old { own = end.new.own } }
+        ensures posts { PostsOrDrops C P end.old.place told end.old.own end.new.own }
     {
-        let Some(mut inside) = self.when_empty(rt, end.place, end.number) else {
+        let Some(mut inside) = self.when_empty(rt, &mut end.own, end.place) else {
             return;
         };
-        inside.post(end.place, told);
+        inside.post(&self.log, &mut end.own, end.place, told);
         let mut errands = Errands::none();
-        inside.load(end.place, &mut errands);
+        inside.load(&self.log, end.place, &mut errands);
         drop(inside);
         self.carry(rt, &mut errands);
     }
 
     /// Ends the thread of a reader's end, if there is one, and shuts its box.
-    pub fn hang_up<R: Wait>(&self, rt: &R, now: u64, end: &PostEnd<C>)
-        ensures ends { EndsSome C P now end.now.place end.now.number }
-    {
-        self.end_at(rt, now, end.place, end.number);
-    }
-
-    /// Ends the thread of a writer's end, if there is one, and shuts its box.
-    pub fn leave<R: Wait>(&self, rt: &R, now: u64, end: &TakeEnd)
-        ensures ends { EndsSome C P now end.now.place end.now.number }
-    {
-        self.end_at(rt, now, end.place, end.number);
-    }
-
-    /// Ends the thread that is told in the box of a connection, if there is one, and shuts it.
-    fn end_at<R: Wait>(&self, rt: &R, now: u64, place: usize, number: u64)
-        ensures ends { EndsSome C P now place number }
+    pub fn hang_up<R: Wait>(&self, rt: &R, now: u64, end: &mut PostEnd<C>)
+        ensures stays { end.new ≡ record end.old { own = end.new.own } }
+        ensures ends { HangsUpSome C P now end.old.place end.old.own end.new.own }
     {
         let mut errands = Errands::none();
         let mut inside = self.inside(rt);
-        let ended = inside.end_at(now, place, number, &mut errands);
+        let ended = inside.hang_up(&self.log, &mut end.own, now, end.place, &mut errands);
         drop(inside);
+        self.settle_end(rt, ended, &mut errands);
+    }
+
+    /// Ends the thread of a writer's end, if there is one, and shuts its box.
+    #[tactic(auto, using(crate::proofs::Above::ends_some))]
+    pub fn leave<R: Wait>(&self, rt: &R, now: u64, end: &TakeEnd)
+        ensures ends { EndsSome C P now end.now.place end.now.number false }
+    {
+        let mut errands = Errands::none();
+        let mut inside = self.inside(rt);
+        let ended = inside.leave(&self.log, now, end.place, end.number, &mut errands);
+        drop(inside);
+        self.settle_end(rt, ended, &mut errands);
+    }
+
+    /// Wakes those whom the end of a connection concerns, if there was one, and writes what it
+    /// told.
+    fn settle_end<R: Wait>(&self, rt: &R, ended: Option<After>, errands: &mut Errands<P>) {
         if let Some(after) = ended {
             self.wake_mover(&after);
-            self.settle(rt, after, &mut errands);
+            self.settle(rt, after, errands);
         }
+    }
+
+    /// Two readers' ends speak of one log: what one of them saw of it the other saw, too, and
+    /// perhaps more. It changes nothing.
+    pub fn compare(&self, one: &mut PostEnd<C>, other: &mut PostEnd<C>)
+        ensures one_stays { one.new ≡ one.old }
+        ensures other_stays { other.new ≡ other.old }
+        ensures are_one { AreOne one.old.own.seen other.old.own.seen }
+    {
+        let mut seen = self.log.front_of(&mut one.own);
+        let seen_by_other = self.log.front_of(&mut other.own);
+        self.log.compare(&mut seen, seen_by_other);
     }
 
     /// Waits until a box's pen lies there with something to write that nobody else has taken, and
@@ -160,7 +190,7 @@ impl<C: Ledger, T: Ledger, P: PenPort + Drop> SharedKernel<C, T, P> {
     {
         let mut inside = self.inside(rt);
         for _ in rt.forever() {
-            match inside.work(end.place, end.number) {
+            match inside.work(&self.log, end.place, end.number) {
                 Some(Work::Write(pen)) => return Some(pen),
                 Some(Work::Over) => return None,
                 None => {}
@@ -178,7 +208,7 @@ impl<C: Ledger, T: Ledger, P: PenPort + Drop> SharedKernel<C, T, P> {
         ensures lays { LaysSome C P pen }
     {
         let mut errands = Errands::of(pen);
-        self.inside(rt).take_back(&mut errands);
+        self.inside(rt).take_back(&self.log, &mut errands);
         self.carry(rt, &mut errands);
     }
 
@@ -201,28 +231,32 @@ impl<C: Ledger, T: Ledger, P: PenPort + Drop> SharedKernel<C, T, P> {
     }
 
     /// Takes the lock once the box of the connection of this number is empty. None once it is shut,
-    /// or gone.
-    #[tactic(auto, using(crate::proofs::Above::gone_shut, crate::proofs::Above::gone_other))]
+    /// or gone; its owner is shown the log then.
     fn when_empty<'a, R: Wait>(
         &'a self,
         rt: &R,
+        own: &mut Own<Event, C>,
         place: usize,
-        number: u64,
     ) -> Option<MutexGuard<'a, Logged<C, T, P>>>
-        ensures own { IfSome result (λ inside.
-            is_in number (slice_get (mutex_guard_value inside).inside.boxes place) ≡ true) }
+        ensures its { IfSome result (λ inside.
+            is_in own.old.number (slice_get (mutex_guard_value inside).inside.boxes place)
+            ≡ true) }
         ensures shut { IfSome result (λ inside.
             is_shut_in (slice_get (mutex_guard_value inside).inside.boxes place) ≡ false) }
         ensures empty { IfSome result (λ inside.
             is_empty_in (slice_get (mutex_guard_value inside).inside.boxes place) ≡ true) }
-        ensures gone { IfNone result (GoneSome C P place number) }
+        ensures same { IfSome result (λ _. own.new ≡ own.old) }
+        ensures gone { IfNone result (GoneSome C P place own.old own.new) }
     {
+        let number = own.number();
         let mut inside = self.inside(rt);
         for _ in rt.forever() {
             if !inside.is_in(place, number) {
+                inside.show(&self.log, own);
                 return None;
             }
             if inside.is_shut(place) {
+                inside.show(&self.log, own);
                 return None;
             }
             if inside.is_empty(place) {

@@ -3,6 +3,7 @@
 use super::SharedKernel;
 use crate::logged::Logged;
 use ipc_connection::PenPort;
+use ipc_log::Naming;
 use std::hint::spin_loop;
 use std::sync::ledger::Ledger;
 use std::sync::{MutexGuard, Wait};
@@ -16,7 +17,7 @@ const TRIES: u32 = 16;
 /// and to be woken takes longer.
 const TURNS: u32 = 16;
 
-impl<C: Ledger, T: Ledger, P: PenPort + Drop> SharedKernel<C, T, P> {
+impl<C: Naming, T: Ledger, P: PenPort + Drop> SharedKernel<C, T, P> {
     /// Takes the lock. It is tried for a while first: who sleeps for it has to be woken, and that
     /// costs more than most steps.
     pub(super) fn inside<R: Wait>(&self, rt: &R) -> MutexGuard<'_, Logged<C, T, P>> {

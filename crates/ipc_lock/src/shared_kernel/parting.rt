@@ -6,11 +6,12 @@ use super::SharedKernel;
 use crate::not_given::NotGiven;
 use crate::part::{Behind, HeldPart};
 use ipc_connection::PenPort;
+use ipc_log::Naming;
 use std::alloc::AllocError;
 use std::sync::Wait;
 use std::sync::ledger::Ledger;
 
-impl<C: Ledger, T: Ledger, P: PenPort + Drop> SharedKernel<C, T, P> {
+impl<C: Naming, T: Ledger, P: PenPort + Drop> SharedKernel<C, T, P> {
     /// Copies of the entries from a place of the history on, counted from 0, and the part of a
     /// trace that begins behind them. Only who reads the history for its trace asks for it. All
     /// entries are marked then, as by [`SharedKernel::mark`], and memory lets go at once of those
@@ -24,7 +25,7 @@ impl<C: Ledger, T: Ledger, P: PenPort + Drop> SharedKernel<C, T, P> {
     pub fn part_behind<R: Wait>(&self, rt: &R, index: usize) -> Result<Behind, NotGiven>
         ensures { IfOk result (EndsAPart C P index) }
     {
-        self.inside(rt).part_behind(index)
+        self.inside(rt).part_behind(&self.log, index)
     }
 
     /// The part of a trace that begins behind the last entry. None where an entry is not marked:
@@ -37,6 +38,6 @@ impl<C: Ledger, T: Ledger, P: PenPort + Drop> SharedKernel<C, T, P> {
     pub fn part<R: Wait>(&self, rt: &R) -> Result<Option<HeldPart>, AllocError>
         ensures { IfOk result (λ part. IfSome part (PartOfSome C P)) }
     {
-        self.inside(rt).part_if_marked()
+        self.inside(rt).part_if_marked(&self.log)
     }
 }

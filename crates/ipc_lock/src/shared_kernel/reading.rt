@@ -11,11 +11,12 @@ use crate::not_given::NotGiven;
 use ipc_connection::PenPort;
 use ipc_history::Entry;
 use ipc_lines::entry_line;
+use ipc_log::Naming;
 use l4sh_state::State;
 use std::sync::Wait;
 use std::sync::ledger::Ledger;
 
-impl<C: Ledger, T: Ledger, P: PenPort + Drop> SharedKernel<C, T, P> {
+impl<C: Naming, T: Ledger, P: PenPort + Drop> SharedKernel<C, T, P> {
     /// Waits for the entry of this place of the history, counted from 0, and answers its line,
     /// without a newline. None once the kernel was closed and has no such entry. The entry is
     /// copied under the lock, and its line is made outside it.
@@ -75,7 +76,7 @@ impl<C: Ledger, T: Ledger, P: PenPort + Drop> SharedKernel<C, T, P> {
     pub fn mark<R: Wait>(&self, rt: &R, upto: usize)
         ensures marks { MarksSome C P upto }
     {
-        self.inside(rt).mark(upto);
+        self.inside(rt).mark(&self.log, upto);
     }
 
     /// As [`SharedKernel::mark`], and answers how many entries stand at that place and behind it.
@@ -85,7 +86,7 @@ impl<C: Ledger, T: Ledger, P: PenPort + Drop> SharedKernel<C, T, P> {
         ensures marks { MarksSome C P upto }
         ensures left { LeftOfSome C P upto result }
     {
-        self.inside(rt).mark_traced(upto)
+        self.inside(rt).mark_traced(&self.log, upto)
     }
 
     /// How many entries memory holds, to say when it is near its limit.

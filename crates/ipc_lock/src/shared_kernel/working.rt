@@ -12,6 +12,7 @@ use crate::rest::Rest;
 use crate::seated::Answered;
 use ipc_connection::PenPort;
 use ipc_core::{Advance, Answer, Command};
+use ipc_log::Naming;
 use ipc_words::limits::{BLOCK_BYTES, MAX_STRING_BYTES};
 use std::hint::spin_loop;
 use std::rt::Clock;
@@ -50,7 +51,7 @@ fn has_moved<C: Ledger, T: Ledger>(answered: &Answered<C, T>) -> bool
     matches!(answered.answer(), Answer::Advanced(Advance::Moved))
 }
 
-impl<C: Ledger, T: Ledger, P: PenPort + Drop> SharedKernel<C, T, P> {
+impl<C: Naming, T: Ledger, P: PenPort + Drop> SharedKernel<C, T, P> {
     /// Wakes the mover where a transfer has begun.
     pub(super) fn wake_mover(&self, after: &After) {
         if after.begun {

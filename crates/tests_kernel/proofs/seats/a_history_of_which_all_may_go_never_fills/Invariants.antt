@@ -5,3 +5,6 @@ ghosts-never_fills-C-Ledger g a = record { name = a.calls.name; parts = a.calls.
 
 abbrev pub ghosts-never_fills-T-Ledger : goal.ghosts-never_fills-T-Ledger
 ghosts-never_fills-T-Ledger g a = record { name = a.takes.name; parts = a.takes.parts }
+
+abbrev pub ghosts-never_fills-C-Naming : goal.ghosts-never_fills-C-Naming
+ghosts-never_fills-C-Naming g a = record { table = a.log }

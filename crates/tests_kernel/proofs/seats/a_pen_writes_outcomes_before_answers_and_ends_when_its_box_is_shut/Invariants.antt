@@ -5,3 +5,6 @@ ghosts-boxes-C-Ledger g a = record { name = a.calls.name; parts = a.calls.parts 
 
 abbrev pub ghosts-boxes-T-Ledger : goal.ghosts-boxes-T-Ledger
 ghosts-boxes-T-Ledger g a = record { name = a.takes.name; parts = a.takes.parts }
+
+abbrev pub ghosts-boxes-C-Naming : goal.ghosts-boxes-C-Naming
+ghosts-boxes-C-Naming g a = record { table = a.log }

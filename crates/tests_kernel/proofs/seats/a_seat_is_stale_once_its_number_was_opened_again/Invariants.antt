@@ -5,3 +5,6 @@ ghosts-stale_seats-C-Ledger g a = record { name = a.calls.name; parts = a.calls.
 
 abbrev pub ghosts-stale_seats-T-Ledger : goal.ghosts-stale_seats-T-Ledger
 ghosts-stale_seats-T-Ledger g a = record { name = a.takes.name; parts = a.takes.parts }
+
+abbrev pub ghosts-stale_seats-C-Naming : goal.ghosts-stale_seats-C-Naming
+ghosts-stale_seats-C-Naming g a = record { table = a.log }

@@ -5,3 +5,6 @@ ghosts-meetings-C-Ledger g a = record { name = a.calls.name; parts = a.calls.par
 
 abbrev pub ghosts-meetings-T-Ledger : goal.ghosts-meetings-T-Ledger
 ghosts-meetings-T-Ledger g a = record { name = a.takes.name; parts = a.takes.parts }
+
+abbrev pub ghosts-meetings-C-Naming : goal.ghosts-meetings-C-Naming
+ghosts-meetings-C-Naming g a = record { table = a.log }

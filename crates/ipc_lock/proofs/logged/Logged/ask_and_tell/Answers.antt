@@ -4,7 +4,7 @@ use Rattle.ipc_lock.proofs.logged.Logged.ask_and_tell.Goals as goal
 
 pub invariant_of-self : goal.invariant_of-self
 invariant_of-self g c =
-    runs_on _ _ _ _ _ c.self.invariant c.add-2.ensures (record {
+    runs_on _ _ _ _ _ c.self.invariant c.add_own.ensures.log (record {
       is_its = c.number_at-number.ensures;
       request = c.args.request;
       is_it = one_only _ _ _ c.new-requests.ensures c.add.ensures;

@@ -1,11 +1,12 @@
 use Rattle.std.proofs.Common.{ap}
 use Rattle.std.specs.Vec.{vec_items}
+use Rattle.ipc_lock.proofs.Owned.{is_fresh}
 use Rattle.ipc_lock.proofs.Turning.{runs_on, turned}
 use Rattle.ipc_lock.proofs.logged.Logged.connect.Goals as goal
 
 pub invariant_of-self-in-Ok : goal.invariant_of-self-in-Ok
 invariant_of-self-in-Ok g c =
-    runs_on _ _ _ _ _ c.self.invariant c.add.ensures (record {
+    runs_on _ _ _ _ _ c.self.invariant c.begin-own.ensures.log (record {
       free = c.self.inside.inside.free.items;
       free_now = c.connect.new.self.free.items;
       out = _;
@@ -20,7 +21,7 @@ invariant_of-self-in-Ok g c =
 
 pub returns-in-Ok-clause-turned : goal.returns-in-Ok-clause-turned
 returns-in-Ok-clause-turned g c =
-    turned _ _ _ _ c.self.view_is c.self.invariant c.add.ensures (record {
+    turned _ _ _ _ c.self.view_is c.self.invariant c.begin-own.ensures.log (record {
       free = c.self.inside.inside.free.items;
       free_now = c.connect.new.self.free.items;
       out = _;
@@ -35,7 +36,7 @@ returns-in-Ok-clause-turned g c =
 
 pub invariant_of-self-in-Err : goal.invariant_of-self-in-Err
 invariant_of-self-in-Err g c =
-    runs_on _ _ _ _ _ c.self.invariant c.add-in-Err.ensures (record {
+    runs_on _ _ _ _ _ c.self.invariant c.add.ensures (record {
       is_new = c.in-Some.ensures.some.0;
       numbers = c.in-Some.ensures.some.1;
       boxes = c.in-Err.ensures.err;
@@ -43,3 +44,6 @@ invariant_of-self-in-Err g c =
       kernel = ap (λ l. l.kernel) c.connect.ensures.locked;
       upkeep = c.connect.ensures.upkeep;
     })
+
+pub begin-own-requires-clause-is_new : goal.begin-own-requires-clause-is_new
+begin-own-requires-clause-is_new g c = is_fresh _ _ _ _ _ c.self.invariant c.in-Some.ensures.some.0

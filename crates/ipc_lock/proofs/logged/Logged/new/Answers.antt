@@ -7,4 +7,4 @@ returns-clause-inside g c =
     first_parts _ _ _ c.in_ok-inside.ensures.kernel c.in_ok-inside.ensures.upkeep c.in_ok-inside.ensures.boxes c.in_ok-inside.ensures.owners c.new-2.ensures
 
 pub invariant_of-result : goal.invariant_of-result
-invariant_of-result g c = starts _ _ _ _ _ _ c.new-3.ensures (returns-clause-inside g c)
+invariant_of-result g c = starts _ _ _ _ _ _ c.requires.nothing (returns-clause-inside g c)

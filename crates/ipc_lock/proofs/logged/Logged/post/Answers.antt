@@ -5,7 +5,7 @@ use Rattle.ipc_lock.proofs.logged.Logged.post.Goals as goal
 
 pub invariant_of-self : goal.invariant_of-self
 invariant_of-self g c =
-    runs_on _ _ _ _ _ c.self.invariant c.add.ensures (record {
+    runs_on _ _ _ _ _ c.self.invariant c.add_own.ensures.log (record {
       is_its = c.number_at-number.ensures;
       boxes = c.post.ensures.posted;
       owners = ap vec_items c.post.ensures.owners;

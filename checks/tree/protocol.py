@@ -64,7 +64,7 @@ TOLD = [
 NAMED = ("string_bytes", "too_many_bytes", "entries", "too_many_entries", "line_bytes", "whole_line_bytes", "body_bytes", "too_long_body", "outputs",
          "command_entries")
 # What has a size of its own, which may be the number of a limit.
-OF_ITS_OWN = ["const STACK: usize = (N);", "const MOST_BYTES: usize = (N);", "length lines.items + given ≤ (N) }"]
+OF_ITS_OWN = ["const STACK: usize = (N);", "const MIB: u64 = 1 << (N);", "const MOST_BYTES: usize = (N);", "length lines.items + given ≤ (N) }"]
 # The families of l4sh explain, by their letters.
 FAMILIES = {"K": "KERNEL", "F": "FRAME", "S": "SESSION", "TR": "TRACE", "C": "CLIENT", "N": "NAMES"}
 

@@ -1,5 +1,5 @@
--- Whose an event is: which were made by the reader's end of a connection, and what such an end knows
--- of the log.
+-- Whose an event is: which were made by the reader's end of a connection, and what such an end
+-- knows of the log.
 use Rattle.std.specs.Prelude.{◌≡◌, ◌==◌, ◌&&◌, ◌++◌, ◌∷◌, [], ℕ, List, Bool, false}
 use mathlib.Core.List.{IsPrefix}
 use Rattle.ipc_log.specs.Rules.{entries_of}

@@ -7,6 +7,7 @@ ghost use Rattle.ipc_trace.specs.Versions.{header_lines};
 ghost use Rattle.l4sh.specs.Looking.{IsPrinted, IsSaidOf, IsSilent, LooksAt, MayEnd, Prints, PrintsOf};
 ghost use Rattle.l4sh.specs.Looking.{shown_of, torn_end};
 ghost use Rattle.l4sh.specs.declared.looking.Look.TheVariants as look;
+ghost use Rattle.l4sh.specs.declared.looking.Look.TheVariants.{Script};
 
 use crate::counting::counts_of_trace;
 use crate::exit::Exit;
@@ -51,7 +52,7 @@ pub fn look_at_trace<R: PortRead, W: PortWrite>(
         → R.failures reader.old + W.failures writer.old
         < R.failures reader.new + W.failures writer.new }
     ensures silent { IsSilent result → W.written writer.new ≡ W.written writer.old }
-    ensures prints { look ≡ look.Script → IsPrinted result → PrintsOf look.Script
+    ensures prints { look ≡ Script → IsPrinted result → PrintsOf Script
         (R.remaining reader.old) (W.written writer.old) (W.written writer.new) }
 {
     match look {

@@ -244,7 +244,7 @@ fn rotated(host: &Host) -> &'static str {
 }
 
 /// How many threads are there, and behind it a line for each with its socket.
-fn threads_text<C: Ledger, T: Ledger, R: Wait>(
+fn threads_text<C: Naming, T: Ledger, R: Wait>(
     server: &Server<'_, C, T, SocketPort, R>,
     host: &Host,
 ) -> Result<String, AllocError> {

@@ -1,6 +1,6 @@
 -- What each event does: the kernel goes on, and what connections are given is of calls of behind
 -- that they opened.
-use Rattle.std.proofs.Common.{◌≡◌, ℕ, List, [], ◌∷◌, ◌++◌, append-nil, Option, Some, None, if◌then◌else◌, map, inl, inr, refl, sym, ap, ap₂, ◌∙◌, subst}
+use Rattle.std.proofs.Common.{◌≡◌, ℕ, List, [], ◌∷◌, ◌++◌, append-nil, Option, Some, None, map, inl, inr, refl, sym, ap, ap₂, ◌∙◌, subst}
 use Rattle.std.proofs.lemmas.List.Elements.{All-nil, All-push, All-set}
 use Rattle.std.specs.Prelude.{All, slice_get, slice_set}
 use Rattle.ipc_connection.specs.Asking.{command_of, version_asked}
@@ -18,14 +18,14 @@ use Rattle.ipc_frame.specs.declared.version.WireVersion.{WireVersion}
 use Rattle.ipc_frame.specs.declared.version.WireVersion.TheVariants.{One}
 use Rattle.ipc_history.specs.Outcomes.{OutcomeParts}
 use Rattle.ipc_connection.specs.Pens.{new_page}
-use Rattle.ipc_lock.specs.Boxes.{BoxParts, changed, changed_at, new_box, posted_to}
+use Rattle.ipc_lock.specs.Boxes.{BoxParts, changed_at, new_box, posted_to}
 use Rattle.ipc_lock.specs.Gifts.{gifts, no_errands, work_gifts}
 use Rattle.ipc_lock.specs.InsideParts.{InsideParts}
 use Rattle.ipc_lock.specs.Logs.{calls_by, calls_of, gifts_by, opened_by, said_by}
 use Rattle.ipc_lock.specs.Making.{Accepted, asked_for, asked_of, made_by, made_for, made_of}
 use Rattle.ipc_lock.specs.Places.{ConnectsAt, gives_back, new_seat, owned_by, places_told, shut_for, thread_for, told_in}
 use Rattle.ipc_lock.specs.Telling.{ActsAndTells, BreaksFor}
-use Rattle.ipc_lock.specs.Turns.{Acted, AskedFor, Connected, Declined, Ended, Laid, Looked, Marked, Parted, Posted, Released, TakesFor, Took, Turn, Worked}
+use Rattle.ipc_lock.specs.Turns.{Acted, AskedFor, Connected, Ended, Laid, Looked, Marked, Posted, TakesFor, Took, Turn, Worked}
 use Rattle.ipc_lock.specs.declared.errands.Errands.{Errands}
 use Rattle.ipc_lock.specs.declared.events.Event.{Event}
 use Rattle.ipc_lock.specs.declared.events.Event.TheVariants as event

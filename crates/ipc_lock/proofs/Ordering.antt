@@ -1,5 +1,5 @@
 -- The outcomes of a thread are taken in the order of its calls.
-use Rattle.std.proofs.Common.{◌≡◌, ℕ, ◌+◌, ◌<◌, ◌≤◌, List, [], ◌∷◌, ◌++◌, append-nil, Bool, true, false, Option, Some, None, is_some, cond, filter, ◌==◌, ◌||◌, ◌&&◌, eq-eqb, eqb-true, if◌then◌else◌, option_and_then, inl, inr, refl, sym, ap, ap₂, ◌∙◌, subst, arith}
+use Rattle.std.proofs.Common.{◌≡◌, ℕ, ◌<◌, ◌≤◌, List, [], ◌∷◌, ◌++◌, append-nil, Bool, true, false, Option, Some, None, is_some, cond, filter, ◌==◌, ◌||◌, ◌&&◌, eq-eqb, eqb-true, if◌then◌else◌, option_and_then, inl, inr, refl, sym, ap, ap₂, ◌∙◌, subst, arith}
 use Rattle.std.proofs.lemmas.Bool.{cases_order, false≢true}
 use Rattle.std.proofs.lemmas.List.Elements.{All-head, All-tail, filter-append}
 use Rattle.std.proofs.lemmas.Option.{none-some, same_Some}

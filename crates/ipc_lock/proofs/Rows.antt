@@ -1,11 +1,11 @@
 -- The boxes that are looked into behind a step, one after the other.
-use Rattle.std.proofs.Common.{◌≡◌, ℕ, zero, suc, ◌+◌, ◌<◌, List, [], ◌∷◌, ◌++◌, Option, Some, None, length, map, take, drop, refl, sym, ap, ◌∙◌, subst, arith}
+use Rattle.std.proofs.Common.{◌≡◌, ℕ, zero, suc, ◌+◌, ◌<◌, List, [], ◌∷◌, ◌++◌, Option, Some, length, map, take, drop, refl, sym, ap, ◌∙◌, subst, arith}
 use Rattle.std.proofs.lemmas.List.{map_more}
 use Rattle.std.proofs.lemmas.Option.{slice_get-get_or}
 use Rattle.std.specs.Prelude.{slice_get, slice_index_or, slice_set}
 use Rattle.ipc_core.specs.KernelParts.{KernelParts}
 use Rattle.ipc_lock.specs.Boxes.{BoxParts}
-use Rattle.ipc_lock.specs.Places.{LoadsOne, LoadsRow, StaysAll, place_at, place_of, places_told}
+use Rattle.ipc_lock.specs.Places.{LoadsOne, LoadsRow, place_at, place_of, places_told}
 use Rattle.ipc_lock.specs.declared.errands.Errands.{Errands}
 
 -- no box was looked into

@@ -1,5 +1,5 @@
 -- What stands under the lock is what its log leads to: at first, and after each event more.
-use Rattle.std.proofs.Common.{◌≡◌, ◌⊎◌, ◌≤◌, ◌++◌, ◌∷◌, ℕ, List, [], Bool, Option, Some, None, Result, Ok, Err, inl, inr, arith, refl, sym, ap, ◌∙◌, subst}
+use Rattle.std.proofs.Common.{◌≡◌, ◌⊎◌, ◌++◌, ◌∷◌, ℕ, List, [], Bool, Option, Some, None, Result, Ok, Err, inl, inr, arith, refl, sym, ap, ◌∙◌, subst}
 use Rattle.std.specs.Prelude.{IfNone, IfSome, OnErr, OnOk, min, replicate}
 use Rattle.std.specs.Vec.{vec_items}
 use Rattle.ipc_connection.specs.declared.asking.Request.{Request}

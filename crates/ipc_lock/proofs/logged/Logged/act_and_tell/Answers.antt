@@ -1,6 +1,6 @@
 use Rattle.std.proofs.Common.{◌∙◌, ◌∷◌, [], ap, refl}
 use Rattle.std.specs.Vec.{vec_items}
-use Rattle.ipc_lock.proofs.Turning.{acted_so, logged_as, one_only, runs_on, turned}
+use Rattle.ipc_lock.proofs.Turning.{one_only, runs_on}
 use Rattle.ipc_lock.proofs.logged.Logged.act_and_tell.Goals as goal
 
 pub invariant_of-self : goal.invariant_of-self

@@ -1,4 +1,4 @@
-use Rattle.std.proofs.Common.{ap, refl}
+use Rattle.std.proofs.Common.{refl}
 use Rattle.ipc_lock.proofs.Turning.{one_only, runs_on}
 use Rattle.ipc_lock.proofs.logged.Logged.ask_and_tell.Goals as goal
 

@@ -1,4 +1,3 @@
-use Rattle.std.proofs.Common.{ap, refl}
 use Rattle.ipc_lock.proofs.Turning.{first_parts, starts}
 use Rattle.ipc_lock.proofs.logged.Logged.new.Goals as goal
 

@@ -1,4 +1,4 @@
-use Rattle.ipc_lock.proofs.Turning.{parted, runs_on, turned}
+use Rattle.ipc_lock.proofs.Turning.{parted, runs_on}
 use Rattle.ipc_lock.proofs.logged.Logged.part_behind.Goals as goal
 
 pub invariant_of-self : goal.invariant_of-self

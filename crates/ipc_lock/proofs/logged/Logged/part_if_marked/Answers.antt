@@ -1,4 +1,4 @@
-use Rattle.ipc_lock.proofs.Turning.{parted_or, runs_on, turned}
+use Rattle.ipc_lock.proofs.Turning.{parted_or, runs_on}
 use Rattle.ipc_lock.proofs.logged.Logged.part_if_marked.Goals as goal
 
 pub invariant_of-self : goal.invariant_of-self

@@ -1,6 +1,6 @@
 use Rattle.std.proofs.Common.{ap, refl}
 use Rattle.std.specs.Vec.{vec_items}
-use Rattle.ipc_lock.proofs.Turning.{runs_on, turned}
+use Rattle.ipc_lock.proofs.Turning.{runs_on}
 use Rattle.ipc_lock.proofs.logged.Logged.post.Goals as goal
 
 pub invariant_of-self : goal.invariant_of-self

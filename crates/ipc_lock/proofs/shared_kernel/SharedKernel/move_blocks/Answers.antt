@@ -1,4 +1,4 @@
-use Rattle.std.proofs.Common.{◌∙◌, arith, inr}
+use Rattle.std.proofs.Common.{arith, inr}
 use Rattle.ipc_lock.proofs.Above.{moves_more}
 use Rattle.ipc_lock.proofs.shared_kernel.SharedKernel.move_blocks.Goals as goal
 

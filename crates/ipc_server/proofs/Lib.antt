@@ -1,3 +1,5 @@
 pub mod AnswerLemmas
 pub mod DoingLemmas
 pub mod NotedLemmas
+pub mod TraceLemmas
+pub mod WorkLemmas

@@ -1,3 +1,5 @@
+ghost use Rattle.ipc_server.specs.Working.{SubmitsSome, TicksSome};
+
 use crate::shared_blocks::SharedBlocks;
 use ipc_connection::PenPort;
 use ipc_core::{Answer, Command};
@@ -48,14 +50,19 @@ impl<'a, C: Naming, T: Ledger, P: PenPort + Drop, R: Wait + Clock> Server<'a, C,
     }
 
     /// Makes one step at this moment, by no thread's seat.
-    pub(crate) fn submit(&self, command: Command) -> Answer {
-        let answered = self.shared.submit(self.rt, self.now(), None, command);
+    pub(crate) fn submit(&self, command: Command) -> Answer
+        ensures { SubmitsSome C P command result }
+    {
+        let now = self.now();
+        let answered = self.shared.submit(self.rt, now, None, command);
         let (answer, _, _) = answered.into_parts();
         answer
     }
 
     /// The kernel is told the moment.
-    pub(crate) fn tick(&self) {
+    pub(crate) fn tick(&self)
+        ensures { TicksSome C P }
+    {
         let now = self.now();
         drop(self.shared.submit(self.rt, now, None, Command::At(now)));
     }

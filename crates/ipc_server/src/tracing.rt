@@ -1,4 +1,10 @@
 //! The trace worker: each entry of the history goes to a file.
+ghost use Rattle.std.specs.Prelude.{◌≡◌, IfOk, OnOk};
+ghost use Rattle.std.specs.Io.KnownBytes.{Appends};
+ghost use Rattle.ipc_lock.specs.Above.{MarksSome};
+ghost use Rattle.ipc_trace.specs.Traces.{trace_text};
+ghost use Rattle.ipc_server.specs.Working.{PutsGroup};
+
 use crate::host::Host;
 use crate::server::Server;
 use crate::trace_fault::TraceFault;
@@ -182,7 +188,10 @@ impl<P: PortWrite> Trace<P> {
         &mut self,
         server: &Server<'_, C, T, SocketPort, R>,
         host: &Host,
-    ) -> Result<usize, PutFault> {
+    ) -> Result<usize, PutFault>
+        ensures { IfOk result (λ _. PutsGroup C SocketPort self.old.count
+            self.old.writer.written self.new.writer.written) }
+    {
         match server.shared.wait_entries(server.rt, self.count) {
             Ok(group) => self.put_entries(server, host, &group),
             Err(_) => Err(PutFault::NoMemory),
@@ -190,12 +199,17 @@ impl<P: PortWrite> Trace<P> {
     }
 
     // Hands these entries to those who follow, puts them, and answers how many they are.
+    #[tactic(auto, using(crate::proofs::TraceLemmas::appends_kept))]
     fn put_entries<C: Naming, T: Ledger, R: Wait + Clock + Eprint>(
         &mut self,
         server: &Server<'_, C, T, SocketPort, R>,
         host: &Host,
         group: &[Entry],
-    ) -> Result<usize, PutFault> {
+    ) -> Result<usize, PutFault>
+        ensures puts { IfOk result (λ _. Appends self.old.writer.written self.new.writer.written
+            (trace_text group.now)) }
+        ensures marks { IfOk result (λ _. MarksSome C SocketPort self.new.count) }
+    {
         host.followers.hand(server.rt, self.count, group);
         self.put_lines(group)?;
         let left = server.shared.mark_traced(server.rt, self.count);
@@ -208,7 +222,11 @@ impl<P: PortWrite> Trace<P> {
     }
 
     // Puts the lines of these entries, and counts them.
-    fn put_lines(&mut self, entries: &[Entry]) -> Result<(), PutFault> {
+    #[tactic(auto, using(crate::proofs::TraceLemmas::appends_line, crate::proofs::TraceLemmas::appends_none))]
+    fn put_lines(&mut self, entries: &[Entry]) -> Result<(), PutFault>
+        ensures { OnOk result (Appends self.old.writer.written self.new.writer.written
+            (trace_text entries.now)) }
+    {
         for entry in entries {
             self.writer.put(entry)?;
         }
@@ -218,7 +236,10 @@ impl<P: PortWrite> Trace<P> {
 
     // Says on standard error that so many entries wait, where they are many and it was not said
     // since none was left.
-    fn tell_when_far_behind<R: Eprint>(&mut self, rt: &R, left: usize) {
+    fn tell_when_far_behind<R: Eprint>(&mut self, rt: &R, left: usize)
+        ensures writer { self.new.writer ≡ self.old.writer }
+        ensures count { self.new.count ≡ self.old.count }
+    {
         if left > FAR_BEHIND && !self.is_told {
             // where standard error fails the line is lost
             let _ = rt.eprintln(&Behind { entries: left });

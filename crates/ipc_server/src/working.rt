@@ -1,5 +1,11 @@
 //! The work that no connection asks for: the time is told, and transfers go on.
+ghost use Rattle.std.specs.Prelude.{◌≡◌, ◌+◌, length, true};
+ghost use Rattle.ipc_core.specs.declared.answers.Advance.TheVariants as advance;
+ghost use Rattle.ipc_core.specs.declared.command.Answer.TheVariants.{Advanced};
+ghost use Rattle.ipc_server.specs.Working.{MovesSome, TicksSome};
+
 use crate::server::Server;
+use ipc_base::Past;
 use ipc_connection::PenPort;
 use ipc_core::{Advance, Answer, Command};
 use ipc_lock::Naming;
@@ -14,6 +20,7 @@ use std::sync::ledger::Ledger;
 pub struct Worker<'a, C: Naming, T: Ledger, P: PenPort + Drop, R: Wait + Clock> {
     server: &'a Server<'a, C, T, P, R>,
     is_gone: bool,
+    ticks: Past<()>,
 }
 
 impl<'a, C: Naming, T: Ledger, P: PenPort + Drop, R: Wait + Clock> Worker<'a, C, T, P, R> {
@@ -22,22 +29,39 @@ impl<'a, C: Naming, T: Ledger, P: PenPort + Drop, R: Wait + Clock> Worker<'a, C,
         Worker {
             server,
             is_gone: false,
+            ticks: Past::new(),
         }
     }
+}
+
+/// Whether an answer says that a part of a transfer was moved.
+fn has_moved(answer: &Answer) -> bool
+    ensures { result ≡ true → answer.now ≡ Advanced advance.Moved }
+{
+    matches!(answer, Answer::Advanced(Advance::Moved))
 }
 
 impl<C: Naming, T: Ledger, P: PenPort + Drop, R: Wait + Clock> WorkPort for Worker<'_, C, T, P, R> {
     ghost gone = { λ port. port.is_gone };
 
-    fn tick(&mut self) {
+    ghost ticks = { λ port. length port.ticks };
+
+    fn tick(&mut self)
+        ensures ticks { length self.new.ticks ≡ length self.old.ticks + 1 }
+        ensures ticked { TicksSome C P }
+    {
         self.server.tick();
+        self.ticks.add(&());
     }
 
-    fn advance(&mut self) -> bool {
-        matches!(
-            self.server.submit(Command::Advance),
-            Answer::Advanced(Advance::Moved)
-        )
+    #[tactic(auto, using(crate::proofs::WorkLemmas::moves))]
+    fn advance(&mut self) -> bool
+        ensures moved { result ≡ true → MovesSome C P }
+    {
+        let answer = self.server.submit(Command::Advance);
+        let has_moved = has_moved(&answer);
+        drop(answer);
+        has_moved
     }
 
     fn wait(&mut self) -> bool {
@@ -53,18 +77,25 @@ impl<C: Naming, T: Ledger, P: PenPort + Drop, R: Wait + Clock> WorkPort for Work
 #[derive(Drop)]
 pub struct Alarm<'a, C: Naming, T: Ledger, P: PenPort + Drop, R: Wait + Clock> {
     server: &'a Server<'a, C, T, P, R>,
+    turns: Past<()>,
 }
 
 impl<'a, C: Naming, T: Ledger, P: PenPort + Drop, R: Wait + Clock> Alarm<'a, C, T, P, R> {
     /// The clock of a server's kernel.
     pub fn new(server: &'a Server<'a, C, T, P, R>) -> Self {
-        Alarm { server }
+        Alarm {
+            server,
+            turns: Past::new(),
+        }
     }
 }
 
 impl<C: Naming, T: Ledger, P: PenPort + Drop, R: Wait + Clock> Beat for Alarm<'_, C, T, P, R> {
+    ghost turns = { λ alarm. length alarm.turns };
+
     fn wait(&mut self) {
         self.server.shared.rest(self.server.rt, self.server.now());
+        self.turns.add(&());
     }
 }
 

@@ -1,16 +1,20 @@
-ghost use Rattle.std.specs.Prelude.{◌≡◌, Bool, true, false};
+ghost use Rattle.std.specs.Prelude.{◌≡◌, ◌+◌, ℕ, Bool, true, false};
 
 use crate::gate::Gate;
 
 /// The work that no connection asks for.
 pub trait WorkPort {
-    ghost use Rattle.std.specs.Prelude.{Bool};
+    ghost use Rattle.std.specs.Prelude.{ℕ, Bool};
 
     // Whether it said that nothing more comes.
     ghost gone: { Self → Bool };
 
+    // How often it ended what was overdue.
+    ghost ticks: { Self → ℕ };
+
     /// Ends what is overdue now.
-    fn tick(&mut self);
+    fn tick(&mut self)
+        ensures ticks { ticks self.new ≡ ticks self.old + 1 };
 
     /// Moves a part of a begun transfer; false: none is begun.
     fn advance(&mut self) -> bool;
@@ -22,8 +26,14 @@ pub trait WorkPort {
 
 /// A clock whose turns are waited for.
 pub trait Beat {
+    ghost use Rattle.std.specs.Prelude.{ℕ};
+
+    // How many turns were waited for.
+    ghost turns: { Self → ℕ };
+
     /// Waits for the next turn of the clock.
-    fn wait(&mut self);
+    fn wait(&mut self)
+        ensures turns { turns self.new ≡ turns self.old + 1 };
 }
 
 /// How a mover ended.
@@ -38,6 +48,8 @@ pub enum MoveEnding {
 /// Ticks the work port at each turn of the clock, until the gate says stop.
 pub fn tick_loop<C: Beat, W: WorkPort, G: Gate>(clock: &mut C, work_port: &mut W, gate: &mut G)
     ensures stopped { G.stopped gate.new ≡ true }
+    ensures ticks { W.ticks work_port.new + C.turns clock.old
+        ≡ W.ticks work_port.old + C.turns clock.new }
 {
     'turns: while gate.turn() {
         clock.wait();

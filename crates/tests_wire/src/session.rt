@@ -1,8 +1,8 @@
-ghost use Rattle.std.specs.Prelude.{◌≡◌, None, true};
+ghost use Rattle.std.specs.Prelude.{◌≡◌, None, length, true};
 
 // The loops of a session over ports in memory.
 use crate::comparing::same;
-use ipc_base::{MemoryPort, PortFault, PortRead, Trouble};
+use ipc_base::{MemoryPort, Past, PortFault, PortRead, Trouble};
 use ipc_connection::{NoBlocks, Request, Told};
 use ipc_core::Refusal;
 use ipc_frame::{Frame, WireVersion};
@@ -392,13 +392,17 @@ fn a_writer_ends_where_a_write_fails_or_the_gate_says_stop(rt: HostRuntime) {
 struct FakeWork {
     ticks: u32,
     parts: u32,
+    ticked: Past<()>,
 }
 
 impl WorkPort for FakeWork {
     ghost gone = { λ _. true };
 
+    ghost ticks = { λ port. length port.ticked };
+
     fn tick(&mut self) {
         self.ticks = self.ticks.saturating_add(1);
+        self.ticked.add(&());
     }
 
     fn advance(&mut self) -> bool {
@@ -415,16 +419,27 @@ impl WorkPort for FakeWork {
 }
 
 #[derive(Drop)]
-struct NoPause;
+struct NoPause {
+    turns: Past<()>,
+}
 
 impl Beat for NoPause {
-    fn wait(&mut self) {}
+    ghost turns = { λ clock. length clock.turns };
+
+    fn wait(&mut self) {
+        self.turns.add(&());
+    }
 }
 
 #[test]
 fn work_is_done_until_the_gate_says_stop(rt: HostRuntime) {
-    let mut work_port = FakeWork { ticks: 0, parts: 3 };
-    tick_loop(&mut NoPause, &mut work_port, &mut Open::new(2));
+    let mut work_port = FakeWork {
+        ticks: 0,
+        parts: 3,
+        ticked: Past::new(),
+    };
+    let mut clock = NoPause { turns: Past::new() };
+    tick_loop(&mut clock, &mut work_port, &mut Open::new(2));
     same(&rt, work_port.ticks, 2);
     same(
         &rt,

@@ -41,13 +41,8 @@ module _ {E : Type 0} (is_of : E → ℕ → Bool) where
   abbrev pub IsTrueOf : View E → List E → Type 0
   IsTrueOf v log = IsPrefix v.before log × (v.owns ≡ true → v.mine ≡ entries_of is_of v.number log)
 
-<<<<<<< HEAD
-  -- what the pass by knows of this log is true: one pass at most, that of this seat, knows it
-  -- whole, and the number of an owner stands in one pass
-=======
   -- what a pass knows of this log is true: one pass at most, that of this seat, knows it whole, and
   -- the number of an owner stands in one pass
->>>>>>> c24af8d8 (ipc_log, ipc_lock, ipc_server: imports that nothing uses are gone; pages of the log)
   pub record Fits (begins : E → List ℕ) (seat : ℕ) (holder : ℕ → ℕ) (log : List E) (by : ℕ) (v : View E) : Type 0 where
     pub seen : IsPrefix v.seen log
     pub before : IsPrefix v.before log

@@ -23,7 +23,8 @@ What is too long to be stored is made here: 1,022 threads that send to one, whic
 compaction behind each, where there is room for few; and messages that took each time up to some longest one, whose counts are told.
 
 And what no script shows: that each code of the C client is explained, `--version`, a folder in place of a trace, that `l4sh follow -` tells an entry before the next one comes, that of a line that is too long
-no more is kept than has to be, and that `l4sh wire` has 65,535 connections and no more. The last line is `N passed, M failed`.
+no more is kept than has to be, and of a long trace neither, that `l4sh wire` has 65,535 connections and no more, and that a terminal is told how much of a trace is read that takes more than two seconds, and nothing of
+others. The last line is `N passed, M failed`.
 
     checks/text/scripts.py [L4SH] --store
 
@@ -33,10 +34,13 @@ of right and wrong. Read each difference, and commit what you would have written
 import glob
 import json
 import os
+import pty
 import re
+import select
 import subprocess
 import sys
 import tempfile
+import time
 
 sys.path.insert(1, f"{sys.path[0]}/../lib")
 
@@ -56,8 +60,9 @@ SHORT = 4096
 CONNECTIONS = 65535
 # A byte that stands a hundred times or more in a row, as two digits.
 LONG_RUN = re.compile(rb"([0-9a-f]{2})\1{99,}")
-# Of two lines that are too long, of so many bytes, the longer one takes at most so much more memory.
+# Of two lines that are too long, of so many bytes, and of two traces of so many messages, the longer one takes at most so much more memory.
 LONG_LINES, MORE = (3 << 20, 24 << 20), 8 << 20
+LONG_TRACES = (100, 100_000)
 # The numbers of the threads that send to the first one.
 SENDERS = range(2, 1024)
 # Of so many messages, which took each time from 1 on, the median, the time that 99 of 100 do not pass, and the longest.
@@ -228,6 +233,39 @@ def faults_of_following(l4sh, _):
             yield f"it ends by {ran.returncode}: {rest}"
 
 
+def told_at_terminal(words, pauses):
+    """What is told at a terminal where the lines of a trace come with these pauses behind each, in seconds; its exit status comes first."""
+    ours, theirs = pty.openpty()
+    with subprocess.Popen(words, stdin=subprocess.PIPE, stdout=subprocess.DEVNULL, stderr=theirs) as run:
+        os.close(theirs)
+        for number, pause in enumerate(pauses):
+            run.stdin.write(b"opened %d.1 1\n" % (number + 1))
+            run.stdin.flush()
+            time.sleep(pause)
+        run.stdin.close()
+        told = b""
+        while select.select([ours], [], [], 0 if run.poll() is not None else 0.1)[0]:
+            try:
+                told += os.read(ours, 4096)
+            except OSError:
+                break
+        status = run.wait(60)
+    os.close(ours)
+    return status, told
+
+
+def faults_of_progress(l4sh, _):
+    """A slow trace is told of at a terminal, in one line that goes; a quick one is not, nor one that is followed."""
+    for command in ("check", "state", "count"):
+        status, told = told_at_terminal([l4sh, command, "-"], (0.5, 1.8, 0.1))
+        if status or not re.fullmatch(rb"(\rl4sh: 0 MiB read)+\r +\r", told):
+            yield f"{command}: {status}, {told}"
+    for command, pauses in (("check", (0.1, 0.1)), ("follow", (0.5, 1.8, 0.1))):
+        status, told = told_at_terminal([l4sh, command, "-"], pauses)
+        if status or told:
+            yield f"{command}: {status}, {told}"
+
+
 def peak(words):
     """The status of a run, all that it says, and how many bytes of memory it has at most."""
     with tempfile.TemporaryFile() as said:
@@ -254,6 +292,30 @@ def faults_of_long_lines(l4sh, _):
                 yield f"{command} of {size} bytes ends so: {status} {said[:200]}"
         if peaks[1] - peaks[0] > MORE:
             yield f"{command} takes {peaks} bytes for lines of {LONG_LINES}"
+
+
+def messages_of(count):
+    """A trace of a pair of threads of which one sends the other so many messages."""
+    yield b"opened 1.1 1\nopened 2.1 1\n"
+    for number in range(1, 2 * count, 2):
+        yield b"called %d 1.1 nil any 0x0 0x0 nil - - -\n" % number
+        yield b"called %d 2.1 1.1 nil 0x0 0x1 nil 0x7 - -\nbegan %d %d\nended %d %d\n" % ((number + 1,) + (number + 1, number) * 2)
+
+
+def faults_of_long_traces(l4sh, _):
+    """What these hold of a trace does not grow with it."""
+    for command in ("check", "state", "count", "follow"):
+        peaks = []
+        for count in LONG_TRACES:
+            with tempfile.NamedTemporaryFile() as file:
+                file.writelines(messages_of(count))
+                file.flush()
+                status, said, memory = peak([l4sh, command, file.name])
+            peaks.append(memory)
+            if status:
+                yield f"{command} of {count} messages ends so: {status} {said[:200]}"
+        if peaks[1] - peaks[0] > MORE:
+            yield f"{command} takes {peaks} bytes for traces of {LONG_TRACES} messages"
 
 
 def crowd(timeouts):
@@ -396,7 +458,7 @@ def main():
     looks += [(path, faults_of_script) for path in [*examples, *scripts]]
     looks += [(name, faults_of_made) for name in MADE] + [("times", faults_of_times)]
     looks += [("codes of the C client", faults_of_codes)]
-    looks += [("--version", faults_of_version), (HERE, faults_of_folder), ("follow -", faults_of_following), ("long lines", faults_of_long_lines), ("many connections", faults_of_connections)]
+    looks += [("--version", faults_of_version), (HERE, faults_of_folder), ("follow -", faults_of_following), ("long lines", faults_of_long_lines), ("many connections", faults_of_connections), ("progress", faults_of_progress), ("long traces", faults_of_long_traces)]
     failed = 0
     for path, faults_of in looks:
         faults = list(faults_of(l4sh, path))

@@ -145,6 +145,8 @@ def check_exact(l4d, l4sh, *words):
         first = Following(server)
         work(one, two, 50)
         second = Following(server)
+        # (the others may have ended by then)
+        work(one, two, 50)
         for load in loads:
             load.join()
         one.bye()

@@ -237,6 +237,22 @@ def faults_of_bad_files(files, first, second):
             yield f"{words}: a part alone: {(printed, status, told)}"
 
 
+# a string whose receiving call is over, and not kept, while a thread beside the receiver is free
+MOVED = (b"l4trace 2\nopened 1.1 1\nopened 2.1 1\nopened 3.1 1\n"
+         b"called 1 2.1 nil any 0x0 0x0 nil - - 16@0x1000\n"
+         b"called 2 1.1 2.1 2.1 0x0 0x80 nil - x61626364 -\nbegan 2 1\n"
+         b"moved 2 4\nended 2 1\n"
+         b"called 3 2.1 1.1 any 0x0 0x0 nil - - 16@0x1000\nbegan 3 2\nended 3 2\n")
+
+
+def faults_of_moved(files):
+    """What is wrong with the part that begins behind that string, where it stands alone."""
+    begun = files.part(MOVED)
+    told = begun and files.check(begun)
+    if told != (b"yes from 0\n", 0, b""):
+        yield f"alone behind a string: {told}"
+
+
 def main():
     l4sh = sys.argv[1] if len(sys.argv) > 1 else f"{ROOT}/l4sh"
     passed = failed = alone = found = 0
@@ -261,6 +277,9 @@ def main():
             for fault in faults[:5]:
                 print(f"{name}: {fault}")
             passed, failed = (passed, failed + 1) if faults else (passed + 1, failed)
+        for fault in faults_of_moved(files):
+            print(fault)
+            failed += 1
     if found < FOUND * alone:
         failed += 1
     print(f"of {alone} parts that stand alone a history was found for {found}")

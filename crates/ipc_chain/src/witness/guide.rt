@@ -275,6 +275,12 @@ impl<'a> Guide<'a> {
         if self.budget.is_last(call.caller, call.number) {
             return true;
         }
+        if let Phase::Taking(sending, _, _) = call.phase {
+            // bytes of the message that it takes may still be to move
+            if self.wanted.names_from(self.passed, sending) {
+                return true;
+            }
+        }
         for waiter in self.waiters.as_slice() {
             if waiter.number == call.number {
                 return self.passed <= waiter.sending;

@@ -18,6 +18,7 @@ import resource
 import shutil
 import signal
 import socket
+import stat
 import subprocess
 import sys
 import tempfile
@@ -338,6 +339,35 @@ def check_asked_for(l4d, l4sh):
         tally.same("l4sh rotate without a trace", rotated(l4sh, server), (4, "", f"l4sh: {server.folder}/control: no trace\n"))
 
 
+def check_pipe(l4d, l4sh):
+    """A pipe is not renamed: what comes behind goes there, too."""
+    folder = tempfile.mkdtemp(prefix="l4d-")
+    pipe, lines, is_over = f"{folder}/trace", [], threading.Event()
+    os.mkfifo(pipe)
+
+    def read():
+        while not is_over.is_set():
+            with open(pipe, encoding="ascii") as file:
+                lines.extend(file.read().splitlines())
+
+    threading.Thread(target=read, daemon=True).start()
+    with Server(l4d, "--trace-keep", "2", "--connections", "2", folder=folder, trace=True) as server:
+        pair = Client(server.path, 1), Client(server.path, 2)
+        pair_works(pair)
+        tally.same("l4sh rotate of a pipe", rotated(l4sh, server)[0], 0)
+        pair_works(pair)
+        time.sleep(0.3)
+        pair_works(pair)
+        is_over.set()
+        for client in pair:
+            client.bye()
+        tally.same("it ends well", server.end()[:2], (0, "closed\n"))
+        time.sleep(0.3)
+        check("the pipe is there", stat.S_ISFIFO(os.stat(pipe).st_mode), oct(os.stat(pipe).st_mode))
+        tally.same("and nothing beside it", [it for it in os.listdir(folder) if it.startswith("trace.")], [])
+        tally.same("a trace, and a part behind it", [line for line in lines if line.startswith(("l4trace", "l4part"))], ["l4trace 2", "l4part 1"])
+
+
 def little_room():
     """A file has no more room than this, and a write past it fails."""
     signal.signal(signal.SIGXFSZ, signal.SIG_IGN)
@@ -393,6 +423,7 @@ def main(arguments):
     check_slow(l4d)
     check_kept(l4d, l4sh)
     check_asked_for(l4d, l4sh)
+    check_pipe(l4d, l4sh)
     check_failures(l4d)
     check_words(l4d)
     return tally.end()

@@ -180,6 +180,10 @@ impl<'a> TraceFiles<'a> {
     }
 
     fn renamed<R: TraceDisk>(self, rt: &R, alloc: Global) -> io::Result<()> {
+        if rt.has_file(self.path)? && !rt.is_regular(self.path) {
+            // a device or a pipe is nobody's to rename: what comes goes there, too
+            return Ok(());
+        }
         let count = self.older(rt, alloc)?;
         for behind in 0..count {
             self.rename(rt, alloc, count - behind)?;

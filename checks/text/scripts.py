@@ -61,7 +61,7 @@ CONNECTIONS = 65535
 # A byte that stands a hundred times or more in a row, as two digits.
 LONG_RUN = re.compile(rb"([0-9a-f]{2})\1{99,}")
 # Of two lines that are too long, of so many bytes, and of two traces of so many messages, the longer one takes at most so much more memory.
-LONG_LINES, MORE = (3 << 20, 24 << 20), 8 << 20
+LONG_LINES, MORE = (MAX_LINE_BYTES + (1 << 20), 24 << 20), 8 << 20
 LONG_TRACES = (100, 100_000)
 # The numbers of the threads that send to the first one.
 SENDERS = range(2, 1024)

@@ -7,6 +7,7 @@ import re, subprocess, sys
 
 OPTION = re.compile(r"^ +(?:(-\w), +)?(--[\w-]+)(?: <(\w+)>)? +(.*)$")
 COMMAND = re.compile(r"^  ([a-z]\w*) +(\S.*)$")
+HELP = "Prints what a command does and takes"
 # the words that stand for a file or a folder
 PLACES = {"FILE": "file", "OLD": "file", "NEW": "file", "DIR": "folder"}
 
@@ -44,10 +45,12 @@ def bash(name, words):
     valued = sorted({long for each in every for _, long, value, _ in each.options if value and value not in PLACES})
     if valued:
         lines += [f"    case $before in {'|'.join(valued)}) return;; esac"]
+    lines += ["    if [ \"$COMP_CWORD\" -eq 1 ]; then",
+              f"        COMPREPLY=($(compgen -W \"{' '.join([*words.commands, 'help', *words.long()])}\" -- \"$word\")); return",
+              "    fi"]
     if words.commands:
-        lines += ["    if [ \"$COMP_CWORD\" -eq 1 ]; then",
-                  f"        COMPREPLY=($(compgen -W \"{' '.join([*words.commands, *words.long()])}\" -- \"$word\")); return",
-                  "    fi", "    case $command in"]
+        lines += ["    case $command in",
+                  f"    help) [ \"$COMP_CWORD\" -eq 2 ] && COMPREPLY=($(compgen -W \"{' '.join(words.commands)}\" -- \"$word\"));;"]
         for command, (_, below) in words.commands.items():
             made = {"file": "-f", "folder": "-d"}.get(below.takes)
             files = f"; [[ $word == -* ]] || {{ compopt -o filenames 2>/dev/null; local IFS=$'\\n'; COMPREPLY+=($(compgen {made} -- \"$word\")); }}" if made else ""
@@ -68,14 +71,14 @@ def zsh_options(words, indent):
 def zsh(name, words):
     lines = [f"#compdef {name}", f"# zsh completion of {name}, made from its help."]
     if not words.commands:
-        return "\n".join([*lines, "_arguments \\", *zsh_options(words, "    "), "    && return 0", ""])
+        return "\n".join([*lines, "_arguments \\", *zsh_options(words, "    "), "    '1:: :(help)' \\", "    && return 0", ""])
     lines += ["if (( CURRENT == 2 )); then", "    local -a commands=("]
     for command, (what, _) in words.commands.items():
         escaped = what.replace("'", "'\\''").replace(":", "\\:")
         lines += [f"        '{command}:{escaped}'"]
-    lines += ["    )", "    _describe command commands", "    _arguments \\", *zsh_options(words, "        "), "        && return 0"]
+    lines += [f"        'help:{HELP}'", "    )", "    _describe command commands", "    _arguments \\", *zsh_options(words, "        "), "        && return 0"]
     lines += ["    return", "fi", "local command=$words[2]", "shift words", "(( CURRENT-- ))",
-              "case $command in"]
+              "case $command in", "(help)", f"    _arguments '1:command:({' '.join(words.commands)})' && return 0;;"]
     for command, (_, below) in words.commands.items():
         place = {"file": ["        '*:file:_files' \\"], "folder": ["        ':folder:_files -/' \\"]}.get(below.takes, [])
         lines += [f"({command})", "    _arguments \\", *zsh_options(below, "        "), *place, "        && return 0;;"]

@@ -16,6 +16,7 @@ sys.path.insert(0, HERE)
 import of_c
 import of_pages
 import of_python
+import of_rattle
 import of_scripts
 from model import load
 from reader import Bad
@@ -27,6 +28,7 @@ WHOLE = {
     "clients/c/include/l4/told.h": of_c.told,
     "clients/python/src/l4ipc/protocol.py": of_python.client,
     "checks/lib/protocol_tables.py": of_python.checks,
+    "crates/l4sh_explain/src/families.rt": of_rattle.families,
     **of_scripts.whole(),
 }
 PAGES = ["docs/FORMATS.md"]

@@ -147,7 +147,11 @@ def check_counters(l4d, l4sh):
         counters = dict(line.split(" ") for line in told.splitlines())
         check("counters are told", (status, error) == (0, "") and all(value.isdigit() for value in counters.values()), (status, told, error))
         check("they count", counters.get("threads") == "2" and counters.get("connections") == "2" and counters.get("calls_over") == "10", counters)
-        check("without a trace none lags", "trace_entries_behind" not in counters, counters)
+        check("without a trace none lags or stops", not {"trace_entries_behind", "trace_stopped"} & set(counters), counters)
+    with Server(l4d, "--trace", "/dev/null") as server:
+        tally.same("a trace that goes on", counters_of(server).get("trace_stopped"), "0")
+    with Server(l4d, "--trace", "/dev/full") as server:
+        tally.same("one that has stopped", counters_of(server).get("trace_stopped"), "1")
     check_told(l4d)
 
 
@@ -177,6 +181,7 @@ def check_askers(l4d):
     with Server(l4d) as server, Thread(server.folder, 1):
         state = "1.1  space 1  free\n"
         check("a word in pieces", state in server.ask(b"st", b"ate", b"\n"), "")
+        check("a word of one who then says no more, as socat", state in ask_and_end(server), "")
         for word in (b"\n", b"states\n", b"thread\n", b"threads \n", b"Threads\n", b"STATE\n", b"state \n", b"\0" * 64, b"x" * 64, b"counters\r\n"):
             told = server.ask(word)
             check(f"{word[:12]!r} is unknown", told == "unknown: one of state, counters, trace, trace follow, rotate, began, threads\n", told)
@@ -194,6 +199,14 @@ def check_askers(l4d):
         check("who says nothing does not keep a server that ends", took < 10, took)
         mute.close()
         check("the paths are gone", os.listdir(server.folder) == [], os.listdir(server.folder))
+
+
+def ask_and_end(server):
+    """What is answered to one who says the word and closes his side."""
+    with server.connect() as asker:
+        asker.sendall(b"state\n")
+        asker.shutdown(socket.SHUT_WR)
+        return rest_of(asker)
 
 
 def is_closed(asker):
@@ -216,12 +229,13 @@ def check_path(l4d, l4sh):
         check("no --at of a live server", status == 2 and "takes no --at" in error, (status, error))
         status, _, error = tool(l4sh, "count", "--json", server.folder)
         check("no --json of a live server", status == 2 and "takes no --json" in error, (status, error))
-    status, told, error = tool(l4sh, "state", server.folder)
-    check("nobody answers there", status == 1 and told == "" and f"{server.folder}/control: " in error, (status, told, error))
+    nobody = f"l4sh: {server.folder}/control: Connection refused (os error 111): nobody serves there; l4d with --replace removes the path, and serves anew\n"
+    for word in ("state", "count", "follow", "rotate"):
+        tally.same(f"{word} of a server that was killed", tool(l4sh, word, server.folder), (1, "", nobody))
     with Server(l4d, "--no-control") as server:
         check("it can be left out", os.listdir(server.folder) == ["space1"], os.listdir(server.folder))
-        status, _, error = tool(l4sh, "state", server.folder)
-        check("then nobody can ask", status == 1 and "No such file" in error, (status, error))
+        absent = f"l4sh: {server.folder}/control: No such file or directory (os error 2): no l4d serves there, or none that makes this path\n"
+        tally.same("then nobody can ask", tool(l4sh, "state", server.folder), (1, "", absent))
 
 
 def client(server, number, space=1):

@@ -304,25 +304,31 @@ def on_a_small_disk():
     resource.setrlimit(resource.RLIMIT_FSIZE, (4_096, 4_096))
 
 
-def check_stopped(l4d):
-    """Who follows is told that the trace has stopped."""
+def check_told(l4sh, server, said):
+    """Who asks to follow is told this."""
+    tally.same("who follows is told", answer_to(server, "trace follow"), said)
+    ran = subprocess.run([l4sh, "follow", server.folder], stdin=subprocess.DEVNULL, capture_output=True, text=True, timeout=SECONDS)
+    tally.same("l4sh says so", (ran.returncode, ran.stdout, ran.stderr), (4, "", f"l4sh: {server.folder}/control: {said}"))
+
+
+def check_stopped(l4d, l4sh):
+    """Who follows is told that the trace has stopped, and why; and so is who comes later."""
+    stopped = "the trace has stopped (TR1): its file cannot be written: File too large (os error 27)"
     with served(l4d, preexec_fn=on_a_small_disk) as server:
         follower = Following(server)
         work(*(Client(server.path, number) for number in (1, 2)), 60)
         follower.join(SECONDS)
         check("the connection ends with the trace", not follower.is_alive())
-        tally.same("that is said", follower.lines()[1][-1:], ["the trace has stopped"])
+        tally.same("that is said", follower.lines()[1][-1:], [stopped])
+        check_told(l4sh, server, f"{stopped}\n")
 
 
 def check_untraced(l4d, l4sh):
     """Of a server without a trace, and of one whose trace has stopped."""
-    wanted = "no trace: start l4d with --trace, as --trace /dev/null\n"
     with served(l4d, trace=False) as server:
-        tally.same("no trace", answer_to(server, "trace follow"), wanted)
-        ran = subprocess.run([l4sh, "follow", server.folder], stdin=subprocess.DEVNULL, capture_output=True, text=True, timeout=SECONDS)
-        tally.same("l4sh says so", (ran.returncode, ran.stdout, ran.stderr), (4, "", f"l4sh: {server.folder}/control: {wanted}"))
+        check_told(l4sh, server, "no trace: start l4d with --trace, as --trace /dev/null\n")
     with served(l4d, "--trace", "/dev/full", trace=False) as server:
-        tally.same("a trace that failed", answer_to(server, "trace follow"), wanted)
+        check_told(l4sh, server, "the trace has stopped (TR1): its file cannot be written: No space left on device (os error 28)\n")
     with served(l4d, "--trace", "/dev/null", trace=False) as server:
         follower = Following(server)
         one, two = (Client(server.path, number) for number in (1, 2))
@@ -343,7 +349,7 @@ def main(arguments):
     check_words(l4d, l4sh)
     check_slow(l4d, l4sh)
     check_leaving(l4d)
-    check_stopped(l4d)
+    check_stopped(l4d, l4sh)
     check_untraced(l4d, l4sh)
     return tally.end()
 

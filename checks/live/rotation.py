@@ -335,8 +335,22 @@ def check_asked_for(l4d, l4sh):
         tally.same("all messages are there", count_of(entries, "ended"), 3)
         tally.same("there are two older files", [os.path.basename(file) for file in chain(server.trace)], ["trace.2", "trace.1", "trace"])
     with Server(l4d) as server:
-        tally.same("without a trace there is none", ask(server, b"rotate\n"), "no trace\n")
-        tally.same("l4sh rotate without a trace", rotated(l4sh, server), (4, "", f"l4sh: {server.folder}/control: no trace\n"))
+        check_not_rotated("without a trace", l4sh, server, "no trace: start l4d with --trace FILE\n")
+
+
+def check_not_rotated(what, l4sh, server, said):
+    """Who says `rotate` is told why there is no further file."""
+    tally.same(f"rotate {what}", ask(server, b"rotate\n"), said)
+    tally.same(f"l4sh rotate {what}", rotated(l4sh, server), (4, "", f"l4sh: {server.folder}/control: {said}"))
+
+
+def check_stopped(what, l4sh, server, why):
+    """Who says `rotate` is told that the trace has stopped, and why; so do the counters."""
+    end = time.monotonic() + SECONDS
+    while "trace_stopped 1\n" not in ask(server, b"counters\n") and time.monotonic() < end:
+        time.sleep(0.01)
+    check(f"{what} is counted", "trace_stopped 1\n" in ask(server, b"counters\n"), ask(server, b"counters\n"))
+    check_not_rotated(f"of {what}", l4sh, server, f"the trace has stopped (TR1): its file {why}\n")
 
 
 def check_pipe(l4d, l4sh):
@@ -374,10 +388,10 @@ def little_room():
     resource.setrlimit(resource.RLIMIT_FSIZE, (4_096, 4_096))
 
 
-def check_failures(l4d):
+def check_failures(l4d, l4sh):
     """What is told of a file that cannot be renamed, written or opened; the server goes on."""
-    for what, spoil, told in (("a folder that has gone", lambda room: shutil.rmtree(room), "cannot be renamed: No such file or directory"),
-                              ("a folder in place of the older file", lambda room: os.makedirs(f"{room}/trace.1/full"), "cannot be renamed: ")):
+    for what, spoil, told in (("a folder that has gone", lambda room: shutil.rmtree(room), "cannot be renamed: No such file or directory (os error 2)"),
+                              ("a folder in place of the older file", lambda room: os.makedirs(f"{room}/trace.1/full"), "cannot be renamed: Is a directory (os error 21)")):
         room = tempfile.mkdtemp(prefix="l4trace-")
         with Server(l4d, "--trace", f"{room}/trace", "--trace-size", "1K", "--trace-keep", "1", "--connections", "2") as server:
             pair = Client(server.path, 1), Client(server.path, 2)
@@ -386,6 +400,7 @@ def check_failures(l4d):
             for _ in range(60):
                 pair_works(pair)
                 time.sleep(0.003)
+            check_stopped(what, l4sh, server, told)
             for client in pair:
                 client.bye()
             status, out, error = server.end()
@@ -395,6 +410,7 @@ def check_failures(l4d):
         pair = Client(server.path, 1), Client(server.path, 2)
         for _ in range(60):
             pair_works(pair)
+        check_stopped("a file that is full", l4sh, server, "cannot be written: File too large (os error 27)")
         for client in pair:
             client.bye()
         status, _, error = server.end()
@@ -424,7 +440,7 @@ def main(arguments):
     check_kept(l4d, l4sh)
     check_asked_for(l4d, l4sh)
     check_pipe(l4d, l4sh)
-    check_failures(l4d)
+    check_failures(l4d, l4sh)
     check_words(l4d)
     return tally.end()
 

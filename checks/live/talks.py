@@ -53,6 +53,9 @@ EXCHANGES = [
     ("reply_wait 2 label=3 as=3 words=7",
      "00000036 02 0000000200000001 ffffffffffffffff 04000000 0000000300000001 0000000000031001 0000000000000000 00 0000000000000007",
      "00000002 84 08", "! K8    the number of the call would pass the limit\n"),
+    ("quit now", "", "", "? wanted is quit or exit alone\n"),
+    ("send 1 hello", "", "", '? wanted is a number, as 7 or 0x8, or a text between quotation marks, as "hello"; not hello\n'),
+    ("send 1 18446744073709551616", "", "", "? wanted is a number of 64 bits at most, as 7 or 0x8; not 18446744073709551616\n"),
     ("walk", "", "", "? wanted is send, receive, wait, call, reply_wait, exreg, help or quit; not walk\n"),
     ("send nil", "", "", "? wanted is a thread, as 1.1, or 1; not nil\n"),
     ("wait label=3", "", "", "? wanted is receive ID timeout=TIME buffers=N,N; not label=3\n"),
@@ -61,6 +64,10 @@ EXCHANGES = [
     ("exreg 2 nothing", "00000011 03 0000000200000001 0000000000000000", "00000019 83 0000000200000001 0000000000000000 0000000000000000",
      "= 2.1 0x0 0x0    2.1 was in no phase\n"),
     ("send 1 label=0x1000000000000", "", "", "? a label has 48 bits at most\n"),
+    ("wait",
+     "0000002e 02 0000000000000000 ffffffffffffffff 00000000 0000000000000000 0000000000000000 0000000000000000 00",
+     "00000022 82 0000000100000000 0000000200000001 0000000000000000 0000000000000000 00",
+     "= 0x100000000 2.1 nil 0x0 - -    from 2.1, label 0x10000, no words\n"),
     ("quit", BYE, "", ""),
 ]
 # The frames of a server, of which the last one may be cut, and how a talk of two lines ends with them: its status, and what is told.
@@ -238,7 +245,7 @@ def refusals(server):
     Talk(server.folder, "--thread", "21").ends("a number that is taken", 4, "l4sh: the server refused the thread: K2\n"
                                                "a thread of that number is live; --thread N takes another number\n")
     path = f"{server.folder}/space7"
-    Talk(server.folder, "--space", "7").ends("a space that is not there", 4, f"l4sh: no server\n{path}: No such file or directory (os error 2)\n")
+    Talk(server.folder, "--space", "7").ends("a space that is not there", 4, f"l4sh: no server\n{path}: No such file or directory (os error 2): no l4d serves there, or none that makes this path\n")
     one.type("receive")
     one.process.send_signal(signal.SIGINT)
     one.ends("a signal", -signal.SIGINT)
@@ -338,7 +345,7 @@ def main():
     stored_frames()
     ran = subprocess.run([L4SH, "talk", "/nowhere"], input="", capture_output=True, text=True)
     same("no folder", (ran.returncode, ran.stdout, ran.stderr),
-         (4, "", "l4sh: no server\n/nowhere/space1: No such file or directory (os error 2)\n"))
+         (4, "", "l4sh: no server\n/nowhere/space1: No such file or directory (os error 2): no l4d serves there, or none that makes this path\n"))
     ran = subprocess.run([L4SH, "talk", "--thread", "2"], input="", capture_output=True, text=True)
     same("a thread without a server", (ran.returncode, ran.stdout, "--thread and --space want DIR" in ran.stderr), (2, "", True))
     return tally.end()

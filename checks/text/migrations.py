@@ -125,7 +125,8 @@ def faults_of_files(l4sh, room, _):
         printed, status, said = ended([l4sh, "migrate", place, f"{room}/made"])
         if (printed, status) != (b"", 1) or not said.startswith(failed + place.encode()) or os.path.exists(f"{room}/made"):
             yield f"of {place} it ends so: {printed, status, said}"
-    if os.path.exists("/dev/full") and ended([l4sh, "migrate", old, "/dev/full"]) != (b"", 1, failed):
+    full = failed + b"/dev/full: No space left on device (os error 28)\n"
+    if os.path.exists("/dev/full") and ended([l4sh, "migrate", old, "/dev/full"]) != (b"", 1, full):
         yield f"into a full device it ends so: {ended([l4sh, 'migrate', old, '/dev/full'])}"
     mask = os.umask(0)
     try:

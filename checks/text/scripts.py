@@ -213,10 +213,10 @@ def faults_of_folder(l4sh, path):
     """A folder is no trace. `state`, `count` and `follow` ask the server of a folder, and here there is none."""
     for command in OF_A_FILE:
         there = ended([l4sh, command, path])
-        why = f"{path}: is a folder; of a live server l4sh state {path} tells what its threads do"
+        told = f"l4sh: device failed\n{path}: is a folder; of a live server l4sh state {path} tells what its threads do\n"
         if command in OF_A_SERVER:
-            why = f"{path}/control: No such file or directory (os error 2)"
-        if there != (b"", 1, f"l4sh: device failed\n{why}\n".encode()):
+            told = f"l4sh: {path}/control: No such file or directory (os error 2): no l4d serves there, or none that makes this path\n"
+        if there != (b"", 1, told.encode()):
             yield f"{command} ends so: {there}"
 
 
@@ -256,7 +256,7 @@ def told_at_terminal(words, pauses):
 
 def faults_of_progress(l4sh, _):
     """A slow trace is told of at a terminal, in one line that goes; a quick one is not, nor one that is followed."""
-    for command in ("check", "state", "count"):
+    for command in ("check", "state", "count", "chart"):
         status, told = told_at_terminal([l4sh, command, "-"], (0.5, 1.8, 0.1))
         if status or not re.fullmatch(rb"(\rl4sh: 0 MiB read)+\r +\r", told):
             yield f"{command}: {status}, {told}"
@@ -302,20 +302,25 @@ def messages_of(count):
         yield b"called %d 2.1 1.1 nil 0x0 0x1 nil 0x7 - -\nbegan %d %d\nended %d %d\n" % ((number + 1,) + (number + 1, number) * 2)
 
 
+def looks_at(entries):
+    """What looks at a trace of so many entries: a chart at its first, at some in the middle and at the last."""
+    middle = entries // 2
+    yield from ((command,) for command in ("check", "state", "count", "follow"))
+    yield from (("chart", "--from", f"{first}", "--to", f"{last}") for first, last in ((1, 9), (middle, middle + 9), (entries - 9, entries)))
+
+
 def faults_of_long_traces(l4sh, _):
     """What these hold of a trace does not grow with it."""
-    for command in ("check", "state", "count", "follow"):
-        peaks = []
-        for count in LONG_TRACES:
-            with tempfile.NamedTemporaryFile() as file:
-                file.writelines(messages_of(count))
-                file.flush()
-                status, said, memory = peak([l4sh, command, file.name])
-            peaks.append(memory)
-            if status:
-                yield f"{command} of {count} messages ends so: {status} {said[:200]}"
-        if peaks[1] - peaks[0] > MORE:
-            yield f"{command} takes {peaks} bytes for traces of {LONG_TRACES} messages"
+    peaks = []
+    for count in LONG_TRACES:
+        with tempfile.NamedTemporaryFile() as file:
+            file.writelines(messages_of(count))
+            file.flush()
+            peaks.append([(words, *peak([l4sh, *words, file.name])) for words in looks_at(2 + 4 * count)])
+    for short, long in zip(*peaks):
+        yield from (f"{words} ends so: {status} {said[:200]}" for words, status, said, _ in (short, long) if status)
+        if long[-1] - short[-1] > MORE:
+            yield f"{long[0]} takes {long[-1]} bytes, and of a short trace {short[-1]}"
 
 
 def crowd(timeouts):

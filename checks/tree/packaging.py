@@ -129,7 +129,12 @@ def completions(below):
             completed = set(re.findall(r"--[a-z][\w-]*", text)) | {word for word in words if not word.startswith("-") and word in text}
             assert completed == words, (shell, completed ^ words)
             facts += len(words)
-        assert run("bash", "-n", f"{below}/share/bash-completion/completions/{name}").returncode == 0
+        script = f"{below}/share/bash-completion/completions/{name}"
+        assert run("bash", "-n", script).returncode == 0
+        offered = run("bash", "-c", f'. {script}; COMP_WORDS=({name} he); COMP_CWORD=1; _{name}; echo "${{COMPREPLY[@]}}"').stdout.split()
+        assert offered == ["help"], (name, offered)
+        assert "'help:" in text or "(help)" in text, f"zsh is not offered {name} help"
+        facts += 2
         if shutil.which("zsh"):
             assert run("zsh", "-n", f"{below}/share/zsh/site-functions/_{name}").returncode == 0
     return facts

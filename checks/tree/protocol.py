@@ -4,8 +4,8 @@
     checks/tree/protocol.py [ROOT]         of this tree, or of another one
 
 - Each file and each table that protocol/generate.py makes is as it would make it now.
-- Limits, kinds and fields of frames, numbers and names of codes, what `l4sh explain` says of each, the counters of refusals of `l4d --log`, and the words and
-  fields of entry lines are those of protocol/. Sources (.rt) and definitions (.antt) are read as text. Where a number or a text is no longer found in the
+- Limits, kinds and fields of frames, numbers and names of codes, and the words and fields of entry lines are those of
+  protocol/. Sources (.rt) and definitions (.antt) are read as text. Where a number or a text is no longer found in the
   form that this check knows, that is a fault, too.
 - No source, definition or proof spells the number of such a limit as that of the bytes of strings: each has its name.
 - No check and no bench in Python spells the kind of a frame that goes to a client: they have it from protocol_tables.py.
@@ -65,8 +65,6 @@ NAMED = ("string_bytes", "too_many_bytes", "entries", "too_many_entries", "line_
          "command_entries")
 # What has a size of its own, which may be the number of a limit.
 OF_ITS_OWN = ["const STACK: usize = (N);", "const MIB: u64 = 1 << (N);", "const MOST_BYTES: usize = (N);", "length lines.items + given ≤ (N) }"]
-# The families of l4sh explain, by their letters.
-FAMILIES = {"K": "KERNEL", "F": "FRAME", "S": "SESSION", "TR": "TRACE", "C": "CLIENT", "N": "NAMES"}
 
 
 class Book:
@@ -123,19 +121,16 @@ def numbers_in(text):
 
 
 def named(book):
-    """No source, no definition, no proof and no edit of a crate spells the number of such a limit, but where it is defined, and where `limits` and `explained`
-    compare it."""
+    """No source, no definition, no proof and no edit of a crate spells the number of such a limit, but where it is defined, where `limits` compares it, and in
+    what the generator makes."""
     by_name = {it.name: it.value for it in book.protocol.limits.values()}
     numbers = {by_name[it] for it in NAMED}
-    meanings = [f'"{it.means}"' for family in book.protocol.codes.values() for it in family]
     for path in sorted(os.path.relpath(it, ROOT) for kind in ("rt", "antt", "edit") for it in glob.glob(f"{ROOT}/crates/*/*/**/*.{kind}", recursive=True)):
-        if "/out/" in path or path in ("crates/ipc_words/src/limits.rt", "crates/ipc_words/specs/Limits.antt"):
+        if "/out/" in path or path in ("crates/ipc_words/src/limits.rt", "crates/ipc_words/specs/Limits.antt") or path in generate.WHOLE:
             continue
         text = book.source(path).text
         for told in [*OF_ITS_OWN, *(it for place, it, _ in TOLD if place == path)]:
             text = re.sub(told_pattern(told), "", text)
-        for meaning in meanings if path == "crates/l4sh_explain/src/codes.rt" else []:
-            text = text.replace(meaning, "")
         book.same(path, "what it spells of limits that have a name in ipc_words", sorted(numbers & set(numbers_in(text))), [])
 
 
@@ -270,10 +265,7 @@ def codes(book):
         book.same(source.path, "its comments", {variant: it for it, variant in source.documented(letters).items()}, family(letters))
     last = len(book.protocol.codes["K"])
     refusal = book.source("crates/ipc_core/src/refusal.rt")
-    book.same(refusal.path, "the comment of number", refusal.number(r"The number of the refusal, 1 to (\d+), printed", "the comment"), last)
-    counts = book.source("crates/ipc_host/src/counts.rt")
-    book.same(counts.path, "REFUSALS, one more than the last K", counts.number(r"^const REFUSALS: usize = (\d+);$", "REFUSALS"), last + 1)
-    book.same(counts.path, "the comment of REFUSALS", counts.number(r"a number past K(\d+) counts as K0", "the comment"), last)
+    book.same(refusal.path, "LAST_REFUSAL", refusal.number(r"^pub const LAST_REFUSAL: u8 = (\d+);$", "LAST_REFUSAL"), last)
     items = book.source("crates/ipc_items/specs/FaultNumber.antt")
     of_items = items.numbers("number_of")
     faults = {OF_ITEMS.get(name, name): it for name, it in family("F").items()}
@@ -288,21 +280,6 @@ def codes(book):
     book.same(ending.path, "its comments", seen, {it.number: it.name for it in book.protocol.codes["S"] if it.name})
     errors = book.source("crates/ipc_words/specs/IpcError.antt")
     book.same(errors.path, "code_of_kind", errors.numbers("code_of_kind"), {it.name: it.number for it in book.protocol.errors})
-
-
-def explained(book):
-    """What l4sh explain says of each code."""
-    source = book.source("crates/l4sh_explain/src/codes.rt")
-    limits_of_threads = book.source("crates/ipc_words/src/limits.rt").one(r'pub const THREADS_AND_SPACES: &str =\s+"([^"]*)";', "THREADS_AND_SPACES")
-    families = source.one(r"const FAMILIES: \[Family; \d+\] = \[([^\]]*)\];", "FAMILIES").split(", ")
-    book.same(source.path, "its families", families, [FAMILIES[it] for it in book.protocol.codes])
-    for letters, name in FAMILIES.items():
-        told, about, meanings = source.one(rf'const {name}: Family = Family \{{\s+letters: "(\w+)",\s+about: "([^"]*)",\s+meanings: &\[(.*?)\n    \],', name)
-        rows = [limits_of_threads if it == "THREADS_AND_SPACES" else it.strip('"') for it in re.findall(r'"[^"]*"|THREADS_AND_SPACES', meanings)]
-        book.same(source.path, f"the letters of {name}", told, letters)
-        book.same(source.path, f"what {letters} is", about, book.protocol.about[letters])
-        wanted = {f"{letters}{it.number}": it.means for it in book.protocol.codes[letters]}
-        book.same(source.path, f"the meanings of {letters}", {f"{letters}{place}": text for place, text in enumerate(rows, 1)}, wanted)
 
 
 def lines(book):
@@ -354,7 +331,7 @@ def main():
         book.protocol = load()
     except Bad as wrong:
         sys.exit(f"{wrong}\n0 compared, 1 differ")
-    for look in (made, limits, named, outcome_definitions, frame_definitions, field_names, frame_sources, codes, explained, lines, kinds_by_hand):
+    for look in (made, limits, named, outcome_definitions, frame_definitions, field_names, frame_sources, codes, lines, kinds_by_hand):
         try:
             look(book)
         except (Lost, Bad, ValueError, KeyError, AttributeError, TypeError, IndexError) as wrong:

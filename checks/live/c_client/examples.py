@@ -2,6 +2,8 @@
 
 import os
 import re
+import select
+import signal
 import subprocess
 import sys
 import time
@@ -11,6 +13,7 @@ from c_client.saying import SECONDS, ZERO, Past, Say, Server, compare, told_to, 
 from frames import ANY, FAILED, NIL, thread_id
 from kit import ROOT
 from name_server import NameServer
+from page_text import blocks_of
 from protocol_tables import MAX_NAME_BYTES, MAX_STRING_BYTES
 
 
@@ -41,6 +44,14 @@ def check_l4x(programs, l4d, l4sh, l4x, room):
             # the gateway's request is answered by the server itself, for which the wait is turned
             got = sayer.ipc(to=to, source=to, label=2, words=(7,))
             assert got[:5] == (3 << 16 | 1, thread_id(1), 0, 0, "46"), got
+        # the server behind the gateway ends: who asks the gateway is told that
+        serving[0].kill()
+        serving[0].wait()
+        wait_until_gone(sayer, thread_id(1))
+        for asked in (["get", "7"], ["put", "7", "70"]):
+            ran = subprocess.run([l4x, server.dir, *asked, "gateway"], stdin=subprocess.DEVNULL, capture_output=True, text=True, timeout=SECONDS)
+            wanted = (1, "", f"l4x: {server.dir}/space1: the gateway found no server: start l4x DIR keyvalue\n")
+            assert (ran.returncode, ran.stdout, ran.stderr) == wanted, ran
         told = told_to(sayer)
         sayer.end()
         for process in serving:
@@ -120,7 +131,7 @@ def check_examples(programs, l4d, l4sh, room, plain):
             names = NameServer(server.path)
         peer = (lambda name, number: name) if plain else (lambda name, number: f"{number}.1")
         run = lambda name, *words, **rest: run_example(room, program(name), server.dir, *words, **rest)
-        serving = [run("pingpong", "pong", waits="pingpong is 2.1 " + ("(registered)" if plain else "(no name server)"))]
+        serving = [run("pingpong", "pong", waits="pingpong is 2.1 " + ("(registered)" if plain else "(N6: there is no name server (pingpong))"))]
         pings = run("pingpong", "ping", peer("pingpong", 2)).splitlines()
         assert [re.match(r"IPC \( *(\d+) MRs\): [\d.]+ microseconds$", line)[1] for line in pings] == [str(n) for n in range(0, 61, 4)]
         serving.append(run("pager", "serve", waits="pager is 4.1"))
@@ -226,13 +237,15 @@ def check_worst(programs, l4d, room):
 
 
 def check_driver(programs, l4d, room):
-    """Lines of a FIFO come to readers that wait, each to one; a reader gives up beside its call; strangers do their worst; l4d's end is the driver's."""
+    """A driver of a FIFO is there before anybody writes to it. Lines come to readers that wait, each to one, also from one who opens it behind
+    the last; a reader gives up beside its call; strangers do their worst; l4d's end is the driver's."""
     fifo = os.path.join(room, "device")
     os.mkfifo(fifo)
     with Server(l4d, room) as server:
         driver = subprocess.Popen([programs["driver"], server.dir, "serve", fifo], stdout=subprocess.PIPE, stderr=subprocess.PIPE, text=True)
-        device = open(fifo, "w", buffering=1)
+        assert select.select([driver.stdout], [], [], SECONDS)[0], "the driver waits for somebody who writes to its device"
         assert driver.stdout.readline().startswith("driver is 15.1")
+        device = open(fifo, "w", buffering=1)
         sayer = Say(programs["say"], server.dir, 52)
         reader = lambda: subprocess.Popen([programs["driver"], server.dir, "read", "15.1"], stdin=subprocess.PIPE, stdout=subprocess.PIPE, text=True)
 
@@ -244,6 +257,8 @@ def check_driver(programs, l4d, room):
             wait_until_waiting(sayer, thread_id(17, version), 0x2)
             device.write(f"line {version}\n")
             wanted(waiting, f"line {version}\n")
+            device.close()
+            device = open(fifo, "w", buffering=1)
         waiting = reader()
         wait_until_waiting(sayer, thread_id(17, 3), 0x2)
         waiting.stdin.close()
@@ -289,6 +304,30 @@ def check_parts(programs, l4d, room):
         one.end()
         two.end()
     return 12
+
+
+def check_first_block(l4d, l4x, room):
+    """The first block of the examples' page, pasted as one beside an l4d that is slow to listen: then a name server is there, and each example."""
+    block = next(it for it in blocks_of("clients/c/examples/README.md", "sh") if "l4d --dir" in it)
+    folder = os.path.join(room, "pasted")
+    os.mkdir(folder)
+    for name, target in (("clients", os.path.join(ROOT, "clients")), ("l4x", l4x)):
+        os.symlink(target, os.path.join(folder, name))
+    with open(os.path.join(folder, "l4d"), "w") as slow:
+        slow.write(f'#!/bin/sh\nsleep 1\nexec {l4d} "$@"\n')
+    os.chmod(slow.name, 0o755)
+    names = "pingpong pager copy gateway cancel driver"
+    with open(os.path.join(folder, "said"), "w+") as said:
+        shell = subprocess.Popen(["sh", "-c", f'{block}\n./l4x "$dir" lookup nobody\nls {names}'], cwd=folder, stdin=subprocess.DEVNULL, stdout=said,
+                                 stderr=subprocess.STDOUT, start_new_session=True)
+        try:
+            shell.wait(10 * SECONDS)
+        finally:
+            os.killpg(shell.pid, signal.SIGKILL)
+        said.seek(0)
+        told = said.read()
+    assert "nothing\n" in told and set(names.split()) <= set(told.split()), told
+    return 1
 
 
 def check_worst_of_cancel(programs, l4d, room):

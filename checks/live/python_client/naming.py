@@ -140,7 +140,7 @@ def name_server_restarts(server, l4x, process):
         text, status = looked_up(server, l4x, "after")
         same("l4x lookup", (status, text), (0, "98.1\n"))
         text, status = looked_up(server, l4x, "nobody")
-        same("l4x lookup of nobody", (status, text), (0, "nothing\n"))
+        same("l4x lookup of nobody", (status, text), (1, "nothing\n"))
         text, status = looked_up(server, l4x, "a b")
         check("l4x lookup of a bad name", status == 1 and "bad name" in text, text)
     server.start([l4x, server.folder, "keyvalue", "--names"])

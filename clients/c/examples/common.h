@@ -35,10 +35,10 @@ static inline L4_ThreadId_t thread_of(const char *word)
 	return thread;
 }
 
-/* A server is found by its name where there is a name server, and else by its id, which it prints. */
+/* A server is found by its name where it is registered, and else by its id, which it prints. */
 static inline void announce(const char *name)
 {
-	const char *how = l4_register(name) == 0 ? "registered" : "no name server";
+	const char *how = l4_register(name) == 0 ? "registered" : l4_error();
 
 	printf("%s is %llu.%llu (%s)\n", name, (unsigned long long) L4_ThreadNo(L4_Myself()),
 	       (unsigned long long) L4_Version(L4_Myself()), how);

@@ -1,7 +1,7 @@
 /* A driver: it waits for its device and for messages. As in L4 the device speaks by messages, too: a thread of the process
  * waits for it, and tells the driver each line as an interrupt would. Each line goes to one reader.
  *
- *     driver DIR serve DEVICE        threads 15 and 16: the lines of this file, which may be a FIFO
+ *     driver DIR serve DEVICE        threads 15 and 16: the lines of this file, which may be a FIFO; nobody need write to it yet
  *     driver DIR read DRIVER         thread 17: prints the next line; gives up where its own standard input ends first */
 #define _POSIX_C_SOURCE 200809L
 
@@ -11,6 +11,7 @@
 #include <poll.h>
 #include <pthread.h>
 #include <string.h>
+#include <sys/stat.h>
 
 enum { DRIVER = 15, WATCHER = 16, READER = 17, LINE_BYTES = 256, READERS = 8 };
 
@@ -121,6 +122,15 @@ static void *watch(void *data)
 	exit(0);
 }
 
+/* Opens the device. A FIFO is opened to be written, too: so nothing waits here until somebody writes to it, and it does not
+ * end with the last one who does. */
+static FILE *open_device(const char *path)
+{
+	struct stat found;
+
+	return fopen(path, stat(path, &found) == 0 && S_ISFIFO(found.st_mode) ? "r+" : "r");
+}
+
 static void serve_lines(const char *dir, const char *path)
 {
 	static struct driver driver;
@@ -130,7 +140,7 @@ static void serve_lines(const char *dir, const char *path)
 	connect_as(dir, DRIVER);
 	driver.dir = dir;
 	driver.thread = L4_Myself();
-	driver.device = fopen(path, "r");
+	driver.device = open_device(path);
 	if (driver.device == NULL || pthread_create(&watcher, NULL, watch, &driver) != 0) {
 		perror(path);
 		exit(1);

@@ -64,6 +64,11 @@ ROWS = [
 
 
 class Arguments(unittest.TestCase):
+    def test_an_id_is_shown_as_it_is_made(self):
+        for thread in (ThreadId.of(1, 2), ThreadId(0), ThreadId((1 << 64) - 1)):
+            self.assertEqual(eval(repr(thread)), thread)
+        self.assertEqual(repr(ThreadId.of(1, 2)), "ThreadId.of(1, 2)")
+
     def test_each_names_the_argument_and_sends_nothing(self):
         thread, server = scripted(WORDS)
         for name, does in ROWS:

@@ -148,10 +148,16 @@ class WaitingForAPartner(unittest.TestCase):
         with self.assertRaises(l4ipc.NoPartner) as caught:
             thread.send(FIRST, wait_for=0.2)
         self.assertEqual(caught.exception.waited, 0.2)
-        self.assertIn("2.1: send phase to 1.1: non-existing partner (error 0x4), after waiting for 0.2 seconds; nothing was delivered", str(caught.exception))
+        self.assertIn("2.1: send phase to 1.1: non-existing partner (error 0x4), after waiting for 0.2 seconds; nothing was delivered"
+                      "; a server that was started again is 1.2 or later: its name, or names.live_thread, finds it", str(caught.exception))
         self.assertTrue(4 < len(said(server)) < 20)
         thread.close()
         server.close()
+
+    def test_one_second_is_one(self):
+        error = l4ipc.NoPartner(0x4)
+        error.waited = 1
+        self.assertIn(", after waiting for 1 second;", str(error))
 
     def test_what_was_sent_is_not_sent_again(self):
         for code in (0x5, 0x2, 0x3, 0x6, 0x18):

@@ -195,6 +195,10 @@ class Who(unittest.TestCase):
         self.assertEqual(caught.exception.filename, "/nope/control")
         self.assertEqual(printed("/nope")[0], 1)
         self.assertEqual(printed("n" * 200)[0], 1)
+        with tempfile.TemporaryDirectory() as folder:
+            with socket.socket(socket.AF_UNIX) as ended:
+                ended.bind(f"{folder}/control")
+            self.assertIn("its l4d has ended", printed(folder)[2])
         for bad in (7, None, b"x" * 200, "\0"):
             with self.subTest(bad=bad), self.assertRaises((TypeError, ValueError)) as wrong:
                 who.processes(bad)

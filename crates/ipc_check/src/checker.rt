@@ -5,8 +5,8 @@ ghost use Rattle.ipc_check.specs.declared.checker.Verdict.TheVariants.{Yes};
 
 use ipc_base::Past;
 use ipc_history::{Entries, Entry, Output};
-use ipc_rules::{follows, next_output};
 use ipc_threads::Slots;
+use ipc_waits::{follows, next_output};
 
 /// Whether entries are a legal history.
 #[derive(Drop, Clone, Copy, PartialEq, Eq, Debug)]

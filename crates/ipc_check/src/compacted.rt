@@ -8,7 +8,7 @@ use crate::checker::Verdict;
 use ipc_base::Past;
 use ipc_compact::Base;
 use ipc_history::{Entries, Entry};
-use ipc_rules::{follows, next_output};
+use ipc_waits::{follows, next_output};
 
 /// Whether entries follow a history that was compacted, which is legal and has no next output: of
 /// it this base and these kept entries are left. The answer is that of [`check`] over the whole

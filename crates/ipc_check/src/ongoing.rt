@@ -10,8 +10,8 @@ ghost use Rattle.ipc_check.specs.Ongoing.{IsSpare, is_held_call};
 
 use ipc_base::Past;
 use ipc_history::{Entries, Entry, Input, Output};
-use ipc_rules::{follows, next_output};
 use ipc_threads::{Change, KeptSlots, Slots};
+use ipc_waits::{follows, next_output};
 use std::alloc::{AllocError, Global};
 use std::marker::Model;
 

@@ -1,11 +1,11 @@
 -- Which command is refused, and why; of several causes the first counts.
 use Rattle.std.specs.Prelude.{ℕ, ◌+◌, ◌||◌, not, Option, Some, None, is_none, nat_lt, if◌then◌else◌}
-use Rattle.ipc_words.specs.Limits.{max_thread_number, max_space}
 use Rattle.ipc_history.specs.CallParts.{CallParts}
 use Rattle.ipc_history.specs.Calls.{calls_made}
 use Rattle.ipc_history.specs.Threads.{is_live, is_taken, next_version}
 use Rattle.ipc_core.specs.KernelParts.{KernelParts}
 use Rattle.ipc_core.specs.Outcomes.{is_busy}
+use Rattle.ipc_core.specs.Ranges.{is_out_of_range}
 use Rattle.ipc_core.specs.Room.{is_full, open_need, call_need, exreg_need}
 use Rattle.ipc_core.specs.declared.refusal.Refusal.{Refusal}
 use Rattle.ipc_core.specs.declared.refusal.Refusal.TheVariants.{BadNumber, NumberTaken, NumberWorn, HistoryFull}
@@ -14,7 +14,7 @@ use Rattle.ipc_core.specs.declared.refusal.Refusal.TheVariants.{NoThread, Busy, 
 -- an open: number or space out of range, number taken, number worn out, history full
 unfoldable pub open_refusal : KernelParts → ℕ → ℕ → Option Refusal
 open_refusal kernel number space =
-    (if nat_lt number 1 || nat_lt max_thread_number number || nat_lt space 1 || nat_lt max_space space then Some BadNumber
+    (if is_out_of_range number space then Some BadNumber
     else (if is_taken kernel.history number then Some NumberTaken
     else (if is_none (next_version kernel.history number) then Some NumberWorn
     else (if is_full kernel open_need then Some HistoryFull else None))))

@@ -31,6 +31,18 @@ pub struct EnterRefused {
     pub call: Call,
 }
 
+impl EnterRefused {
+    ghost use Rattle.std.specs.Prelude.{◌≡◌};
+
+    /// The call, refused for this reason.
+    pub(crate) fn of(refusal: Refusal, call: Call) -> EnterRefused
+        ensures why { result.refusal ≡ refusal }
+        ensures back { result.call ≡ call }
+    {
+        EnterRefused { refusal, call }
+    }
+}
+
 /// K6: the thread is not live.
 #[derive(Clone, Copy)]
 pub struct NoThread;

@@ -14,4 +14,4 @@ pub use answers::{Advance, Compacted, EnterRefused, ExregAnswer, NoThread};
 pub use command::{Answer, Command};
 pub use ipc_words::limits::{LAST_MOMENT, MAX_CALLS, MAX_ENTRIES};
 pub use kernel::{Kernel, Limits};
-pub use refusal::Refusal;
+pub use refusal::{LAST_REFUSAL, Refusal};

@@ -22,8 +22,11 @@ pub enum Refusal {
     CallsSpent,
 }
 
+/// The greatest number of a refusal.
+pub const LAST_REFUSAL: u8 = 8;
+
 impl Refusal {
-    /// The number of the refusal, 1 to 8, printed after K.
+    /// The number of the refusal, 1 to [`LAST_REFUSAL`], printed after K.
     pub fn number(self) -> u8
         ensures { result ≡ refusal_number self }
     {

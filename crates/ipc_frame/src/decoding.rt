@@ -122,6 +122,23 @@ fn read_outcome(
     read_ipcr(alloc, end, behind, tail)
 }
 
+// What ExchangeRegisters answers, of its numbers, at a moment where the version has one.
+fn read_exregr(moment: Option<u64>, head: &[u8]) -> Frame
+    requires { 24 ≤ length head.now }
+    ensures { result ≡ Frame.Exregr (number_in 8 head.now) (number_in 8 (drop 8 head.now))
+        (number_in 8 (drop 8 (drop 8 head.now))) moment }
+{
+    let (dest, head) = split_u64(head);
+    let (control, head) = split_u64(head);
+    let (code, _) = split_u64(head);
+    Frame::Exregr(
+        ThreadId::from_word(dest),
+        Control::from_word(control),
+        code,
+        moment,
+    )
+}
+
 // A frame of a fixed length, of its numbers.
 fn read_numbers(kind: FrameKind, head: &[u8]) -> Frame
     requires head { sum (widths kind) ≤ length head.now }
@@ -146,28 +163,10 @@ fn read_numbers(kind: FrameKind, head: &[u8]) -> Frame
             let (id, _) = split_u64(head);
             Frame::Welcome(ThreadId::from_word(id))
         }
-        FrameKind::Exregr => {
-            let (result, head) = split_u64(head);
-            let (control, head) = split_u64(head);
-            let (code, _) = split_u64(head);
-            Frame::Exregr(
-                ThreadId::from_word(result),
-                Control::from_word(control),
-                code,
-                None,
-            )
-        }
+        FrameKind::Exregr => read_exregr(None, head),
         FrameKind::ExregrTwo => {
             let (moment, head) = split_u64(head);
-            let (result, head) = split_u64(head);
-            let (control, head) = split_u64(head);
-            let (code, _) = split_u64(head);
-            Frame::Exregr(
-                ThreadId::from_word(result),
-                Control::from_word(control),
-                code,
-                Some(moment),
-            )
+            read_exregr(Some(moment), head)
         }
         FrameKind::Refused => Frame::Refused(head[0]),
         FrameKind::Fault => Frame::Fault(head[0], head[1]),

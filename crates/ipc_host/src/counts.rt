@@ -1,9 +1,10 @@
 //! What a server has told its clients since its start, beside the outcomes of calls.
 use crate::notice::Notice;
+use ipc_core::LAST_REFUSAL;
 use std::fmt;
 
-/// How many numbers a refusal may have: K0 is none, and a number past K8 counts as K0.
-const REFUSALS: usize = 9;
+/// How many numbers a refusal may have: K0 is none, and a number past the last K counts as K0.
+const REFUSALS: usize = LAST_REFUSAL as usize + 1;
 
 /// How often a server told what.
 #[derive(Clone, Copy)]

@@ -47,7 +47,7 @@ pub(crate) const NO_MEMORY: &str = "no memory\n";
 const ROTATED: &str = "the next entries end the file\n";
 
 /// What is said where there is no trace.
-const UNTRACED: &str = "no trace\n";
+const UNTRACED: &str = "no trace: start l4d with --trace FILE\n";
 
 /// Answers those who ask, until the service ends.
 pub(crate) fn answer_askers<C: Naming + Send, T: Ledger + Send, R>(
@@ -231,16 +231,23 @@ fn answer_to<C: Naming, T: Ledger, R: Wait + Clock>(
             let counters = counters_now(server, host);
             Ok(Some(CounterLines(counters).to_string(server.alloc)?))
         }
-        Asked::Rotate => Ok(Some(String::from_str(server.alloc, rotated(host))?)),
+        Asked::Rotate => Ok(Some(rotated(server, host)?)),
         Asked::Began => Ok(Some(began_text(server)?)),
         Asked::Threads => Ok(Some(threads_text(server, host)?)),
         Asked::Trace | Asked::Follow | Asked::Unknown => Ok(None),
     }
 }
 
-/// Has the trace go on in a further file, and answers what is said.
-fn rotated(host: &Host) -> &'static str {
-    if host.end_file() { ROTATED } else { UNTRACED }
+/// Has the trace go on in a further file, and answers what is said: where it has stopped, why.
+fn rotated<C: Naming, T: Ledger, R: Wait>(
+    server: &Server<'_, C, T, SocketPort, R>,
+    host: &Host,
+) -> Result<String, AllocError> {
+    if let Some(line) = host.trace_stop.line(server.rt, server.alloc)? {
+        return Ok(line);
+    }
+    let said = if host.end_file() { ROTATED } else { UNTRACED };
+    String::from_str(server.alloc, said)
 }
 
 /// How many threads are there, and behind it a line for each with its socket.

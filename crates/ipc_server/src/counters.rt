@@ -1,6 +1,7 @@
 //! What a server does at one moment, in numbers.
 use crate::host::Host;
 use crate::server::Server;
+use crate::trace_fault::TraceFault;
 use ipc_host::{Counts, SocketPort};
 use ipc_lock::Naming;
 use std::fmt;
@@ -23,6 +24,7 @@ pub(crate) fn counters_now<C: Naming, T: Ledger, R: Wait>(
         held: server.shared.held(server.rt) as u64,
         kibibytes: host.kibibytes(server.alloc),
         behind: host.behind(entries),
+        trace_fault: host.trace_stop.fault(server.rt),
     }
 }
 
@@ -41,6 +43,8 @@ pub(crate) struct Counters {
     kibibytes: u64,
     /// How many entries the trace lags behind.
     behind: Option<u64>,
+    /// Why it has stopped, if it has.
+    trace_fault: Option<TraceFault>,
 }
 
 impl fmt::Display for Counters {
@@ -74,10 +78,25 @@ impl Counters {
         write!(f, ", {kibibytes} KiB")
     }
 
+    // The lines of a trace: how far it lags behind, and the number after TR of what stopped it, 0
+    // where it goes on.
+    fn fmt_trace_lines<W: fmt::Write>(&self, f: &mut fmt::Formatter<W>) -> fmt::Result {
+        let Some(behind) = self.behind else {
+            return Ok(());
+        };
+        let stopped = match &self.trace_fault {
+            Some(fault) => fault.number(),
+            None => 0,
+        };
+        write!(f, "trace_entries_behind {behind}\n")?;
+        write!(f, "trace_stopped {stopped}\n")
+    }
+
     fn fmt_trace<W: fmt::Write>(&self, f: &mut fmt::Formatter<W>) -> fmt::Result {
-        match self.behind {
-            Some(behind) => write!(f, ", trace {behind} entries behind"),
-            None => Ok(()),
+        match (&self.trace_fault, self.behind) {
+            (Some(fault), _) => write!(f, ", trace stopped with TR{}", fault.number()),
+            (None, Some(behind)) => write!(f, ", trace {behind} entries behind"),
+            (None, None) => Ok(()),
         }
     }
 }
@@ -103,9 +122,6 @@ impl fmt::Display for CounterLines {
         counters.counts.fmt_lines(f)?;
         write!(f, "entries {entries}\nentries_held {held}\n")?;
         write!(f, "memory_kib {kibibytes}\n")?;
-        match counters.behind {
-            Some(behind) => write!(f, "trace_entries_behind {behind}\n"),
-            None => Ok(()),
-        }
+        counters.fmt_trace_lines(f)
     }
 }

@@ -25,9 +25,6 @@ const UNTRACED: &str = "no trace: start l4d with --trace, as --trace /dev/null\n
 /// What is said where as many follow as may.
 const FULL: &str = "full: 4 follow already\n";
 
-/// What is said where the trace stops.
-const STOPPED: &str = "the trace has stopped\n";
-
 /// What is said to one who gets no more lines.
 const CUT: &str = "cut off: too slow\n";
 
@@ -48,9 +45,22 @@ pub(crate) fn follow<C: Naming, T: Ledger, R: Wait + Clock>(
             host.followers.leave(server.rt, ticket);
             followed
         }
-        Err(Unfollowed::NoTrace) => say(stream, UNTRACED),
+        Err(Unfollowed::NoTrace) => say_untraced(server, host, stream),
         Err(Unfollowed::Full) => say(stream, FULL),
         Err(Unfollowed::NoMemory) => say(stream, NO_MEMORY),
+    }
+}
+
+/// Says why no entry comes: there is no trace, or it has stopped.
+fn say_untraced<C: Naming, T: Ledger, R: Wait + Clock>(
+    server: &Server<'_, C, T, SocketPort, R>,
+    host: &Host,
+    stream: &UnixStream,
+) -> io::Result<()> {
+    match host.trace_stop.line(server.rt, server.alloc) {
+        Ok(Some(line)) => say(stream, line.as_str()),
+        Ok(None) => say(stream, UNTRACED),
+        Err(_) => say(stream, NO_MEMORY),
     }
 }
 
@@ -102,7 +112,7 @@ fn send_lines<C: Naming, T: Ledger, R: Wait + Clock>(
             Given::Nothing if is_over || has_left(stream) => return Ok(()),
             Given::Nothing => {}
             Given::Cut => return say(stream, CUT),
-            Given::Over => return say(stream, STOPPED),
+            Given::Over => return say_untraced(server, host, stream),
         }
     }
     Ok(())

@@ -3,6 +3,7 @@ use crate::followers::Followers;
 use crate::meter::Meter;
 use crate::parts::Parts;
 use crate::paths::{Door, Listener};
+use crate::trace_fault::TraceStop;
 use ipc_host::{Guests, ProcessStatus, Readiness, have_come, may_be_blocked, resident};
 use std::alloc::Global;
 use std::rt::Clock;
@@ -31,6 +32,8 @@ pub struct Host {
     pub(crate) is_eager: bool,
     /// How many entries stand in the trace; None without one.
     pub(crate) traced: Option<AtomicU64>,
+    /// Whether it has stopped, and why.
+    pub(crate) trace_stop: TraceStop,
     /// How much stands in the trace's file, and where it ends.
     pub(crate) meter: Meter,
     /// Where those who ask for a part of a trace get it.

@@ -56,6 +56,7 @@ use std::thread::Threads;
 use std::{io, thread};
 use telling::{asks_help, tell_error, tell_help};
 use trace_disk::TraceDisk;
+use trace_fault::TraceStop;
 use traced::serve_as_asked;
 
 /// How many parts the ledgers of the seats have.
@@ -272,6 +273,7 @@ fn host_of<C: Naming, T: Ledger, R: Threads + Files<File = File>>(
         is_logged: options.log,
         is_eager: has_several_processors(server.rt),
         traced: nothing_traced(options),
+        trace_stop: TraceStop::new(),
         meter: Meter::new(options.trace_size),
         parts: Parts::new(),
         followers: Followers::new(server.alloc),

@@ -1,6 +1,7 @@
-//! Why a trace stopped.
+//! Why a trace stopped, and where those find it who ask for the trace.
 use ipc_trace::PutFault;
-use std::alloc::AllocError;
+use std::alloc::{AllocError, Global};
+use std::sync::{Mutex, Wait};
 use std::{fmt, io};
 
 /// What failed of the file of a trace.
@@ -41,6 +42,11 @@ impl TraceFault {
         }
     }
 
+    /// The number after TR.
+    pub(crate) fn number(&self) -> u8 {
+        self.fault.number()
+    }
+
     /// The same, with the system's reason for a write that failed, where it has none yet.
     pub fn with_reason(self, reason: Option<io::Error>) -> TraceFault {
         match (self.fault, self.reason, reason) {
@@ -54,11 +60,66 @@ impl TraceFault {
 
 impl fmt::Display for TraceFault {
     fn fmt<W: fmt::Write>(&self, f: &mut fmt::Formatter<W>) -> fmt::Result {
-        let number = self.fault.number();
+        let number = self.number();
         write!(f, "l4d: trace TR{number}")?;
         match &self.reason {
             Some((failed, error)) => write!(f, "\n  {failed}: {error}"),
             None => Ok(()),
+        }
+    }
+}
+
+/// The same for one who asks for the trace: in one line.
+#[derive(Clone, Copy)]
+struct Stopped(TraceFault);
+
+impl fmt::Display for Stopped {
+    fn fmt<W: fmt::Write>(&self, f: &mut fmt::Formatter<W>) -> fmt::Result {
+        let Stopped(fault) = self;
+        let number = fault.number();
+        write!(f, "the trace has stopped (TR{number})")?;
+        match &fault.reason {
+            Some((failed, error)) => write!(f, ": {failed}: {error}"),
+            None => Ok(()),
+        }
+    }
+}
+
+/// Whether a trace has stopped, and why.
+#[derive(Drop)]
+pub struct TraceStop {
+    fault: Mutex<Option<TraceFault>>,
+}
+
+impl TraceStop {
+    /// It has not stopped.
+    pub fn new() -> TraceStop {
+        TraceStop {
+            fault: Mutex::new(None),
+        }
+    }
+
+    /// It has stopped.
+    pub(crate) fn note<R: Wait>(&self, rt: &R, fault: TraceFault) {
+        let mut noted = self.fault.lock(rt);
+        *noted = Some(fault);
+        drop(noted);
+    }
+
+    /// Why it has stopped, if it has.
+    pub(crate) fn fault<R: Wait>(&self, rt: &R) -> Option<TraceFault> {
+        *self.fault.lock(rt)
+    }
+
+    /// The same as a line.
+    pub(crate) fn line<R: Wait>(
+        &self,
+        rt: &R,
+        alloc: Global,
+    ) -> Result<Option<String>, AllocError> {
+        match self.fault(rt) {
+            Some(fault) => Ok(Some(format!(in alloc; "{}\n", Stopped(fault))?)),
+            None => Ok(None),
         }
     }
 }

@@ -115,7 +115,7 @@ where
         + Eprint
         + Sync,
 {
-    tell(server.rt, fault);
+    stopped(server.rt, host, fault);
     if options.trace_required {
         server.shared.close(server.rt);
         return Exit::TraceRequired;
@@ -177,7 +177,7 @@ where
     match files.follow(server, host, trace) {
         Ok(()) => true,
         Err(fault) => {
-            tell(server.rt, fault.with_reason(host.meter.reason()));
+            stopped(server.rt, host, fault.with_reason(host.meter.reason()));
             server.keep_nothing();
             host.followers.close(server.rt);
             if is_required {
@@ -188,8 +188,9 @@ where
     }
 }
 
-/// Says on standard error why the trace stopped.
-fn tell<R: Eprint>(rt: &R, fault: TraceFault) {
+/// Says on standard error why the trace stopped, and keeps it for those who ask.
+fn stopped<R: Wait + Eprint>(rt: &R, host: &Host, fault: TraceFault) {
+    host.trace_stop.note(rt, fault);
     // where standard error fails too, the exit status still says it
     let _ = rt.eprintln(&fault);
 }

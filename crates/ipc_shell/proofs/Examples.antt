@@ -4,7 +4,7 @@ use Rattle.ipc_core.specs.declared.answers.Advance.TheVariants.{Moved}
 use Rattle.ipc_core.specs.declared.command.Answer.TheVariants.{Done, Advanced, Taken}
 use Rattle.ipc_core.specs.declared.command.Command.TheVariants.{Advance, Take}
 use Rattle.ipc_shell.specs.Answers.{answer_text}
-use Rattle.l4sh_commands.specs.Commands.{command_text}
+use Rattle.ipc_shell.specs.Commands.{command_text}
 use Rattle.ipc_shell.specs.ScriptLines.{lines_of}
 
 no_line : lines_of [] ≡ []

@@ -3,10 +3,10 @@ use Rattle.std.proofs.Common.{◌≡◌, ◌≢◌, ℕ, Bool, true, false, Opti
 use Rattle.std.proofs.KnownBytes.{Appends-nil}
 use Rattle.ipc_history.specs.declared.entry.Entry.{Entry}
 use Rattle.ipc_trace.specs.Traces.{HasUnknownVersion, versioned_text}
+use Rattle.ipc_trace.specs.Versions.{newest}
 use Rattle.ipc_trace.specs.declared.fault.TraceEnd.{TraceEnd}
 use Rattle.ipc_trace.specs.declared.fault.TraceEnd.TheVariants as end
 use Rattle.ipc_trace.specs.declared.version.TraceVersion.{TraceVersion}
-use Rattle.ipc_trace.specs.declared.version.TraceVersion.TheVariants.{Two}
 use Rattle.ipc_shell.specs.Checking.{HasBadLine, HasLines, torn_text}
 use Rattle.ipc_shell.specs.Migrating.{MigratesTrace, TellsTorn, WritesMigrated}
 use Rattle.ipc_shell.specs.Putting.{AppendsFront}
@@ -57,7 +57,7 @@ migrated_torn None before after said_before said_after version entries exit line
 migrated_torn (Some bytes) before after said_before said_after version entries Done lines writes tells =
     record { version = version; entries = entries; is_torn = true; lines = lines; written = writes; said = tells }
 migrated_torn (Some bytes) before after said_before said_after version entries DeviceFailed lines writes tells =
-    let text = versioned_text Two entries in
+    let text = versioned_text newest entries in
     inr (record { version = version; entries = entries; is_torn = true; lines = lines; written = (text, ([], sym (append-nil text), writes)); said = tells })
 migrated_torn (Some bytes) before after said_before said_after version entries NoMemory lines writes tells = absurd tells
 migrated_torn (Some bytes) before after said_before said_after version entries (BadLine number) lines writes tells = absurd tells

@@ -1,3 +1,6 @@
+pub mod Commands
+pub mod Script
+pub mod Replays
 pub mod ScriptLines
 pub mod Reading
 pub mod Answers

@@ -3,19 +3,19 @@ use Rattle.std.specs.Prelude.{ℕ, ◌⊎◌, List, [], Bool, true, Option, IfSo
 use Rattle.std.specs.Io.KnownBytes.{Appends}
 use Rattle.ipc_history.specs.declared.entry.Entry.{Entry}
 use Rattle.ipc_trace.specs.Traces.{HasUnknownVersion, versioned_text}
+use Rattle.ipc_trace.specs.Versions.{newest}
 use Rattle.ipc_trace.specs.declared.version.TraceVersion.{TraceVersion}
-use Rattle.ipc_trace.specs.declared.version.TraceVersion.TheVariants.{Two}
 use Rattle.ipc_shell.specs.Checking.{HasBadLine, HasLines, torn_text}
 use Rattle.ipc_shell.specs.Putting.{AppendsFront}
 use Rattle.ipc_shell.specs.declared.exit.Exit.{Exit}
 use Rattle.ipc_shell.specs.declared.exit.Exit.TheVariants.{Done, BadLine, NoMemory, DeviceFailed, Illegal, UnknownVersion}
 
--- a trace of version 2 of these entries was written, or a front of it where there is no memory or a
--- device failed
+-- a trace of the newest version of these entries was written, or a front of it where there is no
+-- memory or a device failed
 abbrev pub WritesMigrated : List Entry → Option (List ℕ) → Option (List ℕ) → Exit → Type 0
-WritesMigrated entries before after Done = Appends before after (versioned_text Two entries)
-WritesMigrated entries before after NoMemory = AppendsFront before after (versioned_text Two entries)
-WritesMigrated entries before after DeviceFailed = AppendsFront before after (versioned_text Two entries)
+WritesMigrated entries before after Done = Appends before after (versioned_text newest entries)
+WritesMigrated entries before after NoMemory = AppendsFront before after (versioned_text newest entries)
+WritesMigrated entries before after DeviceFailed = AppendsFront before after (versioned_text newest entries)
 WritesMigrated entries before after (BadLine number) = ⊥
 WritesMigrated entries before after Illegal = ⊥
 WritesMigrated entries before after UnknownVersion = ⊥
@@ -29,15 +29,15 @@ TellsTorn before after (BadLine number) = ⊥
 TellsTorn before after Illegal = ⊥
 TellsTorn before after UnknownVersion = ⊥
 
--- the entries of the whole lines are written as a trace of version 2, and it is told whether a torn
--- line stands behind them; what is appended to the bytes of the new trace, and to those of the
--- writer
+-- the entries of the whole lines are written as a trace of the newest version, and it is told
+-- whether a torn line stands behind them; what is appended to the bytes of the new trace, and to
+-- those of the writer
 pub record Migrates (bytes : List ℕ) (before after said_before said_after : Option (List ℕ)) : Type 0 where
   pub version : TraceVersion
   pub entries : List Entry
   pub is_torn : Bool
   pub lines : HasLines bytes version entries is_torn
-  pub written : Appends before after (versioned_text Two entries)
+  pub written : Appends before after (versioned_text newest entries)
   pub said : Appends said_before said_after (torn_text is_torn)
 
 -- a front of that: the run ended before
@@ -46,7 +46,7 @@ pub record MigratesFront (bytes : List ℕ) (before after said_before said_after
   pub entries : List Entry
   pub is_torn : Bool
   pub lines : HasLines bytes version entries is_torn
-  pub written : AppendsFront before after (versioned_text Two entries)
+  pub written : AppendsFront before after (versioned_text newest entries)
   pub said : AppendsFront said_before said_after (torn_text is_torn)
 
 -- nothing is written, and nothing is told

@@ -9,7 +9,7 @@ use Rattle.ipc_core.specs.declared.command.Command.{Command}
 use Rattle.ipc_lines.specs.Lines.{entry_text}
 use Rattle.ipc_shell.specs.Answers.{answer_text}
 pub use Rattle.ipc_trace.specs.Traces.{ended}
-use Rattle.l4sh_commands.specs.Commands.{IsCommand}
+use Rattle.ipc_shell.specs.Commands.{IsCommand}
 
 -- the lines of entries
 abbrev pub entries_text : List Entry → List ℕ

@@ -9,8 +9,8 @@ use Rattle.ipc_core.specs.declared.kernel.Limits.{Limits}
 use Rattle.ipc_core.specs.declared.command.Command.{Command}
 use Rattle.ipc_exchange.specs.Serving.{first_kernel}
 use Rattle.ipc_lines.specs.Lines.{spaced}
-use Rattle.l4sh_commands.specs.Commands.{IsScriptCommand, command_text, compact_text, script_command_text}
-use Rattle.l4sh_commands.specs.declared.script_command.ScriptCommand.{ScriptCommand}
+use Rattle.ipc_shell.specs.Commands.{IsScriptCommand, command_text, compact_text, script_command_text}
+use Rattle.ipc_shell.specs.declared.script_command.ScriptCommand.{ScriptCommand}
 use Rattle.ipc_shell.specs.Printing.{Answers, ended}
 use Rattle.ipc_shell.specs.Scripts.{EndsAtLine, RunsLines}
 use Rattle.ipc_shell.specs.declared.exit.Exit.{Exit}

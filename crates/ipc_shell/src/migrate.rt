@@ -8,11 +8,11 @@ use ipc_history::Entry;
 use ipc_trace::{PutFault, TraceEnd, TraceWriter, put_trace, read_trace};
 use std::alloc::Global;
 
-/// Writes the trace of a reader anew, as one of version 2: the line of the version and those of the
-/// entries, once the reader was read whole. Whether they are a legal history is not looked at. Of a
-/// trace whose last line lacks its newline these are the entries of the whole lines, and then
-/// `torn` is printed to the writer. Of a trace with a bad line, or of a version that is not known,
-/// nothing is written.
+/// Writes the trace of a reader anew, as one of the newest version: the line of the version and
+/// those of the entries, once the reader was read whole. Whether they are a legal history is not
+/// looked at. Of a trace whose last line lacks its newline these are the entries of the whole
+/// lines, and then `torn` is printed to the writer. Of a trace with a bad line, or of a version
+/// that is not known, nothing is written.
 ///
 /// It ends as `DeviceFailed` only where a call of the reader, of the new trace or of the writer
 /// failed in this run, or where the new trace had stopped before.

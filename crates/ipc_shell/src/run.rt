@@ -2,7 +2,7 @@ ghost use Rattle.std.specs.Prelude.{◌≡◌, ◌≢◌, ◌+◌, ◌<◌, Some
 ghost use Rattle.std.specs.Io.KnownBytes.{prepend_known};
 ghost use Rattle.std.specs.String.{string_bytes};
 ghost use Rattle.ipc_shell.specs.Failing.{HasFailed};
-ghost use Rattle.l4sh_commands.specs.Commands.{compact_text};
+ghost use Rattle.ipc_shell.specs.Commands.{compact_text};
 ghost use Rattle.ipc_shell.specs.Running.{kernel_within, EndsLine, IsCompacted, IsNoCommand, RunsLine, RunsScript};
 
 mod answering;
@@ -10,10 +10,11 @@ mod answering;
 use crate::exit::Exit;
 use crate::lines::{NextLine, next_line};
 use crate::output::put;
+use crate::reading::read_command;
+use crate::script_command::ScriptCommand;
 use answering::answer;
 use ipc_base::{PieceBuffer, PortRead, PortWrite};
 use ipc_core::{Kernel, Limits, Refusal};
-use l4sh_commands::{ScriptCommand, read_command};
 use std::alloc::{AllocError, Global};
 
 /// Runs a script from a reader: after each command the lines of the entries that it wrote and one

@@ -14,6 +14,10 @@ use Rattle.ipc_trace.specs.declared.version.FirstLine.TheVariants as first
 use Rattle.ipc_trace.specs.declared.version.TraceVersion.{TraceVersion}
 use Rattle.ipc_trace.specs.declared.version.TraceVersion.TheVariants.{One, Two}
 
+-- the version that is written
+abbrev pub newest : TraceVersion
+newest = Two
+
 -- a first line that begins so tells a version
 abbrev pub version_word : List ℕ
 version_word = codes "l4trace"

@@ -2,7 +2,7 @@
 ghost use Rattle.std.specs.Prelude.{◌≡◌, ◌≢◌, ◌<◌, ◌↔◌, true, false, Err, OnOk, OnErr};
 ghost use Rattle.ipc_trace.specs.Putting.{PutsLine, PutsFront};
 ghost use Rattle.ipc_trace.specs.Traces.{trace_text, versioned_text};
-ghost use Rattle.ipc_trace.specs.declared.version.TraceVersion.TheVariants.{Two};
+ghost use Rattle.ipc_trace.specs.Versions.{newest};
 
 use crate::fault::PutFault;
 use crate::writing::TraceWriter;
@@ -20,9 +20,9 @@ pub fn put_trace<P: PortWrite>(
     trace: &mut TraceWriter<P>,
     entries: &[Entry],
 ) -> Result<(), PutFault>
-    ensures ok { OnOk result (PutsLine trace.old trace.new (versioned_text Two entries.now)) }
+    ensures ok { OnOk result (PutsLine trace.old trace.new (versioned_text newest entries.now)) }
     ensures flushed { OnOk result (trace.new.is_flushed ≡ true) }
-    ensures front { OnErr result (PutsFront trace.old trace.new (versioned_text Two entries.now)) }
+    ensures front { OnErr result (PutsFront trace.old trace.new (versioned_text newest entries.now)) }
     ensures device { result ≡ Err PutFault.DeviceFailed → trace.old.failures < trace.new.failures }
     ensures kept { result ≢ Err PutFault.DeviceFailed → trace.new.failures ≡ trace.old.failures }
     ensures stopped { (result ≡ Err PutFault.Stopped) ↔ (trace.old.is_stopped ≡ true) }

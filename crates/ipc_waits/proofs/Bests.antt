@@ -10,17 +10,17 @@ use Rattle.ipc_history.specs.declared.entry.Entry.{Entry}
 use Rattle.ipc_history.specs.declared.entry.Output.{Output}
 use Rattle.ipc_waits.specs.Finding.{is_among}
 use Rattle.ipc_waits.specs.FindingLaws.{AsksOnly}
-use Rattle.ipc_rules.specs.Least.{IsFound, IsLeast, better_of}
-use Rattle.ipc_rules.specs.Rules.{rule_of}
+use Rattle.ipc_waits.specs.Least.{IsFound, IsLeast, better_of}
+use Rattle.ipc_waits.specs.Rules.{rule_of}
 use Rattle.ipc_threads.specs.Slots.{Stands, slot_at}
 use Rattle.ipc_threads.specs.Standings.{standing_of}
 use Rattle.ipc_threads.specs.Steps.{standing_in}
-use Rattle.ipc_rules.specs.declared.rules.Rule.{Rule}
+use Rattle.ipc_waits.specs.declared.rules.Rule.{Rule}
 use Rattle.ipc_threads.specs.Slot.{Slot}
 use Rattle.ipc_threads.specs.declared.kept.KeptSlots.{KeptSlots}
-use Rattle.ipc_rules.proofs.Betters.{least_better}
+use Rattle.ipc_waits.proofs.Betters.{least_better}
 use Rattle.ipc_threads.proofs.Holders.{slot_of_call, standing_number}
-use Rattle.ipc_rules.proofs.Leasts.{first_found, rule_over}
+use Rattle.ipc_waits.proofs.LeastLemmas.{first_found, rule_over}
 use Rattle.ipc_waits.specs.Next.{IsBest, slots_at}
 
 -- the slot of the i-th place

@@ -28,7 +28,7 @@ use Rattle.ipc_waits.specs.Finding.{CoversAt, finds, is_among}
 use Rattle.ipc_waits.specs.Keys.{AreWaits, HasAt, HaveAt, IsSameElsewhere, Mirrors, SameElsewhere, is_of}
 use Rattle.ipc_waits.specs.Queues.{is_in}
 use Rattle.ipc_waits.specs.declared.queue.Wait.{Wait}
-use Rattle.ipc_waits.specs.declared.waits.Waits.{Waits}
+use Rattle.ipc_waits.specs.declared.queues.Waits.{Waits}
 use Rattle.ipc_waits.proofs.Among.{open_among}
 use Rattle.ipc_waits.proofs.Lists.{among_filtered}
 

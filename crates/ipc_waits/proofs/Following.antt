@@ -23,7 +23,7 @@ use Rattle.ipc_waits.specs.Queues.{is_in}
 use Rattle.ipc_waits.specs.Waiting.{IsTouched, IsWaiting}
 use Rattle.ipc_waits.specs.declared.queue.Wait.{Wait}
 use Rattle.ipc_waits.specs.declared.waiting.Waiting.{Waiting}
-use Rattle.ipc_waits.specs.declared.waits.Waits.{Waits}
+use Rattle.ipc_waits.specs.declared.queues.Waits.{Waits}
 use Rattle.ipc_waits.specs.Candidates.{FollowsPlace}
 use Rattle.ipc_laws.proofs.Settling.{legal_push}
 use Rattle.ipc_threads.proofs.Holders.{slot_of_call}

@@ -7,7 +7,7 @@ use Rattle.ipc_threads.specs.declared.slot.Standing.{Standing}
 use Rattle.ipc_waits.specs.Keys.{AreWaits, Mirrors, is_of, due_under, sends_under, watches_under}
 use Rattle.ipc_waits.specs.Queues.{is_in}
 use Rattle.ipc_waits.specs.declared.queue.Wait.{Wait}
-use Rattle.ipc_waits.specs.declared.waits.Waits.{Waits}
+use Rattle.ipc_waits.specs.declared.queues.Waits.{Waits}
 
 -- of a table without a call, none
 none_held : (key_of : Standing → Option ℕ) (table : List Slot) (waits : List Wait) → ((k : ℕ) → standing_in (slot_at table k) ≡ None) → waits ≡ [] → Mirrors key_of table waits

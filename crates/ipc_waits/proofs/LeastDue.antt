@@ -20,8 +20,8 @@ use Rattle.ipc_laws.proofs.Changing.{changes}
 use Rattle.ipc_waits.specs.Finding.{IsRising, is_among}
 use Rattle.ipc_waits.proofs.Among.{numbers_rise, open_among}
 use Rattle.ipc_waits.proofs.Kept.{due_at_open}
-use Rattle.ipc_rules.specs.Rules.{rule_of}
-use Rattle.ipc_rules.specs.declared.rules.Rule.TheVariants.{Expires}
+use Rattle.ipc_waits.specs.Rules.{rule_of}
+use Rattle.ipc_waits.specs.declared.rules.Rule.TheVariants.{Expires}
 use Rattle.ipc_threads.specs.Slots.{Stands}
 use Rattle.ipc_threads.specs.declared.kept.KeptSlots.{KeptSlots}
 use Rattle.ipc_waits.specs.Keys.{Mirrors, due_under}

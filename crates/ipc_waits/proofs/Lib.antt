@@ -1,3 +1,13 @@
+pub mod PhaseRules
+pub mod LeastLemmas
+pub mod Betters
+pub mod Meets
+pub mod Stops
+pub mod Lasts
+pub mod Answering
+pub mod Concerns
+pub mod Reaching
+pub mod PatienceLemmas
 pub mod Numbers
 pub mod Sames
 pub mod Orders
@@ -22,8 +32,8 @@ pub mod WaitFacts
 pub mod LeastDue
 pub mod FirstDue
 pub mod Touches
-pub mod Meetings
+pub mod MeetingLemmas
 pub mod Passing
 pub mod Exchanged
-pub mod Resting
+pub mod RestLemmas
 pub mod Fronts

@@ -36,7 +36,7 @@ use Rattle.ipc_waits.specs.Queues.{is_in, under}
 use Rattle.ipc_waits.specs.Waiting.{IsWaiting}
 use Rattle.ipc_waits.specs.declared.queue.Wait.{Wait}
 use Rattle.ipc_waits.specs.declared.waiting.Waiting.{Waiting}
-use Rattle.ipc_waits.specs.declared.waits.Waits.{Waits}
+use Rattle.ipc_waits.specs.declared.queues.Waits.{Waits}
 use Rattle.ipc_waits.proofs.AtPlaces.{IsTouched, entry_covers_at, touched_is}
 use Rattle.ipc_waits.proofs.AtPlaces.IsTouched.{Named, Watching, Due}
 use Rattle.ipc_waits.proofs.Numbers.{eqb_sym}

@@ -24,7 +24,7 @@ use Rattle.ipc_threads.specs.declared.kept.KeptSlots.{KeptSlots}
 use Rattle.ipc_waits.specs.Keys.{AreWaits}
 use Rattle.ipc_waits.specs.Touching.{waits_touched}
 use Rattle.ipc_waits.specs.Waiting.{IsTouched}
-use Rattle.ipc_waits.specs.declared.waits.Waits.{Waits}
+use Rattle.ipc_waits.specs.declared.queues.Waits.{Waits}
 use Rattle.ipc_waits.proofs.WaitFacts.{due_wait_until, watchers_wait}
 use Rattle.ipc_waits.proofs.WaitKeys.{watches_open}
 

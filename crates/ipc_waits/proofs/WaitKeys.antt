@@ -21,7 +21,7 @@ use Rattle.ipc_threads.specs.Standings.{phase_of, standing_of}
 use Rattle.ipc_threads.specs.declared.slot.Phase.{Phase}
 use Rattle.ipc_threads.specs.declared.slot.Phase.TheVariants.{Sending, Passing, Receiving, Taking}
 use Rattle.ipc_threads.specs.declared.slot.Standing.{Standing}
-use Rattle.ipc_rules.proofs.Meets.{sending_kept}
+use Rattle.ipc_waits.proofs.Meets.{sending_kept}
 use Rattle.ipc_threads.proofs.PhaseFacts.{Says, no_sender_yet, passes_not, phase_says, receiver_is, since_receiving, since_sending, taken_is}
 use Rattle.ipc_waits.specs.Keys.{due_under, sends_under, watches_under}
 

@@ -4,7 +4,7 @@ use Rattle.std.specs.Prelude.{Option, Some, None, option_map, if◌then◌else�
 use Rattle.std.specs.Option.{option_map_or}
 use Rattle.ipc_words.specs.ThreadId.{anythread, anylocalthread}
 use Rattle.ipc_words.specs.Time.{span}
-use Rattle.ipc_rules.specs.Rules.{waits_to_receive, waits_to_send}
+use Rattle.ipc_waits.specs.Rules.{waits_to_receive, waits_to_send}
 use Rattle.ipc_threads.specs.Standings.{partner_by}
 use Rattle.ipc_threads.specs.Slots.{slot_at}
 use Rattle.ipc_threads.specs.Steps.{standing_in}
@@ -14,7 +14,7 @@ use Rattle.ipc_threads.specs.Slot.{Slot}
 use Rattle.ipc_threads.specs.declared.slot.Standing.{Standing}
 use Rattle.ipc_waits.specs.Queues.{is_in}
 use Rattle.ipc_waits.specs.declared.queue.Wait.{Wait}
-use Rattle.ipc_waits.specs.declared.waits.Waits.{Waits}
+use Rattle.ipc_waits.specs.declared.queues.Waits.{Waits}
 
 -- a waiting send phase: the receiver that it sends to
 abbrev pub sends_under : Standing → Option ℕ
@@ -27,8 +27,8 @@ watches_under s =
     (if waits_to_receive s.phase && ((s.awaited == anythread) || (s.awaited == anylocalthread)) then None
     else Some (partner_by s))
 
--- the moment at which a period is over that begins at another moment, in microseconds; none for
--- never
+-- the moment at which a period is over that begins at another moment, in microseconds, or the
+-- greatest number where that is past it; none for never
 abbrev pub due_after : ℕ → ℕ → Option ℕ
 due_after since period = option_map (λ micros. min (since + micros) (2 ^ 64 - 1)) (span period)
 

@@ -1,3 +1,7 @@
+pub mod Rules
+pub mod Least
+pub mod Outputs
+pub mod Patience
 pub mod Queues
 pub mod Keys
 pub mod Finding

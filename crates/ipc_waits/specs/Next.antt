@@ -9,7 +9,7 @@ use Rattle.ipc_history.specs.declared.entry.Entry.{Entry}
 use Rattle.ipc_history.specs.declared.entry.Output.{Output}
 use Rattle.ipc_waits.specs.Finding.{source_of}
 use Rattle.ipc_threads.specs.PastSlots.{PastSlots}
-use Rattle.ipc_rules.specs.Least.{IsFound, IsLeast, earlier}
+use Rattle.ipc_waits.specs.Least.{IsFound, IsLeast, earlier}
 use Rattle.ipc_threads.specs.Slots.{slot_at}
 use Rattle.ipc_threads.specs.Steps.{standing_in}
 use Rattle.ipc_threads.specs.Slot.{Slot}

@@ -5,7 +5,7 @@ use Rattle.ipc_history.specs.declared.entry.Entry.TheVariants.{Given}
 use Rattle.ipc_history.specs.declared.entry.Input.TheVariants.{At, Broke}
 use Rattle.ipc_waits.specs.Queues.{under, until}
 use Rattle.ipc_waits.specs.declared.queue.Wait.{Wait}
-use Rattle.ipc_waits.specs.declared.waits.Waits.{Waits}
+use Rattle.ipc_waits.specs.declared.queues.Waits.{Waits}
 
 -- of the calls that it touches without naming them: a break those that watch the thread, a moment
 -- those that are due then

@@ -31,9 +31,10 @@ fn watches_under(call: &Standing) -> Option<ThreadId>
     }
 }
 
-/// The moment at which a period is over that begins at another moment; None for never.
+/// The moment at which a period is over that begins at another moment, or the greatest number where
+/// that is past it; None for never.
 #[inline(always)]
-fn due_after(since: u64, period: Period) -> Option<u64>
+pub fn due_after(since: u64, period: Period) -> Option<u64>
     ensures { result ≡ due_after since period }
 {
     let micros = period.micros()?;

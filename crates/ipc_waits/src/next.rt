@@ -3,18 +3,20 @@ ghost use Rattle.ipc_waits.specs.FindingLaws.{AsksOnly};
 ghost use Rattle.ipc_history.specs.Calls.{numbers};
 ghost use Rattle.ipc_history.specs.NextOutput.{meeting_of, next_output, timeout_of};
 ghost use Rattle.ipc_history.specs.Words.{first_some};
-ghost use Rattle.ipc_rules.specs.Outputs.{waiting_output};
-ghost use Rattle.ipc_rules.specs.Rules.{rule_of};
+ghost use Rattle.ipc_waits.specs.Outputs.{waiting_output};
+ghost use Rattle.ipc_waits.specs.Rules.{rule_of};
 ghost use Rattle.ipc_threads.specs.Slots.{slot_at};
 ghost use Rattle.ipc_threads.specs.Standings.{IsStanding};
 ghost use Rattle.ipc_threads.specs.Steps.{standing_in};
 ghost use Rattle.ipc_waits.specs.Next.{IsBest, IsLeastMeeting, IsOpenAt, better_meeting, meeting_by, meeting_under, slots_at};
 ghost use Rattle.ipc_waits.specs.Waiting.{IsWaiting};
 
+use crate::last::after_last;
 use crate::queue::Wait;
+use crate::read::ReadSlots;
+use crate::rules::{Rule, earlier};
 use crate::waiting::Waiting;
 use ipc_history::{Entries, Output};
-use ipc_rules::{ReadSlots, Rule, after_last, earlier};
 use ipc_threads::{Phase, Slots, Standing};
 use std::marker::Model;
 

@@ -16,7 +16,7 @@ mod passing;
 mod resting;
 
 use crate::candidates::Candidates;
-use crate::waits::Waits;
+use crate::queues::Waits;
 use ipc_base::Memory;
 use ipc_history::{Entry, Input};
 use ipc_threads::{Change, Slots};

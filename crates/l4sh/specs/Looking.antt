@@ -7,8 +7,8 @@ use Rattle.ipc_trace.specs.Traces.{HasUnknownVersion}
 use Rattle.ipc_trace.specs.Versions.{header_lines}
 use Rattle.ipc_trace.specs.declared.version.TraceVersion.{TraceVersion}
 use Rattle.ipc_shell.specs.Checking.{HasLines, HasBadLine}
-use Rattle.l4sh_commands.specs.Commands.{script_text}
-use Rattle.l4sh_commands.specs.Script.{commands_of}
+use Rattle.ipc_shell.specs.Commands.{script_text}
+use Rattle.ipc_shell.specs.Script.{commands_of}
 use Rattle.l4sh.specs.declared.exit.Exit.{Exit}
 use Rattle.l4sh.specs.declared.exit.Exit.TheVariants.{Done, BadLine, NoMemory, DeviceFailed, Illegal, BadThreads, NoChart, BadWord, UnknownVersion, IllegalLine, Torn}
 use Rattle.l4sh.specs.declared.looking.Look.{Look}

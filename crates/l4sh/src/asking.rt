@@ -1,10 +1,11 @@
 //! A live server is asked what it does.
+use crate::ending::{Ending, told};
 use crate::exit::Exit;
 use ipc_base::{PortWrite, write_all};
 use ipc_client::{PATIENCE, is_late};
-use std::alloc::Global;
+use std::alloc::{AllocError, Global};
 use std::fmt;
-use std::io::{self, Read, Write};
+use std::io::{self, ErrorKind, Read, Write};
 use std::net::Net;
 use std::os::unix::net::UnixStream;
 use std::time::Duration;
@@ -50,7 +51,7 @@ const PIECE: usize = 4_096;
 /// In how many pieces an answer may come.
 const MOST_PIECES: u32 = 1_000_000;
 
-/// Asks the server of a folder, and prints what it answers. How that ended, and the reason where
+/// Asks the server of a folder, and prints what it answers. How that ended, with the reason where
 /// the server cannot be asked.
 pub(crate) fn ask_server<R: Net, W: PortWrite>(
     rt: &R,
@@ -58,10 +59,10 @@ pub(crate) fn ask_server<R: Net, W: PortWrite>(
     dir: &str,
     question: Question,
     writer: &mut W,
-) -> (Exit, Option<String>) {
+) -> Ending {
     match ask(rt, alloc, dir, question) {
         Ok(asked) => print_answer_of(alloc, &asked, writer),
-        Err(told) => told,
+        Err(ending) => ending,
     }
 }
 
@@ -69,19 +70,19 @@ pub(crate) fn ask_server<R: Net, W: PortWrite>(
 ///
 /// # Errors
 ///
-/// How that ended, and the reason.
+/// How that ended, with the reason.
 pub(crate) fn ask<R: Net>(
     rt: &R,
     alloc: Global,
     dir: &str,
     question: Question,
-) -> Result<Asked, (Exit, Option<String>)> {
+) -> Result<Asked, Ending> {
     let Ok(path) = format!(in alloc; "{dir}/control") else {
-        return Err((Exit::NoMemory, None));
+        return Err(Ending::from(Exit::NoMemory));
     };
     match UnixStream::connect(rt, path.as_str()) {
         Ok(stream) => ask_over(alloc, path, stream, question),
-        Err(error) => Err(not_asked(alloc, path.as_str(), question, &error)),
+        Err(error) => Err(not_connected(alloc, path.as_str(), &error)),
     }
 }
 
@@ -91,7 +92,7 @@ fn ask_over(
     path: String,
     stream: UnixStream,
     question: Question,
-) -> Result<Asked, (Exit, Option<String>)> {
+) -> Result<Asked, Ending> {
     match put_question(alloc, &stream, question) {
         Ok(()) => Ok(Asked {
             path,
@@ -111,11 +112,7 @@ fn put_question(alloc: Global, stream: &UnixStream, question: Question) -> io::R
 }
 
 /// Prints what is answered.
-fn print_answer_of<W: PortWrite>(
-    alloc: Global,
-    asked: &Asked,
-    writer: &mut W,
-) -> (Exit, Option<String>) {
+fn print_answer_of<W: PortWrite>(alloc: Global, asked: &Asked, writer: &mut W) -> Ending {
     let mut server = &asked.stream;
     let mut bytes = [0u8; PIECE];
     for _ in 0..MOST_PIECES {
@@ -123,37 +120,59 @@ fn print_answer_of<W: PortWrite>(
             Ok(0) => break,
             Ok(count) => {
                 if write_all(writer, &bytes[..count]).is_err() {
-                    return (Exit::DeviceFailed, None);
+                    return Ending::from(Exit::DeviceFailed);
                 }
             }
             Err(error) => return not_asked(alloc, asked.path.as_str(), asked.question, &error),
         }
     }
     match writer.flush() {
-        Ok(()) => (Exit::Done, None),
-        Err(_) => (Exit::DeviceFailed, None),
+        Ok(()) => Ending::from(Exit::Done),
+        Err(_) => Ending::from(Exit::DeviceFailed),
     }
 }
 
-/// The server cannot be asked, and the reason names its path. Without memory there is no reason.
-fn not_asked(
+/// There is nobody to connect to at a path, for this reason.
+fn not_connected(alloc: Global, path: &str, error: &io::Error) -> Ending {
+    match connect_reason(alloc, path, error) {
+        Ok(reason) => told(1, format!(in alloc; "l4sh: {reason}")),
+        Err(_) => Ending::from(Exit::NoMemory),
+    }
+}
+
+/// Why there is nobody to connect to at a path, and what helps.
+pub(crate) fn connect_reason(
     alloc: Global,
     path: &str,
-    question: Question,
     error: &io::Error,
-) -> (Exit, Option<String>) {
+) -> Result<String, AllocError> {
+    let help = match error.kind() {
+        ErrorKind::ConnectionRefused => {
+            ": nobody serves there; l4d with --replace removes the path, and serves anew"
+        }
+        ErrorKind::NotFound => ": no l4d serves there, or none that makes this path",
+        _ => "",
+    };
+    format!(in alloc; "{path}: {error}{help}")
+}
+
+/// The server cannot be asked, and the reason names its path. Without memory there is no reason.
+fn not_asked(alloc: Global, path: &str, question: Question, error: &io::Error) -> Ending {
     if is_late(error) {
         return silent(alloc, path, question);
     }
-    (
-        Exit::DeviceFailed,
-        format!(in alloc; "{path}: {error}").ok(),
-    )
+    Ending::Alone {
+        exit: Exit::DeviceFailed,
+        reason: format!(in alloc; "{path}: {error}").ok(),
+    }
 }
 
 /// The server does not answer in its time, and the reason names its path and what was asked.
 /// Without memory there is no reason.
-pub(crate) fn silent(alloc: Global, path: &str, question: Question) -> (Exit, Option<String>) {
+pub(crate) fn silent(alloc: Global, path: &str, question: Question) -> Ending {
     let reason = format!(in alloc; "{path}: no answer to {question} within {PATIENCE} seconds");
-    (Exit::DeviceFailed, reason.ok())
+    Ending::Alone {
+        exit: Exit::DeviceFailed,
+        reason: reason.ok(),
+    }
 }

@@ -1,15 +1,16 @@
-ghost use Rattle.std.specs.Prelude.{◌≡◌, ◌≢◌, ◌+◌, ◌<◌, take};
+ghost use Rattle.std.specs.Prelude.{◌≡◌, ◌≢◌, ◌+◌, ◌++◌, ◌<◌, take};
 ghost use Rattle.l4sh.specs.Looking.{ChartsTrace, IsDrawnOf, IsSilent, MayDraw};
 
 use crate::exit::{ChartFault, Exit};
-use crate::looking::{front, illegal_at, torn_behind};
+use crate::judging::{Front, Noting};
+use crate::looking::{front, illegal_at, torn_after};
 use ipc_base::{PortRead, PortWrite};
 use ipc_check::{Verdict, check};
 use ipc_history::Entry;
 use ipc_shell::put;
-use ipc_trace::{TraceEnd, TraceRead, read_trace};
+use ipc_trace::{TraceEnd, TraceRead, TraceVersion, read_entries};
 use ipc_words::ThreadId;
-use l4sh_chart::{Emptiness, Scene, Selection, scene_of};
+use l4sh_chart::{Emptiness, Scene, SceneMaker, Selection};
 use l4sh_draw::{draw_html, draw_svg, draw_text};
 use l4sh_options::ChartOptions;
 use l4sh_state::read_threads;
@@ -36,17 +37,18 @@ pub fn chart_trace<R: PortRead, W: PortWrite>(
     ensures silent { IsSilent result → W.written writer.new ≡ W.written writer.old }
 {
     match selection_of(alloc, options) {
-        Ok(Some(selection)) => chart_selected(alloc, options, &selection, times, reader, writer),
+        Ok(Some(selection)) => chart_selected(alloc, options, selection, times, reader, writer),
         Ok(None) => Exit::BadThreads,
         Err(_) => Exit::NoMemory,
     }
 }
 
-// Draws the trace of a reader as `chart_trace` does, by this selection.
+// Draws the trace of a reader as `chart_trace` does, by this selection. Of the entries it holds
+// those that enter the open calls, and what the chart shows.
 fn chart_selected<R: PortRead, W: PortWrite>(
     alloc: Global,
     options: &ChartOptions<'_>,
-    selection: &Selection,
+    selection: Selection,
     times: Times,
     reader: &mut R,
     writer: &mut W,
@@ -57,17 +59,31 @@ fn chart_selected<R: PortRead, W: PortWrite>(
         < R.failures reader.new + W.failures writer.new }
     ensures silent { IsSilent result → W.written writer.new ≡ W.written writer.old }
 {
-    let read = read_trace(alloc, reader);
+    let maker = SceneMaker::new(alloc, selection);
+    let mut front = Front::new(alloc, options.to as usize, maker);
+    let read = read_entries(alloc, reader, &mut front);
+    let count = front.given();
     match read.end {
-        TraceEnd::Whole => print_chart(alloc, &read, options, selection, times, writer),
+        TraceEnd::Whole => print_chart(alloc, read.version, front, options, times, writer),
         TraceEnd::Torn => {
-            let exit = print_chart(alloc, &read, options, selection, times, writer);
-            torn_behind(&read, exit)
+            let exit = print_chart(alloc, read.version, front, options, times, writer);
+            torn_after(read.version, count, exit)
         }
         TraceEnd::BadLine(number) => Exit::BadLine(number),
         TraceEnd::UnknownVersion => Exit::UnknownVersion,
         TraceEnd::DeviceFailed => Exit::DeviceFailed,
         TraceEnd::NoMemory => Exit::NoMemory,
+    }
+}
+
+/// The rows of a chart are made of the entries that are looked at.
+impl Noting for SceneMaker {
+    fn see(&mut self, entry: &Entry) -> Result<(), AllocError> {
+        self.give(entry)
+    }
+
+    fn pass(&mut self, entry: &Entry) {
+        self.answer(entry);
     }
 }
 
@@ -79,9 +95,17 @@ pub(crate) fn chart_read<W: PortWrite>(
     read: &TraceRead,
     writer: &mut W,
 ) -> Exit {
-    match selection_of(alloc, options) {
-        Ok(Some(selection)) => print_chart(alloc, read, options, &selection, times, writer),
-        Ok(None) => Exit::BadThreads,
+    let selection = match selection_of(alloc, options) {
+        Ok(Some(selection)) => selection,
+        Ok(None) => return Exit::BadThreads,
+        Err(_) => return Exit::NoMemory,
+    };
+    if let Verdict::No { index, .. } = check(front(&read.entries, options.to as usize)) {
+        return illegal_at(read.version, index);
+    }
+    let mut maker = SceneMaker::new(alloc, selection);
+    match maker.give_all(&read.entries) {
+        Ok(()) => print_legal(alloc, maker, read.entries.len(), options, times, writer),
         Err(_) => Exit::NoMemory,
     }
 }
@@ -109,33 +133,58 @@ fn selection_with(options: &ChartOptions<'_>, threads: Option<Vec<ThreadId>>) ->
     }
 }
 
-// Draws the entries that were read and prints them, where those up to the last that may be shown
+// Draws the entries that were given and prints them, where those up to the last that may be shown
 // are a legal history.
 fn print_chart<W: PortWrite>(
     alloc: Global,
-    read: &TraceRead,
+    version: TraceVersion,
+    front: Front<SceneMaker>,
     options: &ChartOptions<'_>,
-    selection: &Selection,
     times: Times,
     writer: &mut W,
 ) -> Exit
-    ensures drawn { IsDrawnOf read.now.version (take options.now.to read.now.entries.items) result }
+    ensures drawn { IsDrawnOf version (take options.now.to (front.shown ++ front.behind)) result }
     ensures failed { result ≡ Exit.DeviceFailed → W.failures writer.old < W.failures writer.new }
     ensures silent { result ≢ Exit.Done → result ≢ Exit.DeviceFailed
         → W.written writer.new ≡ W.written writer.old }
 {
-    match check(front(&read.entries, options.to as usize)) {
-        Verdict::Yes => print_legal(alloc, &read.entries, options, selection, times, writer),
-        Verdict::No { index, .. } => illegal_at(read.version, index),
+    if front.shows(options.to as usize) {
+        print_shown(alloc, version, front, options, times, writer)
+    } else {
+        // it never looks at so many others: a proof does not see that reading changes no number
+        Exit::NoMemory
     }
 }
 
-// Draws entries and prints them, if there is anything to draw.
+// Draws the entries that are looked at and prints them, where they are a legal history.
+fn print_shown<W: PortWrite>(
+    alloc: Global,
+    version: TraceVersion,
+    front: Front<SceneMaker>,
+    options: &ChartOptions<'_>,
+    times: Times,
+    writer: &mut W,
+) -> Exit
+    ensures drawn { IsDrawnOf version front.shown result }
+    ensures failed { result ≡ Exit.DeviceFailed → W.failures writer.old < W.failures writer.new }
+    ensures silent { result ≢ Exit.Done → result ≢ Exit.DeviceFailed
+        → W.written writer.new ≡ W.written writer.old }
+{
+    let count = front.given();
+    let Front { shown, notes, .. } = front;
+    let _ = shown.count();
+    match shown.verdict() {
+        Verdict::Yes => print_legal(alloc, notes, count, options, times, writer),
+        Verdict::No { index, .. } => illegal_at(version, index),
+    }
+}
+
+// Draws the scene that was made of so many entries and prints it, if there is anything to draw.
 fn print_legal<W: PortWrite>(
     alloc: Global,
-    entries: &[Entry],
+    maker: SceneMaker,
+    count: usize,
     options: &ChartOptions<'_>,
-    selection: &Selection,
     times: Times,
     writer: &mut W,
 ) -> Exit
@@ -144,19 +193,31 @@ fn print_legal<W: PortWrite>(
     ensures silent { result ≢ Exit.Done → result ≢ Exit.DeviceFailed
         → W.written writer.new ≡ W.written writer.old }
 {
-    match scene_of(alloc, entries, selection, !options.is_unfolded) {
-        Ok(scene) => print_scene(alloc, &scene, entries, options, selection, times, writer),
+    let mut maker = maker;
+    match maker.scene(!options.is_unfolded) {
+        Ok(scene) => {
+            let emptiness = maker.selection().emptiness(count as u64, scene.rows.len());
+            print_scene(
+                alloc,
+                &scene,
+                emptiness,
+                count as u64,
+                options,
+                times,
+                writer,
+            )
+        }
         Err(_) => Exit::NoMemory,
     }
 }
 
-// Draws the scene of entries and prints it, if it has a row.
+// Draws a scene of so many entries and prints it, if it is not empty.
 fn print_scene<W: PortWrite>(
     alloc: Global,
     scene: &Scene,
-    entries: &[Entry],
+    emptiness: Option<Emptiness>,
+    count: u64,
     options: &ChartOptions<'_>,
-    selection: &Selection,
     times: Times,
     writer: &mut W,
 ) -> Exit
@@ -165,11 +226,10 @@ fn print_scene<W: PortWrite>(
     ensures silent { result ≢ Exit.Done → result ≢ Exit.DeviceFailed
         → W.written writer.new ≡ W.written writer.old }
 {
-    let count = entries.len() as u64;
-    if let Some(emptiness) = selection.emptiness(count, scene.rows.len()) {
+    if let Some(emptiness) = emptiness {
         return Exit::NoChart(fault_of(emptiness, count));
     }
-    let Ok(picture) = picture_of(alloc, scene, entries, options, times) else {
+    let Ok(picture) = picture_of(alloc, scene, options, times) else {
         return Exit::NoMemory;
     };
     match put(writer, picture.as_bytes()) {
@@ -189,16 +249,15 @@ fn fault_of(emptiness: Emptiness, count: u64) -> ChartFault {
 fn picture_of(
     alloc: Global,
     scene: &Scene,
-    entries: &[Entry],
     options: &ChartOptions<'_>,
     times: Times,
 ) -> Result<String, AllocError> {
     if options.is_text {
-        draw_text(alloc, scene, entries, options.width as usize, times)
+        draw_text(alloc, scene, options.width as usize, times)
     } else if options.is_html || options.page > 0 {
-        draw_html(alloc, scene, entries, options.page as usize, times)
+        draw_html(alloc, scene, options.page as usize, times)
     } else {
-        draw_svg(alloc, scene, entries, times)
+        draw_svg(alloc, scene, times)
     }
 }
 

@@ -128,7 +128,7 @@ pub(crate) fn follow_server<L: Ledger, R: Net, W: PortWrite>(
     let follower = Follower::new(alloc, selection, times);
     match ask(rt, alloc, dir, Question::Trace) {
         Ok(asked) => follow_asked(alloc, &asked, follower, reads, writer),
-        Err((exit, reason)) => Ending::Alone { exit, reason },
+        Err(ending) => ending,
     }
 }
 
@@ -148,8 +148,7 @@ fn follow_asked<L: Ledger, W: PortWrite>(
     };
     let stop = follow_lines(alloc, &mut lines, &mut follower, writer);
     if is_silent.load(Ordering::SeqCst) {
-        let (exit, reason) = silent(alloc, asked.path.as_str(), Question::Trace);
-        return Ending::Alone { exit, reason };
+        return silent(alloc, asked.path.as_str(), Question::Trace);
     }
     ending_of(alloc, asked.path.as_str(), stop, &lines.line)
 }

@@ -4,119 +4,20 @@ ghost use Rattle.l4sh.specs.Looking.{IsSaidOf, IsSilent, LooksAt};
 ghost use Rattle.l4sh.specs.declared.looking.Look.TheVariants.{StateAt};
 
 use crate::exit::Exit;
+use crate::judging::{Front, Noting};
 use crate::looking::{illegal_at, print, torn_after};
-use ipc_base::{Past, PortRead, PortWrite};
-use ipc_check::{Checker, Verdict};
+use ipc_base::{PortRead, PortWrite};
 use ipc_history::Entry;
-use ipc_trace::{EntrySink, TraceEnd, TraceVersion, read_entries};
+use ipc_trace::{TraceEnd, TraceVersion, read_entries};
+use ipc_words::limits::MAX_CHART_ENTRY;
 use l4sh_state::{Drops, State, state_in, tell_state};
 use l4sh_times::{Times, timed_state};
 use std::alloc::{AllocError, Global};
-use std::marker::Model;
 
-/// So many entries at most may come behind those that are looked at.
-const MAX_BEHIND: usize = 1 << 62;
-
-/// The entries of a trace: of the first ones, so many, memory holds the open calls; those behind
-/// them are counted.
-#[derive(Drop)]
-struct Front {
-    shown: Checker,
-    drops: Drops,
-    last: usize,
-    behind: Past<Entry>,
-    // how many came behind
-    behind_count: usize,
-}
-
-impl Model for Front {
-    ghost use Rattle.l4sh.specs.Fronts.{FrontParts, IsFront};
-
-    ghost Value = { FrontParts };
-
-    ghost view = { λ f. record { shown = f.shown; behind = f.behind; last = f.last } };
-
-    ghost invariant = { λ f. IsFront f.shown f.behind f.behind_count f.last };
-}
-
-impl Front {
-    ghost use Rattle.std.specs.Prelude.{◌≡◌, ◌+◌, ◌^◌, ◌<◌, ◌≤◌, ◌++◌, ◌∷◌, [], length, take, OnOk, OnErr};
-    ghost use Rattle.std.specs.Bool.{OnTrue};
-
-    // It was given no entry.
-    fn new(alloc: Global, last: usize) -> Front
-        ensures { result ≡ record { shown = []; behind = []; last = last } }
-    {
-        Front {
-            shown: Checker::new(alloc),
-            drops: Drops::new(alloc),
-            last,
-            behind: Past::new(),
-            behind_count: 0,
-        }
-    }
-
-    // How many entries it was given.
-    fn given(&self) -> usize
-        ensures count { result ≡ length (self.now.shown ++ self.now.behind) }
-        ensures few { result + 2 < 2 ^ 64 }
-    {
-        self.shown.count() + self.behind_count
-    }
-
-    // Whether it looks at so many entries at most.
-    fn shows(&self, last: usize) -> bool
-        ensures { OnTrue result (take last (self.now.shown ++ self.now.behind) ≡ self.now.shown) }
-    {
-        self.last == last
-    }
-
-    // Takes note of an entry that is looked at.
-    fn show(&mut self, entry: Entry) -> Result<(), AllocError>
-        requires { length self.old.shown < self.old.last }
-        ensures ok { OnOk result (self.new ≡ record self.old {
-          shown = self.old.shown ++ entry ∷ [];
-        }) }
-        ensures err { OnErr result (self.new ≡ self.old) }
-    {
-        if matches!(self.shown.verdict(), Verdict::Yes) {
-            self.drops.note(&entry)?;
-        }
-        self.shown.give(entry)
-    }
-
-    // Counts an entry behind those that are looked at.
-    fn pass(&mut self, entry: &Entry) -> Result<(), AllocError>
-        requires { self.old.last ≤ length self.old.shown }
-        ensures ok { OnOk result (self.new ≡ record self.old {
-          behind = self.old.behind ++ entry.now ∷ [];
-        }) }
-        ensures err { OnErr result (self.new ≡ self.old) }
-    {
-        if self.behind_count >= MAX_BEHIND {
-            return Err(AllocError);
-        }
-        self.behind.add(entry);
-        self.behind_count += 1;
-        Ok(())
-    }
-}
-
-impl EntrySink for Front {
-    ghost use Rattle.std.specs.Prelude.{◌++◌};
-
-    ghost given = { λ front. front.shown ++ front.behind };
-
-    fn count(&self) -> usize {
-        self.given()
-    }
-
-    fn give(&mut self, entry: Entry) -> Result<(), AllocError> {
-        if self.shown.count() < self.last {
-            self.show(entry)
-        } else {
-            self.pass(&entry)
-        }
+/// The deliveries to anybody else are noted of the entries that are looked at.
+impl Noting for Drops {
+    fn see(&mut self, entry: &Entry) -> Result<(), AllocError> {
+        self.note(entry)
     }
 }
 
@@ -136,7 +37,7 @@ pub(crate) fn state_of_trace<R: PortRead, W: PortWrite>(
         < R.failures reader.new + W.failures writer.new }
     ensures silent { IsSilent result → W.written writer.new ≡ W.written writer.old }
 {
-    let mut front = Front::new(alloc, last);
+    let mut front = Front::new(alloc, last, Drops::new(alloc));
     let read = read_entries(alloc, reader, &mut front);
     match read.end {
         TraceEnd::Whole => tell(alloc, read.version, &front, last, times, writer),
@@ -155,7 +56,7 @@ pub(crate) fn state_of_trace<R: PortRead, W: PortWrite>(
 fn tell<W: PortWrite>(
     alloc: Global,
     version: TraceVersion,
-    front: &Front,
+    front: &Front<Drops>,
     last: usize,
     times: Times,
     writer: &mut W,
@@ -177,7 +78,7 @@ fn tell<W: PortWrite>(
 fn tell_shown<W: PortWrite>(
     alloc: Global,
     version: TraceVersion,
-    front: &Front,
+    front: &Front<Drops>,
     times: Times,
     writer: &mut W,
 ) -> Exit
@@ -190,10 +91,30 @@ fn tell_shown<W: PortWrite>(
     match front.shown.slots() {
         Ok(slots) => {
             let state = state_in(slots);
-            print(state_text(alloc, &state, &front.drops, times), writer)
+            print(shown_text(alloc, &state, front, times), writer)
         }
         Err(place) => illegal_at(version, place),
     }
+}
+
+// The state after the entries that are looked at, in words.
+fn shown_text(
+    alloc: Global,
+    state: &State,
+    front: &Front<Drops>,
+    times: Times,
+) -> Result<String, AllocError> {
+    let text = state_text(alloc, state, &front.notes, times)?;
+    past_the_end(text, front.given() as u64, front.last as u64)
+}
+
+/// What is told so far, and that fewer entries are there than were asked for, where that is so.
+pub(crate) fn past_the_end(text: String, entries: u64, last: u64) -> Result<String, AllocError> {
+    let mut text = text;
+    if entries < last && last < MAX_CHART_ENTRY {
+        write!(text, "past the end: the last entry is {entries}\n")?;
+    }
+    Ok(text)
 }
 
 /// A state in words.

@@ -1,5 +1,6 @@
 ghost use Rattle.std.specs.Prelude.{◌≡◌, ◌+◌, ◌<◌};
 
+use crate::asking::connect_reason;
 use ipc_base::{Failures, PortRead, PortWrite, ReadPort, WritePort};
 use ipc_client::{Client, PATIENCE, PatientStream};
 use l4sh_options::TalkOptions;
@@ -59,7 +60,7 @@ fn talk_at<N: Net, R: PortRead, W: PortWrite>(
         Ok(stream) => talk_along(alloc, path, &stream, number, reader, writer),
         Err(error) => Talked {
             ending: Ending::NoServer,
-            reason: format!(in alloc; "{path}: {error}").ok(),
+            reason: connect_reason(alloc, path, &error).ok(),
         },
     }
 }

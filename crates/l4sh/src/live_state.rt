@@ -1,7 +1,7 @@
 //! What a live server does, as `l4sh` shows it.
 use crate::asking::{Question, ask_server};
 use crate::began::{no_time, start_in};
-use crate::ending::{Ending, told};
+use crate::ending::{Ending, exit_alone, told};
 use crate::exit::Exit;
 use ipc_base::{MemoryPort, PortWrite};
 use ipc_shell::put;
@@ -32,11 +32,11 @@ fn state_by<R: Net, W: PortWrite>(
     writer: &mut W,
 ) -> Ending {
     let mut answer = MemoryPort::new(alloc, &[]);
-    let (exit, reason) = ask_server(rt, alloc, dir, Question::State, &mut answer);
-    match (exit, answer.output()) {
-        (Exit::Done, Some(bytes)) => put_state(alloc, bytes, times, writer),
-        (Exit::Done, None) => Ending::from(Exit::NoMemory),
-        (exit, _) => Ending::Alone { exit, reason },
+    let ending = ask_server(rt, alloc, dir, Question::State, &mut answer);
+    match (exit_alone(&ending), answer.output()) {
+        (Some(Exit::Done), Some(bytes)) => put_state(alloc, bytes, times, writer),
+        (Some(Exit::Done), None) => Ending::from(Exit::NoMemory),
+        _ => ending,
     }
 }
 
@@ -66,13 +66,13 @@ pub(crate) fn live_times<R: Net>(
         return Ok(Times::Micros);
     }
     let mut answer = MemoryPort::new(alloc, &[]);
-    let (exit, reason) = ask_server(rt, alloc, dir, Question::Began, &mut answer);
-    match (exit, answer.output()) {
-        (Exit::Done, Some(bytes)) => match start_in(bytes) {
+    let ending = ask_server(rt, alloc, dir, Question::Began, &mut answer);
+    match (exit_alone(&ending), answer.output()) {
+        (Some(Exit::Done), Some(bytes)) => match start_in(bytes) {
             Some(start) => Ok(Times::OfDay(start)),
             None => Err(told(2, no_time(alloc, dir))),
         },
-        (Exit::Done, None) => Err(Ending::from(Exit::NoMemory)),
-        (exit, _) => Err(Ending::Alone { exit, reason }),
+        (Some(Exit::Done), None) => Err(Ending::from(Exit::NoMemory)),
+        _ => Err(ending),
     }
 }

@@ -19,6 +19,7 @@ mod follow;
 mod following;
 mod history;
 mod inputs;
+mod judging;
 mod kept;
 mod last_state;
 mod live;

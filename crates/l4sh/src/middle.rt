@@ -6,7 +6,7 @@ use crate::exit::Exit;
 use crate::files::{History, read_parts};
 use crate::follow::follow_parts;
 use crate::history::{print_text, verdict_text};
-use crate::last_state::state_text;
+use crate::last_state::{past_the_end, state_text};
 use crate::looking::Look;
 use crate::printing::Printing;
 use crate::several::{join, named, part, put_printed, torn_behind, torn_line};
@@ -14,7 +14,7 @@ use ipc_base::{MemoryPort, PortWrite};
 use ipc_chain::{Behind, Chain, chain_behind};
 use ipc_trace::Part;
 use l4sh_options::FollowOptions;
-use l4sh_state::{Drops, drops_of, state_in};
+use l4sh_state::{Drops, State, drops_of, state_in};
 use l4sh_times::Times;
 use std::alloc::{AllocError, Global};
 use std::rt::{Clock, Files};
@@ -83,6 +83,7 @@ fn print_state<W: PortWrite>(
     writer: &mut W,
 ) -> Ending {
     let mut history = history;
+    let entries = entries_of(&history.parts);
     cut(&mut history.parts, count);
     let Ok(drops) = drops_in(alloc, &mut history.parts) else {
         return Ending::from(Exit::NoMemory);
@@ -90,14 +91,33 @@ fn print_state<W: PortWrite>(
     match behind(alloc, files, history) {
         Ok(chain) => {
             let state = state_in(chain.slots());
-            print_text(
-                state_text(alloc, &state, &drops, times),
-                end_of(torn),
-                writer,
-            )
+            let text = state_after(alloc, &state, &drops, times, entries, count as u64);
+            print_text(text, end_of(torn), writer)
         }
         Err(ending) => ending,
     }
+}
+
+/// How many entries parts have.
+fn entries_of(parts: &[Part]) -> u64 {
+    let mut entries = 0u64;
+    for part in parts {
+        entries = entries.saturating_add(part.entries.len() as u64);
+    }
+    entries
+}
+
+/// The state after so many of these entries, in words.
+fn state_after(
+    alloc: Global,
+    state: &State,
+    drops: &Drops,
+    times: Times,
+    entries: u64,
+    count: u64,
+) -> Result<String, AllocError> {
+    let text = state_text(alloc, state, drops, times)?;
+    past_the_end(text, entries, count)
 }
 
 /// Leaves so many entries of parts, the first ones.

@@ -17,7 +17,7 @@ pub struct NewFile<'a, R: Files> {
 }
 
 impl<'a, R: Files> NewFile<'a, R> {
-    ghost use Rattle.std.specs.Prelude.{◌≤◌, IfOk, length};
+    ghost use Rattle.std.specs.Prelude.{◌≡◌, ◌≤◌, IfErr, IfOk, None, Some, length};
 
     /// A file that is not made yet.
     pub fn new(rt: &'a R, path: &'a str) -> NewFile<'a, R> {
@@ -29,7 +29,7 @@ impl<'a, R: Files> NewFile<'a, R> {
         }
     }
 
-    /// Why it could not be made, if that failed.
+    /// Why the last call of it failed, if that did.
     pub fn fault(&self) -> Option<io::Error> {
         self.fault
     }
@@ -44,33 +44,44 @@ impl<'a, R: Files> NewFile<'a, R> {
         written
     }
 
-    fn made(&mut self) -> io::Result<R::File> {
+    fn made(&self) -> io::Result<R::File> {
         let mut options = OpenOptions::new();
         options
             .write(true)
             .create(true)
             .truncate(true)
             .mode(OWNER_ONLY);
-        let made = options.open(self.rt, self.path);
-        if let Err(fault) = &made {
-            self.fault = Some(*fault);
-        }
-        made
+        options.open(self.rt, self.path)
+    }
+
+    // Notes whether a call failed.
+    fn noted<T>(&mut self, done: io::Result<T>) -> io::Result<T>
+        ensures same { result ≡ done }
+        ensures failed { IfErr done (λ error. self.new.fault ≡ Some error) }
+        ensures went_well { IfOk done (λ _. self.new.fault ≡ None) }
+    {
+        self.fault = match &done {
+            Ok(_) => None,
+            Err(error) => Some(*error),
+        };
+        done
     }
 }
 
 impl<R: Files> Write for NewFile<'_, R> {
     fn write(&mut self, buf: &[u8]) -> io::Result<usize> {
-        match &mut self.file {
+        let written = match &mut self.file {
             Some(file) => file.write(buf),
             None => self.write_first(buf),
-        }
+        };
+        self.noted(written)
     }
 
     fn flush(&mut self) -> io::Result<()> {
-        match &mut self.file {
+        let flushed = match &mut self.file {
             Some(file) => file.flush(),
             None => Ok(()),
-        }
+        };
+        self.noted(flushed)
     }
 }

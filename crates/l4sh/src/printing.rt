@@ -144,8 +144,7 @@ pub(crate) fn count_of<L: Ledger, R: Files + Input + Eprint + Clock + Net, W: Po
     if options.is_timed {
         return only_of_traces(alloc, dir, "--time");
     }
-    let (exit, reason) = ask_server(rt, alloc, dir, Question::Counters, writer);
-    Ending::Alone { exit, reason }
+    ask_server(rt, alloc, dir, Question::Counters, writer)
 }
 
 /// The folder that stands in place of files.

@@ -1,6 +1,6 @@
 //! A live server is asked to go on with its trace in a further file.
 use crate::asking::{Question, ask_server};
-use crate::ending::{Ending, told};
+use crate::ending::{Ending, exit_alone, told};
 use crate::exit::Exit;
 use crate::following::BY_SERVER;
 use crate::several::put_printed;
@@ -21,11 +21,11 @@ pub(crate) fn rotate_trace<R: Net, W: PortWrite>(
     writer: &mut W,
 ) -> Ending {
     let mut answer = MemoryPort::new(alloc, &[]);
-    let (exit, reason) = ask_server(rt, alloc, dir, Question::Rotate, &mut answer);
-    match (exit, answer.output()) {
-        (Exit::Done, Some(bytes)) if bytes != ROTATED => not_rotated(alloc, dir, bytes),
-        (Exit::Done, bytes) => put_printed(bytes, Exit::Done, writer),
-        (exit, _) => Ending::Alone { exit, reason },
+    let ending = ask_server(rt, alloc, dir, Question::Rotate, &mut answer);
+    match (exit_alone(&ending), answer.output()) {
+        (Some(Exit::Done), Some(bytes)) if bytes != ROTATED => not_rotated(alloc, dir, bytes),
+        (Some(Exit::Done), bytes) => put_printed(bytes, Exit::Done, writer),
+        _ => ending,
     }
 }
 

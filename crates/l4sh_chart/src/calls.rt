@@ -17,8 +17,6 @@ pub enum Wait {
 /// An open call, as far as a chart speaks of it.
 #[derive(Clone, Copy)]
 pub(crate) struct OpenCall {
-    /// The place of the entry that enters it, from 0.
-    pub(crate) place: usize,
     /// The caller.
     pub(crate) caller: ThreadId,
     /// The phase that waits.
@@ -35,11 +33,10 @@ pub(crate) struct OpenCall {
 
 impl OpenCall {
     /// A call that is entered at a moment.
-    pub(crate) fn new(place: usize, caller: ThreadId, call: &Call, moment: u64) -> OpenCall
+    pub(crate) fn new(caller: ThreadId, call: &Call, moment: u64) -> OpenCall
         ensures begins { result.since ≡ moment }
     {
         OpenCall {
-            place,
             caller,
             wait: first_wait(call),
             since: moment,

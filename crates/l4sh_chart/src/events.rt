@@ -45,8 +45,8 @@ pub(crate) struct Event {
     pub(crate) from: ThreadId,
     /// The thread to which its arrow goes; the same where there is none.
     pub(crate) to: ThreadId,
-    /// The place of the entry of the call that it is about; None: it is about none.
-    pub(crate) call: Option<usize>,
+    /// Whether it is about the call that the thread at which it stands entered last.
+    pub(crate) is_of_call: bool,
     /// The originator that the receiver is shown; None: the caller.
     pub(crate) shown: Option<ThreadId>,
     /// How long a send phase waited that ends or meets here, in microseconds.
@@ -62,7 +62,7 @@ impl Event {
             mark,
             from: thread,
             to: thread,
-            call: None,
+            is_of_call: false,
             shown: None,
             sent: 0,
             received: 0,
@@ -72,7 +72,7 @@ impl Event {
     /// A mark at the caller of a call.
     pub(crate) fn at(mark: Mark, call: &OpenCall) -> Event {
         Event {
-            call: Some(call.place),
+            is_of_call: true,
             shown: call.shown,
             ..Event::alone(mark, call.caller)
         }

@@ -5,14 +5,18 @@
 mod calls;
 mod events;
 mod folding;
+mod maker;
 mod notes;
+mod order;
 mod scene;
 mod selection;
 mod shapes;
+mod told;
 
 pub use calls::Wait;
 pub use events::Mark;
 pub use folding::Fold;
-pub use scene::{Column, Row, Scene, Turn, scene_of};
+pub use maker::SceneMaker;
+pub use scene::{Column, Row, Said, Scene, Turn};
 pub use selection::{Emptiness, Selection};
-pub use shapes::call_at;
+pub use told::ToldCall;

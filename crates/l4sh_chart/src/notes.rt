@@ -37,28 +37,18 @@ impl Notes {
         self.spaces.space(thread)
     }
 
-    /// What the next entry shows, whose place this is, and whether the rules answer it at once.
-    /// Nothing is shown of the clock, of a transfer without strings that begins, as it ends at
-    /// once, nor of a call that was never entered.
-    pub(crate) fn step(
-        &mut self,
-        place: usize,
-        entry: &Entry,
-        is_answered: bool,
-    ) -> Result<Step, AllocError> {
+    /// What the next entry shows. Nothing is shown of the clock, of a transfer without strings that
+    /// begins, as it ends at once, nor of a call that was never entered. Of a thread that stops
+    /// phases it is shown that it stops none, until the next entry tells that the rules answer.
+    pub(crate) fn step(&mut self, entry: &Entry) -> Result<Step, AllocError> {
         self.spaces.note(entry)?;
         match entry {
-            Entry::Given(input) => self.input(place, input, is_answered),
+            Entry::Given(input) => self.input(input),
             Entry::Written(output) => Ok(self.output(*output)),
         }
     }
 
-    fn input(
-        &mut self,
-        place: usize,
-        input: &Input,
-        is_answered: bool,
-    ) -> Result<Step, AllocError> {
+    fn input(&mut self, input: &Input) -> Result<Step, AllocError> {
         match input {
             Input::At(moment) => {
                 self.moment = *moment;
@@ -69,35 +59,20 @@ impl Notes {
                 let event = Event::alone(Mark::Broke, *thread);
                 Ok(Step::changing(event, *thread, Wait::Nothing))
             }
-            Input::Called(number, caller, call) => {
-                self.called(place, *number, *caller, call.call())
-            }
-            Input::Exreg(thread, other, _) => {
-                let mark = if is_answered {
-                    Mark::Stopped
-                } else {
-                    Mark::Missed
-                };
-                Ok(Step::of(Event {
-                    to: *other,
-                    ..Event::alone(mark, *thread)
-                }))
-            }
+            Input::Called(number, caller, call) => self.called(*number, *caller, call.call()),
+            Input::Exreg(thread, other, _) => Ok(Step::of(Event {
+                to: *other,
+                ..Event::alone(Mark::Missed, *thread)
+            })),
             Input::Moved(number, _) => Ok(self.at(Mark::Moved, *number)),
         }
     }
 
-    fn called(
-        &mut self,
-        place: usize,
-        number: u64,
-        caller: ThreadId,
-        call: &Call,
-    ) -> Result<Step, AllocError> {
+    fn called(&mut self, number: u64, caller: ThreadId, call: &Call) -> Result<Step, AllocError> {
         let shown_as = self.spaces.shown_as(caller, call);
         let open = OpenCall {
             shown: shown_as.originator(),
-            ..OpenCall::new(place, caller, call, self.moment)
+            ..OpenCall::new(caller, call, self.moment)
         };
         self.calls.insert(number, open)?;
         let event = Event::at(mark_of_call(&shown_as), &open);

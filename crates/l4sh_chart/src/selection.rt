@@ -59,14 +59,13 @@ impl Selection {
         }
     }
 
-    // Whether the entry at a place, from 0, or one behind it may be shown.
-    pub(crate) fn reaches(&self, place: usize) -> bool {
-        (place as u64) < self.last
+    // Whether the entry of this number or one behind it may be shown.
+    pub(crate) fn reaches(&self, number: u64) -> bool {
+        number <= self.last
     }
 
-    // Whether the entry at a place, from 0, is shown, whose threads these are.
-    pub(crate) fn shows(&self, place: usize, thread: ThreadId, other: ThreadId) -> bool {
-        self.has_entry((place as u64).saturating_add(1))
-            && (self.has_thread(thread) || self.has_thread(other))
+    // Whether the entry of this number is shown, whose threads these are.
+    pub(crate) fn shows(&self, number: u64, thread: ThreadId, other: ThreadId) -> bool {
+        self.has_entry(number) && (self.has_thread(thread) || self.has_thread(other))
     }
 }

@@ -1,5 +1,8 @@
-use crate::scene::Row;
-use ipc_history::{Call, Entry, Input, Output};
+ghost use Rattle.std.specs.Prelude.{◌≡◌, IfOk, length};
+
+use crate::scene::{Row, Said};
+use crate::told::ToldCall;
+use ipc_history::Output;
 use ipc_words::ThreadId;
 use std::alloc::{AllocError, Global};
 use std::collections::BTreeMap;
@@ -14,10 +17,12 @@ type Shape = (u64, usize, usize, u64, u64, u64, u64);
 pub(crate) fn shapes_of(
     alloc: Global,
     rows: &[Row],
-    entries: &[Entry],
-) -> Result<Vec<u64>, AllocError> {
+    calls: &[ToldCall],
+) -> Result<Vec<u64>, AllocError>
+    ensures { IfOk result (λ shapes. length shapes.items ≡ length rows.now) }
+{
     let mut known: BTreeMap<Shape, u64> = BTreeMap::new(alloc);
-    let shapes = number_all(alloc, &mut known, rows, entries);
+    let shapes = number_all(alloc, &mut known, rows, calls);
     drop(known);
     shapes
 }
@@ -26,11 +31,13 @@ fn number_all(
     alloc: Global,
     known: &mut BTreeMap<Shape, u64>,
     rows: &[Row],
-    entries: &[Entry],
-) -> Result<Vec<u64>, AllocError> {
+    calls: &[ToldCall],
+) -> Result<Vec<u64>, AllocError>
+    ensures { IfOk result (λ shapes. length shapes.items ≡ length rows.now) }
+{
     let mut shapes = Vec::with_capacity(alloc, rows.len())?;
-    for row in rows {
-        shapes.push(number_of(known, shape_of(row, entries))?)?;
+    for place in 0..rows.len() {
+        shapes.push(number_of(known, shape_of(&rows[place], calls))?)?;
     }
     Ok(shapes)
 }
@@ -45,37 +52,32 @@ fn number_of(known: &mut BTreeMap<Shape, u64>, shape: Shape) -> Result<u64, Allo
     Ok(number)
 }
 
-fn shape_of(row: &Row, entries: &[Entry]) -> Shape {
-    let (tag, to, from) = match row.call.and_then(|place| call_at(entries, place)) {
-        Some((_, call)) => (
-            call.tag().to_word(),
-            call.to().to_word(),
-            call.from().to_word(),
-        ),
+fn shape_of(row: &Row, calls: &[ToldCall]) -> Shape {
+    let (tag, to, from) = match row.call.and_then(|place| calls.get(place)) {
+        Some(call) => (call.tag.to_word(), call.to.to_word(), call.from.to_word()),
         None => (0, 0, 0),
     };
-    let own = own_word(row, entries);
-    (row.mark as u64, row.from, row.to, tag, to, from, own)
+    (
+        row.mark as u64,
+        row.from,
+        row.to,
+        tag,
+        to,
+        from,
+        own_word(row),
+    )
 }
 
 // The word that an entry has beside its threads and its call; of a message the originator that is
 // shown.
-fn own_word(row: &Row, entries: &[Entry]) -> u64 {
-    match entries.get(row.place) {
-        Some(Entry::Given(Input::Exreg(_, _, control))) => control.to_word(),
-        Some(Entry::Given(Input::Moved(_, count))) => *count,
-        Some(Entry::Written(Output::Overflowed(_, _, offset))) => *offset,
-        Some(Entry::Written(Output::Aborted(_, _, bytes))) => *bytes,
-        Some(Entry::Written(Output::Turned(_, thread))) => thread.to_word(),
-        Some(Entry::Written(Output::Failed(_, error))) => error.to_word(),
+fn own_word(row: &Row) -> u64 {
+    match row.said {
+        Said::Stops(_, control) => control.to_word(),
+        Said::Moves(_, count) => count,
+        Said::Writes(Output::Overflowed(_, _, offset)) => offset,
+        Said::Writes(Output::Aborted(_, _, bytes)) => bytes,
+        Said::Writes(Output::Turned(_, thread)) => thread.to_word(),
+        Said::Writes(Output::Failed(_, error)) => error.to_word(),
         _ => row.shown.unwrap_or(ThreadId::NILTHREAD).to_word(),
-    }
-}
-
-/// The number and the call that the entry at a place enters.
-pub fn call_at(entries: &[Entry], place: usize) -> Option<(u64, &Call)> {
-    match entries.get(place) {
-        Some(Entry::Given(Input::Called(number, _, call))) => Some((*number, call.call())),
-        _ => None,
     }
 }

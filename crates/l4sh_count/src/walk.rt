@@ -9,8 +9,8 @@ use crate::event::{Event, event_of};
 use crate::finding::Places;
 use ipc_base::Past;
 use ipc_history::{Entries, Entry};
-use ipc_rules::follows;
 use ipc_threads::Slots;
+use ipc_waits::follows;
 use std::alloc::{AllocError, Global};
 
 /// Why a trace was not counted.

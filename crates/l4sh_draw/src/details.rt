@@ -1,27 +1,20 @@
 use crate::amounts::put_time;
 use crate::ink::Ink;
 use crate::messages::put_contents;
-use crate::words::{call_of, put_receiver, put_shown, put_waits_after, thread_at};
-use ipc_history::{Call, Entry};
+use crate::words::{put_receiver, put_shown, put_waits_after, thread_at};
 use ipc_words::{Period, ThreadId};
-use l4sh_chart::{Mark, Row, Scene};
+use l4sh_chart::{Mark, Row, Scene, ToldCall};
 use l4sh_times::Times;
 
 /// What is told of a row where it is pointed at: its entry, its moment, its threads, and of a call
 /// the words of its message and its timeouts, a line each.
-pub(crate) fn put_details(
-    ink: &mut Ink,
-    scene: &Scene,
-    entries: &[Entry],
-    row: &Row,
-    times: Times,
-) {
-    ink.between("entry ", (row.place as u64).saturating_add(1), ", at ");
+pub(crate) fn put_details(ink: &mut Ink, scene: &Scene, row: &Row, times: Times) {
+    ink.between("entry ", row.number, ", at ");
     ink.moment(row.moment, times);
     put_threads(ink, scene, row);
     put_waits_after(ink, "\n", row);
-    if let Some((number, call)) = call_of(entries, row) {
-        ink.between("\ncall ", number, "");
+    if let Some(call) = scene.call(row) {
+        ink.between("\ncall ", call.number, "");
         put_call(ink, row, call);
     }
 }
@@ -36,16 +29,16 @@ fn put_threads(ink: &mut Ink, scene: &Scene, row: &Row) {
     }
 }
 
-fn put_call(ink: &mut Ink, row: &Row, call: &Call) {
-    if call.to() != ThreadId::NILTHREAD {
+fn put_call(ink: &mut Ink, row: &Row, call: &ToldCall) {
+    if call.to != ThreadId::NILTHREAD {
         put_contents(ink, call);
-        if call.tag().propagates() && row.shown.is_none() {
+        if call.tag.propagates() && row.shown.is_none() {
             ink.put(", which is not permitted");
         }
     }
     if row.mark == Mark::Called || row.mark == Mark::Dropped {
-        put_timeout(ink, "send", call.to(), call.send_period());
-        put_timeout(ink, "receive", call.from(), call.receive_period());
+        put_timeout(ink, "send", call.to, call.send_period);
+        put_timeout(ink, "receive", call.from, call.receive_period);
     }
 }
 

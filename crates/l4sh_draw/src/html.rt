@@ -5,7 +5,6 @@ use crate::lines::{Line, Page, pages_of};
 use crate::sheet::Sheet;
 use crate::style::{PAGE_STYLE, SCRIPT, STYLE};
 use crate::svg::{put_head, put_paper};
-use ipc_history::Entry;
 use l4sh_chart::Scene;
 use l4sh_times::Times;
 use std::alloc::{AllocError, Global};
@@ -23,18 +22,17 @@ const FIELDS: &str = "</head>\n<body>\n<header>\n<label>Find <input id=\"field\"
     <span id=\"told\"></span>\n\
     <label>Page <input id=\"page\" type=\"number\" style=\"width: 6em\" ";
 
-/// Draws a scene of these entries as an HTML page that needs nothing else: a field that finds rows,
+/// Draws a scene as an HTML page that needs nothing else: a field that finds rows,
 /// a legend, and a picture for each so many rows; 0: 200. Moments are told by these times.
 pub fn draw_html(
     alloc: Global,
     scene: &Scene,
-    entries: &[Entry],
     rows: usize,
     times: Times,
 ) -> Result<String, AllocError> {
     let rows = if rows == 0 { ROWS_OF_PAGE } else { rows };
     let mut ink = Ink::new(alloc);
-    let done = draw_page(alloc, &mut ink, scene, entries, rows, times);
+    let done = draw_page(alloc, &mut ink, scene, rows, times);
     ink.keep(done);
     ink.finish()
 }
@@ -43,16 +41,15 @@ fn draw_page(
     alloc: Global,
     ink: &mut Ink,
     scene: &Scene,
-    entries: &[Entry],
     rows: usize,
     times: Times,
 ) -> Result<(), AllocError> {
-    let layout = Layout::of(alloc, scene, entries)?;
+    let layout = Layout::of(alloc, scene)?;
     let pages = pages_of(alloc, &scene.folds, rows)?;
     put_top(ink, pages.len() as u64);
     put_legend(alloc, ink, scene, &layout);
     let done = match Sheet::new(alloc, scene, layout, 0, times) {
-        Ok(sheet) => draw_pictures(ink, scene, entries, sheet, &pages),
+        Ok(sheet) => draw_pictures(ink, scene, sheet, &pages),
         Err(lost) => Err(lost),
     };
     drop(pages);
@@ -65,14 +62,13 @@ fn draw_page(
 fn draw_pictures(
     ink: &mut Ink,
     scene: &Scene,
-    entries: &[Entry],
     sheet: Sheet,
     pages: &[Page],
 ) -> Result<(), AllocError> {
     let mut sheet = sheet;
     let width = sheet.width();
     for (place, page) in pages.iter().enumerate() {
-        sheet.draw(scene, entries, page);
+        sheet.draw(scene, page);
         let height = sheet.bottom().saturating_add(8);
         put_page_head(ink, scene, page, (place as u64).saturating_add(1), height);
         put_head(ink, width, height);
@@ -132,7 +128,7 @@ fn number_on(scene: &Scene, line: Line) -> Option<u64> {
     match line {
         Line::Row { row, .. } => {
             let found = scene.rows.get(row)?;
-            Some((found.place as u64).saturating_add(1))
+            Some(found.number)
         }
         _ => None,
     }

@@ -1,5 +1,4 @@
 use crate::words::label_of;
-use ipc_history::Entry;
 use l4sh_chart::{Row, Scene};
 use std::alloc::{AllocError, Global};
 
@@ -33,13 +32,9 @@ pub(crate) struct Layout {
 }
 
 impl Layout {
-    /// The layout for a scene of these entries.
-    pub(crate) fn of(
-        alloc: Global,
-        scene: &Scene,
-        entries: &[Entry],
-    ) -> Result<Layout, AllocError> {
-        let longest = longest_label(alloc, scene, entries)?;
+    /// The layout for a scene.
+    pub(crate) fn of(alloc: Global, scene: &Scene) -> Result<Layout, AllocError> {
+        let longest = longest_label(alloc, scene)?;
         Ok(Layout::for_labels(longest as u64, scene.columns.len() as u64))
     }
 
@@ -70,21 +65,16 @@ impl Layout {
 }
 
 // The letters of the longest label among the first rows.
-fn longest_label(alloc: Global, scene: &Scene, entries: &[Entry]) -> Result<usize, AllocError> {
+fn longest_label(alloc: Global, scene: &Scene) -> Result<usize, AllocError> {
     let mut longest = 0usize;
     for row in scene.rows.iter().take(LOOKED_AT) {
-        longest = longest.max(label_letters(alloc, scene, entries, row)?);
+        longest = longest.max(label_letters(alloc, scene, row)?);
     }
     Ok(longest)
 }
 
-fn label_letters(
-    alloc: Global,
-    scene: &Scene,
-    entries: &[Entry],
-    row: &Row,
-) -> Result<usize, AllocError> {
-    let label = label_of(alloc, scene, entries, row);
+fn label_letters(alloc: Global, scene: &Scene, row: &Row) -> Result<usize, AllocError> {
+    let label = label_of(alloc, scene, row);
     let (letters, done) = (label.text.as_str().chars().count(), label.done);
     drop(label);
     done?;

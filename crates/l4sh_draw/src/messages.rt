@@ -1,16 +1,16 @@
 use crate::ink::Ink;
-use ipc_history::Call;
+use l4sh_chart::ToldCall;
 
 /// Labels from here on are written in HEX.
 const FIRST_LONG_LABEL: u64 = 65_536;
 
 /// Appends the label and the size of the message of a call, as `label 5, 2 words`.
-pub(crate) fn put_message(ink: &mut Ink, call: &Call) {
-    put_tag_label(ink, call.tag().label());
-    put_words(ink, call.words().len());
-    let strings = call.strings().len();
+pub(crate) fn put_message(ink: &mut Ink, call: &ToldCall) {
+    put_tag_label(ink, call.tag.label());
+    put_words(ink, call.words.len());
+    let strings = call.lengths.len();
     if strings > 0 {
-        put_strings(ink, strings, call.strings().size());
+        put_strings(ink, strings, call.size);
     }
 }
 
@@ -36,16 +36,16 @@ fn put_strings(ink: &mut Ink, strings: usize, bytes: u64) {
 
 /// Appends what a message has: its label, its words and the lengths of its strings, a line each,
 /// each begun with a newline.
-pub(crate) fn put_contents(ink: &mut Ink, call: &Call) {
-    let label = call.tag().label();
+pub(crate) fn put_contents(ink: &mut Ink, call: &ToldCall) {
+    let label = call.tag.label();
     ink.between("\nlabel ", label, " (");
     ink.hex(label);
     ink.put(")");
-    put_each_word(ink, call.words());
-    put_lengths(ink, call);
-    if call.tag().propagates() {
+    put_each_word(ink, &call.words);
+    put_lengths(ink, &call.lengths);
+    if call.tag.propagates() {
         ink.put("\nVirtualSender ");
-        ink.id(call.originator());
+        ink.id(call.originator);
     }
 }
 
@@ -60,13 +60,13 @@ fn put_each_word(ink: &mut Ink, words: &[u64]) {
     }
 }
 
-fn put_lengths(ink: &mut Ink, call: &Call) {
-    if call.strings().is_empty() {
+fn put_lengths(ink: &mut Ink, lengths: &[u64]) {
+    if lengths.is_empty() {
         return;
     }
     ink.put("\nstrings of");
-    for place in 0..call.strings().len() {
-        ink.between(" ", call.strings().string_len(place) as u64, "");
+    for length in lengths {
+        ink.between(" ", *length, "");
     }
     ink.put(" bytes");
 }

@@ -9,7 +9,6 @@ use crate::marks::draw_mark;
 use crate::strands::{Strand, end_strands, mark_strand, strands_of, turn_strands};
 use crate::text::{end_of, first_moment, last_row, moment_behind, put_copies};
 use crate::words::label_of;
-use ipc_history::Entry;
 use l4sh_chart::{Column, Fold, Row, Scene};
 use l4sh_times::Times;
 use std::alloc::{AllocError, Global};
@@ -72,10 +71,10 @@ impl Sheet {
     }
 
     /// Draws the lines of a page.
-    pub(crate) fn draw(&mut self, scene: &Scene, entries: &[Entry], page: &[Line]) {
+    pub(crate) fn draw(&mut self, scene: &Scene, page: &[Line]) {
         for (place, line) in page.iter().enumerate() {
             let behind = page.get(place.saturating_add(1));
-            self.line(scene, entries, *line, behind);
+            self.line(scene, *line, behind);
         }
     }
 
@@ -108,7 +107,7 @@ impl Sheet {
         self.y
     }
 
-    fn line(&mut self, scene: &Scene, entries: &[Entry], line: Line, behind: Option<&Line>) {
+    fn line(&mut self, scene: &Scene, line: Line, behind: Option<&Line>) {
         match line {
             Line::Names => {
                 let moment = moment_behind(scene, behind, self.moment);
@@ -117,7 +116,7 @@ impl Sheet {
             Line::Row { row, copies } => {
                 if let Some(found) = scene.rows.get(row) {
                     self.begin_pattern(copies);
-                    self.row(scene, entries, row, found);
+                    self.row(scene, row, found);
                 }
             }
             Line::Copies { fold } => {
@@ -158,13 +157,13 @@ impl Sheet {
     }
 
     // The number of an entry, its moment, what it says, and its mark.
-    fn row(&mut self, scene: &Scene, entries: &[Entry], place: usize, row: &Row) {
+    fn row(&mut self, scene: &Scene, place: usize, row: &Row) {
         let top = self.y;
         let middle = top.saturating_add(ROW / 2);
         self.turn(scene, Place::above(place), top);
-        self.begin_row(scene, entries, row);
+        self.begin_row(scene, row);
         self.gutter(row, middle.saturating_add(4));
-        self.label(scene, entries, row, middle.saturating_add(4));
+        self.label(scene, row, middle.saturating_add(4));
         self.mark(row, middle);
         self.over.put("</g>\n");
         self.live(row, middle);
@@ -174,10 +173,10 @@ impl Sheet {
 
     // The group of a row, what is told where it is pointed at, and every second time a stripe below
     // it.
-    fn begin_row(&mut self, scene: &Scene, entries: &[Entry], row: &Row) {
+    fn begin_row(&mut self, scene: &Scene, row: &Row) {
         self.stripe();
         self.over.put("<g class=\"row\"><title>");
-        put_details(&mut self.over, scene, entries, row, self.times);
+        put_details(&mut self.over, scene, row, self.times);
         self.over.put("</title>\n");
         self.over.rect("band", (0, self.y), self.layout.width, ROW);
     }
@@ -192,7 +191,7 @@ impl Sheet {
 
     fn gutter(&mut self, row: &Row, low: u64) {
         self.over.begin_words("n", NUMBER, low);
-        self.over.number((row.place as u64).saturating_add(1));
+        self.over.number(row.number);
         self.over.end_words();
         self.later(row.moment, low);
     }
@@ -207,8 +206,8 @@ impl Sheet {
     }
 
     // What a row says, cut where there is no room.
-    fn label(&mut self, scene: &Scene, entries: &[Entry], row: &Row, low: u64) {
-        let label = label_of(self.alloc, scene, entries, row);
+    fn label(&mut self, scene: &Scene, row: &Row, low: u64) {
+        let label = label_of(self.alloc, scene, row);
         self.over.keep(label.done);
         draw_label(&mut self.over, &self.layout, label.text.as_str(), low);
         drop(label);

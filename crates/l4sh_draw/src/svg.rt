@@ -4,21 +4,15 @@ use crate::legend::draw_legend;
 use crate::lines::pages_of;
 use crate::sheet::Sheet;
 use crate::style::STYLE;
-use ipc_history::Entry;
 use l4sh_chart::Scene;
 use l4sh_times::Times;
 use std::alloc::{AllocError, Global};
 
-/// Draws a scene of these entries as one SVG picture: a column for each thread, bars where it
+/// Draws a scene as one SVG picture: a column for each thread, bars where it
 /// waits, a row for each entry, and a legend. Moments are told by these times.
-pub fn draw_svg(
-    alloc: Global,
-    scene: &Scene,
-    entries: &[Entry],
-    times: Times,
-) -> Result<String, AllocError> {
+pub fn draw_svg(alloc: Global, scene: &Scene, times: Times) -> Result<String, AllocError> {
     let mut ink = Ink::new(alloc);
-    let done = draw_picture(alloc, &mut ink, scene, entries, times);
+    let done = draw_picture(alloc, &mut ink, scene, times);
     ink.keep(done);
     ink.finish()
 }
@@ -28,14 +22,13 @@ fn draw_picture(
     alloc: Global,
     ink: &mut Ink,
     scene: &Scene,
-    entries: &[Entry],
     times: Times,
 ) -> Result<(), AllocError> {
-    let layout = Layout::of(alloc, scene, entries)?;
+    let layout = Layout::of(alloc, scene)?;
     let mut legend = Ink::new(alloc);
     let top = draw_legend(&mut legend, scene, &layout, 16);
     let done = match Sheet::new(alloc, scene, layout, top, times) {
-        Ok(sheet) => draw_below(alloc, ink, scene, entries, sheet, &legend),
+        Ok(sheet) => draw_below(alloc, ink, scene, sheet, &legend),
         Err(lost) => Err(lost),
     };
     drop(legend);
@@ -47,12 +40,11 @@ fn draw_below(
     alloc: Global,
     ink: &mut Ink,
     scene: &Scene,
-    entries: &[Entry],
     sheet: Sheet,
     legend: &Ink,
 ) -> Result<(), AllocError> {
     let mut sheet = sheet;
-    let done = draw_rows(alloc, &mut sheet, scene, entries);
+    let done = draw_rows(alloc, &mut sheet, scene);
     let width = sheet.width();
     put_picture(ink, &mut sheet, legend, width);
     drop(sheet);
@@ -60,15 +52,10 @@ fn draw_below(
 }
 
 // Draws all rows, on one page.
-fn draw_rows(
-    alloc: Global,
-    sheet: &mut Sheet,
-    scene: &Scene,
-    entries: &[Entry],
-) -> Result<(), AllocError> {
+fn draw_rows(alloc: Global, sheet: &mut Sheet, scene: &Scene) -> Result<(), AllocError> {
     let pages = pages_of(alloc, &scene.folds, 0)?;
     for page in &pages {
-        sheet.draw(scene, entries, page);
+        sheet.draw(scene, page);
     }
     drop(pages);
     Ok(())

@@ -5,7 +5,6 @@ use crate::legend::put_legend_text;
 use crate::lines::{Line, pages_of};
 use crate::signs::{put, put_arrow, put_lanes, sign_of};
 use crate::words::{put_label, put_waits_after};
-use ipc_history::Entry;
 use ipc_words::ThreadId;
 use l4sh_chart::{Column, Fold, Mark, Row, Scene};
 use l4sh_times::Times;
@@ -38,18 +37,17 @@ struct Drawing {
     moment: u64,
 }
 
-/// Draws a scene of these entries as text: a line for each row, with its number, how long after the
+/// Draws a scene as text: a line for each row, with its number, how long after the
 /// row before it comes, a lane for each thread, and what it says. A line of more characters than
 /// the width is cut; 0: none is. Moments are told by these times.
 pub fn draw_text(
     alloc: Global,
     scene: &Scene,
-    entries: &[Entry],
     width: usize,
     times: Times,
 ) -> Result<String, AllocError> {
     let mut ink = Ink::new(alloc);
-    let done = draw_lines(alloc, &mut ink, scene, entries, width, times);
+    let done = draw_lines(alloc, &mut ink, scene, width, times);
     ink.keep(done);
     put_legend_text(&mut ink, scene, width);
     ink.finish()
@@ -59,7 +57,6 @@ fn draw_lines(
     alloc: Global,
     ink: &mut Ink,
     scene: &Scene,
-    entries: &[Entry],
     width: usize,
     times: Times,
 ) -> Result<(), AllocError> {
@@ -74,7 +71,7 @@ fn draw_lines(
         times,
         moment: first_moment(scene),
     };
-    let done = draw_rows(alloc, ink, &mut drawing, scene, entries);
+    let done = draw_rows(alloc, ink, &mut drawing, scene);
     drop(drawing);
     done
 }
@@ -85,11 +82,10 @@ fn draw_rows(
     ink: &mut Ink,
     drawing: &mut Drawing,
     scene: &Scene,
-    entries: &[Entry],
 ) -> Result<(), AllocError> {
     let pages = pages_of(alloc, &scene.folds, 0)?;
     for page in &pages {
-        drawing.page(ink, scene, entries, page);
+        drawing.page(ink, scene, page);
     }
     drop(pages);
     Ok(())
@@ -136,21 +132,14 @@ fn fitting_lane(columns: usize, width: usize) -> usize {
 }
 
 impl Drawing {
-    fn page(&mut self, ink: &mut Ink, scene: &Scene, entries: &[Entry], page: &[Line]) {
+    fn page(&mut self, ink: &mut Ink, scene: &Scene, page: &[Line]) {
         for (place, line) in page.iter().enumerate() {
             let behind = page.get(place.saturating_add(1));
-            self.line(ink, scene, entries, *line, behind);
+            self.line(ink, scene, *line, behind);
         }
     }
 
-    fn line(
-        &mut self,
-        ink: &mut Ink,
-        scene: &Scene,
-        entries: &[Entry],
-        line: Line,
-        behind: Option<&Line>,
-    ) {
+    fn line(&mut self, ink: &mut Ink, scene: &Scene, line: Line, behind: Option<&Line>) {
         match line {
             Line::Names => {
                 let moment = moment_behind(scene, behind, self.moment);
@@ -158,7 +147,7 @@ impl Drawing {
             }
             Line::Row { row, .. } => {
                 if let Some(found) = scene.rows.get(row) {
-                    self.row(ink, scene, entries, row, found);
+                    self.row(ink, scene, row, found);
                 }
             }
             Line::Copies { fold } => {
@@ -189,7 +178,7 @@ impl Drawing {
     }
 
     // The number of an entry, its moment, the lanes with its mark, and what it says.
-    fn row(&mut self, ink: &mut Ink, scene: &Scene, entries: &[Entry], place: usize, row: &Row) {
+    fn row(&mut self, ink: &mut Ink, scene: &Scene, place: usize, row: &Row) {
         self.turn(scene, Place::above(place));
         if row.mark == Mark::Opened {
             set_alive(&mut self.lanes, row.from, true);
@@ -198,7 +187,7 @@ impl Drawing {
         put_entry_number(self.alloc, &mut line, row);
         self.put_moment(&mut line, row.moment);
         self.put_signs(&mut line, Some(row));
-        put_words(&mut line, scene, entries, row);
+        put_words(&mut line, scene, row);
         end_line(ink, &line, self.width);
         drop(line);
         self.turn(scene, Place::at(place));
@@ -283,7 +272,7 @@ fn put_name(alloc: Global, line: &mut Ink, lane: usize, thread: ThreadId) {
 // The number of the entry of a row.
 fn put_entry_number(alloc: Global, line: &mut Ink, row: &Row) {
     let mut number = Ink::new(alloc);
-    number.number((row.place as u64).saturating_add(1));
+    number.number(row.number);
     put_right(line, &number, NUMBERS);
     drop(number);
 }
@@ -308,8 +297,8 @@ fn put_time_right(alloc: Global, line: &mut Ink, sign: &str, time: u64) {
 }
 
 // What a row says, and how long phases waited that meet there.
-fn put_words(line: &mut Ink, scene: &Scene, entries: &[Entry], row: &Row) {
-    put_label(line, scene, entries, row);
+fn put_words(line: &mut Ink, scene: &Scene, row: &Row) {
+    put_label(line, scene, row);
     put_waits_after(line, "; ", row);
 }
 
@@ -337,7 +326,7 @@ pub(crate) fn moment_behind(scene: &Scene, behind: Option<&Line>, moment: u64) -
 /// given.
 pub(crate) fn end_of(scene: &Scene, row: usize, moment: u64) -> (u64, u64) {
     match scene.rows.get(row) {
-        Some(row) => ((row.place as u64).saturating_add(1), row.moment),
+        Some(row) => (row.number, row.moment),
         None => (0, moment),
     }
 }

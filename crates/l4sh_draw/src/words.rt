@@ -1,26 +1,30 @@
 use crate::amounts::put_time;
 use crate::ink::Ink;
 use crate::messages::put_message;
-use ipc_history::{Call, Entry, Input, Output};
+use ipc_history::Output;
 use ipc_words::{IpcError, MaskedControl, Phase, ThreadId};
-use l4sh_chart::{Mark, Row, Scene, call_at};
+use l4sh_chart::{Mark, Row, Said, Scene, ToldCall};
 use l4sh_state::short_cause_of;
 use std::alloc::Global;
 
 /// What a row says, in words.
-pub(crate) fn label_of(alloc: Global, scene: &Scene, entries: &[Entry], row: &Row) -> Ink {
+pub(crate) fn label_of(alloc: Global, scene: &Scene, row: &Row) -> Ink {
     let mut ink = Ink::new(alloc);
-    put_label(&mut ink, scene, entries, row);
+    put_label(&mut ink, scene, row);
     ink
 }
 
 /// Appends what a row says.
-pub(crate) fn put_label(ink: &mut Ink, scene: &Scene, entries: &[Entry], row: &Row) {
+pub(crate) fn put_label(ink: &mut Ink, scene: &Scene, row: &Row) {
     ink.id(thread_at(scene, row.from));
-    match entries.get(row.place) {
-        Some(Entry::Given(input)) => put_input(ink, row, input),
-        Some(Entry::Written(output)) => put_output(ink, scene, entries, row, *output),
-        None => {}
+    match row.said {
+        Said::Reads(moment) => ink.between(" ", moment, " µs"),
+        Said::Opens(space) => ink.between(" opens in space ", space, ""),
+        Said::Ends => ink.put(" ends"),
+        Said::Calls => put_entered(ink, scene, row),
+        Said::Stops(other, control) => put_stop(ink, row, other, control),
+        Said::Moves(number, count) => put_moved(ink, number, count),
+        Said::Writes(output) => put_output(ink, scene, row, output),
     }
 }
 
@@ -63,28 +67,23 @@ fn has_waited(row: &Row) -> bool {
     row.from != row.to && (row.sent > 0 || row.received > 0)
 }
 
-fn put_input(ink: &mut Ink, row: &Row, input: &Input) {
-    match input {
-        Input::At(moment) => ink.between(" ", *moment, " µs"),
-        Input::Opened(_, space) => ink.between(" opens in space ", *space, ""),
-        Input::Broke(_) => ink.put(" ends"),
-        Input::Called(number, _, call) => put_call(ink, row, *number, call.call()),
-        Input::Exreg(_, other, control) => put_stop(ink, row, *other, *control),
-        Input::Moved(number, count) => put_moved(ink, *number, *count),
-    }
-}
-
 fn put_moved(ink: &mut Ink, number: u64, count: u64) {
     ink.between(": ", count, " bytes copied");
     ink.between(" (call ", number, ")");
 }
 
+fn put_entered(ink: &mut Ink, scene: &Scene, row: &Row) {
+    if let Some(call) = scene.call(row) {
+        put_call(ink, row, call);
+    }
+}
+
 // The number of a call, its phases and its message.
-fn put_call(ink: &mut Ink, row: &Row, number: u64, call: &Call) {
-    ink.between(" call ", number, ":");
+fn put_call(ink: &mut Ink, row: &Row, call: &ToldCall) {
+    ink.between(" call ", call.number, ":");
     match (
-        call.to() != ThreadId::NILTHREAD,
-        call.from() != ThreadId::NILTHREAD,
+        call.to != ThreadId::NILTHREAD,
+        call.from != ThreadId::NILTHREAD,
     ) {
         (true, true) => {
             put_send(ink, row, call);
@@ -97,9 +96,9 @@ fn put_call(ink: &mut Ink, row: &Row, number: u64, call: &Call) {
     }
 }
 
-fn put_send(ink: &mut Ink, row: &Row, call: &Call) {
+fn put_send(ink: &mut Ink, row: &Row, call: &ToldCall) {
     ink.put(" send to ");
-    ink.id(call.to());
+    ink.id(call.to);
     put_shown(ink, row);
     if row.mark == Mark::Dropped {
         put_dropped(ink, call);
@@ -109,15 +108,15 @@ fn put_send(ink: &mut Ink, row: &Row, call: &Call) {
 }
 
 // Why p is dropped.
-fn put_dropped(ink: &mut Ink, call: &Call) {
+fn put_dropped(ink: &mut Ink, call: &ToldCall) {
     ink.put(" (p dropped: ");
-    ink.id(call.originator());
+    ink.id(call.originator);
     ink.put(" is not in its space)");
 }
 
-fn put_receive(ink: &mut Ink, call: &Call) {
+fn put_receive(ink: &mut Ink, call: &ToldCall) {
     ink.put(" receive from ");
-    ink.id(call.from());
+    ink.id(call.from);
 }
 
 /// Appends the originator that is shown in place of the sender, as ` as 1.1`.
@@ -153,7 +152,7 @@ fn phases_of(control: MaskedControl) -> &'static str {
     }
 }
 
-fn put_output(ink: &mut Ink, scene: &Scene, entries: &[Entry], row: &Row, output: Output) {
+fn put_output(ink: &mut Ink, scene: &Scene, row: &Row, output: Output) {
     match output {
         Output::Began(sending, receiving) => {
             put_receiver(ink, scene, row);
@@ -162,7 +161,7 @@ fn put_output(ink: &mut Ink, scene: &Scene, entries: &[Entry], row: &Row, output
         }
         Output::Ended(sending, receiving) => {
             put_receiver(ink, scene, row);
-            put_message_of(ink, entries, row);
+            put_message_of(ink, scene, row);
             put_numbers(ink, sending, receiving);
         }
         Output::Overflowed(sending, receiving, bytes) => {
@@ -197,13 +196,8 @@ fn put_numbers(ink: &mut Ink, sending: u64, receiving: u64) {
     ink.between("", receiving, ")");
 }
 
-/// The call of a row and its number, if it has one.
-pub(crate) fn call_of<'a>(entries: &'a [Entry], row: &Row) -> Option<(u64, &'a Call)> {
-    call_at(entries, row.call?)
-}
-
-fn put_message_of(ink: &mut Ink, entries: &[Entry], row: &Row) {
-    if let Some((_, call)) = call_of(entries, row) {
+fn put_message_of(ink: &mut Ink, scene: &Scene, row: &Row) {
+    if let Some(call) = scene.call(row) {
         ink.put(": ");
         put_message(ink, call);
     }

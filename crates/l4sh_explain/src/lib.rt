@@ -9,6 +9,7 @@
 #![tactic(auto)]
 
 mod codes;
+mod families;
 mod fields;
 mod grammars;
 mod laws;

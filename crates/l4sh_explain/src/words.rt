@@ -88,6 +88,7 @@ fn tell_error(text: &mut String, error: IpcError) -> Result<(), AllocError> {
         Phase::Receive => "receive phase",
     };
     let offset = error.offset();
+    let noun = if offset == 1 { "byte" } else { "bytes" };
     match error.kind() {
         Some(ErrorKind::Timeout) => {
             write!(
@@ -109,11 +110,11 @@ fn tell_error(text: &mut String, error: IpcError) -> Result<(), AllocError> {
         }
         Some(ErrorKind::MessageOverflow) => write!(
             text,
-            "as an ErrorCode: the message did not fit in the {phase}; {offset} bytes did\n"
+            "as an ErrorCode: the message did not fit in the {phase}; {offset} {noun} did\n"
         ),
         Some(ErrorKind::Aborted) => write!(
             text,
-            "as an ErrorCode: another thread aborted the {phase} after {offset} bytes\n"
+            "as an ErrorCode: another thread aborted the {phase} after {offset} {noun}\n"
         ),
         None => text.push_str("as an ErrorCode: none\n"),
     }

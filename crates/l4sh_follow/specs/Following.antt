@@ -132,10 +132,6 @@ tells_of selection (Some subject) = is_told selection subject
 abbrev pub is_told_behind : Selection → List Entry → Entry → Bool
 is_told_behind selection entries entry = tells_of selection (subject_in entries entry)
 
--- what is told is a line
-abbrev pub IsLine : List ℕ → Type 0
-IsLine text = (words : List ℕ) × (text ≡ words ++ 10 ∷ [])
-
 -- the entries that came, and what is told of them
 pub record Followed : Type 0 where
   pub selection : Selection

@@ -37,7 +37,8 @@ impl Model for Follower {
 impl Follower {
     ghost use Rattle.std.specs.Prelude.{◌≡◌, ◌++◌, ◌∷◌, [], IfOk, IfSome, OnOk, is_some};
     ghost use Rattle.std.specs.String.{string_bytes};
-    ghost use Rattle.l4sh_follow.specs.Following.{IsLine, about, is_told_behind, last_calls, tells_of};
+    ghost use Rattle.l4sh_state.specs.Lines.{IsLine};
+    ghost use Rattle.l4sh_follow.specs.Following.{about, is_told_behind, last_calls, tells_of};
 
     /// A history of no entry, of which this is to be told, with its moments by these times.
     pub fn new(alloc: Global, selection: Selection, times: Times) -> Follower

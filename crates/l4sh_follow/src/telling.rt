@@ -1,9 +1,12 @@
 use crate::notes::{Note, Notes};
 use ipc_history::{Entry, Input, Output};
-use ipc_lines::IdText;
+use ipc_lines::{HexText, IdText};
 use ipc_words::{IpcError, MaskedControl, Phase, ThreadId, ThreadIdKind};
 use l4sh_state::cause_of;
 use std::alloc::AllocError;
+
+/// The least label that is told in HEX.
+const FIRST_LONG_LABEL: u64 = 65_536;
 
 /// What an entry says, in the words of `l4sh state`. Nothing where it names a call that never came.
 pub(crate) fn tell_entry(
@@ -78,15 +81,25 @@ fn tell_shown(text: &mut String, call: &Note) -> Result<(), AllocError> {
 
 // The label and the size of a message.
 fn tell_message(text: &mut String, call: &Note) -> Result<(), AllocError> {
-    let (label, words) = (call.label, call.words);
+    tell_label(text, call.label)?;
+    let words = call.words;
     let noun = plural(words, "word", "words");
-    write!(text, "label {label}, {words} {noun}")?;
+    write!(text, ", {words} {noun}")?;
     if call.strings > 0 {
         let (strings, bytes) = (call.strings, call.bytes);
         let noun = plural(strings, "string", "strings");
         write!(text, ", {strings} {noun} of {bytes} {}", bytes_word(bytes))?;
     }
     Ok(())
+}
+
+// A label, as charts have it: in HEX where it is long.
+fn tell_label(text: &mut String, label: u64) -> Result<(), AllocError> {
+    if label < FIRST_LONG_LABEL {
+        write!(text, "label {label}")
+    } else {
+        write!(text, "label {}", HexText(label))
+    }
 }
 
 // The word of one thing, or of none or many.

@@ -6,7 +6,7 @@ use Rattle.clap.specs.Kinds.{HasKind, Kinds}
 use Rattle.clap.specs.Words.{Text, fault_of}
 use Rattle.clap.specs.declared.error.Error.{Error}
 use Rattle.clap.specs.declared.error.kind.ErrorKind.TheVariants as kind
-use Rattle.l4sh_options.specs.Command.{shell_app}
+use Rattle.l4sh_options.specs.Shell.{shell_app}
 use Rattle.l4sh_options.specs.Shell.{AsksVersion, TellsVersion}
 
 version_fault : (program : Text) → fault_of shell_app (program ∷ codes "--version" ∷ []) ≡ kind.DisplayVersion ∷ []

@@ -1,13 +1,98 @@
--- What the words of `l4d` ask for.
-use Rattle.std.specs.Prelude.{◌≡◌, ◌≤◌, ℕ, List, Option, Some, codes, option_map}
+-- The command of `l4d`, and what its words ask for.
+use Rattle.std.specs.Prelude.{◌≡◌, ◌≤◌, ℕ, List, Option, Some, codes, option_map, [], ◌∷◌, ◌-◌, ◌^◌, true}
 use Rattle.std.specs.Str.Parse.{digits_value, without_leading_plus}
-use Rattle.clap.specs.Words.{Row, Text, first_of, matches_of}
-use Rattle.l4sh_options.specs.Command.{server_app}
+use Rattle.ipc_words.specs.Limits.{max_space, max_connections}
+use Rattle.clap.specs.Words.{Row, Text, first_of, matches_of, App, Rule, new_app, new_rule, with_rule}
+use Rattle.clap.specs.Simple.{on_top}
+use Rattle.clap.specs.declared.builder.action.ArgAction.TheVariants.{Set}
+use Rattle.clap.specs.declared.builder.value_parser.ValueParser.TheVariants.{Unsigned}
 use Rattle.l4sh_options.specs.Shell.{IsFlagIn, number_in}
 use Rattle.l4sh_options.specs.TraceFiles.{HasKeepIn, HasSizeIn}
+use Rattle.l4sh_options.specs.Command.{flag_rule, max_connections_text}
 use Rattle.l4sh_options.specs.declared.server.ServerOptions.{ServerOptions}
 use Rattle.l4sh_options.specs.declared.server_words.Counts.{Counts}
-use Rattle.ipc_words.specs.Limits.{max_space}
+
+-- `--ID NAME`
+abbrev pub listed_rule : Text → Rule
+listed_rule id = record (new_rule id) { long = Some id; value_names = 1 }
+
+-- `--ID N`: a number from 1 up to most, by default the one that a text reads as
+abbrev pub count_rule : Text → ℕ → Text → Rule
+count_rule id most default = record (new_rule id) {
+  long = Some id;
+  value_names = 1;
+  parser = Some (Unsigned 1 most);
+  defaults = default ∷ [];
+}
+
+-- `--dir DIR`, which has to be there
+abbrev pub dir_rule : Rule
+dir_rule = record (new_rule (codes "dir")) {
+  long = Some (codes "dir");
+  value_names = 1;
+  required = true;
+  action = Some Set;
+}
+
+-- `--spaces N`, which has to be there: 1 to the greatest space
+abbrev pub spaces_rule : Rule
+spaces_rule = record (new_rule (codes "spaces")) {
+  long = Some (codes "spaces");
+  value_names = 1;
+  required = true;
+  parser = Some (Unsigned 1 max_space);
+}
+
+-- `--connections M`: 1 to the greatest number of a connection
+abbrev pub connections_rule : Rule
+connections_rule = count_rule (codes "connections") max_connections max_connections_text
+
+-- `--mode OCTAL`
+abbrev pub mode_rule : Rule
+mode_rule = record (new_rule (codes "mode")) {
+  long = Some (codes "mode");
+  value_names = 1;
+  defaults = codes "600" ∷ [];
+}
+
+-- `--live N`: 1 to the greatest number of a connection
+abbrev pub live_rule : Rule
+live_rule = count_rule (codes "live") max_connections max_connections_text
+
+-- `--hello-within SECONDS`: 1 to the greatest number of 16 bits
+abbrev pub hello_rule : Rule
+hello_rule = count_rule (codes "hello-within") (2 ^ 16 - 1) (codes "10")
+
+-- `--trace FILE`
+abbrev pub trace_rule : Rule
+trace_rule = record (new_rule (codes "trace")) { long = Some (codes "trace"); value_names = 1 }
+
+-- `l4d`, which tells its version
+abbrev pub named_app : App
+named_app = on_top (λ shape. record shape { has_version = true }) (new_app (codes "l4d"))
+
+-- `l4d` with where it listens
+abbrev pub listening_app : App
+listening_app = with_rule (with_rule (with_rule (with_rule named_app
+    dir_rule) spaces_rule) mode_rule) (flag_rule (codes "replace"))
+
+-- `l4d` with whom it serves
+abbrev pub serving_app : App
+serving_app = with_rule (with_rule (with_rule (with_rule listening_app
+    connections_rule) (flag_rule (codes "keep-open"))) live_rule) hello_rule
+
+-- `l4d` with its trace, and the size and the number of its files
+abbrev pub traced_app : App
+traced_app = with_rule (with_rule (with_rule (with_rule serving_app
+    (flag_rule (codes "probe"))) trace_rule) (listed_rule (codes "trace-size"))) (listed_rule (codes "trace-keep"))
+
+-- `l4d` with whether it needs its trace, and with its log
+abbrev pub telling_app : App
+telling_app = with_rule (with_rule traced_app (flag_rule (codes "trace-required"))) (flag_rule (codes "log"))
+
+-- `l4d` with whom it tells that it listens, and who may ask it
+abbrev pub server_app : App
+server_app = with_rule (with_rule telling_app (listed_rule (codes "ready-fd"))) (flag_rule (codes "no-control"))
 
 -- the descriptor is the decimal number that the matches have for it; none where they have none
 abbrev pub HasReadyFdIn : List Row → Option ℕ → Type 0

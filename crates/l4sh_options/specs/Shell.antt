@@ -1,22 +1,175 @@
--- What the words of `l4sh` ask for.
+-- The command of `l4sh`, and what its words ask for.
 use Rattle.std.specs.Prelude.{◌≡◌, ◌≤◌, ◌⊎◌, ℕ, Bool, List, [], ◌∷◌, map, Option, Some, codes, option_map, true, false, ⊤, IsNone, IsSome, IsSomeAnd, None}
 use Rattle.std.specs.Borrow.{Bor}
 use Rattle.std.specs.Str.Parse.{digits_value, without_leading_plus}
 use Rattle.ipc_words.specs.Limits.{max_entries, max_calls, max_chart_entry, max_space, max_thread_number}
-use Rattle.clap.specs.Words.{IsUnsignedIn, Row, Text, all_of, first_of, one_of, subcommand_of, takes}
+use Rattle.clap.specs.Words.{IsUnsignedIn, Row, Text, all_of, first_of, one_of, subcommand_of, takes, App, Rule, new_app, new_rule, with_rule, with_subcommand}
 use Rattle.clap.specs.Values.{kind_of}
 use Rattle.clap.specs.declared.error.Error.{Error}
 use Rattle.clap.specs.declared.error.kind.ErrorKind.TheVariants.{DisplayVersion, OutOfMemory}
-use Rattle.l4sh_options.specs.Command.{shell_app}
+use Rattle.clap.specs.Simple.{on_top}
+use Rattle.clap.specs.declared.builder.action.ArgAction.TheVariants.{Append, SetTrue}
+use Rattle.clap.specs.declared.builder.value_parser.ValueParser.TheVariants.{Unsigned}
+use Rattle.l4sh_options.specs.Command.{flag_rule, max_calls_text, max_chart_entry_text, max_entries_text}
 use Rattle.l4sh_options.specs.declared.asked.ChartOptions.{ChartOptions}
 use Rattle.l4sh_options.specs.declared.asked.CountOptions.{CountOptions}
 use Rattle.l4sh_options.specs.declared.asked.FollowOptions.{FollowOptions}
 use Rattle.l4sh_options.specs.declared.asked.ScriptLimits.{ScriptLimits}
 use Rattle.l4sh_options.specs.declared.asked.ShellOptions.{ShellOptions}
-use Rattle.l4sh_options.specs.declared.asked.ShellOptions.TheVariants.{Run, Wire, Check, Part, Chart, State}
-use Rattle.l4sh_options.specs.declared.asked.ShellOptions.TheVariants.{Script, Explain, Tag, Period, Count, Follow, Talk, TalkTo, Migrate, Rotate}
+use Rattle.l4sh_options.specs.declared.asked.ShellOptions.TheVariants.{Run, Wire, Check, Part, Chart, State, Script, Explain, Tag, Period, Count, Follow, Talk, TalkTo, Migrate, Rotate}
 use Rattle.l4sh_options.specs.declared.asked.StateOptions.{StateOptions}
 use Rattle.l4sh_options.specs.declared.asked.TalkOptions.{TalkOptions}
+
+-- `--ID N`: a number up to most, by default the one that a text reads as
+abbrev pub number_rule : Text → ℕ → Text → Rule
+number_rule id most default = record (new_rule id) {
+  long = Some id;
+  value_names = 1;
+  parser = Some (Unsigned 0 most);
+  defaults = default ∷ [];
+}
+
+-- OLD or NEW, which has to be there
+abbrev pub place_rule : Text → Rule
+place_rule id = record (new_rule id) { value_names = 1; required = true }
+
+-- FILE, once or more
+abbrev pub files_rule : Rule
+files_rule = record (new_rule (codes "file")) { value_names = 1; required = true; action = Some Append }
+
+-- WORD, which has to be there
+abbrev pub word_rule : Rule
+word_rule = record (new_rule (codes "word")) { value_names = 1; required = true }
+
+-- `--threads LIST`
+abbrev pub threads_rule : Rule
+threads_rule = record (new_rule (codes "threads")) { long = Some (codes "threads"); value_names = 1 }
+
+-- `--text`
+abbrev pub text_rule : Rule
+text_rule = record (new_rule (codes "text")) { long = Some (codes "text"); action = Some SetTrue }
+
+abbrev pub run_app : App
+run_app = with_rule
+    (with_rule (new_app (codes "run")) (number_rule (codes "entries") max_entries max_entries_text))
+    (number_rule (codes "calls") max_calls max_calls_text)
+
+abbrev pub wire_app : App
+wire_app = new_app (codes "wire")
+
+abbrev pub check_app : App
+check_app = with_rule (new_app (codes "check")) files_rule
+
+-- `part` with the files before it
+abbrev pub part_app : App
+part_app = with_rule (with_rule (new_app (codes "part")) files_rule) (flag_rule (codes "untaken"))
+
+-- `chart` with its files and the entries that it shows
+abbrev pub chart_places_app : App
+chart_places_app = with_rule (with_rule (with_rule (new_app (codes "chart")) files_rule)
+    (number_rule (codes "from") max_chart_entry (codes "1")))
+    (number_rule (codes "to") max_chart_entry max_chart_entry_text)
+
+-- `chart` with how it draws them too
+abbrev pub chart_forms_app : App
+chart_forms_app = with_rule (with_rule (with_rule (with_rule chart_places_app threads_rule) text_rule)
+    (flag_rule (codes "html"))) (flag_rule (codes "unfolded"))
+
+abbrev pub chart_app : App
+chart_app = with_rule (with_rule (with_rule chart_forms_app
+    (number_rule (codes "page") max_chart_entry (codes "0")))
+    (number_rule (codes "width") max_chart_entry (codes "0"))) (flag_rule (codes "time"))
+
+abbrev pub script_app : App
+script_app = with_rule (new_app (codes "script")) files_rule
+
+-- `state` with its files and the entry after which it is
+abbrev pub state_app : App
+state_app = with_rule (with_rule (with_rule (new_app (codes "state")) files_rule)
+    (number_rule (codes "at") max_chart_entry max_chart_entry_text)) (flag_rule (codes "time"))
+
+-- `count` with its files
+abbrev pub count_app : App
+count_app = with_rule (with_rule (with_rule (new_app (codes "count")) files_rule) (flag_rule (codes "json")))
+    (flag_rule (codes "time"))
+
+-- `--label LABEL`
+abbrev pub label_rule : Rule
+label_rule = record (new_rule (codes "label")) { long = Some (codes "label"); value_names = 1 }
+
+-- `follow` with its files and what is told
+abbrev pub follow_app : App
+follow_app = with_rule (with_rule (with_rule (with_rule (with_rule (new_app (codes "follow")) files_rule)
+    threads_rule) label_rule) (flag_rule (codes "failures"))) (flag_rule (codes "time"))
+
+-- DIR, which may be there
+abbrev pub folder_rule : Rule
+folder_rule = record (new_rule (codes "dir")) { value_names = 1 }
+
+-- `--ID N`: a number from 1 up to most, by default 1
+abbrev pub first_rule : Text → ℕ → Rule
+first_rule id most = record (new_rule id) {
+  long = Some id;
+  value_names = 1;
+  parser = Some (Unsigned 1 most);
+  defaults = codes "1" ∷ [];
+}
+
+-- `talk` with the folder of a server, and the thread
+abbrev pub talk_places_app : App
+talk_places_app = with_rule (with_rule (new_app (codes "talk")) folder_rule)
+    (first_rule (codes "thread") max_thread_number)
+
+abbrev pub talk_app : App
+talk_app = with_rule talk_places_app (first_rule (codes "space") max_space)
+
+-- `migrate` with the trace that it reads and the one that it writes
+abbrev pub migrate_app : App
+migrate_app = with_rule (with_rule (new_app (codes "migrate")) (place_rule (codes "old")))
+    (place_rule (codes "new"))
+
+-- a subcommand of one word
+abbrev pub word_app : Text → App
+word_app name = with_rule (new_app name) word_rule
+
+-- `l4sh`, which tells its version, and of whose subcommands one has to be there
+abbrev pub shell_named_app : App
+shell_named_app = on_top (λ shape. record shape { has_version = true; subcommand_required = true })
+    (new_app (codes "l4sh"))
+
+-- `l4sh` with `run` and `check`
+abbrev pub proving_app : App
+proving_app = with_subcommand (with_subcommand shell_named_app run_app.top) check_app.top
+
+-- `l4sh` with `chart` and `wire` too
+abbrev pub drawing_app : App
+drawing_app = with_subcommand (with_subcommand proving_app chart_app.top) wire_app.top
+
+-- `l4sh` with `script` and `state` too
+abbrev pub tracing_app : App
+tracing_app = with_subcommand (with_subcommand drawing_app script_app.top) state_app.top
+
+-- `l4sh` with `explain` and `tag` too
+abbrev pub explaining_app : App
+explaining_app = with_subcommand (with_subcommand tracing_app (word_app (codes "explain")).top)
+    (word_app (codes "tag")).top
+
+-- `l4sh` with `period` and `count` too
+abbrev pub counting_app : App
+counting_app = with_subcommand (with_subcommand explaining_app (word_app (codes "period")).top)
+    count_app.top
+
+-- `l4sh` with `follow` and `talk` too
+abbrev pub talking_app : App
+talking_app = with_subcommand (with_subcommand counting_app follow_app.top) talk_app.top
+
+-- `l4sh` with `migrate` and `part` too
+abbrev pub writing_app : App
+writing_app = with_subcommand (with_subcommand talking_app migrate_app.top) part_app.top
+
+-- `l4sh` with its subcommands, of which one has to be there
+abbrev pub shell_app : App
+shell_app = with_subcommand writing_app (word_app (codes "rotate")).top
 
 -- each number is within its limit
 abbrev pub AreWithinLimits : ScriptLimits → Type 0

@@ -3,7 +3,8 @@ ghost use Rattle.std.specs.Prelude.{◌≡◌, ◌<◌, ◌≤◌, IfErr, IfOk, 
 ghost use Rattle.std.specs.Prelude.{option_map, string_bytes, true};
 ghost use Rattle.std.specs.Str.Parse.{digits_value, without_leading_plus};
 ghost use Rattle.clap.specs.Words.{fault_of, first_of, found_of, one_of, rows_of};
-ghost use Rattle.l4sh_options.specs.Command.{IsOfApp, named_app, server_app};
+ghost use Rattle.l4sh_options.specs.Command.{IsOfApp};
+ghost use Rattle.l4sh_options.specs.Server.{named_app, server_app};
 ghost use Rattle.l4sh_options.specs.Server.{AreWithinLimits, HasCountsIn, HasOptionsIn, HasOptionsOf, HasReadyFdIn};
 ghost use Rattle.l4sh_options.specs.Shell.{number_in};
 ghost use Rattle.ipc_words.specs.Limits.{max_connections};

@@ -3,3 +3,4 @@ pub mod Doings
 pub mod Waits
 pub mod WaitsFor
 pub mod Propagation
+pub mod Lines

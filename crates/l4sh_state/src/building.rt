@@ -3,8 +3,8 @@ ghost use Rattle.l4sh_state.specs.States.{IsFaultAt};
 
 use ipc_base::Past;
 use ipc_history::{Entries, Entry};
-use ipc_rules::follows;
 use ipc_threads::Slots;
+use ipc_waits::follows;
 
 /// The slots of a history, as the checker builds them: slots are of legal histories alone. An `Err`
 /// is the place of the first entry that does not follow those before it.

@@ -1,8 +1,9 @@
 ghost use Rattle.std.specs.Prelude.{◌≡◌};
-ghost use Rattle.l4sh_state.specs.Doings.{does, does_in, due};
+ghost use Rattle.l4sh_state.specs.Doings.{does, does_in};
 
 use ipc_threads::{Live, Phase, Standing};
-use ipc_words::{Period, ThreadId};
+use ipc_waits::due_after;
+use ipc_words::ThreadId;
 
 /// What a live thread does.
 #[derive(Clone, Copy)]
@@ -54,7 +55,7 @@ fn doing_in(call: &Standing) -> Doing
         Phase::Sending => Doing::Sends {
             to: call.to,
             since: call.since,
-            until: due(call.since, call.send_period),
+            until: due_after(call.since, call.send_period),
         },
         Phase::Passing(_) => Doing::Passes {
             to: call.to,
@@ -64,18 +65,8 @@ fn doing_in(call: &Standing) -> Doing
         Phase::Receiving => Doing::Receives {
             from: call.awaited,
             since: call.since,
-            until: due(call.since, call.receive_period),
+            until: due_after(call.since, call.receive_period),
         },
         Phase::Taking(_, from, moved) => Doing::Gets { from, moved },
-    }
-}
-
-// The moment at which a period ends, or the greatest number where that is past it.
-fn due(since: u64, period: Period) -> Option<u64>
-    ensures { result ≡ due since period }
-{
-    match period.micros() {
-        Some(micros) => Some(since.saturating_add(micros)),
-        None => None,
     }
 }

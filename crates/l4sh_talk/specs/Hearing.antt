@@ -1,7 +1,8 @@
 -- What a typed line stands for.
-use Rattle.std.specs.Prelude.{◌≡◌, ℕ, ◌<◌, List, [], ◌∷◌, Option, Some, None, ◌++◌, length, codes, ⊤, ◌⊎◌}
+use Rattle.std.specs.Prelude.{◌≡◌, ℕ, ◌<◌, List, [], ◌∷◌, Option, Some, None, length, codes, ⊤, ◌⊎◌}
 use Rattle.ipc_words.specs.Limits.{max_line_bytes}
 use Rattle.ipc_client.specs.Messages.{BufferParts, MessageParts}
+use Rattle.l4sh_state.specs.Lines.{IsLine}
 use Rattle.l4sh_talk.specs.Quoting.{line_words}
 use Rattle.l4sh_talk.specs.Verbs.{verb_name, verb_request}
 use Rattle.l4sh_talk.specs.declared.fields.Verb.{Verb}
@@ -84,9 +85,6 @@ Hears line stands_for =
     ((max_line_bytes < length line) × IsMistake stands_for) ⊎ HearsAs (line_words line) stands_for
 
 -- what is said to a line by its bytes: a line of an answer, or of the mistake
-abbrev pub IsLine : List ℕ → Type 0
-IsLine text = (words : List ℕ) × (text ≡ words ++ 10 ∷ [])
-
 abbrev pub Says : Heard → List ℕ → Type 0
 Says heard.Nothing text = text ≡ []
 Says heard.Quit text = ⊥

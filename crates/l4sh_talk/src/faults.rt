@@ -6,7 +6,8 @@ use std::fmt;
 pub const ONCE: &str = "each field once";
 
 /// What is wanted of a list of numbers.
-pub const NUMBERS: &str = "one number or more, with commas and no spaces between, as 7,0x8";
+pub const NUMBERS: &str =
+    "one number or more, of 64 bits at most, with commas and no spaces between, as 7,0x8";
 
 /// What is wanted of a list of sizes.
 pub const SIZES: &str = "one size or more, with commas and no spaces between, as 100,20";

@@ -101,7 +101,9 @@ impl Name {
                 "a time with its unit, as 20us, 2ms, 1s or 1min, or never"
             }
             Name::Label => "a decimal or HEX of at most 48 bits, as label=3",
-            Name::Words => "one number or more, with commas between, as words=7,0x8",
+            Name::Words => {
+                "one number or more, of 64 bits at most, with commas between, as words=7,0x8"
+            }
             Name::As => "a thread, as 1.1",
             Name::Buffers => "one size or more, with commas between, as buffers=100,20",
             Name::Text => "a text between quotation marks",
@@ -114,7 +116,16 @@ impl Name {
 pub(crate) fn wanted_for(verb: Verb, word: &[u8]) -> &'static str {
     match field_of(word) {
         Some((name, _)) if verb.takes(name) && word.contains(&b'=') => name.wanted(),
+        Some((Name::Words, _)) if verb.sends() => wanted_for_word(word),
         _ => verb.usage(),
+    }
+}
+
+// What is wanted in place of a word of a message that is none.
+fn wanted_for_word(word: &[u8]) -> &'static str {
+    match word {
+        [first, ..] if first.is_ascii_digit() => "a number of 64 bits at most, as 7 or 0x8",
+        _ => "a number, as 7 or 0x8, or a text between quotation marks, as \"hello\"",
     }
 }
 

@@ -118,13 +118,16 @@ fn hear_named(alloc: Global, word: &[u8], words: &[Vec<u8>]) -> Result<Heard, Al
 }
 
 // The same by the command that it is.
-#[tactic(auto, using(crate::proofs::HearingLemmas::named, crate::proofs::HearingLemmas::waits, crate::proofs::HearingLemmas::stops))]
+#[tactic(auto, using(crate::proofs::HearingLemmas::named, crate::proofs::HearingLemmas::waits, crate::proofs::HearingLemmas::stops, crate::proofs::HearingLemmas::mistaken))]
 fn hear_command(alloc: Global, command: Command, words: &[Vec<u8>]) -> Result<Heard, AllocError>
     ensures { IfOk result (HearsName (command_word command)) }
 {
     match command {
         Command::Help => Ok(Heard::Help),
         Command::Mark => Ok(Heard::Help),
+        Command::Quit | Command::Exit if words.len() > 1 => {
+            mistake(alloc, "wanted is quit or exit alone")
+        }
         Command::Quit => Ok(Heard::Quit),
         Command::Exit => Ok(Heard::Quit),
         Command::Exreg => hear_exreg(alloc, words),

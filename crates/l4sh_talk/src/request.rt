@@ -1,6 +1,7 @@
 //! What a thread of a server is asked to do, and what it answers.
 ghost use Rattle.std.specs.Prelude.{◌≡◌, IfOk};
 ghost use Rattle.l4sh_talk.specs.Versions.{version_of_thread};
+ghost use Rattle.l4sh_talk.specs.declared.request.Request.TheVariants as request;
 
 use ipc_client::{Answer, Buffers, Message, Registers, Timeout};
 use ipc_words::{Control, ThreadId};
@@ -87,24 +88,19 @@ impl Request {
                 send,
                 receive,
                 buffers,
-            } => Ok(Request::Call {
-                to: version_of(*to, version),
-                message: copy_message(alloc, message)?,
-                send: *send,
-                receive: *receive,
-                buffers: copy_buffers(alloc, buffers)?,
-            }),
+            } => {
+                let to = version_of(*to, version);
+                copy_call(alloc, to, message, *send, *receive, buffers)
+            }
             Request::ReplyWait {
                 to,
                 message,
                 receive,
                 buffers,
-            } => Ok(Request::ReplyWait {
-                to: version_of(*to, version),
-                message: copy_message(alloc, message)?,
-                receive: *receive,
-                buffers: copy_buffers(alloc, buffers)?,
-            }),
+            } => {
+                let to = version_of(*to, version);
+                copy_reply_wait(alloc, to, message, *receive, buffers)
+            }
             Request::ExchangeRegisters { dest, control } => Ok(Request::ExchangeRegisters {
                 dest: version_of(*dest, version),
                 control: *control,
@@ -118,6 +114,42 @@ pub(crate) fn version_of(thread: ThreadId, version: u32) -> ThreadId
     ensures { result ≡ version_of_thread version thread }
 {
     ThreadId::from_word(u64::from(version) + 0x1_0000_0000 * u64::from(thread.number()))
+}
+
+fn copy_call(
+    alloc: Global,
+    to: ThreadId,
+    message: &Message,
+    send: Timeout,
+    receive: Timeout,
+    buffers: &Buffers,
+) -> Result<Request, AllocError>
+    ensures { IfOk result (λ r. r ≡ request.Call to message.now send receive buffers.now) }
+{
+    Ok(Request::Call {
+        to,
+        message: copy_message(alloc, message)?,
+        send,
+        receive,
+        buffers: copy_buffers(alloc, buffers)?,
+    })
+}
+
+fn copy_reply_wait(
+    alloc: Global,
+    to: ThreadId,
+    message: &Message,
+    receive: Timeout,
+    buffers: &Buffers,
+) -> Result<Request, AllocError>
+    ensures { IfOk result (λ r. r ≡ request.ReplyWait to message.now receive buffers.now) }
+{
+    Ok(Request::ReplyWait {
+        to,
+        message: copy_message(alloc, message)?,
+        receive,
+        buffers: copy_buffers(alloc, buffers)?,
+    })
 }
 
 fn copy_message(alloc: Global, message: &Message) -> Result<Message, AllocError>

@@ -1,12 +1,15 @@
 //! Text that is being said.
 ghost use Rattle.std.specs.Prelude.{◌≡◌, ◌++◌, IfOk, IsOk};
 ghost use Rattle.std.specs.String.{string_bytes};
-ghost use Rattle.l4sh_talk.specs.Hearing.{IsLine};
+ghost use Rattle.l4sh_state.specs.Lines.{IsLine};
 
 use ipc_lines::{HexText, IdText};
 use ipc_words::ThreadId;
 use l4sh_explain::Printable;
 use std::alloc::{AllocError, Global};
+
+/// The least label that is said in HEX.
+const FIRST_LONG_LABEL: u64 = 65_536;
 
 /// What is said. Where memory is wanting it goes on without, and says so at its end: a step that
 /// passes no error on is proved in half the time.
@@ -67,6 +70,15 @@ impl Said {
     pub(crate) fn hex(&mut self, number: u64) {
         let done = write!(self.text, "{}", HexText(number));
         self.keep(done);
+    }
+
+    /// A label, as charts have it: in HEX where it is long.
+    pub(crate) fn label(&mut self, label: u64) {
+        if label < FIRST_LONG_LABEL {
+            self.number(label);
+        } else {
+            self.hex(label);
+        }
     }
 
     pub(crate) fn id(&mut self, thread: ThreadId) {

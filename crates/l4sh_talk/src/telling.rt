@@ -1,7 +1,7 @@
 //! What is said to an answer of the server.
 ghost use Rattle.std.specs.Prelude.{IfOk};
 ghost use Rattle.std.specs.String.{string_bytes};
-ghost use Rattle.l4sh_talk.specs.Hearing.{IsLine};
+ghost use Rattle.l4sh_state.specs.Lines.{IsLine};
 
 use crate::request::{Reply, Request, version_of};
 use crate::said::Said;
@@ -207,7 +207,9 @@ fn tell_message(said: &mut Said, received: &Received, actual: ThreadId) {
         said.put(", sent by ");
         said.id(actual);
     }
-    said.between(", label ", received.label(), ", ");
+    said.put(", label ");
+    said.label(received.label());
+    said.put(", ");
     tell_words(said, received.words());
 }
 

@@ -19,16 +19,17 @@ exreg ID ID PHASE              stops phases of the second thread: send, receive,
 broke ID                       the thread ends
 at TIME                        the clock, as 20us, 2ms or 1s
 advance                        copies the next block of a message
+compact                        lets go of the entries that nothing needs any more
 help, quit, exit               and # begins a comment
 The lines of scripts are taken, too: there at 20 is the moment of 20 microseconds.
 Arrow keys, history and editing come by another program, as in: rlwrap l4sh talk
 ";
 
 /// What is wanted of the first word of a line.
-const COMMANDS: &str = "open, call, take, exreg, broke, at, advance, help, quit or exit";
+const COMMANDS: &str = "open, call, take, exreg, broke, at, advance, compact, help, quit or exit";
 
 /// What is wanted of the number of a thread or of a space.
-const NUMBER: &str = "a decimal or HEX, as 1";
+const NUMBER: &str = "a decimal or HEX of at most 64 bits, as 1";
 
 /// The fewest words that stand for a call of a script, which has ten.
 const SCRIPT_WORDS: usize = 8;
@@ -79,7 +80,8 @@ fn read_words(alloc: Global, words: &[Vec<u8>]) -> Result<Typed, AllocError> {
 fn read_command(alloc: Global, name: &[u8], words: &[Vec<u8>]) -> Result<Typed, AllocError> {
     match name {
         b"help" | b"?" => Ok(Typed::Help),
-        b"quit" | b"exit" => Ok(Typed::Quit),
+        b"quit" | b"exit" if words.len() == 1 => Ok(Typed::Quit),
+        b"quit" | b"exit" => mistake(alloc, "wanted is quit or exit alone"),
         b"open" => read_open(alloc, words),
         b"call" => read_call(alloc, words),
         b"take" => read_one(alloc, "take", words),
@@ -87,6 +89,7 @@ fn read_command(alloc: Global, name: &[u8], words: &[Vec<u8>]) -> Result<Typed, 
         b"exreg" => read_exreg(alloc, words),
         b"at" => read_at(alloc, words),
         b"advance" => judged_words(alloc, words),
+        b"compact" => read_compact(alloc, words),
         _ => bad(alloc, 0, "", COMMANDS, name),
     }
 }
@@ -226,6 +229,13 @@ fn read_at(alloc: Global, words: &[Vec<u8>]) -> Result<Typed, AllocError> {
             Err(fault) => bad(alloc, 1, "moment", fault.wanted(), time),
         },
         _ => mistake(alloc, "wanted is at TIME, as at 2ms"),
+    }
+}
+
+fn read_compact(alloc: Global, words: &[Vec<u8>]) -> Result<Typed, AllocError> {
+    match words {
+        [_] => Ok(Typed::Line(String::from_str(alloc, "compact")?)),
+        _ => mistake(alloc, "wanted is compact alone"),
     }
 }
 

@@ -1,5 +1,6 @@
 //! Callers of the key-value server.
 use crate::finding::{live_thread, look_up};
+use crate::gateway::NO_SERVER;
 use crate::keyvalue::{FOUND, GET, PUT};
 use crate::messages::{Received, message, message_of};
 use crate::trouble::Trouble;
@@ -97,6 +98,7 @@ fn ask<I: PortRead, O: PortWrite>(
     let never = Timeout::never();
     let answer = client.call(server, request, never, never, Buffers::none(alloc))?;
     match message_of(answer)? {
+        Ok(answer) if answer.label == NO_SERVER => Err(Trouble::NotPassed),
         Ok(answer) => Ok(answer),
         Err(code) => Err(Trouble::Failed(code)),
     }

@@ -1,12 +1,16 @@
 //! A gateway before the key-value server: passes each request on in the name of who asked, so that
-//! the server answers them itself.
+//! the server answers them itself. Where there is no such server it answers that.
 use crate::calling::{Search, Server, thread_of};
 use crate::messages::{Received, message, message_of, receive_any};
 use crate::trouble::Trouble;
 use ipc_base::{PortRead, PortWrite};
 use ipc_client::{Client, Message, Timeout};
+use ipc_words::ThreadId;
 use std::alloc::Global;
 use std::sync::Wait;
+
+/// The label of the answer to a request that no server took.
+pub const NO_SERVER: u64 = 5;
 
 /// Passes requests on for ever.
 ///
@@ -32,9 +36,24 @@ fn serve_next<I: PortRead, O: PortWrite>(
     search: Search,
 ) -> Result<(), Trouble> {
     match message_of(receive_any(alloc, client)?)? {
-        Ok(request) => pass(alloc, client, search, in_name_of_sender(alloc, request)?),
+        Ok(request) => answer(alloc, client, search, request),
         Err(_) => Ok(()),
     }
+}
+
+// Passes a request on. Where no server takes it, who asked is told so.
+fn answer<I: PortRead, O: PortWrite>(
+    alloc: Global,
+    client: &mut Client<I, O>,
+    search: Search,
+    request: Received,
+) -> Result<(), Trouble> {
+    let asker = request.sender;
+    let message = in_name_of_sender(alloc, request)?;
+    if pass(alloc, client, search, message)? {
+        return Ok(());
+    }
+    deny(alloc, client, asker)
 }
 
 // The message of a request in the name of who asked.
@@ -45,29 +64,40 @@ fn in_name_of_sender(alloc: Global, request: Received) -> Result<Message, Troubl
     Ok(passed)
 }
 
-// A trouble that is not only that there is no such server.
-fn unless_gone(trouble: Trouble) -> Result<(), Trouble> {
-    match trouble {
-        Trouble::NoThread => Ok(()),
-        _ => Err(trouble),
-    }
-}
-
-// Passes a message on to the key-value server. One that nobody takes is dropped.
+// Passes a message on to the key-value server. False where nobody takes it.
 fn pass<I: PortRead, O: PortWrite>(
     alloc: Global,
     client: &mut Client<I, O>,
     search: Search,
     message: Message,
-) -> Result<(), Trouble> {
+) -> Result<bool, Trouble> {
     match thread_of(alloc, client, Server::KeyValue, search) {
         Ok(server) => {
-            let _ = message_of(client.send(server, message, Timeout::never())?)?;
-            Ok(())
+            let sent = message_of(client.send(server, message, Timeout::never())?)?;
+            Ok(sent.is_ok())
         }
         Err(trouble) => {
             drop(message);
             unless_gone(trouble)
         }
     }
+}
+
+// False where the trouble is only that there is no such server.
+fn unless_gone(trouble: Trouble) -> Result<bool, Trouble> {
+    match trouble {
+        Trouble::NoThread => Ok(false),
+        _ => Err(trouble),
+    }
+}
+
+// Tells who asked that no server took the request. Who does not wait for that is not told.
+fn deny<I: PortRead, O: PortWrite>(
+    alloc: Global,
+    client: &mut Client<I, O>,
+    asker: ThreadId,
+) -> Result<(), Trouble> {
+    let denial = message(alloc, NO_SERVER, &[])?;
+    let _ = message_of(client.send(asker, denial, Timeout::zero())?)?;
+    Ok(())
 }

@@ -252,13 +252,17 @@ fn say_word<R: Print>(rt: &R, word: Option<u64>) -> Result<(), Trouble> {
     said.or(Err(Trouble::NoOutput))
 }
 
-/// Prints a thread, or `nothing`.
+/// Prints a thread; without one `nothing`, and that is why the role ends.
 fn say_thread<R: Print>(rt: &R, thread: Option<ThreadId>) -> Result<(), Trouble> {
     let said = match thread {
         Some(thread) => println!(rt; "{}.{}", thread.number(), thread.version()),
         None => println!(rt; "nothing"),
     };
-    said.or(Err(Trouble::NoOutput))
+    match (said, thread) {
+        (Err(_), _) => Err(Trouble::NoOutput),
+        (Ok(()), Some(_)) => Ok(()),
+        (Ok(()), None) => Err(Trouble::Nobody),
+    }
 }
 
 /// Prints which thread the name server is.
@@ -271,6 +275,8 @@ fn say_names<R: Print>(rt: &R, own: ThreadId) -> Result<(), Trouble> {
 /// it.
 fn ended<R: Eprint>(rt: &R, dir: &str, trouble: &Trouble) -> io::Result<ExitCode> {
     match trouble {
+        // it was said on standard output
+        Trouble::Nobody => {}
         Trouble::Usage => rt.eprintln(trouble)?,
         Trouble::NoMemory | Trouble::NoOutput => eprintln!(rt; "l4x: {trouble}")?,
         other => eprintln!(rt; "l4x: {dir}/space1: {other}")?,

@@ -16,7 +16,7 @@ pub const USAGE: &str = "usage: l4x DIR ROLE, where the role is one of
     get KEY [gateway]          thread 3, which prints the value, or nothing
     sleep MICROSECONDS         thread 4, which sleeps
     names                      thread 255, a name server
-    lookup NAME                thread 3, which prints the live thread of a name, or nothing
+    lookup NAME                thread 3, which prints the live thread of a name, or nothing (status 1)
 
 With --names as the last word a server registers as keyvalue or gateway, and who looks for one asks the name server.
 Without it a server is looked for by its thread number.";
@@ -46,6 +46,10 @@ pub enum Trouble {
     NoNames,
     /// There is no such server.
     NoThread,
+    /// Nobody has the name that was looked for.
+    Nobody,
+    /// The gateway found no server.
+    NotPassed,
     /// The name server did not do what it was asked for.
     Name(NameError),
 }
@@ -60,6 +64,7 @@ impl Trouble {
             Trouble::NoOutput => "standard output failed",
             Trouble::LongMessage => "the message is past its limits",
             Trouble::NoNames => "there is no name server: start l4x DIR names",
+            Trouble::NotPassed => "the gateway found no server: start l4x DIR keyvalue",
             _ => "there is no such server",
         }
     }

@@ -2,9 +2,15 @@
 #![tactic(auto)]
 
 #[cfg(test)]
+mod boxes;
+#[cfg(test)]
 mod compacted;
 #[cfg(test)]
 mod kernel;
+#[cfg(test)]
+mod meetings;
+#[cfg(test)]
+mod parties;
 #[cfg(test)]
 mod seats;
 #[cfg(test)]

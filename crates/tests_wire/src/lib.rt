@@ -26,3 +26,5 @@ mod session;
 mod traces;
 #[cfg(test)]
 mod vectors;
+#[cfg(test)]
+mod writing;

@@ -9,7 +9,7 @@ from dataclasses import dataclass
 from typing import Optional, Tuple
 
 from . import arguments, frames, protocol
-from .errors import BadFrame, Closed, L4Error, Refused, fault
+from .errors import BadFrame, Closed, L4Error, Refused, fault, seconds
 from .waiting import end_of, left_until, pauses
 from .words import ThreadId
 
@@ -86,7 +86,7 @@ def explained(error: Exception, place: Place) -> Exception:
     number = errno.ETIMEDOUT if isinstance(error, (socket.timeout, BlockingIOError)) else error.errno
     if number is None:
         return OSError(errno.EINVAL, str(error), place.path)
-    waited = f", after waiting for {place.wait_for:g} seconds" if place.wait_for else ", and it was not waited for (wait_for=)"
+    waited = f", after waiting for {seconds(place.wait_for)}" if place.wait_for else ", and it was not waited for (wait_for=)"
     return OSError(number, _HELP.get(number, os.strerror(number)).format(waited), place.path)
 
 

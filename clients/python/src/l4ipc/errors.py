@@ -33,6 +33,11 @@ def _bytes(count: int) -> str:
     return f"{count} byte" if count == 1 else f"{count} bytes"
 
 
+def seconds(count: float) -> str:
+    """So many seconds, in words."""
+    return f"{count:g} second" if count == 1 else f"{count:g} seconds"
+
+
 class IpcError(L4Error):
     """A phase of a call failed, as the ErrorCode says. The thread goes on.
 
@@ -65,10 +70,13 @@ class IpcError(L4Error):
         way = "from" if self.phase == RECEIVE else "to"
         who = f"{self.phase} phase {way} {self.partner}" if self.partner else f"{self.phase} phase"
         own = f"{self.thread}: " if self.thread else ""
-        waited = "" if self.waited is None else f", after waiting for {self.waited:g} seconds"
-        return f"{own}{who}: {self.text} (error {self.code:#x}){self._details()}{waited}; {self._delivery()}"
+        waited = "" if self.waited is None else f", after waiting for {seconds(self.waited)}"
+        return f"{own}{who}: {self.text} (error {self.code:#x}){self._details()}{waited}; {self._delivery()}{self._advice()}"
 
     def _details(self) -> str:
+        return ""
+
+    def _advice(self) -> str:
         return ""
 
     def _delivery(self) -> str:
@@ -101,6 +109,13 @@ class NoPartner(IpcError):
         if not self.partner.number or not self.partner.version:
             return f", since that is no id of a thread: ThreadId.of({int(self.partner) & 0x3FF}, 1) makes one of a number"
         return ""
+
+    def _advice(self) -> str:
+        # (`live_thread` looks up to version 63)
+        if self.waited is None or not self.partner.number or not 0 < self.partner.version < 63:
+            return ""
+        later = ThreadId.of(self.partner.number, self.partner.version + 1)
+        return f"; a server that was started again is {later} or later: its name, or names.live_thread, finds it"
 
 
 class Cancelled(IpcError):

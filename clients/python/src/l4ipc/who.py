@@ -23,6 +23,10 @@ MOST_SHOWN = 80
 """How many characters of a command line are printed."""
 
 _HEAD = re.compile(r"threads ([0-9]+)\n")
+_HELP = {
+    errno.ENOENT: "no l4d serves there, or one with --no-control",
+    errno.ECONNREFUSED: "nobody serves there: its l4d has ended",
+}
 _LINE = re.compile(r"([0-9]+)\.([0-9]+)  space ([0-9]+)(?:  socket ([0-9]+))?\n")
 
 
@@ -111,7 +115,8 @@ def _answer(path: str) -> str:
                 return b"".join(iter(lambda: asker.recv(65_536), b"")).decode("ascii", "replace")
             return ""
     except OSError as error:
-        raise OSError(error.errno or errno.ETIMEDOUT, error.strerror or "l4d does not answer", path) from None
+        number = error.errno or errno.ETIMEDOUT
+        raise OSError(number, _HELP.get(number) or error.strerror or "l4d does not answer", path) from None
 
 
 def _meaning(answer: str) -> str:

@@ -56,7 +56,7 @@ class ThreadId(int):
         return special.get(int(self), f"{self.number}.{self.version}")
 
     def __repr__(self) -> str:
-        return f"ThreadId({int(self):#x})"
+        return f"ThreadId.of({self.number}, {self.version})"
 
 
 NILTHREAD = ThreadId(0)

@@ -17,7 +17,7 @@ use crate::difference::{Difference, other_base, other_kept, other_takes, too_ear
 use crate::same::{are_same, is_same_base};
 use ipc_compact::{Base, BaseRoom, base_of};
 use ipc_history::{Entry, Input, Output};
-use ipc_rules::next_output;
+use ipc_waits::next_output;
 use ipc_words::ThreadId;
 use ipc_words::limits::TABLE_SLOTS;
 use std::alloc::{AllocError, Global};

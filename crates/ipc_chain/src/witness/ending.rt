@@ -3,8 +3,8 @@
 use super::calls::sending_call;
 use super::guide::{Guide, Turn, is_receiving, live};
 use ipc_history::{Entry, Input, Output};
-use ipc_rules::is_free;
 use ipc_threads::{Slots, Standing};
+use ipc_waits::is_free;
 use ipc_words::limits::TABLE_SLOTS;
 use ipc_words::{ErrorKind, IpcError, MaskedControl, Phase, ThreadId};
 use std::alloc::AllocError;

@@ -25,8 +25,7 @@ use crate::course::appending::add;
 use ipc_compact::Partners;
 use ipc_desks::{Desks, Finished, Prepared};
 use ipc_history::{Call, EnteredCall, Entry, Input, Output};
-use ipc_rules::reached;
-use ipc_waits::Waiting;
+use ipc_waits::{Waiting, reached};
 use ipc_words::ThreadId;
 
 impl Course {

@@ -5,7 +5,7 @@ ghost use Rattle.ipc_laws.specs.Exchange.{Rests, Waits};
 
 use crate::course::Course;
 use ipc_history::Call;
-use ipc_rules::waits;
+use ipc_waits::waits;
 use ipc_words::ThreadId;
 
 // Where nothing comes behind a call, so that no rule is asked.

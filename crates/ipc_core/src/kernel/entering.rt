@@ -73,30 +73,18 @@ impl Kernel {
         ensures ample { M.is_ample → IfErr result (λ refused. refused.refusal ≢ Refusal.NoMemory) }
     {
         if !self.course.is_live(thread) {
-            return Err(EnterRefused {
-                refusal: Refusal::NoThread,
-                call,
-            });
+            return Err(EnterRefused::of(Refusal::NoThread, call));
         }
         if self.is_busy(thread) {
-            return Err(EnterRefused {
-                refusal: Refusal::Busy,
-                call,
-            });
+            return Err(EnterRefused::of(Refusal::Busy, call));
         }
         let made = self.course.calls_made();
         if made >= self.calls_limit {
-            return Err(EnterRefused {
-                refusal: Refusal::CallsSpent,
-                call,
-            });
+            return Err(EnterRefused::of(Refusal::CallsSpent, call));
         }
         let need = call_need(&call);
         let Some(room) = self.room_for(need) else {
-            return Err(EnterRefused {
-                refusal: Refusal::HistoryFull,
-                call,
-            });
+            return Err(EnterRefused::of(Refusal::HistoryFull, call));
         };
         let number = made + 1;
         let is_normal = call.is_normal();
@@ -110,10 +98,7 @@ impl Kernel {
                 );
                 Ok(number)
             }
-            Err(call) => Err(EnterRefused {
-                refusal: Refusal::NoMemory,
-                call,
-            }),
+            Err(call) => Err(EnterRefused::of(Refusal::NoMemory, call)),
         }
     }
 

@@ -4,10 +4,10 @@ ghost use Rattle.ipc_lines.specs.Lines.{entry_text};
 ghost use Rattle.ipc_shell.specs.Answers.{answer_text};
 ghost use Rattle.ipc_shell.specs.Printing.{entries_text, ended, Answers};
 
+use crate::reading::command_is_readable;
 use ipc_core::{Advance, Answer, Command, ExregAnswer, Kernel};
 use ipc_history::{Entry, Outcome};
 use ipc_lines::{HexText, IdText, entry_line, outcome_line};
-use l4sh_commands::command_is_readable;
 use std::alloc::{AllocError, Global};
 
 /// How many bytes what is printed for a command has room for at first. A longer text grows.

@@ -7,9 +7,9 @@ ghost use Rattle.ipc_waits.specs.Resting.{lets_any_in};
 ghost use Rattle.ipc_waits.specs.Waiting.{IsWaiting};
 
 use crate::queue::Wait;
+use crate::resting::{is_patient, lets_in};
 use crate::waiting::Waiting;
 use ipc_history::Call;
-use ipc_rules::{is_patient, lets_in};
 use ipc_threads::Slots;
 use ipc_words::ThreadId;
 

@@ -1,5 +1,5 @@
 use Rattle.std.proofs.Common.{refl}
-use Rattle.ipc_rules.specs.Rules.{rule_of}
+use Rattle.ipc_waits.specs.Rules.{rule_of}
 use Rattle.ipc_waits.proofs.Bests.{best_more}
 use Rattle.ipc_waits.proofs.next.best_at.Goals as goal
 

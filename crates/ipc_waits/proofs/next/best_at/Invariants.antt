@@ -1,5 +1,5 @@
-use Rattle.ipc_rules.specs.Least.{IsLeast}
-use Rattle.ipc_rules.specs.Rules.{rule_of}
+use Rattle.ipc_waits.specs.Least.{IsLeast}
+use Rattle.ipc_waits.specs.Rules.{rule_of}
 use Rattle.ipc_waits.specs.Next.{slots_at}
 use Rattle.ipc_waits.proofs.next.best_at.Given as goal
 

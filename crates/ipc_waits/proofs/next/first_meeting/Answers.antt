@@ -1,7 +1,7 @@
 use Rattle.std.proofs.Common.{refl, sym, ◌∙◌}
 use Rattle.std.proofs.lemmas.List.Elements.{All-get_or}
 use Rattle.ipc_waits.specs.Next.{IsOpenAt}
-use Rattle.ipc_waits.proofs.Meetings.{meets_here, meets_later, meets_nowhere}
+use Rattle.ipc_waits.proofs.MeetingLemmas.{meets_here, meets_later, meets_nowhere}
 use Rattle.ipc_waits.proofs.next.first_meeting.Goals as goal
 
 pub meeting_by-met-requires : goal.meeting_by-met-requires

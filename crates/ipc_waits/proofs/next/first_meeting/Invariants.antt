@@ -1,4 +1,4 @@
-use Rattle.ipc_waits.proofs.Meetings.{MeetsFrom}
+use Rattle.ipc_waits.proofs.MeetingLemmas.{MeetsFrom}
 use Rattle.ipc_waits.proofs.next.first_meeting.Given as goal
 
 abbrev pub invariant-loop-sender : goal.invariant-loop-sender

@@ -1,6 +1,6 @@
 use Rattle.std.proofs.Common.{◌∙◌, sym, ap, option_copied}
 use Rattle.ipc_waits.specs.Next.{meeting_by}
-use Rattle.ipc_waits.proofs.Meetings.{call_there, none_there}
+use Rattle.ipc_waits.proofs.MeetingLemmas.{call_there, none_there}
 use Rattle.ipc_waits.proofs.next.meeting_by.Goals as goal
 
 pub returns-in_err-call : goal.returns-in_err-call

@@ -1,4 +1,4 @@
-use Rattle.l4sh_options.specs.Command.{named_app}
+use Rattle.l4sh_options.specs.Server.{named_app}
 use Rattle.l4sh_options.proofs.server_words.server_command.Goals as goal
 
 pub returns : goal.returns

@@ -4,7 +4,7 @@ use Rattle.std.specs.Prelude.{IsSomeAnd, string_bytes}
 use Rattle.clap.specs.Words.{App, HasMatchesOf, Row, Text, fault_of, is_simple, is_simple_and_free}
 use Rattle.clap.specs.Words.{subcommand_of, subcommand_rows_of, takes}
 use Rattle.clap.specs.declared.parser.matches.ArgMatches.{ArgMatches}
-use Rattle.l4sh_options.specs.Command.{shell_app}
+use Rattle.l4sh_options.specs.Shell.{shell_app}
 use Rattle.l4sh_options.specs.Shell.{HasMatchesIn, Reads}
 use Rattle.l4sh_options.proofs.Versions.{asked, is_some_fault, told}
 use Rattle.l4sh_options.proofs.shell.options_by.Goals as goal

@@ -1,4 +1,4 @@
-use Rattle.l4sh_options.specs.Command.{shell_named_app}
+use Rattle.l4sh_options.specs.Shell.{shell_named_app}
 use Rattle.l4sh_options.proofs.shell.shell_command.Goals as goal
 
 pub returns : goal.returns

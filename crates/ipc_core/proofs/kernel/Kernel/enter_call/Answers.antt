@@ -20,29 +20,29 @@ use Rattle.ipc_core.proofs.EnteringLemmas.{no_thread, busy, spent, full, test_mo
 use Rattle.ipc_core.proofs.kernel.Kernel.enter_call.Goals as goal
 
 pub returns-then-not-is_live-clause-cause : goal.returns-then-not-is_live-clause-cause
-returns-then-not-is_live-clause-cause g c = inl (no_thread c.args.self.now c.args.thread c.args.call (test_moved (λ l. is_live l c.args.thread) _ _ _ _ _ refl (ap (λ k. k.history) c.self.view_is) c.is_live.ensures c.if-not-is_live.true))
+returns-then-not-is_live-clause-cause g c = inl (no_thread c.args.self.now c.args.thread c.args.call (test_moved (λ l. is_live l c.args.thread) _ _ _ _ _ refl (ap (λ k. k.history) c.self.view_is) c.is_live.ensures c.if-not-is_live.true) ∙ ap Some (sym c.of.ensures.why))
 
 pub returns-then-is_busy-clause-cause : goal.returns-then-is_busy-clause-cause
 returns-then-is_busy-clause-cause g c =
     let live = test_moved (λ l. is_live l c.args.thread) _ _ _ _ _ refl (ap (λ k. k.history) c.self.view_is) c.is_live.ensures c.if-not-is_live.false in
-    inl (busy c.args.self.now c.args.thread c.args.call live (sym c.is_busy.ensures ∙ c.if-is_busy.true))
+    inl (busy c.args.self.now c.args.thread c.args.call live (sym c.is_busy.ensures ∙ c.if-is_busy.true) ∙ ap Some (sym c.of-then-is_busy.ensures.why))
 
 pub returns-then-made-self-clause-cause : goal.returns-then-made-self-clause-cause
 returns-then-made-self-clause-cause g c =
     let live = test_moved (λ l. is_live l c.args.thread) _ _ _ _ _ refl (ap (λ k. k.history) c.self.view_is) c.is_live.ensures c.if-not-is_live.false in
     let made = c.calls_made-made.ensures ∙ ap calls_made (ap (λ k. k.history) c.self.view_is) in
     let limit = ap (λ k. k.calls_limit) c.self.view_is in
-    inl (spent c.args.self.now c.args.thread c.args.call live (sym c.is_busy.ensures ∙ c.if-is_busy.false) (omega (arith, made, limit, c.if-made-self.true)))
+    inl (spent c.args.self.now c.args.thread c.args.call live (sym c.is_busy.ensures ∙ c.if-is_busy.false) (omega (arith, made, limit, c.if-made-self.true)) ∙ ap Some (sym c.of-then-made-self.ensures.why))
 
 pub returns-in_default-clause-cause : goal.returns-in_default-clause-cause
 returns-in_default-clause-cause g c =
     let live = test_moved (λ l. is_live l c.args.thread) _ _ _ _ _ refl (ap (λ k. k.history) c.self.view_is) c.is_live.ensures c.if-not-is_live.false in
     let made = c.calls_made-made.ensures ∙ ap calls_made (ap (λ k. k.history) c.self.view_is) in
     let limit = ap (λ k. k.calls_limit) c.self.view_is in
-    inl (full c.args.self.now c.args.thread c.args.call live (sym c.is_busy.ensures ∙ c.if-is_busy.false) (omega (arith, made, limit, c.if-made-self.false)) (ap (is_full c.args.self.now) (sym c.call_need-need.ensures) ∙ c.in_default.ensures.full.0 refl))
+    inl (full c.args.self.now c.args.thread c.args.call live (sym c.is_busy.ensures ∙ c.if-is_busy.false) (omega (arith, made, limit, c.if-made-self.false)) (ap (is_full c.args.self.now) (sym c.call_need-need.ensures) ∙ c.in_default.ensures.full.0 refl) ∙ ap Some (sym c.of-in_default.ensures.why))
 
 pub returns-in-Err-clause-cause : goal.returns-in-Err-clause-cause
-returns-in-Err-clause-cause g c = inr (passes_entered _ _ _ _ (passes c.args.self.now c.args.thread c.args.call _ _ _ c.calls_made-made.result _ _ _ refl (ap (λ k. k.history) c.self.view_is) (ap (λ k. k.calls_limit) c.self.view_is) c.is_live.ensures c.if-not-is_live.false c.is_busy.ensures c.if-is_busy.false c.calls_made-made.ensures c.if-made-self.false c.call_need-need.ensures c.in-Some.ensures.full), refl)
+returns-in-Err-clause-cause g c = inr (passes_entered _ _ _ _ (passes c.args.self.now c.args.thread c.args.call _ _ _ c.calls_made-made.result _ _ _ refl (ap (λ k. k.history) c.self.view_is) (ap (λ k. k.calls_limit) c.self.view_is) c.is_live.ensures c.if-not-is_live.false c.is_busy.ensures c.if-is_busy.false c.calls_made-made.ensures c.if-made-self.false c.call_need-need.ensures c.in-Some.ensures.full), c.of-in-Err.ensures.why)
 
 pub returns-in-Err-clause-ample : goal.returns-in-Err-clause-ample
 returns-in-Err-clause-ample g c ample =

@@ -1,6 +1,6 @@
 use Rattle.std.proofs.Common.{refl}
 use Rattle.ipc_waits.specs.Next.{slots_at}
-use Rattle.ipc_waits.proofs.Meetings.{least_meeting_none, meeting_more}
+use Rattle.ipc_waits.proofs.MeetingLemmas.{least_meeting_none, meeting_more}
 use Rattle.ipc_waits.proofs.next.ReadWaiting.best_meeting.Goals as goal
 
 pub loop-place-init : goal.loop-place-init

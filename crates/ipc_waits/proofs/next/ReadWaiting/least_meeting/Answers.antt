@@ -1,6 +1,6 @@
 use Rattle.std.proofs.Common.{◌∙◌, sym, ap, subst, length, option_map}
 use Rattle.ipc_waits.specs.Next.{IsLeastMeeting, slots_at}
-use Rattle.ipc_waits.proofs.Meetings.{meeting_is}
+use Rattle.ipc_waits.proofs.MeetingLemmas.{meeting_is}
 use Rattle.ipc_waits.proofs.next.ReadWaiting.least_meeting.Goals as goal
 
 pub returns-in_err-output : goal.returns-in_err-output

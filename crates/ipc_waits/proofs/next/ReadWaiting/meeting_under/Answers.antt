@@ -3,7 +3,7 @@ use Rattle.ipc_history.specs.Calls.{caller_of}
 use Rattle.ipc_history.specs.Words.{first_some}
 use Rattle.ipc_waits.specs.Next.{IsOpenAt, meeting_by}
 use Rattle.ipc_waits.specs.Queues.{IsOrdered, under}
-use Rattle.ipc_waits.proofs.Meetings.{caller_is, own_meeting, receives, receives_not, senders_open, under_meets}
+use Rattle.ipc_waits.proofs.MeetingLemmas.{caller_is, own_meeting, receives, receives_not, senders_open, under_meets}
 use Rattle.ipc_waits.proofs.next.ReadWaiting.meeting_under.Goals as goal
 
 pub first_meeting-requires : goal.first_meeting-requires

@@ -1,11 +1,11 @@
 use Rattle.std.proofs.Common.{◌≡◌, ◌∙◌, sym, ap, subst, option_copied, arith}
 use Rattle.ipc_history.specs.Threads.{now}
-use Rattle.ipc_rules.proofs.Answering.{first_due}
-use Rattle.ipc_rules.specs.Rules.{rule_of}
-use Rattle.ipc_rules.specs.declared.rules.Rule.TheVariants.{Expires}
+use Rattle.ipc_waits.proofs.Answering.{first_due}
+use Rattle.ipc_waits.specs.Rules.{rule_of}
+use Rattle.ipc_waits.specs.declared.rules.Rule.TheVariants.{Expires}
 use Rattle.ipc_waits.specs.Queues.{IsLeastWait, until}
 use Rattle.ipc_waits.proofs.LeastDue.{due_is_open, least_is_due, none_is_due, now_in_range}
-use Rattle.ipc_waits.proofs.Meetings.{call_there, none_there}
+use Rattle.ipc_waits.proofs.MeetingLemmas.{call_there, none_there}
 use Rattle.ipc_waits.proofs.waiting.Waiting.first_timeout.Goals as goal
 
 pub returns-in_err-wait : goal.returns-in_err-wait

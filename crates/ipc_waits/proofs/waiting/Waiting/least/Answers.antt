@@ -1,5 +1,5 @@
 use Rattle.std.proofs.Common.{sym, ap, subst, ◌∙◌, option_map}
-use Rattle.ipc_rules.specs.Rules.{rule_of}
+use Rattle.ipc_waits.specs.Rules.{rule_of}
 use Rattle.ipc_waits.specs.Next.{IsBest}
 use Rattle.ipc_waits.proofs.Bests.{best_is}
 use Rattle.ipc_waits.proofs.waiting.Waiting.least.Goals as goal

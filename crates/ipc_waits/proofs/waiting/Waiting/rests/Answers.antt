@@ -3,7 +3,7 @@ use Rattle.ipc_laws.proofs.Tests.{refuted}
 use Rattle.ipc_waits.specs.Next.{IsOpenAt}
 use Rattle.ipc_waits.specs.Queues.{under}
 use Rattle.ipc_waits.specs.Resting.{lets_any_in}
-use Rattle.ipc_waits.proofs.Resting.{rests_alone, rests_if, those_open}
+use Rattle.ipc_waits.proofs.RestLemmas.{rests_alone, rests_if, those_open}
 use Rattle.ipc_waits.proofs.waiting.Waiting.rests.Goals as goal
 
 not_false : (b : Bool) → not b ≡ false → b ≡ true

@@ -1,7 +1,7 @@
 use Rattle.std.proofs.Common.{◌∙◌, sym, ap, option_copied}
 use Rattle.ipc_history.specs.Matching.{shown_sender}
 use Rattle.ipc_laws.specs.Exchange.{lets_in}
-use Rattle.ipc_waits.proofs.Meetings.{call_there, none_there}
+use Rattle.ipc_waits.proofs.MeetingLemmas.{call_there, none_there}
 use Rattle.ipc_waits.proofs.waiting.resting.lets_one_in.Goals as goal
 
 pub unreachable-requires : goal.unreachable-requires

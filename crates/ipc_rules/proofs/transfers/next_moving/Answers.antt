@@ -1,9 +1,0 @@
-use Rattle.std.proofs.Common.{sym, ap, ◌∙◌, Some}
-use Rattle.ipc_rules.proofs.Answering.{moving_told}
-use Rattle.ipc_rules.proofs.transfers.next_moving.Goals as goal
-
-pub returns-in-Some : goal.returns-in-Some
-returns-in-Some c = ap (λ n. Some n) c.first_number.ensures ∙ moving_told c.args.slots.now.past _ (sym c.in-Some.is ∙ c.least.ensures)
-
-pub returns-in-None : goal.returns-in-None
-returns-in-None c = moving_told c.args.slots.now.past _ (sym c.in-None.is ∙ c.least.ensures)

@@ -1,4 +1,0 @@
-pub mod Rules
-pub mod Least
-pub mod Outputs
-pub mod Resting

@@ -277,13 +277,15 @@ def migration_wrongs(shim, l4sh, trace, new):
         with open(new, "rb") as file:
             return ran, file.read()
 
+    # (the first write is one of the new trace, the other one of what is printed)
+    at_fault = {"read": {}, "write": {1: new}, "open": {1: trace, 2: new}}
     usual, whole = migrate()
     yield "nothing fails", None if usual == (0, b"torn\n", b"") and whole.startswith(b"l4trace 2\n") else f"{usual}, {whole[:100]}"
     for kind in ("read", "write", "open"):
         count = shim.count(words, b"", fail_kind=kind)
         for place in places(count):
             ran, made = migrate(fail_kind=kind, fail_at=place, fail_errno=errno.EIO)
-            wrong = is_as_failed(ran, usual, "migrate", (trace, new)[place - 1] if kind == "open" else None)
+            wrong = is_as_failed(ran, usual, "migrate", at_fault[kind].get(place))
             yield f"{kind} {place} of {count} fails", wrong or (None if whole.startswith(made) else "the new trace is no front of the usual one")
         if kind != "open":
             ran = migrate(fail_kind=kind, one_byte=1)

@@ -62,6 +62,8 @@ CONNECTIONS = 65535
 LONG_RUN = re.compile(rb"([0-9a-f]{2})\1{99,}")
 # Of two lines that are too long, of so many bytes, and of two traces of so many messages, the longer one takes at most so much more memory.
 LONG_LINES, MORE = (MAX_LINE_BYTES + (1 << 20), 24 << 20), 8 << 20
+# How many bytes of what a run says are looked at.
+SAID = 400
 LONG_TRACES = (100, 100_000)
 # The numbers of the threads that send to the first one.
 SENDERS = range(2, 1024)
@@ -267,13 +269,15 @@ def faults_of_progress(l4sh, _):
 
 
 def peak(words):
-    """The status of a run, all that it says, and how many bytes of memory it has at most."""
+    """The status of a run, what it says first, and how many bytes of memory it has at most.
+
+    It begins with the memory of the one that starts it: so no more is held here than is looked at."""
     with tempfile.TemporaryFile() as said:
         ran = subprocess.Popen(words, stdout=said, stderr=said)
         _, status, usage = os.wait4(ran.pid, 0)
         ran.returncode = os.waitstatus_to_exitcode(status)
         said.seek(0)
-        return ran.returncode, said.read(), usage.ru_maxrss * 1024
+        return ran.returncode, said.read(SAID), usage.ru_maxrss * 1024
 
 
 def faults_of_long_lines(l4sh, _):

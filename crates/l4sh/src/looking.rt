@@ -11,7 +11,7 @@ ghost use Rattle.l4sh.specs.declared.looking.Look.TheVariants.{Script};
 
 use crate::counting::counts_of_trace;
 use crate::exit::Exit;
-use crate::last_state::{state_of_trace, state_text};
+use crate::last_state::{past_the_end, state_of_trace, state_text};
 use ipc_base::{PortRead, PortWrite};
 use ipc_check::{Verdict, check};
 use ipc_history::Entry;
@@ -109,7 +109,10 @@ pub(crate) fn tell<W: PortWrite>(
     let (version, entries) = (read.version, read.entries.as_slice());
     match look {
         Look::Script => print_script(alloc, version, entries, writer),
-        Look::StateAt(count) => print_state(alloc, version, front(entries, count), times, writer),
+        Look::StateAt(last) => {
+            let given = entries.len() as u64;
+            print_state(alloc, version, front(entries, last), given, last as u64, times, writer)
+        }
         Look::Counts { is_json } => {
             print_counts(alloc, version, entries, is_json, times, writer)
         }
@@ -185,11 +188,13 @@ fn print_script<W: PortWrite>(
     }
 }
 
-// Prints the state of the threads after these entries.
+// Prints the state of the threads after these entries. So many were given, and were asked for.
 fn print_state<W: PortWrite>(
     alloc: Global,
     version: TraceVersion,
     entries: &[Entry],
+    given: u64,
+    last: u64,
     times: Times,
     writer: &mut W,
 ) -> Exit
@@ -201,7 +206,10 @@ fn print_state<W: PortWrite>(
         (W.written writer.old) (W.written writer.new) }
 {
     match state_of(entries) {
-        Ok(state) => print(state_after(alloc, &state, entries, times), writer),
+        Ok(state) => {
+            let text = state_after(alloc, &state, entries, times);
+            print(with_its_end(text, given, last), writer)
+        }
         Err(index) => illegal_at(version, index),
     }
 }
@@ -215,6 +223,15 @@ fn state_after(
 ) -> Result<String, AllocError> {
     let drops = drops_of(alloc, entries)?;
     state_text(alloc, state, &drops, times)
+}
+
+// The same text, and where fewer entries are given than were asked for, the last of them.
+fn with_its_end(
+    text: Result<String, AllocError>,
+    given: u64,
+    last: u64,
+) -> Result<String, AllocError> {
+    past_the_end(text?, given, last)
 }
 
 // The first entries, so many, or all where there are fewer.

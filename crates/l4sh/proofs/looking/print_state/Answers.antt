@@ -8,5 +8,5 @@ returns-in-Ok-clause-said g c = c.print.ensures.ends c.args.version c.args.entri
 
 pub returns-in-Ok-clause-prints : goal.returns-in-Ok-clause-prints
 returns-in-Ok-clause-prints g c count done =
-    prints_made (λ text. string_bytes text) (look.StateAt count) c.args.entries.now c.state_after.result c.print.result _ _ c.print.ensures.whole c.print.ensures.lost
-    (any_made c.state_after.result) done
+    prints_made (λ text. string_bytes text) (look.StateAt count) c.args.entries.now c.with_its_end.result c.print.result _ _ c.print.ensures.whole c.print.ensures.lost
+    (any_made c.with_its_end.result) done

@@ -110,8 +110,8 @@ pub(crate) fn tell<W: PortWrite>(
     match look {
         Look::Script => print_script(alloc, version, entries, writer),
         Look::StateAt(last) => {
-            let given = entries.len() as u64;
-            print_state(alloc, version, front(entries, last), given, last as u64, times, writer)
+            let (shown, given) = (front(entries, last), entries.len() as u64);
+            print_state(alloc, version, shown, given, last as u64, times, writer)
         }
         Look::Counts { is_json } => {
             print_counts(alloc, version, entries, is_json, times, writer)

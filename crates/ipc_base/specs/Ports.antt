@@ -1,10 +1,14 @@
 -- What a call over a port tells.
-use Rattle.std.specs.Prelude.{ℕ, ◌+◌, ◌*◌, ◌<◌, ◌^◌, List, Option, Result, length, take}
+use Rattle.std.specs.Prelude.{ℕ, ◌+◌, ◌*◌, ◌<◌, ◌≤◌, ◌^◌, List, Option, Result, length, take}
 use Rattle.std.specs.Io.KnownBytes.{Appends, Consumes, Keeps, WriteAppends}
 
 -- a front of these bytes was appended, and not all of them
 abbrev pub AppendsPart : Option (List ℕ) → Option (List ℕ) → List ℕ → Type 0
 AppendsPart old new bytes = (n : ℕ) × (n < length bytes) × Appends old new (take n bytes)
+
+-- a front of these bytes was appended, or all of them
+abbrev pub AppendsFront : Option (List ℕ) → Option (List ℕ) → List ℕ → Type 0
+AppendsFront old new bytes = (n : ℕ) × (n ≤ length bytes) × Appends old new (take n bytes)
 
 -- `read(buf)` put the n bytes that it gave behind those that had come at `Ok(n)`, and nothing at
 -- `Err`

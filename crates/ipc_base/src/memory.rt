@@ -14,11 +14,12 @@ pub trait Memory: Copy {
     /// The allocator itself, for what takes no room.
     fn global(self) -> Global;
 
-    /// An empty list with room for so many items.
+    /// An empty list with room for so many items; room for none is never refused.
     fn with_capacity<X>(self, count: usize) -> Result<Vec<X>, AllocError>
         ensures items { IfOk result (λ v. v.items ≡ []) }
         ensures len { IfOk result (λ v. vec_len v ≡ 0) }
         ensures room { IfOk result (λ v. count ≤ vec_capacity v) }
+        ensures none { count ≡ 0 → IsOk result }
         ensures ample { is_ample → count ≤ ample_items → IsOk result };
 
     /// Room for so many more items.

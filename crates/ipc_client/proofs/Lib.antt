@@ -1,4 +1,3 @@
-pub mod WriteLemmas
 pub mod ReadLemmas
 pub mod ClientLemmas
 pub mod BuildLemmas

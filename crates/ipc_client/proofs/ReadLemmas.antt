@@ -1,6 +1,6 @@
 -- What was taken of a port, part by part, is a frame or the front of one.
-use Rattle.std.proofs.Common.{◌≡◌, ℕ, ◌≤◌, List, [], ◌++◌, Option, Result, Ok, Err, IfOk, IfErr}
-use Rattle.std.proofs.Common.{OnOk, length, take, drop, sym, ap, subst, ◌∙◌, arith}
+use Rattle.std.proofs.Common.{◌≡◌, ◌≢◌, ℕ, ◌≤◌, List, [], ◌++◌, Option, Result, Ok, Err, IfOk, IfErr}
+use Rattle.std.proofs.Common.{IsOk, is_err, true, OnOk, length, take, drop, sym, ap, subst, ◌∙◌, arith}
 use Rattle.std.proofs.lemmas.List.{append-nil, drop_all}
 use Rattle.std.proofs.Math.Seq.{take-append_seam, drop-append_seam}
 use Rattle.std.proofs.KnownBytes.{Consumes-trans}
@@ -82,6 +82,11 @@ pub bad_is_no_device : (side : Side) (bytes : List ℕ) (shown : FrameFault)
     → reading side bytes ≡ Bad shown → IsDeviceFault shown → ⊥
 bad_is_no_device side bytes shown bad = no_device shown (bad_formats side bytes shown bad)
 
+-- nor want of memory
+pub bad_is_memory : (side : Side) (bytes : List ℕ) (shown : FrameFault)
+    → reading side bytes ≡ Bad shown → shown ≢ fault.NoMemory
+bad_is_memory side bytes shown bad none = subst IsFormatFault none (bad_formats side bytes shown bad)
+
 -- bytes of which the next part does not come
 nothing_more : (a b c : Option (List ℕ)) (bytes : List ℕ) → Consumes a b bytes → Consumes b c [] → Consumes a c bytes
 nothing_more a b c bytes taken none = subst (Consumes a c) (append-nil bytes) (Consumes-trans a b c bytes [] taken none)
@@ -112,6 +117,14 @@ if_ok P Q (Err e) f h = tt
 pub if_err : {A E : Type 0} (P Q : E → Type 0) (r : Result A E) → ((e : E) → P e → Q e) → IfErr r P → IfErr r Q
 if_err P Q (Ok a) f h = tt
 if_err P Q (Err e) f h = f e h
+
+pub ok_has_no_err : {A E : Type 0} (r : Result A E) (P : E → Type 0) → IsOk r → IfErr r P
+ok_has_no_err (Ok a) P h = tt
+ok_has_no_err (Err e) P h = absurd (cc)
+
+pub ok_is_no_err : {A E : Type 0} (r : Result A E) → IsOk r → is_err r ≡ true → ⊥
+ok_is_no_err (Ok a) h k = absurd (cc)
+ok_is_no_err (Err e) h k = absurd (cc)
 
 pub on_ok : {A E X : Type 0} (r : Result A E) → X → OnOk r X
 on_ok (Ok a) x = x

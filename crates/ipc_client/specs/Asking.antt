@@ -21,7 +21,7 @@ use Rattle.ipc_client.specs.declared.answer.Registers.TheVariants as registers
 use Rattle.ipc_client.specs.ClientParts.{ClientParts}
 use Rattle.ipc_client.specs.Devices.{IsDeviceFault}
 use Rattle.ipc_client.specs.Reading.{TakesFrame, TakesNoFrame}
-use Rattle.ipc_client.specs.Writing.{AppendsFront}
+use Rattle.ipc_base.specs.Ports.{AppendsFront}
 
 -- the frames of the answers
 abbrev pub greeting_frame : Greeting → Frame

@@ -1,5 +1,4 @@
 pub mod Devices
-pub mod Writing
 pub mod Reading
 pub mod Messages
 pub mod ClientParts

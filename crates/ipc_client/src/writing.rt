@@ -1,55 +1,16 @@
 //! A frame through a port.
-ghost use Rattle.std.specs.Prelude.{◌≡◌, ◌<◌, [], true, false, length, OnOk, OnErr, IfOk, IfErr};
+ghost use Rattle.std.specs.Prelude.{◌≡◌, ◌<◌, true, OnOk, OnErr, IfErr};
 ghost use Rattle.std.specs.Io.KnownBytes.{Appends};
+ghost use Rattle.ipc_base.specs.Ports.{AppendsFront};
 ghost use Rattle.ipc_frame.specs.Frames.{spelling};
-ghost use Rattle.ipc_base.specs.Ports.{AppendsPart};
 ghost use Rattle.ipc_client.specs.Devices.{IsDeviceFault};
-ghost use Rattle.ipc_client.specs.Writing.{AppendsFront, Writes};
 
 use crate::device::device_fault;
-use ipc_base::{PortFault, PortWrite, write_all};
-use ipc_frame::{Encoder, Frame, FrameFault};
+use ipc_base::PortWrite;
+use ipc_frame::{Encoder, Frame, FrameFault, write_encoder};
 
 /// How many bytes are spelled at once. So many of a payload go out from where they stand.
 const PIECE: usize = 8192;
-
-// Writes the next bytes of an encoder; false where none are left.
-fn write_piece<P: PortWrite>(
-    port: &mut P,
-    encoder: &mut Encoder,
-    piece: &mut [u8; PIECE],
-) -> Result<bool, PortFault>
-    ensures wrote { OnOk result (Writes (P.written port.old) (P.written port.new)
-        encoder.old encoder.new) }
-    ensures more { IfOk result (λ more. more ≡ true → length encoder.new < length encoder.old) }
-    ensures done { IfOk result (λ more. more ≡ false → encoder.old ≡ []) }
-    ensures part { OnErr result (AppendsPart (P.written port.old)
-        (P.written port.new) encoder.old) }
-    ensures failed { OnErr result (P.failures port.old < P.failures port.new) }
-    ensures kept { OnOk result (P.failures port.new ≡ P.failures port.old) }
-{
-    let bytes = encoder.next_bytes(piece);
-    let count = bytes.len();
-    if count == 0 {
-        return Ok(false);
-    }
-    write_all(port, bytes)?;
-    encoder.pass(count);
-    Ok(true)
-}
-
-// Writes the bytes of an encoder, in as few writes as they need.
-fn write_encoder<P: PortWrite>(port: &mut P, encoder: &mut Encoder) -> Result<(), PortFault>
-    ensures whole { OnOk result (Appends (P.written port.old) (P.written port.new) encoder.old) }
-    ensures part { OnErr result (AppendsPart (P.written port.old)
-        (P.written port.new) encoder.old) }
-    ensures failed { OnErr result (P.failures port.old < P.failures port.new) }
-    ensures kept { OnOk result (P.failures port.new ≡ P.failures port.old) }
-{
-    let mut piece = [0u8; PIECE];
-    'pieces: while write_piece(port, encoder, &mut piece)? {}
-    Ok(())
-}
 
 // Writes the bytes of an encoder, and flushes the port.
 fn write_through<P: PortWrite>(port: &mut P, encoder: &mut Encoder) -> Result<(), FrameFault>
@@ -61,7 +22,7 @@ fn write_through<P: PortWrite>(port: &mut P, encoder: &mut Encoder) -> Result<()
     ensures failed { OnErr result (P.failures port.old < P.failures port.new) }
     ensures kept { OnOk result (P.failures port.new ≡ P.failures port.old) }
 {
-    if let Err(fault) = write_encoder(port, encoder) {
+    if let Err(fault) = write_encoder(port, encoder, &mut [0u8; PIECE]) {
         return Err(device_fault(fault));
     }
     match port.flush() {

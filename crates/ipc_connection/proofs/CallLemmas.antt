@@ -135,6 +135,24 @@ module _ (ipc : IpcParts) (asks : Bool) (timely : has_time_point ipc ≡ false) 
 pub lacks_words : (ipc : IpcParts) → (sends ipc && nat_lt 0 (length ipc.words) ≡ false → false ≡ true) → asks_memory ipc ≡ true
 lacks_words ipc h = or_left _ _ (asked _ h)
 
+-- a call that is read has no time point, and its strings and buffer strings are read
+both_read : {A B F : Type 0} (first : Result A F) (second : Result B F) → IsOk (both first second) → IsOk first × IsOk second
+both_read (Err fault) second h = absurd (cc)
+both_read (Ok a) (Err fault) h = absurd (cc)
+both_read (Ok a) (Ok b) h = (refl, refl)
+
+lists_read_of : (ipc : IpcParts) (lists : Result (List (List ℕ) × List (List Substring)) ItemFault) → IsOk (of_lists ipc lists) → IsOk lists
+lists_read_of ipc (Err fault) h = absurd (cc)
+lists_read_of ipc (Ok lists) h = refl
+
+pub lists_there : (ipc : IpcParts) → has_time_point ipc ≡ false → IsOk (call_of ipc) → IsOk (strings_in ipc) × IsOk (buffers_in ipc)
+unfolding call_of
+lists_there ipc timely h = both_read (strings_in ipc) (buffers_in ipc) (lists_read_of ipc (lists_in ipc) (rw timely at h))
+
+pub no_time_point : (ipc : IpcParts) → has_time_point ipc ≡ true → IsOk (call_of ipc) → ⊥
+unfolding call_of
+no_time_point ipc timed h = let failed = rw timed at h in absurd (cc)
+
 pub is_timely : (test : Bool) → (test ≡ true → true ≡ false) → test ≡ false
 is_timely true h = h refl
 is_timely false h = refl

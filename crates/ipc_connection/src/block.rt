@@ -1,10 +1,11 @@
 //! The memory of a payload that comes in pieces.
-ghost use Rattle.std.specs.Prelude.{◌≡◌, ℕ, true, ◌<◌, ◌≤◌, ◌+◌, ◌^◌, ◌++◌, ◌==◌, [], length, take, OnErr, OnOk};
+ghost use Rattle.std.specs.Prelude.{◌≡◌, ℕ, true, ◌<◌, ◌≤◌, ◌+◌, ◌^◌, ◌++◌, ◌==◌, [], length, take, IsOk, OnErr, OnOk};
+ghost use Rattle.ipc_base.specs.Memory.{ample_items};
 ghost use Rattle.ipc_base.specs.Ports.{input_of};
 ghost use Rattle.ipc_connection.specs.ReadOn.{Fails, ReadsInto};
 
 use crate::blocks::Blocks;
-use ipc_base::{PortFault, PortRead};
+use ipc_base::{Memory, PortFault, PortRead};
 use std::alloc::{AllocError, Global};
 use std::marker::Model;
 
@@ -33,16 +34,23 @@ impl Model for Block {
 
 // Puts bytes behind the first ones of a list. Where there are no first ones, it gets its room at
 // once.
-fn append(list: &mut Vec<u8>, filled: usize, bytes: &[u8], wanted: usize) -> Result<(), AllocError>
+fn append<M: Memory>(
+    memory: M,
+    list: &mut Vec<u8>,
+    filled: usize,
+    bytes: &[u8],
+    wanted: usize,
+) -> Result<(), AllocError>
     requires { filled ≤ length list.old.items }
     ensures ok { OnOk result (list.new.items ≡ take filled list.old.items ++ bytes.now) }
     ensures err { OnErr result (list.new.items ≡ take filled list.old.items) }
+    ensures ample { M.is_ample → wanted ≤ ample_items → IsOk result }
 {
     list.truncate(filled);
     if filled == 0 {
-        list.reserve_exact(wanted)?;
+        memory.reserve(list, wanted)?;
     }
-    list.extend_from_slice(bytes)
+    memory.extend(list, bytes)
 }
 
 // Makes a list at least so long, by zeros. False where there is no memory for them.
@@ -100,20 +108,22 @@ impl Block {
     }
 
     /// Puts bytes behind those that have come. The first ones bring room for as many as are wanted.
-    pub(crate) fn store<B: Blocks>(
+    pub(crate) fn store<M: Memory, B: Blocks>(
         &mut self,
+        memory: M,
         bytes: &[u8],
         wanted: usize,
         blocks: &mut B,
     ) -> Result<(), AllocError>
         ensures ok { OnOk result (self.new ≡ self.old ++ bytes.now) }
         ensures err { OnErr result (self.new ≡ self.old) }
+        ensures ample { M.is_ample → wanted ≤ ample_items → IsOk result }
     {
         self.begin(wanted, blocks);
         if bytes.len() <= self.bytes.len() - self.filled {
             self.bytes[self.filled..self.filled + bytes.len()].copy_from_slice(bytes);
         } else {
-            append(&mut self.bytes, self.filled, bytes, wanted)?;
+            append(memory, &mut self.bytes, self.filled, bytes, wanted)?;
         }
         self.filled += bytes.len();
         Ok(())

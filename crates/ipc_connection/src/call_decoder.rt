@@ -10,14 +10,15 @@ use crate::blocks::{Blocks, NoBlocks};
 use crate::heard::Heard;
 use crate::held::{Held, hear};
 use crate::whole::bare_frame;
-use ipc_base::{PortFault, PortRead};
+use ipc_base::{Memory, PortFault, PortRead};
 use ipc_frame::{FrameFault, Judgement};
 use std::alloc::Global;
 use std::marker::Model;
 
 // Takes bytes from the front of a piece up to the end of the frame that has begun: how many, and
 // whether the frame is whole.
-pub(crate) fn fill<B: Blocks>(
+pub(crate) fn fill<M: Memory, B: Blocks>(
+    memory: M,
     held: &mut Held,
     piece: &[u8],
     blocks: &mut B,
@@ -26,6 +27,7 @@ pub(crate) fn fill<B: Blocks>(
     ensures fills { ForGone held.old (λ bytes. FillsUp bytes piece.now held.new result) }
     ensures rest { (used : ℕ) → result ≡ Ok (used, false)
         → ForGone held.new (λ bytes. IsUnfinished bytes) }
+    ensures ample { M.is_ample → held.old.lost ≡ 0 → held.new.lost ≡ 0 }
 {
     let mut used = 0;
     loop {
@@ -38,7 +40,7 @@ pub(crate) fn fill<B: Blocks>(
                     return Ok((used, false));
                 }
                 let count = next.len().min(wanted);
-                used += held.keep(&next[..count], wanted, blocks);
+                used += held.keep(memory, &next[..count], wanted, blocks);
             }
         }
     }
@@ -152,7 +154,7 @@ impl CallDecoder {
         if self.spent {
             return Err(FrameFault::Spent);
         }
-        let found = match fill(&mut self.held, piece, blocks) {
+        let found = match fill(self.alloc, &mut self.held, piece, blocks) {
             Ok(found) => found,
             Err(fault) => {
                 self.spent = true;

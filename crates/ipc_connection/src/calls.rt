@@ -14,11 +14,12 @@ ghost use Rattle.ipc_connection.specs.Reads.{Reads};
 ghost use Rattle.ipc_items.specs.Buffers.{AreBuffers};
 
 use crate::payload::Payload;
+use ipc_base::{Memory, from_slice};
 use ipc_frame::{FrameFault, IpcFrame};
 use ipc_history::{Call, CallFields};
 use ipc_items::{BufferList, ItemFault, StringList};
 use ipc_words::{MsgTag, Period, ThreadId, Timeouts};
-use std::alloc::{AllocError, Global};
+use std::alloc::AllocError;
 
 /// The numbers of an IPC frame that come before its words.
 #[derive(Drop)]
@@ -106,9 +107,9 @@ impl IpcHead {
 
     // The strings that the words behind the untyped ones spell over the payload.
     #[tactic(auto, unfolding(ipc_items::specs::ItemWords::items_of))]
-    fn strings(
+    fn strings<M: Memory>(
         &self,
-        alloc: Global,
+        memory: M,
         words: &[u64],
         payload: Payload<'_>,
     ) -> Result<StringList, ItemFault>
@@ -123,20 +124,26 @@ impl IpcHead {
             → IsOkUnless result ItemFault.NoMemory }
         ensures lean { sends (head_of self.now) && nat_lt 0 (length words.now)
             ≡ false → IsOk result }
+        ensures ample { M.is_ample → IsOk (strings_in (parts_of self.now words.now []
+            (payload_of payload.entry))) → IsOk result }
     {
         if !self.sends() {
-            return Ok(StringList::new(alloc));
+            return Ok(StringList::new(memory.global()));
         }
         let items = &words[self.tag.untyped() as usize..];
         if items.is_empty() {
-            return Ok(StringList::new(alloc));
+            return Ok(StringList::new(memory.global()));
         }
-        payload.strings(alloc, items)
+        payload.strings(memory, items)
     }
 
     // The buffer strings that the buffer words spell, None where no strings are accepted.
     #[tactic(auto, unfolding(ipc_items::specs::ItemWords::items_of))]
-    fn buffers(&self, alloc: Global, buffer_words: &[u64]) -> Result<Option<BufferList>, ItemFault>
+    fn buffers<M: Memory>(
+        &self,
+        memory: M,
+        buffer_words: &[u64],
+    ) -> Result<Option<BufferList>, ItemFault>
         requires { length buffer_words.now ≤ max_buffer_words }
         ensures ok { IfOk result (λ list.
             buffers_in (parts_of self.now [] buffer_words.now []) ≡ Ok (unwrap_or list [])) }
@@ -148,20 +155,22 @@ impl IpcHead {
         ensures lean { IsOk (buffers_in (parts_of self.now [] buffer_words.now []))
             → accepts_strings (head_of self.now) && nat_lt 0 (length buffer_words.now)
             ≡ false → IsOk result }
+        ensures ample { M.is_ample → IsOk (buffers_in (parts_of self.now [] buffer_words.now []))
+            → IsOk result }
     {
         if !self.accepts_strings() {
             return Ok(None);
         }
         if buffer_words.is_empty() {
-            return Ok(Some(BufferList::new(alloc)));
+            return Ok(Some(BufferList::new(memory.global())));
         }
-        Ok(Some(BufferList::read(alloc, buffer_words)?))
+        Ok(Some(BufferList::read(memory, buffer_words)?))
     }
 
     // Its strings and its buffer strings. The faults of buffer items come before want of memory.
-    fn lists(
+    fn lists<M: Memory>(
         &self,
-        alloc: Global,
+        memory: M,
         words: &[u64],
         buffer_words: &[u64],
         payload: Payload<'_>,
@@ -174,9 +183,12 @@ impl IpcHead {
         ensures reads { Reads ItemFault.NoMemory
             (lists_in (parts_of self.now words.now buffer_words.now (payload_of payload.entry)))
             (asks_memory (parts_of self.now words.now buffer_words.now [])) (both_lists result) }
+        ensures ample { M.is_ample
+            → IsOk (strings_in (parts_of self.now words.now [] (payload_of payload.entry)))
+            → IsOk (buffers_in (parts_of self.now [] buffer_words.now [])) → IsOk result }
     {
-        let buffers = self.buffers(alloc, buffer_words);
-        match self.strings(alloc, words, payload) {
+        let buffers = self.buffers(memory, buffer_words);
+        match self.strings(memory, words, payload) {
             Ok(strings) => match buffers {
                 Ok(buffers) => Ok((strings, buffers)),
                 Err(fault) => Err(fault),
@@ -234,25 +246,24 @@ fn are_buffers(buffers: &Option<BufferList>)
 }
 
 // A copy of words. None of no words takes memory.
-fn copy_words(alloc: Global, words: &[u64]) -> Result<Vec<u64>, AllocError>
+fn copy_words<M: Memory>(memory: M, words: &[u64]) -> Result<Vec<u64>, AllocError>
     ensures ok { IfOk result (λ copy. copy.items ≡ words.now) }
     ensures lean { length words.now ≡ 0 → IsOk result }
+    ensures ample { M.is_ample → IsOk result }
 {
     if words.is_empty() {
-        return Ok(Vec::new(alloc));
+        return Ok(Vec::new(memory.global()));
     }
-    let mut copy = Vec::with_capacity(alloc, words.len())?;
-    copy.extend_from_slice(words)?;
-    Ok(copy)
+    from_slice(memory, words)
 }
 
 impl IpcHead {
     ghost use Rattle.ipc_connection.specs.Frames.{head_of, parts_of};
 
     // The call of these periods, strings and buffer strings, with the words that are sent.
-    fn normal_call(
+    fn normal_call<M: Memory>(
         &self,
-        alloc: Global,
+        memory: M,
         periods: (Period, Period),
         words: &[u64],
         strings: StringList,
@@ -270,9 +281,10 @@ impl IpcHead {
             call ≡ normal_call (parts_of self.now words.now [] []) strings (unwrap_or buffers [])) }
         ensures lean { sends (head_of self.now) && nat_lt 0 (length words.now)
             ≡ false → IsOk result }
+        ensures ample { M.is_ample → IsOk result }
     {
         are_buffers(&buffers);
-        let words = copy_words(alloc, self.untyped_words(words))?;
+        let words = copy_words(memory, self.untyped_words(words))?;
         let tag = self.received(&strings);
         let fields = CallFields {
             to: self.to,
@@ -289,9 +301,9 @@ impl IpcHead {
     }
 
     /// The call of a frame with these words, buffer words and payload.
-    pub(crate) fn call(
+    pub(crate) fn call<M: Memory>(
         &self,
-        alloc: Global,
+        memory: M,
         words: &[u64],
         buffer_words: &[u64],
         payload: Payload<'_>,
@@ -299,16 +311,19 @@ impl IpcHead {
         requires words { length words.now ≡ words_of self.now.tag }
         requires few_words { words_of self.now.tag ≤ max_message_words }
         requires few_buffer_words { length buffer_words.now ≤ max_buffer_words }
-        ensures { Reads FrameFault.NoMemory (call_of
+        ensures reads { Reads FrameFault.NoMemory (call_of
             (parts_of self.now words.now buffer_words.now (payload_of payload.entry)))
             (asks_memory (parts_of self.now words.now buffer_words.now [])) result }
+        ensures ample { M.is_ample → IsOk (call_of
+            (parts_of self.now words.now buffer_words.now (payload_of payload.entry)))
+            → IsOk result }
     {
         let Some(periods) = self.periods() else {
             return Err(FrameFault::TimePoint);
         };
-        match self.lists(alloc, words, buffer_words, payload) {
+        match self.lists(memory, words, buffer_words, payload) {
             Ok((strings, buffers)) => {
-                match self.normal_call(alloc, periods, words, strings, buffers) {
+                match self.normal_call(memory, periods, words, strings, buffers) {
                     Ok(call) => Ok(call),
                     Err(_) => Err(FrameFault::NoMemory),
                 }
@@ -323,12 +338,13 @@ impl IpcHead {
 /// Err in this order: F12, a time point of a phase that is there; F5 to F8, the first fault of the
 /// string items, where there is a send phase; F5 or F6, the first fault of the buffer items, where
 /// there is a receive phase that accepts strings; F14, where there is no memory for copies of words
-/// and strings or for the buffer strings.
-pub fn call_of(alloc: Global, ipc: &IpcFrame) -> Result<Call, FrameFault>
+/// and strings or for the buffer strings, and not where the memory that is lent is ample.
+pub fn call_of<M: Memory>(memory: M, ipc: &IpcFrame) -> Result<Call, FrameFault>
     ensures ok { IfOk result (λ call. call_of ipc.now ≡ Ok call) }
     ensures fault { IfErr (call_of ipc.now) (λ fault. result ≡ Err fault) }
     ensures memory { IsOk (call_of ipc.now) → IsOkUnless result FrameFault.NoMemory }
     ensures lean { IsOk (call_of ipc.now) → asks_memory ipc.now ≡ false → IsOk result }
+    ensures ample { M.is_ample → IsOk (call_of ipc.now) → IsOk result }
 {
     ipc.is_frame();
     let head = IpcHead {
@@ -340,7 +356,7 @@ pub fn call_of(alloc: Global, ipc: &IpcFrame) -> Result<Call, FrameFault>
         acceptor: ipc.acceptor(),
     };
     head.call(
-        alloc,
+        memory,
         ipc.words(),
         ipc.buffer_words(),
         Payload::Lent(ipc.payload()),

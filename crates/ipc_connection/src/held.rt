@@ -1,5 +1,6 @@
 ghost use Rattle.std.specs.Prelude.{◌≡◌, ◌<◌, ◌≤◌, ◌+◌, ◌*◌, ◌^◌, ◌++◌, ◌==◌, ℕ, List, [], length};
 ghost use Rattle.std.specs.Prelude.{take, drop, OnErr, OnOk, if◌then◌else◌};
+ghost use Rattle.ipc_base.specs.Memory.{ample_items};
 ghost use Rattle.ipc_frame.specs.Numbers.{IsBytes, number_in, words_in};
 ghost use Rattle.ipc_frame.specs.Parts.{IpcParts};
 ghost use Rattle.ipc_connection.specs.CallOf.{call_of, asks_memory, has_time_point};
@@ -15,7 +16,7 @@ use crate::calls::IpcHead;
 use crate::heard::Heard;
 use crate::payload::Payload;
 use byteorder::{BigEndian, ByteOrder};
-use ipc_base::{PortFault, PortRead};
+use ipc_base::{Memory, PortFault, PortRead};
 use ipc_frame::{Frame, FrameFault, Judgement, Side, WireVersion, judge};
 use ipc_history::Call;
 use ipc_words::limits::{BLOCK_BYTES, MAX_BUFFER_WORDS, MAX_MESSAGE_WORDS};
@@ -230,12 +231,20 @@ impl Held {
 
     /// Takes bytes from the front of these, at least one, where so many are wanted, and says how
     /// many. A long payload is kept in a block that was used before, if there is one.
-    pub(crate) fn keep<B: Blocks>(&mut self, bytes: &[u8], wanted: usize, blocks: &mut B) -> usize
+    pub(crate) fn keep<M: Memory, B: Blocks>(
+        &mut self,
+        memory: M,
+        bytes: &[u8],
+        wanted: usize,
+        blocks: &mut B,
+    ) -> usize
         requires some { 0 < length bytes.now }
         requires few { length self.old.bytes + self.old.lost + length bytes.now < 2 ^ 32 }
         ensures some { 0 < result }
         ensures within { result ≤ length bytes.now }
         ensures keeps { Keeps self.old (take result bytes.now) self.new }
+        ensures ample { M.is_ample → wanted ≤ ample_items → self.old.lost ≡ 0
+            → self.new.lost ≡ 0 }
     {
         let start = if self.len < HEAD {
             HEAD
@@ -248,7 +257,7 @@ impl Held {
             self.len += count;
             return count;
         }
-        if self.lost > 0 || self.payload.store(bytes, wanted, blocks).is_err() {
+        if self.lost > 0 || self.payload.store(memory, bytes, wanted, blocks).is_err() {
             self.lost += bytes.len();
         }
         bytes.len()

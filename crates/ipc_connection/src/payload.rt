@@ -4,8 +4,8 @@ ghost use Rattle.ipc_words.specs.Limits.{max_message_words};
 ghost use Rattle.ipc_items.specs.StringItem.{string_reading};
 ghost use Rattle.ipc_connection.specs.Payloads.{payload_of};
 
+use ipc_base::Memory;
 use ipc_items::{ItemFault, StringList};
-use std::alloc::Global;
 
 /// The bytes of a payload, as they are had.
 #[derive(Drop)]
@@ -18,7 +18,11 @@ pub(crate) enum Payload<'a> {
 
 impl Payload<'_> {
     /// The strings that string items spell over it, or the first fault.
-    pub(crate) fn strings(self, alloc: Global, words: &[u64]) -> Result<StringList, ItemFault>
+    pub(crate) fn strings<M: Memory>(
+        self,
+        memory: M,
+        words: &[u64],
+    ) -> Result<StringList, ItemFault>
         requires { length words.now ≤ max_message_words }
         ensures ok { IfOk result (λ list. string_reading words.now
             (payload_of self.entry) ≡ Ok list) }
@@ -26,10 +30,12 @@ impl Payload<'_> {
             (λ fault. result ≡ Err fault) }
         ensures memory { IsOk (string_reading words.now (payload_of self.entry))
             → IsOkUnless result ItemFault.NoMemory }
+        ensures ample { M.is_ample → IsOk (string_reading words.now (payload_of self.entry))
+            → IsOk result }
     {
         match self {
-            Payload::Lent(bytes) => StringList::read(alloc, words, bytes),
-            Payload::Given(bytes) => StringList::cut(alloc, words, bytes),
+            Payload::Lent(bytes) => StringList::read(memory, words, bytes),
+            Payload::Given(bytes) => StringList::cut(memory, words, bytes),
         }
     }
 }

@@ -1,15 +1,16 @@
 ghost use Rattle.std.specs.Prelude.{◌≡◌, ◌<◌, ◌≤◌, ◌+◌, [], ◌++◌, min, take, drop, length, true};
-ghost use Rattle.std.specs.Prelude.{IfOk, OnOk};
+ghost use Rattle.std.specs.Prelude.{IfOk, IsOk, OnOk};
 ghost use Rattle.ipc_frame.specs.Frames.{spelling};
 ghost use Rattle.ipc_frame.specs.Replies.{ipcr_of};
 ghost use Rattle.ipc_connection.specs.declared.stage.Stage.TheVariants.{Greeting};
 ghost use Rattle.ipc_frame.specs.declared.version.WireVersion.TheVariants.{One};
 ghost use Rattle.ipc_exchange.specs.Service.{serves_number, told_connection};
 
+use ipc_base::Memory;
 use ipc_connection::{Stage, Told, next_stage, next_version, reply};
 use ipc_frame::{Encoder, WireVersion};
 use ipc_history::Outcome;
-use std::alloc::{AllocError, Global};
+use std::alloc::AllocError;
 use std::collections::VecDeque;
 use std::marker::Model;
 
@@ -44,16 +45,17 @@ impl Model for Connection {
 
 impl Connection {
     /// A connection that comes from a space, with room for a fault.
-    pub(crate) fn new(alloc: Global, space: u32) -> Result<Connection, AllocError>
+    pub(crate) fn new<M: Memory>(memory: M, space: u32) -> Result<Connection, AllocError>
         ensures connection { IfOk result (λ roomy. roomy.connection
             ≡ record { space = space; stage = Greeting; version = One; out = [] }) }
         ensures free { IfOk result (λ roomy. 1 ≤ roomy.free) }
+        ensures ample { M.is_ample → IsOk result }
     {
         Ok(Connection {
             space,
             stage: Stage::Greeting,
             version: WireVersion::One,
-            queue: VecDeque::with_capacity(alloc, 1)?,
+            queue: VecDeque::from_vec(memory.with_capacity(1)?),
         })
     }
 
@@ -87,6 +89,7 @@ impl Connection {
         ensures connection { self.new.connection ≡ self.old.connection }
         ensures free { self.old.free ≤ self.new.free }
         ensures ok { OnOk result (3 ≤ self.new.free) }
+        ensures roomy { 3 ≤ self.old.free → IsOk result }
     {
         self.queue.reserve(3)
     }

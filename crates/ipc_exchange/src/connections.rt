@@ -1,5 +1,6 @@
 ghost use Rattle.std.specs.Prelude.{◌≡◌, ◌<◌, ◌≤◌, ◌+◌, ℕ, [], ◌∷◌, ◌++◌, min, take, drop, length, slice_set};
-ghost use Rattle.std.specs.Prelude.{IfSome, IsNone, OnOk, OnErr};
+ghost use Rattle.std.specs.Prelude.{IfSome, IsNone, IsOk, OnOk, OnErr};
+ghost use Rattle.ipc_base.specs.Memory.{ample_items};
 ghost use Rattle.ipc_frame.specs.Frames.{spelling};
 ghost use Rattle.ipc_frame.specs.Replies.{ipcr_of};
 ghost use Rattle.ipc_frame.specs.declared.version.WireVersion.TheVariants.{One};
@@ -9,6 +10,7 @@ ghost use Rattle.ipc_exchange.specs.Rooms.{RoomyConnection, roomy_at, stage_at};
 
 use crate::connection::Connection;
 use crate::pending::Pending;
+use ipc_base::Memory;
 use ipc_connection::{Stage, Told};
 use ipc_history::Outcome;
 use std::alloc::{AllocError, Global};
@@ -87,7 +89,7 @@ impl Connections {
     }
 
     /// One more connection, from a space, with room for a fault.
-    pub(crate) fn push(&mut self, alloc: Global, space: u32) -> Result<(), AllocError>
+    pub(crate) fn push<M: Memory>(&mut self, memory: M, space: u32) -> Result<(), AllocError>
         ensures ok { OnOk result ((roomy : RoomyConnection) × (self.new ≡ self.old ++ roomy ∷ [])
             × (roomy.connection ≡ record {
               space = space;
@@ -96,10 +98,11 @@ impl Connections {
               out = [];
             }) × (1 ≤ roomy.free)) }
         ensures err { OnErr result (self.new ≡ self.old) }
+        ensures ample { M.is_ample → length self.old < ample_items → IsOk result }
     {
-        let connection = Connection::new(alloc, space)?;
-        self.connections.reserve(1)?;
-        self.pending.grow()?;
+        let connection = Connection::new(memory, space)?;
+        memory.reserve(&mut self.connections, 1)?;
+        self.pending.grow(memory)?;
         self.connections.push_reserved(connection);
         Ok(())
     }
@@ -111,6 +114,7 @@ impl Connections {
             × (roomy.connection ≡ (roomy_at self.old place).connection)
             × ((roomy_at self.old place).free ≤ roomy.free) }
         ensures ok { OnOk result (3 ≤ (roomy_at self.new place).free) }
+        ensures roomy { 3 ≤ (roomy_at self.old place).free → IsOk result }
     {
         self.connections[place].reserve()
     }

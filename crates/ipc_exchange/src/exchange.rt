@@ -1,4 +1,4 @@
-ghost use Rattle.std.specs.Prelude.{◌≡◌, ◌<◌, ◌≤◌, ◌+◌, ℕ, [], false, length, min, take, drop, nat_le, if◌then◌else◌};
+ghost use Rattle.std.specs.Prelude.{◌≡◌, ◌<◌, ◌≤◌, ◌+◌, ◌≢◌, ℕ, [], false, length, min, take, drop, nat_le, if◌then◌else◌};
 ghost use Rattle.std.specs.Prelude.{IfOk, IfErr, IfSome, IsNone, OnErr};
 ghost use Rattle.ipc_words.specs.Limits.{max_calls, max_connections, max_entries};
 ghost use Rattle.ipc_history.specs.Legal.{Legal, Quiet};
@@ -11,6 +11,7 @@ ghost use Rattle.ipc_exchange.specs.Exchange.{Happened, Shows, progress_of};
 use crate::feeding::{close_connection, feed_connection};
 use crate::progress::{ConnectRefused, Progress};
 use crate::service::Service;
+use ipc_base::Memory;
 use ipc_connection::CallDecoder;
 use ipc_core::Limits;
 use ipc_history::Entries;
@@ -63,14 +64,32 @@ impl Exchange {
         ensures few { IfOk result (λ number. number ≤ max_connections) }
         ensures err { OnErr result (self.new ≡ self.old) }
     {
+        let alloc = self.alloc;
+        self.connect_in(alloc, space)
+    }
+
+    /// As [`Exchange::connect`], with memory that is lent: where it is ample, want of memory is not
+    /// the answer.
+    pub fn connect_in<M: Memory>(&mut self, memory: M, space: u32) -> Result<usize, ConnectRefused>
+        ensures ok { IfOk result (λ number. number ≡ length self.old.service.connections + 1) }
+        ensures happened { IfOk result (λ number. Happened self.old (Connect space) self.new) }
+        ensures cause { IfErr result (λ refused. refused
+            ≡ (if nat_le max_connections (length self.old.service.connections)
+            then ConnectRefused.TooMany
+            else ConnectRefused.NoMemory)) }
+        ensures few { IfOk result (λ number. number ≤ max_connections) }
+        ensures err { OnErr result (self.new ≡ self.old) }
+        ensures ample { M.is_ample
+            → IfErr result (λ refused. refused ≢ ConnectRefused.NoMemory) }
+    {
         let count = self.service.len();
         if count >= MAX_CONNECTIONS as usize {
             return Err(ConnectRefused::TooMany);
         }
-        let Ok(()) = self.decoders.reserve(1) else {
+        let Ok(()) = memory.reserve(&mut self.decoders, 1) else {
             return Err(ConnectRefused::NoMemory);
         };
-        let Ok(()) = self.service.connect(self.alloc, space) else {
+        let Ok(()) = self.service.connect(memory, space) else {
             return Err(ConnectRefused::NoMemory);
         };
         self.decoders.push_reserved(CallDecoder::new(self.alloc));

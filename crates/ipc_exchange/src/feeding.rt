@@ -3,7 +3,7 @@ ghost use Rattle.ipc_connection.specs.Taking.{Holds};
 ghost use Rattle.ipc_connection.specs.declared.heard.Heard.TheVariants.{Bye};
 ghost use Rattle.ipc_exchange.specs.Exchange.{ClosesConnection};
 ghost use Rattle.ipc_exchange.specs.Feeding.{FeedsConnection, FeedsFirst, HearsOne, IsHeard};
-ghost use Rattle.ipc_exchange.specs.Rooms.{CanServe, Ready, StaysReady, WantsRoom, service_of};
+ghost use Rattle.ipc_exchange.specs.Rooms.{CanServe, Ready, StaysReady, WantsRoom, roomy_at, service_of};
 
 use crate::service::Service;
 use ipc_connection::{CallDecoder, Heard};
@@ -16,14 +16,15 @@ fn is_bye(heard: &Heard) -> bool
     matches!(heard, Heard::Bye)
 }
 
-/// What a frame says, once there is room for what serving it may want; BYE wants none. F14: there
-/// is no memory.
+/// What a frame says, once there is room for what serving it may want; BYE wants none. F14: the
+/// room was not there, and there is no memory for it.
 fn admit(service: &mut Service, place: usize, heard: Heard) -> Result<Heard, FrameFault>
     requires within { place < length service.old.connections }
     requires ready { Ready service.old }
     ensures same { service_of service.new ≡ service_of service.old }
     ensures can { CanServe service.new place result }
     ensures is { IsHeard (Ok heard) result }
+    ensures roomy { 3 ≤ (roomy_at service.old.connections place).free → result ≡ Ok heard }
     ensures ready { StaysReady service.old service.new }
 {
     if is_bye(&heard) {

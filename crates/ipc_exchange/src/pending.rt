@@ -1,6 +1,8 @@
-ghost use Rattle.std.specs.Prelude.{◌≡◌, ◌≢◌, ◌<◌, ◌≤◌, ◌+◌, ℕ, [], IfSome, IsNone, OnOk, OnErr, length, slice_index_or};
+ghost use Rattle.std.specs.Prelude.{◌≡◌, ◌≢◌, ◌<◌, ◌≤◌, ◌+◌, ℕ, [], IfSome, IsNone, IsOk, OnOk, OnErr, length, slice_index_or};
+ghost use Rattle.ipc_base.specs.Memory.{ample_items};
 ghost use Rattle.ipc_exchange.specs.Pending.{IsAmong};
 
+use ipc_base::Memory;
 use std::alloc::{AllocError, Global};
 use std::marker::Model;
 
@@ -37,15 +39,16 @@ impl Pending {
     }
 
     /// There is one more place, which is not listed.
-    pub(crate) fn grow(&mut self) -> Result<(), AllocError>
+    pub(crate) fn grow<M: Memory>(&mut self, memory: M) -> Result<(), AllocError>
         ensures places { self.new.places ≡ self.old.places }
         ensures ok { OnOk result (self.new.count ≡ self.old.count + 1) }
         ensures err { OnErr result (self.new.count ≡ self.old.count) }
+        ensures ample { M.is_ample → self.old.count < ample_items → IsOk result }
     {
         let Some(count) = self.count.checked_add(1) else {
             return Err(AllocError);
         };
-        self.places.reserve(count)?;
+        memory.reserve(&mut self.places, count)?;
         self.count = count;
         Ok(())
     }

@@ -1,5 +1,6 @@
 ghost use Rattle.std.specs.Prelude.{◌≡◌, ◌<◌, ◌≤◌, ◌+◌, ℕ, [], length, min, take};
-ghost use Rattle.std.specs.Prelude.{drop, IfOk, IfSome, IsNone, OnOk, OnErr};
+ghost use Rattle.std.specs.Prelude.{drop, IfOk, IfSome, IsNone, IsOk, OnOk, OnErr};
+ghost use Rattle.ipc_base.specs.Memory.{ample_items};
 ghost use Rattle.ipc_words.specs.Limits.{max_calls, max_entries};
 ghost use Rattle.ipc_history.specs.Legal.{Legal, Quiet};
 ghost use Rattle.ipc_history.specs.Paired.{Paired};
@@ -17,6 +18,7 @@ mod telling;
 
 use crate::connections::Connections;
 use crate::marked_kernel::MarkedKernel;
+use ipc_base::Memory;
 use ipc_connection::Stage;
 use ipc_core::{Advance, Limits};
 use ipc_history::Entries;
@@ -100,7 +102,7 @@ impl Service {
     }
 
     /// One more connection, from a space.
-    pub(crate) fn connect(&mut self, alloc: Global, space: u32) -> Result<(), AllocError>
+    pub(crate) fn connect<M: Memory>(&mut self, memory: M, space: u32) -> Result<(), AllocError>
         requires { Ready self.old }
         ensures ok { OnOk result (service_of self.new
             ≡ with_connection space (service_of self.old)) }
@@ -108,8 +110,9 @@ impl Service {
             ≡ length self.old.connections + 1) }
         ensures ready { Ready self.new }
         ensures err { OnErr result (self.new ≡ self.old) }
+        ensures ample { M.is_ample → length self.old.connections < ample_items → IsOk result }
     {
-        self.connections.push(alloc, space)?;
+        self.connections.push(memory, space)?;
         Ok(())
     }
 
@@ -120,6 +123,7 @@ impl Service {
         ensures same { service_of self.new ≡ service_of self.old }
         ensures ready { StaysReady self.old self.new }
         ensures ok { OnOk result (3 ≤ (roomy_at self.new.connections place).free) }
+        ensures roomy { 3 ≤ (roomy_at self.old.connections place).free → IsOk result }
     {
         self.connections.reserve(place)
     }

@@ -19,7 +19,7 @@ use Rattle.ipc_frame.specs.Parts.{IpcParts, IpcrParts, FitsIpcr, words_of, end_s
 use Rattle.ipc_frame.specs.Frames.{widths, kind_of, size_of, HasTail}
 use Rattle.ipc_frame.specs.Reading.{Short, Bad, Whole, kind_in, pieces_in, ipc_parts, ipcr_parts, reading, Tells, TellsBefore}
 use Rattle.ipc_frame.specs.Stream.{Stream, Rest, Stopped, put_front, frames_within, stream_of}
-use Rattle.ipc_frame.specs.Decoding.{Decodes, MakesFrame, MakesIpcr, stream_at, StopsAt}
+use Rattle.ipc_frame.specs.Decoding.{Decodes, MakesFrame, MakesIpcr, stream_at, StopsAt, StopsFor}
 use Rattle.ipc_frame.proofs.NumberLemmas.{number_more}
 use Rattle.ipc_frame.proofs.FieldLemmas.{length_words_in}
 use Rattle.ipc_frame.proofs.VersionLemmas.{outcome_head, told_in}
@@ -172,9 +172,9 @@ pub left_over : (side : Side) (rest : List ℕ) (wanted : ℕ) (frames : List Fr
 left_over side rest wanted frames all e h =
     sym h ∙ (ap (put_front frames) (stream_short side rest wanted e) ∙ ap (λ fs. record { frames = fs; end = Rest rest }) (append-nil frames))
 
-pub stopped_at : (side : Side) (rest : List ℕ) (fault : FrameFault) (frames : List Frame) (all : Stream) → reading side rest ≡ Bad fault → put_front frames (stream_of side rest) ≡ all → StopsAt all frames fault
-stopped_at side rest fault frames all e h =
-    inl (sym h ∙ (ap (put_front frames) (stream_bad side rest fault e) ∙ ap (λ fs. record { frames = fs; end = Stopped fault }) (append-nil frames)))
+pub stopped_for : (side : Side) (rest : List ℕ) (fault : FrameFault) (frames : List Frame) (all : Stream) → reading side rest ≡ Bad fault → put_front frames (stream_of side rest) ≡ all → StopsFor all frames fault
+stopped_for side rest fault frames all e h =
+    sym h ∙ (ap (put_front frames) (stream_bad side rest fault e) ∙ ap (λ fs. record { frames = fs; end = Stopped fault }) (append-nil frames))
 
 pub out_of_memory : (side : Side) (rest : List ℕ) (frames : List Frame) (all : Stream) → put_front frames (stream_of side rest) ≡ all → StopsAt all frames NoMemory
 out_of_memory side rest frames all h = inr (refl, ((stream_of side rest).frames, ap (λ (s : Stream). s.frames) (sym h)))

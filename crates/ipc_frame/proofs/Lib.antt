@@ -15,3 +15,4 @@ pub mod PlacingLemmas
 pub mod ShortLemmas
 pub mod FaultLemmas
 pub mod LendingLemmas
+pub mod WriteLemmas

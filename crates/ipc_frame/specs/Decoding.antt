@@ -19,6 +19,12 @@ Decodes (Short wanted) result = result ≡ Err Unfinished
 Decodes (Bad fault) result = result ≡ Err fault
 Decodes (Whole f size) result = (result ≡ Ok (f, size)) ⊎ ((result ≡ Err NoMemory) × (is_longer (kind_of f) ≡ true))
 
+-- the same where no growth was refused
+abbrev pub decoded_of : Reading → Result (Frame × ℕ) FrameFault
+decoded_of (Short wanted) = Err Unfinished
+decoded_of (Bad fault) = Err fault
+decoded_of (Whole f size) = Ok (f, size)
+
 -- numbers and what comes after them make a frame within the limits
 pub record MakesFrame (kind : FrameKind) (fields tail : List ℕ) (f : Frame) : Type 0 where
   pub made : frame_of kind fields tail ≡ Some f
@@ -41,10 +47,14 @@ pub record Decoding : Type 0 where
 abbrev pub stream_at : List Frame → List ℕ → Stream
 stream_at frames bytes = record { frames = frames; end = Rest bytes }
 
--- the stream stops at a fault behind the frames, or memory was refused and it has them in front
+-- the stream stops at a fault behind the frames
+abbrev pub StopsFor : Stream → List Frame → FrameFault → Type 0
+StopsFor stream frames fault = stream ≡ record { frames = frames; end = Stopped fault }
+
+-- the same, or memory was refused and it has them in front
 abbrev pub StopsAt : Stream → List Frame → FrameFault → Type 0
 StopsAt stream frames fault =
-    (stream ≡ record { frames = frames; end = Stopped fault })
+    StopsFor stream frames fault
     ⊎ ((fault ≡ NoMemory) × ((others : List Frame) × (stream.frames ≡ frames ++ others)))
 
 -- after a piece: the stream's frames and what is left of it, or its fault

@@ -13,3 +13,4 @@ pub mod FirstPiece
 pub mod Replies
 pub mod Sources
 pub mod Lending
+pub mod Writing

@@ -1,8 +1,10 @@
-ghost use Rattle.std.specs.Prelude.{IfOk, ◌≡◌, ◌≤◌, ◌*◌, ◌+◌, length, drop};
+ghost use Rattle.std.specs.Prelude.{IfOk, IsOk, ◌≡◌, ◌≤◌, ◌*◌, ◌+◌, length, drop};
+ghost use Rattle.ipc_base.specs.Memory.{ample_items};
 ghost use Rattle.ipc_frame.specs.Numbers.{number_in, words_in};
 
 use crate::judging::{read_u32, read_u64};
-use std::alloc::{AllocError, Global};
+use ipc_base::{Memory, push};
+use std::alloc::AllocError;
 
 // The number of 32 bits that bytes begin with, and the bytes behind it.
 pub(crate) fn split_u32(bytes: &[u8]) -> (u32, &[u8])
@@ -25,25 +27,24 @@ pub(crate) fn split_u64(bytes: &[u8]) -> (u64, &[u8])
 }
 
 // The words that bytes begin with.
-pub(crate) fn read_words(alloc: Global, count: usize, bytes: &[u8]) -> Result<Vec<u64>, AllocError>
+pub(crate) fn read_words<M: Memory>(
+    memory: M,
+    count: usize,
+    bytes: &[u8],
+) -> Result<Vec<u64>, AllocError>
     requires { 8 * count ≤ length bytes.now }
-    ensures { IfOk result (λ words. words.items ≡ words_in count bytes.now) }
+    ensures words { IfOk result (λ words. words.items ≡ words_in count bytes.now) }
+    ensures ample { M.is_ample → count ≤ ample_items → IsOk result }
 {
-    let mut words = Vec::with_capacity(alloc, count)?;
+    let mut words = memory.with_capacity(count)?;
     let mut rest = bytes;
     for index in 0..count {
         let (word, behind) = split_u64(rest);
-        words.push(word)?;
+        match push(memory, &mut words, word) {
+            Ok(()) => {}
+            Err(_) => return Err(AllocError),
+        }
         rest = behind;
     }
     Ok(words)
-}
-
-// A copy of bytes.
-pub(crate) fn copied(alloc: Global, bytes: &[u8]) -> Result<Vec<u8>, AllocError>
-    ensures { IfOk result (λ copy. copy.items ≡ bytes.now) }
-{
-    let mut copy = Vec::with_capacity(alloc, bytes.len())?;
-    copy.extend_from_slice(bytes)?;
-    Ok(copy)
 }

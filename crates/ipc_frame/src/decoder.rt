@@ -1,11 +1,12 @@
-ghost use Rattle.std.specs.Prelude.{◌≡◌, ◌≢◌, true, false, is_err, [], Ok, Err};
+ghost use Rattle.std.specs.Prelude.{◌≡◌, ◌≢◌, true, false, is_err, [], Ok, Err, IfErr};
 ghost use Rattle.ipc_frame.specs.Stream.{more};
-ghost use Rattle.ipc_frame.specs.Decoding.{Feeds, stream_at};
+ghost use Rattle.ipc_frame.specs.Decoding.{Feeds, StopsFor, stream_at};
 
 use crate::decoding::take_frames;
 use crate::fault::FrameFault;
 use crate::frame::Frame;
 use crate::kind::Side;
+use ipc_base::Memory;
 use std::alloc::Global;
 use std::marker::Model;
 
@@ -56,25 +57,55 @@ impl Decoder {
         ensures still { self.old.is_spent ≡ true → self.new ≡ self.old }
         ensures kept { self.old.is_spent ≡ true → frames.new.items ≡ frames.old.items }
     {
+        let alloc = self.alloc;
+        self.feed_in(alloc, piece, frames)
+    }
+
+    /// As [`Decoder::feed`], with memory that is lent: where it is ample, F14 is not the answer.
+    pub fn feed_in<M: Memory>(
+        &mut self,
+        memory: M,
+        piece: &[u8],
+        frames: &mut Vec<Frame>,
+    ) -> Result<(), FrameFault>
+        ensures fed { self.old.is_spent ≡ false →
+            Feeds (more self.old.side (stream_at frames.old.items self.old.bytes) piece.now)
+            frames.new.items self.new result }
+        ensures ample { M.is_ample → self.old.is_spent ≡ false → IfErr result (StopsFor
+            (more self.old.side (stream_at frames.old.items self.old.bytes) piece.now)
+            frames.new.items) }
+        ensures side { self.new.side ≡ self.old.side }
+        ensures spent { self.old.is_spent ≡ true → result ≡ Err FrameFault.Spent }
+        ensures still { self.old.is_spent ≡ true → self.new ≡ self.old }
+        ensures kept { self.old.is_spent ≡ true → frames.new.items ≡ frames.old.items }
+    {
         if self.is_spent {
             return Err(FrameFault::Spent);
         }
-        let fed = self.take(piece, frames);
+        let fed = self.take(memory, piece, frames);
         self.is_spent = fed.is_err();
         fed
     }
 
     // The same, of a decoder that has not answered a fault.
-    fn take(&mut self, piece: &[u8], frames: &mut Vec<Frame>) -> Result<(), FrameFault>
+    fn take<M: Memory>(
+        &mut self,
+        memory: M,
+        piece: &[u8],
+        frames: &mut Vec<Frame>,
+    ) -> Result<(), FrameFault>
         ensures taken { Feeds (more self.old.side (stream_at frames.old.items self.old.bytes)
             piece.now) frames.new.items
             (record self.new { is_spent = is_err result }) result }
+        ensures ample { M.is_ample → IfErr result (StopsFor
+            (more self.old.side (stream_at frames.old.items self.old.bytes) piece.now)
+            frames.new.items) }
         ensures side { self.new.side ≡ self.old.side }
     {
-        if self.held.extend_from_slice(piece).is_err() {
+        if memory.extend(&mut self.held, piece).is_err() {
             return Err(FrameFault::NoMemory);
         }
-        match take_frames(self.alloc, self.side, &self.held, frames) {
+        match take_frames(memory, self.side, &self.held, frames) {
             Ok(used) => {
                 self.held.rotate_left(used);
                 self.held.truncate(self.held.len() - used);

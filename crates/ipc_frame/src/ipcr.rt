@@ -1,4 +1,4 @@
-ghost use Rattle.std.specs.Prelude.{IfOk, IfSome, IfNone, Ok, Err, true, ◌≡◌, ◌+◌, ◌≤◌, ◌<◌, ◌^◌, not, nat_lt, length};
+ghost use Rattle.std.specs.Prelude.{IfOk, IsOk, IfSome, IfNone, Ok, Err, true, ◌≡◌, ◌+◌, ◌≤◌, ◌<◌, ◌^◌, not, nat_lt, length};
 ghost use Rattle.std.specs.List.{AllByRecursion};
 ghost use Rattle.ipc_words.specs.Limits.{max_frame_body, max_pieces};
 ghost use Rattle.ipc_frame.specs.Numbers.{IsBytes, byte_values};
@@ -6,14 +6,14 @@ ghost use Rattle.ipc_frame.specs.Parts.{IsPiece, IsIpcr, end_size, pieces_text, 
 ghost use Rattle.ipc_frame.specs.Frames.{IsFrame};
 ghost use Rattle.ipc_frame.specs.Making.{ipcr_fault};
 
-use crate::cutting::copied;
 use crate::fault::FrameFault;
 use crate::fitting::{are_bytes, are_words};
 use crate::frame::Frame;
 use crate::version::{CallEnd, end_fits, version_told};
+use ipc_base::{Memory, from_slice};
 use ipc_words::limits::{MAX_FRAME_BODY, MAX_MESSAGE_WORDS, MAX_PIECES};
 use ipc_words::{IpcError, MsgTag, ThreadId};
-use std::alloc::{AllocError, Global};
+use std::alloc::AllocError;
 use std::marker::Model;
 
 /// Bytes that belong at a pointer of the receiver.
@@ -37,10 +37,12 @@ impl Model for Placed {
 
 impl Placed {
     /// The bytes, copied.
-    pub fn new(alloc: Global, pointer: u64, bytes: &[u8]) -> Result<Placed, AllocError>
-        ensures { IfOk result (λ piece. piece ≡ record { pointer = pointer; bytes = bytes.now }) }
+    pub fn new<M: Memory>(memory: M, pointer: u64, bytes: &[u8]) -> Result<Placed, AllocError>
+        ensures piece { IfOk result (λ piece.
+            piece ≡ record { pointer = pointer; bytes = bytes.now }) }
+        ensures ample { M.is_ample → IsOk result }
     {
-        let copy = copied(alloc, bytes)?;
+        let copy = from_slice(memory, bytes)?;
         are_bytes(&copy);
         Ok(Placed {
             pointer,

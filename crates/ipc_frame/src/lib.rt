@@ -19,6 +19,7 @@ mod replies;
 mod telling;
 mod version;
 mod window;
+mod writing;
 
 pub use decoder::Decoder;
 pub use decoding::decode;
@@ -34,3 +35,4 @@ pub use laws::{
 };
 pub use replies::ipcr_of;
 pub use version::{CallEnd, WireVersion};
+pub use writing::write_encoder;

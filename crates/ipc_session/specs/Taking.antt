@@ -1,6 +1,6 @@
 -- What a writer is given, and the text of it.
-use Rattle.std.specs.Prelude.{◌≡◌, ℕ, ◌≤◌, List, [], ◌∷◌, ◌++◌, Option, Some, None, ⊤, Bool, true}
-use Rattle.std.specs.Prelude.{false, IsTrue, length, map, take, drop}
+use Rattle.std.specs.Prelude.{◌≡◌, ℕ, List, [], ◌∷◌, ◌++◌, Option, Some, None, ⊤, Bool, true}
+use Rattle.std.specs.Prelude.{false, IsTrue, length, map, take}
 use Rattle.std.specs.Io.KnownBytes.{Appends}
 use Rattle.ipc_frame.specs.Frames.{spelling}
 use Rattle.ipc_frame.specs.Replies.{ipcr_of}
@@ -63,8 +63,3 @@ pub record Wrote (old new : Option (List TakeCall)) (before after : Option (List
   pub count : ℕ
   pub appends : Appends before after (take count (text_of frames))
   pub whole : IsTrue is_whole → count ≡ length (text_of frames)
-
--- so many bytes of those that were still to come went out, and these are left
-abbrev pub Writes : Option (List ℕ) → Option (List ℕ) → List ℕ → List ℕ → Type 0
-Writes old new before after =
-    (n : ℕ) × (n ≤ length before) × Appends old new (take n before) × (after ≡ drop n before)

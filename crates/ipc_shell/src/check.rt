@@ -66,6 +66,8 @@ impl Judge {
 impl EntrySink for Judge {
     ghost given = { λ judge. judge.checker };
 
+    ghost wants_memory = { λ judge. Unit {0} };
+
     fn count(&self) -> usize {
         self.checker.count()
     }

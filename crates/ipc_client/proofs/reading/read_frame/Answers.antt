@@ -1,16 +1,17 @@
-use Rattle.std.proofs.Common.{◌≡◌, ◌<◌, ap, refl, sym, subst, ◌∙◌, ◌++◌, length}
+use Rattle.std.proofs.Common.{◌≡◌, ◌≢◌, ◌<◌, ap, refl, sym, subst, ◌∙◌, ◌++◌, length, arith}
 use Rattle.std.specs.Io.KnownBytes.{Consumes}
 use Rattle.std.proofs.KnownBytes.{Consumes-nil, Consumes-trans}
 use Rattle.ipc_frame.specs.Reading.{Short, Bad, reading}
 use Rattle.ipc_frame.specs.declared.judging.Judgement.TheVariants as judged
 use Rattle.ipc_frame.specs.declared.fault.FrameFault.TheVariants as fault
 use Rattle.ipc_frame.proofs.DecodeLemmas.{told_alone}
+use Rattle.ipc_frame.proofs.ShortLemmas.{short_within}
 use Rattle.ipc_frame.proofs.StreamLemmas.{short_is_exact}
 use Rattle.ipc_client.specs.Devices.{IsDeviceFault}
 use Rattle.ipc_client.specs.Reading.{TakesFrame, TakesNoFrame}
 use Rattle.ipc_client.proofs.ReadLemmas.{IsTight, tight_start, tight_more, whole_taken, bad_taken}
 use Rattle.ipc_client.proofs.ReadLemmas.{bad_is_no_device, part_missing, memory_missing}
-use Rattle.ipc_client.proofs.ReadLemmas.{memory_is_no_device, if_ok, if_err, on_ok}
+use Rattle.ipc_client.proofs.ReadLemmas.{bad_is_memory, memory_is_no_device, ok_has_no_err, ok_is_no_err, if_ok, if_err, on_ok}
 use Rattle.ipc_client.proofs.reading.read_frame.Goals as goal
 
 pub parts-init : goal.parts-init
@@ -29,13 +30,20 @@ read_part-requires g c =
     let short = told_alone (judged.Short c.in-Short.wanted) c.args.side c.deref.result.now c.in-Short.ensures in
     record { some = (short_is_exact c.args.side c.deref.result.now c.deref.result.now c.in-Short.wanted short).0 }
 
+pub returns-then-is_err-clause-ample : goal.returns-then-is_err-clause-ample
+returns-then-is_err-clause-ample g c ample =
+    let short = told_alone (judged.Short c.in-Short.wanted) c.args.side c.deref.result.now c.in-Short.ensures in
+    let within = short_within c.args.side c.deref.result.now c.in-Short.wanted short in
+    let given = c.reserve.ensures.ample ample (omega (arith, within)) in
+    absurd (ok_is_no_err c.reserve.result given (sym c.is_err.ensures.value ∙ c.if-is_err.true))
+
 pub parts-preserved : goal.parts-preserved
 parts-preserved g c =
     let short = told_alone (judged.Short c.in-Short.wanted) c.args.side c.deref.result.now c.in-Short.ensures in
     let short_here : reading c.args.side c.parts.held.items ≡ Short c.in-Short.wanted = ap
     (reading c.args.side) (sym c.deref.ensures.value) ∙ short in
     let takes = c.in-Ok-read_part.ensures.ok in
-    let roomy = c.reserve_exact.ensures.items in
+    let roomy = c.reserve.ensures.items in
     let held = takes.held ∙ ap (λ xs. xs ++ takes.part) roomy in
     let all = Consumes-trans _ _ _ c.parts.held.items takes.part c.parts.invariant.taken takes.taken in
     record {
@@ -64,6 +72,7 @@ returns-in-Bad g c =
       err = bad_taken c.args.side _ _ c.parts.held.items c.in-Bad.fault c.parts.invariant.taken here;
       failed = λ device. absurd (bad_is_no_device c.args.side c.parts.held.items c.in-Bad.fault here device);
       kept = tt;
+      ample = λ _. bad_is_memory c.args.side c.parts.held.items c.in-Bad.fault here;
     }
 
 pub returns-in-Whole : goal.returns-in-Whole
@@ -85,4 +94,5 @@ returns-in-Whole g c =
           → g.P.PortRead.failures c.args.port.now < g.P.PortRead.failures c.parts.port) result
           (λ e h device. absurd (memory_is_no_device e h device)) c.whole_frame.ensures.memory;
       kept = on_ok result c.parts.invariant.kept;
+      ample = λ ample. ok_has_no_err result (λ e. e ≢ fault.NoMemory) (c.whole_frame.ensures.ample ample);
     }

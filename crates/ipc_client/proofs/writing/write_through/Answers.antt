@@ -1,4 +1,4 @@
-use Rattle.ipc_client.proofs.WriteLemmas.{part_is_front, whole_is_front}
+use Rattle.ipc_base.proofs.Fronts.{part_is_front, whole_is_front}
 use Rattle.ipc_client.proofs.writing.write_through.Goals as goal
 
 pub returns-in-Err-clause-front : goal.returns-in-Err-clause-front

@@ -17,6 +17,7 @@ returns-in-Bad g c =
     record {
       fills = λ gone are. let j = inv.joined gone are in fills_bad _ c.args.piece.now c.loop-fault.held j.0 j.1 c.loop-fault.used j.2 inv.within c.in-Bad.fault (c.in-Bad.ensures.tells j.0 j.1);
       rest = λ used e. absurd (cc);
+      ample = inv.ample;
     }
 
 pub returns-in-Whole : goal.returns-in-Whole
@@ -28,6 +29,7 @@ returns-in-Whole g c =
           let told = c.in-Whole.ensures.tells j.0 j.1 in
           fills_whole _ c.args.piece.now c.loop-fault.held j.0 j.1 c.loop-fault.used j.2 inv.within told.0 told.1.0 told.1.1 (inv.exact j.0 told.0 told.1.0 j.1 told.1.1);
       rest = λ used e. absurd (not_both _ used e);
+      ample = inv.ample;
     }
 
 pub returns-then-is_empty : goal.returns-then-is_empty
@@ -40,6 +42,7 @@ returns-then-is_empty g c =
     record {
       fills = λ gone are. let j = inv.joined gone are in fills_short _ c.args.piece.now c.loop-fault.held j.0 j.1 c.loop-fault.used j.2 inv.within c.in-Short.wanted (c.in-Short.ensures.tells j.0 j.1) done;
       rest = λ used e gone are. (c.in-Short.wanted, c.in-Short.ensures.tells gone are);
+      ample = inv.ample;
     }
 
 pub keep-used-requires-clause-some : goal.keep-used-requires-clause-some
@@ -79,7 +82,9 @@ loop-fault-preserved g c =
     let count_here : length more ≡ count = ap length shorter ∙ length-take-le count left (omega (arith, size, c.keep-used.ensures.within, ap length all)) in
     let piece_bytes : IsBytes piece = λ i. omega (arith, c.type_inv.piece i) in
     let more_bytes : IsBytes more = bytes_take count _ (bytes_take c.min-count.result _ (bytes_take (length piece - used) _ (bytes_drop used piece piece_bytes))) in
+    let most = short_within Server _ c.in-Short.wanted (c.in-Short.ensures.tells _ (some_gone held)) in
     record {
+      ample = λ ample none. c.keep-used.ensures.ample ample (omega (arith, most)) (inv.ample ample none);
       within = omega (arith, size, c.keep-used.ensures.within, ap length all, length-drop used piece, inv.within);
       joined = λ gone are.
           let j = inv.joined gone are in

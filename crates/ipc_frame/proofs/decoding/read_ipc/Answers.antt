@@ -8,14 +8,14 @@ use Rattle.ipc_frame.proofs.DecodeLemmas.{ipc_room, same_ipc, reads_call}
 use Rattle.ipc_frame.proofs.decoding.read_ipc.Goals as goal
 
 pub read_registers-requires : goal.read_registers-requires
-read_registers-requires c =
+read_registers-requires g c =
     let fields = fields_in (widths Ipc) c.args.head.now in
     let room = ipc_room fields c.args.tail.now c.requires.size in
     let call = reads_call c.args.head.now _ _ _ _ _ _ _ _ _ _ c.split_u64-to.ensures.behind c.split_u64-from.ensures.behind c.split_u32-timeouts.ensures.behind c.split_u64-originator.ensures.behind c.split_u64-tag.ensures.behind c.split_u64-acceptor.ensures.behind c.split_u64-tag.ensures.number c.from_word-tag.ensures c.untyped.ensures c.typed.ensures in
     omega (arith, room, call.count, call.few_is)
 
 pub of-requires : goal.of-requires
-of-requires c =
+of-requires g c =
     let h = c.args.head.now in
     let tail = c.args.tail.now in
     let call = reads_call h _ _ _ _ _ _ _ _ _ _ c.split_u64-to.ensures.behind c.split_u64-from.ensures.behind c.split_u32-timeouts.ensures.behind c.split_u64-originator.ensures.behind c.split_u64-tag.ensures.behind c.split_u64-acceptor.ensures.behind c.split_u64-tag.ensures.number c.from_word-tag.ensures c.untyped.ensures c.typed.ensures in
@@ -36,8 +36,8 @@ of-requires c =
     let same = same_ipc parts _ _ _ _ _ _ _ _ _ to from timeouts originator call.tag_is acceptor words buffer_words payload in
     subst IsIpc (sym same) c.requires.is
 
-pub returns : goal.returns
-returns c =
+pub returns-clause-ipc : goal.returns-clause-ipc
+returns-clause-ipc g c =
     let h = c.args.head.now in
     let tail = c.args.tail.now in
     let call = reads_call h _ _ _ _ _ _ _ _ _ _ c.split_u64-to.ensures.behind c.split_u64-from.ensures.behind c.split_u32-timeouts.ensures.behind c.split_u64-originator.ensures.behind c.split_u64-tag.ensures.behind c.split_u64-acceptor.ensures.behind c.split_u64-tag.ensures.number c.from_word-tag.ensures c.untyped.ensures c.typed.ensures in

@@ -4,10 +4,10 @@ use Rattle.ipc_frame.proofs.decoding.take_frames.Given as goal
 
 -- the frames so far, and those of the bytes that are left
 abbrev pub invariant-loop-size : goal.invariant-loop-size
-invariant-loop-size l = record {
+invariant-loop-size g l = record {
   all : put_front l.initial.frames.items (stream_of l.side l.bytes) ≡ put_front l.frames.items (stream_of l.side (drop l.used l.bytes));
   within : l.used ≤ length l.bytes;
 }
 
 abbrev pub decreases-loop-size : goal.decreases-loop-size
-decreases-loop-size l = length l.bytes - l.used
+decreases-loop-size g l = length l.bytes - l.used

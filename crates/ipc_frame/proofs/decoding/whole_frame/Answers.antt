@@ -15,33 +15,33 @@ of_kind : (side : Side) (bytes : List ℕ) (size : ℕ) (kind : Option FrameKind
 of_kind side bytes size kind e same = e ∙ ap (λ n. kind_in side n (slice_index bytes 4)) same
 
 pub read_u32-size-requires : goal.read_u32-size-requires
-read_u32-size-requires c =
+read_u32-size-requires g c =
     let at = whole_at c.args.side c.args.bytes.now c.requires.0 c.requires.1.0 (λ i. omega (arith, c.type_inv.bytes i)) c.requires.1.1 in
     omega (arith, at.1.there)
 
 pub bounds-bytes-4 : goal.bounds-bytes-4
-bounds-bytes-4 c =
+bounds-bytes-4 g c =
     let at = whole_at c.args.side c.args.bytes.now c.requires.0 c.requires.1.0 (λ i. omega (arith, c.type_inv.bytes i)) c.requires.1.1 in
     omega (arith, at.1.there, at.1.least)
 
 pub returns-in_default : goal.returns-in_default
-returns-in_default c =
+returns-in_default g c =
     let at = whole_at c.args.side c.args.bytes.now c.requires.0 c.requires.1.0 (λ i. omega (arith, c.type_inv.bytes i)) c.requires.1.1 in
     let none : None ≡ Some at.0 = sym c.in_default.is ∙ (of_kind c.args.side c.args.bytes.now c.read_u32-size.result c.of.result c.of.ensures c.read_u32-size.ensures ∙ at.1.kind_is) in
     absurd (cc)
 
 pub split_at-requires : goal.split_at-requires
-split_at-requires c =
+split_at-requires g c =
     let w = whole_of c.args.side c.args.bytes.now c.requires.0 c.requires.1.0 c.in-Some.kind (λ i. omega (arith, c.type_inv.bytes i)) c.requires.1.1 (sym (of_kind c.args.side c.args.bytes.now c.read_u32-size.result c.of.result c.of.ensures c.read_u32-size.ensures) ∙ c.in-Some.is) in
     rw (take_rest c.args.bytes.now 5) (omega (arith, w.there, w.least, c.head.ensures, length-drop 5 c.args.bytes.now))
 
 pub slice_bounds-read_frame-count : goal.slice_bounds-read_frame-count
-slice_bounds-read_frame-count c =
+slice_bounds-read_frame-count g c =
     let w = whole_of c.args.side c.args.bytes.now c.requires.0 c.requires.1.0 c.in-Some.kind (λ i. omega (arith, c.type_inv.bytes i)) c.requires.1.1 (sym (of_kind c.args.side c.args.bytes.now c.read_u32-size.result c.of.result c.of.ensures c.read_u32-size.ensures) ∙ c.in-Some.is) in
     omega (arith, w.least, c.head-2.ensures, c.read_u32-size.ensures)
 
 pub slice_bounds-read_frame-length : goal.slice_bounds-read_frame-length
-slice_bounds-read_frame-length c =
+slice_bounds-read_frame-length g c =
     let w = whole_of c.args.side c.args.bytes.now c.requires.0 c.requires.1.0 c.in-Some.kind (λ i. omega (arith, c.type_inv.bytes i)) c.requires.1.1 (sym (of_kind c.args.side c.args.bytes.now c.read_u32-size.result c.of.result c.of.ensures c.read_u32-size.ensures) ∙ c.in-Some.is) in
     let bytes = c.args.bytes.now in
     let kind = c.in-Some.kind in
@@ -51,7 +51,7 @@ slice_bounds-read_frame-length c =
     sym (length-take-le (c.read_u32-size.result - (1 + c.head-2.result)) c.split_at.result.1.now (omega (arith, ap length back, l1, l2, w.there, w.least, c.head-2.ensures, c.read_u32-size.ensures)))
 
 pub read_frame-requires-clause-made : goal.read_frame-requires-clause-made
-read_frame-requires-clause-made c =
+read_frame-requires-clause-made g c =
     let w = whole_of c.args.side c.args.bytes.now c.requires.0 c.requires.1.0 c.in-Some.kind (λ i. omega (arith, c.type_inv.bytes i)) c.requires.1.1 (sym (of_kind c.args.side c.args.bytes.now c.read_u32-size.result c.of.result c.of.ensures c.read_u32-size.ensures) ∙ c.in-Some.is) in
     let bytes = c.args.bytes.now in
     let kind = c.in-Some.kind in
@@ -60,8 +60,8 @@ read_frame-requires-clause-made c =
     let eq1 : take (c.read_u32-size.result - (1 + c.head-2.result)) c.split_at.result.1.now ≡ take (number_in 4 bytes - (1 + sum (widths kind))) (drop (sum (widths kind)) (drop 5 bytes)) = ap₂ (λ n xs. take n xs) (ap₂ (λ a b. a - (1 + b)) c.read_u32-size.ensures c.head-2.ensures) back in
     (c.requires.0, subst (λ xs. MakesFrame kind (fields_in (widths kind) xs) (take (c.read_u32-size.result - (1 + c.head-2.result)) c.split_at.result.1.now) c.requires.0) (sym eq0) (subst (λ ys. MakesFrame kind (fields_in (widths kind) (take (sum (widths kind)) (drop 5 bytes))) ys c.requires.0) (sym eq1) w.makes))
 
-pub returns-in-Ok : goal.returns-in-Ok
-returns-in-Ok c =
+pub returns-in-Ok-clause-decodes : goal.returns-in-Ok-clause-decodes
+returns-in-Ok-clause-decodes g c =
     let w = whole_of c.args.side c.args.bytes.now c.requires.0 c.requires.1.0 c.in-Some.kind (λ i. omega (arith, c.type_inv.bytes i)) c.requires.1.1 (sym (of_kind c.args.side c.args.bytes.now c.read_u32-size.result c.of.result c.of.ensures c.read_u32-size.ensures) ∙ c.in-Some.is) in
     let bytes = c.args.bytes.now in
     let kind = c.in-Some.kind in
@@ -72,8 +72,8 @@ returns-in-Ok c =
     let same : c.in-Ok.frame ≡ c.requires.0 = one_value _ _ _ c.in-Ok.ensures.frame found in
     rw c.requires.1.1 (inl (ap₂ (λ f n. Ok (f, n)) same (ap (λ k. 4 + k) c.read_u32-size.ensures ∙ sym w.count)))
 
-pub returns-in-Err : goal.returns-in-Err
-returns-in-Err c =
+pub returns-in-Err-clause-decodes : goal.returns-in-Err-clause-decodes
+returns-in-Err-clause-decodes g c =
     let w = whole_of c.args.side c.args.bytes.now c.requires.0 c.requires.1.0 c.in-Some.kind (λ i. omega (arith, c.type_inv.bytes i)) c.requires.1.1 (sym (of_kind c.args.side c.args.bytes.now c.read_u32-size.result c.of.result c.of.ensures c.read_u32-size.ensures) ∙ c.in-Some.is) in
     let longer : is_longer (kind_of c.requires.0) ≡ true = elim (cases_Bool (is_longer (kind_of c.requires.0))) [
       | inl here ↦ here

@@ -14,18 +14,18 @@ abbrev Buffers : Type 0
 Buffers = Option (List (List Substring))
 
 pub returns-in-Ok-buffers-clause-reads : goal.returns-in-Ok-buffers-clause-reads
-returns-in-Ok-buffers-clause-reads c =
+returns-in-Ok-buffers-clause-reads g c =
     let ipc = parts_of c.args.self.now c.args.words.now c.args.buffer_words.now (payload_of c.args.payload) in
     lists_read Strings Buffers (strings_in ipc) (buffers_in ipc) (sends ipc && nat_lt 0 (length c.args.words.now)) (accepts_strings ipc && nat_lt 0 (length c.args.buffer_words.now)) _ _ c.in-Ok.ensures.ok c.in-Ok-buffers.ensures.ok
 
 pub returns-in-Err-buffers-clause-reads : goal.returns-in-Err-buffers-clause-reads
-returns-in-Err-buffers-clause-reads c =
+returns-in-Err-buffers-clause-reads g c =
     let ipc = parts_of c.args.self.now c.args.words.now c.args.buffer_words.now (payload_of c.args.payload) in
     let h = c.in-Err-buffers.ensures in
     second_bad Strings Buffers (strings_in ipc) (buffers_in ipc) (sends ipc && nat_lt 0 (length c.args.words.now)) (accepts_strings ipc && nat_lt 0 (length c.args.buffer_words.now)) _ _ c.in-Ok.ensures.ok (record { fault_is = h.fault; memory = h.memory; lean = h.lean })
 
 pub returns-after-buffers-2-clause-reads : goal.returns-after-buffers-2-clause-reads
-returns-after-buffers-2-clause-reads c =
+returns-after-buffers-2-clause-reads g c =
     let ipc = parts_of c.args.self.now c.args.words.now c.args.buffer_words.now (payload_of c.args.payload) in
     let h = c.in-Err.ensures in
     elim c.match-buffers-2.branch [

@@ -1,11 +1,11 @@
 -- What goes out, piece by piece.
 use Rattle.std.proofs.Common.{◌≡◌, ℕ, ◌+◌, ◌≤◌, ◌<◌, List, [], Option, take, drop, length, sym, ap, ◌∙◌, subst, arith}
-use Rattle.std.proofs.Math.Seq.{drop-nil, take-add, take-length}
+use Rattle.std.proofs.Math.Seq.{drop-nil, take-add}
 use Rattle.std.proofs.lemmas.List.{length-drop, take_all, drop-drop}
-use Rattle.std.proofs.KnownBytes.{Appends-trans, Appends-kept}
-use Rattle.std.specs.Io.KnownBytes.{Appends, Keeps}
+use Rattle.std.proofs.KnownBytes.{Appends-trans}
+use Rattle.std.specs.Io.KnownBytes.{Appends}
 use Rattle.ipc_base.specs.Ports.{AppendsPart}
-use Rattle.ipc_client.specs.Writing.{AppendsFront, Writes}
+use Rattle.ipc_frame.specs.Writing.{Writes}
 
 -- more of the same bytes
 pub writes_more : (a b c : Option (List ℕ)) (xs ys zs : List ℕ) → Writes a b xs ys → Writes b c ys zs → Writes a c xs zs
@@ -44,10 +44,3 @@ writes_part a b c xs ys h k =
 -- of no bytes none are left
 pub nothing_left : (a b : Option (List ℕ)) (xs ys : List ℕ) → Writes a b xs ys → xs ≡ [] → ys ≡ []
 nothing_left a b xs ys h none = h.3 ∙ (ap (λ (l : List ℕ). drop h.0 l) none ∙ drop-nil h.0)
-
--- a part is a front, and so is the whole, whatever is flushed behind it
-pub part_is_front : (a b : Option (List ℕ)) (xs : List ℕ) → AppendsPart a b xs → AppendsFront a b xs
-part_is_front a b xs h = (h.0, omega (arith, h.1), h.2)
-
-pub whole_is_front : (a b c : Option (List ℕ)) (xs : List ℕ) → Appends a b xs → Keeps b c → AppendsFront a c xs
-whole_is_front a b c xs h kept = (length xs, omega arith, rw (take-length xs) (Appends-kept a b c xs h kept))

@@ -1,7 +1,7 @@
 -- What went out and what is left are the encoder's bytes.
 use Rattle.std.proofs.Common.{◌≡◌, length}
-use Rattle.ipc_session.specs.Taking.{Writes}
-use Rattle.ipc_session.proofs.writing.write_encoder.Given as goal
+use Rattle.ipc_frame.specs.Writing.{Writes}
+use Rattle.ipc_frame.proofs.writing.write_encoder.Given as goal
 
 abbrev pub invariant-pieces : goal.invariant-pieces
 invariant-pieces g l = record {

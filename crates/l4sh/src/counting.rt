@@ -34,6 +34,8 @@ impl Counting {
 impl EntrySink for Counting {
     ghost given = { λ counting. counting.counter };
 
+    ghost wants_memory = { λ counting. Unit {0} };
+
     fn count(&self) -> usize {
         self.counter.count()
     }

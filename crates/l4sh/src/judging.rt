@@ -109,6 +109,8 @@ impl<N: Noting> EntrySink for Front<N> {
 
     ghost given = { λ front. front.shown ++ front.behind };
 
+    ghost wants_memory = { λ front. Unit {0} };
+
     fn count(&self) -> usize {
         self.given()
     }

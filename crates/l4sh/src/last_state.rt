@@ -1,5 +1,7 @@
 //! The state after the first entries of a trace, of which memory holds the open calls.
-ghost use Rattle.std.specs.Prelude.{◌≡◌, ◌≢◌, ◌+◌, ◌++◌, ◌<◌, take};
+ghost use Rattle.std.specs.Prelude.{◌≡◌, ◌≢◌, ◌+◌, ◌++◌, ◌<◌, take, IfOk};
+ghost use Rattle.std.specs.String.{string_bytes};
+ghost use Rattle.l4sh_times.specs.Times.{TellsMoment};
 ghost use Rattle.l4sh.specs.Looking.{IsSaidOf, IsSilent, LooksAt};
 ghost use Rattle.l4sh.specs.declared.looking.Look.TheVariants.{StateAt};
 
@@ -123,7 +125,9 @@ pub(crate) fn state_text(
     state: &State,
     drops: &Drops,
     times: Times,
-) -> Result<String, AllocError> {
+) -> Result<String, AllocError>
+    ensures { IfOk result (λ text. TellsMoment (string_bytes text)) }
+{
     let text = tell_state(alloc, state, drops)?;
     timed_state(alloc, text.as_str(), times)
 }

@@ -1,9 +1,10 @@
-ghost use Rattle.std.specs.Prelude.{◌≡◌, ◌≢◌, ◌+◌, ◌^◌, ◌<◌, ℕ, IfErr, IfOk, List, Some, length, option_map, take};
+ghost use Rattle.std.specs.Prelude.{◌≡◌, ◌≢◌, ◌+◌, ◌^◌, ◌<◌, ℕ, false, IfErr, IfOk, List, Some, length, option_map, take};
 ghost use Rattle.ipc_history.specs.declared.entry.Entry.{Entry};
 ghost use Rattle.l4sh_explain.specs.Answers.{IfAnswer, IfMistake};
 ghost use Rattle.std.specs.Io.KnownBytes.{Appends};
 ghost use Rattle.std.specs.String.{string_bytes};
 ghost use Rattle.ipc_trace.specs.Versions.{header_lines};
+ghost use Rattle.l4sh_count.specs.Texts.{EndsWithAll};
 ghost use Rattle.l4sh.specs.Looking.{IsPrinted, IsSaidOf, IsSilent, LooksAt, MayEnd, Prints, PrintsOf};
 ghost use Rattle.l4sh.specs.Looking.{shown_of, torn_end};
 ghost use Rattle.l4sh.specs.declared.looking.Look.TheVariants as look;
@@ -160,7 +161,10 @@ pub(crate) fn counts_text(
     counts: &Counts,
     is_json: bool,
     span: Option<Span>,
-) -> Result<String, AllocError> {
+) -> Result<String, AllocError>
+    ensures { is_json ≡ false → IfOk result (λ text.
+        EndsWithAll counts.now.all (string_bytes text)) }
+{
     if is_json {
         json_of(alloc, counts, span)
     } else {

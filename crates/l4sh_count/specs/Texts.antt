@@ -1,7 +1,11 @@
 -- What is told of counts.
-use Rattle.std.specs.Prelude.{ℕ, ◌+◌, ◌-◌, List, ◌++◌, Option, Some, None, codes, length, replicate}
+use Rattle.std.specs.Prelude.{◌≡◌, ℕ, ◌+◌, ◌-◌, List, ◌++◌, Option, Some, None, codes, length, replicate}
 use Rattle.std.specs.Fmt.{decimal}
+use Rattle.l4sh_count.specs.Rows.{IsRowOf}
+use Rattle.l4sh_count.specs.Tallies.{IsTally}
+use Rattle.l4sh_count.specs.declared.event.Event.{Event}
 use Rattle.l4sh_count.specs.declared.row.Row.{Row}
+use Rattle.l4sh_count.specs.declared.tally.Tally.{Tally}
 use Rattle.l4sh_count.specs.declared.row.Waits.{Waits}
 
 -- a text, and spaces up to a width; at least two
@@ -24,6 +28,13 @@ row_text from to row =
     ++ cell_text 10 (decimal row.messages) ++ cell_text 12 (decimal row.bytes)
     ++ cell_text 10 (decimal row.failures) ++ cell_text 20 (waits_text row.sent)
     ++ waits_text row.received ++ codes "\n"
+
+-- the line of all together stands at the end of a text
+pub record EndsWithAll (all : Tally) (text : List ℕ) : Type 0 where
+  pub before : List ℕ
+  pub row : Row
+  pub is_row : (events : List Event) → IsTally events all → IsRowOf events row
+  pub text_is : text ≡ before ++ row_text (codes "all") (codes "all") row
 
 -- the same in JSON
 abbrev pub json_times_text : Waits → List ℕ

@@ -1,7 +1,7 @@
 ghost use Rattle.std.specs.Prelude.{◌≡◌, ◌++◌, IfOk, OnOk, replicate};
 ghost use Rattle.std.specs.Fmt.{decimal};
 ghost use Rattle.std.specs.String.{string_bytes};
-ghost use Rattle.l4sh_count.specs.Texts.{cell_text, row_text, times_text, waits_text};
+ghost use Rattle.l4sh_count.specs.Texts.{EndsWithAll, cell_text, row_text, times_text, waits_text};
 
 use crate::counts::Counts;
 use crate::row::{Row, Waits};
@@ -27,11 +27,9 @@ const HEADS: [(&str, usize); 7] = [
 /// The counts in words: from when to when, where that is told, what the times are, a line of heads,
 /// a line for each pair of threads in the order of their words, and one for all together. Times are
 /// in microseconds.
-pub fn tell_counts(
-    alloc: Global,
-    counts: &Counts,
-    span: Option<Span>,
-) -> Result<String, AllocError> {
+pub fn tell_counts(alloc: Global, counts: &Counts, span: Option<Span>) -> Result<String, AllocError>
+    ensures { IfOk result (λ text. EndsWithAll counts.now.all (string_bytes text)) }
+{
     let mut text = String::new(alloc);
     if let Some(span) = span {
         write!(text, "from {} to {}\n", span.first, span.last)?;

@@ -1,3 +1,4 @@
 pub mod Walks
 pub mod ThreadLemmas
 pub mod Walking
+pub mod Deadlocks

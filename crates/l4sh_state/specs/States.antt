@@ -1,5 +1,5 @@
 -- The state of a history: its live threads with their open calls.
-use Rattle.std.specs.Prelude.{◌≡◌, ℕ, ◌+◌, ◌<◌, List, length, take, Option, None, slice_index_or}
+use Rattle.std.specs.Prelude.{◌≡◌, ℕ, ◌+◌, ◌<◌, ◌++◌, List, codes, length, take, Option, None, slice_index_or}
 use Rattle.ipc_words.specs.Limits.{table_slots}
 use Rattle.ipc_history.specs.Threads.{now}
 use Rattle.ipc_history.specs.Legal.{Legal}
@@ -24,3 +24,11 @@ pub record IsStateOf (P : List Entry) (state : State) : Type 0 where
   pub legal : Legal P
   pub threads : HasThreads P state.threads
   pub moment : state.moment ≡ now P
+
+-- the text of a state tells its moment first
+abbrev pub TellsMoment : List ℕ → Type 0
+TellsMoment text = (rest : List ℕ) × (text ≡ codes "moment " ++ rest)
+
+-- a deadlock stands in it
+abbrev pub TellsDeadlock : List ℕ → Type 0
+TellsDeadlock text = (front rest : List ℕ) × (text ≡ front ++ (codes "deadlock: " ++ rest))

@@ -33,3 +33,14 @@ abbrev pub IsCourse : List (Option ℕ) → ℕ → Course → Type 0
 IsCourse waits k Ends = (n : ℕ) × (follow waits k n ≡ None)
 IsCourse waits k (Returns n) = ComesBack waits k n
 IsCourse waits k Enters = GoesRound waits k
+
+-- so of each place
+abbrev pub HasCourses : List (Option ℕ) → List Course → Type 0
+HasCourses waits courses = (k : ℕ) → k < places → IsCourse waits k (slice_index_or courses k Ends)
+
+-- a place is in a circle
+pub record HasCircle (courses : List Course) : Type 0 where
+  pub place : ℕ
+  pub within : place < places
+  pub steps : ℕ
+  pub is : slice_index_or courses place Ends ≡ Returns steps

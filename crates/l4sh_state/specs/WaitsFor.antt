@@ -1,8 +1,9 @@
 -- Who waits for whom.
-use Rattle.std.specs.Prelude.{◌≡◌, ℕ, ◌<◌, ◌==◌, List, Option, Some, None, slice_index_or, option_and_then, if◌then◌else◌}
+use Rattle.std.specs.Prelude.{◌≡◌, ℕ, ◌<◌, ◌==◌, List, length, Option, Some, None, slice_index_or, option_and_then, if◌then◌else◌}
 use Rattle.ipc_words.specs.Limits.{table_slots}
 use Rattle.ipc_words.specs.ThreadId.{number_of}
 use Rattle.ipc_threads.specs.declared.slot.Live.{Live}
+use Rattle.l4sh_state.specs.Waits.{ComesBack}
 use Rattle.ipc_threads.specs.declared.slot.Standing.{Standing}
 use Rattle.ipc_threads.specs.declared.slot.Phase.{Phase}
 use Rattle.ipc_threads.specs.declared.slot.Phase.TheVariants.{Sending, Passing, Receiving, Taking}
@@ -33,3 +34,13 @@ waits_at threads k =
 -- for each number
 abbrev pub HasWaits : List (Option Live) → List (Option ℕ) → Type 0
 HasWaits threads waits = (k : ℕ) → k < table_slots → slice_index_or waits k None ≡ waits_at threads k
+
+-- of live threads some wait in a circle: following the waits from a number is at it again
+pub record HasDeadlock (threads : List (Option Live)) : Type 0 where
+  pub waits : List (Option ℕ)
+  pub size : length waits ≡ table_slots
+  pub are : HasWaits threads waits
+  pub place : ℕ
+  pub within : place < table_slots
+  pub steps : ℕ
+  pub circle : ComesBack waits place steps

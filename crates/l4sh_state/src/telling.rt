@@ -1,3 +1,9 @@
+ghost use Rattle.std.specs.Prelude.{◌≡◌, ◌++◌, ℕ, List, codes, IfOk, IsNone};
+ghost use Rattle.std.specs.String.{string_bytes};
+ghost use Rattle.l4sh_state.specs.States.{TellsDeadlock, TellsMoment};
+ghost use Rattle.l4sh_state.specs.Waits.{HasCircle, HasCourses};
+ghost use Rattle.l4sh_state.specs.WaitsFor.{HasDeadlock};
+
 use crate::courses::{Course, PLACES};
 use crate::doing::{Doing, doing_of};
 use crate::drops::{Dropped, Drops};
@@ -10,29 +16,58 @@ use std::alloc::{AllocError, Global};
 
 /// A state in words: a line for each live thread, one for each circle of waits, and one for each
 /// thread whose wait leads into a circle. A thread that waits is told where a call in its name
-/// dropped p since.
-pub fn tell_state(alloc: Global, state: &State, drops: &Drops) -> Result<String, AllocError> {
+/// dropped p since. The moment stands in front.
+pub fn tell_state(alloc: Global, state: &State, drops: &Drops) -> Result<String, AllocError>
+    ensures moment { IfOk result (λ text. TellsMoment (string_bytes text)) }
+    ensures deadlock { IfOk result (λ text. HasDeadlock state.now.threads
+        → TellsDeadlock (string_bytes text)) }
+{
+    let waits = waits_of(&state.threads);
+    let courses = courses_of(&waits);
+    let threads = tell_threads(alloc, state, drops)?;
+    let circles = tell_circles(alloc, state, &waits, &courses)?;
+    let stuck = tell_all_stuck(alloc, state, &waits, &courses)?;
+    let mut text = String::new(alloc);
+    text.push_str("moment ")?;
+    text.push_str(threads.as_str())?;
+    text.push_str(circles.as_str())?;
+    text.push_str(stuck.as_str())?;
+    Ok(text)
+}
+
+// The moment behind its word, and the lines of the threads.
+fn tell_threads(alloc: Global, state: &State, drops: &Drops) -> Result<String, AllocError> {
     let mut text = String::new(alloc);
     let moment = state.moment;
-    write!(text, "moment {moment} µs\n")?;
+    write!(text, "{moment} µs\n")?;
     for live in &state.threads {
         if let Some(live) = live {
             tell_thread(&mut text, live, state, drops)?;
         }
     }
-    let waits = waits_of(&state.threads);
-    let courses = courses_of(&waits);
-    tell_circles(&mut text, state, &waits, &courses)?;
+    Ok(text)
+}
+
+// The lines of the threads whose wait leads into a circle.
+fn tell_all_stuck(
+    alloc: Global,
+    state: &State,
+    waits: &[Option<usize>; PLACES],
+    courses: &[Course; PLACES],
+) -> Result<String, AllocError> {
+    let mut text = String::new(alloc);
     for place in 0..PLACES {
         if courses[place] == Course::Enters {
-            tell_stuck(&mut text, state, &waits, &courses, place)?;
+            tell_stuck(&mut text, state, waits, courses, place)?;
         }
     }
     Ok(text)
 }
 
 // Where following the waits leads from each number.
-fn courses_of(waits: &[Option<usize>; PLACES]) -> [Course; PLACES] {
+fn courses_of(waits: &[Option<usize>; PLACES]) -> [Course; PLACES]
+    ensures { HasCourses waits.now result }
+{
     let mut courses = [Course::Ends; PLACES];
     for place in 0..PLACES {
         courses[place] = course_of(waits, place);
@@ -124,25 +159,62 @@ fn size_from(state: &State, thread: ThreadId) -> u64 {
     }
 }
 
+// The least number in a circle.
+fn first_circle(courses: &[Course; PLACES]) -> Option<usize>
+    ensures { IsNone result → HasCircle courses.now → ⊥ }
+{
+    for place in 0..PLACES {
+        if let Course::Returns(_) = courses[place] {
+            return Some(place);
+        }
+    }
+    None
+}
+
 // Tells each circle once, from its least number on.
 fn tell_circles(
-    text: &mut String,
+    alloc: Global,
     state: &State,
     waits: &[Option<usize>; PLACES],
     courses: &[Course; PLACES],
-) -> Result<(), AllocError> {
+) -> Result<String, AllocError>
+    ensures { IfOk result (λ text. HasCircle courses.now → (rest : List ℕ)
+        × (string_bytes text ≡ codes "deadlock: " ++ rest)) }
+{
+    let Some(first) = first_circle(courses) else {
+        return Ok(String::new(alloc));
+    };
+    let circles = circles_from(alloc, state, waits, courses, first)?;
+    let mut text = String::new(alloc);
+    text.push_str("deadlock: ")?;
+    text.push_str(circles.as_str())?;
+    Ok(text)
+}
+
+// The circles from a number on, the first one behind its word.
+fn circles_from(
+    alloc: Global,
+    state: &State,
+    waits: &[Option<usize>; PLACES],
+    courses: &[Course; PLACES],
+    first: usize,
+) -> Result<String, AllocError> {
+    let mut text = String::new(alloc);
     let mut told = [false; PLACES];
-    for place in 0..PLACES {
+    for place in first..PLACES {
         if let Course::Returns(steps) = courses[place] {
             if !told[place] {
-                tell_circle(text, state, waits, place, steps, &mut told)?;
+                if place > first {
+                    text.push_str("deadlock: ")?;
+                }
+                tell_circle(&mut text, state, waits, place, steps, &mut told)?;
             }
         }
     }
-    Ok(())
+    Ok(text)
 }
 
-// Tells a circle, and marks its places.
+// Tells a circle behind its word, and marks its places.
 fn tell_circle(
     text: &mut String,
     state: &State,
@@ -151,7 +223,6 @@ fn tell_circle(
     steps: usize,
     told: &mut [bool; PLACES],
 ) -> Result<(), AllocError> {
-    text.push_str("deadlock: ")?;
     tell_name(text, state, place)?;
     let mut current = place;
     let mut until = None;

@@ -1,4 +1,8 @@
 //! The text of a state, as `l4sh state` shows it.
+ghost use Rattle.std.specs.Prelude.{IfOk};
+ghost use Rattle.std.specs.String.{string_bytes};
+ghost use Rattle.l4sh_times.specs.Times.{TellsMoment};
+
 use crate::times::Times;
 use std::alloc::{AllocError, Global};
 
@@ -9,25 +13,58 @@ const UNIT: &str = " µs";
 
 /// The text of a state, as `l4d` answers it and `tell_state` makes it, of which each moment is told
 /// by these times, and behind the one since when a thread waits stands how long that is by now.
-/// What else stands there stays as it is.
-pub fn timed_state(alloc: Global, text: &str, times: Times) -> Result<String, AllocError> {
+/// What else stands there stays as it is. A text that tells its moment first still does.
+pub fn timed_state(alloc: Global, text: &str, times: Times) -> Result<String, AllocError>
+    ensures { IfOk result (λ told. TellsMoment text.now → TellsMoment (string_bytes told)) }
+{
+    let Some(behind) = text.strip_prefix("moment ") else {
+        return timed_lines(alloc, text, false, times);
+    };
+    let lines = timed_lines(alloc, behind, true, times)?;
     let mut told = String::new(alloc);
+    told.push_str("moment ")?;
+    told.push_str(lines.as_str())?;
+    Ok(told)
+}
+
+/// The lines of a state, of which the first may come without the word of its moment.
+fn timed_lines(
+    alloc: Global,
+    text: &str,
+    is_behind: bool,
+    times: Times,
+) -> Result<String, AllocError> {
+    let mut told = String::new(alloc);
+    let mut is_behind = is_behind;
     let mut now = 0u64;
     for line in text.split_inclusive('\n') {
-        match moment_of(line) {
+        let told_moment = if is_behind {
+            number_of(line)
+        } else {
+            moment_of(line)
+        };
+        match told_moment {
             Some(moment) => {
                 now = moment;
-                write!(told, "{MOMENT}{}\n", times.moment(moment))?;
+                if !is_behind {
+                    told.push_str(MOMENT)?;
+                }
+                write!(told, "{}\n", times.moment(moment))?;
             }
             None => put_line(&mut told, line, now, times)?,
         }
+        is_behind = false;
     }
     Ok(told)
 }
 
 /// The moment that a line tells, where it is the one that does.
 fn moment_of(line: &str) -> Option<u64> {
-    let rest = line.strip_prefix(MOMENT)?;
+    number_of(line.strip_prefix(MOMENT)?)
+}
+
+/// The moment behind its word in the line that tells it.
+fn number_of(rest: &str) -> Option<u64> {
     let number = rest.strip_suffix("\n")?.strip_suffix(UNIT)?;
     number.parse::<u64>().ok()
 }

@@ -1,6 +1,7 @@
 -- What a caller above the lock is told, of the kernel that stands under it.
-use Rattle.std.proofs.Common.{◌≡◌, ℕ, suc, ◌+◌, ◌-◌, ◌∷◌, List, [], Bool, true, false, Option, Some, None, inl, inr, length, refl, subst, sym, ap, ◌∙◌, arith}
-use Rattle.std.specs.Prelude.{◌||◌, not, slice_get}
+use Rattle.std.proofs.Common.{◌≡◌, ℕ, suc, ◌+◌, ◌-◌, ◌∷◌, List, [], Bool, true, false, Option, Some, None, if◌then◌else◌, inl, inr, length, refl, subst, sym, ap, ◌∙◌, arith}
+use Rattle.std.proofs.lemmas.Option.{none-some}
+use Rattle.std.specs.Prelude.{◌&&◌, ◌||◌, IfNone, IfSome, is_some, not, slice_get}
 use Rattle.ipc_connection.specs.declared.asking.Request.{Request}
 use Rattle.ipc_connection.specs.declared.replying.Told.{Told}
 use Rattle.ipc_connection.specs.declared.replying.Told.TheVariants as told
@@ -13,16 +14,19 @@ use Rattle.ipc_history.specs.Legal.{Legal}
 use Rattle.ipc_history.specs.Outcomes.{OutcomeParts}
 use Rattle.ipc_history.specs.Threads.{is_live}
 use Rattle.ipc_history.specs.declared.entry.Entry.{Entry}
-use Rattle.ipc_lock.specs.Above.{ActsSome, AsksOrRefuses, ConnectsSome, EndsSome, EntryOfSome, GivesSome, GoneSome, GroupOfSome, HangsUpSome, IsReady, LeftOfSome, MarksSome, MovesEach, MovesSome, NotLiveSome, OverSome, PostsOrDrops, ReleasesSome, RestsOrEnds, WorksSome, is_moved}
+use Rattle.ipc_lock.specs.Above.{ActsSome, AsksOrRefuses, ConnectsSome, EndsSome, EntryOfSome, FindsNone, GivesSome, GoneSome, GroupOfSome, HandsOut, HangsUpSome, IsReady, LeftOfSome, MarksSome, MovesEach, MovesSome, NotLiveSome, OverSome, PostsOrDrops, ReleasesSome, RestsOrEnds, WorksSome, is_moved}
 use Rattle.ipc_lock.specs.Alarms.{Rests}
-use Rattle.ipc_lock.specs.Boxes.{BoxParts, changed_at}
+use Rattle.ipc_connection.specs.Pens.{Page}
+use Rattle.ipc_lock.specs.Boxes.{BoxParts, changed_at, is_of}
 use Rattle.ipc_lock.specs.Gifts.{gifts, no_errands, number_in}
+use Rattle.ipc_lock.specs.Giving.{Wrote}
 use Rattle.ipc_lock.specs.Groups.{IsGroupAt}
 use Rattle.ipc_lock.specs.InsideParts.{LoggedParts}
+use Rattle.ipc_lock.specs.Logs.{given_to}
 use Rattle.ipc_log.specs.Views.{Known}
 use Rattle.ipc_lock.specs.Owning.{Begins, Knows, Makes, Sees}
 use Rattle.ipc_lock.specs.Noting.{NotesOn, NotesStep}
-use Rattle.ipc_lock.specs.Places.{EndsAt, FreesSome, LoadsAt, LoadsOne, OnlyLoads, is_empty_in, is_in, is_shut_in, shut_for, thread_for}
+use Rattle.ipc_lock.specs.Places.{EndsAt, FreesSome, LoadsAt, LoadsOne, OnlyLoads, is_empty_in, is_in, is_out, is_shut_in, pen_in, shut_for, thread_for}
 use Rattle.ipc_lock.specs.Rounds.{Carries}
 use Rattle.ipc_lock.specs.Telling.{ActsAndTells, AsksAndTells}
 use Rattle.ipc_lock.specs.Turns.{Runs, Turned}
@@ -34,7 +38,7 @@ use Rattle.ipc_lock.specs.declared.rest.Rest.{Rest}
 use Rattle.ipc_lock.specs.declared.seated.seats.CallSeat.{CallSeat}
 use Rattle.ipc_lock.specs.declared.upkeep.Upkeep.{Upkeep}
 
-pub acts_some : {C P : Type 0} (before after : LoggedParts) (now : ℕ) (seat : Option (CallSeat C)) (command : Command) (answer : Answer) (pens left : Errands P)
+pub acts_some : {C P : Type 0} (before after : LoggedParts) (now : ℕ) (seat : Option (CallSeat C)) (command : Command) (answer : Answer) (pens left : Errands C P)
     → Turned C P before after (event.Acted now (command ∷ []) (answer ∷ []) (gifts pens))
     → ActsAndTells before.inside.upkeep after.inside.upkeep before.inside.kernel after.inside.kernel now seat command answer before.inside.owners
     before.inside.boxes after.inside.boxes no_errands pens
@@ -50,7 +54,7 @@ acts_some before after now seat command answer pens left turned acts carries = r
 }
 
 pub asks_some : {C P : Type 0} (before there after : LoggedParts) (now : ℕ) (seat own_seat : Option (CallSeat C)) (asked : Request) (space : ℕ) (said : Told)
-    (place : ℕ) (pens left : Errands P) (own own_then own_now : Known Event) → own_seat ≡ seat → own_then ≡ own → before ≡ there
+    (place : ℕ) (pens left : Errands C P) (own own_then own_now : Known Event) → own_seat ≡ seat → own_then ≡ own → before ≡ there
     → is_in own.number (slice_get there.inside.boxes place) ≡ true → is_shut_in (slice_get there.inside.boxes place) ≡ false
     → is_empty_in (slice_get there.inside.boxes place) ≡ true
     → Turned C P before after (event.Asked now place (number_in (slice_get before.inside.boxes place)) (asked ∷ []) space said (gifts pens))
@@ -103,7 +107,7 @@ gone_other C P logged shown there place number own own_then own_now at shown_at 
       (sym (ap (λ (n : ℕ). is_in n (slice_get logged.inside.boxes place)) (sym is) ∙ other)) refl;
 }
 
-pub posts_some : (C P : Type 0) (before between after : LoggedParts) (place : ℕ) (said : Told) (pens left : Errands P) (own own_then own_now : Known Event)
+pub posts_some : (C P : Type 0) (before between after : LoggedParts) (place : ℕ) (said : Told) (pens left : Errands C P) (own own_then own_now : Known Event)
     → own_then ≡ own → is_in own.number (slice_get before.inside.boxes place) ≡ true → is_shut_in (slice_get before.inside.boxes place) ≡ false
     → is_empty_in (slice_get before.inside.boxes place) ≡ true
     → Turned C P before between (event.Posted place (number_in (slice_get before.inside.boxes place)) said) → Turned C P between after (event.Looked place (gifts pens))
@@ -182,21 +186,64 @@ pub releases_some : (C P : Type 0) (before after : LoggedParts) (place : ℕ) (o
     → Knows own before.log → FreesSome before.inside.boxes place own.number → ReleasesSome C P place own
 releases_some C P before after place own turned knew frees = record { before = before; after = after; knew = knew; turned = turned; frees = frees }
 
-pub ends_some : (C P : Type 0) (before after : LoggedParts) (pens : Errands P) (now place number : ℕ) (is_by_reader : Bool)
+-- its pen was handed out
+pub hands_out : (C P : Type 0) (before after : LoggedParts) (place : ℕ) (own : Known Event) (out : Option (List ℕ))
+    → Turned C P before after (event.Released place own.number) → Knows own before.log → FreesSome before.inside.boxes place own.number
+    → Wrote out (given_to own.number before.log) → HandsOut C P place own out
+unfolding releases_some
+hands_out C P before after place own out turned knew frees wrote =
+    record { releases = releases_some C P before after place own turned knew frees; wrote = wrote }
+
+-- no pen lay in a box that is there, though none is out: it is not that of the connection
+not_there : (number : ℕ) (box : Option BoxParts) → is_out number box ≡ false → pen_in number box ≡ None → is_in number box ≡ false
+not_there number None out pen = refl
+not_there number (Some box) out pen = go (is_of number box.number) box.pen out pen
+  where
+    go : (b : Bool) (page : Option Page) → b && not (is_some page) ≡ false → (if b then page else None) ≡ None → b ≡ false
+    go true None out pen = out
+    go true (Some page) out pen = absurd (none-some page (sym pen))
+    go false page out pen = refl
+
+pub finds_none : (C P : Type 0) (before after there : LoggedParts) (place : ℕ) (own : Known Event) → before ≡ there
+    → Turned C P before after (event.Released place own.number) → Knows own before.log → FreesSome before.inside.boxes place own.number
+    → is_out own.number (slice_get there.inside.boxes place) ≡ false
+    → pen_in own.number (slice_get before.inside.boxes place) ≡ None → FindsNone C P place own
+unfolding releases_some
+finds_none C P before after there place own is turned knew frees out pen = record {
+  releases = releases_some C P before after place own turned knew frees;
+  gone = not_there own.number (slice_get before.inside.boxes place)
+      (subst (λ (l : LoggedParts). is_out own.number (slice_get l.inside.boxes place) ≡ false) (sym is) out) pen;
+}
+
+-- the same, as the port comes or does not
+pub hands_if : (C P : Type 0) {Q : Type 0} (result : Option Q) (written : Q → Option (List ℕ)) (before after : LoggedParts) (place : ℕ) (own : Known Event)
+    → Turned C P before after (event.Released place own.number) → Knows own before.log → FreesSome before.inside.boxes place own.number
+    → IfSome result (λ port. Wrote (written port) (given_to own.number before.log)) → IfSome result (λ port. HandsOut C P place own (written port))
+hands_if C P None written before after place own turned knew frees wrote = tt
+hands_if C P (Some port) written before after place own turned knew frees wrote = hands_out C P before after place own (written port) turned knew frees wrote
+
+pub none_if : (C P : Type 0) {Q : Type 0} (result : Option Q) (before after there : LoggedParts) (place : ℕ) (own : Known Event) → before ≡ there
+    → Turned C P before after (event.Released place own.number) → Knows own before.log → FreesSome before.inside.boxes place own.number
+    → is_out own.number (slice_get there.inside.boxes place) ≡ false
+    → IfNone result (pen_in own.number (slice_get before.inside.boxes place) ≡ None) → IfNone result (FindsNone C P place own)
+none_if C P None before after there place own is turned knew frees out pen = finds_none C P before after there place own is turned knew frees out pen
+none_if C P (Some port) before after there place own is turned knew frees out pen = tt
+
+pub ends_some : (C P : Type 0) (before after : LoggedParts) (pens left : Errands C P) (now place number : ℕ) (is_by_reader : Bool)
     → Turned C P before after (event.Ended now place number is_by_reader (gifts pens))
     → EndsAt before.inside.upkeep after.inside.upkeep before.inside.kernel after.inside.kernel now (thread_for number (slice_get before.inside.boxes place))
-    → OnlyLoads (changed_at (shut_for number) before.inside.boxes place) after.inside.boxes → EndsSome C P now place number is_by_reader
-ends_some C P before after pens now place number is_by_reader turned ends shut =
-    record { before = before; after = after; pens = pens; turned = turned; ends = ends; shut = shut }
+    → OnlyLoads (changed_at (shut_for number) before.inside.boxes place) after.inside.boxes → Carries pens left → EndsSome C P now place number is_by_reader
+ends_some C P before after pens left now place number is_by_reader turned ends shut carries =
+    record { before = before; after = after; pens = pens; left = left; turned = turned; ends = ends; shut = shut; carries = carries }
 
-pub hangs_up : (C P : Type 0) (before after : LoggedParts) (pens : Errands P) (now place : ℕ) (own own_now : Known Event)
+pub hangs_up : (C P : Type 0) (before after : LoggedParts) (pens left : Errands C P) (now place : ℕ) (own own_now : Known Event)
     → Turned C P before after (event.Ended now place own.number true (gifts pens))
     → EndsAt before.inside.upkeep after.inside.upkeep before.inside.kernel after.inside.kernel now (thread_for own.number (slice_get before.inside.boxes place))
     → OnlyLoads (changed_at (shut_for own.number) before.inside.boxes place) after.inside.boxes
-    → Makes own own_now before.log after.log (event.Ended now place own.number true (gifts pens)) → HangsUpSome C P now place own own_now
+    → Makes own own_now before.log after.log (event.Ended now place own.number true (gifts pens)) → Carries pens left → HangsUpSome C P now place own own_now
 unfolding ends_some
-hangs_up C P before after pens now place own own_now turned ends shut makes =
-    record { ends = ends_some C P before after pens now place own.number true turned ends shut; makes = makes }
+hangs_up C P before after pens left now place own own_now turned ends shut makes carries =
+    record { ends = ends_some C P before after pens left now place own.number true turned ends shut carries; makes = makes }
 
 pub group_some : (C P : Type 0) (logged : LoggedParts) (index : ℕ) (group : List Entry) → Runs C P logged.log logged.inside
     → Legal logged.inside.kernel.history → IsGroupAt logged.inside.kernel.history index group → GroupOfSome C P index group

@@ -8,14 +8,14 @@ use Rattle.ipc_lock.specs.Rounds.{Carries, Rounds}
 use Rattle.ipc_lock.specs.declared.errands.Errands.{Errands}
 
 -- so many rounds
-abbrev pub SomeRounds : {P : Type 0} → Errands P → Errands P → Type 0
+abbrev pub SomeRounds : {C P : Type 0} → Errands C P → Errands C P → Type 0
 SomeRounds errands errands_now = (count : ℕ) × Rounds count errands errands_now
 
-pub no_rounds : {P : Type 0} (errands : Errands P) → SomeRounds errands errands
+pub no_rounds : {C P : Type 0} (errands : Errands C P) → SomeRounds errands errands
 no_rounds errands = (0, refl)
 
 -- and one more
-pub round_more : {P : Type 0} (errands between written errands_now : Errands P) (old new : KernelParts) (boxes after : List BoxParts)
+pub round_more : {C P : Type 0} (errands between written errands_now : Errands C P) (old new : KernelParts) (boxes after : List BoxParts)
     → SomeRounds errands between → OnlyWrites between.first written.first → OnlyWrites between.second written.second → OnlyWrites between.third written.third
     → TakesBack old new boxes after written errands_now → SomeRounds errands errands_now
 round_more errands between written errands_now old new boxes after h first second third takes = (
@@ -48,7 +48,7 @@ is_none None h = refl
 is_none (Some x) h = absurd (subst (λ (c : Bool). MatchBool c ⊥ ⊤) h tt)
 
 -- until none was out
-pub all_carried : {P : Type 0} (errands errands_now : Errands P) → SomeRounds errands errands_now
+pub all_carried : {C P : Type 0} (errands errands_now : Errands C P) → SomeRounds errands errands_now
     → not (is_some errands_now.first) && not (is_some errands_now.second) && not (is_some errands_now.third) ≡ true → Carries errands errands_now
 all_carried errands errands_now h none =
     let both : not (is_some errands_now.first) && not (is_some errands_now.second) ≡ true =

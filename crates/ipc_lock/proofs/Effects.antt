@@ -113,7 +113,7 @@ effect_tells known now before after boxes gave made first h = record {
 }
 
 acts_tells : {C P : Type 0} (known : ℕ → Known) (upkeep after_upkeep : Upkeep) (old new : KernelParts) (now : ℕ) (seat : Option (CallSeat C)) (command : Command)
-    (answer : Answer) (owners : List (Option ℕ)) (boxes boxes_now : List BoxParts) (errands : Errands P)
+    (answer : Answer) (owners : List (Option ℕ)) (boxes boxes_now : List BoxParts) (errands : Errands C P)
     → ActsAndTells upkeep after_upkeep old new now seat command answer owners boxes boxes_now no_errands errands
     → Makes known old new boxes boxes_now (gifts errands) (made_of command answer)
 acts_tells known upkeep after_upkeep old new now seat command answer owners boxes boxes_now errands h =
@@ -141,7 +141,7 @@ ended {C} {P} known before after now place number gave h =
 
     go : (thread : Option ℕ) → BreaksFor C before.upkeep after.upkeep before.kernel after.kernel now thread before.owners shut after.boxes no_errands h.errands
         → Makes known before.kernel after.kernel shut after.boxes (gifts h.errands) []
-    go None breaks = subst (λ (e : Errands P). Makes known before.kernel after.kernel shut after.boxes (gifts e) []) (sym breaks.3) (record {
+    go None breaks = subst (λ (e : Errands C P). Makes known before.kernel after.kernel shut after.boxes (gifts e) []) (sym breaks.3) (record {
       continues = continues_same before.kernel after.kernel breaks.0;
       kept = same_boxes known shut after.boxes breaks.2;
       owned = λ sound kept. All-nil (IsGiftFor after.kernel.history known);
@@ -213,18 +213,18 @@ effect_of_tells known before after gave told is h =
     (only_tells known before.kernel after.kernel before.boxes after.boxes gave
     (subst (λ (l : List Gift). Tells known before.kernel after.kernel before.boxes after.boxes l) (sym is) h))
 
-looked : {P : Type 0} (known : ℕ → Known) (before after : InsideParts) (place : ℕ) (gave : List Gift) → Looked P before after place gave
+looked : {C P : Type 0} (known : ℕ → Known) (before after : InsideParts) (place : ℕ) (gave : List Gift) → Looked C P before after place gave
     → Effect known known before after (calls_of gave) gave []
 looked known before after place gave h =
     let loaded = loads_at known before.kernel after.kernel before.boxes after.boxes place no_errands h.errands tt h.loads in
     effect_of_tells known before after gave loaded.gave (h.gifts_are ∙ loaded.gifts_are) loaded.tells
 
-laid : {P : Type 0} (known : ℕ → Known) (before after : InsideParts) (gave : List Gift) → Laid P before after gave → Effect known known before after (calls_of gave) gave []
+laid : {C P : Type 0} (known : ℕ → Known) (before after : InsideParts) (gave : List Gift) → Laid C P before after gave → Effect known known before after (calls_of gave) gave []
 laid known before after gave h =
     effect_of_tells known before after gave (gifts h.errands_now) h.gifts_are
     (tells_back known before.kernel after.kernel before.boxes after.boxes h.errands h.errands_now h.takes)
 
-worked : {P : Type 0} (known : ℕ → Known) (before after : InsideParts) (place number : ℕ) (gave : List Gift) → Worked P before after place number gave
+worked : {C P : Type 0} (known : ℕ → Known) (before after : InsideParts) (place number : ℕ) (gave : List Gift) → Worked C P before after place number gave
     → Effect known known before after (calls_of gave) gave []
 worked known before after place number gave h =
     effect_of_tells known before after gave (work_gifts (slice_get before.boxes place) h.next) h.gifts_are
@@ -270,10 +270,10 @@ effect_of C P known before after (event.Asked now place owns requests space said
 effect_of C P known before after (event.Ended now place number is_by_reader gave) h =
     as_before known before after (calls_of gave) gave [] (ended {C = C} {P = P} known before after now place number gave h)
 effect_of C P known before after (event.Posted place owns said) h = posted known before after place owns said h
-effect_of C P known before after (event.Looked place gave) h = as_before known before after (calls_of gave) gave [] (looked {P = P} known before after place gave h)
-effect_of C P known before after (event.Laid gave) h = as_before known before after (calls_of gave) gave [] (laid {P = P} known before after gave h)
+effect_of C P known before after (event.Looked place gave) h = as_before known before after (calls_of gave) gave [] (looked {C = C} {P = P} known before after place gave h)
+effect_of C P known before after (event.Laid gave) h = as_before known before after (calls_of gave) gave [] (laid {C = C} {P = P} known before after gave h)
 effect_of C P known before after (event.Worked place number gave) h =
-    as_before known before after (calls_of gave) gave [] (worked {P = P} known before after place number gave h)
+    as_before known before after (calls_of gave) gave [] (worked {C = C} {P = P} known before after place number gave h)
 effect_of C P known before after (event.Released place number) h =
     as_before known before after [] [] []
     (effect_still known before after [] (continues_same before.kernel after.kernel h.kernel)

@@ -1,73 +1,36 @@
 -- Pens that come out of boxes stand behind those that are out.
 use Rattle.std.proofs.Common.{◌≡◌, ℕ, List, [], ◌∷◌, ◌++◌, append_assoc, append-nil, Bool, true, false, MatchBool, Option, Some, None, refl, sym, ap, ◌∙◌, subst}
-use Rattle.std.proofs.lemmas.Bool.{false≢true}
-use Rattle.std.specs.Prelude.{is_some, slice_get, ⊤}
+use Rattle.std.specs.Prelude.{is_some, slice_get}
 use Rattle.ipc_core.specs.KernelParts.{KernelParts}
 use Rattle.ipc_connection.specs.Pens.{Page}
 use Rattle.ipc_lock.specs.Boxes.{BoxParts}
-use Rattle.ipc_lock.specs.Gifts.{gift_in, gift_of, gifts}
+use Rattle.ipc_lock.specs.Gifts.{gift_in, gifts}
+use Rattle.ipc_lock.specs.Handing.{InOrder}
 use Rattle.ipc_lock.specs.Places.{LoadsAt, LoadsOne, LoadsRow, LooksAt, StaysAll, added}
 use Rattle.ipc_lock.specs.declared.errands.Errands.{Errands}
 use Rattle.ipc_lock.specs.declared.events.Gift.{Gift}
+use Rattle.ipc_lock.proofs.Handed.{added_gifts, added_order}
 use Rattle.ipc_lock.proofs.Looking.{Known, Tells, kept_there, tells_at, tells_both, tells_none}
 
--- the pens on errands stand in the first places
-abbrev AreFirst : Option Page → Option Page → Option Page → Type 0
-AreFirst None None None = ⊤
-AreFirst (Some first) None None = ⊤
-AreFirst (Some first) (Some second) third = ⊤
-AreFirst first second third = ⊥
-
-abbrev pub InOrder : {P : Type 0} → Errands P → Type 0
-InOrder errands = AreFirst errands.first errands.second errands.third
-
-abbrev errands_of : {P : Type 0} → Option Page → Option Page → Option Page → Errands P
-errands_of first second third = record { first = first; second = second; third = third }
-
-added_gifts : (P : Type 0) (out first second third : Option Page) → AreFirst first second third → is_some third ≡ false
-    → gifts (added out (errands_of {P = P} first second third)) ≡ gifts (errands_of {P = P} first second third) ++ gift_in out
-added_gifts P None first second third order room = sym (append-nil (gifts (errands_of {P = P} first second third)))
-added_gifts P (Some pen) None None None order room = append-nil (gift_of pen ++ []) ∙ append-nil (gift_of pen)
-added_gifts P (Some pen) (Some one) None None order room =
-    append-nil (gift_of one ++ gift_of pen) ∙ ap (λ (l : List Gift). l ++ gift_of pen) (sym (append-nil (gift_of one ++ []) ∙ append-nil (gift_of one)))
-added_gifts P (Some pen) (Some one) (Some two) None order room = ap (λ (l : List Gift). l ++ gift_of pen) (sym (append-nil (gift_of one ++ gift_of two)))
-added_gifts P (Some pen) (Some one) (Some two) (Some three) order room = absurd (false≢true (sym room))
-added_gifts P (Some pen) (Some one) None (Some three) order room = absurd (false≢true (sym room))
-added_gifts P (Some pen) None None (Some three) order room = absurd (false≢true (sym room))
-added_gifts P (Some pen) None (Some two) (Some three) order room = absurd (false≢true (sym room))
-added_gifts P (Some pen) None (Some two) None order room = absurd order
-
-added_order : (P : Type 0) (out first second third : Option Page) → AreFirst first second third → is_some third ≡ false
-    → InOrder (added out (errands_of {P = P} first second third))
-added_order P None first second third order room = order
-added_order P (Some pen) None None None order room = tt
-added_order P (Some pen) (Some one) None None order room = tt
-added_order P (Some pen) (Some one) (Some two) None order room = tt
-added_order P (Some pen) (Some one) (Some two) (Some three) order room = absurd (false≢true (sym room))
-added_order P (Some pen) (Some one) None (Some three) order room = absurd (false≢true (sym room))
-added_order P (Some pen) None None (Some three) order room = absurd (false≢true (sym room))
-added_order P (Some pen) None (Some two) (Some three) order room = absurd (false≢true (sym room))
-added_order P (Some pen) None (Some two) None order room = absurd order
-
 -- boxes were looked into whose pens came behind those that were out
-pub record TellsMore {P : Type 0} (known : ℕ → Known) (old new : KernelParts) (boxes after : List BoxParts) (errands errands_now : Errands P) : Type 0 where
+pub record TellsMore {C P : Type 0} (known : ℕ → Known) (old new : KernelParts) (boxes after : List BoxParts) (errands errands_now : Errands C P) : Type 0 where
   pub gave : List Gift
   pub gifts_are : gifts errands_now ≡ gifts errands ++ gave
   pub order : InOrder errands_now
   pub tells : Tells known old new boxes after gave
 
-more_none : {P : Type 0} (known : ℕ → Known) (old new : KernelParts) (boxes after : List BoxParts) (errands errands_now : Errands P)
+more_none : {C P : Type 0} (known : ℕ → Known) (old new : KernelParts) (boxes after : List BoxParts) (errands errands_now : Errands C P)
     → InOrder errands → StaysAll old new boxes after → errands_now ≡ errands → TellsMore known old new boxes after errands errands_now
-more_none {P} known old new boxes after errands errands_now order stays same = record {
+more_none {C} {P} known old new boxes after errands errands_now order stays same = record {
   gave = [];
-  gifts_are = ap (λ (e : Errands P). gifts e) same ∙ sym (append-nil (gifts errands));
-  order = subst (λ (e : Errands P). InOrder e) (sym same) order;
+  gifts_are = ap (λ (e : Errands C P). gifts e) same ∙ sym (append-nil (gifts errands));
+  order = subst (λ (e : Errands C P). InOrder e) (sym same) order;
   tells = tells_none known old new boxes after stays;
 }
 
-pub loads_at : {P : Type 0} (known : ℕ → Known) (old new : KernelParts) (boxes after : List BoxParts) (place : ℕ) (errands errands_now : Errands P)
+pub loads_at : {C P : Type 0} (known : ℕ → Known) (old new : KernelParts) (boxes after : List BoxParts) (place : ℕ) (errands errands_now : Errands C P)
     → InOrder errands → LoadsAt old new boxes after place (slice_get boxes place) errands errands_now → TellsMore known old new boxes after errands errands_now
-loads_at {P} known old new boxes after place errands errands_now order h = go (slice_get boxes place) refl h
+loads_at {C} {P} known old new boxes after place errands errands_now order h = go (slice_get boxes place) refl h
   where
     of_box : (b : Bool) (box : BoxParts) → slice_get boxes place ≡ Some box → is_some errands.third ≡ b
         → MatchBool b (StaysAll old new boxes after × (errands_now ≡ errands)) ((out : Option Page) × LooksAt old new boxes after place box out × (errands_now ≡ added out errands))
@@ -75,8 +38,8 @@ loads_at {P} known old new boxes after place errands errands_now order h = go (s
     of_box true box is room h = more_none known old new boxes after errands errands_now order h.0 h.1
     of_box false box is room h = record {
       gave = gift_in h.0;
-      gifts_are = ap (λ (e : Errands P). gifts e) h.2 ∙ added_gifts P h.0 errands.first errands.second errands.third order room;
-      order = subst (λ (e : Errands P). InOrder e) (sym h.2) (added_order P h.0 errands.first errands.second errands.third order room);
+      gifts_are = ap (λ (e : Errands C P). gifts e) h.2 ∙ added_gifts C P h.0 errands.first errands.second errands.third order room;
+      order = subst (λ (e : Errands C P). InOrder e) (sym h.2) (added_order C P h.0 errands.first errands.second errands.third order room);
       tells = tells_at known old new boxes after place box h.0 (kept_there known boxes place box is) h.1;
     }
 
@@ -84,12 +47,12 @@ loads_at {P} known old new boxes after place errands errands_now order h = go (s
     go None is h = more_none known old new boxes after errands errands_now order h.0 h.1
     go (Some box) is h = of_box (is_some errands.third) box is refl h
 
-loads_one : {P : Type 0} (known : ℕ → Known) (place : Option ℕ) (old new : KernelParts) (boxes after : List BoxParts) (errands errands_now : Errands P)
+loads_one : {C P : Type 0} (known : ℕ → Known) (place : Option ℕ) (old new : KernelParts) (boxes after : List BoxParts) (errands errands_now : Errands C P)
     → InOrder errands → LoadsOne place old new boxes after errands errands_now → TellsMore known old new boxes after errands errands_now
 loads_one known None old new boxes after errands errands_now order h = more_none known old new boxes after errands errands_now order h.0 h.1
 loads_one known (Some place) old new boxes after errands errands_now order h = loads_at known old new boxes after place errands errands_now order h
 
-pub loads_row : {P : Type 0} (known : ℕ → Known) (places : List (Option ℕ)) (old new : KernelParts) (boxes after : List BoxParts) (errands errands_now : Errands P)
+pub loads_row : {C P : Type 0} (known : ℕ → Known) (places : List (Option ℕ)) (old new : KernelParts) (boxes after : List BoxParts) (errands errands_now : Errands C P)
     → InOrder errands → LoadsRow places old new boxes after errands errands_now → TellsMore known old new boxes after errands errands_now
 loads_row known [] old new boxes after errands errands_now order h = more_none known old new boxes after errands errands_now order h.0 h.1
 loads_row known (place ∷ places) old new boxes after errands errands_now order h =

@@ -245,7 +245,7 @@ looks_again : (known : ℕ → Known) (old new : KernelParts) (boxes after : Lis
 looks_again known old new boxes after None again h = tells_no_pen known old new boxes after again h.0 h.1
 looks_again known old new boxes after (Some pen) again h = lays_at known old new boxes after pen again h
 
-pub tells_back : {P : Type 0} (known : ℕ → Known) (old new : KernelParts) (boxes after : List BoxParts) (errands errands_now : Errands P)
+pub tells_back : {C P : Type 0} (known : ℕ → Known) (old new : KernelParts) (boxes after : List BoxParts) (errands errands_now : Errands C P)
     → TakesBack old new boxes after errands errands_now → Tells known old new boxes after (gifts errands_now)
 tells_back known old new boxes after errands errands_now h =
     tells_both known old h.kernel_second new boxes h.boxes_second after (gift_in errands_now.first ++ gift_in errands_now.second) (gift_in errands_now.third)
@@ -268,38 +268,32 @@ shows_still known old new box left same kept = record {
   owned = λ sound there. All-nil (IsGiftFor new.history known);
 }
 
-abbrev gifts_if : {P : Type 0} → Bool → Option (Work P) → List Gift
+abbrev gifts_if : {C P : Type 0} → Bool → Option (Work C P) → List Gift
 gifts_if idle (Some (work.Write pen)) = if idle then gift_of pen else []
 gifts_if idle next = []
 
-shows_begin : {P : Type 0} (known : ℕ → Known) (old new : KernelParts) (box left : BoxParts) (next : Option (Work P)) → Begins old new box left next
+shows_begin : {C P : Type 0} (known : ℕ → Known) (old new : KernelParts) (box left : BoxParts) (next : Option (Work C P)) → Begins old new box left next
     → Shows known old new box left (gifts_if true next)
 shows_begin known old new box left None h = shows_nothing known old new box left h.1
 shows_begin known old new box left (Some (work.Write pen)) h = shows_pen known old new box left pen h
-shows_begin known old new box left (Some work.Over) h =
-    let told = shows_nothing known old new box h.1.0 h.1.1 in
-    record {
-      continues = told.continues;
-      kept = λ kept. subst (λ (b : BoxParts). IsKept known b) (sym h.1.2) (without_pen known h.1.0 (told.kept kept));
-      owned = told.owned;
-    }
+shows_begin known old new box left (Some work.Over) h = shows_nothing known old new box left h.1
 
-shows_on : {P : Type 0} (known : ℕ → Known) (old new : KernelParts) (box left : BoxParts) (next : Option (Work P)) → new ≡ old → WritesOn box left next
+shows_on : {C P : Type 0} (known : ℕ → Known) (old new : KernelParts) (box left : BoxParts) (next : Option (Work C P)) → new ≡ old → WritesOn box left next
     → Shows known old new box left (gifts_if false next)
 shows_on known old new box left None same h = shows_still known old new box left same (λ kept. subst (λ (b : BoxParts). IsKept known b) (sym h.1) kept)
 shows_on known old new box left (Some (work.Write pen)) same h =
     shows_still known old new box left same (λ kept. subst (λ (b : BoxParts). IsKept known b) (sym h.1) (without_pen known box kept))
 shows_on known old new box left (Some work.Over) same h = absurd h
 
-shows_end : {P : Type 0} (known : ℕ → Known) (old new : KernelParts) (box left : BoxParts) (idle : Bool) (next : Option (Work P)) → new ≡ old → EndsWork box left next
+shows_end : {C P : Type 0} (known : ℕ → Known) (old new : KernelParts) (box left : BoxParts) (idle : Bool) (next : Option (Work C P)) → new ≡ old → EndsWork box left next
     → Shows known old new box left (gifts_if idle next)
-shows_end {P} known old new box left idle next same h =
-    subst (λ (n : Option (Work P)). Shows known old new box left (gifts_if idle n)) (sym h.0)
-    (shows_still known old new box left same (λ kept. subst (λ (b : BoxParts). IsKept known b) (sym h.1) (without_pen known box kept)))
+shows_end {C} {P} known old new box left idle next same h =
+    subst (λ (n : Option (Work C P)). Shows known old new box left (gifts_if idle n)) (sym h.0)
+    (shows_still known old new box left same (λ kept. subst (λ (b : BoxParts). IsKept known b) (sym h.1) kept))
 
-shows_work : {P : Type 0} (known : ℕ → Known) (old new : KernelParts) (box left : BoxParts) (next : Option (Work P)) → Works old new box left next
+shows_work : {C P : Type 0} (known : ℕ → Known) (old new : KernelParts) (box left : BoxParts) (next : Option (Work C P)) → Works old new box left next
     → Shows known old new box left (gifts_if (is_idle box.pen) next)
-shows_work {P} known old new box left next h = by_failed (has_failed box.pen) h
+shows_work {C} {P} known old new box left next h = by_failed (has_failed box.pen) h
   where
     by_idle : (idle : Bool) → MatchBool idle (Begins old new box left next) ((new ≡ old) × WritesOn box left next) → Shows known old new box left (gifts_if idle next)
     by_idle true h = shows_begin known old new box left next h
@@ -310,23 +304,23 @@ shows_work {P} known old new box left next h = by_failed (has_failed box.pen) h
     by_failed true h = shows_end known old new box left (is_idle box.pen) next h.0 h.1
     by_failed false h = by_idle (is_idle box.pen) h
 
-same_gifts : {P : Type 0} (box : BoxParts) (next : Option (Work P)) → gifts_if (is_idle box.pen) next ≡ work_gifts (Some box) next
+same_gifts : {C P : Type 0} (box : BoxParts) (next : Option (Work C P)) → gifts_if (is_idle box.pen) next ≡ work_gifts (Some box) next
 same_gifts box None = refl
 same_gifts box (Some (work.Write pen)) = refl
 same_gifts box (Some work.Over) = refl
 
-tells_over : {P : Type 0} (known : ℕ → Known) (old new : KernelParts) (boxes after : List BoxParts) (there : Option BoxParts) (next : Option (Work P))
+tells_over : {C P : Type 0} (known : ℕ → Known) (old new : KernelParts) (boxes after : List BoxParts) (there : Option BoxParts) (next : Option (Work C P))
     → StaysAll old new boxes after → next ≡ Some work.Over → Tells known old new boxes after (work_gifts there next)
-tells_over {P} known old new boxes after there next stays over =
-    subst (λ (n : Option (Work P)). Tells known old new boxes after (work_gifts there n)) (sym over) (none there)
+tells_over {C} {P} known old new boxes after there next stays over =
+    subst (λ (n : Option (Work C P)). Tells known old new boxes after (work_gifts there n)) (sym over) (none there)
   where
-    none : (o : Option BoxParts) → Tells known old new boxes after (work_gifts {P = P} o (Some work.Over))
+    none : (o : Option BoxParts) → Tells known old new boxes after (work_gifts {C = C} {P = P} o (Some work.Over))
     none None = tells_none known old new boxes after stays
     none (Some box) = tells_none known old new boxes after stays
 
-pub tells_work : {P : Type 0} (known : ℕ → Known) (old new : KernelParts) (boxes after : List BoxParts) (place number : ℕ) (next : Option (Work P))
+pub tells_work : {C P : Type 0} (known : ℕ → Known) (old new : KernelParts) (boxes after : List BoxParts) (place number : ℕ) (next : Option (Work C P))
     → WorksFor old new boxes after place number (slice_get boxes place) next → Tells known old new boxes after (work_gifts (slice_get boxes place) next)
-tells_work {P} known old new boxes after place number next h = go (slice_get boxes place) refl h
+tells_work {C} {P} known old new boxes after place number next h = go (slice_get boxes place) refl h
   where
     by_number : (b : Bool) (box : BoxParts) → slice_get boxes place ≡ Some box
         → MatchBool b ((left : BoxParts) × Works old new box left next × (after ≡ slice_set boxes place left)) (StaysAll old new boxes after × (next ≡ Some work.Over))

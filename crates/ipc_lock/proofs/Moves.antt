@@ -168,7 +168,7 @@ set_same boxes place box is = ap (λ (b : BoxParts). slice_set boxes place b) is
 pub set_none : (owners : List (Option ℕ)) (place : ℕ) (owner : Option ℕ) → length owners ≤ place → slice_set owners place owner ≡ owners
 set_none owners place owner past = set_past owners place owner past
 
-same_told : (old new : KernelParts) (box left : BoxParts) → TellsNothing old new box left → SameBox box left
+pub same_told : (old new : KernelParts) (box left : BoxParts) → TellsNothing old new box left → SameBox box left
 same_told old new box left h = go (is_idle box.pen) h
   where
     go : (b : Bool) → MatchBool b (HasNothing old new box × (left ≡ record box { posted = None })) ((new ≡ old) × (left ≡ box)) → SameBox box left
@@ -179,19 +179,19 @@ risen_thread : (seat : Option TakeParts) → thread_at_seat (risen seat) ≡ thr
 risen_thread None = refl
 risen_thread (Some seat) = refl
 
-same_next : (box left : BoxParts) (next : Given) → left ≡ record (told_box box (Some next)) { pen = None } → SameBox box left
+pub same_next : (box left : BoxParts) (next : Given) → left ≡ record (told_box box (Some next)) { pen = None } → SameBox box left
 same_next box left (given.Frame frame) h = subst (λ (x : BoxParts). SameBox box x) (sym h) (record { place = refl; number = refl; version = refl; shut = refl; thread = refl })
 same_next box left (given.Outcome version outcome) h =
     subst (λ (x : BoxParts). SameBox box x) (sym h) (record { place = refl; number = refl; version = refl; shut = refl; thread = risen_thread box.seat })
 
-same_looked : (old new : KernelParts) (box left : BoxParts) (out : Option Page) → LooksInto old new box left out → SameBox box left
+pub same_looked : (old new : KernelParts) (box left : BoxParts) (out : Option Page) → LooksInto old new box left out → SameBox box left
 same_looked old new box left None h = same_told old new box left h
 same_looked old new box left (Some pen) h = same_next box left h.next h.left
 
 -- a pen came out of the box of a place, or none did
-pub loads_stay : {P : Type 0} (old new : KernelParts) (boxes after : List BoxParts) (place : ℕ) (errands errands_now : Errands P)
+pub loads_stay : {C P : Type 0} (old new : KernelParts) (boxes after : List BoxParts) (place : ℕ) (errands errands_now : Errands C P)
     → LoadsAt old new boxes after place (slice_get boxes place) errands errands_now → OnlyLoads boxes after
-loads_stay {P} old new boxes after place errands errands_now h = go (slice_get boxes place) refl h
+loads_stay {C} {P} old new boxes after place errands errands_now h = go (slice_get boxes place) refl h
   where
     stays : StaysAll old new boxes after → OnlyLoads boxes after
     stays h = subst (λ (bs : List BoxParts). OnlyLoads boxes bs) (sym h.no_change) (loads_none boxes)

@@ -23,7 +23,7 @@ second_or : (a b : Bool) → a || b ≡ false → b ≡ false
 second_or true b is = absurd (true≢false is)
 second_or false b is = is
 
-not_among : (number : ℕ) (taken : List ℕ) → is_taken number taken ≡ false → Contains taken number → ⊥
+pub not_among : (number : ℕ) (taken : List ℕ) → is_taken number taken ≡ false → Contains taken number → ⊥
 not_among number [] is there = absurd (omega (arith, there.1))
 not_among number (other ∷ taken) is (zero, lt, same) =
     true≢false (sym (first_or (other == number) (is_taken number taken) (eq-eqb other number same)) ∙ is)

@@ -21,7 +21,7 @@ use Rattle.ipc_lock.proofs.Moves.{ends_so}
 
 -- first the step, and then what it tells
 pub acts_and_tells : {C P : Type 0} (upkeep between after : Upkeep) (old stepped new : KernelParts) (now : ℕ) (seat : Option (CallSeat C)) (command : Command) (answer : Answer)
-    (owners owners_now : List (Option ℕ)) (finished : List ℕ) (room : ℕ) (boxes boxes_between boxes_now : List BoxParts) (errands errands_now : Errands P)
+    (owners owners_now : List (Option ℕ)) (finished : List ℕ) (room : ℕ) (boxes boxes_between boxes_now : List BoxParts) (errands errands_now : Errands C P)
     → ActsOn upkeep between old stepped now seat command answer → Legal stepped.history → NotesOn upkeep between old stepped now command finished room
     → after ≡ between → owners_now ≡ owners → boxes_between ≡ boxes → OnlyTakes stepped new
     → LoadsRow (places_told None owners_now finished) stepped new boxes_between boxes_now errands errands_now
@@ -40,7 +40,7 @@ acts_and_tells {C} {P} upkeep between after old stepped new now seat command ans
 
 -- the same of a reader's step
 pub asks_and_tells : {C P : Type 0} (upkeep between after : Upkeep) (old stepped new : KernelParts) (now : ℕ) (seat : Option (CallSeat C)) (asked : Request) (space : ℕ) (said : Told)
-    (owners owners_now : List (Option ℕ)) (place : ℕ) (finished : List ℕ) (room : ℕ) (boxes boxes_between boxes_now : List BoxParts) (errands errands_now : Errands P)
+    (owners owners_now : List (Option ℕ)) (place : ℕ) (finished : List ℕ) (room : ℕ) (boxes boxes_between boxes_now : List BoxParts) (errands errands_now : Errands C P)
     → AsksOn upkeep between old stepped now seat (version_asked asked One) (command_of asked space) said → Legal stepped.history
     → NotesOn upkeep between old stepped now (command_of asked space) finished room
     → after ≡ between → owners_now ≡ owned_by said (new_seat said) owners place → boxes_between ≡ told_in said (new_seat said) boxes place → OnlyTakes stepped new
@@ -61,6 +61,6 @@ asks_and_tells {C} {P} upkeep between after old stepped new now seat asked space
 
 -- a break, and what it tells, ends a thread
 pub ends_told : {C P : Type 0} (upkeep after : Upkeep) (old new : KernelParts) (now : ℕ) (seat : Option (CallSeat C)) (thread : ℕ) (said : Answer)
-    (owners : List (Option ℕ)) (boxes boxes_now : List BoxParts) (errands errands_now : Errands P)
+    (owners : List (Option ℕ)) (boxes boxes_now : List BoxParts) (errands errands_now : Errands C P)
     → ActsAndTells upkeep after old new now seat (Broke thread) said owners boxes boxes_now errands errands_now → Ends upkeep after old new now thread
 ends_told upkeep after old new now seat thread said owners boxes boxes_now errands errands_now h = ends_so seat upkeep after old h.stepped new now thread said h.acts h.only

@@ -104,11 +104,11 @@ takes_for old new thread amount None some none = none
 takes_for old new thread amount (Some taken) some none = some
 
 -- what a writer's pen was given
-pub work_gives : {P : Type 0} (box : Option BoxParts) (idle : List Bool) (next : Option (Work P)) (gave : List Gift)
+pub work_gives : {C P : Type 0} (box : Option BoxParts) (idle : List Bool) (next : Option (Work C P)) (gave : List Gift)
     → idle ≡ idle_in box → gave ≡ gifts_of_work idle next → gave ≡ work_gifts box next
-work_gives {P} box idle next gave is gives = gives ∙ (ap (λ (l : List Bool). gifts_of_work l next) is ∙ go box next)
+work_gives {C} {P} box idle next gave is gives = gives ∙ (ap (λ (l : List Bool). gifts_of_work l next) is ∙ go box next)
   where
-    go : (box : Option BoxParts) (next : Option (Work P)) → gifts_of_work (idle_in box) next ≡ work_gifts box next
+    go : (box : Option BoxParts) (next : Option (Work C P)) → gifts_of_work (idle_in box) next ≡ work_gifts box next
     go None next = refl
     go (Some box) None = refl
     go (Some box) (Some (work.Write pen)) = refl

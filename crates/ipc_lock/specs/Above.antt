@@ -17,8 +17,10 @@ use Rattle.ipc_history.specs.declared.entry.Entry.{Entry}
 use Rattle.ipc_lock.specs.Alarms.{Rests}
 use Rattle.ipc_lock.specs.Boxes.{BoxParts, Loads, changed_at, is_of, posted_to}
 use Rattle.ipc_lock.specs.Gifts.{gifts, no_errands, number_in, work_gifts}
+use Rattle.ipc_lock.specs.Giving.{Wrote}
 use Rattle.ipc_lock.specs.Groups.{IsGroupAt}
 use Rattle.ipc_lock.specs.InsideParts.{LoggedParts}
+use Rattle.ipc_lock.specs.Logs.{given_to}
 use Rattle.ipc_log.specs.Views.{Known}
 use Rattle.ipc_lock.specs.Owning.{Begins, Knows, Makes, Sees}
 use Rattle.ipc_lock.specs.Parting.{IsBehind, IsPartOf}
@@ -42,8 +44,8 @@ use Rattle.ipc_words.specs.Limits.{block_bytes, max_string_bytes}
 pub record ActsSome {C : Type 0} (P : Type 0) (now : ℕ) (seat : Option (CallSeat C)) (command : Command) (answer : Answer) : Type 0 where
   pub before : LoggedParts
   pub after : LoggedParts
-  pub pens : Errands P
-  pub left : Errands P
+  pub pens : Errands C P
+  pub left : Errands C P
   pub turned : Turned C P before after (event.Acted now (command ∷ []) (answer ∷ []) (gifts pens))
   pub acts : ActsAndTells before.inside.upkeep after.inside.upkeep before.inside.kernel after.inside.kernel now seat command answer before.inside.owners
       before.inside.boxes after.inside.boxes no_errands pens
@@ -74,8 +76,8 @@ pub record AsksSome {C : Type 0} (P : Type 0) (now place : ℕ) (seat : Option (
     (own own_now : Known Event) : Type 0 where
   pub before : LoggedParts
   pub after : LoggedParts
-  pub pens : Errands P
-  pub left : Errands P
+  pub pens : Errands C P
+  pub left : Errands C P
   pub ready : IsReady own.number (slice_get before.inside.boxes place)
   pub turned : Turned C P before after (event.Asked now place (number_in (slice_get before.inside.boxes place)) (asked ∷ []) space said (gifts pens))
   pub makes : Makes own own_now before.log after.log
@@ -96,8 +98,8 @@ pub record PostsSome (C P : Type 0) (place : ℕ) (said : Told) (own own_now : K
   pub before : LoggedParts
   pub between : LoggedParts
   pub after : LoggedParts
-  pub pens : Errands P
-  pub left : Errands P
+  pub pens : Errands C P
+  pub left : Errands C P
   pub ready : IsReady own.number (slice_get before.inside.boxes place)
   pub posted : Turned C P before between (event.Posted place (number_in (slice_get before.inside.boxes place)) said)
   pub makes : Makes own own_now before.log between.log (event.Posted place (number_in (slice_get before.inside.boxes place)) said)
@@ -171,15 +173,29 @@ pub record ReleasesSome (C P : Type 0) (place : ℕ) (own : Known Event) : Type 
   pub turned : Turned C P before after (event.Released place own.number)
   pub frees : FreesSome before.inside.boxes place own.number
 
+-- the same, and the pen of the connection was handed out of its box, over a port that tells this:
+-- what went out begins the text of all that the log says that the connection was given
+pub record HandsOut (C P : Type 0) (place : ℕ) (own : Known Event) (out : Option (List ℕ)) : Type 0 where
+  pub releases : ReleasesSome C P place own
+  pub wrote : Wrote out (given_to own.number releases.before.log)
+
+-- the same, where the box of this place was not that of the connection
+pub record FindsNone (C P : Type 0) (place : ℕ) (own : Known Event) : Type 0 where
+  pub releases : ReleasesSome C P place own
+  pub gone : is_in own.number (slice_get releases.before.inside.boxes place) ≡ false
+
 -- the box of this place, where it is that of the connection of this number, was shut by its reader
--- or its writer, and the thread that was told there, if any, was broken at this moment by one step
+-- or its writer, and the thread that was told there, if any, was broken at this moment by one step;
+-- the pens that came out behind it went round until all were laid down
 pub record EndsSome (C P : Type 0) (now place number : ℕ) (is_by_reader : Bool) : Type 0 where
   pub before : LoggedParts
   pub after : LoggedParts
-  pub pens : Errands P
+  pub pens : Errands C P
+  pub left : Errands C P
   pub turned : Turned C P before after (event.Ended now place number is_by_reader (gifts pens))
   pub ends : EndsAt before.inside.upkeep after.inside.upkeep before.inside.kernel after.inside.kernel now (thread_for number (slice_get before.inside.boxes place))
   pub shut : OnlyLoads (changed_at (shut_for number) before.inside.boxes place) after.inside.boxes
+  pub carries : Carries pens left
 
 -- the same by its reader, whose end made no event but this one
 pub record HangsUpSome (C P : Type 0) (now place : ℕ) (own own_now : Known Event) : Type 0 where
@@ -193,7 +209,7 @@ pub record TakesOutSome (C P : Type 0) (place number : ℕ) (pen : Page) : Type 
   pub after : LoggedParts
   pub box : BoxParts
   pub left : BoxParts
-  pub turned : Turned C P before after (event.Worked place number (work_gifts {P = P} (slice_get before.inside.boxes place) (Some (work.Write pen))))
+  pub turned : Turned C P before after (event.Worked place number (work_gifts {C = C} {P = P} (slice_get before.inside.boxes place) (Some (work.Write pen))))
   pub there : slice_get before.inside.boxes place ≡ Some box
   pub is_its : is_of number box.number ≡ true
   pub comes : Loads before.inside.kernel after.inside.kernel box left pen ⊎ ((box.pen ≡ Some pen) × (left ≡ record box { pen = None }))
@@ -204,7 +220,7 @@ pub record EndsWorkSome (C T P : Type 0) (place number : ℕ) : Type 0 where
   pub before : LoggedParts
   pub after : LoggedParts
   pub turned : Turned C P before after (event.Worked place number [])
-  pub over : WorksFor {P = P} before.inside.kernel after.inside.kernel before.inside.boxes after.inside.boxes place number
+  pub over : WorksFor {C = C} {P = P} before.inside.kernel after.inside.kernel before.inside.boxes after.inside.boxes place number
       (slice_get before.inside.boxes place) (Some work.Over)
 
 -- a pen was laid down in the box of its connection, if there is one; where it came out again with
@@ -212,9 +228,9 @@ pub record EndsWorkSome (C T P : Type 0) (place number : ℕ) : Type 0 where
 pub record LaysSome (C P : Type 0) (pen : Page) : Type 0 where
   pub before : LoggedParts
   pub after : LoggedParts
-  pub errands : Errands P
-  pub again : Errands P
-  pub left : Errands P
+  pub errands : Errands C P
+  pub again : Errands C P
+  pub left : Errands C P
   pub first : errands.first ≡ Some pen
   pub second : errands.second ≡ None
   pub third : errands.third ≡ None

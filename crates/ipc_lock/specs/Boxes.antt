@@ -154,27 +154,26 @@ LooksInto old new box after None = TellsNothing old new box after
 LooksInto old new box after (Some pen) = Loads old new box after pen
 
 -- a writer whose pen is at its end takes it out with what is told next; where nothing is, it ends
--- if the box is shut, and the pen goes
-abbrev pub Begins : {P : Type 0} → KernelParts → KernelParts → BoxParts → BoxParts → Option (Work P) → Type 0
+-- if the box is shut
+abbrev pub Begins : {C P : Type 0} → KernelParts → KernelParts → BoxParts → BoxParts → Option (Work C P) → Type 0
 Begins old new box after None = (box.shut ≡ false) × TellsNothing old new box after
 Begins old new box after (Some (work.Write pen)) = Loads old new box after pen
-Begins old new box after (Some work.Over) =
-    (box.shut ≡ true) × ((left : BoxParts) × TellsNothing old new box left × (after ≡ record left { pen = None }))
+Begins old new box after (Some work.Over) = (box.shut ≡ true) × TellsNothing old new box after
 
 -- a writer whose pen is not at its end takes it out as it is; where another has the pen nothing
 -- changes
-abbrev pub WritesOn : {P : Type 0} → BoxParts → BoxParts → Option (Work P) → Type 0
+abbrev pub WritesOn : {C P : Type 0} → BoxParts → BoxParts → Option (Work C P) → Type 0
 WritesOn box after None = (box.pen ≡ None) × (after ≡ box)
 WritesOn box after (Some (work.Write pen)) = (box.pen ≡ Some pen) × (after ≡ record box { pen = None })
 WritesOn box after (Some work.Over) = ⊥
 
--- a writer ends, and the pen goes
-abbrev pub EndsWork : {P : Type 0} → BoxParts → BoxParts → Option (Work P) → Type 0
-EndsWork box after next = (next ≡ Some work.Over) × (after ≡ record box { pen = None })
+-- a writer ends, and the box is as it was
+abbrev pub EndsWork : {C P : Type 0} → BoxParts → BoxParts → Option (Work C P) → Type 0
+EndsWork box after next = (next ≡ Some work.Over) × (after ≡ box)
 
 -- what a box's writer does: it ends where the device has failed, goes on with a frame that is not
 -- at its end, and else begins with what is next
-abbrev pub Works : {P : Type 0} → KernelParts → KernelParts → BoxParts → BoxParts → Option (Work P) → Type 0
+abbrev pub Works : {C P : Type 0} → KernelParts → KernelParts → BoxParts → BoxParts → Option (Work C P) → Type 0
 Works old new box after next =
     MatchBool (has_failed box.pen) ((new ≡ old) × EndsWork box after next)
     (MatchBool (is_idle box.pen) (Begins old new box after next) ((new ≡ old) × WritesOn box after next))

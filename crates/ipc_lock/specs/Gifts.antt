@@ -1,9 +1,8 @@
 -- What connections were given under the lock, as the pens show it that came out of their boxes.
 use Rattle.std.specs.Prelude.{ℕ, Bool, List, [], ◌∷◌, ◌++◌, Option, Some, None, if◌then◌else◌}
 use Rattle.ipc_history.specs.Outcomes.{OutcomeParts}
-use Rattle.ipc_connection.specs.Pens.{Page}
-use Rattle.ipc_connection.specs.declared.given.Given.{Given}
 use Rattle.ipc_lock.specs.Boxes.{BoxParts, is_idle}
+pub use Rattle.ipc_lock.specs.Giving.{gift_in, gift_of, gift_to, last_of}
 use Rattle.ipc_lock.specs.declared.errands.Errands.{Errands}
 use Rattle.ipc_lock.specs.declared.events.Gift.{Gift}
 use Rattle.ipc_lock.specs.declared.post_box.Work.{Work}
@@ -11,34 +10,16 @@ use Rattle.ipc_lock.specs.declared.post_box.Work.TheVariants as work
 use Rattle.ipc_lock.specs.declared.seated.Taken.{Taken}
 
 -- no pen is out
-abbrev pub no_errands : {P : Type 0} → Errands P
+abbrev pub no_errands : {C P : Type 0} → Errands C P
 no_errands = record { first = None; second = None; third = None }
 
--- the last one of a list, or this one where it has none
-abbrev pub last_of : Option Given → List Given → Option Given
-last_of last [] = last
-last_of last (next ∷ rest) = last_of (Some next) rest
-
--- what the connection of a number was given, if anything
-abbrev pub gift_to : ℕ → Option Given → List Gift
-gift_to number None = []
-gift_to number (Some given) = record { number = number; given = given } ∷ []
-
--- what a pen was given last, with the number of its connection
-abbrev pub gift_of : Page → List Gift
-gift_of pen = gift_to pen.number (last_of None pen.given)
-
-abbrev pub gift_in : Option Page → List Gift
-gift_in None = []
-gift_in (Some pen) = gift_of pen
-
 -- what the pens on errands were given, the first one first
-abbrev pub gifts : {P : Type 0} → Errands P → List Gift
+abbrev pub gifts : {C P : Type 0} → Errands C P → List Gift
 gifts errands = gift_in errands.first ++ gift_in errands.second ++ gift_in errands.third
 
 -- what a writer's pen was given: something where it lay in its box at its end, and nothing where it
 -- goes on with a frame
-abbrev pub work_gifts : {P : Type 0} → Option BoxParts → Option (Work P) → List Gift
+abbrev pub work_gifts : {C P : Type 0} → Option BoxParts → Option (Work C P) → List Gift
 work_gifts (Some box) (Some (work.Write pen)) = if is_idle box.pen then gift_of pen else []
 work_gifts box next = []
 
@@ -48,7 +29,7 @@ idle_in None = []
 idle_in (Some box) = is_idle box.pen ∷ []
 
 -- what a writer's pen was given, where it lay in its box at its end, or did not
-abbrev pub gifts_of_work : {P : Type 0} → List Bool → Option (Work P) → List Gift
+abbrev pub gifts_of_work : {C P : Type 0} → List Bool → Option (Work C P) → List Gift
 gifts_of_work (idle ∷ others) (Some (work.Write pen)) = if idle then gift_of pen else []
 gifts_of_work idle next = []
 

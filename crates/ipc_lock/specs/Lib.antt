@@ -18,3 +18,5 @@ pub mod Making
 pub mod Turns
 pub mod Owning
 pub mod Logs
+pub mod Giving
+pub mod Handing

@@ -1,6 +1,6 @@
 -- What is true of every list of events that led to what stands under the lock.
-use Rattle.std.specs.Prelude.{◌≡◌, ◌==◌, ◌++◌, ◌∷◌, [], ℕ, List, All, Contains, Some, filter, map, true, if◌then◌else◌, ⊤}
-use Rattle.std.specs.List.{IsDistinct}
+use Rattle.std.specs.Prelude.{◌≡◌, ◌==◌, ◌&&◌, ◌++◌, ◌∷◌, [], ℕ, List, Bool, All, Contains, Some, false, filter, map, slice_get, true, if◌then◌else◌, ⊤}
+use Rattle.std.specs.List.{IsDistinct, list_any}
 use Rattle.ipc_connection.specs.Replying.{reply}
 use Rattle.ipc_connection.specs.declared.replying.Told.{Told}
 use Rattle.ipc_connection.specs.declared.replying.Told.TheVariants as told
@@ -16,9 +16,11 @@ use Rattle.ipc_history.specs.declared.entry.Entry.{Entry}
 use Rattle.ipc_waits.specs.Finding.{IsRising}
 use Rattle.ipc_connection.specs.declared.given.Given.{Given}
 use Rattle.ipc_connection.specs.declared.given.Given.TheVariants as given
+pub use Rattle.ipc_lock.specs.Giving.{given_in}
 use Rattle.ipc_lock.specs.InsideParts.{InsideParts}
 use Rattle.ipc_lock.specs.Making.{accepted_of, made_in}
 use Rattle.ipc_lock.specs.Owning.{done_by, numbers_by}
+use Rattle.ipc_lock.specs.Places.{is_in}
 use Rattle.ipc_lock.specs.Turns.{Runs}
 use Rattle.ipc_lock.specs.declared.events.Event.{Event}
 use Rattle.ipc_lock.specs.declared.events.Event.TheVariants as event
@@ -116,11 +118,7 @@ pub record TellsOnce (log : List Event) (inside : InsideParts) : Type 0 where
 abbrev pub LogsTellOnce : (C P : Type 0) → Type 0
 LogsTellOnce C P = (log : List Event) (inside : InsideParts) → Runs C P log inside → TellsOnce log inside
 
--- what the connection of a number was given, in order
-abbrev pub given_in : ℕ → List Gift → List Given
-given_in number [] = []
-given_in number (gift ∷ gifts) = if gift.number == number then gift.given ∷ given_in number gifts else given_in number gifts
-
+-- what a log gave the connection of a number, in order
 abbrev pub given_to : ℕ → List Event → List Given
 given_to number [] = []
 given_to number (next ∷ log) = given_in number (gifts_by next) ++ given_to number log
@@ -201,6 +199,23 @@ abbrev pub LogsTellOwners : (C P : Type 0) → Type 0
 LogsTellOwners C P =
     (log : List Event) (inside : InsideParts) → Runs C P log inside
     → (number : ℕ) → AreOwn inside.kernel.history (opened_for number log) (said_for number log) (given_to number log)
+
+-- whether an event gave the connection of a number the box of a place
+abbrev pub is_box_of : ℕ → ℕ → Event → Bool
+is_box_of number place (event.Connected at own) = (at == place) && (own == number)
+is_box_of number place next = false
+
+-- whether by an event that was given back
+abbrev pub is_release : ℕ → Event → Bool
+is_release number (event.Released place own) = own == number
+is_release number next = false
+
+-- a connection has its box until that is given back
+abbrev pub LogsKeepBoxes : (C P : Type 0) → Type 0
+LogsKeepBoxes C P =
+    (log : List Event) (inside : InsideParts) → Runs C P log inside
+    → (number place : ℕ) → list_any (is_box_of number place) log ≡ true → list_any (is_release number) log ≡ false
+    → is_in number (slice_get inside.boxes place) ≡ true
 
 -- what a log says that a connection was told, and which threads its requests opened, is what the
 -- events say that its reader's end made

@@ -1,6 +1,6 @@
 -- What becomes of the boxes under the lock: in which box something is told, and that all others are
 -- as they were.
-use Rattle.std.specs.Prelude.{◌≡◌, ◌==◌, ◌++◌, ◌⊎◌, ℕ, List, [], ◌∷◌, length, Option, Some, None, Bool, MatchBool, true, false, is_some, map, ◌≤◌, not, if◌then◌else◌, slice_get, slice_set, ⊤}
+use Rattle.std.specs.Prelude.{◌≡◌, ◌==◌, ◌&&◌, ◌++◌, ◌⊎◌, ℕ, List, [], ◌∷◌, length, Option, Some, None, Bool, MatchBool, true, false, is_some, map, ◌≤◌, not, if◌then◌else◌, slice_get, slice_set, ⊤}
 use Rattle.ipc_words.specs.ThreadId.{number_of}
 use Rattle.ipc_core.specs.KernelParts.{KernelParts}
 use Rattle.ipc_core.specs.Again.{MayObeyAgain}
@@ -43,6 +43,19 @@ shut_for number box = if is_of number box.number then record box { shut = true }
 -- nothing is left in it, and it has no connection any more, where it was that of this number
 abbrev pub gives_back : ℕ → BoxParts → BoxParts
 gives_back number box = if is_of number box.number then cleared box else box
+
+-- the pen of the connection of this number, where it lies in its box
+abbrev pub pen_for : ℕ → BoxParts → Option Page
+pen_for number box = if is_of number box.number then box.pen else None
+
+abbrev pub pen_in : ℕ → Option BoxParts → Option Page
+pen_in number None = None
+pen_in number (Some box) = pen_for number box
+
+-- a box is that of the connection of this number, and its pen is out
+abbrev pub is_out : ℕ → Option BoxParts → Bool
+is_out number None = false
+is_out number (Some box) = is_of number box.number && not (is_some box.pen)
 
 -- a box is there, and is that of the connection of this number
 abbrev pub is_in : ℕ → Option BoxParts → Bool
@@ -103,7 +116,7 @@ OnlyLoads (box ∷ boxes) (left ∷ after) = SameBox box left × OnlyLoads boxes
 OnlyLoads boxes after = ⊥
 
 -- a further pen stands behind those that were there, where there are fewer than three
-abbrev pub added : {P : Type 0} → Option Page → Errands P → Errands P
+abbrev pub added : {C P : Type 0} → Option Page → Errands C P → Errands C P
 added None errands = errands
 added (Some pen) errands = if is_some errands.first then (if is_some errands.second then
     (if is_some errands.third then errands else record errands { third = Some pen })
@@ -123,7 +136,7 @@ entered_of (Some pen) own = if pen.place == own then Over else Open
 
 -- a pen of the box of a place came out, as a further errand, or none did; where errands are full,
 -- and where there is no box, all stays
-abbrev pub LoadsAt : {P : Type 0} → KernelParts → KernelParts → List BoxParts → List BoxParts → ℕ → Option BoxParts → Errands P → Errands P → Type 0
+abbrev pub LoadsAt : {C P : Type 0} → KernelParts → KernelParts → List BoxParts → List BoxParts → ℕ → Option BoxParts → Errands C P → Errands C P → Type 0
 LoadsAt old new boxes after place None errands errands_now = StaysAll old new boxes after × (errands_now ≡ errands)
 LoadsAt old new boxes after place (Some box) errands errands_now =
     MatchBool (is_some errands.third) (StaysAll old new boxes after × (errands_now ≡ errands))
@@ -143,15 +156,15 @@ abbrev pub places_told : Option ℕ → List (Option ℕ) → List ℕ → List 
 places_told own owners finished = own ∷ map (place_of owners) finished
 
 -- the box of a place was looked into, if there is a place
-abbrev pub LoadsOne : {P : Type 0} → Option ℕ → KernelParts → KernelParts → List BoxParts → List BoxParts → Errands P → Errands P → Type 0
+abbrev pub LoadsOne : {C P : Type 0} → Option ℕ → KernelParts → KernelParts → List BoxParts → List BoxParts → Errands C P → Errands C P → Type 0
 LoadsOne None old new boxes after errands errands_now = StaysAll old new boxes after × (errands_now ≡ errands)
 LoadsOne (Some place) old new boxes after errands errands_now = LoadsAt old new boxes after place (slice_get boxes place) errands errands_now
 
 -- the boxes of these places were looked into, one after the other
-abbrev pub LoadsRow : {P : Type 0} → List (Option ℕ) → KernelParts → KernelParts → List BoxParts → List BoxParts → Errands P → Errands P → Type 0
+abbrev pub LoadsRow : {C P : Type 0} → List (Option ℕ) → KernelParts → KernelParts → List BoxParts → List BoxParts → Errands C P → Errands C P → Type 0
 LoadsRow [] old new boxes after errands errands_now = StaysAll old new boxes after × (errands_now ≡ errands)
-LoadsRow {P} (place ∷ places) old new boxes after errands errands_now =
-    (kernel : KernelParts) × (between : List BoxParts) × (next : Errands P)
+LoadsRow {C} {P} (place ∷ places) old new boxes after errands errands_now =
+    (kernel : KernelParts) × (between : List BoxParts) × (next : Errands C P)
     × LoadsOne place old kernel boxes between errands next × LoadsRow places kernel new between after next errands_now
 
 -- a pen was laid down in the box of its connection, and came out again with what is told next;
@@ -168,7 +181,7 @@ LooksAgain old new boxes after None again = StaysAll old new boxes after × (aga
 LooksAgain old new boxes after (Some pen) again = LaysAt old new boxes after pen (slice_get boxes pen.place) again
 
 -- the pens of errands were laid down, one after the other
-pub record TakesBack {P : Type 0} (old new : KernelParts) (boxes after : List BoxParts) (errands errands_now : Errands P) : Type 0 where
+pub record TakesBack {C P : Type 0} (old new : KernelParts) (boxes after : List BoxParts) (errands errands_now : Errands C P) : Type 0 where
   pub kernel_first : KernelParts
   pub kernel_second : KernelParts
   pub boxes_first : List BoxParts
@@ -179,7 +192,7 @@ pub record TakesBack {P : Type 0} (old new : KernelParts) (boxes after : List Bo
 
 -- what the writer of the connection of a number does, whose box is that of a place, while all other
 -- boxes are as they were; where that has no such box any more it ends
-abbrev pub WorksFor : {P : Type 0} → KernelParts → KernelParts → List BoxParts → List BoxParts → ℕ → ℕ → Option BoxParts → Option (Work P) → Type 0
+abbrev pub WorksFor : {C P : Type 0} → KernelParts → KernelParts → List BoxParts → List BoxParts → ℕ → ℕ → Option BoxParts → Option (Work C P) → Type 0
 WorksFor old new boxes after place number None next = StaysAll old new boxes after × (next ≡ Some work.Over)
 WorksFor old new boxes after place number (Some box) next =
     MatchBool (is_of number box.number)

@@ -20,7 +20,7 @@ use Rattle.ipc_lock.specs.declared.upkeep.Upkeep.{Upkeep}
 
 -- a step was made, and the boxes of the threads whose calls it finished were looked into
 pub record ActsAndTells {C P : Type 0} (upkeep after : Upkeep) (old new : KernelParts) (now : ℕ) (seat : Option (CallSeat C)) (command : Command)
-    (answer : Answer) (owners : List (Option ℕ)) (boxes boxes_now : List BoxParts) (errands errands_now : Errands P) : Type 0 where
+    (answer : Answer) (owners : List (Option ℕ)) (boxes boxes_now : List BoxParts) (errands errands_now : Errands C P) : Type 0 where
   pub stepped : KernelParts
   pub finished : List ℕ
   pub room : ℕ
@@ -33,7 +33,7 @@ pub record ActsAndTells {C P : Type 0} (upkeep after : Upkeep) (old new : Kernel
 -- a reader's step was made, and told in its box; that box was looked into first, and then those of
 -- the threads whose calls it finished
 pub record AsksAndTells {C P : Type 0} (upkeep after : Upkeep) (old new : KernelParts) (now : ℕ) (seat : Option (CallSeat C)) (asked : Request) (space : ℕ)
-    (said : Told) (owners : List (Option ℕ)) (place : ℕ) (boxes boxes_now : List BoxParts) (errands errands_now : Errands P) : Type 0 where
+    (said : Told) (owners : List (Option ℕ)) (place : ℕ) (boxes boxes_now : List BoxParts) (errands errands_now : Errands C P) : Type 0 where
   pub stepped : KernelParts
   pub finished : List ℕ
   pub room : ℕ
@@ -48,13 +48,13 @@ pub record AsksAndTells {C P : Type 0} (upkeep after : Upkeep) (old new : Kernel
 -- a thread was broken, for which no seat is needed, and the boxes of those whom it concerned were
 -- looked into
 pub record BrokeFor (C : Type 0) {P : Type 0} (upkeep after : Upkeep) (old new : KernelParts) (now thread : ℕ) (owners : List (Option ℕ))
-    (boxes boxes_now : List BoxParts) (errands errands_now : Errands P) : Type 0 where
+    (boxes boxes_now : List BoxParts) (errands errands_now : Errands C P) : Type 0 where
   pub answer : Answer
   pub acts : ActsAndTells {C = C} upkeep after old new now None (Broke thread) answer owners boxes boxes_now errands errands_now
 
 -- the same of the thread that is told in a box, if there is one; else no step was made
 abbrev pub BreaksFor : (C : Type 0) {P : Type 0} → Upkeep → Upkeep → KernelParts → KernelParts → ℕ → Option ℕ → List (Option ℕ)
-    → List BoxParts → List BoxParts → Errands P → Errands P → Type 0
+    → List BoxParts → List BoxParts → Errands C P → Errands C P → Type 0
 BreaksFor C upkeep after old new now None owners boxes boxes_now errands errands_now =
     (new ≡ old) × (after ≡ upkeep) × (boxes_now ≡ boxes) × (errands_now ≡ errands)
 BreaksFor C upkeep after old new now (Some thread) owners boxes boxes_now errands errands_now =

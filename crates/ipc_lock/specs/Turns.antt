@@ -57,7 +57,7 @@ pub record Acted (C P : Type 0) (before after : InsideParts) (now : ℕ) (comman
   pub is_it : commands ≡ command ∷ []
   pub is_answered : answers ≡ answer ∷ []
   pub seat : Option (CallSeat C)
-  pub errands : Errands P
+  pub errands : Errands C P
   pub gifts_are : gave ≡ gifts errands
   pub acts : ActsAndTells before.upkeep after.upkeep before.kernel after.kernel now seat command answer before.owners before.boxes after.boxes
       no_errands errands
@@ -72,7 +72,7 @@ pub record AskedFor (C P : Type 0) (before after : InsideParts) (now place : ℕ
   pub request : Request
   pub is_it : requests ≡ request ∷ []
   pub seat : Option (CallSeat C)
-  pub errands : Errands P
+  pub errands : Errands C P
   pub gifts_are : gave ≡ gifts errands
   pub asks : AsksAndTells before.upkeep after.upkeep before.kernel after.kernel now seat request space said before.owners place before.boxes after.boxes
       no_errands errands
@@ -82,7 +82,7 @@ pub record AskedFor (C P : Type 0) (before after : InsideParts) (now place : ℕ
 -- the connection of this number, whose box is that of this place, ended: its box was shut, and its
 -- thread was broken
 pub record Ended (C P : Type 0) (before after : InsideParts) (now place number : ℕ) (gave : List Gift) : Type 0 where
-  pub errands : Errands P
+  pub errands : Errands C P
   pub gifts_are : gave ≡ gifts errands
   pub breaks : BreaksFor C before.upkeep after.upkeep before.kernel after.kernel now (thread_for number (slice_get before.boxes place)) before.owners
       (changed_at (shut_for number) before.boxes place) after.boxes no_errands errands
@@ -100,8 +100,8 @@ pub record Posted (before after : InsideParts) (place : ℕ) (number : List ℕ)
   pub upkeep : after.upkeep ≡ before.upkeep
 
 -- the box of this place was looked into, and this was given
-pub record Looked (P : Type 0) (before after : InsideParts) (place : ℕ) (gave : List Gift) : Type 0 where
-  pub errands : Errands P
+pub record Looked (C P : Type 0) (before after : InsideParts) (place : ℕ) (gave : List Gift) : Type 0 where
+  pub errands : Errands C P
   pub gifts_are : gave ≡ gifts errands
   pub loads : LoadsAt before.kernel after.kernel before.boxes after.boxes place (slice_get before.boxes place) no_errands errands
   pub owners : after.owners ≡ before.owners
@@ -109,9 +109,9 @@ pub record Looked (P : Type 0) (before after : InsideParts) (place : ℕ) (gave 
   pub upkeep : after.upkeep ≡ before.upkeep
 
 -- pens were laid down in their boxes, and those that came out again were given this
-pub record Laid (P : Type 0) (before after : InsideParts) (gave : List Gift) : Type 0 where
-  pub errands : Errands P
-  pub errands_now : Errands P
+pub record Laid (C P : Type 0) (before after : InsideParts) (gave : List Gift) : Type 0 where
+  pub errands : Errands C P
+  pub errands_now : Errands C P
   pub gifts_are : gave ≡ gifts errands_now
   pub takes : TakesBack before.kernel after.kernel before.boxes after.boxes errands errands_now
   pub owners : after.owners ≡ before.owners
@@ -120,8 +120,8 @@ pub record Laid (P : Type 0) (before after : InsideParts) (gave : List Gift) : T
 
 -- the writer of the connection of this number, whose box is that of this place, took its pen out,
 -- ended, or found nothing to do; this was given
-pub record Worked (P : Type 0) (before after : InsideParts) (place number : ℕ) (gave : List Gift) : Type 0 where
-  pub next : Option (Work P)
+pub record Worked (C P : Type 0) (before after : InsideParts) (place number : ℕ) (gave : List Gift) : Type 0 where
+  pub next : Option (Work C P)
   pub gifts_are : gave ≡ work_gifts (slice_get before.boxes place) next
   pub works : WorksFor before.kernel after.kernel before.boxes after.boxes place number (slice_get before.boxes place) next
   pub owners : after.owners ≡ before.owners
@@ -173,9 +173,9 @@ Turn C P before (event.Acted now commands answers gave) after = Acted C P before
 Turn C P before (event.Asked now place number requests space said gave) after = AskedFor C P before after now place number requests space said gave
 Turn C P before (event.Ended now place number is_by_reader gave) after = Ended C P before after now place number gave
 Turn C P before (event.Posted place number said) after = Posted before after place number said
-Turn C P before (event.Looked place gave) after = Looked P before after place gave
-Turn C P before (event.Laid gave) after = Laid P before after gave
-Turn C P before (event.Worked place number gave) after = Worked P before after place number gave
+Turn C P before (event.Looked place gave) after = Looked C P before after place gave
+Turn C P before (event.Laid gave) after = Laid C P before after gave
+Turn C P before (event.Worked place number gave) after = Worked C P before after place number gave
 Turn C P before (event.Released place number) after = Released before after place number
 Turn C P before (event.Took thread taken outcomes) after = Took before after thread taken outcomes
 Turn C P before (event.Marked upto) after = Marked before after upto

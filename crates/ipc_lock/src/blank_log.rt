@@ -1,23 +1,27 @@
-//! The log of a new kernel.
+//! The logs of a new kernel.
 ghost use Rattle.std.specs.Prelude.{◌≡◌, []};
 
-use crate::events::Event;
+use crate::events::{Event, Gave};
+use crate::gift_log::GiftLog;
 use ipc_log::{Blank, Keeper, Log, Naming};
 use std::alloc::{AllocError, Global};
 use std::marker::Model;
 
-/// The log of a new kernel: nothing was done. Contracts see which one it is.
+/// The logs of a new kernel: nothing was done, and nothing was given. Contracts see which ones they
+/// are.
 #[derive(Drop)]
 pub struct BlankLog {
-    blank: Blank<Event>,
+    events: Blank<Event>,
+    gifts: Blank<Gave>,
 }
 
 impl Model for BlankLog {
+    ghost use Rattle.std.specs.Prelude.{◌∷◌, [], List};
     ghost use Rattle.ipc_log.specs.Views.{TableId};
 
-    ghost Value = { TableId };
+    ghost Value = { List TableId };
 
-    ghost view = { λ log. log.blank };
+    ghost view = { λ log. log.events ∷ log.gifts ∷ [] };
 }
 
 impl BlankLog {
@@ -27,16 +31,20 @@ impl BlankLog {
     ///
     /// No memory.
     pub fn new(alloc: Global) -> Result<BlankLog, AllocError> {
-        let blank = Blank::new(alloc)?;
-        Ok(BlankLog { blank })
+        let events = Blank::new(alloc)?;
+        let gifts = Blank::new(alloc)?;
+        Ok(BlankLog { events, gifts })
     }
 
-    /// The log, and who keeps it.
-    pub(crate) fn open<C: Naming>(self) -> (Log<Event, C>, Keeper<Event, C>)
-        requires { self ≡ C.table }
-        ensures { result.1 ≡ [] }
+    /// The log of events, who keeps it, and the log of gifts.
+    pub(crate) fn open<C: Naming>(self) -> (Log<Event, C>, Keeper<Event, C>, GiftLog<C>)
+        requires { self ≡ C.tables }
+        ensures nothing { result.1 ≡ [] }
+        ensures none { result.2 ≡ [] }
     {
-        let BlankLog { blank } = self;
-        blank.open::<C>()
+        let BlankLog { events, gifts } = self;
+        let (log, keeper) = events.open::<C>();
+        let (gave, gave_keeper) = gifts.open::<C>();
+        (log, keeper, GiftLog::new(gave, gave_keeper))
     }
 }

@@ -1,5 +1,5 @@
 //! Copies of entries, so that their lines are made outside the lock.
-ghost use Rattle.std.specs.Prelude.{◌≡◌, IfOk, take};
+ghost use Rattle.std.specs.Prelude.{◌≡◌, IfOk, IsOk, length, take};
 ghost use Rattle.ipc_lock.specs.Groups.{IsGroupAt, most_of_a_group};
 
 use ipc_history::{Call, CallFields, EnteredCall, Entry, Input};
@@ -10,9 +10,11 @@ use std::alloc::{AllocError, Global};
 const MOST_OF_A_GROUP: usize = 256;
 
 /// Copies of the first of these entries, as many as one group has: all of them, and at most
-/// [`MOST_OF_A_GROUP`]. A string that came in a frame is not copied, but gets one owner more.
+/// [`MOST_OF_A_GROUP`]. A string that came in a frame is not copied, but gets one owner more. No
+/// entries take no memory.
 pub(crate) fn copy_group(alloc: Global, rest: &[Entry]) -> Result<Vec<Entry>, AllocError>
-    ensures { IfOk result (λ group. IsGroupAt rest.now 0 group.items) }
+    ensures group { IfOk result (λ group. IsGroupAt rest.now 0 group.items) }
+    ensures none { length rest.now ≡ 0 → IsOk result }
 {
     copy_entries(alloc, group_of(rest))
 }
@@ -28,9 +30,10 @@ fn group_of(rest: &[Entry]) -> &[Entry]
     }
 }
 
-/// Copies of these entries.
+/// Copies of these entries. None take no memory.
 pub(crate) fn copy_entries(alloc: Global, entries: &[Entry]) -> Result<Vec<Entry>, AllocError>
-    ensures { IfOk result (λ copies. copies.items ≡ entries.now) }
+    ensures copies { IfOk result (λ copies. copies.items ≡ entries.now) }
+    ensures none { length entries.now ≡ 0 → IsOk result }
 {
     let mut copies = Vec::with_capacity(alloc, entries.len())?;
     for entry in entries {

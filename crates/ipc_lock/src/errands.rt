@@ -6,18 +6,19 @@ ghost use Rattle.ipc_lock.specs.Places.{OnlyWrites, added, entered_of};
 use crate::entered::Entered;
 use crate::post_box::Loaded;
 use ipc_connection::{Patience, PenPort};
+use ipc_log::Naming;
 
 /// The pens with which a thread writes what its step told, its own connection's first. At most
 /// three: the writers of the others are woken.
-pub(crate) struct Errands<P: PenPort + Drop> {
-    pub(crate) first: Option<Loaded<P>>,
-    pub(crate) second: Option<Loaded<P>>,
-    pub(crate) third: Option<Loaded<P>>,
+pub(crate) struct Errands<C: Naming, P: PenPort + Drop> {
+    pub(crate) first: Option<Loaded<C, P>>,
+    pub(crate) second: Option<Loaded<C, P>>,
+    pub(crate) third: Option<Loaded<C, P>>,
 }
 
 // Written out, and not derived, so that a function in which errands end calls this, and does not
 // take three pens apart.
-impl<P: PenPort + Drop> Drop for Errands<P> {
+impl<C: Naming, P: PenPort + Drop> Drop for Errands<C, P> {
     fn drop(self) {
         let Errands {
             first,
@@ -30,8 +31,8 @@ impl<P: PenPort + Drop> Drop for Errands<P> {
     }
 }
 
-impl<P: PenPort + Drop> Errands<P> {
-    pub(crate) fn none() -> Errands<P>
+impl<C: Naming, P: PenPort + Drop> Errands<C, P> {
+    pub(crate) fn none() -> Errands<C, P>
         ensures first { result.first ≡ None }
         ensures second { result.second ≡ None }
         ensures third { result.third ≡ None }
@@ -45,7 +46,7 @@ impl<P: PenPort + Drop> Errands<P> {
     }
 
     /// One pen.
-    pub(crate) fn of(pen: Loaded<P>) -> Errands<P>
+    pub(crate) fn of(pen: Loaded<C, P>) -> Errands<C, P>
         ensures first { result.first ≡ Some pen }
         ensures second { result.second ≡ None }
         ensures third { result.third ≡ None }
@@ -83,7 +84,7 @@ impl<P: PenPort + Drop> Errands<P> {
     }
 
     /// Adds a pen behind the others. Where there is no room it is handed back.
-    pub(crate) fn add(&mut self, pen: Loaded<P>) -> Option<Loaded<P>>
+    pub(crate) fn add(&mut self, pen: Loaded<C, P>) -> Option<Loaded<C, P>>
         ensures added { self.new ≡ added (Some pen) self.old }
         ensures full { IfSome result (λ _. is_some self.old.third ≡ true) }
         ensures back { IfSome result (λ back. back ≡ pen) }
@@ -113,7 +114,7 @@ impl<P: PenPort + Drop> Errands<P> {
 }
 
 /// Writes with a pen, which is given nothing.
-fn write_with<P: PenPort>(pen: &mut Option<Loaded<P>>)
+fn write_with<C: Naming, P: PenPort>(pen: &mut Option<Loaded<C, P>>)
     ensures { OnlyWrites pen.old pen.new }
 {
     if let Some(pen) = pen {

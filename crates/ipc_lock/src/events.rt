@@ -14,6 +14,23 @@ pub(crate) struct Gift {
     pub(crate) given: Given,
 }
 
+/// An entry of the log of gifts: that a connection got its pen, or what it was given.
+#[derive(Drop)]
+pub(crate) enum Gave {
+    Began { number: u64 },
+    Told { number: u64, given: Past<Given> },
+}
+
+impl Entry for Gave {
+    ghost use Rattle.ipc_lock.specs.Giving.{is_to, pens_by};
+
+    ghost kind = { 1 };
+
+    ghost is_of = { is_to };
+
+    ghost begins = { pens_by };
+}
+
 /// One event under the lock. What it was made of, and what it gave connections, proofs alone know.
 #[derive(Drop)]
 pub(crate) enum Event {
@@ -93,6 +110,8 @@ pub(crate) enum Event {
 
 impl Entry for Event {
     ghost use Rattle.ipc_lock.specs.Owning.{is_by, numbers_by};
+
+    ghost kind = { 0 };
 
     ghost is_of = { is_by };
 

@@ -1,5 +1,5 @@
 //! What stands under the lock: the kernel with its books, and the boxes of the connections.
-ghost use Rattle.std.specs.Prelude.{◌≡◌, ◌+◌, ◌*◌, ◌^◌, ◌≤◌, ◌||◌, ◌&&◌, [], None, IfOk, IfErr, length, min, nat_lt, not, replicate, vec_capacity};
+ghost use Rattle.std.specs.Prelude.{◌≡◌, ◌+◌, ◌*◌, ◌^◌, ◌≤◌, ◌||◌, ◌&&◌, [], None, IfOk, IfErr, IsOk, length, min, nat_lt, not, replicate, vec_capacity};
 ghost use Rattle.ipc_core.specs.Obeying.{empty_kernel};
 ghost use Rattle.ipc_history.specs.Legal.{Legal};
 ghost use Rattle.ipc_history.specs.Paired.{Paired};
@@ -21,8 +21,10 @@ mod waking;
 use crate::post_box::PostBox;
 use crate::seated::{Answered, CallSeat, Locked};
 use crate::upkeep::Upkeep;
+use ipc_base::Memory;
 use ipc_connection::PenPort;
 use ipc_core::{Command, Limits, MAX_ENTRIES, Refusal};
+use ipc_log::Naming;
 use ipc_words::ThreadId;
 use ipc_words::limits::TABLE_SLOTS;
 use std::alloc::{AllocError, Global};
@@ -44,9 +46,9 @@ pub(crate) struct After {
 /// The kernel with its books, the boxes, which of them are free, and for each thread number the box
 /// where its outcomes are told.
 #[derive(Drop)]
-pub(crate) struct Inside<C: Ledger, T: Ledger, P: PenPort + Drop> {
+pub(crate) struct Inside<C: Naming, T: Ledger, P: PenPort + Drop> {
     locked: Locked<C, T>,
-    boxes: Vec<PostBox<T, P>>,
+    boxes: Vec<PostBox<C, T, P>>,
     free: Vec<usize>,
     owners: Vec<Option<usize>>,
     finished: Vec<ThreadId>,
@@ -65,10 +67,11 @@ pub(crate) struct Inside<C: Ledger, T: Ledger, P: PenPort + Drop> {
     alloc: Global,
 }
 
-impl<C: Ledger, T: Ledger, P: PenPort + Drop> Inside<C, T, P> {
-    /// An empty kernel, with the books of two new ledgers, and no box. The only refusal is K4.
-    pub(crate) fn new(
-        alloc: Global,
+impl<C: Naming, T: Ledger, P: PenPort + Drop> Inside<C, T, P> {
+    /// An empty kernel, with the books of two new ledgers, and no box. The only refusal is K4, and
+    /// where the memory that is lent is ample it does not come.
+    pub(crate) fn new<M: Memory>(
+        memory: M,
         limits: Limits,
         calls: Blank,
         takes: Blank,
@@ -87,29 +90,34 @@ impl<C: Ledger, T: Ledger, P: PenPort + Drop> Inside<C, T, P> {
         ensures owners { IfOk result (λ inside. inside.owners.items
             ≡ replicate table_slots None) }
         ensures memory { IfErr result (λ refusal. refusal ≡ Refusal.NoMemory) }
+        ensures ample { M.is_ample → IsOk result }
     {
-        let locked = Locked::new(alloc, limits, calls, takes)?;
+        let locked = Locked::new(memory, limits, calls, takes)?;
         let limit = limits.entries.min(MAX_ENTRIES);
-        match Inside::around(alloc, locked, limit) {
+        match Inside::around(memory, locked, limit) {
             Ok(inside) => Ok(inside),
             Err(_) => Err(Refusal::NoMemory),
         }
     }
 
     /// A kernel and its books, which may hold so many entries, without boxes.
-    fn around(alloc: Global, locked: Locked<C, T>, limit: u64) -> Result<Self, AllocError>
+    fn around<M: Memory>(memory: M, locked: Locked<C, T>, limit: u64) -> Result<Self, AllocError>
         ensures locked { IfOk result (λ inside. inside.locked ≡ locked) }
         ensures upkeep { IfOk result (λ inside. inside.upkeep ≡ first_upkeep limit) }
         ensures boxes { IfOk result (λ inside. inside.boxes.items ≡ []) }
         ensures owners { IfOk result (λ inside. inside.owners.items
             ≡ replicate table_slots None) }
+        ensures ample { M.is_ample → IsOk result }
     {
+        let alloc = memory.global();
+        let mut owners = memory.with_capacity(TABLE_SLOTS)?;
+        owners.resize(TABLE_SLOTS, None)?;
         Ok(Inside {
             locked,
             boxes: Vec::new(alloc),
             free: Vec::new(alloc),
-            owners: vec![in alloc; None; TABLE_SLOTS]?,
-            finished: Vec::with_capacity(alloc, 2 * TABLE_SLOTS)?,
+            owners,
+            finished: memory.with_capacity(2 * TABLE_SLOTS)?,
             begun: false,
             has_begun: false,
             strays: false,

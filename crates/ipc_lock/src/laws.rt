@@ -1,6 +1,6 @@
 //! The laws of the lock. Each function is a theorem: it does nothing, and its contract holds of
 //! every history, and of every list of events that led to what stands under the lock.
-ghost use Rattle.ipc_lock.specs.Logs.{EndsKnowAll, LogsGiveOnce, LogsLeadWell, LogsMakeHistory, LogsNumberOnce, LogsTellOnce, LogsTellOwners};
+ghost use Rattle.ipc_lock.specs.Logs.{EndsKnowAll, LogsGiveOnce, LogsKeepBoxes, LogsLeadWell, LogsMakeHistory, LogsNumberOnce, LogsTellOnce, LogsTellOwners};
 ghost use Rattle.ipc_lock.specs.Upkeeping.{NearCovers};
 
 use ipc_connection::PenPort;
@@ -43,6 +43,11 @@ pub fn logs_give_once<C: Ledger, P: PenPort + Drop>()
 /// opened.
 pub fn logs_tell_owners<C: Ledger, P: PenPort + Drop>()
     ensures { LogsTellOwners C P }
+{}
+
+/// A connection has its box from the event on that gave it to it, until that is given back.
+pub fn logs_keep_boxes<C: Ledger, P: PenPort>()
+    ensures { LogsKeepBoxes C P }
 {}
 
 /// What a connection was told, and which threads its requests opened, the events say that its

@@ -8,6 +8,7 @@ mod ends;
 mod entered;
 mod errands;
 mod events;
+mod gift_log;
 mod inside;
 pub mod laws;
 mod logged;

@@ -12,6 +12,7 @@ mod stepping;
 mod waking;
 
 use crate::events::Event;
+use crate::gift_log::GiftLog;
 use crate::inside::Inside;
 use crate::numbers::Numbers;
 use ipc_connection::PenPort;
@@ -23,12 +24,14 @@ use std::sync::ledger::{Blank, Ledger};
 
 /// What stands under the lock, the numbers of connections, and who keeps the log of all that was
 /// done so far: from an empty kernel without boxes those events lead to what stands here, one after
-/// the other. Nobody else adds to the log.
+/// the other. Nobody else adds to the log. Beside it stands the log of gifts, which says what those
+/// events gave.
 #[derive(Drop)]
 pub(crate) struct Logged<C: Naming, T: Ledger, P: PenPort + Drop> {
     inside: Inside<C, T, P>,
     numbers: Numbers,
     keeper: Keeper<Event, C>,
+    gifts: GiftLog<C>,
 }
 
 impl<C: Naming, T: Ledger, P: PenPort + Drop> Model for Logged<C, T, P> {
@@ -37,7 +40,7 @@ impl<C: Naming, T: Ledger, P: PenPort + Drop> Model for Logged<C, T, P> {
     ghost Value = { LoggedParts };
 
     ghost use Rattle.ipc_lock.specs.InsideParts.{parts_of};
-    ghost use Rattle.ipc_lock.specs.Turns.{Runs};
+    ghost use Rattle.ipc_lock.specs.Handing.{TellsGifts};
 
     ghost view = { λ l. record {
       inside = parts_of l.inside l.numbers;
@@ -48,11 +51,11 @@ impl<C: Naming, T: Ledger, P: PenPort + Drop> Model for Logged<C, T, P> {
       is_awaited = l.inside.is_awaited;
     } };
 
-    ghost invariant = { λ l. Runs C P l.keeper (parts_of l.inside l.numbers) };
+    ghost invariant = { λ l. TellsGifts C P l.keeper l.gifts (parts_of l.inside l.numbers) };
 }
 
 impl<C: Naming, T: Ledger, P: PenPort + Drop> Logged<C, T, P> {
-    /// An empty kernel, with the books of two new ledgers and a new log, and no box. The only
+    /// An empty kernel, with the books of two new ledgers and two new logs, and no box. The only
     /// refusal is K4.
     pub(crate) fn new(
         alloc: Global,
@@ -60,6 +63,7 @@ impl<C: Naming, T: Ledger, P: PenPort + Drop> Logged<C, T, P> {
         calls: Blank,
         takes: Blank,
         keeper: Keeper<Event, C>,
+        gifts: GiftLog<C>,
     ) -> Result<Self, Refusal>
         requires calls_name { calls.name ≡ C.name }
         requires calls_parts { calls.parts ≡ C.parts }
@@ -68,6 +72,7 @@ impl<C: Naming, T: Ledger, P: PenPort + Drop> Logged<C, T, P> {
         requires takes_parts { takes.parts ≡ T.parts }
         requires many_takes { takes.parts ≡ 2 ^ 63 }
         requires nothing { keeper ≡ [] }
+        requires none { gifts ≡ [] }
         ensures log { IfOk result (λ logged. logged.log ≡ []) }
         ensures inside { IfOk result (λ logged. logged.inside
             ≡ first_inside (min limits.entries max_entries) (min limits.calls max_calls)) }
@@ -78,6 +83,7 @@ impl<C: Naming, T: Ledger, P: PenPort + Drop> Logged<C, T, P> {
             inside,
             numbers: Numbers::new(),
             keeper,
+            gifts,
         })
     }
 }

@@ -1,14 +1,19 @@
 //! The box of a connection: what its client is told next, and the pen that writes it.
-ghost use Rattle.std.specs.Prelude.{◌≡◌, None, Some, true, false, IfOk, OnOk, OnErr, IfErr, IfSome, IfNone, is_some, not};
-ghost use Rattle.ipc_lock.specs.Boxes.{Begins, ComesOut, EndsWork, LooksFirst, LooksInto, OnlyTakes, Works, WritesOn, cleared, has_failed, is_full, is_idle, is_of, is_pen_of, new_box, posted_to, take_parts, thread_of, told_box, welcomed};
-ghost use Rattle.ipc_lock.specs.Places.{gives_back, shut_for};
+ghost use Rattle.std.specs.Prelude.{◌≡◌, ◌∷◌, [], None, Some, true, false, IfOk, OnOk, OnErr, IfErr, IfSome, IfNone, is_some, not};
+ghost use Rattle.ipc_lock.specs.Boxes.{Begins, ComesOut, LooksFirst, LooksInto, OnlyTakes, Works, WritesOn, cleared, has_failed, is_full, is_idle, is_of, is_pen_of, new_box, posted_to, take_parts, thread_of, told_box, welcomed};
+ghost use Rattle.ipc_lock.specs.Places.{gives_back, pen_for, shut_for};
 ghost use Rattle.ipc_connection.specs.Pens.{BeginsEmpty, new_page};
+ghost use Rattle.ipc_lock.specs.Gifts.{gift_in, gifts_of_work, work_gifts};
+ghost use Rattle.ipc_lock.specs.Giving.{GivesOn, all_given};
 
 mod loaded;
 
+use crate::events::Gave;
+use crate::gift_log::GiftLog;
 use crate::seated::{Locked, TakeSeat};
-use ipc_connection::{Given, Pen, PenPort, Told, reply};
+use ipc_connection::{Given, PenPort, Told, reply};
 use ipc_frame::WireVersion;
+use ipc_log::{Naming, Own};
 use ipc_words::ThreadId;
 pub use loaded::Loaded;
 use std::alloc::{AllocError, Global};
@@ -18,18 +23,18 @@ use std::sync::{Arc, Condvar};
 
 /// What a connection's writer does next.
 #[derive(Drop)]
-pub(crate) enum Work<P: PenPort + Drop> {
+pub(crate) enum Work<C: Naming, P: PenPort + Drop> {
     /// It writes with the pen.
-    Write(Loaded<P>),
-    /// Nothing more is written: the box is shut and empty, or the device has failed. The pen is
-    /// gone.
+    Write(Loaded<C, P>),
+    /// Nothing more is written: the box is shut and empty, or the device has failed. The pen stays
+    /// in its box.
     Over,
 }
 
 /// The box of one connection, or of none once it was given back: an answer that its reader left,
 /// the seat of its thread's outcomes, and the pen where nobody has it.
 #[derive(Drop)]
-pub(crate) struct PostBox<T: Ledger, P: PenPort + Drop> {
+pub(crate) struct PostBox<C: Naming, T: Ledger, P: PenPort + Drop> {
     place: usize,
     // that of its connection, which no other connection has
     number: Option<u64>,
@@ -39,12 +44,12 @@ pub(crate) struct PostBox<T: Ledger, P: PenPort + Drop> {
     posted: Option<Told>,
     shut: bool,
     seat: Option<TakeSeat<T>>,
-    pen: Option<Pen<P>>,
+    pen: Option<Loaded<C, P>>,
     bell: Arc<Condvar>,
     emptied: Arc<Condvar>,
 }
 
-impl<T: Ledger, P: PenPort + Drop> Model for PostBox<T, P> {
+impl<C: Naming, T: Ledger, P: PenPort + Drop> Model for PostBox<C, T, P> {
     ghost use Rattle.std.specs.Prelude.{◌≡◌, true};
     ghost use Rattle.ipc_lock.specs.Boxes.{BoxParts, is_own, seat_parts};
 
@@ -70,11 +75,19 @@ fn two_bells(alloc: Global) -> Result<(Arc<Condvar>, Arc<Condvar>), AllocError> 
     Ok((first, second))
 }
 
-impl<T: Ledger, P: PenPort + Drop> PostBox<T, P> {
+impl<C: Naming, T: Ledger, P: PenPort + Drop> PostBox<C, T, P> {
     /// An empty box of this place for the connection of this number, in which the pen of its port
     /// lies.
-    pub(crate) fn new(alloc: Global, port: P, place: usize, number: u64) -> Result<Self, AllocError>
-        requires { BeginsEmpty (P.written port) }
+    pub(crate) fn new(
+        alloc: Global,
+        port: P,
+        place: usize,
+        number: u64,
+        own: Own<Gave, C>,
+    ) -> Result<Self, AllocError>
+        requires empty { BeginsEmpty (P.written port) }
+        requires its { own.number ≡ number }
+        requires nothing { all_given own.mine ≡ [] }
         ensures { IfOk result (λ b. b
             ≡ new_box place number (new_page place number (P.written port) (P.failures port))) }
     {
@@ -86,46 +99,62 @@ impl<T: Ledger, P: PenPort + Drop> PostBox<T, P> {
             posted: None,
             shut: false,
             seat: None,
-            pen: Some(Pen::new(port, place, number)),
+            pen: Some(Loaded::new(port, place, number, own)),
             bell,
             emptied,
         })
     }
 
     /// Makes a box that was given back ready for another connection.
-    pub(crate) fn reopen(&mut self, port: P, place: usize, number: u64)
-        requires { BeginsEmpty (P.written port) }
+    pub(crate) fn reopen(&mut self, port: P, place: usize, number: u64, own: Own<Gave, C>)
+        requires empty { BeginsEmpty (P.written port) }
+        requires its { own.number ≡ number }
+        requires nothing { all_given own.mine ≡ [] }
         ensures { self.new
             ≡ new_box place number (new_page place number (P.written port) (P.failures port)) }
     {
-        self.clear();
+        drop(self.clear());
         self.place = place;
         self.number = Some(number);
         self.version = WireVersion::One;
         self.shut = false;
-        let pen = Pen::new(port, place, number);
+        let pen = Loaded::new(port, place, number, own);
         drop(self.pen.replace(pen));
     }
 
-    /// Lets go of what the connection of this number leaves behind. The box of another one stays as
-    /// it is.
-    pub(crate) fn give_back(&mut self, number: u64)
-        ensures { self.new ≡ gives_back number self.old }
+    /// Lets go of what the connection of this number leaves behind, and hands its pen out where
+    /// that lies here. The box of another one stays as it is.
+    pub(crate) fn give_back(&mut self, number: u64) -> Option<Loaded<C, P>>
+        ensures left { self.new ≡ gives_back number self.old }
+        ensures pen { result ≡ pen_for number self.old }
+        ensures own { IfSome result (λ pen. pen.number ≡ number) }
     {
-        if self.is_of(number) {
-            self.clear()
+        // the invariant says whose pen it is
+        let _ = &self.place;
+        let is_its = self.is_of(number);
+        if !is_its {
+            return None;
         }
+        self.clear()
     }
 
-    /// Lets go of what a connection leaves behind.
-    fn clear(&mut self)
-        ensures { self.new ≡ cleared self.old }
+    /// Whether its pen is out.
+    pub(crate) fn is_out(&self) -> bool
+        ensures { result ≡ not (is_some self.now.pen) }
+    {
+        self.pen.is_none()
+    }
+
+    /// Lets go of what a connection leaves behind, and hands its pen out where that lies here.
+    fn clear(&mut self) -> Option<Loaded<C, P>>
+        ensures left { self.new ≡ cleared self.old }
+        ensures pen { result ≡ self.old.pen }
     {
         self.number = None;
         self.shut = true;
         self.posted = None;
         drop(self.seat.take());
-        drop(self.pen.take());
+        self.pen.take()
     }
 
     /// Leaves what is told. A full or shut box hands it back and stays as it is.
@@ -184,7 +213,7 @@ impl<T: Ledger, P: PenPort + Drop> PostBox<T, P> {
 
     /// Whether this is a pen of its connection.
     #[tactic(auto, unfolding(crate::specs::Boxes::is_pen_of))]
-    fn has_for_pen(&self, pen: &Loaded<P>) -> bool
+    fn has_for_pen(&self, pen: &Loaded<C, P>) -> bool
         ensures { result ≡ is_pen_of pen.now self.now }
     {
         pen.place() == self.place && self.is_of(pen.number())
@@ -216,7 +245,7 @@ impl<T: Ledger, P: PenPort + Drop> PostBox<T, P> {
 
     /// What the client is told next: the outcome of its thread's last call before what was posted.
     #[tactic(auto, using(crate::proofs::Moves::only_none, crate::proofs::Moves::only_gives, crate::proofs::Moves::only_nothing))]
-    fn next<C: Ledger>(&mut self, locked: &mut Locked<C, T>) -> Option<Given>
+    fn next(&mut self, locked: &mut Locked<C, T>) -> Option<Given>
         ensures first { LooksFirst locked.old.kernel locked.new.kernel self.old.seat result }
         ensures out { ComesOut self.old.version self.old.posted result }
         ensures left { self.new ≡ told_box self.old result }
@@ -249,34 +278,41 @@ impl<T: Ledger, P: PenPort + Drop> PostBox<T, P> {
 
     /// Takes the pen out with what the client is told next. None where the pen is out or not at its
     /// end, or nothing is there.
-    #[tactic(auto, unfolding(crate::specs::Boxes::is_pen_of), using(crate::proofs::Moves::only_none))]
-    pub(crate) fn load<C: Ledger>(&mut self, locked: &mut Locked<C, T>) -> Option<Loaded<P>>
+    #[tactic(auto, unfolding(crate::specs::Boxes::is_pen_of), using(crate::proofs::Moves::only_none, crate::proofs::Handed::gives_none))]
+    pub(crate) fn load(
+        &mut self,
+        locked: &mut Locked<C, T>,
+        gift_log: &mut GiftLog<C>,
+    ) -> Option<Loaded<C, P>>
         ensures looks { LooksInto locked.old.kernel locked.new.kernel self.old self.new result }
         ensures own { IfSome result (λ pen. is_pen_of pen self.old ≡ true) }
         ensures only { OnlyTakes locked.old.kernel locked.new.kernel }
+        ensures gives { GivesOn gift_log.old gift_log.new (gift_in result) }
     {
         if !self.is_idle() {
             return None;
         }
         let given = self.next(locked)?;
         let mut pen = self.pen.take()?;
-        pen.give(given);
-        Some(Loaded::of(pen))
+        pen.give(gift_log, given);
+        Some(pen)
     }
 
     /// Lays the pen of the box's connection down, and takes it out again where something came
     /// meanwhile. That of another connection goes, and all stays.
-    #[tactic(auto, using(crate::proofs::Moves::only_none))]
-    pub(crate) fn look_again<C: Ledger>(
+    #[tactic(auto, using(crate::proofs::Moves::only_none, crate::proofs::Handed::gives_none))]
+    pub(crate) fn look_again(
         &mut self,
         locked: &mut Locked<C, T>,
-        pen: Loaded<P>,
-    ) -> Option<Loaded<P>>
+        gift_log: &mut GiftLog<C>,
+        pen: Loaded<C, P>,
+    ) -> Option<Loaded<C, P>>
         ensures own { is_pen_of pen self.old ≡ true → LooksInto locked.old.kernel locked.new.kernel
             (record self.old { pen = Some pen }) self.new result }
         ensures other { is_pen_of pen self.old ≡ false → (result ≡ None)
             × (locked.new.kernel ≡ locked.old.kernel) × (self.new ≡ self.old) }
         ensures only { OnlyTakes locked.old.kernel locked.new.kernel }
+        ensures gives { GivesOn gift_log.old gift_log.new (gift_in result) }
     {
         match self.lay(pen) {
             // the box is its connection's
@@ -284,21 +320,26 @@ impl<T: Ledger, P: PenPort + Drop> PostBox<T, P> {
                 drop(other);
                 None
             }
-            None => self.load(locked),
+            None => self.load(locked, gift_log),
         }
     }
 
     /// What the writer does next: it goes on with a frame that is not at its end, or takes the pen
     /// out with what is next. None while there is nothing to do, or another thread has the pen.
-    #[tactic(auto, using(crate::proofs::Moves::only_none))]
-    pub(crate) fn work<C: Ledger>(&mut self, locked: &mut Locked<C, T>) -> Option<Work<P>>
+    #[tactic(auto, using(crate::proofs::Moves::only_none, crate::proofs::Handed::works_begun, crate::proofs::Handed::works_on, crate::proofs::Handed::works_over))]
+    pub(crate) fn work(
+        &mut self,
+        locked: &mut Locked<C, T>,
+        gift_log: &mut GiftLog<C>,
+    ) -> Option<Work<C, P>>
         ensures works { Works locked.old.kernel locked.new.kernel self.old self.new result }
         ensures only { OnlyTakes locked.old.kernel locked.new.kernel }
+        ensures gives { GivesOn gift_log.old gift_log.new (work_gifts (Some self.old) result) }
     {
         if self.has_failed() {
-            self.end_work()
+            Some(Work::Over)
         } else if self.is_idle() {
-            self.begin(locked)
+            self.begin(locked, gift_log)
         } else {
             self.go_on()
         }
@@ -306,13 +347,15 @@ impl<T: Ledger, P: PenPort + Drop> PostBox<T, P> {
 
     /// What the writer does with a pen that is at its end: it takes the pen out with what is next,
     /// and ends where nothing comes any more.
-    fn begin<C: Ledger>(&mut self, locked: &mut Locked<C, T>) -> Option<Work<P>>
+    #[tactic(auto, using(crate::proofs::Handed::begins_over))]
+    fn begin(&mut self, locked: &mut Locked<C, T>, gift_log: &mut GiftLog<C>) -> Option<Work<C, P>>
         ensures begins { Begins locked.old.kernel locked.new.kernel self.old self.new result }
         ensures only { OnlyTakes locked.old.kernel locked.new.kernel }
+        ensures gives { GivesOn gift_log.old gift_log.new (gifts_of_work (true ∷ []) result) }
     {
-        match self.load(locked) {
+        match self.load(locked, gift_log) {
             Some(pen) => Some(Work::Write(pen)),
-            None if self.shut => self.end_work(),
+            None if self.shut => Some(Work::Over),
             None => None,
         }
     }
@@ -328,25 +371,17 @@ impl<T: Ledger, P: PenPort + Drop> PostBox<T, P> {
     }
 
     /// Writes on with the pen, where it lies here.
-    fn go_on(&mut self) -> Option<Work<P>>
+    fn go_on(&mut self) -> Option<Work<C, P>>
         ensures { WritesOn self.old self.new result }
     {
         let pen = self.pen.take()?;
-        Some(Work::Write(Loaded::of(pen)))
-    }
-
-    /// Nothing more is written, and the pen goes.
-    fn end_work(&mut self) -> Option<Work<P>>
-        ensures { EndsWork self.old self.new result }
-    {
-        drop(self.pen.take());
-        Some(Work::Over)
+        Some(Work::Write(pen))
     }
 
     /// Lays the pen of the box's connection down; that of another one is handed back. Its writer is
     /// woken where a frame is not at its end, where the device failed, and where the box is shut.
     #[tactic(auto, unfolding(crate::specs::Boxes::is_pen_of))]
-    pub(crate) fn lay(&mut self, pen: Loaded<P>) -> Option<Loaded<P>>
+    pub(crate) fn lay(&mut self, pen: Loaded<C, P>) -> Option<Loaded<C, P>>
         ensures laid { IfNone result ((is_pen_of pen self.old ≡ true)
             × (self.new ≡ record self.old { pen = Some pen })) }
         ensures back { IfSome result (λ back. (back ≡ pen) × (self.new ≡ self.old)) }
@@ -356,7 +391,7 @@ impl<T: Ledger, P: PenPort + Drop> PostBox<T, P> {
             return Some(pen);
         }
         let is_for_writer = self.shut || !pen.is_ready();
-        self.pen = Some(pen.into_pen());
+        self.pen = Some(pen);
         if is_for_writer {
             self.ring();
         }

@@ -1,7 +1,7 @@
 //! What the lock keeps, and the calls that change it. Nobody else makes an [`Answered`] or a
 //! [`Taken`].
 ghost use Rattle.std.specs.Prelude.{◌≡◌, ◌+◌, ◌≤◌, ◌^◌, false, length, min};
-ghost use Rattle.std.specs.Prelude.{IfOk, IfErr, OnOk, OnErr};
+ghost use Rattle.std.specs.Prelude.{IfOk, IfErr, IsOk, OnOk, OnErr};
 ghost use Rattle.ipc_history.specs.Calls.{calls_made};
 ghost use Rattle.ipc_history.specs.Threads.{is_live};
 ghost use Rattle.ipc_core.specs.Effects.{Breaks, Ticks};
@@ -19,11 +19,11 @@ mod obeying;
 mod parting;
 mod seats;
 
+use ipc_base::Memory;
 use ipc_core::{Advance, Answer, Kernel, Limits, NoThread, Refusal};
 use ipc_history::{Call, Outcome};
 use ipc_words::ThreadId;
 pub use seats::{CallSeat, TakeSeat};
-use std::alloc::Global;
 use std::marker::PhantomData;
 use std::sync::ledger::{Blank, Book, Ledger, Share};
 
@@ -87,7 +87,12 @@ impl<T: Ledger> Taken<T> {
 
 impl<C: Ledger, T: Ledger> Locked<C, T> {
     /// An empty kernel, with the books of two new ledgers. The only refusal is K4.
-    pub fn new(alloc: Global, limits: Limits, calls: Blank, takes: Blank) -> Result<Self, Refusal>
+    pub fn new<M: Memory>(
+        memory: M,
+        limits: Limits,
+        calls: Blank,
+        takes: Blank,
+    ) -> Result<Self, Refusal>
         requires calls_name { calls.name ≡ C.name }
         requires calls_parts { calls.parts ≡ C.parts }
         requires many_calls { calls.parts ≡ 2 ^ 63 }
@@ -97,8 +102,9 @@ impl<C: Ledger, T: Ledger> Locked<C, T> {
         ensures ok { IfOk result (λ locked. locked.kernel
             ≡ empty_kernel (min limits.entries max_entries) (min limits.calls max_calls)) }
         ensures memory { IfErr result (λ refusal. refusal ≡ Refusal.NoMemory) }
+        ensures ample { M.is_ample → IsOk result }
     {
-        let kernel = Kernel::new(alloc, limits)?;
+        let kernel = Kernel::new_in(memory, limits)?;
         let (calls, calls_left) = calls.open::<C>();
         let (takes, takes_left) = takes.open::<T>();
         Ok(Locked {

@@ -53,11 +53,11 @@ impl<C: Naming, T: Ledger, P: PenPort + Drop> SharedKernel<C, T, P> {
         requires takes_name { takes.name ≡ T.name }
         requires takes_parts { takes.parts ≡ T.parts }
         requires many_takes { takes.parts ≡ 2 ^ 63 }
-        requires log_table { log ≡ C.table }
+        requires log_tables { log ≡ C.tables }
         ensures { IfErr result (λ refusal. refusal ≡ Refusal.NoMemory) }
     {
-        let (log, keeper) = log.open::<C>();
-        let inside = Logged::new(alloc, limits, calls, takes, keeper)?;
+        let (log, keeper, gifts) = log.open::<C>();
+        let inside = Logged::new(alloc, limits, calls, takes, keeper, gifts)?;
         Ok(SharedKernel {
             log,
             inside: Mutex::new(inside),
@@ -137,7 +137,7 @@ impl<C: Naming, T: Ledger, P: PenPort + Drop> SharedKernel<C, T, P> {
     }
 
     /// Wakes those whom a step concerns, and writes what it told.
-    fn settle<R: Wait>(&self, rt: &R, after: After, errands: &mut Errands<P>)
+    fn settle<R: Wait>(&self, rt: &R, after: After, errands: &mut Errands<C, P>)
         ensures carries { Carries errands.old errands.new }
     {
         if after.strays {
@@ -154,7 +154,7 @@ impl<C: Naming, T: Ledger, P: PenPort + Drop> SharedKernel<C, T, P> {
 
     /// Writes with pens, each as far as its device has room now, and lays them down; what came
     /// meanwhile is written, too.
-    fn carry<R: Wait>(&self, rt: &R, errands: &mut Errands<P>)
+    fn carry<R: Wait>(&self, rt: &R, errands: &mut Errands<C, P>)
         ensures carries { Carries errands.old errands.new }
     {
         'rounds: for _ in rt.forever() {

@@ -1,11 +1,15 @@
 -- What is known of a log, and by whom.
-use Rattle.std.specs.Prelude.{ℕ, List, [], true, false}
+use Rattle.std.specs.Prelude.{ℕ, List, [], get_or, true, false}
 pub use Rattle.atomic_table.specs.Seated.{TableId}
 use Rattle.ipc_log.specs.declared.rule.View.{View}
 
 -- the name of no table
 abbrev pub no_table : TableId
 no_table = record { words = 0; slots = 0; views_name = 0; atom = 0; block = 0; offset = 0; slot_names = [] }
+
+-- the table of the log of this kind, among those of a program
+abbrev pub table_of : ℕ → List TableId → TableId
+table_of kind tables = get_or tables kind no_table
 
 -- what an owner knows: its number, the entries of the log that are its own, and the log so far as
 -- it was seen

@@ -7,6 +7,9 @@ use std::sync::ledger::Ledger;
 pub trait Entry {
     ghost use Rattle.std.specs.Prelude.{ℕ, Bool, List};
 
+    // which of a program's logs it stands in
+    ghost kind: { ℕ };
+
     // whether the entry is one of the owner of a number
     ghost is_of: { Self → ℕ → Bool };
 
@@ -14,15 +17,17 @@ pub trait Entry {
     ghost begins: { Self → List ℕ };
 }
 
-/// Names one log. Each call of a program picks it.
+/// Names the logs of a program, one of each kind of entries. Each call of a program picks them.
 pub trait Naming: Ledger {
+    ghost use Rattle.std.specs.Prelude.{List};
     ghost use Rattle.atomic_table.specs.Seated.{TableId};
 
-    ghost table: { TableId };
+    // by their kinds
+    ghost tables: { List TableId };
 }
 
 impl Naming for Brand {
-    ghost use Rattle.ipc_log.specs.Views.{no_table};
+    ghost use Rattle.std.specs.Prelude.{[]};
 
-    ghost table = { no_table };
+    ghost tables = { [] };
 }

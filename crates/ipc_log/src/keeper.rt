@@ -1,25 +1,25 @@
 //! Who keeps a log.
 
-use crate::entry::Naming;
+use crate::entry::{Entry, Naming};
 use crate::rule::Pass;
 use std::marker::{Model, PhantomData};
 use std::sync::ledger::Total;
 
 /// The right to add to a log, which knows it whole. There is one of each log.
 #[derive(Drop)]
-pub struct Keeper<E, C: Naming> {
+pub struct Keeper<E: Entry, C: Naming> {
     pub(crate) pass: Pass<E>,
     pub(crate) of: PhantomData<Total<C>>,
 }
 
-impl<E, C: Naming> Model for Keeper<E, C> {
+impl<E: Entry, C: Naming> Model for Keeper<E, C> {
     ghost use Rattle.std.specs.Prelude.{◌≡◌, List, []};
 
     ghost Value = { List E };
 
-    ghost use Rattle.ipc_log.specs.Views.{keeping};
+    ghost use Rattle.ipc_log.specs.Views.{keeping, table_of};
 
     ghost view = { λ k. k.pass.me.0.seen };
 
-    ghost invariant = { λ k. (k.pass.table_id ≡ C.table) × (k.pass.me ≡ (keeping k.pass.me.0.seen, [])) };
+    ghost invariant = { λ k. (k.pass.table_id ≡ table_of E.kind C.tables) × (k.pass.me ≡ (keeping k.pass.me.0.seen, [])) };
 }

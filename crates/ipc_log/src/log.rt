@@ -1,6 +1,7 @@
 //! The log that threads share, and what is done with it. Nothing waits, and no step fails.
 ghost use Rattle.std.specs.Prelude.{◌≡◌, ◌<◌, [], ◌∷◌, ◌++◌, Contains};
 ghost use mathlib.Core.List.{IsPrefix};
+ghost use Rattle.ipc_log.specs.Views.{table_of};
 ghost use Rattle.ipc_log.specs.Rules.{AreOne, IsNobodys, IsOnlyOf, entries_of, numbers_of};
 
 use crate::entry::{Entry, Naming};
@@ -48,7 +49,7 @@ impl<E: Entry + Drop> Blank<E> {
 
     /// The log, and who keeps it.
     pub fn open<C: Naming>(self) -> (Log<E, C>, Keeper<E, C>)
-        requires { self ≡ C.table }
+        requires { self ≡ table_of E.kind C.tables }
         ensures { result.1 ≡ [] }
     {
         let Blank { table, pass } = self;
@@ -69,8 +70,18 @@ impl<E: Entry + Drop> Blank<E> {
 pub struct Log<E: Entry + Drop, C: Naming> {
     table: Table<E, View<E>, (), OneLog, Global>,
     of: PhantomData<Total<C>>,
-    ghost is_it: { table.shared.table_id ≡ C.table },
-    ghost has_word: { 0 < table.shared.table_id.words },
+}
+
+impl<E: Entry + Drop, C: Naming> Model for Log<E, C> {
+    ghost use Rattle.std.specs.Prelude.{◌≡◌, ◌<◌};
+    ghost use Rattle.atomic_table.specs.Seated.{TableId};
+    ghost use Rattle.ipc_log.specs.Views.{table_of};
+
+    ghost Value = { TableId };
+
+    ghost view = { λ l. l.table.shared.table_id };
+
+    ghost invariant = { λ l. (l.table.shared.table_id ≡ table_of E.kind C.tables) × (0 < l.table.shared.table_id.words) };
 }
 
 impl<E: Entry + Drop, C: Naming> Log<E, C> {

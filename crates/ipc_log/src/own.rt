@@ -2,7 +2,7 @@
 
 ghost use Rattle.std.specs.Prelude.{◌≡◌};
 
-use crate::entry::Naming;
+use crate::entry::{Entry, Naming};
 use crate::rule::Pass;
 use std::marker::{Model, PhantomData};
 use std::sync::ledger::Total;
@@ -10,26 +10,26 @@ use std::sync::ledger::Total;
 /// Which entries of a log are those of an owner, and the log so far as the owner saw it. No other
 /// one has its number.
 #[derive(Drop)]
-pub struct Own<E, C: Naming> {
+pub struct Own<E: Entry, C: Naming> {
     pub(crate) number: u64,
     pub(crate) pass: Pass<E>,
     pub(crate) of: PhantomData<Total<C>>,
 }
 
-impl<E, C: Naming> Model for Own<E, C> {
+impl<E: Entry, C: Naming> Model for Own<E, C> {
     ghost use Rattle.std.specs.Prelude.{◌≡◌, []};
     ghost use Rattle.ipc_log.specs.Views.{Known};
 
     ghost Value = { Known E };
 
-    ghost use Rattle.ipc_log.specs.Views.{owning, known_of};
+    ghost use Rattle.ipc_log.specs.Views.{owning, known_of, table_of};
 
     ghost view = { λ o. known_of o.pass.me.0 };
 
-    ghost invariant = { λ o. (o.number ≡ o.pass.me.0.number) × (o.pass.table_id ≡ C.table) × (o.pass.me ≡ (owning (known_of o.pass.me.0), [])) };
+    ghost invariant = { λ o. (o.number ≡ o.pass.me.0.number) × (o.pass.table_id ≡ table_of E.kind C.tables) × (o.pass.me ≡ (owning (known_of o.pass.me.0), [])) };
 }
 
-impl<E, C: Naming> Own<E, C> {
+impl<E: Entry, C: Naming> Own<E, C> {
     /// The owner's number.
     pub fn number(&self) -> u64
         ensures { result ≡ self.now.number }

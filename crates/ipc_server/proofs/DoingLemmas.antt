@@ -1,11 +1,12 @@
 -- What was done by an end, one deed after the other.
 use Rattle.std.proofs.Common.{◌≡◌, ℕ, List, [], ◌∷◌, ◌++◌, map, Option, Some, None, refl, sym, ap, subst, ◌∙◌, inl, inr}
 use Rattle.std.proofs.lemmas.List.{append-nil}
+use Rattle.std.specs.Prelude.{IfNone, IfSome, option_map}
 use Rattle.ipc_connection.specs.KernelCalls.{posted}
 use Rattle.ipc_connection.specs.declared.asking.Request.{Request}
 use Rattle.ipc_connection.specs.declared.replying.Told.{Told}
 use Rattle.ipc_frame.specs.declared.frame.Frame.{Frame}
-use Rattle.ipc_lock.specs.Above.{ConnectsSome, ReleasesSome}
+use Rattle.ipc_lock.specs.Above.{ConnectsSome, FindsNone, HandsOut}
 use Rattle.ipc_lock.specs.declared.ends.PostEnd.{PostEnd}
 use Rattle.ipc_lock.specs.declared.events.Event.{Event}
 use Rattle.ipc_log.specs.Views.{Known}
@@ -15,6 +16,7 @@ use Rattle.ipc_session.specs.Keeping.{call_of}
 use Rattle.ipc_session.specs.Sessions.{AsksFor, deed_of, deeds_left}
 use Rattle.ipc_session.specs.declared.deed.Deed.{Deed}
 use Rattle.ipc_session.specs.declared.deed.Deed.TheVariants as deed
+use Rattle.ipc_server.proofs.HomeLemmas.{HasBox, did_keep, is_found}
 
 pub at_home : {C : Type 0} (end : PostEnd C) → IsAtHome end end
 at_home end = record { place = refl; number = refl; space = refl }
@@ -115,21 +117,34 @@ reads_nothing P came came_now end deeds new same is = record {
 }
 
 -- it had a box, or none
-pub serves_one : {C : Type 0} (P : Type 0) (space : ℕ) (came came_now : Option (List ℕ)) (end left : PostEnd C) (deeds : List Deed)
-    → end.space ≡ space → ReadsBy P came came_now end left deeds → ReleasesSome C P left.place left.own → ServesOne C P space came came_now deeds
-serves_one {C} P space came came_now end left deeds is reads releases = record {
-  asks = reads.asks;
-  does = inl (record {
-    end = begun reads.did.first left;
-    left = left;
-    connects = reads.did.connects;
-    space_is = reads.home.space ∙ is;
-    begins = refl;
-    does = reads.did.does;
-    releases = releases;
-  });
-}
+-- the port came, as the box was there
+hands_some : (C P : Type 0) {Q : Type 0} (place : ℕ) (own : Known Event) (port : Option Q) (written : Q → Option (List ℕ)) → HasBox place own.number own.mine
+    → IfSome port (λ p. HandsOut C P place own (written p)) → IfNone port (FindsNone C P place own)
+    → (out : Option (List ℕ)) × (option_map written port ≡ Some out) × HandsOut C P place own out
+hands_some C P place own None written has hands none = absurd (is_found C P place own has none)
+hands_some C P place own (Some port) written has hands none = (written port, refl, hands)
 
-pub serves_none : (C P : Type 0) (space : ℕ) (came came_now : Option (List ℕ)) (deeds : List Deed) → came_now ≡ came → deeds ≡ []
-    → ServesOne C P space came came_now deeds
-serves_none C P space came came_now deeds same none = record { asks = inr (same, ap (map call_of) none); does = inr none }
+pub serves_one : {C : Type 0} (P : Type 0) {Q : Type 0} (space : ℕ) (came came_now : Option (List ℕ)) (end left : PostEnd C) (deeds : List Deed) (port : Option Q)
+    (written : Q → Option (List ℕ)) → end.space ≡ space → ReadsBy P came came_now end left deeds
+    → IfSome port (λ p. HandsOut C P left.place left.own (written p)) → IfNone port (FindsNone C P left.place left.own)
+    → ServesOne C P space came came_now deeds (option_map written port)
+serves_one {C} P space came came_now end left deeds port written is reads hands none =
+    let handed = hands_some C P left.place left.own port written (did_keep P deeds left reads.did) hands none in
+    record {
+      asks = reads.asks;
+      does = inl (record {
+        end = begun reads.did.first left;
+        left = left;
+        connects = reads.did.connects;
+        space_is = reads.home.space ∙ is;
+        begins = refl;
+        does = reads.did.does;
+        out = handed.0;
+        sent_is = handed.1;
+        hands = handed.2;
+      });
+    }
+
+pub serves_none : (C P : Type 0) (space : ℕ) (came came_now : Option (List ℕ)) (deeds : List Deed) (sent : Option (Option (List ℕ))) → came_now ≡ came → deeds ≡ []
+    → ServesOne C P space came came_now deeds sent
+serves_none C P space came came_now deeds sent same none = record { asks = inr (same, ap (map call_of) none); does = inr none }

@@ -3,3 +3,4 @@ pub mod DoingLemmas
 pub mod NotedLemmas
 pub mod TraceLemmas
 pub mod WorkLemmas
+pub mod HomeLemmas

@@ -6,7 +6,7 @@ use Rattle.ipc_connection.specs.declared.asking.Request.{Request}
 use Rattle.ipc_connection.specs.declared.replying.Told.{Told}
 use Rattle.ipc_frame.specs.declared.frame.Frame.{Frame}
 use Rattle.ipc_frame.specs.declared.frame.Frame.TheVariants as frame
-use Rattle.ipc_lock.specs.Above.{AsksOrRefuses, ConnectsSome, HangsUpSome, PostsOrDrops, ReleasesSome}
+use Rattle.ipc_lock.specs.Above.{AsksOrRefuses, ConnectsSome, HandsOut, HangsUpSome, PostsOrDrops}
 use Rattle.ipc_lock.specs.Acting.{Asked}
 use Rattle.ipc_lock.specs.declared.ends.PostEnd.{PostEnd}
 use Rattle.ipc_lock.specs.declared.events.Event.{Event}
@@ -89,21 +89,25 @@ pub record ReadsBy {C : Type 0} (P : Type 0) (came came_now : Option (List ℕ))
 
 -- a connection to a space got a number that no other had, and a box that was as new. All of these
 -- were done by its end, which had no seat at first; then the box was given back, and the log had no
--- other event of that end
-pub record DoesSome (C P : Type 0) (space : ℕ) (deeds : List Deed) : Type 0 where
+-- other event of that end. What had gone out by its port then, where that is told, begins the text
+-- of all that the log says that the connection was given
+pub record DoesSome (C P : Type 0) (space : ℕ) (deeds : List Deed) (sent : Option (Option (List ℕ))) : Type 0 where
   pub end : PostEnd C
   pub left : PostEnd C
   pub connects : ConnectsSome C P end.place end.own
   pub space_is : end.space ≡ space
   pub begins : end.seat ≡ None
   pub does : Does P end deeds left
-  pub releases : ReleasesSome C P left.place left.own
+  pub out : Option (List ℕ)
+  pub sent_is : sent ≡ Some out
+  pub hands : HandsOut C P left.place left.own out
 
 -- a connection to a space is served: what came meanwhile asked for these deeds, all of them and no
--- others, and each was done for it; or it got no box, and nothing was done
-pub record ServesOne (C P : Type 0) (space : ℕ) (came came_now : Option (List ℕ)) (deeds : List Deed) : Type 0 where
+-- others, and each was done for it, and what was sent meanwhile is what it was given; or it got no
+-- box, and nothing was done
+pub record ServesOne (C P : Type 0) (space : ℕ) (came came_now : Option (List ℕ)) (deeds : List Deed) (sent : Option (Option (List ℕ))) : Type 0 where
   pub asks : MayAskFor came came_now (map call_of deeds)
-  pub does : DoesSome C P space deeds ⊎ (deeds ≡ [])
+  pub does : DoesSome C P space deeds sent ⊎ (deeds ≡ [])
 
 -- what the kernel port of an end tells: first the box, the number and the space of that end, as two
 -- frames, and then its calls. What a port tells only grows, so nobody can put that of another

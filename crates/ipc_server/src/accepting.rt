@@ -1,6 +1,6 @@
 //! The workers of a server beside those of its connections and of its trace: one for each path, the
 //! ticker and the mover.
-ghost use Rattle.std.specs.Prelude.{◌≡◌, [], Some};
+ghost use Rattle.std.specs.Prelude.{◌≡◌, [], Some, option_map};
 ghost use Rattle.ipc_server.specs.Doing.{ServesOne};
 
 use crate::control::answer_askers;
@@ -289,20 +289,22 @@ where
 }
 
 /// Serves a socket. What came through it asked for what was asked, and each of that was done by its
-/// own end, from the space of its guest.
+/// own end, from the space of its guest; what the system took of it is what the log says that it
+/// was given.
 fn serve_stream<'a, C, T, R>(
     server: &Server<'_, C, T, SocketPort, R>,
     guest: &Guest<'a, R>,
     stream: &'a UnixStream,
     writer: SocketPort,
-) -> Served<EagerStream<'a, R>>
+) -> (Served<EagerStream<'a, R>>, Option<SocketPort>)
 where
     C: Naming + Send,
     T: Ledger + Send,
     R: Threads + Wait + Clock + Eprint + Sync,
     requires { writer.taken ≡ [] }
-    ensures { ServesOne C SocketPort guest.now.space (Some []) (Some result.reader.inlet.came)
-        result.asked }
+    ensures { ServesOne C SocketPort guest.now.space (Some [])
+        (Some result.0.reader.inlet.came) result.0.asked
+        (option_map (λ port. Some port.taken) result.1) }
 {
     let ports = Ports {
         space: guest.space,

@@ -79,14 +79,14 @@ impl Counters {
     }
 
     // The lines of a trace: how far it lags behind, and the number after TR of what stopped it, 0
-    // where it goes on.
+    // where it goes on. Nothing waits for one that has stopped.
     fn fmt_trace_lines<W: fmt::Write>(&self, f: &mut fmt::Formatter<W>) -> fmt::Result {
-        let Some(behind) = self.behind else {
+        let Some(lag) = self.behind else {
             return Ok(());
         };
-        let stopped = match &self.trace_fault {
-            Some(fault) => fault.number(),
-            None => 0,
+        let (behind, stopped) = match &self.trace_fault {
+            Some(fault) => (0, fault.number()),
+            None => (lag, 0),
         };
         write!(f, "trace_entries_behind {behind}\n")?;
         write!(f, "trace_stopped {stopped}\n")

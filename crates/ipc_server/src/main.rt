@@ -164,7 +164,7 @@ where
     requires calls_parts { (calls.parts ≡ C.parts) × (calls.parts ≡ 2 ^ 63) }
     requires takes_name { takes.name ≡ T.name }
     requires takes_parts { (takes.parts ≡ T.parts) × (takes.parts ≡ 2 ^ 63) }
-    requires log_table { log ≡ C.table }
+    requires log_tables { log ≡ C.tables }
 {
     let limits = Limits {
         entries: MAX_ENTRIES,

@@ -1,5 +1,5 @@
 //! The two workers of a connection.
-ghost use Rattle.std.specs.Prelude.{◌≡◌, [], None, false, map, true};
+ghost use Rattle.std.specs.Prelude.{◌≡◌, [], None, false, map, option_map, true};
 ghost use Rattle.ipc_lock.specs.Above.{EndsWorkSome};
 ghost use Rattle.ipc_connection.specs.Pens.{BeginsEmpty};
 ghost use Rattle.ipc_server.specs.Doing.{IsAtHome, IsNew, ReadsBy, ServesOne};
@@ -96,11 +96,12 @@ pub struct Served<I: PortRead> {
 /// Serves one connection to its end: reads in this thread, and in one that it starts writes what no
 /// other thread could. Where that cannot be started, or there is no memory for a box, the link is
 /// shut down. What came asked for what was asked, and each of that was done by the connection's own
-/// end, of which the one log of the kernel says nothing else.
+/// end, of which the one log of the kernel says nothing else. The port to which was written comes
+/// back where the connection had a box: what went out is what the log says that it was given.
 pub fn serve_connection<C, T, P, R, I, G>(
     server: &Server<'_, C, T, P, R>,
     ports: Ports<P, I, G>,
-) -> Served<I>
+) -> (Served<I>, Option<P>)
 where
     C: Naming + Send,
     T: Ledger + Send,
@@ -109,7 +110,8 @@ where
     I: PortRead + Drop,
     G: Gate + Link + Drop + Send,
     requires { BeginsEmpty (P.written ports.writer) }
-    ensures { ServesOne C P ports.space (I.came ports.reader) (I.came result.reader) result.asked }
+    ensures { ServesOne C P ports.space (I.came ports.reader) (I.came result.0.reader)
+        result.0.asked (option_map (λ port. P.written port) result.1) }
 {
     let Ports {
         space,
@@ -127,10 +129,10 @@ where
     match server.shared.connect(server.rt, writer, space) {
         Ok((posts, takes)) => {
             let (posts, served) = serve_both_ways(server, posts, takes, reading, writes);
-            server.shared.release(server.rt, posts);
-            served
+            let port = server.shared.release(server.rt, posts);
+            (served, port)
         }
-        Err(_) => turn_away(reading),
+        Err(_) => (turn_away(reading), None),
     }
 }
 
@@ -320,7 +322,7 @@ where
 }
 
 /// Writes with a pen, with patience, and gives it back.
-fn write_with<C, T, P, R>(server: &Server<'_, C, T, P, R>, pen: Loaded<P>)
+fn write_with<C, T, P, R>(server: &Server<'_, C, T, P, R>, pen: Loaded<C, P>)
 where
     C: Naming,
     T: Ledger,

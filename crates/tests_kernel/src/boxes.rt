@@ -31,7 +31,7 @@ fn boxes<C: Naming, T: Ledger, R: Wait + Abort>(
 )
     requires calls { (calls.name ≡ C.name) × (calls.parts ≡ C.parts) × (calls.parts ≡ 2 ^ 63) }
     requires takes { (takes.name ≡ T.name) × (takes.parts ≡ T.parts) × (takes.parts ≡ 2 ^ 63) }
-    requires log { log ≡ C.table }
+    requires log { log ≡ C.tables }
 {
     let kernel = shared::<C, T, R>(rt, alloc, ROOM, calls, takes, log);
     let takes = fill_box(rt, alloc, &kernel);
@@ -57,8 +57,8 @@ fn compare_ends<C: Naming, T: Ledger, R: Wait + Abort>(
     holds(rt, matches!(opened, Told::Opened(_, _)));
     let (opened, _) = ask(rt, kernel, &mut other, Request::Open(6, WireVersion::One));
     holds(rt, matches!(opened, Told::Opened(_, _)));
-    kernel.release(rt, one);
-    kernel.release(rt, other);
+    holds(rt, kernel.release(rt, one).is_some());
+    holds(rt, kernel.release(rt, other).is_some());
 }
 
 // A connection, whose port has room or not.
@@ -117,7 +117,7 @@ fn written_pen<C: Naming, T: Ledger, R: Wait + Abort>(
     rt: &R,
     kernel: &SharedKernel<C, T, SlowPort>,
     takes: &TakeEnd,
-) -> Loaded<SlowPort> {
+) -> Loaded<C, SlowPort> {
     let mut pen = kernel.wait_pen(rt, takes).expect(rt, "a pen");
     same(rt, pen.write(Patience::Waits), Turn::Written);
     pen
@@ -140,7 +140,8 @@ fn told_slowly<C: Naming, T: Ledger, R: Wait + Abort>(
     written
 }
 
-// A box that is shut takes nothing more, and its pen goes; one that was given back comes again.
+// A box that is shut takes nothing more; one that was given back hands its port out, and comes
+// again.
 fn shut_box<C: Naming, T: Ledger, R: Wait + Abort>(
     rt: &R,
     alloc: Global,
@@ -156,5 +157,7 @@ fn shut_box<C: Naming, T: Ledger, R: Wait + Abort>(
     holds(rt, pen.is_none());
     drop(pen);
     kernel.leave(rt, 0, &takes);
-    kernel.release(rt, posts);
+    let port = kernel.release(rt, posts).expect(rt, "the port");
+    holds(rt, port.is_open);
+    drop(port);
 }

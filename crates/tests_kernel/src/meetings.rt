@@ -31,7 +31,7 @@ fn meetings<C: Naming + Send + Sync, T: Ledger + Send + Sync, R: Threads + Wait 
 )
     requires calls { (calls.name ≡ C.name) × (calls.parts ≡ C.parts) × (calls.parts ≡ 2 ^ 63) }
     requires takes { (takes.name ≡ T.name) × (takes.parts ≡ T.parts) × (takes.parts ≡ 2 ^ 63) }
-    requires log { log ≡ C.table }
+    requires log { log ≡ C.tables }
 {
     let kernel = shared::<C, T, R>(rt, alloc, ROOM, calls, takes, log);
     meet_often(rt, alloc, &kernel);
@@ -115,7 +115,7 @@ fn never_fills<C: Naming, T: Ledger, R: Wait + Abort>(
 )
     requires calls { (calls.name ≡ C.name) × (calls.parts ≡ C.parts) × (calls.parts ≡ 2 ^ 63) }
     requires takes { (takes.name ≡ T.name) × (takes.parts ≡ T.parts) × (takes.parts ≡ 2 ^ 63) }
-    requires log { log ≡ C.table }
+    requires log { log ≡ C.tables }
 {
     let kernel = shared::<C, T, R>(rt, alloc, FEW_ENTRIES, calls, takes, log);
     let mut party = Party::open(rt, &kernel, 1);

@@ -78,7 +78,7 @@ pub(crate) fn shared<C: Naming, T: Ledger, R: Abort>(
 ) -> SharedKernel<C, T, SlowPort>
     requires calls { (calls.name ≡ C.name) × (calls.parts ≡ C.parts) × (calls.parts ≡ 2 ^ 63) }
     requires takes { (takes.name ≡ T.name) × (takes.parts ≡ T.parts) × (takes.parts ≡ 2 ^ 63) }
-    requires log { log ≡ C.table }
+    requires log { log ≡ C.tables }
 {
     SharedKernel::new(alloc, limits, calls, takes, log).expect(rt, "a kernel")
 }

@@ -29,7 +29,7 @@ fn stale_seats<C: Naming, T: Ledger, R: Wait + Abort>(
 )
     requires calls { (calls.name ≡ C.name) × (calls.parts ≡ C.parts) × (calls.parts ≡ 2 ^ 63) }
     requires takes { (takes.name ≡ T.name) × (takes.parts ≡ T.parts) × (takes.parts ≡ 2 ^ 63) }
-    requires log { log ≡ C.table }
+    requires log { log ≡ C.tables }
 {
     let limits = Limits {
         entries: MAX_ENTRIES,

@@ -12,9 +12,10 @@ use super::Inside;
 use crate::seated::{CallSeat, TakeSeat};
 use ipc_connection::{PenPort, Request, Told, command_of, told_of, version_asked};
 use ipc_frame::WireVersion;
+use ipc_log::Naming;
 use std::sync::ledger::Ledger;
 
-impl<C: Ledger, T: Ledger, P: PenPort + Drop> Inside<C, T, P> {
+impl<C: Naming, T: Ledger, P: PenPort + Drop> Inside<C, T, P> {
     /// Makes the step of a reader's request, and tells in its box what the kernel accepted. The
     /// outcomes of a thread that is opened so are told in this box from here on.
     #[tactic(auto, using(crate::proofs::Steps::asked_so, crate::proofs::Moves::told_so, crate::proofs::Moves::owned_so))]

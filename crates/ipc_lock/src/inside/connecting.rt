@@ -1,12 +1,15 @@
 //! The boxes of connections: made, given back, and looked at.
-ghost use Rattle.std.specs.Prelude.{◌≡◌, IfOk, MatchBool, OnErr, if◌then◌else◌, map, slice_get, vec_capacity, vec_len};
+ghost use Rattle.std.specs.Prelude.{◌≡◌, [], IfOk, IfSome, MatchBool, OnErr, if◌then◌else◌, map, slice_get, vec_capacity, vec_len};
 ghost use Rattle.ipc_lock.specs.Boxes.{changed_at, new_box};
-ghost use Rattle.ipc_lock.specs.Places.{ConnectsAt, Frees, disowned, gives_back, is_empty_in, is_free_in, is_in, is_shut_in};
+ghost use Rattle.ipc_lock.specs.Giving.{all_given};
+ghost use Rattle.ipc_lock.specs.Places.{ConnectsAt, Frees, disowned, gives_back, is_empty_in, is_free_in, is_in, is_out, is_shut_in, pen_in};
 ghost use Rattle.ipc_connection.specs.Pens.{BeginsEmpty, new_page};
 
 use super::Inside;
-use crate::post_box::PostBox;
+use crate::events::Gave;
+use crate::post_box::{Loaded, PostBox};
 use ipc_connection::PenPort;
+use ipc_log::{Naming, Own};
 use std::alloc::AllocError;
 use std::sync::ledger::Ledger;
 use std::sync::{Arc, Condvar};
@@ -30,7 +33,7 @@ fn disowned(owner: Option<usize>, place: usize) -> Option<usize>
     }
 }
 
-impl<C: Ledger, T: Ledger, P: PenPort + Drop> Inside<C, T, P> {
+impl<C: Naming, T: Ledger, P: PenPort + Drop> Inside<C, T, P> {
     /// Whether nothing is posted in the box. One that is not there counts as empty.
     #[tactic(auto, using(crate::proofs::Moves::there, crate::proofs::Moves::none_there))]
     pub(crate) fn is_empty(&self, place: usize) -> bool
@@ -65,8 +68,15 @@ impl<C: Ledger, T: Ledger, P: PenPort + Drop> Inside<C, T, P> {
 
     /// An empty box with the pen of a port, for the connection of this number: one that was given
     /// back, else a new one.
-    pub(crate) fn connect(&mut self, port: P, number: u64) -> Result<usize, AllocError>
-        requires { BeginsEmpty (P.written port) }
+    pub(crate) fn connect(
+        &mut self,
+        port: P,
+        number: u64,
+        own: Own<Gave, C>,
+    ) -> Result<usize, AllocError>
+        requires empty { BeginsEmpty (P.written port) }
+        requires its { own.number ≡ number }
+        requires nothing { all_given own.mine ≡ [] }
         ensures fresh { IfOk result (λ place. ConnectsAt self.old.free.items self.new.free.items
             self.old.boxes.items self.new.boxes.items place
             (new_box place number (new_page place number (P.written port) (P.failures port)))) }
@@ -78,7 +88,7 @@ impl<C: Ledger, T: Ledger, P: PenPort + Drop> Inside<C, T, P> {
         if let Some(place) = self.free.pop() {
             if self.is_free(place) {
                 if let Some(post_box) = self.boxes.get_mut(place) {
-                    post_box.reopen(port, place, number);
+                    post_box.reopen(port, place, number, own);
                     return Ok(place);
                 }
             }
@@ -87,7 +97,7 @@ impl<C: Ledger, T: Ledger, P: PenPort + Drop> Inside<C, T, P> {
         // so that giving a box back takes no memory
         self.free.reserve(place.saturating_add(1))?;
         self.boxes
-            .push(PostBox::new(self.alloc, port, place, number)?)?;
+            .push(PostBox::new(self.alloc, port, place, number, own)?)?;
         Ok(place)
     }
 
@@ -102,10 +112,9 @@ impl<C: Ledger, T: Ledger, P: PenPort + Drop> Inside<C, T, P> {
         }
     }
 
-    /// Gives the box of a connection back that nobody uses any more. Where it is that of another
-    /// one all stays.
-    #[tactic(auto, using(crate::proofs::Moves::changed_there, crate::proofs::Moves::changed_none))]
-    pub(crate) fn release(&mut self, place: usize, number: u64)
+    /// Gives the box of a connection back that nobody uses any more, and hands its pen out where
+    /// that lies there. Where the box is that of another one all stays.
+    pub(crate) fn release(&mut self, place: usize, number: u64) -> Option<Loaded<C, P>>
         ensures clears { self.new.boxes.items
             ≡ changed_at (gives_back number) self.old.boxes.items place }
         ensures frees { MatchBool (is_in number (slice_get self.old.boxes.items place))
@@ -114,15 +123,43 @@ impl<C: Ledger, T: Ledger, P: PenPort + Drop> Inside<C, T, P> {
         ensures disowns { self.new.owners.items
             ≡ (if is_in number (slice_get self.old.boxes.items place)
             then map (disowned place) self.old.owners.items else self.old.owners.items) }
+        ensures pen { result ≡ pen_in number (slice_get self.old.boxes.items place) }
+        ensures own { IfSome result (λ pen. pen.number ≡ number) }
         ensures locked { self.new.locked ≡ self.old.locked }
         ensures upkeep { self.new.upkeep ≡ self.old.upkeep }
     {
         let is_its = self.is_in(place, number);
-        if let Some(post_box) = self.boxes.get_mut(place) {
-            post_box.give_back(number);
-        }
+        let pen = self.clear(place, number);
         if is_its {
             self.free_up(place);
+        }
+        pen
+    }
+
+    /// Nothing is left in the box of a place, where it is that of this connection.
+    #[tactic(auto, using(crate::proofs::Moves::changed_there, crate::proofs::Moves::changed_none, crate::proofs::Moves::there, crate::proofs::Moves::none_there))]
+    fn clear(&mut self, place: usize, number: u64) -> Option<Loaded<C, P>>
+        ensures clears { self.new.boxes.items
+            ≡ changed_at (gives_back number) self.old.boxes.items place }
+        ensures pen { result ≡ pen_in number (slice_get self.old.boxes.items place) }
+        ensures own { IfSome result (λ pen. pen.number ≡ number) }
+        ensures free { self.new.free ≡ self.old.free }
+        ensures owners { self.new.owners ≡ self.old.owners }
+        ensures locked { self.new.locked ≡ self.old.locked }
+        ensures upkeep { self.new.upkeep ≡ self.old.upkeep }
+    {
+        let post_box = self.boxes.get_mut(place)?;
+        post_box.give_back(number)
+    }
+
+    /// Whether the box of a place is that of the connection of this number, and its pen is out.
+    #[tactic(auto, using(crate::proofs::Moves::there, crate::proofs::Moves::none_there))]
+    pub(crate) fn is_out(&self, place: usize, number: u64) -> bool
+        ensures { result ≡ is_out number (slice_get self.now.boxes.items place) }
+    {
+        match self.boxes.get(place) {
+            Some(post_box) => post_box.is_of(number) && post_box.is_out(),
+            None => false,
         }
     }
 

@@ -1,26 +1,30 @@
 //! The end of a connection.
 ghost use Rattle.std.specs.Prelude.{◌≡◌, None, IfNone, slice_get};
 ghost use Rattle.ipc_lock.specs.Boxes.{changed_at};
+ghost use Rattle.ipc_lock.specs.Handing.{Hands};
 ghost use Rattle.ipc_lock.specs.Places.{Ends, EndsAt, OnlyLoads, shut_for, thread_for};
 ghost use Rattle.ipc_lock.specs.Telling.{BreaksFor, BrokeFor};
 
 use super::{After, Inside};
 use crate::errands::Errands;
+use crate::gift_log::GiftLog;
 use ipc_connection::PenPort;
 use ipc_core::Command;
+use ipc_log::Naming;
 use ipc_words::ThreadId;
 use std::sync::ledger::Ledger;
 
-impl<C: Ledger, T: Ledger, P: PenPort + Drop> Inside<C, T, P> {
+impl<C: Naming, T: Ledger, P: PenPort + Drop> Inside<C, T, P> {
     /// Shuts the box of the connection of this number, and ends the thread that is told there. None
     /// where there is none.
-    #[tactic(auto, using(crate::proofs::Moves::loads_none))]
+    #[tactic(auto, using(crate::proofs::Moves::loads_none, crate::proofs::Handed::hands_none))]
     pub(crate) fn end_at(
         &mut self,
         now: u64,
         place: usize,
         number: u64,
-        errands: &mut Errands<P>,
+        gift_log: &mut GiftLog<C>,
+        errands: &mut Errands<C, P>,
     ) -> Option<After>
         ensures ends { EndsAt self.old.upkeep self.new.upkeep self.old.locked.kernel
             self.new.locked.kernel now
@@ -33,25 +37,39 @@ impl<C: Ledger, T: Ledger, P: PenPort + Drop> Inside<C, T, P> {
             self.new.locked.kernel now (thread_for number (slice_get self.old.boxes.items place))
             self.old.owners.items (changed_at (shut_for number) self.old.boxes.items place)
             self.new.boxes.items errands.old errands.new }
+        ensures hands { Hands gift_log.old gift_log.new errands.old errands.new }
         ensures owners { self.new.owners ≡ self.old.owners }
     {
         let told_here = self.thread_at(place, number);
         self.shut(place, number);
         let thread = told_here?;
-        Some(self.end_thread(now, thread, errands))
+        Some(self.end_thread(now, thread, gift_log, errands))
     }
 
     /// Ends a thread.
-    fn end_thread(&mut self, now: u64, thread: ThreadId, errands: &mut Errands<P>) -> After
+    fn end_thread(
+        &mut self,
+        now: u64,
+        thread: ThreadId,
+        gift_log: &mut GiftLog<C>,
+        errands: &mut Errands<C, P>,
+    ) -> After
         ensures ends { Ends self.old.upkeep self.new.upkeep self.old.locked.kernel
             self.new.locked.kernel now thread }
         ensures broke { BrokeFor C self.old.upkeep self.new.upkeep self.old.locked.kernel
             self.new.locked.kernel now thread self.old.owners.items self.old.boxes.items
             self.new.boxes.items errands.old errands.new }
         ensures stay { OnlyLoads self.old.boxes.items self.new.boxes.items }
+        ensures hands { Hands gift_log.old gift_log.new errands.old errands.new }
         ensures owners { self.new.owners ≡ self.old.owners }
     {
-        let (answered, after) = self.act_and_tell(now, None, Command::Broke(thread), errands);
+        let (answered, after) = self.act_and_tell(
+            now,
+            None,
+            Command::Broke(thread),
+            gift_log,
+            errands,
+        );
         drop(answered);
         after
     }

@@ -2,18 +2,26 @@
 ghost use Rattle.std.specs.Prelude.{◌≡◌, ◌&&◌, Some, map, slice_get};
 ghost use Rattle.ipc_lock.specs.Alarms.{WakesBefore};
 ghost use Rattle.ipc_lock.specs.Boxes.{OnlyTakes};
+ghost use Rattle.ipc_lock.specs.Handing.{Hands};
 ghost use Rattle.ipc_lock.specs.Places.{LoadsAt, LoadsOne, LoadsRow, OnlyLoads, owner_in, place_at, place_of, places_told};
 
 use super::{After, Inside};
 use crate::errands::Errands;
+use crate::gift_log::GiftLog;
 use ipc_connection::PenPort;
+use ipc_log::Naming;
 use std::sync::ledger::Ledger;
 
-impl<C: Ledger, T: Ledger, P: PenPort + Drop> Inside<C, T, P> {
+impl<C: Naming, T: Ledger, P: PenPort + Drop> Inside<C, T, P> {
     /// Who is to be woken after the last step. The pens of those whom it told something are taken
     /// out, first that of this box.
     #[tactic(auto, using(crate::proofs::Moves::only_both, crate::proofs::Moves::loads_both))]
-    pub(super) fn after(&mut self, own: Option<usize>, errands: &mut Errands<P>) -> After
+    pub(super) fn after(
+        &mut self,
+        own: Option<usize>,
+        gift_log: &mut GiftLog<C>,
+        errands: &mut Errands<C, P>,
+    ) -> After
         ensures loads { LoadsRow (places_told own self.old.owners.items self.old.finished.items)
             self.old.locked.kernel self.new.locked.kernel self.old.boxes.items
             self.new.boxes.items errands.old errands.new }
@@ -25,11 +33,12 @@ impl<C: Ledger, T: Ledger, P: PenPort + Drop> Inside<C, T, P> {
         ensures stay { OnlyLoads self.old.boxes.items self.new.boxes.items }
         ensures owners { self.new.owners ≡ self.old.owners }
         ensures upkeep { self.new.upkeep ≡ self.old.upkeep }
+        ensures hands { Hands gift_log.old gift_log.new errands.old errands.new }
     {
         let begun = self.has_begun;
         let tells_trace = self.tells_trace();
         let wakes_ticker = self.wakes_ticker();
-        self.gather(own, errands);
+        self.gather(own, gift_log, errands);
         After {
             strays: self.strays,
             tells_trace,
@@ -39,7 +48,7 @@ impl<C: Ledger, T: Ledger, P: PenPort + Drop> Inside<C, T, P> {
     }
 
     /// The pens of this box, and of those whose calls the last step finished.
-    fn gather(&mut self, own: Option<usize>, errands: &mut Errands<P>)
+    fn gather(&mut self, own: Option<usize>, gift_log: &mut GiftLog<C>, errands: &mut Errands<C, P>)
         ensures loads { LoadsRow (places_told own self.old.owners.items self.old.finished.items)
             self.old.locked.kernel self.new.locked.kernel self.old.boxes.items
             self.new.boxes.items errands.old errands.new }
@@ -47,14 +56,20 @@ impl<C: Ledger, T: Ledger, P: PenPort + Drop> Inside<C, T, P> {
         ensures stay { OnlyLoads self.old.boxes.items self.new.boxes.items }
         ensures owners { self.new.owners ≡ self.old.owners }
         ensures upkeep { self.new.upkeep ≡ self.old.upkeep }
+        ensures hands { Hands gift_log.old gift_log.new errands.old errands.new }
     {
-        self.load_own(own, errands);
-        self.load_finished(errands);
+        self.load_own(own, gift_log, errands);
+        self.load_finished(gift_log, errands);
     }
 
     /// The pen of this box.
-    #[tactic(auto, using(crate::proofs::Moves::only_none, crate::proofs::Moves::loads_none))]
-    fn load_own(&mut self, own: Option<usize>, errands: &mut Errands<P>)
+    #[tactic(auto, using(crate::proofs::Moves::only_none, crate::proofs::Moves::loads_none, crate::proofs::Handed::hands_none))]
+    fn load_own(
+        &mut self,
+        own: Option<usize>,
+        gift_log: &mut GiftLog<C>,
+        errands: &mut Errands<C, P>,
+    )
         ensures loads { LoadsOne own self.old.locked.kernel self.new.locked.kernel
             self.old.boxes.items self.new.boxes.items errands.old errands.new }
         ensures owners { self.new.owners ≡ self.old.owners }
@@ -62,14 +77,15 @@ impl<C: Ledger, T: Ledger, P: PenPort + Drop> Inside<C, T, P> {
         ensures only { OnlyTakes self.old.locked.kernel self.new.locked.kernel }
         ensures stay { OnlyLoads self.old.boxes.items self.new.boxes.items }
         ensures upkeep { self.new.upkeep ≡ self.old.upkeep }
+        ensures hands { Hands gift_log.old gift_log.new errands.old errands.new }
     {
         if let Some(place) = own {
-            self.load_more(place, errands);
+            self.load_more(place, gift_log, errands);
         }
     }
 
     /// The pens of those whose calls the last step finished.
-    fn load_finished(&mut self, errands: &mut Errands<P>)
+    fn load_finished(&mut self, gift_log: &mut GiftLog<C>, errands: &mut Errands<C, P>)
         ensures loads { LoadsRow (map (place_of self.old.owners.items) self.old.finished.items)
             self.old.locked.kernel self.new.locked.kernel self.old.boxes.items
             self.new.boxes.items errands.old errands.new }
@@ -77,14 +93,15 @@ impl<C: Ledger, T: Ledger, P: PenPort + Drop> Inside<C, T, P> {
         ensures stay { OnlyLoads self.old.boxes.items self.new.boxes.items }
         ensures owners { self.new.owners ≡ self.old.owners }
         ensures upkeep { self.new.upkeep ≡ self.old.upkeep }
+        ensures hands { Hands gift_log.old gift_log.new errands.old errands.new }
     {
         'finished: for index in 0..self.finished.len() {
-            self.load_for(index, errands);
+            self.load_for(index, gift_log, errands);
         }
     }
 
     /// The pen of one box more.
-    fn load_more(&mut self, place: usize, errands: &mut Errands<P>)
+    fn load_more(&mut self, place: usize, gift_log: &mut GiftLog<C>, errands: &mut Errands<C, P>)
         ensures loads { LoadsOne (Some place) self.old.locked.kernel self.new.locked.kernel
             self.old.boxes.items self.new.boxes.items errands.old errands.new }
         ensures owners { self.new.owners ≡ self.old.owners }
@@ -92,13 +109,14 @@ impl<C: Ledger, T: Ledger, P: PenPort + Drop> Inside<C, T, P> {
         ensures only { OnlyTakes self.old.locked.kernel self.new.locked.kernel }
         ensures stay { OnlyLoads self.old.boxes.items self.new.boxes.items }
         ensures upkeep { self.new.upkeep ≡ self.old.upkeep }
+        ensures hands { Hands gift_log.old gift_log.new errands.old errands.new }
     {
-        self.load(place, errands);
+        self.load(place, gift_log, errands);
     }
 
     /// The pen of one whose call the last step finished.
-    #[tactic(auto, using(crate::proofs::Moves::only_none, crate::proofs::Moves::loads_none))]
-    fn load_for(&mut self, index: usize, errands: &mut Errands<P>)
+    #[tactic(auto, using(crate::proofs::Moves::only_none, crate::proofs::Moves::loads_none, crate::proofs::Handed::hands_none))]
+    fn load_for(&mut self, index: usize, gift_log: &mut GiftLog<C>, errands: &mut Errands<C, P>)
         ensures loads { LoadsOne (place_at self.old.owners.items
             (slice_get self.old.finished.items index)) self.old.locked.kernel
             self.new.locked.kernel self.old.boxes.items self.new.boxes.items errands.old
@@ -108,20 +126,26 @@ impl<C: Ledger, T: Ledger, P: PenPort + Drop> Inside<C, T, P> {
         ensures only { OnlyTakes self.old.locked.kernel self.new.locked.kernel }
         ensures stay { OnlyLoads self.old.boxes.items self.new.boxes.items }
         ensures upkeep { self.new.upkeep ≡ self.old.upkeep }
+        ensures hands { Hands gift_log.old gift_log.new errands.old errands.new }
     {
         let Some(thread) = self.finished.get(index) else {
             return;
         };
         match self.owner_of(thread.number()) {
             None => self.strays = true,
-            Some(place) => self.load_more(place, errands),
+            Some(place) => self.load_more(place, gift_log, errands),
         }
     }
 
     /// Takes a box's pen out, where it lies there and something is to be told. Where no more pens
     /// have room the writer is woken.
-    #[tactic(auto, using(crate::proofs::Moves::only_none, crate::proofs::Moves::set_same, crate::proofs::Moves::there, crate::proofs::Moves::none_there))]
-    pub(crate) fn load(&mut self, place: usize, errands: &mut Errands<P>)
+    #[tactic(auto, using(crate::proofs::Moves::only_none, crate::proofs::Moves::set_same, crate::proofs::Moves::there, crate::proofs::Moves::none_there, crate::proofs::Handed::hands_none, crate::proofs::Handed::hands_still, crate::proofs::Handed::hands_pen))]
+    pub(crate) fn load(
+        &mut self,
+        place: usize,
+        gift_log: &mut GiftLog<C>,
+        errands: &mut Errands<C, P>,
+    )
         ensures loads { LoadsAt self.old.locked.kernel self.new.locked.kernel self.old.boxes.items
             self.new.boxes.items place (slice_get self.old.boxes.items place) errands.old
             errands.new }
@@ -129,6 +153,7 @@ impl<C: Ledger, T: Ledger, P: PenPort + Drop> Inside<C, T, P> {
         ensures finished { self.new.finished ≡ self.old.finished }
         ensures only { OnlyTakes self.old.locked.kernel self.new.locked.kernel }
         ensures upkeep { self.new.upkeep ≡ self.old.upkeep }
+        ensures hands { Hands gift_log.old gift_log.new errands.old errands.new }
     {
         let Inside { locked, boxes, .. } = self;
         let Some(post_box) = boxes.get_mut(place) else {
@@ -138,7 +163,7 @@ impl<C: Ledger, T: Ledger, P: PenPort + Drop> Inside<C, T, P> {
             post_box.ring();
             return;
         }
-        if let Some(pen) = post_box.load(locked) {
+        if let Some(pen) = post_box.load(locked, gift_log) {
             // it has room
             let _ = errands.add(pen);
         }

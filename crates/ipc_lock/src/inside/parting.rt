@@ -8,10 +8,11 @@ use crate::not_given::NotGiven;
 use crate::part::{Behind, HeldPart};
 use ipc_compact::BaseRoom;
 use ipc_connection::PenPort;
+use ipc_log::Naming;
 use std::alloc::AllocError;
 use std::sync::ledger::Ledger;
 
-impl<C: Ledger, T: Ledger, P: PenPort + Drop> Inside<C, T, P> {
+impl<C: Naming, T: Ledger, P: PenPort + Drop> Inside<C, T, P> {
     /// Copies of the entries from this place on, and the part that begins behind them. Nobody else
     /// reads them any more: all are marked then, and memory has let go of those that need not be
     /// kept.

@@ -15,10 +15,11 @@ use crate::not_given::NotGiven;
 use crate::seated::{TakeSeat, Taken};
 use ipc_connection::PenPort;
 use ipc_history::Entry;
+use ipc_log::Naming;
 use l4sh_state::State;
 use std::sync::ledger::Ledger;
 
-impl<C: Ledger, T: Ledger, P: PenPort + Drop> Inside<C, T, P> {
+impl<C: Naming, T: Ledger, P: PenPort + Drop> Inside<C, T, P> {
     /// The entries before a place of the history, counted from 0, are not read any more.
     pub(crate) fn mark(&mut self, upto: usize)
         ensures marks { self.new.locked.kernel ≡ record self.old.locked.kernel {

@@ -5,9 +5,10 @@ ghost use Rattle.ipc_lock.specs.Alarms.{Rests, WakesBefore};
 use super::Inside;
 use crate::rest::Rest;
 use ipc_connection::PenPort;
+use ipc_log::Naming;
 use std::sync::ledger::Ledger;
 
-impl<C: Ledger, T: Ledger, P: PenPort + Drop> Inside<C, T, P> {
+impl<C: Naming, T: Ledger, P: PenPort + Drop> Inside<C, T, P> {
     /// Whether a transfer has begun, so that the mover has work.
     pub(crate) fn has_begun(&self) -> bool
         ensures { result ≡ self.now.begun }

@@ -1,8 +1,10 @@
 //! The boxes of connections: made, posted to, looked into, and given back.
-ghost use Rattle.std.specs.Prelude.{◌≡◌, ◌⊎◌, ℕ, List, IfErr, IfOk, slice_get, true};
+ghost use Rattle.std.specs.Prelude.{◌≡◌, ◌⊎◌, ℕ, List, IfErr, IfNone, IfOk, IfSome, None, slice_get, true};
 ghost use Rattle.ipc_lock.specs.Boxes.{new_box};
 ghost use Rattle.ipc_lock.specs.Gifts.{gifts, no_errands, number_in};
-ghost use Rattle.ipc_lock.specs.Places.{ConnectsAt, FreesSome, LoadsAt, is_in};
+ghost use Rattle.ipc_lock.specs.Giving.{Wrote, gifts_in, given_in};
+ghost use Rattle.ipc_lock.specs.Logs.{given_to};
+ghost use Rattle.ipc_lock.specs.Places.{ConnectsAt, FreesSome, LoadsAt, is_in, pen_in};
 ghost use Rattle.ipc_lock.specs.Owning.{Begins, Knows, Makes};
 ghost use Rattle.ipc_lock.specs.Turns.{Turned};
 ghost use Rattle.ipc_lock.specs.declared.events.Event.TheVariants as event;
@@ -12,10 +14,30 @@ use super::Logged;
 use super::gifts::{gifts, number_at};
 use crate::errands::Errands;
 use crate::events::Event;
+use crate::gift_log::GiftLog;
+use crate::post_box::Loaded;
 use ipc_connection::{PenPort, Told};
 use ipc_log::{Log, Naming, Own};
 use std::alloc::AllocError;
 use std::sync::ledger::Ledger;
+
+/// The port of a pen, if there is one, which is of the connection of this number.
+fn port_of<C: Naming, P: PenPort + Drop>(
+    pen: Option<Loaded<C, P>>,
+    number: u64,
+    gift_log: &mut GiftLog<C>,
+) -> Option<P>
+    requires { IfSome pen (λ pen. pen.number ≡ number) }
+    ensures log { gift_log.new ≡ gift_log.old }
+    ensures wrote { IfSome result (λ port.
+        Wrote (P.written port) (given_in number (gifts_in gift_log.old))) }
+    ensures none { IfNone result (pen ≡ None) }
+{
+    match pen {
+        Some(pen) => Some(pen.hand_out(gift_log)),
+        None => None,
+    }
+}
 
 impl<C: Naming, T: Ledger, P: PenPort + Drop> Logged<C, T, P> {
     /// A number that no connection had, and an empty box with the pen of its port: one that was
@@ -40,7 +62,8 @@ impl<C: Naming, T: Ledger, P: PenPort + Drop> Logged<C, T, P> {
         let Some(number) = self.numbers.take() else {
             return Err(AllocError);
         };
-        match self.inside.connect(port, number) {
+        let pen = self.gifts.begin(number);
+        match self.inside.connect(port, number, pen) {
             Ok(place) => {
                 let connected = Event::Connected { place, number };
                 let own = log.begin(&mut self.keeper, &connected, number);
@@ -80,14 +103,14 @@ impl<C: Naming, T: Ledger, P: PenPort + Drop> Logged<C, T, P> {
 
     /// Takes a box's pen out, where it lies there and something is to be told. No pen is out
     /// before.
-    pub(crate) fn load(&mut self, log: &Log<Event, C>, place: usize, errands: &mut Errands<P>)
+    pub(crate) fn load(&mut self, log: &Log<Event, C>, place: usize, errands: &mut Errands<C, P>)
         requires none { errands.old ≡ no_errands }
         ensures turned { Turned C P self.old self.new (event.Looked place (gifts errands.new)) }
         ensures loads { LoadsAt self.old.inside.kernel self.new.inside.kernel
             self.old.inside.boxes self.new.inside.boxes place
             (slice_get self.old.inside.boxes place) no_errands errands.new }
     {
-        self.inside.load(place, errands);
+        self.inside.load(place, &mut self.gifts, errands);
         log.add(
             &mut self.keeper,
             &Event::Looked {
@@ -97,17 +120,28 @@ impl<C: Naming, T: Ledger, P: PenPort + Drop> Logged<C, T, P> {
         );
     }
 
-    /// Gives the box of a connection back that nobody uses any more. Where it is that of another
-    /// one all stays.
-    pub(crate) fn release(&mut self, log: &Log<Event, C>, own: Own<Event, C>, place: usize)
+    /// Gives the box of a connection back that nobody uses any more, and hands the port of its pen
+    /// out where that lies there. Where the box is that of another one all stays.
+    pub(crate) fn release(
+        &mut self,
+        log: &Log<Event, C>,
+        own: Own<Event, C>,
+        place: usize,
+    ) -> Option<P>
         ensures knew { Knows own self.old.log }
         ensures turned { Turned C P self.old self.new (event.Released place own.number) }
         ensures frees { FreesSome self.old.inside.boxes place own.number }
+        ensures wrote { IfSome result (λ port.
+            Wrote (P.written port) (given_to own.number self.old.log)) }
+        ensures none { IfNone result
+            (pen_in own.number (slice_get self.old.inside.boxes place) ≡ None) }
     {
         let mut own = own;
         let number = own.number();
-        self.inside.release(place, number);
+        let pen = self.inside.release(place, number);
+        let port = port_of(pen, number, &mut self.gifts);
         let released = Event::Released { place, number };
         log.add_own(&mut self.keeper, &mut own, &released);
+        port
     }
 }

@@ -12,17 +12,18 @@ use crate::seated::Taken;
 use ipc_base::Past;
 use ipc_connection::PenPort;
 use ipc_history::Outcome;
+use ipc_log::Naming;
 use std::sync::ledger::Ledger;
 
 /// What the pens on errands were given last.
-pub(super) fn gifts<P: PenPort + Drop>(errands: &Errands<P>) -> Past<Gift>
+pub(super) fn gifts<C: Naming, P: PenPort + Drop>(errands: &Errands<C, P>) -> Past<Gift>
     ensures { result ≡ gifts errands.now }
 {
     told(errands)
 }
 
 /// What the caller's proof says of errands.
-fn told<P: PenPort + Drop>(errands: &Errands<P>) -> Past<Gift>
+fn told<C: Naming, P: PenPort + Drop>(errands: &Errands<C, P>) -> Past<Gift>
     ghost items: { List Gift }
     ensures { result ≡ items }
 {
@@ -30,7 +31,7 @@ fn told<P: PenPort + Drop>(errands: &Errands<P>) -> Past<Gift>
 }
 
 /// What the caller's proof says of a box: the number of its connection, if there is one.
-pub(super) fn number_at<C: Ledger, T: Ledger, P: PenPort + Drop>(
+pub(super) fn number_at<C: Naming, T: Ledger, P: PenPort + Drop>(
     inside: &Inside<C, T, P>,
     place: usize,
 ) -> Past<u64>
@@ -41,7 +42,7 @@ pub(super) fn number_at<C: Ledger, T: Ledger, P: PenPort + Drop>(
 }
 
 /// What the caller's proof says of a box: whether its pen lies there at its end, if it is there.
-pub(super) fn idle_at<C: Ledger, T: Ledger, P: PenPort + Drop>(
+pub(super) fn idle_at<C: Naming, T: Ledger, P: PenPort + Drop>(
     inside: &Inside<C, T, P>,
     place: usize,
 ) -> Past<bool>
@@ -52,9 +53,9 @@ pub(super) fn idle_at<C: Ledger, T: Ledger, P: PenPort + Drop>(
 }
 
 /// What the caller's proof says of a writer's pen: what it was given, where it lay at its end.
-pub(super) fn gifts_of_work<P: PenPort + Drop>(
+pub(super) fn gifts_of_work<C: Naming, P: PenPort + Drop>(
     idle: &Past<bool>,
-    next: &Option<Work<P>>,
+    next: &Option<Work<C, P>>,
 ) -> Past<Gift>
     ghost items: { List Gift }
     ensures { result ≡ items }

@@ -17,12 +17,12 @@ use std::sync::ledger::Ledger;
 impl<C: Naming, T: Ledger, P: PenPort + Drop> Logged<C, T, P> {
     /// Lays pens down, each in its own box, and takes those out again for which something came
     /// meanwhile.
-    pub(crate) fn take_back(&mut self, log: &Log<Event, C>, errands: &mut Errands<P>)
+    pub(crate) fn take_back(&mut self, log: &Log<Event, C>, errands: &mut Errands<C, P>)
         ensures turned { Turned C P self.old self.new (event.Laid (gifts errands.new)) }
         ensures takes { TakesBack self.old.inside.kernel self.new.inside.kernel
             self.old.inside.boxes self.new.inside.boxes errands.old errands.new }
     {
-        self.inside.take_back(errands);
+        self.inside.take_back(&mut self.gifts, errands);
         log.add(
             &mut self.keeper,
             &Event::Laid {
@@ -33,7 +33,12 @@ impl<C: Naming, T: Ledger, P: PenPort + Drop> Logged<C, T, P> {
 
     /// What the writer of the connection of a number does next, whose box is that of a place; None
     /// while there is nothing to do. It ends where that has no such box any more.
-    pub(crate) fn work(&mut self, log: &Log<Event, C>, place: usize, number: u64) -> Option<Work<P>>
+    pub(crate) fn work(
+        &mut self,
+        log: &Log<Event, C>,
+        place: usize,
+        number: u64,
+    ) -> Option<Work<C, P>>
         ensures turned { Turned C P self.old self.new (event.Worked place number
             (work_gifts (slice_get self.old.inside.boxes place) result)) }
         ensures works { WorksFor self.old.inside.kernel self.new.inside.kernel
@@ -41,7 +46,7 @@ impl<C: Naming, T: Ledger, P: PenPort + Drop> Logged<C, T, P> {
             (slice_get self.old.inside.boxes place) result }
     {
         let idle = idle_at(&self.inside, place);
-        let next = self.inside.work(place, number);
+        let next = self.inside.work(place, number, &mut self.gifts);
         log.add(
             &mut self.keeper,
             &Event::Worked {

@@ -6,7 +6,7 @@ ghost use Rattle.ipc_history.specs.Legal.{Legal};
 ghost use Rattle.ipc_history.specs.Threads.{is_live};
 ghost use Rattle.ipc_lock.specs.Groups.{IsGroupAt};
 ghost use Rattle.ipc_lock.specs.Owning.{Sees};
-ghost use Rattle.ipc_lock.specs.Places.{is_empty_in, is_in, is_shut_in};
+ghost use Rattle.ipc_lock.specs.Places.{is_empty_in, is_in, is_out, is_shut_in};
 ghost use Rattle.ipc_lock.specs.Turns.{Runs};
 ghost use Rattle.l4sh_state.specs.States.{IsStateOf};
 
@@ -28,6 +28,13 @@ impl<C: Naming, T: Ledger, P: PenPort + Drop> Logged<C, T, P> {
         ensures own { Sees own.old own.new self.old.log }
     {
         log.look(&mut self.keeper, own);
+    }
+
+    /// Whether the box of a place is that of the connection of this number, and its pen is out.
+    pub(crate) fn is_out(&self, place: usize, number: u64) -> bool
+        ensures { result ≡ is_out number (slice_get self.now.inside.boxes place) }
+    {
+        self.inside.is_out(place, number)
     }
 
     /// Whether the seat's thread is live.

@@ -30,7 +30,7 @@ impl<C: Naming, T: Ledger, P: PenPort + Drop> Logged<C, T, P> {
         now: u64,
         seat: Option<CallSeat<C>>,
         command: Command,
-        errands: &mut Errands<P>,
+        errands: &mut Errands<C, P>,
     ) -> (Answered<C, T>, After)
         requires none { errands.old ≡ no_errands }
         ensures turned { Turned C P self.old self.new (event.Acted now (command ∷ [])
@@ -46,7 +46,9 @@ impl<C: Naming, T: Ledger, P: PenPort + Drop> Logged<C, T, P> {
     {
         let mut commands = Past::new();
         commands.add(&command);
-        let (answered, after) = self.inside.act_and_tell(now, seat, command, errands);
+        let (answered, after) = self
+            .inside
+            .act_and_tell(now, seat, command, &mut self.gifts, errands);
         let mut answers = Past::new();
         answers.add(answered.answer());
         log.add(
@@ -73,7 +75,7 @@ impl<C: Naming, T: Ledger, P: PenPort + Drop> Logged<C, T, P> {
         seat: Option<CallSeat<C>>,
         request: Request,
         space: u64,
-        errands: &mut Errands<P>,
+        errands: &mut Errands<C, P>,
     ) -> (Told, Option<CallSeat<C>>, After)
         requires none { errands.old ≡ no_errands }
         requires its { is_in own.old.number (slice_get self.old.inside.boxes place) ≡ true }
@@ -94,7 +96,7 @@ impl<C: Naming, T: Ledger, P: PenPort + Drop> Logged<C, T, P> {
         requests.add(&request);
         let (told, calls, after) = self
             .inside
-            .ask_and_tell(now, place, seat, request, space, errands);
+            .ask_and_tell(now, place, seat, request, space, &mut self.gifts, errands);
         let said = told;
         let asked = Event::Asked {
             now,
@@ -117,7 +119,7 @@ impl<C: Naming, T: Ledger, P: PenPort + Drop> Logged<C, T, P> {
         own: &mut Own<Event, C>,
         now: u64,
         place: usize,
-        errands: &mut Errands<P>,
+        errands: &mut Errands<C, P>,
     ) -> Option<After>
         requires none { errands.old ≡ no_errands }
         ensures own { Makes own.old own.new self.old.log self.new.log (event.Ended now place
@@ -133,7 +135,9 @@ impl<C: Naming, T: Ledger, P: PenPort + Drop> Logged<C, T, P> {
             self.new.inside.boxes }
     {
         let number = own.number();
-        let ended = self.inside.end_at(now, place, number, errands);
+        let ended = self
+            .inside
+            .end_at(now, place, number, &mut self.gifts, errands);
         let by_reader = Event::Ended {
             now,
             place,
@@ -153,7 +157,7 @@ impl<C: Naming, T: Ledger, P: PenPort + Drop> Logged<C, T, P> {
         now: u64,
         place: usize,
         number: u64,
-        errands: &mut Errands<P>,
+        errands: &mut Errands<C, P>,
     ) -> Option<After>
         requires none { errands.old ≡ no_errands }
         ensures turned { Turned C P self.old self.new (event.Ended now place number false
@@ -166,7 +170,9 @@ impl<C: Naming, T: Ledger, P: PenPort + Drop> Logged<C, T, P> {
         ensures shut { OnlyLoads (changed_at (shut_for number) self.old.inside.boxes place)
             self.new.inside.boxes }
     {
-        let ended = self.inside.end_at(now, place, number, errands);
+        let ended = self
+            .inside
+            .end_at(now, place, number, &mut self.gifts, errands);
         log.add(
             &mut self.keeper,
             &Event::Ended {

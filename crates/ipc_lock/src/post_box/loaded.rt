@@ -1,40 +1,67 @@
 //! A pen that was taken out of its box.
-ghost use Rattle.std.specs.Prelude.{◌≡◌, ◌≢◌, ◌<◌, None, true, false};
-ghost use Rattle.ipc_connection.specs.Pens.{Passes, is_ready, rest_of};
+ghost use Rattle.std.specs.Prelude.{◌≡◌, ◌≢◌, ◌<◌, [], None, true, false};
+ghost use Rattle.ipc_connection.specs.Pens.{BeginsEmpty, Passes, given_next, is_ready, new_page, rest_of};
+ghost use Rattle.ipc_lock.specs.Giving.{GivesOn, Wrote, all_given, gift_of, gifts_in, given_in};
 
-use ipc_connection::{Patience, Pen, PenPort, Turn};
+use crate::events::Gave;
+use crate::gift_log::GiftLog;
+use ipc_connection::{Given, Patience, Pen, PenPort, Turn};
+use ipc_log::{Naming, Own};
 use std::marker::Model;
 
-/// A pen that is out of its box with what is told next. It can only be written with: it is given
-/// something in its box alone, under the lock, so nobody else tells a client anything. A contract
-/// sees its pen.
+/// A connection's pen, in its box or out of it with what is told next. Outside it can only be
+/// written with: it is given something in its box alone, under the lock, so nobody else tells a
+/// client anything. All that it was given is what the log of gifts says of it. A contract sees its
+/// pen.
 #[derive(Drop)]
-pub struct Loaded<P: PenPort> {
+pub struct Loaded<C: Naming, P: PenPort> {
     pen: Pen<P>,
+    own: Own<Gave, C>,
 }
 
-impl<P: PenPort> Model for Loaded<P> {
+impl<C: Naming, P: PenPort> Model for Loaded<C, P> {
+    ghost use Rattle.std.specs.Prelude.{◌≡◌};
     ghost use Rattle.ipc_connection.specs.Pens.{Page};
+    ghost use Rattle.ipc_lock.specs.Giving.{all_given};
 
     ghost Value = { Page };
 
     ghost view = { λ loaded. loaded.pen };
+
+    ghost invariant = { λ loaded. (loaded.own.number ≡ loaded.pen.number) × (all_given loaded.own.mine ≡ loaded.pen.given) };
 }
 
-impl<P: PenPort> Loaded<P> {
-    /// The pen of a box, taken out.
-    pub(super) fn of(pen: Pen<P>) -> Loaded<P>
-        ensures { result ≡ pen }
+impl<C: Naming, P: PenPort> Loaded<C, P> {
+    /// The pen of the connection of this number, over its port, with the box of this place. Nothing
+    /// was given to it.
+    pub(crate) fn new(port: P, place: usize, number: u64, own: Own<Gave, C>) -> Loaded<C, P>
+        requires empty { BeginsEmpty (P.written port) }
+        requires its { own.number ≡ number }
+        requires nothing { all_given own.mine ≡ [] }
+        ensures { result ≡ new_page place number (P.written port) (P.failures port) }
     {
-        Loaded { pen }
+        Loaded {
+            pen: Pen::new(port, place, number),
+            own,
+        }
     }
 
-    /// The pen, where its box has it again.
-    pub(super) fn into_pen(self) -> Pen<P>
-        ensures { result ≡ self }
+    /// Gives it something to write, behind all that was given before, which is logged.
+    pub(crate) fn give(&mut self, gift_log: &mut GiftLog<C>, given: Given)
+        requires { self.old.rest ≡ None }
+        ensures given { self.new ≡ given_next self.old given }
+        ensures gives { GivesOn gift_log.old gift_log.new (gift_of self.new) }
     {
-        let Loaded { pen } = self;
-        pen
+        let Loaded { pen, own } = self;
+        gift_log.tell(own, &given);
+        pen.give(given);
+    }
+
+    /// Whether its device has failed.
+    pub(crate) fn has_failed(&self) -> bool
+        ensures { result ≡ self.now.failed }
+    {
+        self.pen.has_failed()
     }
 
     /// Its box.
@@ -58,12 +85,24 @@ impl<P: PenPort> Loaded<P> {
         self.pen.is_ready()
     }
 
+    /// Its port, with all that went out: that begins the text of what the log of gifts says that
+    /// its connection was given.
+    pub(crate) fn hand_out(self, gift_log: &mut GiftLog<C>) -> P
+        ensures log { gift_log.new ≡ gift_log.old }
+        ensures wrote { Wrote (P.written result) (given_in self.number (gifts_in gift_log.old)) }
+    {
+        let Loaded { pen, own } = self;
+        let mut own = own;
+        gift_log.look(&mut own);
+        pen.into_port()
+    }
+
     /// Its port, with all that went out, and nothing more.
     pub fn into_port(self) -> P
         ensures out { P.written result ≡ self.out }
         ensures failures { P.failures result ≡ self.failures }
     {
-        let Loaded { pen } = self;
+        let Loaded { pen, .. } = self;
         pen.into_port()
     }
 
@@ -82,7 +121,7 @@ impl<P: PenPort> Loaded<P> {
             → self.old.failures < self.new.failures }
         ensures kept { result ≢ Turn.Failed → self.new.failures ≡ self.old.failures }
     {
-        let Loaded { pen } = self;
+        let Loaded { pen, own: _ } = self;
         pen.write(patience)
     }
 }

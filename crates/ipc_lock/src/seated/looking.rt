@@ -1,5 +1,5 @@
 //! What is read of the history, and which of its entries memory may let go of.
-ghost use Rattle.std.specs.Prelude.{◌≡◌, ◌<◌, length, slice_get};
+ghost use Rattle.std.specs.Prelude.{◌≡◌, ◌≢◌, ◌<◌, ◌≤◌, length, slice_get};
 ghost use Rattle.std.specs.Prelude.{IfOk};
 ghost use Rattle.ipc_history.specs.Holding.{held_of, marked_to};
 ghost use Rattle.ipc_history.specs.Legal.{Legal, Quiet};
@@ -152,6 +152,7 @@ impl<C: Ledger, T: Ledger> Locked<C, T> {
     /// Memory let go of the first one, or there is none for the copies.
     pub fn group(&self, alloc: Global, index: usize) -> Result<Vec<Entry>, NotGiven>
         ensures group { IfOk result (λ group. IsGroupAt self.now.kernel.history index group.items) }
+        ensures none { length self.now.kernel.history ≤ index → result ≢ Err NotGiven.NoMemory }
         ensures legal { Legal self.now.kernel.history }
         ensures gone { result ≡ Err NotGiven.LetGo → index < self.now.kernel.held.whole_from }
     {

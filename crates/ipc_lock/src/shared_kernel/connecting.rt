@@ -1,9 +1,10 @@
 //! Connections: their boxes, what their readers ask for, and what their writers write.
 ghost use Rattle.std.specs.Prelude.{◌≡◌, None, IfOk, IfSome, IfNone, IfErr, false, true, slice_get};
 ghost use Rattle.std.specs.Sync.Mutex.{mutex_guard_value};
-ghost use Rattle.ipc_lock.specs.Above.{AsksOrRefuses, ConnectsSome, EndsSome, EndsWorkSome, GoneSome, HangsUpSome, LaysSome, PostsOrDrops, ReleasesSome, TakesOutSome};
+ghost use Rattle.ipc_lock.specs.Above.{AsksOrRefuses, ConnectsSome, EndsSome, EndsWorkSome, FindsNone, GoneSome, HandsOut, HangsUpSome, LaysSome, PostsOrDrops, TakesOutSome};
 ghost use Rattle.ipc_lock.specs.Acting.{Asked};
-ghost use Rattle.ipc_lock.specs.Places.{is_empty_in, is_in, is_shut_in};
+ghost use Rattle.ipc_lock.specs.Places.{is_empty_in, is_in, is_out, is_shut_in};
+ghost use Rattle.ipc_lock.specs.Rounds.{Carries};
 ghost use Rattle.ipc_connection.specs.Pens.{BeginsEmpty};
 ghost use Rattle.ipc_log.specs.Rules.{AreOne};
 
@@ -55,10 +56,13 @@ impl<C: Naming, T: Ledger, P: PenPort + Drop> SharedKernel<C, T, P> {
         }
     }
 
-    /// Gives a connection's box back, once its writer has ended.
-    #[tactic(auto, using(crate::proofs::Above::releases_some))]
-    pub fn release<R: Wait>(&self, rt: &R, end: PostEnd<C>)
-        ensures releases { ReleasesSome C P end.place end.own }
+    /// Gives a connection's box back, once its writer has ended and its pen lies there, and hands
+    /// the pen's port out: what went out is what the log says that the connection was given. None
+    /// where its box is not there, which a law of the log rules out.
+    pub fn release<R: Wait>(&self, rt: &R, end: PostEnd<C>) -> Option<P>
+        ensures hands { IfSome result (λ port.
+            HandsOut C P end.place end.own (P.written port)) }
+        ensures none { IfNone result (FindsNone C P end.place end.own) }
     {
         let PostEnd {
             place,
@@ -66,7 +70,8 @@ impl<C: Naming, T: Ledger, P: PenPort + Drop> SharedKernel<C, T, P> {
             seat: _,
             own,
         } = end;
-        self.inside(rt).release(&self.log, own, place);
+        let mut inside = self.when_laid(rt, place, own.number());
+        inside.release(&self.log, own, place)
     }
 
     /// Asks the kernel for a connection at a moment, in microseconds, and tells at once what it
@@ -162,10 +167,15 @@ impl<C: Naming, T: Ledger, P: PenPort + Drop> SharedKernel<C, T, P> {
 
     /// Wakes those whom the end of a connection concerns, if there was one, and writes what it
     /// told.
-    fn settle_end<R: Wait>(&self, rt: &R, ended: Option<After>, errands: &mut Errands<P>) {
-        if let Some(after) = ended {
-            self.wake_mover(&after);
-            self.settle(rt, after, errands);
+    fn settle_end<R: Wait>(&self, rt: &R, ended: Option<After>, errands: &mut Errands<C, P>)
+        ensures carries { Carries errands.old errands.new }
+    {
+        match ended {
+            Some(after) => {
+                self.wake_mover(&after);
+                self.settle(rt, after, errands);
+            }
+            None => self.carry(rt, errands),
         }
     }
 
@@ -184,7 +194,7 @@ impl<C: Naming, T: Ledger, P: PenPort + Drop> SharedKernel<C, T, P> {
     /// Waits until a box's pen lies there with something to write that nobody else has taken, and
     /// takes it out. None once nothing more comes, or the device has failed.
     #[tactic(auto, using(crate::proofs::Working::takes_out))]
-    pub fn wait_pen<R: Wait>(&self, rt: &R, end: &TakeEnd) -> Option<Loaded<P>>
+    pub fn wait_pen<R: Wait>(&self, rt: &R, end: &TakeEnd) -> Option<Loaded<C, P>>
         ensures takes { IfSome result (λ pen. TakesOutSome C P end.now.place end.now.number pen) }
         ensures over { IfNone result (EndsWorkSome C T P end.now.place end.now.number) }
     {
@@ -204,7 +214,7 @@ impl<C: Naming, T: Ledger, P: PenPort + Drop> SharedKernel<C, T, P> {
     /// Lays a pen down in its box. What came meanwhile is written first, as far as the device has
     /// room.
     #[tactic(auto, using(crate::proofs::Working::lays_some))]
-    pub fn give_back<R: Wait>(&self, rt: &R, pen: Loaded<P>)
+    pub fn give_back<R: Wait>(&self, rt: &R, pen: Loaded<C, P>)
         ensures lays { LaysSome C P pen }
     {
         let mut errands = Errands::of(pen);
@@ -228,6 +238,27 @@ impl<C: Naming, T: Ledger, P: PenPort + Drop> SharedKernel<C, T, P> {
                 self.inside(rt)
             }
         }
+    }
+
+    /// Takes the lock once the pen of the connection of this number lies in its box, if it has one.
+    fn when_laid<'a, R: Wait>(
+        &'a self,
+        rt: &R,
+        place: usize,
+        number: u64,
+    ) -> MutexGuard<'a, Logged<C, T, P>>
+        ensures { is_out number (slice_get (mutex_guard_value result).inside.boxes place)
+            ≡ false }
+    {
+        let mut inside = self.inside(rt);
+        for _ in rt.forever() {
+            if !inside.is_out(place, number) {
+                return inside;
+            }
+            let bell = inside.bell(place);
+            inside = self.wait_for(rt, bell, inside);
+        }
+        inside
     }
 
     /// Takes the lock once the box of the connection of this number is empty. None once it is shut,

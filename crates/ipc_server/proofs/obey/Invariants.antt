@@ -7,4 +7,4 @@ abbrev pub ghosts-start-T-Ledger : goal.ghosts-start-T-Ledger
 ghosts-start-T-Ledger g a = record { name = a.takes.name; parts = a.takes.parts }
 
 abbrev pub ghosts-start-C-Naming : goal.ghosts-start-C-Naming
-ghosts-start-C-Naming g a = record { table = a.log }
+ghosts-start-C-Naming g a = record { tables = a.log }

@@ -7,4 +7,4 @@ abbrev pub ghosts-boxes-T-Ledger : goal.ghosts-boxes-T-Ledger
 ghosts-boxes-T-Ledger g a = record { name = a.takes.name; parts = a.takes.parts }
 
 abbrev pub ghosts-boxes-C-Naming : goal.ghosts-boxes-C-Naming
-ghosts-boxes-C-Naming g a = record { table = a.log }
+ghosts-boxes-C-Naming g a = record { tables = a.log }

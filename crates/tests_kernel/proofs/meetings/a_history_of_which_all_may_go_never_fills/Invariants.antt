@@ -7,4 +7,4 @@ abbrev pub ghosts-never_fills-T-Ledger : goal.ghosts-never_fills-T-Ledger
 ghosts-never_fills-T-Ledger g a = record { name = a.takes.name; parts = a.takes.parts }
 
 abbrev pub ghosts-never_fills-C-Naming : goal.ghosts-never_fills-C-Naming
-ghosts-never_fills-C-Naming g a = record { table = a.log }
+ghosts-never_fills-C-Naming g a = record { tables = a.log }

@@ -7,4 +7,4 @@ abbrev pub ghosts-meetings-T-Ledger : goal.ghosts-meetings-T-Ledger
 ghosts-meetings-T-Ledger g a = record { name = a.takes.name; parts = a.takes.parts }
 
 abbrev pub ghosts-meetings-C-Naming : goal.ghosts-meetings-C-Naming
-ghosts-meetings-C-Naming g a = record { table = a.log }
+ghosts-meetings-C-Naming g a = record { tables = a.log }

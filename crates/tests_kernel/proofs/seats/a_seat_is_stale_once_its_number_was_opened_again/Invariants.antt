@@ -7,4 +7,4 @@ abbrev pub ghosts-stale_seats-T-Ledger : goal.ghosts-stale_seats-T-Ledger
 ghosts-stale_seats-T-Ledger g a = record { name = a.takes.name; parts = a.takes.parts }
 
 abbrev pub ghosts-stale_seats-C-Naming : goal.ghosts-stale_seats-C-Naming
-ghosts-stale_seats-C-Naming g a = record { table = a.log }
+ghosts-stale_seats-C-Naming g a = record { tables = a.log }

@@ -1,5 +1,6 @@
 use Rattle.std.proofs.Common.{ap}
 use Rattle.std.specs.Vec.{vec_items}
+use Rattle.ipc_lock.proofs.Handed.{hands_both}
 use Rattle.ipc_lock.proofs.Moves.{loads_both, only_both}
 use Rattle.ipc_lock.proofs.Rows.{row_first}
 use Rattle.ipc_lock.proofs.inside.Inside.gather.Goals as goal
@@ -14,3 +15,6 @@ returns-clause-only g c = only_both _ _ _ c.load_own.ensures.only c.load_finishe
 
 pub returns-clause-stay : goal.returns-clause-stay
 returns-clause-stay g c = loads_both _ _ _ c.load_own.ensures.stay c.load_finished.ensures.stay
+
+pub returns-clause-hands : goal.returns-clause-hands
+returns-clause-hands g c = hands_both _ _ _ _ _ _ c.load_own.ensures.hands c.load_finished.ensures.hands

@@ -2,12 +2,13 @@ use Rattle.std.proofs.Common.{refl, ap, ◌∙◌, subst, arith}
 use Rattle.std.specs.Prelude.{slice_get}
 use Rattle.std.specs.Vec.{vec_items}
 use Rattle.ipc_lock.specs.Places.{LoadsOne, place_at}
+use Rattle.ipc_lock.proofs.Handed.{hands_both, hands_none}
 use Rattle.ipc_lock.proofs.Moves.{loads_both, loads_none, only_both, only_none}
 use Rattle.ipc_lock.proofs.Rows.{row_more, row_none}
 use Rattle.ipc_lock.proofs.inside.Inside.load_finished.Goals as goal
 
 pub finished-init : goal.finished-init
-finished-init g c = record { loads = row_none _ _ _; owners = refl; finished = refl; only = only_none _; stay = loads_none _; upkeep = refl }
+finished-init g c = record { loads = row_none _ _ _; owners = refl; finished = refl; only = only_none _; stay = loads_none _; upkeep = refl; hands = hands_none _ _ }
 
 pub finished-preserved : goal.finished-preserved
 finished-preserved g c = record {
@@ -22,4 +23,5 @@ finished-preserved g c = record {
   only = only_both _ _ _ c.finished.invariant.only c.load_for.ensures.only;
   stay = loads_both _ _ _ c.finished.invariant.stay c.load_for.ensures.stay;
   upkeep = c.load_for.ensures.upkeep ∙ c.finished.invariant.upkeep;
+  hands = hands_both _ _ _ _ _ _ c.finished.invariant.hands c.load_for.ensures.hands;
 }

@@ -1,6 +1,7 @@
 -- No step is made: outcomes are taken, and what is told goes out of boxes.
 use Rattle.std.proofs.Common.{◌≡◌, map, take}
 use Rattle.ipc_lock.specs.Boxes.{OnlyTakes}
+use Rattle.ipc_lock.specs.Handing.{Hands}
 use Rattle.ipc_lock.specs.Places.{LoadsRow, OnlyLoads, place_of}
 use Rattle.ipc_lock.proofs.inside.Inside.load_finished.Given as goal
 
@@ -13,4 +14,5 @@ invariant-finished g l = record {
   only : OnlyTakes l.fn.self.locked.kernel l.self.locked.kernel;
   stay : OnlyLoads l.fn.self.boxes.items l.self.boxes.items;
   upkeep : l.self.upkeep ≡ l.fn.self.upkeep;
+  hands : Hands l.fn.gift_log l.gift_log l.fn.errands l.errands;
 }

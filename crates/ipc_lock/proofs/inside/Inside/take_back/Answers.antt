@@ -1,3 +1,4 @@
+use Rattle.ipc_lock.proofs.Handed.{gives_both}
 use Rattle.ipc_lock.proofs.Moves.{only_both}
 use Rattle.ipc_lock.proofs.inside.Inside.take_back.Goals as goal
 
@@ -14,3 +15,7 @@ returns-clause-takes g c = record {
 
 pub returns-clause-only : goal.returns-clause-only
 returns-clause-only g c = only_both _ _ _ (only_both _ _ _ c.look_again.ensures.only c.look_again-2.ensures.only) c.look_again-3.ensures.only
+
+pub returns-clause-gives : goal.returns-clause-gives
+returns-clause-gives g c =
+    gives_both _ _ _ _ _ (gives_both _ _ _ _ _ c.look_again.ensures.gives c.look_again-2.ensures.gives) c.look_again-3.ensures.gives

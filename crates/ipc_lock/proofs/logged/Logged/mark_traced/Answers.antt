@@ -1,11 +1,12 @@
 use Rattle.std.proofs.Common.{ap, refl}
 use Rattle.std.specs.Vec.{vec_items}
-use Rattle.ipc_lock.proofs.Turning.{runs_on}
+use Rattle.ipc_lock.proofs.Handed.{gives_none}
+use Rattle.ipc_lock.proofs.Together.{tells_on}
 use Rattle.ipc_lock.proofs.logged.Logged.mark_traced.Goals as goal
 
 pub invariant_of-self : goal.invariant_of-self
 invariant_of-self g c =
-    runs_on _ _ _ _ _ c.self.invariant c.add.ensures (record {
+    tells_on _ _ _ _ _ _ _ c.self.invariant c.add.ensures (gives_none _) refl (record {
       marks = c.mark_traced-left.ensures.marks;
       boxes = ap vec_items c.mark_traced-left.ensures.boxes;
       owners = ap vec_items c.mark_traced-left.ensures.owners;

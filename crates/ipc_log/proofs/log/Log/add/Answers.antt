@@ -5,7 +5,7 @@ use Rattle.ipc_log.proofs.log.Log.add.Goals as goal
 
 pub compare_exchange_with-requires : goal.compare_exchange_with-requires
 compare_exchange_with-requires g c = (
-  c.keeper.invariant.0 ∙ sym c.args.self.now.is_it,
-  c.args.self.now.has_word,
+  c.keeper.invariant.0 ∙ sym c.self.invariant.0,
+  c.self.invariant.1,
   adds_nobodys g.E.Entry.is_of g.E.Entry.begins _ _ 0 0 0 (λ n. either (eqb n 0) 0 n) _ _ _ c.keeper.invariant.1 c.requires.nobodys,
 )

@@ -4,16 +4,16 @@ use Rattle.ipc_log.proofs.log.Log.compare.Goals as goal
 
 pub join_seat-requires : goal.join_seat-requires
 join_seat-requires g c = (
-  c.one.invariant.0 ∙ sym c.args.self.now.is_it,
-  c.other.invariant.0 ∙ sym c.args.self.now.is_it,
+  c.one.invariant.0 ∙ sym c.self.invariant.0,
+  c.other.invariant.0 ∙ sym c.self.invariant.0,
   ap (λ m. m.1) c.other.invariant.1,
-  c.args.self.now.has_word,
+  c.self.invariant.1,
   meets g.E.Entry.is_of g.E.Entry.begins _ _ _ _ _ _ (ap (λ m. m.0) c.one.invariant.1) (ap (λ m. m.0) c.other.invariant.1),
 )
 
 pub load-requires : goal.load-requires
 load-requires g c = (
-  c.join_seat.ensures.0 ∙ (c.one.invariant.0 ∙ sym c.args.self.now.is_it),
-  c.args.self.now.has_word,
+  c.join_seat.ensures.0 ∙ (c.one.invariant.0 ∙ sym c.self.invariant.0),
+  c.self.invariant.1,
   compares g.E.Entry.is_of g.E.Entry.begins _ _ 0 0 0 (λ n. n) _,
 )

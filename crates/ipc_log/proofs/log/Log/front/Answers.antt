@@ -4,7 +4,7 @@ use Rattle.ipc_log.proofs.log.Log.front.Goals as goal
 
 pub split_seat-pass-requires : goal.split_seat-pass-requires
 split_seat-pass-requires g c = (
-  c.keeper.invariant.0 ∙ sym c.args.self.now.is_it,
-  c.args.self.now.has_word,
+  c.keeper.invariant.0 ∙ sym c.self.invariant.0,
+  c.self.invariant.1,
   shows g.E.Entry.is_of g.E.Entry.begins _ _,
 )

@@ -1,0 +1,5 @@
+use Rattle.ipc_lock.proofs.Handed.{wrote_one}
+use Rattle.ipc_lock.proofs.post_box.loaded.Loaded.hand_out.Goals as goal
+
+pub returns-clause-wrote : goal.returns-clause-wrote
+returns-clause-wrote g c = wrote_one _ c.self.inside.pen _ _ _ _ c.self.view_is c.self.invariant.0 c.self.invariant.1 c.look.ensures.all c.into_port.ensures.follows

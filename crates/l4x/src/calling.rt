@@ -56,7 +56,7 @@ pub fn thread_of<I: PortRead, O: PortWrite>(
         Search::Number => live_thread(alloc, client, server.number())?,
         Search::Name => look_up(alloc, client, server.name())?,
     };
-    found.ok_or(Trouble::NoThread)
+    found.ok_or(Trouble::NoThread(server, search))
 }
 
 /// Puts a value under a key.

@@ -86,7 +86,7 @@ fn pass<I: PortRead, O: PortWrite>(
 // False where the trouble is only that there is no such server.
 fn unless_gone(trouble: Trouble) -> Result<bool, Trouble> {
     match trouble {
-        Trouble::NoThread => Ok(false),
+        Trouble::NoThread(..) => Ok(false),
         _ => Err(trouble),
     }
 }

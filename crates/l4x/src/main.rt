@@ -23,7 +23,7 @@ use ipc_client::{Client, PatientStream};
 use ipc_words::ThreadId;
 use role::{Role, Task};
 use std::alloc::Global;
-use std::io;
+use std::io::{self, ErrorKind};
 use std::marker::Brand;
 use std::net::Net;
 use std::os::unix::net::UnixStream;
@@ -96,7 +96,15 @@ fn connect<R: Net>(rt: &R, alloc: Global, dir: &str) -> Result<UnixStream, Troub
     };
     match UnixStream::connect(rt, path.as_str()) {
         Ok(stream) => Ok(stream),
-        Err(_) => Err(Trouble::NoServer),
+        Err(error) => Err(unconnected(error.kind())),
+    }
+}
+
+/// Why there is no connection.
+fn unconnected(kind: ErrorKind) -> Trouble {
+    match kind {
+        ErrorKind::PermissionDenied => Trouble::Denied,
+        _ => Trouble::NoServer,
     }
 }
 

@@ -1,4 +1,5 @@
 //! Why a role ends.
+use crate::calling::{Search, Server};
 use crate::naming::NameError;
 use ipc_client::{BufferFault, ClientError, MessageFault, PATIENCE};
 use ipc_frame::FrameFault;
@@ -30,6 +31,8 @@ pub enum Trouble {
     NoMemory,
     /// Nobody listens in the folder.
     NoServer,
+    /// This user may not connect there.
+    Denied,
     /// The server does not say WELCOME in its time.
     Silent,
     /// Standard output failed.
@@ -44,8 +47,8 @@ pub enum Trouble {
     Failed(u64),
     /// There is no name server.
     NoNames,
-    /// There is no such server.
-    NoThread,
+    /// There is no such server: it was looked for in this way.
+    NoThread(Server, Search),
     /// Nobody has the name that was looked for.
     Nobody,
     /// The gateway found no server.
@@ -61,11 +64,13 @@ impl Trouble {
             Trouble::Usage => USAGE,
             Trouble::NoMemory => "no memory",
             Trouble::NoServer => "nobody listens there: start l4d with this folder",
+            Trouble::Denied =>
+                "no permission to connect: the modes of this path and its folder say who may",
             Trouble::NoOutput => "standard output failed",
             Trouble::LongMessage => "the message is past its limits",
             Trouble::NoNames => "there is no name server: start l4x DIR names",
             Trouble::NotPassed => "the gateway found no server: start l4x DIR keyvalue",
-            _ => "there is no such server",
+            _ => "nobody has that name",
         }
     }
 
@@ -118,9 +123,25 @@ impl fmt::Display for Trouble {
                 let cause = cause_of(IpcError::from_word(*code));
                 write!(f, "the call failed: error {code:#x}: {cause}")
             }
+            Trouble::NoThread(server, search) => put_missing(f, server.name(), *search),
             Trouble::Name(error) => write!(f, "the name server answered: {error}"),
             other => f.write_str(other.words()),
         }
+    }
+}
+
+// Which server is not there, and what starts it.
+fn put_missing<W: fmt::Write>(
+    f: &mut fmt::Formatter<W>,
+    role: &str,
+    search: Search,
+) -> fmt::Result {
+    match search {
+        Search::Number => write!(f, "there is no such server: start l4x DIR {role}"),
+        Search::Name => write!(
+            f,
+            "nobody has the name {role}: start l4x DIR {role} --names"
+        ),
     }
 }
 

@@ -26,6 +26,7 @@ from arguments import programs_of
 from counting import Tally
 from frames import hello
 from l4ipc import L4Error, Message, Thread, ThreadId, who
+from page_text import text_of
 from protocol_tables import K_NUMBER_TAKEN, REFUSED
 from serving import Client, rest_of
 
@@ -152,6 +153,8 @@ def check_counters(l4d, l4sh):
         tally.same("a trace that goes on", counters_of(server).get("trace_stopped"), "0")
     with Server(l4d, "--trace", "/dev/full") as server:
         tally.same("one that has stopped", counters_of(server).get("trace_stopped"), "1")
+        with Thread(server.folder, 1):
+            tally.same("nothing waits for one that has stopped", counters_of(server).get("trace_entries_behind"), "0")
     check_told(l4d)
 
 
@@ -182,6 +185,9 @@ def check_askers(l4d):
         state = "1.1  space 1  free\n"
         check("a word in pieces", state in server.ask(b"st", b"ate", b"\n"), "")
         check("a word of one who then says no more, as socat", state in ask_and_end(server), "")
+        check("a word without a newline of one who then says no more", state in ask_and_end(server, b"state"), "")
+        tally.same("a word without a newline", server.ask(b"state"), "")
+        check("the page says how a word ends", "write a word and a newline" in text_of("docs/OPERATING.md"), "")
         for word in (b"\n", b"states\n", b"thread\n", b"threads \n", b"Threads\n", b"STATE\n", b"state \n", b"\0" * 64, b"x" * 64, b"counters\r\n"):
             told = server.ask(word)
             check(f"{word[:12]!r} is unknown", told == "unknown: one of state, counters, trace, trace follow, rotate, began, threads\n", told)
@@ -201,10 +207,10 @@ def check_askers(l4d):
         check("the paths are gone", os.listdir(server.folder) == [], os.listdir(server.folder))
 
 
-def ask_and_end(server):
+def ask_and_end(server, word=b"state\n"):
     """What is answered to one who says the word and closes his side."""
     with server.connect() as asker:
-        asker.sendall(b"state\n")
+        asker.sendall(word)
         asker.shutdown(socket.SHUT_WR)
         return rest_of(asker)
 

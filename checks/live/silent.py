@@ -1,12 +1,14 @@
 #!/usr/bin/env python3
 """silent.py L4SH L4X: a server that takes a connection and never answers is given up after ten seconds, with its path and what was waited for.
 
-Of one that refuses, faults or goes, l4x says the code and its sentence, as l4sh does.
+Of one that refuses, faults or goes, l4x says the code and its sentence, as l4sh does. Where it cannot connect it tells whether nobody listens, or this user
+may not.
 
 Its last line is `N checked, M failed`; the status is 0 where M is 0.
 """
 
 import os
+import shutil
 import socket
 import subprocess
 import sys
@@ -61,9 +63,29 @@ def check_words(l4x):
             tally.same(f"l4x behind {frame or 'nothing'}", (ran.returncode, ran.stdout, ran.stderr), (1, "", f"l4x: {folder}/space1: {words}\n"))
 
 
+def check_unconnected(l4x):
+    """What l4x says where it cannot connect: where nobody listens, and to the user nobody where another user's server listens."""
+    with tempfile.TemporaryDirectory() as folder:
+        ran = subprocess.run([l4x, folder, "names"], stdin=subprocess.DEVNULL, capture_output=True, text=True, timeout=SECONDS)
+        tally.same("l4x where nobody listens", (ran.returncode, ran.stderr), (1, f"l4x: {folder}/space1: nobody listens there: start l4d with this folder\n"))
+        if os.getuid() != 0 or not shutil.which("setpriv"):
+            print("another user: left out, since root and setpriv are wanted")
+            return
+        os.chmod(folder, 0o755)
+        shutil.copy(l4x, f"{folder}/l4x")
+        os.chmod(f"{folder}/l4x", 0o755)
+        with listening(f"{folder}/space1"):
+            os.chmod(f"{folder}/space1", 0o600)
+            words = ["setpriv", "--reuid=65534", "--regid=65534", "--clear-groups", f"{folder}/l4x", folder, "names"]
+            ran = subprocess.run(words, stdin=subprocess.DEVNULL, capture_output=True, text=True, timeout=SECONDS)
+            why = "no permission to connect: the modes of this path and its folder say who may"
+            tally.same("l4x of a user who may not connect", (ran.returncode, ran.stderr), (1, f"l4x: {folder}/space1: {why}\n"))
+
+
 def main(arguments):
     l4sh, l4x = programs_of(arguments, __doc__, 2)
     check_words(l4x)
+    check_unconnected(l4x)
     with tempfile.TemporaryDirectory() as folder:
         doors = [listening(f"{folder}/{name}") for name in ("space1", "control")]
         hello = f"{folder}/space1: no WELCOME within {PATIENCE} seconds: the server is full, or does not answer\n"

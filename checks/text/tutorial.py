@@ -2,7 +2,8 @@
 """checks/text/tutorial.py L4SH: the ten steps of docs/TUTORIAL.md, by their judge.
 
 Each stored solution is right, and each script with its gap is not yet, with the gap's line and the hint. A gap that is filled in wrongly is told by the
-first line that is another, the line that it should be by --answer alone, and the deadlock of the last step by what `l4sh state` says. Each step has its section in the page, and what the page quotes of
+first line that is another, the line that it should be by --answer alone, and the deadlock of the last step by what `l4sh state` says. Of a gap that is
+still there, and of a line that l4sh does not take, --answer tells the line of the solution. Each step has its section in the page, and what the page quotes of
 the program is what it prints.
 
 Its last line is `N checked, M failed`; the status is 0 where M is 0.
@@ -59,6 +60,12 @@ def step(path):
     line = next(place for place, line in enumerate(script.splitlines(), 1) if "..." in line)
     status, said = judged(number)
     check(f"{name} with its gap", status == 1 and f"line {line} still has its gap" in said and f"hint: {hint}\n" in said, said)
+    check(f"{name} with its gap, without its answer", "wanted: " not in said, said)
+    solved = text_of(f"{STEPS}/solutions/{name}.l4").splitlines()[line - 1]
+    status, said = judged(number, "--answer")
+    check(f"the answer of {name} with its gap", status == 1 and f"\n  wanted: {solved}\nhint: " in said, said)
+    status, said = judged_text(number, filled(script, ["?"] * script.count("...")), "--answer")
+    check(f"the answer of {name} with a line that l4sh does not take", status == 1 and f"\n  wanted: {solved}\nhint: " in said, said)
     status, said = judged(number, f"{ROOT}/{STEPS}/solutions/{name}.l4")
     check(f"the solution of {name}", status == 0 and said.startswith(f"{name}: right."), said)
     words, shown = WRONG[number]

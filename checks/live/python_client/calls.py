@@ -1,5 +1,6 @@
 """Refusals, faults, errors, strings and propagation of the Python client against an l4d."""
 
+import os
 import socket
 import time
 
@@ -15,6 +16,20 @@ def refusals(server):
         told("K1 of 1024", lambda: server.thread(1024), l4ipc.Refused, number=1)
         told("K2", lambda: server.thread(60), l4ipc.Refused, number=2)
         check("the thread goes on", raised(lambda: thread.sleep(0)) is None)
+
+
+def forked(server):
+    """A child that leaves the block of a thread of its parent, as by an exception, does not end it."""
+    with server.thread(61) as thread:
+        child = os.fork()
+        if child == 0:
+            try:
+                with thread:
+                    told = raised(lambda: thread.sleep(0))
+            finally:
+                os._exit(0 if type(told) is l4ipc.Closed else 1)
+        same("a call of a forked child", os.waitpid(child, 0)[1], 0)
+        check("the thread of its parent goes on", raised(lambda: thread.sleep(0)) is None)
 
 
 def long_life(l4d):

@@ -44,7 +44,7 @@ def bad_names(server):
     with server.thread(92) as thread:
         asked = names.Names(thread)
         for name in ("", " ", "a b", "a\n", "\x7f", "é"):
-            told(f"bad name {name!r}", lambda: asked.register(name), fault, number=fault.BAD_NAME)
+            told(f"bad name {name!r}", lambda: asked.register(name), fault, number=fault.BAD_NAME, name=name)
             told(f"bad name {name!r} looked up", lambda: asked.lookup(name), fault, number=fault.BAD_NAME)
         longest = "~" * 64
         same("the longest name", asked.register(longest), thread.id)
@@ -118,9 +118,14 @@ def wait_until_listed(thread, count):
 
 
 def looked_up(server, l4x, name):
-    """What `l4x lookup` prints, and its status, once the thread of the last look up has ended."""
+    """What `l4x lookup` prints, and its status."""
+    return said_by(server, l4x, "lookup", name)
+
+
+def said_by(server, l4x, *words):
+    """What a role of thread 3 prints, and its status, once the thread of the last one has ended."""
     for _ in range(500):
-        text, status = output(server.start([l4x, server.folder, "lookup", name]))
+        text, status = output(server.start([l4x, server.folder, *words]))
         if ": refused: K2: " not in text:
             break
     return text, status
@@ -143,6 +148,11 @@ def name_server_restarts(server, l4x, process):
         same("l4x lookup of nobody", (status, text), (1, "nothing\n"))
         text, status = looked_up(server, l4x, "a b")
         check("l4x lookup of a bad name", status == 1 and "bad name" in text, text)
+        for words, missing in ((["get", "1"], "there is no such server: start l4x DIR keyvalue"),
+                               (["put", "1", "2", "gateway"], "there is no such server: start l4x DIR gateway"),
+                               (["get", "1", "--names"], "nobody has the name keyvalue: start l4x DIR keyvalue --names")):
+            text, status = said_by(server, l4x, *words)
+            same(f"l4x {' '.join(words)} where nobody serves", (status, text), (1, f"l4x: {server.folder}/space1: {missing}\n"))
     server.start([l4x, server.folder, "keyvalue", "--names"])
     server.start([l4x, server.folder, "gateway", "--names"])
     with server.next_thread(98) as thread:

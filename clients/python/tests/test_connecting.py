@@ -1,6 +1,8 @@
 """Connecting, and waiting for a partner: what is waited for, and what is said of it."""
 
+import asyncio
 import gc
+import os
 import shutil
 import socket
 import tempfile
@@ -10,6 +12,7 @@ import unittest
 import warnings
 
 import l4ipc
+import l4ipc.aio
 from l4ipc import Message, Thread, ThreadId
 
 from .scripted import FAULT, REFUSED, WELCOME, WORDS, failed, outcome, said, scripted
@@ -224,6 +227,47 @@ class Texts(unittest.TestCase):
         self.assertEqual(l4ipc.names.Names(thread).wait_to_register("x", 10), ThreadId.of(2, 1))
         thread.close()
         server.close()
+
+
+class Forking(unittest.TestCase):
+    def in_child(self, does):
+        """Whether this is true in a forked child, which ends then."""
+        with warnings.catch_warnings():
+            warnings.simplefilter("ignore", DeprecationWarning)
+            child = os.fork()
+        if child == 0:
+            try:
+                os._exit(0 if does() else 1)
+            finally:
+                os._exit(2)
+        return os.waitpid(child, 0)[1] == 0
+
+    def test_a_child_leaves_the_thread_to_its_parent(self):
+        thread, server = scripted(WORDS + WORDS)
+
+        def is_left():
+            try:
+                with thread:
+                    thread.wait()
+            except l4ipc.Closed as end:
+                return "of the process that forked: connect in the child" in str(end) and thread.is_closed
+            return False
+
+        self.assertTrue(self.in_child(is_left))
+        self.assertEqual(thread.wait().words, (7, 8))
+        self.assertEqual([frame[4] for frame in said(server)], [1, 2])
+        thread.close()
+        server.close()
+
+    def test_a_child_of_a_thread_of_coroutines(self):
+        with Listener([WELCOME + WORDS]) as there:
+            async def main():
+                async with l4ipc.aio.Thread(there.listens().folder, 2) as thread:
+                    self.assertTrue(self.in_child(lambda: thread.close() or thread.is_closed))
+                    self.assertEqual((await thread.wait()).words, (7, 8))
+                    self.assertEqual([frame[4] for frame in said(there.kept[0])], [1, 2])
+
+            asyncio.run(main())
 
 
 if __name__ == "__main__":

@@ -62,8 +62,9 @@ class Names(unittest.TestCase):
             asked, _ = self.asked(TIMEOUT + answered(number, ECHO))
             with self.subTest(number), self.assertRaises(names.NameFault) as caught:
                 asked.register("echo")
-            self.assertEqual((caught.exception.number, caught.exception.holder), (number, ECHO))
-            self.assertTrue(str(caught.exception))
+            self.assertEqual((caught.exception.number, caught.exception.holder, caught.exception.name), (number, ECHO, "echo"))
+            self.assertIn("by 1.2: 'echo'", str(caught.exception))
+            self.assertEqual("1 to 64 bytes of printable ASCII without the space" in str(caught.exception), number == names.NameFault.BAD_NAME)
 
     def test_a_list(self):
         asked, server = self.asked(TIMEOUT + answered(thread=ECHO, name=b"A") + answered(thread=1 << 32 | 3, name=b"echo") + answered())

@@ -100,6 +100,16 @@ class Serve(unittest.TestCase):
         thread.close()
         server.close()
 
+    def test_a_name_that_is_not_registered_again_is_told(self):
+        registered = outcome(1, NAMES, words=(2 << 32 | 1,))
+        thread, server = scripted(failed(0x3) + registered + failed(0x3) + failed(0x3))
+        Names(thread).register("echo")
+        thread.kept.again_at = 0.0
+        with self.assertLogs("l4ipc") as logged:
+            thread.serve(lambda request: Message())
+        self.assertIn("the name echo could not be registered again, and is tried again: 2.1: receive phase from 255.1: timeout", logged.output[0])
+        server.close()
+
     def test_strings(self):
         memory = bytearray(8)
         came = []

@@ -1,5 +1,7 @@
 """What a thread knows of itself, whether its calls block or are coroutines."""
 
+import os
+import socket
 import weakref
 from typing import Optional, Union
 
@@ -18,6 +20,10 @@ KEEPING_TIMEOUT = 0.25
 """The same where it registers its names again: a name server that is stopped keeps a server from its clients no longer."""
 
 
+# The threads of this process. A child that it forks leaves them to it.
+_all: "weakref.WeakSet[Caller]" = weakref.WeakSet()
+
+
 class Caller:
     """The state of a thread that does not depend on how its calls wait."""
 
@@ -34,6 +40,8 @@ class Caller:
         self._taken = b""
         self._is_closed = False
         self._is_lost = False
+        self._is_of_parent = False
+        _all.add(self)
         # (no circle: who drops a thread ends its connection at once)
         own = weakref.proxy(self)
         self._book = Book(own, timeout=NAMES_TIMEOUT)
@@ -41,7 +49,9 @@ class Caller:
 
     def __repr__(self) -> str:
         path = f" at {self._place.path}" if self._place.path else ""
-        return f"<Thread {self.id}{path}{', closed' if self._is_closed else ', not connected' if self._is_lost else ''}>"
+        state = ("of the process that forked: connect in the child" if self._is_of_parent else "closed" if self._is_closed else "not connected" if self._is_lost
+                 else "")
+        return f"<Thread {self.id}{path}{state and f', {state}'}>"
 
     @property
     def is_closed(self) -> bool:
@@ -55,6 +65,14 @@ class Caller:
         self._taken = b""
         self._is_lost = False
         self.kept.restart()
+
+    def _leave_to_parent(self) -> None:
+        """This process is a forked child. The connection is its parent's, and goes on there: nothing is said over it here."""
+        connection: Optional[socket.socket] = getattr(self, "_connection", None)
+        if connection is None or self._is_closed:
+            return
+        self._is_of_parent = self._is_closed = self._is_lost = True
+        connection.close()
 
     def _lose(self) -> None:
         """The connection has ended. A thread that connects again is not closed by that."""
@@ -97,3 +115,12 @@ class Caller:
         if received is None:
             raise ValueError("to: nilthread is no partner of a call")
         return received
+
+
+def _leave_all_to_parent() -> None:
+    for thread in list(_all):
+        thread._leave_to_parent()
+
+
+if hasattr(os, "register_at_fork"):
+    os.register_at_fork(after_in_child=_leave_all_to_parent)

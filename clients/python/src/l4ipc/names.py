@@ -38,20 +38,23 @@ _IS_AN_ID = re.compile(r"[0-9]+(\.[0-9]+)?")
 class NameFault(L4Error):
     """The name server did not do what it was asked for: its error.
 
-    ``holder`` is the thread that has the name, for the error `TAKEN`.
+    ``holder`` is the thread that has the name, for the error `TAKEN`; ``name`` is the name that it was asked about.
     """
 
     BAD_REQUEST, BAD_NAME, TAKEN, FULL, NO_MEMORY = 1, 2, 3, 4, 5
     MEANINGS: Dict[int, str] = protocol.NAME_ERRORS
 
-    def __init__(self, number: int, holder: ThreadId = NILTHREAD) -> None:
+    def __init__(self, number: int, holder: ThreadId = NILTHREAD, name: Optional[str] = None) -> None:
         self.number = number
         self.holder = holder
-        super().__init__(number, holder)
+        self.name = name
+        super().__init__(number, holder, name)
 
     def __str__(self) -> str:
         by = f" by {self.holder}" if self.holder else ""
-        return f"the name server answered: {self.MEANINGS.get(self.number, f'error {self.number}')}{by}"
+        of = f": {arguments.shown(self.name)}" if self.name is not None else ""
+        rule = f"; a name has 1 to {MAX_NAME_BYTES} bytes of printable ASCII without the space" if self.number == self.BAD_NAME else ""
+        return f"the name server answered: {self.MEANINGS.get(self.number, f'error {self.number}')}{by}{of}{rule}"
 
 
 class NoNames(L4Error):
@@ -132,7 +135,7 @@ class Book:
                     self._thread.kept.owing.add(self.server)
                 raise
         if answer.label:
-            raise NameFault(answer.label, ThreadId(answer.words[0] if answer.words else 0))
+            raise NameFault(answer.label, ThreadId(answer.words[0] if answer.words else 0), name.decode("utf-8"))
         if len(answer.words) != 1:
             raise L4Error(f"{self.server} is no name server")
         return answer
@@ -203,6 +206,7 @@ class Book:
                     yield from self.register(name)
                 except (NameFault, NoNames, IpcError, Refused) as error:
                     failure = error
+                    failure.kept_name = name
         finally:
             kept.is_busy = False
         if failure is not None:

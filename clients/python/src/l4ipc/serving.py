@@ -37,7 +37,10 @@ _step = tuple.__new__
 
 def log(error: Exception, request: Optional[Received]) -> None:
     """Tells by the logger ``l4ipc``, which prints warnings on standard error unless the program says otherwise."""
-    if request is None:
+    kept_name = getattr(error, "kept_name", None)
+    if request is None and kept_name is not None:
+        _log.warning("l4ipc: the name %s could not be registered again, and is tried again: %s", kept_name, error)
+    elif request is None:
         _log.warning("l4ipc: %s", error)
     elif isinstance(error, (IpcError, Refused)):
         _log.warning("l4ipc: %s was not answered: %s", request.sender, error)

@@ -6,6 +6,7 @@ import re
 import shutil
 import subprocess
 import sys
+import threading
 from importlib.machinery import SourceFileLoader
 
 ROOT = os.path.dirname(os.path.dirname(os.path.dirname(os.path.abspath(__file__))))
@@ -76,4 +77,24 @@ def kit(asks):
     loader = SourceFileLoader("rt_of_the_kit", path)
     module = importlib.util.module_from_spec(importlib.util.spec_from_loader(loader.name, loader))
     loader.exec_module(module)
+    sum_once(module.rtlib.Crate)
     return module
+
+
+def sum_once(crate_type):
+    """Has the sum of a crate's sources ask once for that of each crate below. The kit asks once for each way down to it, which are thousands here."""
+    of_all, known = crate_type.stamp, threading.local()
+
+    def stamp(crate):
+        sums = getattr(known, "sums", None)
+        if sums is not None:
+            if crate.folder not in sums:
+                sums[crate.folder] = of_all(crate)
+            return sums[crate.folder]
+        known.sums = {}
+        try:
+            return of_all(crate)
+        finally:
+            known.sums = None
+
+    crate_type.stamp = stamp

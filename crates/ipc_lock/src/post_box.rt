@@ -1,12 +1,13 @@
 //! The box of a connection: what its client is told next, and the pen that writes it.
 ghost use Rattle.std.specs.Prelude.{◌≡◌, ◌∷◌, [], None, Some, true, false, IfOk, OnOk, OnErr, IfErr, IfSome, IfNone, is_some, not};
-ghost use Rattle.ipc_lock.specs.Boxes.{Begins, ComesOut, LooksFirst, LooksInto, OnlyTakes, Works, WritesOn, cleared, has_failed, is_full, is_idle, is_of, is_pen_of, new_box, posted_to, take_parts, thread_of, told_box, welcomed};
+ghost use Rattle.ipc_lock.specs.Boxes.{ComesOut, LooksFirst, LooksInto, OnlyTakes, cleared, is_full, is_idle, is_of, is_pen_of, new_box, posted_to, take_parts, thread_of, told_box, welcomed};
 ghost use Rattle.ipc_lock.specs.Places.{gives_back, pen_for, shut_for};
 ghost use Rattle.ipc_connection.specs.Pens.{BeginsEmpty, new_page};
-ghost use Rattle.ipc_lock.specs.Gifts.{gift_in, gifts_of_work, work_gifts};
+ghost use Rattle.ipc_lock.specs.Gifts.{gift_in};
 ghost use Rattle.ipc_lock.specs.Giving.{GivesOn, all_given};
 
 mod loaded;
+mod working;
 
 use crate::events::Gave;
 use crate::gift_log::GiftLog;
@@ -322,60 +323,6 @@ impl<C: Naming, T: Ledger, P: PenPort + Drop> PostBox<C, T, P> {
             }
             None => self.load(locked, gift_log),
         }
-    }
-
-    /// What the writer does next: it goes on with a frame that is not at its end, or takes the pen
-    /// out with what is next. None while there is nothing to do, or another thread has the pen.
-    #[tactic(auto, using(crate::proofs::Moves::only_none, crate::proofs::Handed::works_begun, crate::proofs::Handed::works_on, crate::proofs::Handed::works_over))]
-    pub(crate) fn work(
-        &mut self,
-        locked: &mut Locked<C, T>,
-        gift_log: &mut GiftLog<C>,
-    ) -> Option<Work<C, P>>
-        ensures works { Works locked.old.kernel locked.new.kernel self.old self.new result }
-        ensures only { OnlyTakes locked.old.kernel locked.new.kernel }
-        ensures gives { GivesOn gift_log.old gift_log.new (work_gifts (Some self.old) result) }
-    {
-        if self.has_failed() {
-            Some(Work::Over)
-        } else if self.is_idle() {
-            self.begin(locked, gift_log)
-        } else {
-            self.go_on()
-        }
-    }
-
-    /// What the writer does with a pen that is at its end: it takes the pen out with what is next,
-    /// and ends where nothing comes any more.
-    #[tactic(auto, using(crate::proofs::Handed::begins_over))]
-    fn begin(&mut self, locked: &mut Locked<C, T>, gift_log: &mut GiftLog<C>) -> Option<Work<C, P>>
-        ensures begins { Begins locked.old.kernel locked.new.kernel self.old self.new result }
-        ensures only { OnlyTakes locked.old.kernel locked.new.kernel }
-        ensures gives { GivesOn gift_log.old gift_log.new (gifts_of_work (true ∷ []) result) }
-    {
-        match self.load(locked, gift_log) {
-            Some(pen) => Some(Work::Write(pen)),
-            None if self.shut => Some(Work::Over),
-            None => None,
-        }
-    }
-
-    /// Whether the pen lies here and its device has failed.
-    fn has_failed(&self) -> bool
-        ensures { result ≡ has_failed self.now.pen }
-    {
-        match &self.pen {
-            Some(pen) => pen.has_failed(),
-            None => false,
-        }
-    }
-
-    /// Writes on with the pen, where it lies here.
-    fn go_on(&mut self) -> Option<Work<C, P>>
-        ensures { WritesOn self.old self.new result }
-    {
-        let pen = self.pen.take()?;
-        Some(Work::Write(pen))
     }
 
     /// Lays the pen of the box's connection down; that of another one is handed back. Its writer is

@@ -18,15 +18,15 @@ FRAMES = {
 }
 CODES = {
     "family": {"about": ONE},
-    "code": {"means": ONE, "when": MAYBE, "client": MAYBE, "helps": MAYBE, "told": MAYBE, "gets": MAYBE, "stays": MAYBE, "errno": MAYBE,
+    "code": {"means": ONE, "when": MAYBE, "client": MAYBE, "helps": ONE, "told": MAYBE, "gets": MAYBE, "stays": MAYBE, "errno": MAYBE,
              "short": MAYBE},
     "error": {"means": ONE, "when": ONE, "counts": MAYBE, "python": ONE},
 }
 LIMITS = {"limit": {"is": ONE, "rattle": MAYBE, "for": MAYBE}, "row": {"says": ONE}}
 LINES = {"entry": {"is": ONE, "word": ONE, "field": MANY, "says": ONE}}
 PROSE = {"page": {"says": MANY}}
-# What a family's codes have to say, beside what they mean.
-OF_FAMILY = {"K": ("helps", "errno"), "F": ("told", "errno"), "S": ("gets",), "TR": ("stays", "helps"), "C": ("helps", "errno"), "N": ("errno",)}
+# What a family's codes have to say, beside what they mean and what helps.
+OF_FAMILY = {"K": ("errno",), "F": ("told", "errno"), "S": ("gets",), "TR": ("stays",), "C": ("errno",), "N": ("errno",)}
 
 
 @dataclass(frozen=True)
@@ -101,6 +101,11 @@ class Code:
     @property
     def means(self):
         return self.texts["means"]
+
+    @property
+    def helps(self):
+        """What helps, as a terminal shows it."""
+        return self.texts["helps"].replace("`", "")
 
     @property
     def when(self):

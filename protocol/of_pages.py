@@ -49,10 +49,10 @@ def named(code):
 def client_codes(protocol):
     """Those of the C client; of the name server's the errors are in a page of their own."""
     lines = [[it.spelled, it.when, it.texts["helps"]] for it in protocol.codes["C"]]
-    of_server = [it for it in protocol.codes["N"] if "helps" not in it.texts]
+    of_server = [it for it in protocol.codes["N"] if "short" in it.texts]
     short = ", ".join(it.texts["short"] for it in of_server)
     lines.append([f"{of_server[0].spelled} to {of_server[-1].spelled}", f"a name server's errors: {short}", "[NAMES.md](NAMES.md)"])
-    return rows(["Code", "When", "What helps"], lines + [[it.spelled, it.when, it.texts["helps"]] for it in protocol.codes["N"] if "helps" in it.texts])
+    return rows(["Code", "When", "What helps"], lines + [[it.spelled, it.when, it.texts["helps"]] for it in protocol.codes["N"] if "short" not in it.texts])
 
 
 def error_codes(protocol):

@@ -14,8 +14,13 @@ def whole():
     files = {}
     for name, letters in FAMILIES.items():
         files[f"{FOLDER}/{name}.in"] = lambda protocol, letters=letters: lines(it.spelled for it in protocol.codes[letters])
-        files[f"{FOLDER}/{name}.out"] = lambda protocol, letters=letters: lines(f"{it.spelled}: {it.means}" for it in protocol.codes[letters])
+        files[f"{FOLDER}/{name}.out"] = lambda protocol, letters=letters: lines(explained(it) for it in protocol.codes[letters])
     return {**files, **{f"checks/scripts/{name}": made for name, made in LONG.items()}}
+
+
+def explained(code):
+    """What is said of a code."""
+    return f"{code.spelled}: {code.means}\nwhat helps: {code.helps}"
 
 
 def overlapping(count, apart=0):

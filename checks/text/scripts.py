@@ -203,11 +203,12 @@ def faults_of_codes(l4sh, _):
     codes = [(letters, number) for letters, family in CODES.items() if len(letters) == 1 for number in family]
     for letter, number in codes:
         meaning, *end = ended([l4sh, "explain", f"{letter}{number}"])
-        if end != [0, b""]:
-            yield f"{letter}{number} ends so: {end}"
+        meaning, helps = meaning.split(b"\n", 1)
+        if end != [0, b""] or not helps.startswith(b"what helps: "):
+            yield f"{letter}{number} ends so: {end}, {helps}"
         word = f"{16 * (256 * ord(letter) + number):#x}"
         told = ended([l4sh, "explain", word])[0].partition(b"\n")[0]
-        if told != b"as an ErrorCode: of the C client, " + meaning.rstrip(b"\n"):
+        if told != b"as an ErrorCode: of the C client, " + meaning:
             yield f"{word} is told so: {told}"
 
 

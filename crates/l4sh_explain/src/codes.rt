@@ -11,6 +11,8 @@ pub(crate) struct Family {
     pub(crate) about: &'static str,
     /// What each of them means.
     pub(crate) meanings: &'static [&'static str],
+    /// What helps, of each of them.
+    pub(crate) helps: &'static [&'static str],
 }
 
 /// A code that there is.
@@ -19,6 +21,7 @@ pub(crate) struct Code {
     pub(crate) letters: &'static str,
     pub(crate) number: u64,
     pub(crate) meaning: &'static str,
+    pub(crate) helps: &'static str,
 }
 
 /// The code that a word spells, with small letters or capitals.
@@ -38,6 +41,7 @@ fn code_in(family: &Family, number: u64) -> Option<Code> {
         letters: family.letters,
         number,
         meaning: *family.meanings.get(place)?,
+        helps: *family.helps.get(place)?,
     })
 }
 

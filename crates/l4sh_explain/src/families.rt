@@ -1,4 +1,5 @@
-//! What each code means. `protocol/generate.py` writes this file, from `protocol/codes.txt`.
+//! What each code means, and what helps. `protocol/generate.py` writes this file, from
+//! `protocol/codes.txt`.
 use crate::codes::Family;
 
 /// The families of codes, in the order in which they are told.
@@ -15,6 +16,16 @@ pub(crate) const FAMILIES: [Family; 6] = [
             "no such thread is live",
             "the thread has an open call, or an outcome that it has not yet taken",
             "the number of the call would pass the limit",
+        ],
+        helps: &[
+            "say HELLO with another number",
+            "another number, or wait until that thread has ended",
+            "another number",
+            "ask again",
+            "let open calls end; they can. Let the trace catch up",
+            "open it first; a client's connection has ended (S5)",
+            "wait for the answer. A client gets FAULT, and its thread has ended",
+            "a new server",
         ],
     },
     Family {
@@ -37,6 +48,23 @@ pub(crate) const FAMILIES: [Family; 6] = [
             "no memory",
             "a HELLO names a version that there is not",
         ],
+        helps: &[
+            "mend whoever wrote it: mostly it is no client of l4d; or send shorter strings",
+            "mend whoever wrote it; the page FORMATS has the kinds",
+            "mend whoever wrote it; an older l4d knows HELLO of version 1 alone",
+            "fewer words; a string takes two",
+            "mend the item: a string item has two words, and c only before another one",
+            "clear that bit",
+            "mend the length of the item, or send the bytes of its string",
+            "shorter strings, or several messages",
+            "look why the other side ended, and connect anew",
+            "look whether the server lives, and connect anew",
+            "look who sends so many signals, and connect anew",
+            "a period: l4sh period 2ms makes one",
+            "connect anew",
+            "shorter strings, or ask again",
+            "HELLO of version 1 or 2",
+        ],
     },
     Family {
         letters: "S",
@@ -47,6 +75,13 @@ pub(crate) const FAMILIES: [Family; 6] = [
             "the server stops",
             "65,535 connections have come, so no more can",
             "the thread is gone, or its answers are no longer taken",
+        ],
+        helps: &[
+            "say HELLO once, and before all else",
+            "connect anew",
+            "connect anew once l4d is there again",
+            "start l4d with --keep-open",
+            "connect anew",
         ],
     },
     Family {
@@ -59,6 +94,14 @@ pub(crate) const FAMILIES: [Family; 6] = [
             "a line of the trace spells no entry, or none that its version may have",
             "no memory for the trace",
             "the first line of the trace tells a version that is not known",
+        ],
+        helps: &[
+            "room on the device, permissions",
+            "see the first fault",
+            "nothing, while l4d still writes; else l4sh migrate",
+            "l4sh check says which line, and why",
+            "memory",
+            "a newer l4sh",
         ],
     },
     Family {
@@ -80,6 +123,22 @@ pub(crate) const FAMILIES: [Family; 6] = [
             "the server is full or does not answer",
             "no call was begun that could be ended",
         ],
+        helps: &[
+            "connect; l4_error says since when",
+            "MR0 to MR63, BR0 to BR32",
+            "0x2, 0x4 or 0x6",
+            "look who serves that path",
+            "disconnect first",
+            "at most 107 bytes",
+            "a thread of the same space",
+            "a lower version",
+            "connect in the child",
+            "let it end, or disconnect and connect",
+            "mend the item; the connection stays",
+            "mend the pointer; the connection stays",
+            "wait, or raise --live or --keep-open of l4d",
+            "call l4_ipc_begin first",
+        ],
     },
     Family {
         letters: "N",
@@ -92,6 +151,15 @@ pub(crate) const FAMILIES: [Family; 6] = [
             "the name server has no memory",
             "there is no name server",
             "no live thread has the name",
+        ],
+        helps: &[
+            "a client and a name server of one version",
+            "another name",
+            "another name, or end that thread",
+            "end threads that have a name",
+            "ask again",
+            "start one: l4x DIR names",
+            "wait for it, or look up another name",
         ],
     },
 ];

@@ -7,7 +7,8 @@ use ipc_lines::{HexText, IdText, read_hex, read_id};
 use ipc_words::{ErrorKind, IpcError, MsgTag, Period, Phase, ThreadId, ThreadIdKind};
 use std::alloc::{AllocError, Global};
 
-/// What a code of a refusal or of a fault, a word in HEX or an id means, line by line.
+/// What a code of a refusal or of a fault means, and what helps; what a word in HEX or an id means,
+/// line by line.
 pub fn explain(alloc: Global, word: &str) -> Result<Told, AllocError> {
     if let Some(code) = code_of(word.as_bytes()) {
         return Ok(Told::Answer(code_line(alloc, code)?));
@@ -26,8 +27,9 @@ fn code_line(alloc: Global, code: Code) -> Result<String, AllocError> {
         letters,
         number,
         meaning,
+        helps,
     } = code;
-    format!(in alloc; "{letters}{number}: {meaning}\n")
+    format!(in alloc; "{letters}{number}: {meaning}\nwhat helps: {helps}\n")
 }
 
 fn word_lines(alloc: Global, value: u64) -> Result<String, AllocError> {
@@ -68,6 +70,7 @@ fn tell_error_code(text: &mut String, value: u64) -> Result<(), AllocError> {
                 letters,
                 number,
                 meaning,
+                ..
             } = code;
             write!(
                 text,

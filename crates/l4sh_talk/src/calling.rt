@@ -1,8 +1,14 @@
-use crate::faults::{LABEL, NUMBERS, ONCE, SIZES, WordFault, comes_again};
+mod line;
+
+use crate::faults::{
+    FEW_SIZES, FROM_BESIDE, LABEL, NUMBERS, ONCE, SHORT_SIZES, SIZES, TO_BESIDE, WordFault,
+    comes_again,
+};
 use crate::spelling::{is_comma, put_numbers, put_string, read_thread};
-use ipc_lines::{HexText, IdText};
-use ipc_words::{MsgTag, Period, ThreadId};
-use l4sh_explain::{TagRequest, read_number, read_period};
+use ipc_lines::HexText;
+use ipc_words::limits::{MAX_BUFFER_WORDS, MAX_STRING_BYTES, SUBSTRING_LENGTH_LIMIT};
+use ipc_words::{Period, Phase, ThreadId};
+use l4sh_explain::{read_number, read_period};
 use std::alloc::{AllocError, Global};
 
 /// Where the first buffer that is typed by its size alone begins, and how far apart they are.
@@ -10,6 +16,9 @@ const BUFFER_STEP: u64 = 0x10_0000;
 
 /// The greatest label.
 const MAX_LABEL: u64 = 0xffff_ffff_ffff;
+
+/// How many buffers a call has at most: each takes two words.
+const MAX_BUFFERS: usize = MAX_BUFFER_WORDS / 2;
 
 /// A call whose fields are typed one by one.
 #[derive(Drop)]
@@ -24,6 +33,7 @@ struct Asked {
     word_count: u64,
     strings: String,
     string_count: u64,
+    string_bytes: usize,
     buffers: String,
 }
 
@@ -77,12 +87,19 @@ fn named<'a>(names: &[(&'static str, Name)], word: &'a [u8]) -> Option<Named<'a>
     None
 }
 
-/// A word of a call that is none of its fields, by its place; or that the fields of the tag are
-/// past their widths together.
+/// Why typed words make no call.
 #[derive(Clone, Copy)]
 pub(crate) enum CallFault {
+    /// The word of this place is none of its fields.
     Word(usize, WordFault),
+    /// The word of this place is of a phase that the call does not have.
+    Beside(usize, WordFault),
+    /// It has no phase.
+    Idle,
+    /// The words and strings of its message are too many.
     Wide,
+    /// The strings of its message are too long together.
+    Long,
 }
 
 /// The line of a call that is typed as its caller and then `to=`, `from=`, `send=`, `receive=`,
@@ -123,6 +140,7 @@ impl Asked {
             word_count: 0,
             strings: String::new(alloc),
             string_count: 0,
+            string_bytes: 0,
             buffers: String::new(alloc),
         }
     }
@@ -136,6 +154,9 @@ impl Asked {
     ) -> Result<Result<String, CallFault>, AllocError> {
         if let Some((place, fault)) = self.read_all(words)? {
             return Ok(Err(CallFault::Word(place, fault)));
+        }
+        if let Some(fault) = self.fault(words) {
+            return Ok(Err(fault));
         }
         match self.line(alloc, caller)? {
             Some(line) => Ok(Ok(line)),
@@ -154,6 +175,41 @@ impl Asked {
             }
         }
         Ok(None)
+    }
+
+    // What is wrong with the words together, each of which is a field.
+    fn fault(&self, words: &[Vec<u8>]) -> Option<CallFault> {
+        for (place, word) in words.iter().enumerate() {
+            if place >= 2
+                && let Some(fault) = self.beside(word)
+            {
+                return Some(CallFault::Beside(place, fault));
+            }
+        }
+        if !self.sends() && !self.receives() {
+            return Some(CallFault::Idle);
+        }
+        if self.string_bytes > MAX_STRING_BYTES {
+            return Some(CallFault::Long);
+        }
+        None
+    }
+
+    // What is wanted beside a word of a phase that the call does not have.
+    fn beside(&self, word: &[u8]) -> Option<WordFault> {
+        let (name, phase) = phase_of(word)?;
+        match phase {
+            Phase::Send => fault_unless(self.sends(), name, TO_BESIDE),
+            Phase::Receive => fault_unless(self.receives(), name, FROM_BESIDE),
+        }
+    }
+
+    fn sends(&self) -> bool {
+        self.to != ThreadId::NILTHREAD
+    }
+
+    fn receives(&self) -> bool {
+        self.from != ThreadId::NILTHREAD
     }
 
     // Takes one word, of which a field of its name may have come before. Answers what is wrong with
@@ -187,10 +243,10 @@ impl Asked {
             Name::Receive => Ok(read_time_into(&mut self.receive, name, value)),
             Name::Label => Ok(fault_unless(set(&mut self.label, read_label(value)), name, LABEL)),
             Name::As => Ok(fault_unless(self.read_originator(value), name, THREAD)),
-            Name::Words | Name::Buffers => {
-                let is_read = self.read_buffers(value)?;
-                Ok(fault_unless(is_read, name, SIZES))
-            }
+            Name::Words | Name::Buffers => match self.read_buffers(value)? {
+                Ok(()) => Ok(None),
+                Err(wanted) => Ok(fault_unless(false, name, wanted)),
+            },
         }
     }
 
@@ -214,85 +270,41 @@ impl Asked {
             self.strings.push_str(",")?;
         }
         self.string_count = self.string_count.saturating_add(1);
+        self.string_bytes = self.string_bytes.saturating_add(text.len());
         put_string(&mut self.strings, text)
     }
 
-    // Sizes with commas between them, each a buffer of its own at an address of its own.
-    fn read_buffers(&mut self, list: &[u8]) -> Result<bool, AllocError> {
+    // Sizes with commas between them, each a buffer of its own at an address of its own. An `Err`
+    // inside is what is wanted.
+    fn read_buffers(&mut self, list: &[u8]) -> Result<Result<(), &'static str>, AllocError> {
+        if list.split(is_comma).count() > MAX_BUFFERS {
+            return Ok(Err(FEW_SIZES));
+        }
         let mut address = BUFFER_STEP;
         for size in list.split(is_comma) {
-            let Some(size) = read_number(size) else {
-                return Ok(false);
-            };
-            put_buffer(&mut self.buffers, size, address)?;
+            match read_number(size) {
+                Some(size) if size < SUBSTRING_LENGTH_LIMIT => {
+                    put_buffer(&mut self.buffers, size, address)?;
+                }
+                Some(_) => return Ok(Err(SHORT_SIZES)),
+                None => return Ok(Err(SIZES)),
+            }
             address = address.saturating_add(BUFFER_STEP);
         }
-        Ok(true)
+        Ok(Ok(()))
     }
+}
 
-    // The line. None where the fields of the tag are past their widths.
-    fn line(&self, alloc: Global, caller: ThreadId) -> Result<Option<String>, AllocError> {
-        match self.tag() {
-            Some(tag) => {
-                let mut line = String::new(alloc);
-                self.put_call(&mut line, caller, tag)?;
-                self.put_lists(&mut line)?;
-                Ok(Some(line))
-            }
-            None => Ok(None),
-        }
+// The name of a word, and the phase that it says something of; none where it makes a phase.
+fn phase_of(word: &[u8]) -> Option<(&'static str, Phase)> {
+    if word.starts_with(b"\"") {
+        return Some(("", Phase::Send));
     }
-
-    // The tag. None where its fields are past their widths.
-    fn tag(&self) -> Option<MsgTag> {
-        let request = TagRequest {
-            label: self.label,
-            words: u8::try_from(self.word_count).ok()?,
-            strings: u8::try_from(self.string_count).ok()?,
-            is_propagated: self.originator.is_some(),
-        };
-        request.tag()
-    }
-
-    // The fields up to the lists.
-    fn put_call(&self, line: &mut String, caller: ThreadId, tag: MsgTag) -> Result<(), AllocError> {
-        let timeouts = u64::from(self.send_word()) * 0x1_0000 + u64::from(self.receive_word());
-        let originator = self.originator.unwrap_or(ThreadId::NILTHREAD);
-        write!(
-            line,
-            "call {} {} {} {} {} {} ",
-            IdText(caller),
-            IdText(self.to),
-            IdText(self.from),
-            HexText(timeouts),
-            HexText(tag.to_word()),
-            IdText(originator)
-        )
-    }
-
-    fn put_lists(&self, line: &mut String) -> Result<(), AllocError> {
-        put_or_dash(line, self.words.as_str())?;
-        line.push_str(" ")?;
-        put_or_dash(line, self.strings.as_str())?;
-        line.push_str(" ")?;
-        put_or_dash(line, self.buffers.as_str())
-    }
-
-    // The period of a phase that is not there is not set.
-    fn send_word(&self) -> u16 {
-        if self.to == ThreadId::NILTHREAD {
-            0
-        } else {
-            self.send.to_word()
-        }
-    }
-
-    fn receive_word(&self) -> u16 {
-        if self.from == ThreadId::NILTHREAD {
-            0
-        } else {
-            self.receive.to_word()
-        }
+    let (field, name, _) = named(&NAMES, word)?;
+    match field {
+        Name::To | Name::From => None,
+        Name::Send | Name::Label | Name::As | Name::Words => Some((name, Phase::Send)),
+        Name::Receive | Name::Buffers => Some((name, Phase::Receive)),
     }
 }
 
@@ -343,8 +355,4 @@ fn put_buffer(buffers: &mut String, size: u64, address: u64) -> Result<(), Alloc
         buffers.push_str(",")?;
     }
     write!(buffers, "{size}@{}", HexText(address))
-}
-
-fn put_or_dash(text: &mut String, field: &str) -> Result<(), AllocError> {
-    text.push_str(if field.is_empty() { "-" } else { field })
 }

@@ -12,6 +12,18 @@ pub const NUMBERS: &str =
 /// What is wanted of a list of sizes.
 pub const SIZES: &str = "one size or more, with commas and no spaces between, as 100,20";
 
+/// What is wanted of sizes that are too many.
+pub(crate) const FEW_SIZES: &str = "16 sizes at most";
+
+/// What is wanted of sizes of which one is too great.
+pub(crate) const SHORT_SIZES: &str = "sizes below 2^54, as 100,20";
+
+/// What is wanted beside a field of a send phase.
+pub(crate) const TO_BESIDE: &str = "to=ID beside it, since it is of a send phase";
+
+/// What is wanted beside a field of a receive phase.
+pub(crate) const FROM_BESIDE: &str = "from=ID beside it, since it is of a receive phase";
+
 /// What is wanted of a label.
 pub const LABEL: &str = "a decimal or HEX of at most 48 bits, as 3 or 0x3";
 

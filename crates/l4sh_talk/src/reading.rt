@@ -30,7 +30,8 @@ reply_wait ID ..            answers a thread that waits, and then waits for a me
 exreg ID PHASE              stops phases of a thread of this space: send, receive, both or nothing
 1, as an ID                 the live version of thread 1; behind as= it is 1.1
 help, quit, exit            and # begins a comment
-What waits is waited for here: Ctrl-C ends the program, and the server then ends its thread.";
+What waits is waited for here: Ctrl-C ends the program, and the server then ends its thread.
+Arrow keys, history and editing come by another program, as in: rlwrap l4sh talk DIR";
 
 /// What a line stands for.
 #[derive(Drop)]

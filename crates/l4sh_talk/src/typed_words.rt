@@ -4,6 +4,7 @@ use crate::quoting::words_of;
 use crate::spelling::{read_control, read_thread};
 use ipc_lines::{HexText, IdText};
 use ipc_words::ThreadId;
+use ipc_words::limits::MAX_STRING_BYTES;
 use l4sh_explain::{Grammar, read_number, read_time, reason_of, reason_text};
 use std::alloc::{AllocError, Global};
 
@@ -30,6 +31,9 @@ const COMMANDS: &str = "open, call, take, exreg, broke, at, advance, compact, he
 
 /// What is wanted of the number of a thread or of a space.
 const NUMBER: &str = "a decimal or HEX of at most 64 bits, as 1";
+
+/// What is wanted of a call without a phase.
+const PHASES: &str = "wanted is call ID, and to=ID to send, from=ID to receive";
 
 /// The fewest words that stand for a call of a script, which has ten.
 const SCRIPT_WORDS: usize = 8;
@@ -246,11 +250,7 @@ fn read_call(alloc: Global, words: &[Vec<u8>]) -> Result<Typed, AllocError> {
     }
     match call_line(alloc, words)? {
         Ok(line) => judged(alloc, line),
-        Err(CallFault::Wide) => mistake(
-            alloc,
-            "a message has 63 words at most, with two for each string",
-        ),
-        Err(CallFault::Word(place, fault)) => call_mistake(alloc, words, place, fault),
+        Err(fault) => call_mistake(alloc, words, fault),
     }
 }
 
@@ -264,18 +264,24 @@ fn has_named(words: &[Vec<u8>]) -> bool {
     false
 }
 
-// The word of a call that is none of its fields.
-fn call_mistake(
-    alloc: Global,
-    words: &[Vec<u8>],
-    place: usize,
-    fault: WordFault,
-) -> Result<Typed, AllocError> {
-    match words.get(place) {
-        Some(word) => bad(alloc, place, fault.name, fault.wanted, word),
-        None => mistake(
+// Why words make no call.
+fn call_mistake(alloc: Global, words: &[Vec<u8>], fault: CallFault) -> Result<Typed, AllocError> {
+    match fault {
+        CallFault::Word(place, WordFault { name, wanted }) => match words.get(place) {
+            Some(word) => bad(alloc, place, name, wanted, word),
+            None => mistake(alloc, PHASES),
+        },
+        // the word is right, and is not shown as what is not wanted
+        CallFault::Beside(place, WordFault { name, wanted }) => {
+            bad(alloc, place, name, wanted, b"")
+        }
+        CallFault::Idle => mistake(alloc, PHASES),
+        CallFault::Wide => mistake(
             alloc,
-            "wanted is call ID, and to=ID to send, from=ID to receive",
+            "a message has 63 words at most, with two for each string",
         ),
+        CallFault::Long => Ok(Typed::Mistake(format!(in alloc;
+            "the strings of a message have {MAX_STRING_BYTES} bytes together at most"
+        )?)),
     }
 }

@@ -9,6 +9,7 @@ mod finding;
 mod gateway;
 mod keyvalue;
 mod messages;
+mod mistake;
 mod names;
 mod naming;
 mod role;
@@ -21,6 +22,7 @@ use calling::{Search, Server};
 use ipc_base::{Failures, PortRead, PortWrite, ReadPort, WritePort};
 use ipc_client::{Client, PatientStream};
 use ipc_words::ThreadId;
+use mistake::Mistake;
 use role::{Role, Task};
 use std::alloc::Global;
 use std::io::{self, ErrorKind};
@@ -37,7 +39,7 @@ fn main(rt: HostRuntime) -> io::Result<ExitCode> {
     let alloc = rt.alloc();
     match words_of(&rt, alloc) {
         Some(words) => obey_words(&rt, alloc, &words),
-        None => ended(&rt, "", &Trouble::NoMemory),
+        None => ended(&rt, &[], &Trouble::NoMemory),
     }
 }
 
@@ -59,7 +61,7 @@ fn obey_words<R: Net + Wait + Print + Eprint>(
     }
     match obey(rt, alloc, words) {
         Ok(()) => Ok(ExitCode::from(0)),
-        Err(trouble) => ended(rt, folder_of(words), &trouble),
+        Err(trouble) => ended(rt, words, &trouble),
     }
 }
 
@@ -74,7 +76,7 @@ fn folder_of(words: &[String]) -> &str {
 /// Whether they ask for help, and for nothing else.
 fn ask_for_help(words: &[String]) -> bool {
     match words {
-        [_, word] => word.as_str() == "--help",
+        [_, word] => matches!(word.as_str(), "--help" | "help"),
         _ => false,
     }
 }
@@ -279,15 +281,15 @@ fn say_names<R: Print>(rt: &R, own: ThreadId) -> Result<(), Trouble> {
     said.or(Err(Trouble::NoOutput))
 }
 
-/// Says on standard error why a role ended, with the path of its server where that has to do with
-/// it.
-fn ended<R: Eprint>(rt: &R, dir: &str, trouble: &Trouble) -> io::Result<ExitCode> {
+/// Says on standard error why a role ended, by the words that asked for it: with what is wanted of
+/// them, or with the path of its server where that has to do with it.
+fn ended<R: Eprint>(rt: &R, words: &[String], trouble: &Trouble) -> io::Result<ExitCode> {
     match trouble {
         // it was said on standard output
         Trouble::Nobody => {}
-        Trouble::Usage => rt.eprintln(trouble)?,
+        Trouble::Usage => eprintln!(rt; "l4x: {}", Mistake(words))?,
         Trouble::NoMemory | Trouble::NoOutput => eprintln!(rt; "l4x: {trouble}")?,
-        other => eprintln!(rt; "l4x: {dir}/space1: {other}")?,
+        other => eprintln!(rt; "l4x: {}/space1: {other}", folder_of(words))?,
     }
     Ok(ExitCode::from(trouble.status()))
 }

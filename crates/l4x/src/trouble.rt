@@ -61,7 +61,7 @@ impl Trouble {
     // What is said of one that has neither a number nor an error of its own.
     fn words(self) -> &'static str {
         match self {
-            Trouble::Usage => USAGE,
+            Trouble::Usage => "the words name no role",
             Trouble::NoMemory => "no memory",
             Trouble::NoServer => "nobody listens there: start l4d with this folder",
             Trouble::Denied =>

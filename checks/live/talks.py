@@ -91,6 +91,7 @@ call 2.1 1.1 nil 0x4000000 0x1001 1.1 0x5 - -
 take 2.1
 call 2.1 1.1 nil 0x4000000 0x1001 9.1 0x5 - -
 take 2.1
+broke 9.1
 """
 tally = Tally()
 same = tally.same
@@ -191,7 +192,7 @@ def pastes(server):
 
 def terminals(server):
     """A prompt stands before each line that is typed at a terminal."""
-    for words, greeting in (((), ""),):
+    for words, greeting in (((), ""), ((server.folder, "--thread", "35"), "= 35.1    this thread; help lists what it can do\r\n")):
         ours, theirs = pty.openpty()
         with subprocess.Popen([L4SH, "talk", *words], stdin=theirs, stdout=theirs, stderr=theirs, close_fds=True) as talk:
             os.close(theirs)
@@ -227,7 +228,7 @@ def numbers(server, again):
 
 
 def runs():
-    """`l4sh run` tells of a p that is dropped where standard error is a terminal, and nowhere else; what it prints is the same."""
+    """`l4sh run` tells of a p that is dropped, and what a refusal means, where standard error is a terminal, and nowhere else; what it prints is the same."""
     usual = subprocess.run([L4SH, "run"], input=DROPPED, capture_output=True, text=True)
     same("a run without a terminal", (usual.returncode, usual.stderr), (0, ""))
     ours, theirs = pty.openpty()
@@ -237,7 +238,7 @@ def runs():
     os.close(ours)
     same("a run at a terminal", (ran.returncode, ran.stdout), (0, usual.stdout))
     same("what it tells", told, [f"l4sh: call {call}: p is dropped, since {originator} is no live thread of the caller's space: the receiver sees 2.1"
-                                 for call, originator in ((2, "1.1"), (3, "9.1"))])
+                                 for call, originator in ((2, "1.1"), (3, "9.1"))] + ["l4sh: K6: no such thread is live"])
 
 
 def refusals(server):

@@ -7,6 +7,7 @@ use crate::ending::Ending;
 use crate::exit::Exit;
 use crate::kept::KeptPort;
 use crate::live::talk_to_server;
+use crate::prompted::PromptedPort;
 use crate::talk::talk_with;
 use crate::terminal::{is_told_at_terminal, prompt};
 use crate::watched::WatchedPort;
@@ -19,8 +20,8 @@ use std::alloc::Global;
 use std::net::Net;
 use std::sync::ledger::Ledger;
 
-/// Runs the script of standard input. Of a p that is dropped it is told on standard error, where
-/// that is a terminal.
+/// Runs the script of standard input. Of a p that is dropped, and of refusals, it is told on
+/// standard error, where that is a terminal.
 pub(crate) fn run_input<L: Ledger, R: Input + Eprint, W: PortWrite>(
     rt: &R,
     alloc: Global,
@@ -72,15 +73,15 @@ pub(crate) fn talk_over_input<L: Ledger, R: Input, W: PortWrite>(
     Ending::from(talk_with(alloc, greatest_limits(), prompt(), &mut reader, writer))
 }
 
-/// Talks from standard input with a live server.
-pub(crate) fn talk_from_input<L: Ledger, R: Input + Net, W: PortWrite>(
+/// Talks from standard input with a live server, with a prompt at a terminal.
+pub(crate) fn talk_from_input<L: Ledger, R: Input + Print + Eprint + Net, W: PortWrite>(
     rt: &R,
     alloc: Global,
     options: &TalkOptions<'_>,
     reads: Failures<L>,
     writer: &mut W,
 ) -> Ending {
-    let mut reader = ReadPort::new(rt.reader(), reads);
+    let mut reader = PromptedPort::new(rt, ReadPort::new(rt.reader(), reads), prompt());
     Ending::WithServer(talk_to_server(rt, alloc, options, &mut reader, writer))
 }
 

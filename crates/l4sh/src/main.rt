@@ -32,6 +32,7 @@ mod obeying;
 mod opening;
 mod printing;
 mod progress;
+mod prompted;
 mod rotating;
 mod several;
 mod talk;

@@ -15,7 +15,7 @@ use std::rt::{Clock, Files};
 use std::sync::ledger::Ledger;
 
 /// Does what was asked for, and prints to a writer.
-pub(crate) fn obey_into<L: Ledger, R: Files + Input + Eprint + Clock + Net, W: PortWrite>(
+pub(crate) fn obey_into<L: Ledger, R: Files + Input + Print + Eprint + Clock + Net, W: PortWrite>(
     rt: &R,
     alloc: Global,
     options: &ShellOptions<'_>,

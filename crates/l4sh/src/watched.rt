@@ -1,14 +1,16 @@
-//! What is said beside a run.
+//! What is said beside a run, of a p that is dropped and of a refusal.
 use crate::talk::write_dropped_of;
 use ipc_base::{PortFault, PortWrite};
 use ipc_history::{Call, Entry, Input};
 use ipc_lines::read_entry;
 use ipc_words::ThreadId;
+use l4sh_explain::{Printable, meaning_of};
 use l4sh_state::Spaces;
 use std::alloc::{AllocError, Global};
 
 /// A port that hands on the lines of a run. Of each call whose p is dropped it tells that on
-/// standard error, as soon as its line is there. Without memory it tells no more.
+/// standard error, and of each refusal what it means, as soon as its line is there. Without memory
+/// it tells no more.
 #[derive(Drop)]
 pub struct WatchedPort<'a, R: Eprint, W: PortWrite> {
     rt: &'a R,
@@ -98,8 +100,11 @@ impl Watch {
     }
 }
 
-// What is said of a line, where it is that of a call whose p is dropped.
+// What is said of a line, where it is a refusal, or that of a call whose p is dropped.
 fn told_of(alloc: Global, spaces: &mut Spaces, line: &[u8]) -> Result<Option<String>, AllocError> {
+    if let Some(code) = line.strip_prefix(b"! ") {
+        return told_of_refusal(alloc, code);
+    }
     let Ok(entry) = read_entry(alloc, line) else {
         return Ok(None);
     };
@@ -112,7 +117,15 @@ fn told_of(alloc: Global, spaces: &mut Spaces, line: &[u8]) -> Result<Option<Str
     }
 }
 
-// The same of a call that is entered.
+// What a refusal means.
+fn told_of_refusal(alloc: Global, code: &[u8]) -> Result<Option<String>, AllocError> {
+    match meaning_of(code) {
+        Some(meaning) => Ok(Some(format!(in alloc; "l4sh: {}: {meaning}", Printable(code))?)),
+        None => Ok(None),
+    }
+}
+
+// What is said of a call that is entered.
 fn told_of_call(
     alloc: Global,
     spaces: &Spaces,

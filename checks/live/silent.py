@@ -1,8 +1,9 @@
 #!/usr/bin/env python3
-"""silent.py L4SH L4X: a server that takes a connection and never answers is given up after ten seconds, with its path and what was waited for.
+"""silent.py L4SH L4X: a server that takes a connection and never answers is given up after ten seconds, with its path and what was waited for. Who waits
+to be a thread is told so after two.
 
 Of one that refuses, faults or goes, l4x says the code and its sentence, as l4sh does. Where it cannot connect it tells whether nobody listens, or this user
-may not.
+may not. Of words that name no role it says in one line what is wanted.
 
 Its last line is `N checked, M failed`; the status is 0 where M is 0.
 """
@@ -82,20 +83,75 @@ def check_unconnected(l4x):
             tally.same("l4x of a user who may not connect", (ran.returncode, ran.stderr), (1, f"l4x: {folder}/space1: {why}\n"))
 
 
+# Words that name no role of l4x, and what is wanted.
+MISTAKES = [
+    ([], "l4x DIR ROLE"),
+    (["names"], "l4x DIR ROLE"),
+    (["meet", "walk"], "a role, keyvalue, gateway, put, get, sleep, names or lookup; not walk"),
+    (["meet", "put", "1"], "l4x DIR put KEY VALUE [gateway] [--names], with decimals"),
+    (["meet", "put", "1", "two"], "l4x DIR put KEY VALUE [gateway] [--names], with decimals"),
+    (["meet", "get", "one"], "l4x DIR get KEY [gateway] [--names], with a decimal"),
+    (["meet", "sleep"], "l4x DIR sleep MICROSECONDS, with a decimal"),
+    (["meet", "lookup"], "l4x DIR lookup NAME"),
+    (["meet", "names", "now"], "l4x DIR names"),
+    (["meet", "keyvalue", "now"], "l4x DIR keyvalue [--names]"),
+    (["meet", "gateway", "now"], "l4x DIR gateway [--names]"),
+]
+
+
+def check_mistakes(l4x):
+    """What l4x says of words that name no role, and that `help` says what `--help` does."""
+    for words, wanted in MISTAKES:
+        ran = subprocess.run([l4x, *words], stdin=subprocess.DEVNULL, capture_output=True, text=True, timeout=SECONDS)
+        told = f"l4x: wanted is {wanted}; l4x --help says what each role does\n"
+        tally.same(f"l4x {' '.join(words)}", (ran.returncode, ran.stdout, ran.stderr), (2, "", told))
+    helps = [subprocess.run([l4x, word], stdin=subprocess.DEVNULL, capture_output=True, text=True, timeout=SECONDS) for word in ("help", "--help")]
+    tally.same("l4x help", *[(it.returncode, it.stdout, it.stderr) for it in helps])
+    tally.check("l4x help names each role", all(f"    {role}" in helps[0].stdout for role in ("keyvalue", "gateway", "put", "get", "sleep", "names", "lookup")), helps[0].stdout)
+
+
+def waits(path):
+    """What who waits to be a thread is told after two seconds."""
+    return f"{path}: no WELCOME yet: the server is full, or does not answer; it has {PATIENCE} seconds\n"
+
+
+def answers_late(door):
+    """Welcomes one connection after three seconds."""
+    client, _ = door.accept()
+    with client:
+        client.recv(64)
+        time.sleep(3)
+        client.sendall(bytes.fromhex("00000009 81 0000000100000001"))
+        client.recv(64)
+
+
+def check_late(l4sh):
+    """A talk with a server that answers after three seconds goes on."""
+    with tempfile.TemporaryDirectory() as folder, listening(f"{folder}/space1") as door:
+        serving = threading.Thread(target=answers_late, args=(door,))
+        serving.start()
+        ran = subprocess.run([l4sh, "talk", folder], input="quit\n", capture_output=True, text=True, timeout=SECONDS)
+        serving.join(SECONDS)
+        wanted = (0, "= 1.1    this thread; help lists what it can do\n", "l4sh: " + waits(f"{folder}/space1"))
+        tally.same("a talk with a server that answers late", (ran.returncode, ran.stdout, ran.stderr), wanted)
+
+
 def main(arguments):
     l4sh, l4x = programs_of(arguments, __doc__, 2)
     check_words(l4x)
     check_unconnected(l4x)
+    check_mistakes(l4x)
+    check_late(l4sh)
     with tempfile.TemporaryDirectory() as folder:
         doors = [listening(f"{folder}/{name}") for name in ("space1", "control")]
         hello = f"{folder}/space1: no WELCOME within {PATIENCE} seconds: the server is full, or does not answer\n"
         asked = "l4sh: device failed\n{}/control: no answer to {} within {} seconds\n".format
         rows = [
-            ([l4sh, "talk", folder], 4, "l4sh: no server\n" + hello),
+            ([l4sh, "talk", folder], 4, "l4sh: " + waits(f"{folder}/space1") + "l4sh: no server\n" + hello),
             ([l4sh, "state", folder], 1, asked(folder, "state", PATIENCE)),
             ([l4sh, "count", folder], 1, asked(folder, "counters", PATIENCE)),
             ([l4sh, "follow", folder], 1, asked(folder, "trace follow", PATIENCE)),
-            ([l4x, folder, "get", "1"], 1, "l4x: " + hello),
+            ([l4x, folder, "get", "1"], 1, "l4x: " + waits(f"{folder}/space1") + "l4x: " + hello),
         ]
         began = time.monotonic()
         ran = [subprocess.Popen(words, stdin=subprocess.DEVNULL, stdout=subprocess.PIPE, stderr=subprocess.PIPE, text=True) for words, *_ in rows]

@@ -5,7 +5,7 @@ use crate::exit::Exit;
 use crate::follow::{selection_of, tell_entry};
 use crate::live_state::live_times;
 use ipc_base::{Failures, PieceBuffer, PortRead, PortWrite, ReadPort};
-use ipc_client::PatientStream;
+use ipc_client::{PatientStream, Untold};
 use ipc_lines::{LineFault, read_entry};
 use ipc_trace::{LineEnd, Part, PartLines, Stage, next_line};
 use l4sh_explain::Printable;
@@ -142,7 +142,7 @@ fn follow_asked<L: Ledger, W: PortWrite>(
 ) -> Ending {
     let is_silent = AtomicBool::new(false);
     let mut lines = Lines {
-        port: ReadPort::new(PatientStream::new(&asked.stream, &is_silent), reads),
+        port: ReadPort::new(PatientStream::new(&asked.stream, &is_silent, Untold), reads),
         buffer: PieceBuffer::new(),
         line: Vec::new(alloc),
     };

@@ -2,7 +2,7 @@ ghost use Rattle.std.specs.Prelude.{◌≡◌, ◌+◌, ◌<◌};
 
 use crate::asking::connect_reason;
 use ipc_base::{Failures, PortRead, PortWrite, ReadPort, WritePort};
-use ipc_client::{Client, PATIENCE, PatientStream};
+use ipc_client::{Client, PATIENCE, PatientStream, Waiter};
 use l4sh_options::TalkOptions;
 use l4sh_talk::{Ending, talk_to};
 use std::alloc::{AllocError, Global};
@@ -19,11 +19,28 @@ pub struct Talked {
     pub reason: Option<String>,
 }
 
-/// Connects to a space of the server of a folder, and talks as one of its threads. Without memory
-/// there is no reason.
+/// Who waits for the WELCOME of the server of a path.
+#[derive(Drop)]
+struct Typist<'a, N> {
+    rt: &'a N,
+    path: &'a str,
+}
+
+impl<N: Eprint> Waiter for Typist<'_, N> {
+    fn note_wait(&self) {
+        let (rt, path) = (self.rt, self.path);
+        // where standard error fails nothing is told
+        let _ = eprintln!(rt;
+            "l4sh: {path}: no WELCOME yet: the server is full, or does not answer; it has {PATIENCE} seconds"
+        );
+    }
+}
+
+/// Connects to a space of the server of a folder, and talks as one of its threads. A server that
+/// lets it wait is told on standard error. Without memory there is no reason.
 ///
 /// It ends as `DeviceFailed` only where a call of the reader or of the writer failed in this talk.
-pub fn talk_to_server<N: Net, R: PortRead, W: PortWrite>(
+pub fn talk_to_server<N: Net + Eprint, R: PortRead, W: PortWrite>(
     rt: &N,
     alloc: Global,
     options: &TalkOptions<'_>,
@@ -44,7 +61,7 @@ pub fn talk_to_server<N: Net, R: PortRead, W: PortWrite>(
 }
 
 // Connects to a path, and talks as the thread of this number.
-fn talk_at<N: Net, R: PortRead, W: PortWrite>(
+fn talk_at<N: Net + Eprint, R: PortRead, W: PortWrite>(
     rt: &N,
     alloc: Global,
     path: &str,
@@ -57,7 +74,7 @@ fn talk_at<N: Net, R: PortRead, W: PortWrite>(
         < R.failures reader.new + W.failures writer.new }
 {
     match UnixStream::connect(rt, path) {
-        Ok(stream) => talk_along(alloc, path, &stream, number, reader, writer),
+        Ok(stream) => talk_along(rt, alloc, path, &stream, number, reader, writer),
         Err(error) => Talked {
             ending: Ending::NoServer,
             reason: connect_reason(alloc, path, &error).ok(),
@@ -67,7 +84,8 @@ fn talk_at<N: Net, R: PortRead, W: PortWrite>(
 
 // Talks over a socket as the thread of this number. A server that does not say WELCOME in its time
 // counts as none.
-fn talk_along<R: PortRead, W: PortWrite>(
+fn talk_along<N: Eprint, R: PortRead, W: PortWrite>(
+    rt: &N,
     alloc: Global,
     path: &str,
     stream: &UnixStream,
@@ -81,8 +99,8 @@ fn talk_along<R: PortRead, W: PortWrite>(
 {
     let (reads, writes) = (Blank::new(1), Blank::new(1));
     let is_silent = AtomicBool::new(false);
-    let from_server = PatientStream::new(stream, &is_silent);
-    let ending = talk_over::<Brand, Brand, _, _>(
+    let from_server = PatientStream::new(stream, &is_silent, Typist { rt, path });
+    let ending = talk_over::<Brand, Brand, _, _, _>(
         alloc,
         from_server,
         stream,
@@ -117,9 +135,9 @@ fn path_of(alloc: Global, options: &TalkOptions<'_>) -> Result<String, AllocErro
 
 // Talks over a socket, by what is read of it and by itself. The counts of its failures begin as
 // blanks.
-fn talk_over<I: Ledger, O: Ledger, R: PortRead, W: PortWrite>(
+fn talk_over<I: Ledger, O: Ledger, T: Waiter + Drop, R: PortRead, W: PortWrite>(
     alloc: Global,
-    from_server: PatientStream<'_>,
+    from_server: PatientStream<'_, T>,
     stream: &UnixStream,
     number: u16,
     reader: &mut R,

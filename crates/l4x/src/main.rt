@@ -20,7 +20,7 @@ mod trouble;
 
 use calling::{Search, Server};
 use ipc_base::{Failures, PortRead, PortWrite, ReadPort, WritePort};
-use ipc_client::{Client, PatientStream};
+use ipc_client::{Client, PATIENCE, PatientStream, Waiter};
 use ipc_words::ThreadId;
 use mistake::Mistake;
 use role::{Role, Task};
@@ -82,7 +82,11 @@ fn ask_for_help(words: &[String]) -> bool {
 }
 
 /// Plays the role that the words name, over a connection of its own.
-fn obey<R: Net + Wait + Print>(rt: &R, alloc: Global, words: &[String]) -> Result<(), Trouble> {
+fn obey<R: Net + Wait + Print + Eprint>(
+    rt: &R,
+    alloc: Global,
+    words: &[String],
+) -> Result<(), Trouble> {
     let task = Task::of(words).ok_or(Trouble::Usage)?;
     let stream = connect(rt, alloc, task.dir)?;
     let (reads, writes) = (Blank::new(1), Blank::new(1));
@@ -110,9 +114,26 @@ fn unconnected(kind: ErrorKind) -> Trouble {
     }
 }
 
+/// Who waits for the WELCOME of the server of a folder.
+#[derive(Drop)]
+struct Player<'a, R> {
+    rt: &'a R,
+    dir: &'a str,
+}
+
+impl<R: Eprint> Waiter for Player<'_, R> {
+    fn note_wait(&self) {
+        let (rt, dir) = (self.rt, self.dir);
+        // where standard error fails nothing is told
+        let _ = eprintln!(rt;
+            "l4x: {dir}/space1: no WELCOME yet: the server is full, or does not answer; it has {PATIENCE} seconds"
+        );
+    }
+}
+
 /// Plays a role over a connection. Each count of failures begins as a blank. A server that does not
 /// say WELCOME in its time is silent.
-fn start<L: Ledger, M: Ledger, R: Wait + Print>(
+fn start<L: Ledger, M: Ledger, R: Wait + Print + Eprint>(
     rt: &R,
     alloc: Global,
     stream: &UnixStream,
@@ -126,7 +147,7 @@ fn start<L: Ledger, M: Ledger, R: Wait + Print>(
     requires writes_parts { (writes.parts ≡ M.parts) × (0 < writes.parts) }
 {
     let is_silent = AtomicBool::new(false);
-    let from_server = PatientStream::new(stream, &is_silent);
+    let from_server = PatientStream::new(stream, &is_silent, Player { rt, dir: task.dir });
     let reader = ReadPort::new(from_server, Failures::<L>::new(reads));
     let writer = WritePort::new(stream, Failures::<M>::new(writes));
     let mut client = Client::new(alloc, reader, writer);

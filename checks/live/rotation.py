@@ -6,8 +6,8 @@ entries of all files, one behind the other, are a legal history: none is lost an
 the moment, the calls and the versions of the entries before it; its kept entries are among them, in their order, and each thread that lives and each call
 that is open is there.
 
-Then how many older files are kept, also from the start before; that somebody asks for a further file, or for a part, of a server with a trace and of one without; that
-who reads slowly holds up nobody; and what is told of a folder that has gone, of a full disk, and of bad words.
+Then how many older files are kept, also from the start before; that somebody asks for a further file, or for a part, of a server with a trace and of one without, and
+of one whose file was moved away; that who reads slowly holds up nobody; and what is told of a folder that has gone, of a full disk, and of bad words.
 
 Its last line is `N checked, M failed`; the status is 0 where M is 0.
 """
@@ -353,6 +353,25 @@ def check_stopped(what, l4sh, server, why):
     check_not_rotated(f"of {what}", l4sh, server, f"the trace has stopped (TR1): its file {why}\n")
 
 
+def check_moved(l4d, l4sh):
+    """Where somebody has moved the file away the trace goes on in a new one, and both are one history."""
+    with Server(l4d, "--connections", "2", trace=True) as server, tempfile.TemporaryDirectory() as room:
+        pair = Client(server.path, 1), Client(server.path, 2)
+        pair_works(pair)
+        time.sleep(0.3)
+        os.rename(server.trace, f"{server.trace}.1")
+        tally.same("l4sh rotate of a file that was moved", rotated(l4sh, server), (0, "the next entries end the file\n", ""))
+        pair_works(pair)
+        time.sleep(0.3)
+        pair_works(pair)
+        for client in pair:
+            client.bye()
+        tally.same("it ends well", server.end()[:2], (0, "closed\n"))
+        entries = check_chain(l4sh, server.trace, room)
+        tally.same("all messages are there", count_of(entries, "ended"), 3)
+        tally.same("there is one older file", [os.path.basename(file) for file in chain(server.trace)], ["trace.1", "trace"])
+
+
 def check_pipe(l4d, l4sh):
     """A pipe is not renamed: what comes behind goes there, too."""
     folder = tempfile.mkdtemp(prefix="l4d-")
@@ -390,7 +409,7 @@ def little_room():
 
 def check_failures(l4d, l4sh):
     """What is told of a file that cannot be renamed, written or opened; the server goes on."""
-    for what, spoil, told in (("a folder that has gone", lambda room: shutil.rmtree(room), "cannot be renamed: No such file or directory (os error 2)"),
+    for what, spoil, told in (("a folder that has gone", lambda room: shutil.rmtree(room), "cannot be opened: No such file or directory (os error 2)"),
                               ("a folder in place of the older file", lambda room: os.makedirs(f"{room}/trace.1/full"), "cannot be renamed: Is a directory (os error 21)")):
         room = tempfile.mkdtemp(prefix="l4trace-")
         with Server(l4d, "--trace", f"{room}/trace", "--trace-size", "1K", "--trace-keep", "1", "--connections", "2") as server:
@@ -439,6 +458,7 @@ def main(arguments):
     check_slow(l4d)
     check_kept(l4d, l4sh)
     check_asked_for(l4d, l4sh)
+    check_moved(l4d, l4sh)
     check_pipe(l4d, l4sh)
     check_failures(l4d, l4sh)
     check_words(l4d)

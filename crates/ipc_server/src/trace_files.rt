@@ -180,8 +180,9 @@ impl<'a> TraceFiles<'a> {
     }
 
     fn renamed<R: TraceDisk>(self, rt: &R, alloc: Global) -> io::Result<()> {
-        if rt.has_file(self.path)? && !rt.is_regular(self.path) {
-            // a device or a pipe is nobody's to rename: what comes goes there, too
+        if !rt.is_regular(self.path) {
+            // a device or a pipe is nobody's to rename: what comes goes there, too; and a FILE that
+            // somebody moved away is not there to be renamed
             return Ok(());
         }
         let count = self.older(rt, alloc)?;

@@ -93,6 +93,7 @@ impl<C: Naming, T: Ledger, P: PenPort + Drop> PostBox<C, T, P> {
             ≡ new_box place number (new_page place number (P.written port) (P.failures port))) }
     {
         let (bell, emptied) = two_bells(alloc)?;
+        let pen = Loaded::new(alloc, port, place, number, own)?;
         Ok(PostBox {
             place,
             number: Some(number),
@@ -100,27 +101,37 @@ impl<C: Naming, T: Ledger, P: PenPort + Drop> PostBox<C, T, P> {
             posted: None,
             shut: false,
             seat: None,
-            pen: Some(Loaded::new(port, place, number, own)),
+            pen: Some(pen),
             bell,
             emptied,
         })
     }
 
-    /// Makes a box that was given back ready for another connection.
-    pub(crate) fn reopen(&mut self, port: P, place: usize, number: u64, own: Own<Gave, C>)
+    /// Makes a box that was given back ready for another connection. Where there is no memory for
+    /// the pen it stays as it is.
+    pub(crate) fn reopen(
+        &mut self,
+        alloc: Global,
+        port: P,
+        place: usize,
+        number: u64,
+        own: Own<Gave, C>,
+    ) -> Result<(), AllocError>
         requires empty { BeginsEmpty (P.written port) }
         requires its { own.number ≡ number }
         requires nothing { all_given own.mine ≡ [] }
-        ensures { self.new
-            ≡ new_box place number (new_page place number (P.written port) (P.failures port)) }
+        ensures ok { OnOk result (self.new
+            ≡ new_box place number (new_page place number (P.written port) (P.failures port))) }
+        ensures err { OnErr result (self.new ≡ self.old) }
     {
+        let fresh = Loaded::new(alloc, port, place, number, own)?;
         drop(self.clear());
         self.place = place;
         self.number = Some(number);
         self.version = WireVersion::One;
         self.shut = false;
-        let pen = Loaded::new(port, place, number, own);
-        drop(self.pen.replace(pen));
+        drop(self.pen.replace(fresh));
+        Ok(())
     }
 
     /// Lets go of what the connection of this number leaves behind, and hands its pen out where

@@ -68,6 +68,7 @@ impl<C: Naming, T: Ledger, P: PenPort + Drop> Inside<C, T, P> {
 
     /// An empty box with the pen of a port, for the connection of this number: one that was given
     /// back, else a new one.
+    #[tactic(auto, using(crate::proofs::Moves::set_same))]
     pub(crate) fn connect(
         &mut self,
         port: P,
@@ -85,10 +86,16 @@ impl<C: Naming, T: Ledger, P: PenPort + Drop> Inside<C, T, P> {
         ensures locked { self.new.locked ≡ self.old.locked }
         ensures upkeep { self.new.upkeep ≡ self.old.upkeep }
     {
+        let alloc = self.alloc;
         if let Some(place) = self.free.pop() {
             if self.is_free(place) {
                 if let Some(post_box) = self.boxes.get_mut(place) {
-                    post_box.reopen(port, place, number, own);
+                    let reopened = post_box.reopen(alloc, port, place, number, own);
+                    if reopened.is_err() {
+                        // its room is that which it had
+                        let _back = self.free.push(place);
+                        return Err(AllocError);
+                    }
                     return Ok(place);
                 }
             }
@@ -97,7 +104,7 @@ impl<C: Naming, T: Ledger, P: PenPort + Drop> Inside<C, T, P> {
         // so that giving a box back takes no memory
         self.free.reserve(place.saturating_add(1))?;
         self.boxes
-            .push(PostBox::new(self.alloc, port, place, number, own)?)?;
+            .push(PostBox::new(alloc, port, place, number, own)?)?;
         Ok(place)
     }
 

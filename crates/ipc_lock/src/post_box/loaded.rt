@@ -1,5 +1,5 @@
 //! A pen that was taken out of its box.
-ghost use Rattle.std.specs.Prelude.{◌≡◌, ◌≢◌, ◌<◌, [], None, true, false};
+ghost use Rattle.std.specs.Prelude.{◌≡◌, ◌≢◌, ◌<◌, [], IfOk, None, true, false};
 ghost use Rattle.ipc_connection.specs.Pens.{BeginsEmpty, Passes, given_next, is_ready, new_page, rest_of};
 ghost use Rattle.ipc_lock.specs.Giving.{GivesOn, Wrote, all_given, gift_of, gifts_in, given_in};
 
@@ -7,15 +7,16 @@ use crate::events::Gave;
 use crate::gift_log::GiftLog;
 use ipc_connection::{Given, Patience, Pen, PenPort, Turn};
 use ipc_log::{Naming, Own};
+use std::alloc::{AllocError, Global};
 use std::marker::Model;
 
 /// A connection's pen, in its box or out of it with what is told next. Outside it can only be
 /// written with: it is given something in its box alone, under the lock, so nobody else tells a
 /// client anything. All that it was given is what the log of gifts says of it. A contract sees its
-/// pen.
+/// pen, which stands behind one pointer, since it moves between its box and its writers.
 #[derive(Drop)]
 pub struct Loaded<C: Naming, P: PenPort> {
-    pen: Pen<P>,
+    pen: Box<Pen<P>>,
     own: Own<Gave, C>,
 }
 
@@ -26,26 +27,37 @@ impl<C: Naming, P: PenPort> Model for Loaded<C, P> {
 
     ghost Value = { Page };
 
-    ghost view = { λ loaded. loaded.pen };
+    ghost view = { λ loaded. loaded.pen.value };
 
-    ghost invariant = { λ loaded. (loaded.own.number ≡ loaded.pen.number) × (all_given loaded.own.mine ≡ loaded.pen.given) };
+    ghost invariant = { λ loaded. (loaded.own.number ≡ loaded.pen.value.number) × (all_given loaded.own.mine ≡ loaded.pen.value.given) };
 }
 
-impl<C: Naming, P: PenPort> Loaded<C, P> {
+impl<C: Naming, P: PenPort + Drop> Loaded<C, P> {
     /// The pen of the connection of this number, over its port, with the box of this place. Nothing
     /// was given to it.
-    pub(crate) fn new(port: P, place: usize, number: u64, own: Own<Gave, C>) -> Loaded<C, P>
+    ///
+    /// # Errors
+    ///
+    /// No memory for it.
+    pub(crate) fn new(
+        alloc: Global,
+        port: P,
+        place: usize,
+        number: u64,
+        own: Own<Gave, C>,
+    ) -> Result<Loaded<C, P>, AllocError>
         requires empty { BeginsEmpty (P.written port) }
         requires its { own.number ≡ number }
         requires nothing { all_given own.mine ≡ [] }
-        ensures { result ≡ new_page place number (P.written port) (P.failures port) }
+        ensures { IfOk result (λ pen. pen
+            ≡ new_page place number (P.written port) (P.failures port)) }
     {
-        Loaded {
-            pen: Pen::new(port, place, number),
-            own,
-        }
+        let pen = Box::new(alloc, Pen::new(port, place, number))?;
+        Ok(Loaded { pen, own })
     }
+}
 
+impl<C: Naming, P: PenPort> Loaded<C, P> {
     /// Gives it something to write, behind all that was given before, which is logged.
     pub(crate) fn give(&mut self, gift_log: &mut GiftLog<C>, given: Given)
         requires { self.old.rest ≡ None }
@@ -94,7 +106,7 @@ impl<C: Naming, P: PenPort> Loaded<C, P> {
         let Loaded { pen, own } = self;
         let mut own = own;
         gift_log.look(&mut own);
-        pen.into_port()
+        Box::into_inner(pen).into_port()
     }
 
     /// Its port, with all that went out, and nothing more.
@@ -103,7 +115,7 @@ impl<C: Naming, P: PenPort> Loaded<C, P> {
         ensures failures { P.failures result ≡ self.failures }
     {
         let Loaded { pen, .. } = self;
-        pen.into_port()
+        Box::into_inner(pen).into_port()
     }
 
     /// Writes the rest of what the pen was given last, as [`Pen::write`] does. It is given nothing.

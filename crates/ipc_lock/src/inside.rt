@@ -11,6 +11,7 @@ ghost use Rattle.ipc_words.specs.Limits.{max_calls, max_command_entries, max_ent
 mod asking;
 mod connecting;
 mod ending;
+mod entering;
 mod laying;
 mod loading;
 mod parting;

@@ -14,6 +14,7 @@ ghost use Rattle.ipc_lock.specs.Opens.{opens};
 mod again;
 mod answers;
 mod calling;
+mod entering;
 mod looking;
 mod obeying;
 mod parting;

@@ -1,8 +1,10 @@
 //! When memory lets go of entries of the history.
-ghost use Rattle.std.specs.Prelude.{◌≡◌};
-ghost use Rattle.ipc_lock.specs.Upkeeping.{first_upkeep, is_due, noted, restarted};
+ghost use Rattle.std.specs.Prelude.{◌≡◌, ◌+◌};
+ghost use Rattle.ipc_items.specs.Strings.{size_of};
+ghost use Rattle.ipc_lock.specs.Upkeeping.{first_upkeep, is_due, noted, restarted, within_word};
 
 use ipc_core::Command;
+use ipc_history::Call;
 use ipc_words::limits::{BLOCK_BYTES, MAX_STRING_BYTES, TABLE_SLOTS};
 
 /// So many entries are held before any is let go.
@@ -48,8 +50,17 @@ impl Upkeep {
         ensures { self.new ≡ noted command.now self.old }
     {
         if let Command::Enter(_, call) = command {
-            self.bytes = self.bytes.saturating_add(call.strings().size() as usize);
+            self.note_call(call);
         }
+    }
+
+    /// Counts the strings of a call.
+    pub(crate) fn note_call(&mut self, call: &Call)
+        ensures { self.new ≡ record self.old {
+          bytes = within_word (self.old.bytes + size_of call.now.strings);
+        } }
+    {
+        self.bytes = self.bytes.saturating_add(call.strings().size() as usize);
     }
 
     /// Whether entries are to be let go now, where so many are held, and the history is marked up

@@ -11,6 +11,7 @@ ghost use Rattle.ipc_words.specs.ThreadId.{number_of};
 use super::Inside;
 use crate::seated::{CallSeat, TakeSeat};
 use ipc_connection::{PenPort, Request, Told, command_of, told_of, version_asked};
+use ipc_core::EnterRefused;
 use ipc_frame::WireVersion;
 use ipc_log::Naming;
 use std::sync::ledger::Ledger;
@@ -18,8 +19,44 @@ use std::sync::ledger::Ledger;
 impl<C: Naming, T: Ledger, P: PenPort + Drop> Inside<C, T, P> {
     /// Makes the step of a reader's request, and tells in its box what the kernel accepted. The
     /// outcomes of a thread that is opened so are told in this box from here on.
-    #[tactic(auto, using(crate::proofs::Steps::asked_so, crate::proofs::Moves::told_so, crate::proofs::Moves::owned_so))]
+    #[tactic(auto, unfolding(crate::specs::Acting::AnswersStep, crate::specs::Acting::Asked))]
     pub(super) fn ask(
+        &mut self,
+        now: u64,
+        place: usize,
+        seat: Option<CallSeat<C>>,
+        request: Request,
+        space: u64,
+    ) -> (Told, Option<CallSeat<C>>)
+        ensures asks { AsksOn self.old.upkeep self.new.upkeep self.old.locked.kernel
+            self.new.locked.kernel now seat
+            (version_asked request WireVersion.One) (command_of request space) result.0 }
+        ensures asked { Asked result.0 request seat result.1 }
+        ensures legal { Legal self.new.locked.kernel.history }
+        ensures finished { NotesOn self.old.upkeep self.new.upkeep self.old.locked.kernel
+            self.new.locked.kernel now (command_of request space) self.new.finished.items
+            (vec_capacity self.old.finished) }
+        ensures told { self.new.boxes.items
+            ≡ told_in result.0 (new_seat result.0) self.old.boxes.items place }
+        ensures owners { self.new.owners.items
+            ≡ owned_by result.0 (new_seat result.0) self.old.owners.items place }
+    {
+        match request {
+            Request::Enter(thread, call) => {
+                let mut seat = seat;
+                match self.act_call(now, &mut seat, thread, call) {
+                    Ok(_) => (Told::Entered, seat),
+                    Err(EnterRefused { refusal, .. }) => (Told::Refused(refusal), seat),
+                }
+            }
+            request => self.ask_other(now, place, seat, request, space),
+        }
+    }
+
+    /// The same, of any request. Few are no calls.
+    #[inline(never)]
+    #[tactic(auto, using(crate::proofs::Steps::asked_so, crate::proofs::Moves::told_so, crate::proofs::Moves::owned_so))]
+    fn ask_other(
         &mut self,
         now: u64,
         place: usize,

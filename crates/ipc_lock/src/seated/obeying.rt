@@ -45,7 +45,7 @@ impl<C: Ledger, T: Ledger> Locked<C, T> {
     }
 
     /// Sets the clock, and notes whose calls that finished.
-    fn tick_for(&mut self, now: u64, finished: &mut Vec<ThreadId>)
+    pub(super) fn tick_for(&mut self, now: u64, finished: &mut Vec<ThreadId>)
         ensures ticks { Ticks self.old.kernel self.new.kernel now }
         ensures few { length self.new.kernel.history ≤ length self.old.kernel.history
             + max_command_entries }
@@ -116,16 +116,10 @@ impl<C: Ledger, T: Ledger> Locked<C, T> {
         ensures few { length self.new.kernel.history ≤ length self.old.kernel.history
             + max_command_entries }
     {
-        let Some(seat) = seat else {
-            return Answered::refused(Refusal::NoThread, None, call);
-        };
-        if seat.thread != thread {
-            return Answered::refused(Refusal::NoThread, Some(seat), call);
-        }
         let mut seat = seat;
-        match self.enter_again(&mut seat, call) {
-            Ok(number) => Answered::new(Answer::Entered(number), Some(seat)),
-            Err(EnterRefused { refusal, call }) => Answered::refused(refusal, Some(seat), call),
+        match self.enter_by(&mut seat, thread, call) {
+            Ok(number) => Answered::new(Answer::Entered(number), seat),
+            Err(EnterRefused { refusal, call }) => Answered::refused(refusal, seat, call),
         }
     }
 
@@ -197,7 +191,7 @@ impl<C: Ledger, T: Ledger> Locked<C, T> {
     }
 
     /// Notes whose calls the last command finished, where there is room for all of them.
-    fn note_finished(&self, finished: &mut Vec<ThreadId>)
+    pub(super) fn note_finished(&self, finished: &mut Vec<ThreadId>)
         ensures notes { Notes self.now.kernel finished.old.items finished.new.items
             (vec_capacity finished.old) }
         ensures capacity { vec_capacity finished.old ≤ vec_capacity finished.new }

@@ -11,6 +11,7 @@ edit of each function; it asks for the proofs of these functions alone. An edit 
 without one all proofs of its crate are asked for. An edit is refused where a goal of its function is not proved. Where the function is only not
 proved because one that it calls is not, nothing is known, and it is tried again without that one. Where its proof wants that of another function, which
 was not asked for, it is tried again with that one. A body that the toolchain cannot read yet shows nothing: the edit has to be written another way.
+A crate whose name begins with tests_ is checked with its tests.
 
 It needs the kit's command rt, whose modules it uses, and changes no source. The crates below are built first where they are not; with --promised the
 libraries that the gate has just made are taken. It prints a line for each edit, and the goal that refused it. Its last line is
@@ -33,6 +34,7 @@ OWNER = re.compile(r"^impl(?:<[^{]*?>)?\s+(?:(?:\w+::)*(\w+)(?:<[^{]*>)?\s+for\s
 STATUS = re.compile(r"^(fn|struct|enum|const|impl) ")
 UNASKED = re.compile(r"the borrow checker's part.*\ba call of `?([\w:+]+)`?, which has no proof")
 UNCOVERED = "the borrow checker does not cover this function yet"
+OF_TESTS = "tests_"
 BLOCKED = re.compile(r": no proof: it calls .*which (is|are) not proved$")
 
 
@@ -170,11 +172,12 @@ def texts_of(crate, group):
 def ran_with(rt, crate, group, kept):
     """What the check of a crate with a group of edits says. It proves what the edits touch alone, where all have paths, and else, or where a path fits nothing, all."""
     paths = sorted({path for edit in group for path in edit.paths})
+    flags = ["--jobs", "1", *(["--test"] if crate.name.startswith(OF_TESTS) else [])]
     if all(edit.paths for edit in group):
-        ran = rt.checked(crate, texts_of(crate, group), ["--jobs", "1", *(word for path in paths for word in ("--only", path))], kept)
+        ran = rt.checked(crate, texts_of(crate, group), [*flags, *(word for path in paths for word in ("--only", path))], kept)
         if ran.returncode != 2:
             return ran
-    return rt.checked(crate, texts_of(crate, group), ["--jobs", "1"], kept)
+    return rt.checked(crate, texts_of(crate, group), flags, kept)
 
 
 def try_crate(rt, crate, edits):

@@ -56,13 +56,35 @@ fn verdict_after(kernel: &Kernel, room: BaseRoom, entries: &[Entry]) -> Verdict
     check_from(&base, kernel.held_entries(), entries)
 }
 
+// Fails the test where two verdicts differ.
+fn same_verdict(rt: &impl Abort, found: Verdict, wanted: Verdict)
+    ensures { (found ≡ Yes) ↔ (wanted ≡ Yes) }
+{
+    match (found, wanted) {
+        (Verdict::Yes, Verdict::Yes) => {}
+        (
+            Verdict::No { index, expected },
+            Verdict::No {
+                index: place,
+                expected: output,
+            },
+        ) => {
+            same(rt, index, place);
+            same(rt, expected, output);
+        }
+        _ => panic!(*rt; "another verdict"),
+    }
+}
+
 // Fails the test where entries behind the history of a kernel that was compacted are judged
-// otherwise.
+// otherwise. Where it goes on, a yes is said exactly of a legal history.
 fn is_judged(rt: &impl Abort, alloc: Global, kernel: &Kernel, entries: &[Entry], verdict: Verdict)
     requires { held_of (history_of kernel.now) ≡ kept_of kernel.now.history kernel.now.taken }
+    ensures { (verdict ≡ Yes) ↔ Legal (kernel.now.history ++ entries.now) }
 {
     let room = room(rt, alloc);
-    same(rt, verdict_behind(kernel, room, entries), verdict);
+    let found = verdict_behind(kernel, room, entries);
+    same_verdict(rt, found, verdict);
 }
 
 // The same of entries that are used no more.

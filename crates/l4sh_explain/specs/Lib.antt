@@ -6,5 +6,6 @@ pub mod Spellings
 pub mod Rules
 pub mod Whole
 pub mod Reasons
+pub mod Words
 pub mod Laws
 pub mod Numbers

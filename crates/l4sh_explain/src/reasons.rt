@@ -1,14 +1,17 @@
 ghost use Rattle.std.specs.Prelude.{◌≡◌, ◌+◌, ◌^◌, ◌≤◌, ◌<◌, ℕ, Some, IfOk, MatchOption, length, slice_get};
+ghost use Rattle.std.specs.String.{string_bytes};
 ghost use Rattle.ipc_lines.specs.Reading.{parts_at, texts_of};
 ghost use Rattle.l4sh_explain.specs.Grammars.{fields_of};
 ghost use Rattle.l4sh_explain.specs.Grammars as grammars;
 ghost use Rattle.l4sh_explain.specs.Spellings.{SpellAll};
+ghost use Rattle.l4sh_explain.specs.Words.{BeginsWith, SaysWhy, front_words};
 ghost use Rattle.l4sh_explain.specs.Reasons.{SpellsCall, ReadsBehind, ReadsParts, IsFirstUnspelled, IsFirstBroken, IsBadField, IsFaultIn, Reads, Tells};
 
 use crate::grammars::{Field, FieldKind, Grammar, LineName};
 use crate::rules::{CallRule, broken_rule};
 use crate::shapes::call_shape;
 use crate::spellings::is_spelled;
+use crate::text::{Behind, Front};
 use crate::whole::{LineFault, line_fault};
 use std::alloc::{AllocError, Global};
 
@@ -197,7 +200,7 @@ pub fn reason_of<'a>(
 }
 
 /// The words of the reason why a line is bad, as [`Reason`] prints them; `None` exactly where the
-/// line is good.
+/// line is good. They tell its first fault.
 ///
 /// The error: memory was refused.
 pub fn reason_text(
@@ -206,10 +209,20 @@ pub fn reason_text(
     line: &[u8],
 ) -> Result<Option<String>, AllocError>
     ensures { IfOk result (λ text. MatchOption text (Reads grammar line.now)
-        (λ _. ¬ (Reads grammar line.now))) }
+        (λ text. ¬ (Reads grammar line.now) × SaysWhy grammar line.now (string_bytes text))) }
 {
     match reason_of(alloc, grammar, line)? {
-        Some(reason) => Ok(Some(format!(in alloc; "{reason}")?)),
+        Some(reason) => Ok(Some(words_of(alloc, reason)?)),
         None => Ok(None),
     }
+}
+
+// A reason in words, as it prints.
+fn words_of(alloc: Global, reason: Reason<'_>) -> Result<String, AllocError>
+    ensures { IfOk result (λ text. BeginsWith (front_words reason.entry) (string_bytes text)) }
+{
+    let behind = format!(in alloc; "{}", Behind(reason))?;
+    let mut text = format!(in alloc; "{}", Front(reason))?;
+    text.push_str(behind.as_str())?;
+    Ok(text)
 }

@@ -1,5 +1,5 @@
 use crate::grammars::{Field, FieldKind, Grammar};
-use crate::reasons::{BadField, Reason, Wanted};
+use crate::reasons::{Reason, Wanted};
 use crate::rules::CallRule;
 use crate::whole::LineFault;
 use ipc_lines::{read_decimal, read_hex};
@@ -10,50 +10,66 @@ use std::fmt;
 const MAX_SHOWN: usize = 40;
 
 impl fmt::Display for LineFault {
+    ghost use Rattle.std.specs.Prelude.{Some};
+    ghost use Rattle.l4sh_explain.specs.Words.{line_fault_words};
+
+    ghost output = { λ fault. Some (line_fault_words fault) };
+
     fn fmt<W: fmt::Write>(&self, f: &mut fmt::Formatter<W>) -> fmt::Result {
-        let text = match self {
-            LineFault::Comment => "a line beginning with #: there are no comments",
-            LineFault::Answer => {
+        match self {
+            LineFault::Comment => write!(f, "a line beginning with #: there are no comments"),
+            LineFault::Answer => write!(
+                f,
                 "an answer of l4sh run: a trace has entries alone (leave them out by grep -v '^[=!]')"
-            }
-            LineFault::SpaceBefore => "a space before the first field",
-            LineFault::CarriageReturn => {
+            ),
+            LineFault::SpaceBefore => write!(f, "a space before the first field"),
+            LineFault::CarriageReturn => write!(
+                f,
                 "a carriage return at the end: a line ends by a newline alone, not by CRLF"
-            }
-            LineFault::SpaceBehind => "a space behind the last field",
-            LineFault::TabBehind => "a tab at the end: fields have one space between each two",
-            LineFault::TwoSpaces => "two spaces in a row: fields have one space between each two",
-            LineFault::Tab => "a tab: fields have one space between each two",
-        };
-        f.write_str(text)
+            ),
+            LineFault::SpaceBehind => write!(f, "a space behind the last field"),
+            LineFault::TabBehind => write!(
+                f,
+                "a tab at the end: fields have one space between each two"
+            ),
+            LineFault::TwoSpaces => write!(
+                f,
+                "two spaces in a row: fields have one space between each two"
+            ),
+            LineFault::Tab => write!(f, "a tab: fields have one space between each two"),
+        }
     }
 }
 
 impl fmt::Display for Field {
+    ghost use Rattle.std.specs.Prelude.{Some};
+    ghost use Rattle.l4sh_explain.specs.Words.{field_words};
+
+    ghost output = { λ field. Some (field_words field) };
+
     fn fmt<W: fmt::Write>(&self, f: &mut fmt::Formatter<W>) -> fmt::Result {
-        let text = match self {
-            Field::Number => "number",
-            Field::Space => "space",
-            Field::Thread => "thread",
-            Field::To => "to",
-            Field::From => "from",
-            Field::Timeouts => "timeouts",
-            Field::Tag => "tag",
-            Field::Originator => "originator",
-            Field::Words => "words",
-            Field::Strings => "strings",
-            Field::Buffers => "buffers",
-            Field::Target => "target",
-            Field::Control | Field::MaskedControl => "control",
-            Field::Moment => "moment",
-            Field::Connection => "connection",
-            Field::Bytes | Field::ByteCount => "bytes",
-            Field::Call => "call",
-            Field::SendingCall => "sending call",
-            Field::ReceivingCall => "receiving call",
-            Field::Code => "code",
-        };
-        f.write_str(text)
+        match self {
+            Field::Number => write!(f, "number"),
+            Field::Space => write!(f, "space"),
+            Field::Thread => write!(f, "thread"),
+            Field::To => write!(f, "to"),
+            Field::From => write!(f, "from"),
+            Field::Timeouts => write!(f, "timeouts"),
+            Field::Tag => write!(f, "tag"),
+            Field::Originator => write!(f, "originator"),
+            Field::Words => write!(f, "words"),
+            Field::Strings => write!(f, "strings"),
+            Field::Buffers => write!(f, "buffers"),
+            Field::Target => write!(f, "target"),
+            Field::Control | Field::MaskedControl => write!(f, "control"),
+            Field::Moment => write!(f, "moment"),
+            Field::Connection => write!(f, "connection"),
+            Field::Bytes | Field::ByteCount => write!(f, "bytes"),
+            Field::Call => write!(f, "call"),
+            Field::SendingCall => write!(f, "sending call"),
+            Field::ReceivingCall => write!(f, "receiving call"),
+            Field::Code => write!(f, "code"),
+        }
     }
 }
 
@@ -185,45 +201,106 @@ impl fmt::Display for Shown<'_> {
     }
 }
 
-impl fmt::Display for BadField<'_> {
-    fn fmt<W: fmt::Write>(&self, f: &mut fmt::Formatter<W>) -> fmt::Result {
-        let BadField {
-            number,
-            field,
-            wanted,
-            text,
-        } = *self;
-        write!(f, "field {number}, {field}: wanted is ")?;
-        match wanted {
-            Wanted::Spelling(kind) => write!(f, "{}", wanted_of(kind, text))?,
-            Wanted::Rule(rule) => write!(f, "{rule}")?,
+fn names_of(grammar: Grammar) -> &'static str {
+    match grammar {
+        Grammar::Script => "open, call, exreg, broke, at, advance or take",
+        Grammar::Wire => "connect, feed, end, at or advance",
+        Grammar::Trace => {
+            "the name of an entry: at, opened, called, exreg, broke, moved, began, turned, ended, overflowed, aborted or failed"
         }
-        write!(f, "{}", Shown(text))
     }
 }
 
-fn names_of(grammar: Grammar) -> &'static str {
-    match grammar {
-        Grammar::Script => "wanted is open, call, exreg, broke, at, advance or take",
-        Grammar::Wire => "wanted is connect, feed, end, at or advance",
-        Grammar::Trace => {
-            "wanted is the name of an entry: at, opened, called, exreg, broke, moved, began, turned, ended, overflowed, aborted or failed"
+/// How many fields are wanted behind a name, and how many came.
+#[derive(Clone, Copy)]
+struct Counted {
+    wanted: usize,
+    came: usize,
+}
+
+impl fmt::Display for Counted {
+    ghost use Rattle.std.specs.Prelude.{Some};
+    ghost use Rattle.l4sh_explain.specs.Words.{count_words};
+
+    ghost output = { λ counted. Some (count_words counted.wanted counted.came) };
+
+    fn fmt<W: fmt::Write>(&self, f: &mut fmt::Formatter<W>) -> fmt::Result {
+        let (wanted, came) = (self.wanted, self.came);
+        write!(
+            f,
+            "behind its name this line wants {wanted} fields, but {came} came"
+        )
+    }
+}
+
+/// The number of a field in its line, and its name.
+#[derive(Clone, Copy)]
+struct Place {
+    number: usize,
+    field: Field,
+}
+
+impl fmt::Display for Place {
+    ghost use Rattle.std.specs.Prelude.{Some};
+    ghost use Rattle.l4sh_explain.specs.Words.{place_words};
+
+    ghost output = { λ place. Some (place_words place.number place.field) };
+
+    fn fmt<W: fmt::Write>(&self, f: &mut fmt::Formatter<W>) -> fmt::Result {
+        let (number, field) = (self.number, self.field);
+        write!(f, "field {number}, {field}: wanted is ")
+    }
+}
+
+/// The words with which a reason begins: they tell the fault, or the field at fault.
+#[derive(Clone, Copy)]
+pub(crate) struct Front<'a>(pub(crate) Reason<'a>);
+
+impl fmt::Display for Front<'_> {
+    ghost use Rattle.std.specs.Prelude.{Some};
+    ghost use Rattle.l4sh_explain.specs.Words.{front_words};
+
+    ghost output = { λ front. Some (front_words front.0) };
+
+    fn fmt<W: fmt::Write>(&self, f: &mut fmt::Formatter<W>) -> fmt::Result {
+        match self.0 {
+            Reason::Line(fault) => write!(f, "{fault}"),
+            Reason::Name(_, _) => write!(f, "field 1: wanted is "),
+            Reason::Count(wanted, came) => {
+                let counted = Counted { wanted, came };
+                write!(f, "{counted}")
+            }
+            Reason::Field(bad) => {
+                let (number, field) = (bad.number, bad.field);
+                let place = Place { number, field };
+                write!(f, "{place}")
+            }
+        }
+    }
+}
+
+/// The words behind these: of a field what is wanted, and what stood there.
+#[derive(Clone, Copy)]
+pub(crate) struct Behind<'a>(pub(crate) Reason<'a>);
+
+impl fmt::Display for Behind<'_> {
+    fn fmt<W: fmt::Write>(&self, f: &mut fmt::Formatter<W>) -> fmt::Result {
+        match self.0 {
+            Reason::Line(_) | Reason::Count(_, _) => Ok(()),
+            Reason::Name(grammar, text) => write!(f, "{}{}", names_of(grammar), Shown(text)),
+            Reason::Field(bad) => {
+                match bad.wanted {
+                    Wanted::Spelling(kind) => write!(f, "{}", wanted_of(kind, bad.text))?,
+                    Wanted::Rule(rule) => write!(f, "{rule}")?,
+                }
+                write!(f, "{}", Shown(bad.text))
+            }
         }
     }
 }
 
 impl fmt::Display for Reason<'_> {
     fn fmt<W: fmt::Write>(&self, f: &mut fmt::Formatter<W>) -> fmt::Result {
-        match *self {
-            Reason::Line(fault) => write!(f, "{fault}"),
-            Reason::Name(grammar, text) => {
-                write!(f, "field 1: {}{}", names_of(grammar), Shown(text))
-            }
-            Reason::Count(wanted, came) => write!(
-                f,
-                "behind its name this line wants {wanted} fields, but {came} came"
-            ),
-            Reason::Field(bad) => write!(f, "{bad}"),
-        }
+        write!(f, "{}{}", Front(*self), Behind(*self))
     }
 }

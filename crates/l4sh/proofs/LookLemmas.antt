@@ -1,11 +1,14 @@
 -- From a trace that is read to what is said of it.
-use Rattle.std.proofs.Common.{◌≡◌, ◌≢◌, ℕ, Bool, true, false, Option, Some, None, Result, Ok, Err, IfErr, IfOk, IfSome, List, refl, sym, take, ◌∙◌}
-use Rattle.std.specs.Prelude.{⊤}
+use Rattle.std.proofs.Common.{◌≡◌, ◌≢◌, ℕ, Bool, true, false, Option, Some, None, Result, Ok, Err, IfErr, IfOk, IfSome, List, ◌++◌, refl, sym, ap, append_assoc, codes, take, ◌∙◌}
 use Rattle.std.specs.Io.KnownBytes.{Appends}
 use Rattle.ipc_history.specs.declared.entry.Entry.{Entry}
 use Rattle.ipc_trace.specs.declared.version.TraceVersion.{TraceVersion}
 use Rattle.ipc_shell.specs.Checking.{HasLines}
-use Rattle.l4sh.specs.Looking.{ChartsTrace, IsDrawnOf, IsPrinted, IsSaidOf, IsShown, IsSilent, LooksAt, Prints, PrintsOf, shown_of, torn_end}
+use Rattle.l4sh_count.specs.Events.{events_in}
+use Rattle.l4sh_count.specs.Tallies.{IsTally}
+use Rattle.l4sh_count.specs.declared.tally.Tally.{Tally}
+use Rattle.l4sh_times.specs.Times.{TellsMoment}
+use Rattle.l4sh.specs.Looking.{ChartsTrace, EndsWithCounts, IsDrawnOf, IsPrinted, IsSaidOf, IsShown, IsSilent, LooksAt, Prints, PrintsOf, TellsCounts, shown_of, torn_end}
 use Rattle.l4sh.specs.declared.looking.Look.{Look}
 use Rattle.l4sh.specs.declared.exit.Exit.{Exit}
 use Rattle.l4sh.specs.declared.exit.Exit.TheVariants.{Done, BadLine, NoMemory, DeviceFailed, Illegal, BadThreads, NoChart, BadWord, UnknownVersion, IllegalLine, Torn}
@@ -60,9 +63,16 @@ pub prints_made : {X E : Type 0} (bytes : X → List ℕ) (look : Look) (entries
 prints_made bytes look entries (Ok text) exit old new whole lost shown done = record { text = bytes text; appends = whole done; is_shown = shown }
 prints_made bytes look entries (Err e) exit old new whole lost shown done = absurd (differs (sym done ∙ lost))
 
-pub any_made : {X E : Type 0} (text : Result X E) → IfOk text (λ text. ⊤)
-any_made (Ok text) = tt
-any_made (Err e) = tt
+-- counts that were made end with those of the entries
+pub counts_made : {X E : Type 0} (bytes : X → List ℕ) (is_json : Bool) (entries : List Entry) (all : Tally) (text : Result X E)
+    → IsTally (events_in entries) all → IfOk text (λ text. EndsWithCounts is_json all (bytes text)) → IfOk text (λ text. TellsCounts is_json entries (bytes text))
+counts_made bytes is_json entries all (Ok text) tally ends = record { all = all; is_tally = tally; ends = ends }
+counts_made bytes is_json entries all (Err e) tally ends = tt
+
+-- a text that tells its moment first still does with more behind it
+pub tells_on : (old new more : List ℕ) → new ≡ old ++ more → TellsMoment old → TellsMoment new
+tells_on old new more is told =
+    (told.0 ++ more, is ∙ (ap (λ (l : List ℕ). l ++ more) told.1 ∙ append_assoc (codes "moment ") told.0 more))
 
 -- what ends as printed is done
 pub printed_whole : (version : TraceVersion) (entries : List Entry) (exit : Exit) (P : Type 0) → IsSaidOf version entries exit

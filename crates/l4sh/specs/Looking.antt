@@ -9,6 +9,11 @@ use Rattle.ipc_trace.specs.declared.version.TraceVersion.{TraceVersion}
 use Rattle.ipc_shell.specs.Checking.{HasLines, HasBadLine}
 use Rattle.ipc_shell.specs.Commands.{script_text}
 use Rattle.ipc_shell.specs.Script.{commands_of}
+use Rattle.l4sh_count.specs.Events.{events_in}
+use Rattle.l4sh_count.specs.Tallies.{IsTally}
+use Rattle.l4sh_count.specs.Texts.{EndsWithAll}
+use Rattle.l4sh_count.specs.declared.tally.Tally.{Tally}
+use Rattle.l4sh_times.specs.Times.{TellsMoment}
 use Rattle.l4sh.specs.declared.exit.Exit.{Exit}
 use Rattle.l4sh.specs.declared.exit.Exit.TheVariants.{Done, BadLine, NoMemory, DeviceFailed, Illegal, BadThreads, NoChart, BadWord, UnknownVersion, IllegalLine, Torn}
 use Rattle.l4sh.specs.declared.looking.Look.{Look}
@@ -82,12 +87,21 @@ LooksAtBytes look bytes BadWord = ⊥
 abbrev pub LooksAt : Look → Option (List ℕ) → Exit → Type 0
 LooksAt look bytes exit = IfSome bytes (λ bytes. LooksAtBytes look bytes exit)
 
--- what is told of entries: the commands whose history they are; of the words of a state, and of the
--- lines of counts together, nothing is said
+-- counts in words end with the line of all that the entries add; of JSON nothing is said
+abbrev pub EndsWithCounts : Bool → Tally → List ℕ → Type 0
+EndsWithCounts true all text = ⊤
+EndsWithCounts false all text = EndsWithAll all text
+
+pub record TellsCounts (is_json : Bool) (entries : List Entry) (text : List ℕ) : Type 0 where
+  pub all : Tally
+  pub is_tally : IsTally (events_in entries) all
+  pub ends : EndsWithCounts is_json all text
+
+-- what is told of entries: the commands whose history they are, a state behind its moment, counts
 abbrev pub IsShown : Look → List Entry → List ℕ → Type 0
 IsShown Script entries text = text ≡ script_text (commands_of entries)
-IsShown (StateAt count) entries text = ⊤
-IsShown (Counts is_json) entries text = ⊤
+IsShown (StateAt count) entries text = TellsMoment text
+IsShown (Counts is_json) entries text = TellsCounts is_json entries text
 
 -- this is printed, and nothing else
 pub record Prints (look : Look) (entries : List Entry) (old new : Option (List ℕ)) : Type 0 where

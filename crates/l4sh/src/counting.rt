@@ -1,6 +1,6 @@
 //! The counts of a trace, of which memory holds the open calls.
 ghost use Rattle.std.specs.Prelude.{◌≡◌, ◌≢◌, ◌+◌, ◌<◌};
-ghost use Rattle.l4sh.specs.Looking.{IsSaidOf, IsSilent, LooksAt};
+ghost use Rattle.l4sh.specs.Looking.{IsPrinted, IsSaidOf, IsSilent, LooksAt, Prints, PrintsOf};
 ghost use Rattle.l4sh.specs.declared.looking.Look.TheVariants.{Counts};
 
 use crate::exit::Exit;
@@ -60,6 +60,8 @@ pub(crate) fn counts_of_trace<R: PortRead, W: PortWrite>(
         → R.failures reader.old + W.failures writer.old
         < R.failures reader.new + W.failures writer.new }
     ensures silent { IsSilent result → W.written writer.new ≡ W.written writer.old }
+    ensures prints { IsPrinted result → PrintsOf (Counts is_json) (R.remaining reader.old)
+        (W.written writer.old) (W.written writer.new) }
 {
     let mut counting = Counting::new(alloc);
     let read = read_entries(alloc, reader, &mut counting);
@@ -89,6 +91,8 @@ fn tell<W: PortWrite>(
     ensures failed { result ≡ Exit.DeviceFailed → W.failures writer.old < W.failures writer.new }
     ensures silent { result ≢ Exit.Done → result ≢ Exit.DeviceFailed
         → W.written writer.new ≡ W.written writer.old }
+    ensures prints { result ≡ Exit.Done → Prints (Counts is_json) counting.now.counter
+        (W.written writer.old) (W.written writer.new) }
 {
     let _ = counting.counter.count();
     match counting.counter.counts() {

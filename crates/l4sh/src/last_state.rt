@@ -1,8 +1,9 @@
 //! The state after the first entries of a trace, of which memory holds the open calls.
-ghost use Rattle.std.specs.Prelude.{◌≡◌, ◌≢◌, ◌+◌, ◌++◌, ◌<◌, take, IfOk};
+ghost use Rattle.std.specs.Prelude.{◌≡◌, ◌≢◌, ◌+◌, ◌++◌, ◌<◌, ℕ, List, take, IfOk};
+ghost use Rattle.ipc_history.specs.declared.entry.Entry.{Entry};
 ghost use Rattle.std.specs.String.{string_bytes};
 ghost use Rattle.l4sh_times.specs.Times.{TellsMoment};
-ghost use Rattle.l4sh.specs.Looking.{IsSaidOf, IsSilent, LooksAt};
+ghost use Rattle.l4sh.specs.Looking.{IsPrinted, IsSaidOf, IsSilent, LooksAt, Prints, PrintsOf};
 ghost use Rattle.l4sh.specs.declared.looking.Look.TheVariants.{StateAt};
 
 use crate::exit::Exit;
@@ -38,6 +39,8 @@ pub(crate) fn state_of_trace<R: PortRead, W: PortWrite>(
         → R.failures reader.old + W.failures writer.old
         < R.failures reader.new + W.failures writer.new }
     ensures silent { IsSilent result → W.written writer.new ≡ W.written writer.old }
+    ensures prints { IsPrinted result → PrintsOf (StateAt last) (R.remaining reader.old)
+        (W.written writer.old) (W.written writer.new) }
 {
     let mut front = Front::new(alloc, last, Drops::new(alloc));
     let read = read_entries(alloc, reader, &mut front);
@@ -67,6 +70,8 @@ fn tell<W: PortWrite>(
     ensures failed { result ≡ Exit.DeviceFailed → W.failures writer.old < W.failures writer.new }
     ensures silent { result ≢ Exit.Done → result ≢ Exit.DeviceFailed
         → W.written writer.new ≡ W.written writer.old }
+    ensures prints { (entries : List Entry) → result ≡ Exit.Done → Prints (StateAt last) entries
+        (W.written writer.old) (W.written writer.new) }
 {
     if front.shows(last) {
         tell_shown(alloc, version, front, times, writer)
@@ -88,6 +93,8 @@ fn tell_shown<W: PortWrite>(
     ensures failed { result ≡ Exit.DeviceFailed → W.failures writer.old < W.failures writer.new }
     ensures silent { result ≢ Exit.Done → result ≢ Exit.DeviceFailed
         → W.written writer.new ≡ W.written writer.old }
+    ensures prints { (last : ℕ) (entries : List Entry) → result ≡ Exit.Done
+        → Prints (StateAt last) entries (W.written writer.old) (W.written writer.new) }
 {
     let _ = front.shown.count();
     match front.shown.slots() {
@@ -105,13 +112,19 @@ fn shown_text(
     state: &State,
     front: &Front<Drops>,
     times: Times,
-) -> Result<String, AllocError> {
+) -> Result<String, AllocError>
+    ensures { IfOk result (λ text. TellsMoment (string_bytes text)) }
+{
     let text = state_text(alloc, state, &front.notes, times)?;
     past_the_end(text, front.given() as u64, front.last as u64)
 }
 
 /// What is told so far, and that fewer entries are there than were asked for, where that is so.
-pub(crate) fn past_the_end(text: String, entries: u64, last: u64) -> Result<String, AllocError> {
+#[tactic(auto, using(crate::proofs::LookLemmas::tells_on))]
+pub(crate) fn past_the_end(text: String, entries: u64, last: u64) -> Result<String, AllocError>
+    ensures { TellsMoment (string_bytes text)
+        → IfOk result (λ told. TellsMoment (string_bytes told)) }
+{
     let mut text = text;
     if entries < last && last < MAX_CHART_ENTRY {
         write!(text, "past the end: the last entry is {entries}\n")?;

@@ -1,14 +1,13 @@
-ghost use Rattle.std.specs.Prelude.{◌≡◌, ◌≢◌, ◌+◌, ◌^◌, ◌<◌, ℕ, false, IfErr, IfOk, List, Some, length, option_map, take};
+ghost use Rattle.std.specs.Prelude.{◌≡◌, ◌≢◌, ◌+◌, ◌^◌, ◌<◌, ℕ, IfErr, IfOk, List, Some, length, option_map, take};
 ghost use Rattle.ipc_history.specs.declared.entry.Entry.{Entry};
 ghost use Rattle.l4sh_explain.specs.Answers.{IfAnswer, IfMistake};
 ghost use Rattle.std.specs.Io.KnownBytes.{Appends};
 ghost use Rattle.std.specs.String.{string_bytes};
 ghost use Rattle.ipc_trace.specs.Versions.{header_lines};
-ghost use Rattle.l4sh_count.specs.Texts.{EndsWithAll};
-ghost use Rattle.l4sh.specs.Looking.{IsPrinted, IsSaidOf, IsSilent, LooksAt, MayEnd, Prints, PrintsOf};
+ghost use Rattle.l4sh_times.specs.Times.{TellsMoment};
+ghost use Rattle.l4sh.specs.Looking.{EndsWithCounts, IsPrinted, IsSaidOf, IsSilent, LooksAt, MayEnd, Prints, PrintsOf};
 ghost use Rattle.l4sh.specs.Looking.{shown_of, torn_end};
 ghost use Rattle.l4sh.specs.declared.looking.Look.TheVariants as look;
-ghost use Rattle.l4sh.specs.declared.looking.Look.TheVariants.{Script};
 
 use crate::counting::counts_of_trace;
 use crate::exit::Exit;
@@ -52,8 +51,8 @@ pub fn look_at_trace<R: PortRead, W: PortWrite>(
         → R.failures reader.old + W.failures writer.old
         < R.failures reader.new + W.failures writer.new }
     ensures silent { IsSilent result → W.written writer.new ≡ W.written writer.old }
-    ensures prints { look ≡ Script → IsPrinted result → PrintsOf Script
-        (R.remaining reader.old) (W.written writer.old) (W.written writer.new) }
+    ensures prints { IsPrinted result → PrintsOf look (R.remaining reader.old)
+        (W.written writer.old) (W.written writer.new) }
 {
     match look {
         Look::StateAt(last) => state_of_trace(alloc, last, times, reader, writer),
@@ -162,8 +161,7 @@ pub(crate) fn counts_text(
     is_json: bool,
     span: Option<Span>,
 ) -> Result<String, AllocError>
-    ensures { is_json ≡ false → IfOk result (λ text.
-        EndsWithAll counts.now.all (string_bytes text)) }
+    ensures { IfOk result (λ text. EndsWithCounts is_json counts.now.all (string_bytes text)) }
 {
     if is_json {
         json_of(alloc, counts, span)
@@ -224,7 +222,9 @@ fn state_after(
     state: &State,
     entries: &[Entry],
     times: Times,
-) -> Result<String, AllocError> {
+) -> Result<String, AllocError>
+    ensures { IfOk result (λ text. TellsMoment (string_bytes text)) }
+{
     let drops = drops_of(alloc, entries)?;
     state_text(alloc, state, &drops, times)
 }
@@ -234,7 +234,10 @@ fn with_its_end(
     text: Result<String, AllocError>,
     given: u64,
     last: u64,
-) -> Result<String, AllocError> {
+) -> Result<String, AllocError>
+    ensures { IfOk text (λ text. TellsMoment (string_bytes text))
+        → IfOk result (λ told. TellsMoment (string_bytes told)) }
+{
     past_the_end(text?, given, last)
 }
 

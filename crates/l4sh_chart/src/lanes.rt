@@ -1,22 +1,27 @@
-use l4sh_chart::{Turn, Wait};
+use crate::calls::Wait;
+use crate::scene::{Column, Turn};
 use std::alloc::{AllocError, Global};
 
 /// A place among the rows: above a row, or at it.
 #[derive(Clone, Copy)]
-pub(crate) struct Place {
-    pub(crate) row: usize,
-    pub(crate) is_above: bool,
+pub struct Place {
+    /// The row.
+    pub row: usize,
+    /// Whether it is above that row.
+    pub is_above: bool,
 }
 
 impl Place {
-    pub(crate) fn above(row: usize) -> Place {
+    /// The place above a row.
+    pub fn above(row: usize) -> Place {
         Place {
             row,
             is_above: true,
         }
     }
 
-    pub(crate) fn at(row: usize) -> Place {
+    /// The place at a row.
+    pub fn at(row: usize) -> Place {
         Place {
             row,
             is_above: false,
@@ -30,7 +35,7 @@ impl Place {
 }
 
 /// Those of the turns from one on, all in their order, that happen up to a place.
-pub(crate) fn turns_upto(turns: &[Turn], next: usize, place: Place) -> &[Turn] {
+pub fn turns_upto(turns: &[Turn], next: usize, place: Place) -> &[Turn] {
     let turns = &turns[next.min(turns.len())..];
     let mut count = 0usize;
     for turn in turns {
@@ -44,18 +49,19 @@ pub(crate) fn turns_upto(turns: &[Turn], next: usize, place: Place) -> &[Turn] {
 
 /// What a lane of a chart shows between two rows.
 #[derive(Clone, Copy)]
-pub(crate) struct Lane {
+pub struct Lane {
     /// Whether its thread lives.
-    pub(crate) lives: bool,
+    pub lives: bool,
     /// What it waits for.
-    pub(crate) wait: Wait,
+    pub wait: Wait,
 }
 
 /// Lanes of threads that are not opened yet, or live from the begin.
-pub(crate) fn lanes_of(
-    alloc: Global,
-    columns: &[l4sh_chart::Column],
-) -> Result<Vec<Lane>, AllocError> {
+///
+/// # Errors
+///
+/// No memory.
+pub fn lanes_of(alloc: Global, columns: &[Column]) -> Result<Vec<Lane>, AllocError> {
     let mut lanes = Vec::new(alloc);
     for column in columns {
         lanes.push(Lane {
@@ -67,7 +73,7 @@ pub(crate) fn lanes_of(
 }
 
 /// What threads wait for from these turns on.
-pub(crate) fn turn_lanes(lanes: &mut [Lane], turns: &[Turn]) {
+pub fn turn_lanes(lanes: &mut [Lane], turns: &[Turn]) {
     for turn in turns {
         if let Some(lane) = lanes.get_mut(turn.column) {
             lane.wait = turn.wait;
@@ -76,7 +82,7 @@ pub(crate) fn turn_lanes(lanes: &mut [Lane], turns: &[Turn]) {
 }
 
 /// The thread of a column lives from there on, or does not.
-pub(crate) fn set_alive(lanes: &mut [Lane], column: usize, lives: bool) {
+pub fn set_alive(lanes: &mut [Lane], column: usize, lives: bool) {
     if let Some(lane) = lanes.get_mut(column) {
         lane.lives = lives;
     }

@@ -5,6 +5,7 @@
 mod calls;
 mod events;
 mod folding;
+mod lanes;
 mod maker;
 mod notes;
 mod order;
@@ -16,6 +17,7 @@ mod told;
 pub use calls::Wait;
 pub use events::Mark;
 pub use folding::Fold;
+pub use lanes::{Lane, Place, lanes_of, set_alive, turn_lanes, turns_upto};
 pub use maker::SceneMaker;
 pub use scene::{Column, Row, Said, Scene, Turn};
 pub use selection::{Emptiness, Selection};

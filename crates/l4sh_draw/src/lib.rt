@@ -7,7 +7,6 @@ mod arrows;
 mod details;
 mod html;
 mod ink;
-mod lanes;
 mod layout;
 mod legend;
 mod lines;

@@ -2,14 +2,13 @@ use crate::amounts::{put_count, put_time};
 use crate::arrows::{draw_arrow, draw_over};
 use crate::details::put_details;
 use crate::ink::Ink;
-use crate::lanes::{Place, turns_upto};
 use crate::layout::Layout;
 use crate::lines::Line;
 use crate::marks::draw_mark;
 use crate::strands::{Strand, end_strands, mark_strand, strands_of, turn_strands};
 use crate::text::{end_of, first_moment, last_row, moment_behind, put_copies};
 use crate::words::label_of;
-use l4sh_chart::{Column, Fold, Row, Scene};
+use l4sh_chart::{Column, Fold, Place, Row, Scene, turns_upto};
 use l4sh_times::Times;
 use std::alloc::{AllocError, Global};
 

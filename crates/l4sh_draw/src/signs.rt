@@ -1,6 +1,5 @@
 //! The signs of lanes, marks and arrows in a chart of text.
-use crate::lanes::Lane;
-use l4sh_chart::{Mark, Wait};
+use l4sh_chart::{Lane, Mark, Wait};
 use std::alloc::AllocError;
 
 // The lanes between two marks.

@@ -1,12 +1,13 @@
 use crate::amounts::{put_count, put_time};
 use crate::ink::Ink;
-use crate::lanes::{Lane, Place, lanes_of, set_alive, turn_lanes, turns_upto};
 use crate::legend::put_legend_text;
 use crate::lines::{Line, pages_of};
 use crate::signs::{put, put_arrow, put_lanes, sign_of};
 use crate::words::{put_label, put_waits_after};
 use ipc_words::ThreadId;
-use l4sh_chart::{Column, Fold, Mark, Row, Scene};
+use l4sh_chart::{
+    Column, Fold, Lane, Mark, Place, Row, Scene, lanes_of, set_alive, turn_lanes, turns_upto,
+};
 use l4sh_times::Times;
 use std::alloc::{AllocError, Global};
 

@@ -1,6 +1,7 @@
 -- From the entries that were read to the trace that is written anew.
-use Rattle.std.proofs.Common.{◌≡◌, ◌≢◌, ℕ, Bool, true, false, Option, Some, None, IfSome, List, [], refl, sym, ◌+◌, ◌<◌, ◌⊎◌, arith, inl, inr, append-nil}
+use Rattle.std.proofs.Common.{◌≡◌, ◌≢◌, ℕ, Bool, true, false, Option, Some, None, IfSome, List, refl, ◌+◌, ◌<◌, ◌⊎◌, arith, inl, inr}
 use Rattle.std.proofs.KnownBytes.{Appends-nil}
+use Rattle.ipc_base.proofs.Fronts.{all_is_front, none_is_front}
 use Rattle.ipc_history.specs.declared.entry.Entry.{Entry}
 use Rattle.ipc_trace.specs.Traces.{HasUnknownVersion, versioned_text}
 use Rattle.ipc_trace.specs.Versions.{newest}
@@ -9,13 +10,8 @@ use Rattle.ipc_trace.specs.declared.fault.TraceEnd.TheVariants as end
 use Rattle.ipc_trace.specs.declared.version.TraceVersion.{TraceVersion}
 use Rattle.ipc_shell.specs.Checking.{HasBadLine, HasLines, torn_text}
 use Rattle.ipc_shell.specs.Migrating.{MigratesTrace, TellsTorn, WritesMigrated}
-use Rattle.ipc_shell.specs.Putting.{AppendsFront}
 use Rattle.ipc_shell.specs.declared.exit.Exit.{Exit}
 use Rattle.ipc_shell.specs.declared.exit.Exit.TheVariants.{Done, BadLine, NoMemory, DeviceFailed, Illegal, UnknownVersion}
-
--- nothing was told
-untold : (said : Option (List ℕ)) (text : List ℕ) → AppendsFront said said text
-untold said text = ([], (text, refl, Appends-nil said))
 
 -- the trace was not written whole
 pub not_migrated : (bytes before after said : Option (List ℕ)) (version : TraceVersion) (entries : List Entry) (is_torn : Bool) (exit : Exit)
@@ -23,9 +19,9 @@ pub not_migrated : (bytes before after said : Option (List ℕ)) (version : Trac
 not_migrated None before after said version entries is_torn exit lines writes other = tt
 not_migrated (Some bytes) before after said version entries is_torn Done lines writes other = absurd (other refl)
 not_migrated (Some bytes) before after said version entries is_torn NoMemory lines writes other =
-    inr (record { version = version; entries = entries; is_torn = is_torn; lines = lines; written = writes; said = untold said (torn_text is_torn) })
+    inr (record { version = version; entries = entries; is_torn = is_torn; lines = lines; written = writes; said = none_is_front said (torn_text is_torn) })
 not_migrated (Some bytes) before after said version entries is_torn DeviceFailed lines writes other =
-    inr (record { version = version; entries = entries; is_torn = is_torn; lines = lines; written = writes; said = untold said (torn_text is_torn) })
+    inr (record { version = version; entries = entries; is_torn = is_torn; lines = lines; written = writes; said = none_is_front said (torn_text is_torn) })
 not_migrated (Some bytes) before after said version entries is_torn (BadLine number) lines writes other = absurd writes
 not_migrated (Some bytes) before after said version entries is_torn Illegal lines writes other = absurd writes
 not_migrated (Some bytes) before after said version entries is_torn UnknownVersion lines writes other = absurd writes
@@ -57,8 +53,8 @@ migrated_torn None before after said_before said_after version entries exit line
 migrated_torn (Some bytes) before after said_before said_after version entries Done lines writes tells =
     record { version = version; entries = entries; is_torn = true; lines = lines; written = writes; said = tells }
 migrated_torn (Some bytes) before after said_before said_after version entries DeviceFailed lines writes tells =
-    let text = versioned_text newest entries in
-    inr (record { version = version; entries = entries; is_torn = true; lines = lines; written = (text, ([], sym (append-nil text), writes)); said = tells })
+    let written = all_is_front before after (versioned_text newest entries) writes in
+    inr (record { version = version; entries = entries; is_torn = true; lines = lines; written = written; said = tells })
 migrated_torn (Some bytes) before after said_before said_after version entries NoMemory lines writes tells = absurd tells
 migrated_torn (Some bytes) before after said_before said_after version entries (BadLine number) lines writes tells = absurd tells
 migrated_torn (Some bytes) before after said_before said_after version entries Illegal lines writes tells = absurd tells

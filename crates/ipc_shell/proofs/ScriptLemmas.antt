@@ -1,5 +1,5 @@
 -- The lines of a script that were obeyed so far, one more at a time, and how a run ends after them.
-use Rattle.std.proofs.Common.{◌≡◌, ℕ, ◌+◌, ◌<◌, ◌≤◌, Option, Some, None, IfSome, List, [], ◌∷◌, ◌++◌, length, refl, sym, ap, subst, ◌∙◌, arith, append_assoc, append-nil, length-append, inl, inr}
+use Rattle.std.proofs.Common.{◌≡◌, ℕ, ◌+◌, ◌<◌, ◌≤◌, Option, Some, None, IfSome, List, [], ◌∷◌, ◌++◌, length, take, drop, take-append-drop, refl, sym, ap, subst, ◌∙◌, arith, append_assoc, append-nil, length-append, inl, inr}
 use Rattle.std.specs.Option.{IsSomeAnd}
 use Rattle.std.specs.Io.KnownBytes.{Appends}
 use Rattle.std.proofs.KnownBytes.{Appends-nil, Appends-trans}
@@ -170,8 +170,10 @@ module _ (S : Type 0) (Obeys : S → List ℕ → List ℕ → S → Type 0) (Is
       )
   stops_at_line start state new line number before now after (Some bytes) (Some rest) (Some left) NoMemory some so_far read ends =
       stops_here start state bytes rest number before now after so_far ends
-  stops_at_line start state new line number before now after (Some bytes) (Some rest) (Some left) DeviceFailed some so_far read (front, (back, runs, appended)) =
-      let text = so_far.text in (
+  stops_at_line start state new line number before now after (Some bytes) (Some rest) (Some left) DeviceFailed some so_far read (said, runs, (count, within, appended)) =
+      let text = so_far.text in
+      let front = take count said in
+      let back = drop count said in (
         text ++ front,
         Appends-trans before now after text front so_far.appended appended,
         (
@@ -182,7 +184,7 @@ module _ (S : Type 0) (Obeys : S → List ℕ → List ℕ → S → Type 0) (Is
             last = new;
             lines_are = so_far.lines_are ∙ ap (λ ls. so_far.before ++ ls) read.0 ∙ sym (append_assoc so_far.before (line ∷ []) (lines_of left));
             printed = subst (λ t. ObeysLines Obeys start (so_far.before ++ line ∷ []) t new) (sym (append_assoc text front back))
-                (obeys_more start state new so_far.before line text (front ++ back) so_far.taken (obeys_filled state new line (front ++ back) some read.1 runs));
+                (obeys_more start state new so_far.before line text (front ++ back) so_far.taken (obeys_filled state new line (front ++ back) some read.1 (subst (λ t. Obeys state line t new) (sym (take-append-drop count said)) runs)));
           },
         ),
       )

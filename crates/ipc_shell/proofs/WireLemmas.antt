@@ -7,6 +7,7 @@ use Rattle.std.proofs.KnownBytes.{Appends-nil}
 use Rattle.std.proofs.lemmas.List.{length-map, get_or-set_same, set-get_or, length-drop, take_all}
 use Rattle.std.proofs.Math.Seq.{take-add, take-length, drop-nil}
 use Rattle.std.proofs.Math.ListN.{drop_of_length-le}
+use Rattle.ipc_base.specs.Ports.{AppendsFront}
 use Rattle.ipc_words.specs.Limits.{max_space, max_connections}
 use Rattle.ipc_exchange.specs.Service.{ConnectionParts, connection_at, nobody, without_bytes}
 use Rattle.ipc_exchange.specs.Rooms.{RoomyConnection, service_of, stage_at}
@@ -458,10 +459,10 @@ module _ (old between new : RoomyExchange) (event : Event) (said : Obeyed) (line
       let (last, wires, shown) = wired old between new event said line text parts shows spells obeyed answered in
       (last, (text, wires, appended), λ _. shown)
 
-  pub line_cut_off : (front back : List ℕ) → text ≡ front ++ back → Appends before after front → EndsWireLine old new before after line number (Some exit.DeviceFailed)
-  line_cut_off front back is appended = λ parts shows.
+  pub line_cut_off : AppendsFront before after text → EndsWireLine old new before after line number (Some exit.DeviceFailed)
+  line_cut_off appended = λ parts shows.
       let (last, wires, shown) = wired old between new event said line text parts shows spells obeyed answered in
-      (last, (front, (back, subst (λ t. WiresLine parts line t last) is wires, appended)), not_none exit.DeviceFailed)
+      (last, (text, wires, appended), not_none exit.DeviceFailed)
 
 -- the lines that were obeyed so far, by an exchange
 pub record WiredSoFar (start : ExchangeParts) (bytes rest before now : Option (List ℕ)) (exchange : RoomyExchange) (number : ℕ) : Type 0 where

@@ -9,6 +9,7 @@ use Rattle.ipc_history.specs.declared.entry.Entry.TheVariants.{Written}
 use Rattle.ipc_history.specs.declared.entry.Output.{Output}
 use Rattle.ipc_lines.specs.Lines.{entry_text}
 use Rattle.ipc_base.specs.Lines.{IsOneLine}
+use Rattle.ipc_base.specs.Ports.{AppendsFront}
 use Rattle.ipc_check.specs.Faults.{IsFirstFault}
 use Rattle.ipc_check.specs.declared.checker.Verdict.{Verdict}
 use Rattle.ipc_check.specs.declared.checker.Verdict.TheVariants.{Yes, No}
@@ -60,8 +61,7 @@ PrintsVerdict version entries is_torn before after UnknownVersion = ⊥
 PrintsVerdict version entries is_torn before after NoMemory = Appends before after []
 PrintsVerdict version entries is_torn before after DeviceFailed =
     (verdict : Verdict) × IsVerdict entries verdict
-    × ((front : List ℕ) × ((back : List ℕ) × (verdict_text version verdict is_torn ≡ front ++ back)
-    × Appends before after front))
+    × AppendsFront before after (verdict_text version verdict is_torn)
 
 -- a trace of this version has these whole lines, and a torn line behind them or none
 pub record HasLines (bytes : List ℕ) (version : TraceVersion) (entries : List Entry) (is_torn : Bool) : Type 0 where

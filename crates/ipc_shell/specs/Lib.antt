@@ -9,7 +9,6 @@ pub mod Scripts
 pub mod Running
 pub mod WireCommands
 pub mod Wiring
-pub mod Putting
 pub mod Failing
 pub mod Exits
 pub mod Checking

@@ -1,12 +1,12 @@
 -- Our choice (docs/FORMATS.md): what is written of a trace that is migrated.
 use Rattle.std.specs.Prelude.{ℕ, ◌⊎◌, List, [], Bool, true, Option, IfSome}
 use Rattle.std.specs.Io.KnownBytes.{Appends}
+use Rattle.ipc_base.specs.Ports.{AppendsFront}
 use Rattle.ipc_history.specs.declared.entry.Entry.{Entry}
 use Rattle.ipc_trace.specs.Traces.{HasUnknownVersion, versioned_text}
 use Rattle.ipc_trace.specs.Versions.{newest}
 use Rattle.ipc_trace.specs.declared.version.TraceVersion.{TraceVersion}
 use Rattle.ipc_shell.specs.Checking.{HasBadLine, HasLines, torn_text}
-use Rattle.ipc_shell.specs.Putting.{AppendsFront}
 use Rattle.ipc_shell.specs.declared.exit.Exit.{Exit}
 use Rattle.ipc_shell.specs.declared.exit.Exit.TheVariants.{Done, BadLine, NoMemory, DeviceFailed, Illegal, UnknownVersion}
 

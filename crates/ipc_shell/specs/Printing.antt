@@ -1,19 +1,13 @@
 -- What is printed for a command of a script.
 use Rattle.std.specs.Prelude.{◌≡◌, ℕ, List, ◌++◌, drop, length}
-use Rattle.std.specs.List.{flat_map}
 use Rattle.ipc_history.specs.declared.entry.Entry.{Entry}
 use Rattle.ipc_core.specs.KernelParts.{KernelParts}
 use Rattle.ipc_core.specs.Obeying.{MayObey}
 use Rattle.ipc_core.specs.declared.command.Answer.{Answer}
 use Rattle.ipc_core.specs.declared.command.Command.{Command}
-use Rattle.ipc_lines.specs.Lines.{entry_text}
 use Rattle.ipc_shell.specs.Answers.{answer_text}
-pub use Rattle.ipc_trace.specs.Traces.{ended}
+pub use Rattle.ipc_trace.specs.Traces.{ended, trace_text}
 use Rattle.ipc_shell.specs.Commands.{IsCommand}
-
--- the lines of entries
-abbrev pub entries_text : List Entry → List ℕ
-entries_text entries = flat_map (λ entry. ended (entry_text entry)) entries
 
 -- the entries that a kernel wrote
 abbrev pub written : KernelParts → KernelParts → List Entry
@@ -21,7 +15,7 @@ written old new = drop (length old.history) new.history
 
 -- the lines of the entries that a command wrote, in order, and then its answer line
 abbrev pub printed : KernelParts → Answer → KernelParts → List ℕ
-printed old answer new = entries_text (written old new) ++ ended (answer_text answer)
+printed old answer new = trace_text (written old new) ++ ended (answer_text answer)
 
 -- the kernel obeyed a command of a script, one of words and of a call in normal form within the
 -- limits, and this is printed for it

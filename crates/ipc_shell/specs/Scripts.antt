@@ -3,6 +3,7 @@
 use Rattle.std.specs.Prelude.{◌≡◌, ℕ, ◌+◌, ◌<◌, ◌≤◌, List, [], ◌∷◌, ◌++◌, Option, Some, None}
 use Rattle.std.specs.Prelude.{IfSome, length, ◌⊎◌}
 use Rattle.std.specs.Io.KnownBytes.{Appends}
+use Rattle.ipc_base.specs.Ports.{AppendsFront}
 use Rattle.ipc_shell.specs.ScriptLines.{lines_of, longest_line}
 use Rattle.ipc_shell.specs.declared.exit.Exit.{Exit}
 use Rattle.ipc_shell.specs.declared.exit.Exit.TheVariants.{Done, BadLine, NoMemory, DeviceFailed}
@@ -85,5 +86,5 @@ EndsAtLine Obeys IsNone old new before after line number (Some (BadLine n)) =
 EndsAtLine Obeys IsNone old new before after line number (Some Illegal) = ⊥
 EndsAtLine Obeys IsNone old new before after line number (Some UnknownVersion) = ⊥
 EndsAtLine Obeys IsNone old new before after line number (Some NoMemory) = Appends before after []
-EndsAtLine Obeys IsNone old new before after line number (Some DeviceFailed) = (front : List ℕ)
-    × ((back : List ℕ) × Obeys old line (front ++ back) new × Appends before after front)
+EndsAtLine Obeys IsNone old new before after line number (Some DeviceFailed) =
+    (text : List ℕ) × Obeys old line text new × AppendsFront before after text

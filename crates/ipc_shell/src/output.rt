@@ -1,6 +1,6 @@
 ghost use Rattle.std.specs.Prelude.{◌≡◌, ◌<◌, OnOk, OnErr, true};
 ghost use Rattle.std.specs.Io.KnownBytes.{Appends};
-ghost use Rattle.ipc_shell.specs.Putting.{AppendsFront};
+ghost use Rattle.ipc_base.specs.Ports.{AppendsFront};
 
 use ipc_base::{PortFault, PortWrite, write_all};
 

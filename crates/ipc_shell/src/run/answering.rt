@@ -2,7 +2,7 @@ ghost use Rattle.std.specs.Prelude.{◌≡◌, ◌++◌, drop, Some, OnOk, IfOk}
 ghost use Rattle.std.specs.String.{string_bytes};
 ghost use Rattle.ipc_lines.specs.Lines.{entry_text};
 ghost use Rattle.ipc_shell.specs.Answers.{answer_text};
-ghost use Rattle.ipc_shell.specs.Printing.{entries_text, ended, Answers};
+ghost use Rattle.ipc_shell.specs.Printing.{ended, trace_text, Answers};
 
 use crate::reading::command_is_readable;
 use ipc_core::{Advance, Answer, Command, ExregAnswer, Kernel};
@@ -32,7 +32,7 @@ pub fn answer(alloc: Global, kernel: &mut Kernel, command: Command) -> Result<St
 // Appends the lines of entries.
 fn write_entries(alloc: Global, out: &mut String, entries: &[Entry]) -> Result<(), AllocError>
     ensures { OnOk result (string_bytes out.new
-        ≡ string_bytes out.old ++ entries_text entries.now) }
+        ≡ string_bytes out.old ++ trace_text entries.now) }
 {
     for entry in entries {
         write_entry(alloc, out, entry)?;

@@ -1,8 +1,10 @@
-use Rattle.std.proofs.Common.{sym, subst, ◌∙◌}
-use Rattle.ipc_shell.specs.Running.{RunsLine}
+use Rattle.std.proofs.Common.{subst}
+use Rattle.std.specs.String.{string_bytes}
+use Rattle.ipc_base.specs.Ports.{AppendsFront}
 use Rattle.ipc_shell.proofs.run.run_line.Goals as goal
 
 pub returns-clause-ends : goal.returns-clause-ends
 returns-clause-ends g c =
-    let (front, (back, is, appended)) = c.in-Err.ensures.part in
-    (front, (back, subst (λ t. RunsLine c.args.kernel.now c.args.line.now t c.obey_line.new.kernel) (sym c.as_bytes.ensures.value ∙ is) (rw c.in-Some.is at c.in-Ok.ensures.found), appended))
+    let before = g.W.PortWrite.written c.args.writer.now in
+    let after = g.W.PortWrite.written c.put.new.port in
+    (string_bytes c.in-Some.text, rw c.in-Some.is at c.in-Ok.ensures.found, subst (AppendsFront before after) c.as_bytes.ensures.value c.in-Err.ensures.part)

@@ -56,12 +56,11 @@ PrintsVerdict version entries is_torn before after Done =
 PrintsVerdict version entries is_torn before after Illegal =
     (index : ℕ) × ((expected : Option Output) × IsVerdict entries (No index expected)
     × Appends before after (verdict_text version (No index expected) is_torn))
-PrintsVerdict version entries is_torn before after (BadLine number) = ⊥
-PrintsVerdict version entries is_torn before after UnknownVersion = ⊥
 PrintsVerdict version entries is_torn before after NoMemory = Appends before after []
 PrintsVerdict version entries is_torn before after DeviceFailed =
     (verdict : Verdict) × IsVerdict entries verdict
     × AppendsFront before after (verdict_text version verdict is_torn)
+PrintsVerdict version entries is_torn before after other = ⊥
 
 -- a trace of this version has these whole lines, and a torn line behind them or none
 pub record HasLines (bytes : List ℕ) (version : TraceVersion) (entries : List Entry) (is_torn : Bool) : Type 0 where

@@ -16,18 +16,13 @@ abbrev pub WritesMigrated : List Entry → Option (List ℕ) → Option (List �
 WritesMigrated entries before after Done = Appends before after (versioned_text newest entries)
 WritesMigrated entries before after NoMemory = AppendsFront before after (versioned_text newest entries)
 WritesMigrated entries before after DeviceFailed = AppendsFront before after (versioned_text newest entries)
-WritesMigrated entries before after (BadLine number) = ⊥
-WritesMigrated entries before after Illegal = ⊥
-WritesMigrated entries before after UnknownVersion = ⊥
+WritesMigrated entries before after other = ⊥
 
 -- it is told that a trace is torn, or a front of that where a write failed
 abbrev pub TellsTorn : Option (List ℕ) → Option (List ℕ) → Exit → Type 0
 TellsTorn before after Done = Appends before after (torn_text true)
 TellsTorn before after DeviceFailed = AppendsFront before after (torn_text true)
-TellsTorn before after NoMemory = ⊥
-TellsTorn before after (BadLine number) = ⊥
-TellsTorn before after Illegal = ⊥
-TellsTorn before after UnknownVersion = ⊥
+TellsTorn before after other = ⊥
 
 -- the entries of the whole lines are written as a trace of the newest version, and it is told
 -- whether a torn line stands behind them; what is appended to the bytes of the new trace, and to

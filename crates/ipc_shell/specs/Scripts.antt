@@ -7,7 +7,6 @@ use Rattle.ipc_base.specs.Ports.{AppendsFront}
 use Rattle.ipc_shell.specs.ScriptLines.{lines_of, longest_line}
 use Rattle.ipc_shell.specs.declared.exit.Exit.{Exit}
 use Rattle.ipc_shell.specs.declared.exit.Exit.TheVariants.{Done, BadLine, NoMemory, DeviceFailed}
-use Rattle.ipc_shell.specs.declared.exit.Exit.TheVariants.{Illegal, UnknownVersion}
 
 -- an empty line is skipped; any other is short enough and is obeyed
 abbrev pub ObeysLine : {S : Type 0} → (S → List ℕ → List ℕ → S → Type 0)
@@ -59,11 +58,10 @@ Prints {S} Obeys IsNone start lines text Done =
     (last : S) × ObeysLines Obeys start lines text last
 Prints Obeys IsNone start lines text (BadLine number) =
     EndsAtBadLine Obeys IsNone start lines text number
-Prints Obeys IsNone start lines text Illegal = ⊥
-Prints Obeys IsNone start lines text UnknownVersion = ⊥
 Prints Obeys IsNone start lines text NoMemory = StopsAfterLines Obeys start lines text
 Prints Obeys IsNone start lines text DeviceFailed =
     (missing : List ℕ) × StopsAfterLines Obeys start lines (text ++ missing)
+Prints Obeys IsNone start lines text other = ⊥
 
 -- where a reader and a writer tell their bytes: what a run appends to the writer's is what is
 -- printed of the reader's lines
@@ -80,11 +78,9 @@ abbrev pub EndsAtLine : {S : Type 0} → (S → List ℕ → List ℕ → S → 
     → Option Exit → Type 0
 EndsAtLine Obeys IsNone old new before after line number None =
     (text : List ℕ) × Obeys old line text new × Appends before after text
-EndsAtLine Obeys IsNone old new before after line number (Some Done) = ⊥
 EndsAtLine Obeys IsNone old new before after line number (Some (BadLine n)) =
     (n ≡ number) × IsNone old line × Appends before after []
-EndsAtLine Obeys IsNone old new before after line number (Some Illegal) = ⊥
-EndsAtLine Obeys IsNone old new before after line number (Some UnknownVersion) = ⊥
 EndsAtLine Obeys IsNone old new before after line number (Some NoMemory) = Appends before after []
 EndsAtLine Obeys IsNone old new before after line number (Some DeviceFailed) =
     (text : List ℕ) × Obeys old line text new × AppendsFront before after text
+EndsAtLine Obeys IsNone old new before after line number (Some other) = ⊥

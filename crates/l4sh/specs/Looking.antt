@@ -15,7 +15,7 @@ use Rattle.l4sh_count.specs.Texts.{EndsWithAll}
 use Rattle.l4sh_count.specs.declared.tally.Tally.{Tally}
 use Rattle.l4sh_times.specs.Times.{TellsMoment}
 use Rattle.l4sh.specs.declared.exit.Exit.{Exit}
-use Rattle.l4sh.specs.declared.exit.Exit.TheVariants.{Done, BadLine, NoMemory, DeviceFailed, Illegal, BadThreads, NoChart, BadWord, UnknownVersion, IllegalLine, Torn}
+use Rattle.l4sh.specs.declared.exit.Exit.TheVariants.{Done, BadLine, NoMemory, DeviceFailed, BadThreads, NoChart, UnknownVersion, IllegalLine, Torn}
 use Rattle.l4sh.specs.declared.looking.Look.{Look}
 use Rattle.l4sh.specs.declared.looking.Look.TheVariants.{Script, StateAt, Counts}
 
@@ -30,16 +30,10 @@ pub record IsFaultLine (version : TraceVersion) (entries : List Entry) (number p
 -- fault
 abbrev pub IsSaidOf : TraceVersion → List Entry → Exit → Type 0
 IsSaidOf version entries Done = Legal entries
-IsSaidOf version entries UnknownVersion = ⊥
 IsSaidOf version entries (IllegalLine number place) = IsFaultLine version entries number place
-IsSaidOf version entries (BadLine number) = ⊥
 IsSaidOf version entries NoMemory = ⊤
 IsSaidOf version entries DeviceFailed = ⊤
-IsSaidOf version entries Illegal = ⊥
-IsSaidOf version entries BadThreads = ⊥
-IsSaidOf version entries (NoChart fault) = ⊥
-IsSaidOf version entries BadWord = ⊥
-IsSaidOf version entries (Torn number) = ⊥
+IsSaidOf version entries other = ⊥
 
 -- what may be said of each legal history
 abbrev pub MayEnd : Exit → Type 0
@@ -78,10 +72,7 @@ LooksAtBytes look bytes (IllegalLine number place) =
 LooksAtBytes look bytes (BadLine number) = HasBadLine bytes number
 LooksAtBytes look bytes NoMemory = ⊤
 LooksAtBytes look bytes DeviceFailed = ⊤
-LooksAtBytes look bytes Illegal = ⊥
-LooksAtBytes look bytes BadThreads = ⊥
-LooksAtBytes look bytes (NoChart fault) = ⊥
-LooksAtBytes look bytes BadWord = ⊥
+LooksAtBytes look bytes other = ⊥
 
 -- where the reader tells its bytes
 abbrev pub LooksAt : Look → Option (List ℕ) → Exit → Type 0
@@ -132,15 +123,10 @@ IsPrinted other = ⊥
 abbrev pub IsDrawnOf : TraceVersion → List Entry → Exit → Type 0
 IsDrawnOf version entries Done = Legal entries
 IsDrawnOf version entries (NoChart fault) = Legal entries
-IsDrawnOf version entries UnknownVersion = ⊥
 IsDrawnOf version entries (IllegalLine number place) = IsFaultLine version entries number place
-IsDrawnOf version entries (BadLine number) = ⊥
 IsDrawnOf version entries NoMemory = ⊤
 IsDrawnOf version entries DeviceFailed = ⊤
-IsDrawnOf version entries Illegal = ⊥
-IsDrawnOf version entries BadThreads = ⊥
-IsDrawnOf version entries BadWord = ⊥
-IsDrawnOf version entries (Torn number) = ⊥
+IsDrawnOf version entries other = ⊥
 
 -- how a chart of each legal history may end
 abbrev pub MayDraw : Exit → Type 0
@@ -170,9 +156,8 @@ ChartsBytes last bytes (IllegalLine number place) =
 ChartsBytes last bytes (BadLine number) = HasBadLine bytes number
 ChartsBytes last bytes NoMemory = ⊤
 ChartsBytes last bytes DeviceFailed = ⊤
-ChartsBytes last bytes Illegal = ⊥
 ChartsBytes last bytes BadThreads = ⊤
-ChartsBytes last bytes BadWord = ⊥
+ChartsBytes last bytes other = ⊥
 
 -- where the reader tells its bytes
 abbrev pub ChartsTrace : ℕ → Option (List ℕ) → Exit → Type 0

@@ -29,14 +29,14 @@ command_name name.Take = codes "take"
 
 -- the fields of a command: its name, and what it holds, in order
 abbrev pub command_fields : Command → List (List ℕ)
-command_fields (Open number space) = codes "open" ∷ decimal number ∷ decimal space ∷ []
-command_fields (Enter thread call) = codes "call" ∷ call_fields thread call
+command_fields (Open number space) = command_name name.Open ∷ decimal number ∷ decimal space ∷ []
+command_fields (Enter thread call) = command_name name.Call ∷ call_fields thread call
 command_fields (Exreg thread target control) =
-    codes "exreg" ∷ id_text thread ∷ id_text target ∷ hex_text control ∷ []
-command_fields (Broke thread) = codes "broke" ∷ id_text thread ∷ []
-command_fields (At moment) = codes "at" ∷ decimal moment ∷ []
-command_fields Advance = codes "advance" ∷ []
-command_fields (Take thread) = codes "take" ∷ id_text thread ∷ []
+    command_name name.Exreg ∷ id_text thread ∷ id_text target ∷ hex_text control ∷ []
+command_fields (Broke thread) = command_name name.Broke ∷ id_text thread ∷ []
+command_fields (At moment) = command_name name.At ∷ decimal moment ∷ []
+command_fields Advance = command_name name.Advance ∷ []
+command_fields (Take thread) = command_name name.Take ∷ id_text thread ∷ []
 
 -- a command of words, and of a call in normal form and within the limits
 abbrev pub IsCommand : Command → Type 0

@@ -1,13 +1,17 @@
 -- Lists: what begins them, views that are changed or come, and entries that are some owner's.
-use Rattle.std.proofs.Common.{◌≡◌, ◌≢◌, ℕ, zero, suc, ◌<◌, List, [], ◌∷◌, ◌++◌, length, set, Bool, true, false, refl, sym, ap, ◌∙◌, subst, ⊎_elim, arith, append_assoc, eqb, eq-eqb, ne_eqb, inl, inr}
-use Rattle.std.specs.Prelude.{Contains, if◌then◌else◌}
+use Rattle.std.proofs.Common.{◌≡◌, ◌≢◌, ℕ, zero, suc, ◌<◌, List, [], ◌∷◌, ◌++◌, length, set, Bool, true, false, refl, sym, ap, ◌∙◌, subst, ⊎_elim, arith, append_assoc, eqb, eq-eqb, eqb-true, ne_eqb, inl, inr}
+use Rattle.std.specs.Prelude.{◌==◌, ◌||◌, ◌⊎◌, Contains, if◌then◌else◌}
 use Rattle.std.proofs.lemmas.List.{append-nil}
-use Rattle.std.proofs.lemmas.List.Elements.{filter-append, Contains-append_left}
+use Rattle.std.proofs.lemmas.List.Elements.{filter-append, Contains-append_cases, Contains-append_left, Contains-append_right}
+use Rattle.std.proofs.lemmas.Map.Keys.{IsDistinct-push}
+use Rattle.std.proofs.lemmas.Bool.Decides.{nat_tests}
+use Rattle.std.specs.Cmp.{IsEquivalence}
+use Rattle.std.specs.List.{IsDistinct, list_any}
 use mathlib.Core.List.{IsPrefix}
 use mathlib.Core.Option.{some, some-ne-none, some-injective}
 use lib.ListN.{get_elem?}
 use Rattle.atomic_table.proofs.Lists.{at_set}
-use Rattle.ipc_log.specs.Rules.{AreOne, entries_of, numbers_of}
+use Rattle.ipc_log.specs.Rules.{AreOne, EndsLast, entries_of, numbers_of}
 
 module _ {A : Type 0} where
   pub prefix_nothing : (xs : List A) → IsPrefix [] xs
@@ -81,6 +85,70 @@ module _ {E : Type 0} (begins : E → List ℕ) where
   pub still_there : (log more : List E) (number : ℕ) → Contains (numbers_of begins log) number → Contains (numbers_of begins (log ++ more)) number
   still_there log more number h =
       subst (λ l. Contains l number) (sym (numbers_more log more)) (Contains-append_left (numbers_of begins log) (numbers_of begins more) number h)
+
+  -- an entry that says no number
+  pub numbers_same : (log : List E) (e : E) → begins e ≡ [] → numbers_of begins (log ++ e ∷ []) ≡ numbers_of begins log
+  numbers_same log e none =
+      numbers_more log (e ∷ []) ∙ (ap (λ (ns : List ℕ). numbers_of begins log ++ (ns ++ [])) none ∙ append-nil (numbers_of begins log))
+
+  -- one that says one
+  pub numbers_one : (log : List E) (e : E) (number : ℕ) → begins e ≡ number ∷ [] → numbers_of begins (log ++ e ∷ []) ≡ numbers_of begins log ++ number ∷ []
+  numbers_one log e number one = numbers_more log (e ∷ []) ∙ ap (λ (ns : List ℕ). numbers_of begins log ++ (ns ++ [])) one
+
+  pub was_there : (log : List E) (e : E) (number : ℕ) → begins e ≡ [] → Contains (numbers_of begins (log ++ e ∷ [])) number → Contains (numbers_of begins log) number
+  was_there log e number none there = subst (λ l. Contains l number) (numbers_same log e none) there
+
+  pub there_or : (log : List E) (e : E) (number : ℕ) → Contains (numbers_of begins (log ++ e ∷ [])) number
+      → Contains (numbers_of begins log) number ⊎ Contains (begins e) number
+  there_or log e number there =
+      subst (λ l. Contains (numbers_of begins log) number ⊎ Contains l number) (append-nil (begins e))
+      (Contains-append_cases (numbers_of begins log) (numbers_of begins (e ∷ [])) number (subst (λ l. Contains l number) (numbers_more log (e ∷ [])) there))
+
+pub not_in_none : (ns : List ℕ) (number : ℕ) → ns ≡ [] → Contains ns number → ⊥
+not_in_none ns number none there = let c = subst (λ l. Contains l number) none there in absurd (omega (arith, c.1))
+
+pub in_one : (ns : List ℕ) (own number : ℕ) → ns ≡ own ∷ [] → Contains ns number → number ≡ own
+in_one ns own number one there = go (subst (λ l. Contains l number) one there)
+  where
+    go : Contains (own ∷ []) number → number ≡ own
+    go (zero, lt, same) = sym same
+    go (suc k, lt, same) = absurd (omega (arith, lt))
+
+not_any : (number : ℕ) (ns : List ℕ) → (Contains ns number → ⊥) → list_any (λ (n : ℕ). number == n) ns ≡ false
+not_any number [] none = refl
+not_any number (n ∷ ns) none = go (number == n) refl
+  where
+    go : (b : Bool) → (number == n) ≡ b → (number == n) || list_any (λ (m : ℕ). number == m) ns ≡ false
+    go true is = absurd (none (0, omega arith, sym (eqb-true number n is)))
+    go false is =
+        ap (λ (b : Bool). b || list_any (λ (m : ℕ). number == m) ns) is ∙ not_any number ns (λ c. none (suc c.0, omega (arith, c.1), c.2))
+
+eqb_equivalence : IsEquivalence (λ (a b : ℕ). a == b)
+eqb_equivalence = record { refl = λ x. eq-eqb x x refl; symm = λ x y. grind (arith, nat_tests); congr = λ x y z same. ap (λ w. w == z) (eqb-true x y same) }
+
+-- one number more, which is new
+pub once_on : (ns : List ℕ) (number : ℕ) → IsDistinct (λ (a b : ℕ). a == b) ns → (Contains ns number → ⊥) → IsDistinct (λ (a b : ℕ). a == b) (ns ++ number ∷ [])
+once_on ns number once new = IsDistinct-push eqb_equivalence ns number once (not_any number ns new)
+
+pub once_none : IsDistinct (λ (a b : ℕ). a == b) []
+unfolding IsDistinct
+once_none = tt
+
+module _ {E : Type 0} (is_of : E → ℕ → Bool) (ends : E → List ℕ) where
+  -- an entry more, which is that of nobody who has ended
+  pub ends_last_on : (log : List E) (e : E) → EndsLast is_of ends log → ((number : ℕ) → Contains (numbers_of ends log) number → is_of e number ≡ false)
+      → EndsLast is_of ends (log ++ e ∷ [])
+  ends_last_on [] e h apart = (λ number there. refl, tt)
+  ends_last_on (x ∷ xs) e h apart = (
+    λ number there. entries_same is_of number xs e (apart number (Contains-append_left (ends x) (numbers_of ends xs) number there)) ∙ h.0 number there,
+    ends_last_on xs e h.1 (λ number there. apart number (Contains-append_right (ends x) (numbers_of ends xs) number there)),
+  )
+
+  -- behind the entry with which an owner ends
+  pub ends_last_at : (before : List E) (e : E) (rest : List E) (number : ℕ) → EndsLast is_of ends (before ++ e ∷ rest) → Contains (ends e) number
+      → entries_of is_of number rest ≡ []
+  ends_last_at [] e rest number h there = h.0 number there
+  ends_last_at (x ∷ before) e rest number h there = ends_last_at before e rest number h.1 there
 
 -- who has the pass of a number, where one number goes to another pass
 abbrev pub given : (ℕ → ℕ) → ℕ → ℕ → ℕ → ℕ

@@ -1,10 +1,11 @@
 -- There is one log, of which all that is known is true.
-use Rattle.std.specs.Prelude.{◌≡◌, ◌⊎◌, ℕ, List, [], ◌∷◌, ◌++◌, Bool, true, false, Contains, filter}
+use Rattle.std.specs.Prelude.{◌≡◌, ◌==◌, ◌⊎◌, ℕ, List, [], ◌∷◌, ◌++◌, Bool, true, false, Contains, filter, ⊤}
+use Rattle.std.specs.List.{IsDistinct}
 use mathlib.Core.List.{IsPrefix}
 use mathlib.Core.Option.{Option, some, none}
 use lib.ListN.{get_elem?}
 use Rattle.atomic_table.specs.Table.{State, Me, Step}
-use Rattle.ipc_log.specs.Views.{fronting}
+use Rattle.ipc_log.specs.Views.{fronting, gathering}
 use Rattle.ipc_log.specs.declared.rule.View.{View}
 
 -- the numbers that owners got by the entries of a log
@@ -36,30 +37,50 @@ AreOne xs ys = IsPrefix xs ys ⊎ IsPrefix ys xs
 abbrev pub ComparesTwo : {E : Type 0} → Step E → Me E (View E) → ℕ → Me E (View E) → Type 0
 ComparesTwo s v found w = (w ≡ (fronting v.0.seen, v.1)) × AreOne v.0.seen v.0.before
 
+-- of this log as it was the roll was told all ends of owners
+pub record IsRolled {E : Type 0} (ends : E → List ℕ) (last log : List E) : Type 0 where
+  pub began : IsPrefix last log
+  pub ended : numbers_of ends last ≡ numbers_of ends log
+
 module _ {E : Type 0} (is_of : E → ℕ → Bool) where
   -- what is known of an owner is true of what was seen of the log
   abbrev pub IsTrueOf : View E → List E → Type 0
   IsTrueOf v log = IsPrefix v.before log × (v.owns ≡ true → v.mine ≡ entries_of is_of v.number log)
 
-  -- what a pass knows of this log is true: one pass at most, that of this seat, knows it whole, and
-  -- the number of an owner stands in one pass
-  pub record Fits (begins : E → List ℕ) (seat : ℕ) (holder : ℕ → ℕ) (log : List E) (by : ℕ) (v : View E) : Type 0 where
+  -- behind the entry with which an owner ends there is no entry of that owner
+  abbrev pub EndsLast : (E → List ℕ) → List E → Type 0
+  EndsLast ends [] = ⊤
+  EndsLast ends (next ∷ log) = ((number : ℕ) → Contains (ends next) number → entries_of is_of number log ≡ []) × EndsLast ends log
+
+  -- the same, and no owner ends twice
+  pub record EndsOnce (ends : E → List ℕ) (log : List E) : Type 0 where
+    pub over : EndsLast ends log
+    pub once : IsDistinct (λ (a b : ℕ). a == b) (numbers_of ends log)
+
+  -- what a pass knows of this log is true: one pass at most, that of this seat, knows it whole, one
+  -- at most has the roll, and the number of an owner, who has not ended, stands in one pass
+  pub record Fits (begins ends : E → List ℕ) (seat gatherer : ℕ) (holder : ℕ → ℕ) (log : List E) (by : ℕ) (v : View E) : Type 0 where
     pub seen : IsPrefix v.seen log
     pub before : IsPrefix v.before log
     pub whole : v.keeps ≡ true → (by ≡ seat) × (v.seen ≡ log)
     pub mine : v.owns ≡ true → v.mine ≡ entries_of is_of v.number log
     pub began : v.owns ≡ true → Contains (numbers_of begins log) v.number
     pub alone : v.owns ≡ true → by ≡ holder v.number
+    pub lives : v.owns ≡ true → ¬ Contains (numbers_of ends log) v.number
+    pub rolls : v.gathers ≡ true → (by ≡ gatherer) × IsRolled ends v.last log
 
-  pub record Kept (begins : E → List ℕ) (views : List (View E)) : Type 0 where
+  pub record Kept (begins ends : E → List ℕ) (views : List (View E)) : Type 0 where
     pub seat : ℕ
+    pub gatherer : ℕ
     pub holder : ℕ → ℕ
     pub log : List E
-    pub fits : (by : ℕ) (v : View E) → get_elem? views by ≡ some v → Fits begins seat holder log by v
+    pub fits : (by : ℕ) (v : View E) → get_elem? views by ≡ some v → Fits begins ends seat gatherer holder log by v
     pub others : (number : ℕ) → ¬ Contains (numbers_of begins log) number → entries_of is_of number log ≡ []
+    pub had : (number : ℕ) → Contains (numbers_of ends log) number → Contains (numbers_of begins log) number
+    pub once : EndsOnce ends log
 
-  abbrev pub KeepsOne : (E → List ℕ) → State E (View E) → Type 0
-  KeepsOne begins s = Kept begins s.views
+  abbrev pub KeepsOne : (E → List ℕ) → (E → List ℕ) → State E (View E) → Type 0
+  KeepsOne begins ends s = Kept begins ends s.views
 
   abbrev pub said_of : Option E → List E
   said_of none = []
@@ -74,6 +95,8 @@ module _ {E : Type 0} (is_of : E → ℕ → Bool) where
     owns = v.owns;
     number = v.number;
     mine = v.mine ++ entries_of is_of v.number more;
+    gathers = v.gathers;
+    last = v.last;
   }
 
   abbrev pub AddsOne : Step E → Me E (View E) → ℕ → Me E (View E) → Type 0
@@ -88,10 +111,21 @@ module _ {E : Type 0} (is_of : E → ℕ → Bool) where
     owns = true;
     number = first_of (numbers_of begins more);
     mine = entries_of is_of (first_of (numbers_of begins more)) more;
+    gathers = false;
+    last = [];
   }
 
   abbrev pub BeginsOne : (E → List ℕ) → Step E → Me E (View E) → ℕ → Me E (View E) → Type 0
   BeginsOne begins s v found w = w ≡ (begun begins v.0 (said_of s.said), v.1)
+
+  -- these entries are added, with which an owner ends; the roll is told
+  abbrev pub EndsOne : (E → List ℕ) → Step E → Me E (View E) → ℕ → Me E (View E) → Type 0
+  EndsOne ends s v found w =
+      (w ≡ (gathering (v.0.seen ++ said_of s.said) (v.0.seen ++ said_of s.said), v.1)) × IsTrueOf v.0 v.0.seen × IsRolled ends v.0.last v.0.seen
+
+  -- nothing is added; the roll is told
+  abbrev pub CallsRoll : (E → List ℕ) → Step E → Me E (View E) → ℕ → Me E (View E) → Type 0
+  CallsRoll ends s v found w = (w ≡ (gathering v.0.seen v.0.seen, v.1)) × IsRolled ends v.0.last v.0.seen × EndsOnce ends v.0.seen
 
   abbrev pub LooksOn : Step E → Me E (View E) → ℕ → Me E (View E) → Type 0
   LooksOn s v found w = (w ≡ v) × IsTrueOf v.0 v.0.seen

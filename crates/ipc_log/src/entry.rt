@@ -15,6 +15,9 @@ pub trait Entry {
 
     // the numbers that owners have from this entry on
     ghost begins: { Self → List ℕ };
+
+    // the numbers whose owners end with this entry
+    ghost ends: { Self → List ℕ };
 }
 
 /// Names the logs of a program, one of each kind of entries. Each call of a program picks them.

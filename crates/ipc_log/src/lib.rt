@@ -7,6 +7,7 @@ mod front;
 mod keeper;
 mod log;
 mod own;
+mod roll;
 mod rule;
 
 pub use entry::{Entry, Naming};
@@ -14,3 +15,4 @@ pub use front::Front;
 pub use keeper::Keeper;
 pub use log::{Blank, Log};
 pub use own::Own;
+pub use roll::Roll;

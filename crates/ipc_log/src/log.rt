@@ -2,14 +2,16 @@
 ghost use Rattle.std.specs.Prelude.{◌≡◌, ◌<◌, [], ◌∷◌, ◌++◌, Contains};
 ghost use mathlib.Core.List.{IsPrefix};
 ghost use Rattle.ipc_log.specs.Views.{table_of};
-ghost use Rattle.ipc_log.specs.Rules.{AreOne, IsNobodys, IsOnlyOf, entries_of, numbers_of};
+ghost use Rattle.ipc_log.specs.Rules.{AreOne, EndsOnce, IsNobodys, IsOnlyOf, entries_of, numbers_of};
 
 use crate::entry::{Entry, Naming};
 use crate::front::Front;
 use crate::keeper::Keeper;
 use crate::own::Own;
+use crate::roll::Roll;
 use crate::rule::{
-    Adds, Begins, Compares, Goes, Looks, Meets, OneLog, Parts, Pass, Shows, Takes, View,
+    Adds, Begins, Calls, Compares, Ends, Goes, Looks, Meets, OneLog, Parts, PartsRoll, Pass, Shows,
+    Takes, TakesRoll, View,
 };
 use atomic_table::Table;
 use std::alloc::{AllocError, Global};
@@ -29,11 +31,11 @@ impl<E: Entry + Drop> Model for Blank<E> {
 
     ghost Value = { TableId };
 
-    ghost use Rattle.ipc_log.specs.Views.{keeping};
+    ghost use Rattle.ipc_log.specs.Views.{gathering};
 
     ghost view = { λ b. b.table.shared.table_id };
 
-    ghost invariant = { λ b. (0 < b.table.shared.table_id.words) × (b.pass.table_id ≡ b.table.shared.table_id) × (b.pass.me ≡ (keeping [], [])) };
+    ghost invariant = { λ b. (0 < b.table.shared.table_id.words) × (b.pass.table_id ≡ b.table.shared.table_id) × (b.pass.me ≡ (gathering [] [], [])) };
 }
 
 impl<E: Entry + Drop> Blank<E> {
@@ -47,12 +49,14 @@ impl<E: Entry + Drop> Blank<E> {
         Ok(Blank { table, pass })
     }
 
-    /// The log, and who keeps it.
-    pub fn open<C: Naming>(self) -> (Log<E, C>, Keeper<E, C>)
+    /// The log, who keeps it, and who is told of each end of an owner.
+    pub fn open<C: Naming>(self) -> (Log<E, C>, Keeper<E, C>, Roll<E, C>)
         requires { self ≡ table_of E.kind C.tables }
-        ensures { result.1 ≡ [] }
+        ensures nothing { result.1 ≡ [] }
+        ensures nobody { result.2 ≡ [] }
     {
-        let Blank { table, pass } = self;
+        let Blank { table, mut pass } = self;
+        let pass_of_roll = table.shared.split_seat::<PartsRoll>(&mut pass);
         let log = Log {
             table,
             of: PhantomData,
@@ -61,7 +65,11 @@ impl<E: Entry + Drop> Blank<E> {
             pass,
             of: PhantomData,
         };
-        (log, keeper)
+        let roll = Roll {
+            pass: pass_of_roll,
+            of: PhantomData,
+        };
+        (log, keeper, roll)
     }
 }
 
@@ -88,6 +96,7 @@ impl<E: Entry + Drop, C: Naming> Log<E, C> {
     /// Adds an entry that is no owner's.
     pub fn add(&self, keeper: &mut Keeper<E, C>, entry: &E)
         requires nobodys { IsNobodys E.is_of entry.now }
+        requires lives { E.ends entry.now ≡ [] }
         ensures { keeper.new ≡ keeper.old ++ entry.now ∷ [] }
     {
         self.table
@@ -100,6 +109,7 @@ impl<E: Entry + Drop, C: Naming> Log<E, C> {
         requires begins { E.begins entry.now ≡ number ∷ [] }
         requires is_new { Contains (numbers_of E.begins keeper.old) number → ⊥ }
         requires only { IsOnlyOf E.is_of entry.now number }
+        requires lives { E.ends entry.now ≡ [] }
         ensures log { keeper.new ≡ keeper.old ++ entry.now ∷ [] }
         ensures number { result.number ≡ number }
         ensures mine { result.mine ≡ entry.now ∷ [] }
@@ -119,6 +129,7 @@ impl<E: Entry + Drop, C: Naming> Log<E, C> {
     /// Adds an entry of an owner.
     pub fn add_own(&self, keeper: &mut Keeper<E, C>, own: &mut Own<E, C>, entry: &E)
         requires only { IsOnlyOf E.is_of entry.now own.old.number }
+        requires lives { E.ends entry.now ≡ [] }
         ensures log { keeper.new ≡ keeper.old ++ entry.now ∷ [] }
         ensures number { own.new.number ≡ own.old.number }
         ensures mine { own.new.mine ≡ own.old.mine ++ entry.now ∷ [] }
@@ -132,6 +143,45 @@ impl<E: Entry + Drop, C: Naming> Log<E, C> {
             .shared
             .compare_exchange_with::<Adds>(&mut keeper.pass, 0, 0, 0, entry);
         own.pass = self.table.shared.split_seat::<Parts>(&mut keeper.pass);
+    }
+
+    /// Adds the last entry of an owner, which ends with it, and tells who has the roll.
+    pub fn end(&self, keeper: &mut Keeper<E, C>, own: Own<E, C>, roll: &mut Roll<E, C>, entry: &E)
+        requires only { IsOnlyOf E.is_of entry.now own.number }
+        requires ends { E.ends entry.now ≡ own.number ∷ [] }
+        ensures log { keeper.new ≡ keeper.old ++ entry.now ∷ [] }
+        ensures roll { roll.new ≡ keeper.new }
+        ensures goes_on { IsPrefix own.seen keeper.old }
+        ensures all { own.mine ≡ entries_of E.is_of own.number keeper.old }
+        ensures rolled { IsPrefix roll.old keeper.old }
+        ensures ended { numbers_of E.ends roll.old ≡ numbers_of E.ends keeper.old }
+    {
+        let Own { pass, .. } = own;
+        let pass_of_roll = self.table.shared.split_seat::<Goes>(&mut roll.pass);
+        self.table
+            .shared
+            .join_seat::<TakesRoll>(&mut keeper.pass, pass_of_roll);
+        self.table.shared.join_seat::<Takes>(&mut keeper.pass, pass);
+        self.table
+            .shared
+            .compare_exchange_with::<Ends>(&mut keeper.pass, 0, 0, 0, entry);
+        roll.pass = self.table.shared.split_seat::<PartsRoll>(&mut keeper.pass);
+    }
+
+    /// Who has the roll is told what the log is now, and of no end that was not told before.
+    pub fn call_roll(&self, keeper: &mut Keeper<E, C>, roll: &mut Roll<E, C>)
+        ensures log { keeper.new ≡ keeper.old }
+        ensures roll { roll.new ≡ keeper.old }
+        ensures rolled { IsPrefix roll.old keeper.old }
+        ensures ended { numbers_of E.ends roll.old ≡ numbers_of E.ends keeper.old }
+        ensures once { EndsOnce E.is_of E.ends keeper.old }
+    {
+        let pass = self.table.shared.split_seat::<Goes>(&mut roll.pass);
+        self.table
+            .shared
+            .join_seat::<TakesRoll>(&mut keeper.pass, pass);
+        self.table.shared.load::<Calls>(&mut keeper.pass, 0);
+        roll.pass = self.table.shared.split_seat::<PartsRoll>(&mut keeper.pass);
     }
 
     /// What the log is to an owner.

@@ -17,6 +17,10 @@ pub struct View<E> {
     pub number: u64,
     /// The entries of that owner.
     pub mine: LinkedList<E>,
+    /// Whether it is the one that is told of each end of an owner, and the log at the last of them,
+    /// or as it was looked at since.
+    pub gathers: bool,
+    pub last: LinkedList<E>,
 }
 
 /// A caller's pass. It has no bytes.
@@ -27,12 +31,12 @@ pub struct OneLog;
 
 impl<E: Entry> TableRule<E, View<E>, ()> for OneLog {
     ghost use Rattle.std.specs.Prelude.{[]};
-    ghost use Rattle.ipc_log.specs.Views.{keeping};
+    ghost use Rattle.ipc_log.specs.Views.{gathering};
     ghost use Rattle.ipc_log.specs.Rules.{KeepsOne};
 
-    ghost holds = { λ _. KeepsOne E.is_of E.begins };
+    ghost holds = { λ _. KeepsOne E.is_of E.begins E.ends };
 
-    ghost first = { λ _. keeping [] };
+    ghost first = { λ _. gathering [] [] };
 }
 
 /// An entry is added.
@@ -51,6 +55,24 @@ impl<E: Entry> Play<E, View<E>> for Begins {
     ghost use Rattle.ipc_log.specs.Rules.{BeginsOne};
 
     ghost then = { BeginsOne E.is_of E.begins };
+}
+
+/// An entry is added with which an owner ends, and who has the roll is told.
+pub struct Ends;
+
+impl<E: Entry> Play<E, View<E>> for Ends {
+    ghost use Rattle.ipc_log.specs.Rules.{EndsOne};
+
+    ghost then = { EndsOne E.is_of E.ends };
+}
+
+/// Nothing is added, and who has the roll is told what the log is.
+pub struct Calls;
+
+impl<E: Entry> Play<E, View<E>> for Calls {
+    ghost use Rattle.ipc_log.specs.Rules.{CallsRoll};
+
+    ghost then = { CallsRoll E.is_of E.ends };
 }
 
 /// Nothing is added.
@@ -124,4 +146,26 @@ impl<E> Join<View<E>> for Takes {
     ghost both = { joined };
 
     ghost spent = { nobody };
+}
+
+/// Who keeps the log takes the roll in.
+pub struct TakesRoll;
+
+impl<E> Join<View<E>> for TakesRoll {
+    ghost use Rattle.ipc_log.specs.Views.{enrolled, nobody};
+
+    ghost both = { enrolled };
+
+    ghost spent = { nobody };
+}
+
+/// Who keeps the log gives the roll back.
+pub struct PartsRoll;
+
+impl<E> Split<View<E>> for PartsRoll {
+    ghost use Rattle.ipc_log.specs.Views.{keeping, rolling};
+
+    ghost left = { λ v. keeping v.seen };
+
+    ghost right = { λ v. rolling v.last };
 }

@@ -9,7 +9,7 @@ pub split_seat-pass-requires : goal.split_seat-pass-requires
 split_seat-pass-requires g c = (
   c.own.invariant.1 ∙ sym c.self.invariant.0,
   c.self.invariant.1,
-  goes g.E.Entry.is_of g.E.Entry.begins _ _ _ (ap (λ m. m.0) c.own.invariant.2),
+  goes g.E.Entry.is_of g.E.Entry.begins g.E.Entry.ends _ _ _ (ap (λ m. m.0) c.own.invariant.2),
 )
 
 pub join_seat-requires : goal.join_seat-requires
@@ -19,7 +19,7 @@ join_seat-requires g c =
       p.3 ∙ (c.own.invariant.1 ∙ sym c.self.invariant.0),
       ap (λ m. m.1) p.4,
       c.self.invariant.1,
-      takes g.E.Entry.is_of g.E.Entry.begins _ _ _ _ _ _ (ap (λ m. m.0) c.keeper.invariant.1) (ap (λ m. m.0) p.4 ∙ ap (λ m. m.0) c.own.invariant.2),
+      takes g.E.Entry.is_of g.E.Entry.begins g.E.Entry.ends _ _ _ _ _ (ap (λ m. m.0) p.4 ∙ ap (λ m. m.0) c.own.invariant.2),
     )
 
 pub compare_exchange_with-requires : goal.compare_exchange_with-requires
@@ -29,8 +29,8 @@ compare_exchange_with-requires g c =
     let own = ap (λ m. m.0) p.4 ∙ ap (λ m. m.0) c.own.invariant.2 in (
       j.0 ∙ (c.keeper.invariant.0 ∙ sym c.self.invariant.0),
       c.self.invariant.1,
-      adds g.E.Entry.is_of g.E.Entry.begins _ _ 0 0 0 (λ n. either (eqb n 0) 0 n) _ _ _ _ j.2 (ap (λ m. m.0.keeps) c.keeper.invariant.1)
-          (its_or_nobodys g.E.Entry.is_of g.E.Entry.begins (joined c.keeper.inside.pass.me.0 c.split_seat-pass.result.me.0) c.args.entry.now c.own.inside.pass.me.0.number (ap (λ v. v.owns) own) (ap (λ v. v.number) own) (subst (λ (k : Known g.row.E.Denot). IsOnlyOf g.E.Entry.is_of c.args.entry.now k.number) (sym c.own.view_is) c.requires.only)),
+      adds g.E.Entry.is_of g.E.Entry.begins g.E.Entry.ends _ _ 0 0 0 (λ n. either (eqb n 0) 0 n) _ _ _ _ j.2 (ap (λ m. m.0.keeps) c.keeper.invariant.1)
+          (its_or_nobodys g.E.Entry.is_of g.E.Entry.begins g.E.Entry.ends (joined c.keeper.inside.pass.me.0 c.split_seat-pass.result.me.0) c.args.entry.now c.own.inside.pass.me.0.number (ap (λ v. v.owns) own) (ap (λ v. v.number) own) (subst (λ (k : Known g.row.E.Denot). IsOnlyOf g.E.Entry.is_of c.args.entry.now k.number) (sym c.own.view_is) c.requires.only)) c.requires.lives,
     )
 
 pub split_seat-requires : goal.split_seat-requires
@@ -41,7 +41,7 @@ split_seat-requires g c =
     let own = ap (λ m. m.0) p.4 ∙ ap (λ m. m.0) c.own.invariant.2 in (
       e.0 ∙ (j.0 ∙ (c.keeper.invariant.0 ∙ sym c.self.invariant.0)),
       c.self.invariant.1,
-      parts g.E.Entry.is_of g.E.Entry.begins _ _
+      parts g.E.Entry.is_of g.E.Entry.begins g.E.Entry.ends _ _
           (ap (λ m. m.0.keeps) e.2.0 ∙ (ap (λ m. m.0.keeps) j.2 ∙ ap (λ m. m.0.keeps) c.keeper.invariant.1))
           (ap (λ m. m.0.owns) e.2.0 ∙ (ap (λ m. m.0.owns) j.2 ∙ ap (λ v. v.owns) own)),
     )

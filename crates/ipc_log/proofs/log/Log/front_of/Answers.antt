@@ -6,5 +6,5 @@ pub split_seat-pass-requires : goal.split_seat-pass-requires
 split_seat-pass-requires g c = (
   c.own.invariant.1 ∙ sym c.self.invariant.0,
   c.self.invariant.1,
-  shows g.E.Entry.is_of g.E.Entry.begins _ _,
+  shows g.E.Entry.is_of g.E.Entry.begins g.E.Entry.ends _ _,
 )

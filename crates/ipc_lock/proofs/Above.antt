@@ -24,7 +24,7 @@ use Rattle.ipc_lock.specs.Groups.{IsGroupAt}
 use Rattle.ipc_lock.specs.InsideParts.{LoggedParts}
 use Rattle.ipc_lock.specs.Logs.{given_to}
 use Rattle.ipc_log.specs.Views.{Known}
-use Rattle.ipc_lock.specs.Owning.{Begins, Knows, Makes, Sees}
+use Rattle.ipc_lock.specs.Owning.{Begins, Knows, Makes, Rolls, Sees}
 use Rattle.ipc_lock.specs.Noting.{NotesOn, NotesStep}
 use Rattle.ipc_lock.specs.Places.{EndsAt, FreesSome, LoadsAt, LoadsOne, OnlyLoads, is_empty_in, is_in, is_out, is_shut_in, pen_in, shut_for, thread_for}
 use Rattle.ipc_lock.specs.Rounds.{Carries}
@@ -187,12 +187,12 @@ pub releases_some : (C P : Type 0) (before after : LoggedParts) (place : ℕ) (o
 releases_some C P before after place own turned knew frees = record { before = before; after = after; knew = knew; turned = turned; frees = frees }
 
 -- its pen was handed out
-pub hands_out : (C P : Type 0) (before after : LoggedParts) (place : ℕ) (own : Known Event) (out : Option (List ℕ))
+pub hands_out : (C P : Type 0) (before after : LoggedParts) (place : ℕ) (own : Known Event) (roll roll_now : List Event) (out : Option (List ℕ))
     → Turned C P before after (event.Released place own.number) → Knows own before.log → FreesSome before.inside.boxes place own.number
-    → Wrote out (given_to own.number before.log) → HandsOut C P place own out
+    → Rolls roll roll_now before.log after.log → Wrote out (given_to own.number before.log) → HandsOut C P place own roll roll_now out
 unfolding releases_some
-hands_out C P before after place own out turned knew frees wrote =
-    record { releases = releases_some C P before after place own turned knew frees; wrote = wrote }
+hands_out C P before after place own roll roll_now out turned knew frees rolls wrote =
+    record { releases = releases_some C P before after place own turned knew frees; rolls = rolls; wrote = wrote }
 
 -- no pen lay in a box that is there, though none is out: it is not that of the connection
 not_there : (number : ℕ) (box : Option BoxParts) → is_out number box ≡ false → pen_in number box ≡ None → is_in number box ≡ false
@@ -217,10 +217,13 @@ finds_none C P before after there place own is turned knew frees out pen = recor
 
 -- the same, as the port comes or does not
 pub hands_if : (C P : Type 0) {Q : Type 0} (result : Option Q) (written : Q → Option (List ℕ)) (before after : LoggedParts) (place : ℕ) (own : Known Event)
+    (roll roll_now : List Event)
     → Turned C P before after (event.Released place own.number) → Knows own before.log → FreesSome before.inside.boxes place own.number
-    → IfSome result (λ port. Wrote (written port) (given_to own.number before.log)) → IfSome result (λ port. HandsOut C P place own (written port))
-hands_if C P None written before after place own turned knew frees wrote = tt
-hands_if C P (Some port) written before after place own turned knew frees wrote = hands_out C P before after place own (written port) turned knew frees wrote
+    → Rolls roll roll_now before.log after.log
+    → IfSome result (λ port. Wrote (written port) (given_to own.number before.log)) → IfSome result (λ port. HandsOut C P place own roll roll_now (written port))
+hands_if C P None written before after place own roll roll_now turned knew frees rolls wrote = tt
+hands_if C P (Some port) written before after place own roll roll_now turned knew frees rolls wrote =
+    hands_out C P before after place own roll roll_now (written port) turned knew frees rolls wrote
 
 pub none_if : (C P : Type 0) {Q : Type 0} (result : Option Q) (before after there : LoggedParts) (place : ℕ) (own : Known Event) → before ≡ there
     → Turned C P before after (event.Released place own.number) → Knows own before.log → FreesSome before.inside.boxes place own.number

@@ -1,6 +1,8 @@
 -- What a caller above the lock is told: no contract there names the kernel that stands under the
 -- lock, so each says it of one that is of a legal history, or that its log leads to.
-use Rattle.std.specs.Prelude.{◌≡◌, ◌⊎◌, ◌+◌, ◌-◌, ◌/◌, ◌∷◌, ◌||◌, [], ℕ, zero, suc, List, length, not, slice_get, Bool, Option, Some, None, false, true, ⊤}
+use Rattle.std.specs.Prelude.{◌≡◌, ◌⊎◌, ◌+◌, ◌-◌, ◌/◌, ◌∷◌, ◌||◌, [], ℕ, zero, suc, Contains, List, length, not, slice_get, Bool, Option, Some, None, false, true, ⊤}
+use Rattle.std.specs.List.{list_any}
+use mathlib.Core.List.{IsPrefix}
 use Rattle.ipc_connection.specs.declared.asking.Request.{Request}
 use Rattle.ipc_connection.specs.declared.replying.Told.{Told}
 use Rattle.ipc_connection.specs.declared.replying.Told.TheVariants as told
@@ -19,10 +21,11 @@ use Rattle.ipc_lock.specs.Boxes.{BoxParts, Loads, changed_at, is_of, posted_to}
 use Rattle.ipc_lock.specs.Gifts.{gifts, no_errands, number_in, work_gifts}
 use Rattle.ipc_lock.specs.Giving.{Wrote}
 use Rattle.ipc_lock.specs.Groups.{IsGroupAt}
-use Rattle.ipc_lock.specs.InsideParts.{LoggedParts}
-use Rattle.ipc_lock.specs.Logs.{given_to}
+use Rattle.ipc_lock.specs.InsideParts.{InsideParts, LoggedParts}
+use Rattle.ipc_lock.specs.Logs.{given_to, is_box_of}
+use Rattle.ipc_log.specs.Rules.{EndsOnce, numbers_of}
 use Rattle.ipc_log.specs.Views.{Known}
-use Rattle.ipc_lock.specs.Owning.{Begins, Knows, Makes, Sees}
+use Rattle.ipc_lock.specs.Owning.{Begins, Knows, Makes, Rolls, Sees, ended_by, is_by}
 use Rattle.ipc_lock.specs.Parting.{IsBehind, IsPartOf}
 use Rattle.ipc_lock.specs.Places.{EndsAt, FreesSome, LoadsOne, OnlyLoads, TakesBack, WorksFor, is_empty_in, is_in, is_shut_in, shut_for, thread_for}
 use Rattle.ipc_lock.specs.Rounds.{Carries}
@@ -174,15 +177,28 @@ pub record ReleasesSome (C P : Type 0) (place : ℕ) (own : Known Event) : Type 
   pub frees : FreesSome before.inside.boxes place own.number
 
 -- the same, and the pen of the connection was handed out of its box, over a port that tells this:
--- what went out begins the text of all that the log says that the connection was given
-pub record HandsOut (C P : Type 0) (place : ℕ) (own : Known Event) (out : Option (List ℕ)) : Type 0 where
+-- what went out begins the text of all that the log says that the connection was given. Who has the
+-- roll was told of it
+pub record HandsOut (C P : Type 0) (place : ℕ) (own : Known Event) (roll roll_now : List Event) (out : Option (List ℕ)) : Type 0 where
   pub releases : ReleasesSome C P place own
+  pub rolls : Rolls roll roll_now releases.before.log releases.after.log
   pub wrote : Wrote out (given_to own.number releases.before.log)
 
 -- the same, where the box of this place was not that of the connection
 pub record FindsNone (C P : Type 0) (place : ℕ) (own : Known Event) : Type 0 where
   pub releases : ReleasesSome C P place own
   pub gone : is_in own.number (slice_get releases.before.inside.boxes place) ≡ false
+
+-- no connection had a box any more, and this was the log. Of each connection that got a box it says
+-- that this was given back, once, and that its end did nothing behind that; who has the roll was
+-- told of all of them
+pub record EndsAll (C P : Type 0) (roll roll_now : List Event) : Type 0 where
+  pub inside : InsideParts
+  pub runs : Runs C P roll_now inside
+  pub began : IsPrefix roll roll_now
+  pub ended : numbers_of ended_by roll ≡ numbers_of ended_by roll_now
+  pub once : EndsOnce is_by ended_by roll_now
+  pub all : (number place : ℕ) → list_any (is_box_of number place) roll_now ≡ true → Contains (numbers_of ended_by roll_now) number
 
 -- the box of this place, where it is that of the connection of this number, was shut by its reader
 -- or its writer, and the thread that was told there, if any, was broken at this moment by one step;

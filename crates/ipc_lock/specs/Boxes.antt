@@ -58,6 +58,10 @@ abbrev pub is_of : ℕ → Option ℕ → Bool
 is_of number None = false
 is_of number (Some own) = own == number
 
+-- a connection has the box
+abbrev pub has_connection : BoxParts → Bool
+has_connection box = is_some box.number
+
 -- nothing of the connection is left
 abbrev pub cleared : BoxParts → BoxParts
 cleared box = record box { number = None; posted = None; shut = true; seat = None; pen = None }

@@ -2,7 +2,7 @@
 -- knows of the log.
 use Rattle.std.specs.Prelude.{◌≡◌, ◌==◌, ◌&&◌, ◌++◌, ◌∷◌, [], ℕ, List, Bool, false}
 use mathlib.Core.List.{IsPrefix}
-use Rattle.ipc_log.specs.Rules.{entries_of}
+use Rattle.ipc_log.specs.Rules.{entries_of, numbers_of}
 use Rattle.ipc_log.specs.Views.{Known}
 use Rattle.ipc_lock.specs.declared.events.Event.{Event}
 use Rattle.ipc_lock.specs.declared.events.Event.TheVariants as event
@@ -45,6 +45,22 @@ numbers_by (event.Took thread taken outcomes) = []
 numbers_by (event.Marked upto) = []
 numbers_by event.Parted = []
 
+-- the number of the connection that ends with an event: its box is given back
+abbrev pub ended_by : Event → List ℕ
+ended_by (event.Released place number) = number ∷ []
+ended_by (event.Connected place number) = []
+ended_by (event.Declined number) = []
+ended_by (event.Acted now commands answers gave) = []
+ended_by (event.Asked now place number requests space said gave) = []
+ended_by (event.Ended now place number is_by_reader gave) = []
+ended_by (event.Posted place number said) = []
+ended_by (event.Looked place gave) = []
+ended_by (event.Laid gave) = []
+ended_by (event.Worked place number gave) = []
+ended_by (event.Took thread taken outcomes) = []
+ended_by (event.Marked upto) = []
+ended_by event.Parted = []
+
 -- the events of a log that the reader's end of the connection of a number made, in order
 abbrev pub done_by : ℕ → List Event → List Event
 done_by number log = entries_of is_by number log
@@ -73,6 +89,12 @@ pub record Sees (own own_now : Known Event) (log : List Event) : Type 0 where
 pub record Begins (own : Known Event) (log : List Event) (next : Event) : Type 0 where
   pub mine : own.mine ≡ next ∷ []
   pub seen : own.seen ≡ log
+
+-- who has the roll was told of each connection that had ended in this log, and is told of one more
+pub record Rolls (roll roll_now before after : List Event) : Type 0 where
+  pub began : IsPrefix roll before
+  pub ended : numbers_of ended_by roll ≡ numbers_of ended_by before
+  pub now : roll_now ≡ after
 
 -- what an end knows at least when it begins: the event that gave it its box and its number
 abbrev pub at_first : ℕ → ℕ → Known Event

@@ -3,6 +3,7 @@ ghost use Rattle.std.specs.Prelude.{◌≡◌, []};
 
 use crate::events::{Event, Gave};
 use crate::gift_log::GiftLog;
+use crate::roll::Roll;
 use ipc_log::{Blank, Keeper, Log, Naming};
 use std::alloc::{AllocError, Global};
 use std::marker::Model;
@@ -36,15 +37,16 @@ impl BlankLog {
         Ok(BlankLog { events, gifts })
     }
 
-    /// The log of events, who keeps it, and the log of gifts.
-    pub(crate) fn open<C: Naming>(self) -> (Log<Event, C>, Keeper<Event, C>, GiftLog<C>)
+    /// The log of events, who keeps it, the log of gifts, and the roll.
+    pub(crate) fn open<C: Naming>(self) -> (Log<Event, C>, Keeper<Event, C>, GiftLog<C>, Roll<C>)
         requires { self ≡ C.tables }
         ensures nothing { result.1 ≡ [] }
         ensures none { result.2 ≡ [] }
+        ensures nobody { result.3 ≡ [] }
     {
         let BlankLog { events, gifts } = self;
-        let (log, keeper) = events.open::<C>();
-        let (gave, gave_keeper) = gifts.open::<C>();
-        (log, keeper, GiftLog::new(gave, gave_keeper))
+        let (log, keeper, roll) = events.open::<C>();
+        let (gave, gave_keeper, _) = gifts.open::<C>();
+        (log, keeper, GiftLog::new(gave, gave_keeper), Roll { roll })
     }
 }

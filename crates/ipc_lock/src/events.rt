@@ -22,6 +22,7 @@ pub(crate) enum Gave {
 }
 
 impl Entry for Gave {
+    ghost use Rattle.std.specs.Prelude.{[]};
     ghost use Rattle.ipc_lock.specs.Giving.{is_to, pens_by};
 
     ghost kind = { 1 };
@@ -29,6 +30,8 @@ impl Entry for Gave {
     ghost is_of = { is_to };
 
     ghost begins = { pens_by };
+
+    ghost ends = { λ _. [] };
 }
 
 /// One event under the lock. What it was made of, and what it gave connections, proofs alone know.
@@ -109,11 +112,13 @@ pub(crate) enum Event {
 }
 
 impl Entry for Event {
-    ghost use Rattle.ipc_lock.specs.Owning.{is_by, numbers_by};
+    ghost use Rattle.ipc_lock.specs.Owning.{ended_by, is_by, numbers_by};
 
     ghost kind = { 0 };
 
     ghost is_of = { is_by };
 
     ghost begins = { numbers_by };
+
+    ghost ends = { ended_by };
 }

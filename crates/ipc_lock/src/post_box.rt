@@ -1,6 +1,6 @@
 //! The box of a connection: what its client is told next, and the pen that writes it.
 ghost use Rattle.std.specs.Prelude.{◌≡◌, ◌∷◌, [], None, Some, true, false, IfOk, OnOk, OnErr, IfErr, IfSome, IfNone, is_some, not};
-ghost use Rattle.ipc_lock.specs.Boxes.{ComesOut, LooksFirst, LooksInto, OnlyTakes, cleared, is_full, is_idle, is_of, is_pen_of, new_box, posted_to, take_parts, thread_of, told_box, welcomed};
+ghost use Rattle.ipc_lock.specs.Boxes.{ComesOut, LooksFirst, LooksInto, OnlyTakes, cleared, has_connection, is_full, is_idle, is_of, is_pen_of, new_box, posted_to, take_parts, thread_of, told_box, welcomed};
 ghost use Rattle.ipc_lock.specs.Places.{gives_back, pen_for, shut_for};
 ghost use Rattle.ipc_connection.specs.Pens.{BeginsEmpty, new_page};
 ghost use Rattle.ipc_lock.specs.Gifts.{gift_in};
@@ -214,6 +214,13 @@ impl<C: Naming, T: Ledger, P: PenPort + Drop> PostBox<C, T, P> {
             Some(own) => own == number,
             None => false,
         }
+    }
+
+    /// Whether a connection has it.
+    pub(crate) fn has_connection(&self) -> bool
+        ensures { result ≡ has_connection self.now }
+    {
+        self.number.is_some()
     }
 
     /// Whether it is no connection's box.

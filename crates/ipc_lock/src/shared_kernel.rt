@@ -1,6 +1,6 @@
 //! The kernel and the boxes under one lock. Here it is only taken; what is done under it stands in
 //! its own files.
-ghost use Rattle.std.specs.Prelude.{◌≡◌, ◌^◌, IfSome, IfNone, IfErr, ◌+◌};
+ghost use Rattle.std.specs.Prelude.{◌≡◌, ◌^◌, [], IfSome, IfNone, IfErr, IfOk, ◌+◌};
 ghost use Rattle.ipc_lock.specs.Above.{ActsSome, GivesSome, NotLiveSome};
 ghost use Rattle.ipc_lock.specs.Acting.{AnswersStep, GivesSeat, HandsBack};
 ghost use Rattle.ipc_lock.specs.Rounds.{Carries};
@@ -16,6 +16,7 @@ use crate::errands::Errands;
 use crate::events::Event;
 use crate::inside::After;
 use crate::logged::Logged;
+use crate::roll::Roll;
 use crate::seated::{Answered, CallSeat, TakeSeat, Taken};
 use ipc_connection::PenPort;
 use ipc_core::{Command, Limits, Refusal};
@@ -39,14 +40,14 @@ pub struct SharedKernel<C: Naming, T: Ledger, P: PenPort + Drop> {
 
 impl<C: Naming, T: Ledger, P: PenPort + Drop> SharedKernel<C, T, P> {
     /// An empty kernel without boxes, whose entries are all held until [`SharedKernel::mark`] is
-    /// called. The only refusal is K4.
+    /// called, and the roll of its connections, of which none has ended. The only refusal is K4.
     pub fn new(
         alloc: Global,
         limits: Limits,
         calls: Blank,
         takes: Blank,
         log: BlankLog,
-    ) -> Result<Self, Refusal>
+    ) -> Result<(Self, Roll<C>), Refusal>
         requires calls_name { calls.name ≡ C.name }
         requires calls_parts { calls.parts ≡ C.parts }
         requires many_calls { calls.parts ≡ 2 ^ 63 }
@@ -54,11 +55,12 @@ impl<C: Naming, T: Ledger, P: PenPort + Drop> SharedKernel<C, T, P> {
         requires takes_parts { takes.parts ≡ T.parts }
         requires many_takes { takes.parts ≡ 2 ^ 63 }
         requires log_tables { log ≡ C.tables }
-        ensures { IfErr result (λ refusal. refusal ≡ Refusal.NoMemory) }
+        ensures roll { IfOk result (λ made. made.1 ≡ []) }
+        ensures memory { IfErr result (λ refusal. refusal ≡ Refusal.NoMemory) }
     {
-        let (log, keeper, gifts) = log.open::<C>();
+        let (log, keeper, gifts, roll) = log.open::<C>();
         let inside = Logged::new(alloc, limits, calls, takes, keeper, gifts)?;
-        Ok(SharedKernel {
+        let shared = SharedKernel {
             log,
             inside: Mutex::new(inside),
             work: Condvar::new(),
@@ -66,7 +68,8 @@ impl<C: Naming, T: Ledger, P: PenPort + Drop> SharedKernel<C, T, P> {
             trace: Condvar::new(),
             ticker: Condvar::new(),
             alloc,
-        })
+        };
+        Ok((shared, roll))
     }
 
     /// Takes the lock, makes one step, and writes what it told to whom it concerns. A step is a

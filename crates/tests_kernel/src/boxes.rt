@@ -1,12 +1,12 @@
 ghost use Rattle.std.specs.Prelude.{◌≡◌, ◌^◌};
 
 // The box and the pen of a connection.
-use crate::parties::{ROOM, SlowPort, first, holds, sends, shared, slow};
+use crate::parties::{ROOM, SlowPort, first, holds, sends, shared_with_roll, slow};
 use crate::steps::same;
 use ipc_connection::{Patience, Request, Told, Turn};
 use ipc_core::Refusal;
 use ipc_frame::WireVersion;
-use ipc_lock::{BlankLog, Entered, Loaded, Naming, PostEnd, SharedKernel, TakeEnd};
+use ipc_lock::{BlankLog, Entered, Loaded, Naming, PostEnd, Roll, SharedKernel, TakeEnd};
 use std::alloc::Global;
 use std::marker::Brand;
 use std::process::Abort;
@@ -33,14 +33,15 @@ fn boxes<C: Naming, T: Ledger, R: Wait + Abort>(
     requires takes { (takes.name ≡ T.name) × (takes.parts ≡ T.parts) × (takes.parts ≡ 2 ^ 63) }
     requires log { log ≡ C.tables }
 {
-    let kernel = shared::<C, T, R>(rt, alloc, ROOM, calls, takes, log);
+    let (kernel, mut roll) = shared_with_roll::<C, T, R>(rt, alloc, ROOM, calls, takes, log);
     let takes = fill_box(rt, alloc, &kernel);
     let told = told_slowly(rt, &kernel, &takes);
     same(rt, told.as_slice(), TOLD.as_slice());
     drop(told);
-    shut_box(rt, alloc, &kernel);
-    shut_box(rt, alloc, &kernel);
-    compare_ends(rt, alloc, &kernel);
+    shut_box(rt, alloc, &kernel, &mut roll);
+    shut_box(rt, alloc, &kernel, &mut roll);
+    compare_ends(rt, alloc, &kernel, &mut roll);
+    drop(roll);
     drop(kernel);
 }
 
@@ -49,6 +50,7 @@ fn compare_ends<C: Naming, T: Ledger, R: Wait + Abort>(
     rt: &R,
     alloc: Global,
     kernel: &SharedKernel<C, T, SlowPort>,
+    roll: &mut Roll<C>,
 ) {
     let (mut one, _) = connect(rt, alloc, kernel, true);
     let (mut other, _) = connect(rt, alloc, kernel, true);
@@ -57,8 +59,8 @@ fn compare_ends<C: Naming, T: Ledger, R: Wait + Abort>(
     holds(rt, matches!(opened, Told::Opened(_, _)));
     let (opened, _) = ask(rt, kernel, &mut other, Request::Open(6, WireVersion::One));
     holds(rt, matches!(opened, Told::Opened(_, _)));
-    holds(rt, kernel.release(rt, one).is_some());
-    holds(rt, kernel.release(rt, other).is_some());
+    holds(rt, kernel.release(rt, one, roll).is_some());
+    holds(rt, kernel.release(rt, other, roll).is_some());
 }
 
 // A connection, whose port has room or not.
@@ -146,6 +148,7 @@ fn shut_box<C: Naming, T: Ledger, R: Wait + Abort>(
     rt: &R,
     alloc: Global,
     kernel: &SharedKernel<C, T, SlowPort>,
+    roll: &mut Roll<C>,
 ) {
     let (mut posts, takes) = connect(rt, alloc, kernel, true);
     let (opened, _) = ask(rt, kernel, &mut posts, Request::Open(2, WireVersion::One));
@@ -157,7 +160,7 @@ fn shut_box<C: Naming, T: Ledger, R: Wait + Abort>(
     holds(rt, pen.is_none());
     drop(pen);
     kernel.leave(rt, 0, &takes);
-    let port = kernel.release(rt, posts).expect(rt, "the port");
+    let port = kernel.release(rt, posts, roll).expect(rt, "the port");
     holds(rt, port.is_open);
     drop(port);
 }

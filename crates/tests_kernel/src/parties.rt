@@ -7,7 +7,7 @@ use ipc_connection::{Patience, PenPort};
 use ipc_core::{Answer, Command, Limits, Refusal};
 use ipc_history::{Call, CallFields};
 use ipc_items::StringList;
-use ipc_lock::{Answered, BlankLog, CallSeat, Naming, SharedKernel, TakeSeat, Taken};
+use ipc_lock::{Answered, BlankLog, CallSeat, Naming, Roll, SharedKernel, TakeSeat, Taken};
 use ipc_words::limits::{MAX_CALLS, MAX_ENTRIES};
 use ipc_words::{MsgTag, Period, ThreadId};
 use std::alloc::Global;
@@ -67,7 +67,7 @@ pub(crate) fn sends(rt: &impl Abort, alloc: Global, to: ThreadId, word: u64) -> 
     call_of(rt, fields)
 }
 
-// A kernel under its lock, with so much room.
+// A kernel under its lock, with so much room, whose connections nobody asks for.
 pub(crate) fn shared<C: Naming, T: Ledger, R: Abort>(
     rt: &R,
     alloc: Global,
@@ -76,6 +76,24 @@ pub(crate) fn shared<C: Naming, T: Ledger, R: Abort>(
     takes: Blank,
     log: BlankLog,
 ) -> SharedKernel<C, T, SlowPort>
+    requires calls { (calls.name ≡ C.name) × (calls.parts ≡ C.parts) × (calls.parts ≡ 2 ^ 63) }
+    requires takes { (takes.name ≡ T.name) × (takes.parts ≡ T.parts) × (takes.parts ≡ 2 ^ 63) }
+    requires log { log ≡ C.tables }
+{
+    let (kernel, roll) = shared_with_roll(rt, alloc, limits, calls, takes, log);
+    drop(roll);
+    kernel
+}
+
+// The same, with the roll of its connections.
+pub(crate) fn shared_with_roll<C: Naming, T: Ledger, R: Abort>(
+    rt: &R,
+    alloc: Global,
+    limits: Limits,
+    calls: Blank,
+    takes: Blank,
+    log: BlankLog,
+) -> (SharedKernel<C, T, SlowPort>, Roll<C>)
     requires calls { (calls.name ≡ C.name) × (calls.parts ≡ C.parts) × (calls.parts ≡ 2 ^ 63) }
     requires takes { (takes.name ≡ T.name) × (takes.parts ≡ T.parts) × (takes.parts ≡ 2 ^ 63) }
     requires log { log ≡ C.tables }

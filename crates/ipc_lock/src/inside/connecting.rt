@@ -1,6 +1,7 @@
 //! The boxes of connections: made, given back, and looked at.
 ghost use Rattle.std.specs.Prelude.{◌≡◌, [], IfOk, IfSome, MatchBool, OnErr, if◌then◌else◌, map, slice_get, vec_capacity, vec_len};
-ghost use Rattle.ipc_lock.specs.Boxes.{changed_at, new_box};
+ghost use Rattle.std.specs.List.{list_any};
+ghost use Rattle.ipc_lock.specs.Boxes.{changed_at, has_connection, new_box};
 ghost use Rattle.ipc_lock.specs.Giving.{all_given};
 ghost use Rattle.ipc_lock.specs.Places.{ConnectsAt, Frees, disowned, gives_back, is_empty_in, is_free_in, is_in, is_out, is_shut_in, pen_in};
 ghost use Rattle.ipc_connection.specs.Pens.{BeginsEmpty, new_page};
@@ -106,6 +107,13 @@ impl<C: Naming, T: Ledger, P: PenPort + Drop> Inside<C, T, P> {
         self.boxes
             .push(PostBox::new(alloc, port, place, number, own)?)?;
         Ok(place)
+    }
+
+    /// Whether some connection has a box.
+    pub(crate) fn has_connections(&self) -> bool
+        ensures { result ≡ list_any has_connection self.now.boxes.items }
+    {
+        self.boxes.iter().any(|post_box| post_box.has_connection())
     }
 
     /// Whether the box of a place is there, and is no connection's.

@@ -5,7 +5,7 @@ ghost use Rattle.ipc_lock.specs.Gifts.{gifts, no_errands, number_in};
 ghost use Rattle.ipc_lock.specs.Giving.{Wrote, gifts_in, given_in};
 ghost use Rattle.ipc_lock.specs.Logs.{given_to};
 ghost use Rattle.ipc_lock.specs.Places.{ConnectsAt, FreesSome, LoadsAt, is_in, pen_in};
-ghost use Rattle.ipc_lock.specs.Owning.{Begins, Knows, Makes};
+ghost use Rattle.ipc_lock.specs.Owning.{Begins, Knows, Makes, Rolls};
 ghost use Rattle.ipc_lock.specs.Turns.{Turned};
 ghost use Rattle.ipc_lock.specs.declared.events.Event.TheVariants as event;
 ghost use Rattle.ipc_connection.specs.Pens.{BeginsEmpty, new_page};
@@ -16,6 +16,7 @@ use crate::errands::Errands;
 use crate::events::Event;
 use crate::gift_log::GiftLog;
 use crate::post_box::Loaded;
+use crate::roll::Roll;
 use ipc_connection::{PenPort, Told};
 use ipc_log::{Log, Naming, Own};
 use std::alloc::AllocError;
@@ -121,13 +122,16 @@ impl<C: Naming, T: Ledger, P: PenPort + Drop> Logged<C, T, P> {
     }
 
     /// Gives the box of a connection back that nobody uses any more, and hands the port of its pen
-    /// out where that lies there. Where the box is that of another one all stays.
+    /// out where that lies there. Where the box is that of another one all stays. Who has the roll
+    /// is told.
     pub(crate) fn release(
         &mut self,
         log: &Log<Event, C>,
         own: Own<Event, C>,
         place: usize,
+        roll: &mut Roll<C>,
     ) -> Option<P>
+        ensures rolls { Rolls roll.old roll.new self.old.log self.new.log }
         ensures knew { Knows own self.old.log }
         ensures turned { Turned C P self.old self.new (event.Released place own.number) }
         ensures frees { FreesSome self.old.inside.boxes place own.number }
@@ -136,12 +140,11 @@ impl<C: Naming, T: Ledger, P: PenPort + Drop> Logged<C, T, P> {
         ensures none { IfNone result
             (pen_in own.number (slice_get self.old.inside.boxes place) ≡ None) }
     {
-        let mut own = own;
         let number = own.number();
         let pen = self.inside.release(place, number);
         let port = port_of(pen, number, &mut self.gifts);
         let released = Event::Released { place, number };
-        log.add_own(&mut self.keeper, &mut own, &released);
+        log.end(&mut self.keeper, own, &mut roll.roll, &released);
         port
     }
 }

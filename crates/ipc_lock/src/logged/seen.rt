@@ -1,18 +1,23 @@
 //! What is read of what stands under the lock.
 ghost use Rattle.std.specs.Prelude.{◌≡◌, ◌<◌, ◌||◌, Err, IfOk, length, slice_get};
+ghost use Rattle.std.specs.List.{list_any};
+ghost use mathlib.Core.List.{IsPrefix};
 ghost use Rattle.ipc_core.specs.KernelParts.{history_of};
 ghost use Rattle.ipc_history.specs.Holding.{held_of};
 ghost use Rattle.ipc_history.specs.Legal.{Legal};
 ghost use Rattle.ipc_history.specs.Threads.{is_live};
+ghost use Rattle.ipc_lock.specs.Boxes.{has_connection};
 ghost use Rattle.ipc_lock.specs.Groups.{IsGroupAt};
-ghost use Rattle.ipc_lock.specs.Owning.{Sees};
+ghost use Rattle.ipc_lock.specs.Owning.{Sees, ended_by, is_by};
 ghost use Rattle.ipc_lock.specs.Places.{is_empty_in, is_in, is_out, is_shut_in};
 ghost use Rattle.ipc_lock.specs.Turns.{Runs};
+ghost use Rattle.ipc_log.specs.Rules.{EndsOnce, numbers_of};
 ghost use Rattle.l4sh_state.specs.States.{IsStateOf};
 
 use super::Logged;
 use crate::events::Event;
 use crate::not_given::NotGiven;
+use crate::roll::Roll;
 use crate::seated::TakeSeat;
 use ipc_connection::PenPort;
 use ipc_history::Entry;
@@ -28,6 +33,25 @@ impl<C: Naming, T: Ledger, P: PenPort + Drop> Logged<C, T, P> {
         ensures own { Sees own.old own.new self.old.log }
     {
         log.look(&mut self.keeper, own);
+    }
+
+    /// Who has the roll is told what the log is.
+    pub(crate) fn call_roll(&mut self, log: &Log<Event, C>, roll: &mut Roll<C>)
+        ensures stays { self.new ≡ self.old }
+        ensures runs { Runs C P self.old.log self.old.inside }
+        ensures now { roll.new ≡ self.old.log }
+        ensures began { IsPrefix roll.old self.old.log }
+        ensures ended { numbers_of ended_by roll.old ≡ numbers_of ended_by self.old.log }
+        ensures once { EndsOnce is_by ended_by self.old.log }
+    {
+        log.call_roll(&mut self.keeper, &mut roll.roll);
+    }
+
+    /// Whether some connection has a box.
+    pub(crate) fn has_connections(&self) -> bool
+        ensures { result ≡ list_any has_connection self.now.inside.boxes }
+    {
+        self.inside.has_connections()
     }
 
     /// Whether the box of a place is that of the connection of this number, and its pen is out.

@@ -16,6 +16,7 @@ use crate::events::Event;
 use crate::inside::After;
 use crate::logged::Logged;
 use crate::post_box::{Loaded, Work};
+use crate::roll::Roll;
 use ipc_connection::{PenPort, Request, Told};
 use ipc_core::Refusal;
 use ipc_log::{Naming, Own};
@@ -57,11 +58,11 @@ impl<C: Naming, T: Ledger, P: PenPort + Drop> SharedKernel<C, T, P> {
     }
 
     /// Gives a connection's box back, once its writer has ended and its pen lies there, and hands
-    /// the pen's port out: what went out is what the log says that the connection was given. None
-    /// where its box is not there, which a law of the log rules out.
-    pub fn release<R: Wait>(&self, rt: &R, end: PostEnd<C>) -> Option<P>
+    /// the pen's port out: what went out is what the log says that the connection was given. Who
+    /// has the roll is told. None where its box is not there, which a law of the log rules out.
+    pub fn release<R: Wait>(&self, rt: &R, end: PostEnd<C>, roll: &mut Roll<C>) -> Option<P>
         ensures hands { IfSome result (λ port.
-            HandsOut C P end.place end.own (P.written port)) }
+            HandsOut C P end.place end.own roll.old roll.new (P.written port)) }
         ensures none { IfNone result (FindsNone C P end.place end.own) }
     {
         let PostEnd {
@@ -71,7 +72,7 @@ impl<C: Naming, T: Ledger, P: PenPort + Drop> SharedKernel<C, T, P> {
             own,
         } = end;
         let mut inside = self.when_laid(rt, place, own.number());
-        inside.release(&self.log, own, place)
+        inside.release(&self.log, own, place, roll)
     }
 
     /// Asks the kernel for a connection at a moment, in microseconds, and tells at once what it

@@ -1,14 +1,17 @@
 //! The mover and the ticker.
-ghost use Rattle.std.specs.Prelude.{◌≡◌, IfSome, IfNone};
+ghost use Rattle.std.specs.Prelude.{◌≡◌, IfSome, IfNone, false};
+ghost use Rattle.std.specs.List.{list_any};
 ghost use Rattle.std.specs.Sync.Mutex.{mutex_guard_value};
-ghost use Rattle.ipc_lock.specs.Above.{MovesAll, MovesSome, OverSome, RestsOrEnds, WorksSome, is_moved};
+ghost use Rattle.ipc_lock.specs.Above.{EndsAll, MovesAll, MovesSome, OverSome, RestsOrEnds, WorksSome, is_moved};
 ghost use Rattle.ipc_lock.specs.Alarms.{Rests};
+ghost use Rattle.ipc_lock.specs.Boxes.{has_connection};
 ghost use Rattle.ipc_lock.specs.Turns.{Runs};
 
 use super::SharedKernel;
 use crate::inside::After;
 use crate::logged::Logged;
 use crate::rest::Rest;
+use crate::roll::Roll;
 use crate::seated::Answered;
 use ipc_connection::PenPort;
 use ipc_core::{Advance, Answer, Command};
@@ -18,6 +21,7 @@ use std::hint::spin_loop;
 use std::rt::Clock;
 use std::sync::ledger::Ledger;
 use std::sync::{CondvarTimeouts, MutexGuard, Wait};
+use std::thread::yield_now;
 use std::time::{Duration, Instant};
 
 /// How many blocks of a transfer the thread copies that began it: those of the longest message, and
@@ -146,14 +150,34 @@ impl<C: Naming, T: Ledger, P: PenPort + Drop> SharedKernel<C, T, P> {
         false
     }
 
-    /// Ends the waiting of the mover and the rest of the ticker. Called once, after all sessions
-    /// were joined.
-    pub fn end_work<R: Wait>(&self, rt: &R) {
-        let mut inside = self.inside(rt);
+    /// Ends the waiting of the mover and the rest of the ticker, once no connection has a box any
+    /// more. Who has the roll is told what the log is then. Called once, after all sessions were
+    /// joined.
+    pub fn end_work<R: Wait>(&self, rt: &R, roll: &mut Roll<C>)
+        ensures ends { EndsAll C P roll.old roll.new }
+    {
+        let mut inside = self.when_left(rt);
+        inside.call_roll(&self.log, roll);
         inside.end_work();
         drop(inside);
         self.work.notify_all();
         self.ticker.notify_all();
+    }
+
+    /// Takes the lock once no connection has a box.
+    fn when_left<'a, R: Wait>(&'a self, rt: &R) -> MutexGuard<'a, Logged<C, T, P>>
+        ensures { list_any has_connection (mutex_guard_value result).inside.boxes ≡ false }
+    {
+        let mut inside = self.inside(rt);
+        for _ in rt.forever() {
+            if !inside.has_connections() {
+                return inside;
+            }
+            drop(inside);
+            yield_now();
+            inside = self.inside(rt);
+        }
+        inside
     }
 
     /// Ends the waiting of the trace, and of the mover if it still waits. Called once, after

@@ -5,7 +5,7 @@ use Rattle.ipc_lock.proofs.logged.Logged.release.Goals as goal
 
 pub invariant_of-self : goal.invariant_of-self
 invariant_of-self g c =
-    tells_on _ _ _ _ _ _ _ c.self.invariant c.add_own.ensures.log (gives_same _ _ c.port_of-port.ensures.log) refl (record {
+    tells_on _ _ _ _ _ _ _ c.self.invariant c.end.ensures.log (gives_same _ _ c.port_of-port.ensures.log) refl (record {
       boxes = c.release-pen.ensures.clears;
       owners = c.release-pen.ensures.disowns;
       numbers = refl;

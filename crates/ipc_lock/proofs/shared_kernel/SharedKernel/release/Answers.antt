@@ -6,7 +6,7 @@ use Rattle.ipc_lock.proofs.Above.{hands_if, none_if}
 use Rattle.ipc_lock.proofs.shared_kernel.SharedKernel.release.Goals as goal
 
 pub returns-clause-hands : goal.returns-clause-hands
-returns-clause-hands g c = hands_if _ _ _ _ _ _ _ _ c.release.ensures.turned c.release.ensures.knew c.release.ensures.frees c.release.ensures.wrote
+returns-clause-hands g c = hands_if _ _ _ _ _ _ _ _ _ _ c.release.ensures.turned c.release.ensures.knew c.release.ensures.frees c.release.ensures.rolls c.release.ensures.wrote
 
 pub returns-clause-none : goal.returns-clause-none
 returns-clause-none g c =

@@ -1,0 +1,5 @@
+-- The lock is taken.
+use Rattle.ipc_lock.proofs.shared_kernel.SharedKernel.when_left.Given as goal
+
+abbrev pub invariant-loop : goal.invariant-loop
+invariant-loop g l = (goal.iterator-loop g).can_next l.iterator' × (goal.iterator-loop g).is_finite l.iterator'

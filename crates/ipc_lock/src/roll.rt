@@ -1,0 +1,21 @@
+//! Who is told of each connection that ends.
+use crate::events::Event;
+use ipc_log::Naming;
+use std::marker::Model;
+
+/// The roll of a kernel's connections: none gives its box back without it. There is one of each
+/// kernel. Contracts see the log of all that was done, as it was when the last one ended, or when
+/// the roll was called since.
+#[derive(Drop)]
+pub struct Roll<C: Naming> {
+    pub(crate) roll: ipc_log::Roll<Event, C>,
+}
+
+impl<C: Naming> Model for Roll<C> {
+    ghost use Rattle.std.specs.Prelude.{List};
+    ghost use Rattle.ipc_lock.specs.declared.events.Event.{Event};
+
+    ghost Value = { List Event };
+
+    ghost view = { λ r. r.roll };
+}
